@@ -1,0 +1,4 @@
+pub mod Requests
+pub mod Treated
+pub mod Answering
+pub mod Evaluations

@@ -1,0 +1,5 @@
+//! Requests, and the evaluator: what an expression or a policy's condition means for a request.
+#![tactic(auto)]
+
+pub mod evaluator;
+pub mod request;

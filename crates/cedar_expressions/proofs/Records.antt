@@ -1,0 +1,89 @@
+-- A walk over the pairs of a record, which are put into a map in turn.
+use Rattle.std.proofs.Common.{◌≡◌, ℕ, Bool, true, false, ◌||◌, cond, List, [], ◌∷◌, ◌++◌, map, Option, None, Some, Global, refl, sym, ap, ◌∙◌}
+use Rattle.std.specs.declared.cmp.Ordering.{Ordering}
+use Rattle.std.specs.declared.cmp.Ordering.TheVariants.{Less, Equal, Greater}
+use Rattle.std.specs.declared.rc.RcStr.{RcStr}
+use Rattle.std.specs.Bool.{Decides}
+use Rattle.std.specs.Rc.{rc_str_bytes}
+use Rattle.std.specs.Option.{is_some}
+use Rattle.std.specs.Ordering.{nat_cmp, is_eq, match_ordering}
+use Rattle.std.specs.Cmp.Lexicographic.{slice_cmp}
+use Rattle.std.specs.BTreeMap.{insert_entry, is_at}
+use Rattle.std.specs.Map.{lookup}
+use Rattle.cedar_model.specs.Terms.{Text, Term, Fields, no_fields, one_field}
+use Rattle.cedar_model.specs.Keys.{text_key, key_cmp, key_cmp-text_key}
+use Rattle.cedar_expressions.specs.declared.expr.Expr.{Expr}
+use Rattle.cedar_expressions.specs.Equality.{text_eq}
+use Rattle.cedar_expressions.specs.EqualityLaws.{text_eq-decides}
+use Rattle.cedar_expressions.specs.View.{view, fields_view}
+use Rattle.cedar_expressions.specs.Records.{is_among, first_again, put_field, put_fields, pairs_view, keys_view}
+
+-- `==` of texts, by their order
+text_eq-order : (k l : Text) → is_eq (slice_cmp nat_cmp k l) ≡ text_eq k l
+unfolding text_eq
+text_eq-order k l = ap is_eq (sym (key_cmp-text_key k l))
+
+abbrev pub Pairs : Type 0
+Pairs = List (RcStr Global × Expr)
+
+abbrev pub order : RcStr Global → RcStr Global → Ordering
+order a b = slice_cmp nat_cmp (rc_str_bytes a) (rc_str_bytes b)
+
+-- a map with one more entry has the fields with one more
+pub put_field-entries : (es : Pairs) (k : RcStr Global) (e : Expr) → fields_view (insert_entry order es k e) ≡ put_field (fields_view es) (rc_str_bytes k) (view e)
+put_field-entries [] k e = refl
+put_field-entries (p ∷ es) k e = at_order (order k p.0) (put_field-entries es k e)
+  where
+    at_order : (o : Ordering) → fields_view (insert_entry order es k e) ≡ put_field (fields_view es) (rc_str_bytes k) (view e) → fields_view (match_ordering o ((k, e) ∷ p ∷ es) ((p.0, e) ∷ es) (p ∷ insert_entry order es k e)) ≡ match_ordering o (one_field (rc_str_bytes k) (view e) (one_field (rc_str_bytes p.0) (view p.1) (fields_view es))) (one_field (rc_str_bytes p.0) (view e) (fields_view es)) (one_field (rc_str_bytes p.0) (view p.1) (put_field (fields_view es) (rc_str_bytes k) (view e)))
+    at_order Less rest = refl
+    at_order Equal rest = refl
+    at_order Greater rest = ap (one_field (rc_str_bytes p.0) (view p.1)) rest
+
+-- whether a map has a key
+pub has_key : (es : Pairs) (k : RcStr Global) → is_some (lookup (is_at (order k)) es) ≡ is_among (rc_str_bytes k) (keys_view es)
+has_key [] k = refl
+has_key (p ∷ es) k =
+    found (is_eq (order k p.0)) (Some p.1) (lookup (is_at (order k)) es) refl ∙ ap (λ b. b || is_some (lookup (is_at (order k)) es)) (text_eq-order (rc_str_bytes k) (rc_str_bytes p.0)) ∙ ap (λ b. text_eq (rc_str_bytes k) (rc_str_bytes p.0) || b) (has_key es k)
+  where
+    found : (b : Bool) (x y : Option Expr) → is_some x ≡ true → is_some (cond b x y) ≡ (b || is_some y)
+    found true x y h = h
+    found false x y h = refl
+
+-- what was seen matters only by what it has
+seen_alike : (ks ls ms : List Text) → ((k : Text) → is_among k ls ≡ is_among k ms) → first_again ls ks ≡ first_again ms ks
+seen_alike [] ls ms same = refl
+seen_alike (k ∷ ks) ls ms same =
+    λ i. cond (same k i) (Some k) (seen_alike ks (k ∷ ls) (k ∷ ms) (λ l. ap (λ b. text_eq l k || b) (same l)) i)
+
+-- a map with one more key has the keys with one more
+more_keys : (es : Pairs) (k : RcStr Global) (e : Expr) (l : Text) → is_among l (rc_str_bytes k ∷ keys_view es) ≡ is_among l (keys_view (insert_entry order es k e))
+more_keys [] k e l = refl
+more_keys (p ∷ es) k e l =
+    at_order (order k p.0) refl (more_keys es k e l)
+  where
+    swapped : (x y z : Bool) → (x || (y || z)) ≡ (y || (x || z))
+    swapped true true z = refl
+    swapped true false z = refl
+    swapped false y z = refl
+
+    twice : (x z : Bool) → (x || (x || z)) ≡ (x || z)
+    twice true z = refl
+    twice false z = refl
+
+    at_order : (o : Ordering) → order k p.0 ≡ o → is_among l (rc_str_bytes k ∷ keys_view es) ≡ is_among l (keys_view (insert_entry order es k e)) → is_among l (rc_str_bytes k ∷ keys_view (p ∷ es)) ≡ is_among l (keys_view (match_ordering o ((k, e) ∷ p ∷ es) ((p.0, e) ∷ es) (p ∷ insert_entry order es k e)))
+    at_order Less h rest = refl
+    at_order Equal h rest =
+        let same : rc_str_bytes k ≡ rc_str_bytes p.0 = (text_eq-decides (rc_str_bytes k) (rc_str_bytes p.0)).0 (sym (text_eq-order (rc_str_bytes k) (rc_str_bytes p.0)) ∙ ap is_eq h) in
+        ap (λ t. text_eq l t || (text_eq l (rc_str_bytes p.0) || is_among l (keys_view es))) same ∙ twice (text_eq l (rc_str_bytes p.0)) (is_among l (keys_view es))
+    at_order Greater h rest =
+        swapped (text_eq l (rc_str_bytes k)) (text_eq l (rc_str_bytes p.0)) (is_among l (keys_view es)) ∙ ap (λ b. text_eq l (rc_str_bytes p.0) || b) rest
+
+pub first_again-step : (es : Pairs) (k : RcStr Global) (e : Expr) (ks : List Text) → is_some (lookup (is_at (order k)) es) ≡ false → first_again (keys_view es) (rc_str_bytes k ∷ ks) ≡ first_again (keys_view (insert_entry order es k e)) ks
+first_again-step es k e ks h =
+    ap (λ b. cond b (Some (rc_str_bytes k)) (first_again (rc_str_bytes k ∷ keys_view es) ks)) (sym (has_key es k) ∙ h) ∙ seen_alike ks (rc_str_bytes k ∷ keys_view es) (keys_view (insert_entry order es k e)) (more_keys es k e)
+
+pub first_again-here : (es : Pairs) (k : RcStr Global) (ks : List Text) → is_some (lookup (is_at (order k)) es) ≡ true → first_again (keys_view es) (rc_str_bytes k ∷ ks) ≡ Some (rc_str_bytes k)
+first_again-here es k ks h =
+    ap (λ b. cond b (Some (rc_str_bytes k)) (first_again (rc_str_bytes k ∷ keys_view es) ks)) (sym (has_key es k) ∙ h)
+
+pub ruleset steps = (put_field-entries, first_again-step, first_again-here)

@@ -1,0 +1,47 @@
+#![tactic(auto, using(crate::proofs::Levels::levels, crate::proofs::Records::steps))]
+//! Records.
+ghost use Rattle.std.specs.Prelude.{◌≡◌, IfOk, IfErr, None, codes};
+ghost use Rattle.cedar_model.specs.Terms.{record_of};
+ghost use Rattle.cedar_expressions.specs.Errors.{IsRefusalOf};
+ghost use Rattle.cedar_expressions.specs.Records.{first_repeated, fields_in_order, pairs_view, keys_view};
+ghost use Rattle.cedar_expressions.specs.View.{view, expr_loc, fields_view};
+
+use super::{Expr, ExprKind};
+use crate::errors::ExpressionConstructionError;
+use std::alloc::{AllocError, Global};
+use std::collections::BTreeMap;
+use std::rc::{Rc, RcStr};
+
+impl Expr {
+    /// A record of these parts under their keys, in byte order of the keys. Refuses the first key that comes again, with the context `in record literal`, and for want of memory.
+    pub fn record(
+        alloc: Global,
+        pairs: Vec<(RcStr, Expr)>,
+    ) -> Result<Expr, ExpressionConstructionError>
+        ensures view { IfOk result (λ e. view e ≡ record_of (fields_in_order (pairs_view pairs.items))) }
+        ensures loc { IfOk result (λ e. expr_loc e ≡ None) }
+        ensures distinct { IfOk result (λ e. first_repeated (keys_view pairs.items) ≡ None) }
+        ensures refused { IfErr result (IsRefusalOf (first_repeated (keys_view pairs.items)) (codes "in record literal")) }
+    {
+        let mut fields: BTreeMap<RcStr, Expr> = BTreeMap::new(alloc);
+        'pairs: for (key, part) in pairs {
+            if fields.contains_key(&key) {
+                return Err(ExpressionConstructionError::DuplicateKey {
+                    key,
+                    context: "in record literal",
+                });
+            }
+            fields.insert(key, part)?;
+        }
+        Ok(Expr::record_map(alloc, fields)?)
+    }
+
+    /// A record of the parts that the map has. Refuses only for want of memory.
+    pub fn record_map(alloc: Global, map: BTreeMap<RcStr, Expr>) -> Result<Expr, AllocError>
+        ensures view { IfOk result (λ e. view e ≡ record_of (fields_view map.entries)) }
+        ensures loc { IfOk result (λ e. expr_loc e ≡ None) }
+    {
+        let map = Rc::new(alloc, map)?;
+        Ok(Expr::of_kind(ExprKind::Record(map)))
+    }
+}

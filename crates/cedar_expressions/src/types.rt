@@ -1,0 +1,64 @@
+//! The types of values, literals and unknowns.
+ghost use Rattle.std.specs.Prelude.{◌≡◌, None, Some};
+
+use crate::names::{EntityType, EntityUID, Name};
+use std::rc::{Rc, RcStr};
+
+/// The type of a value.
+#[derive(Clone, Debug, PartialEq, Eq, Hash, Drop)]
+pub enum Type {
+    Bool,
+    Long,
+    String,
+    Set,
+    Record,
+    Entity { ty: EntityType },
+    Extension { name: Name },
+}
+
+/// A literal of the language.
+#[derive(Clone, Debug, PartialEq, Eq, Hash, Drop)]
+pub enum Literal {
+    Bool(bool),
+    Long(i64),
+    String(RcStr),
+    EntityUID(Rc<EntityUID>),
+}
+
+/// A value that is not known yet: its name, and its type where that is known.
+#[derive(Clone, Debug, PartialEq, Eq, Hash, Drop)]
+pub struct Unknown {
+    pub name: RcStr,
+    pub type_annotation: Option<Type>,
+}
+
+impl Unknown {
+    /// The unknown of this name, of any type.
+    pub fn new_untyped(name: RcStr) -> Unknown
+        ensures name { result.name ≡ name }
+        ensures annotation { result.type_annotation ≡ None }
+    {
+        Unknown {
+            name,
+            type_annotation: None,
+        }
+    }
+
+    /// The unknown of this name, which stands for values of this type alone.
+    pub fn new_with_type(name: RcStr, ty: Type) -> Unknown
+        ensures name { result.name ≡ name }
+        ensures annotation { result.type_annotation ≡ Some ty }
+    {
+        Unknown {
+            name,
+            type_annotation: Some(ty),
+        }
+    }
+}
+
+/// A list that is not empty: its first element and the others.
+#[derive(Clone, Debug, PartialEq, Eq, Hash, Drop)]
+pub struct FirstRest<T> {
+    pub first: T,
+    pub rest: Vec<T>,
+}

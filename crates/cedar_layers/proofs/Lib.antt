@@ -1,0 +1,4 @@
+pub mod Slots
+pub mod Repeats
+pub mod Parts
+pub mod Stores

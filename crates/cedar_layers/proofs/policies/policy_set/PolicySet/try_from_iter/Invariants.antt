@@ -1,0 +1,6 @@
+use Rattle.std.specs.Vec.Iter.{into_iter_items}
+use Rattle.cedar_layers.proofs.Repeats.{Fills}
+use Rattle.cedar_layers.proofs.policies.policy_set.PolicySet.try_from_iter.Given as goal
+
+abbrev pub invariant-insert : goal.invariant-insert
+invariant-insert l = Fills l.fn.policies.items l.set.entries (into_iter_items l.policy-iterator)

@@ -1,0 +1,4 @@
+pub mod Policies
+pub mod PolicySets
+pub mod Parts
+pub mod Stores

@@ -1,0 +1,92 @@
+-- Policies as plain data.
+use Rattle.std.specs.Prelude.{Bool, true, false, if◌then◌else◌, List, [], ◌∷◌, ◌++◌, map, Option, None, Some, option_map}
+use Rattle.std.specs.List.{list_any}
+use Rattle.std.specs.Map.{lookup}
+use Rattle.std.specs.Rc.{rc_str_bytes}
+use Rattle.std.specs.declared.hash.BuildHasherDefault.{BuildHasherDefault}
+use Rattle.std.specs.declared.hash.FoldHasher.{FoldHasher}
+use Rattle.std.specs.HashMap.{HashMap}
+use Rattle.cedar_model.specs.Terms.{Text, Slot, principal_slot, resource_slot, Term, both}
+use Rattle.cedar_model.specs.Outcomes.{text_eq}
+use Rattle.cedar_model.specs.World.{Slots}
+use Rattle.cedar_model.specs.Policies as model
+use Rattle.cedar_expressions.specs.declared.names.EntityUID.{EntityUID}
+use Rattle.cedar_expressions.specs.declared.names.Loc.{Loc}
+use Rattle.cedar_expressions.specs.declared.names.SlotId.{SlotId}
+use Rattle.cedar_expressions.specs.declared.names.SlotId.TheVariants as slots
+use Rattle.cedar_expressions.specs.Names.{uid_name}
+use Rattle.cedar_expressions.specs.View.{view}
+use Rattle.cedar_layers.specs.declared.policies.policy.Annotations.{Annotations}
+use Rattle.cedar_layers.specs.declared.policies.policy.Effect.{Effect}
+use Rattle.cedar_layers.specs.declared.policies.policy.Effect.TheVariants as effects
+use Rattle.cedar_layers.specs.declared.policies.policy.Policy.{Policy}
+use Rattle.cedar_layers.specs.declared.policies.policy.PolicyID.{PolicyID}
+
+-- a policy: its effect, its id, its annotations under their keys, the four parts of its condition, and the values of the slots
+pub record PolicyView : Type 0 where
+  pub effect : model.Effect
+  pub id : Text
+  pub annotations : List (Text × Text)
+  pub principal_constraint : Term
+  pub action_constraint : Term
+  pub resource_constraint : Term
+  pub when_clause : Term
+  pub slots : Slots
+
+-- the condition of a policy
+abbrev pub condition_term : PolicyView → Term
+condition_term p =
+    both (both (both p.principal_constraint p.action_constraint) p.resource_constraint) p.when_clause
+
+-- the policy, as far as it decides
+abbrev pub decides_as : PolicyView → model.Policy
+decides_as p = record { id = p.id; effect = p.effect; condition = condition_term p; slots = p.slots }
+
+abbrev pub effect_view : Effect → model.Effect
+effect_view effects.Permit = model.permit
+effect_view effects.Forbid = model.forbid
+
+-- the text of an id
+abbrev pub policy_id_text : PolicyID → Text
+policy_id_text i = rc_str_bytes i.0
+
+-- the annotations under their keys, in the order of the keys' bytes
+abbrev pub annotations_view : Annotations → List (Text × Text)
+annotations_view a = map (λ e. (rc_str_bytes e.0, rc_str_bytes e.1)) a.0.entries
+
+-- whether this is the slot's id
+abbrev pub is_slot : Slot → SlotId → Bool
+is_slot principal_slot slots.Principal = true
+is_slot principal_slot slots.Resource = false
+is_slot resource_slot slots.Principal = false
+is_slot resource_slot slots.Resource = true
+
+-- a `SlotEnv`
+abbrev pub SlotValues : Type 0
+SlotValues = HashMap SlotId EntityUID (BuildHasherDefault FoldHasher)
+
+-- the values of the slots
+abbrev pub slots_view : SlotValues → Slots
+slots_view env s = option_map uid_name (lookup (is_slot s) env.entries)
+
+-- a policy as plain data
+abbrev pub policy_view : Policy → PolicyView
+policy_view p =
+    record { effect = effect_view p.effect; id = policy_id_text p.id; annotations = annotations_view p.annotations.value; principal_constraint = view p.principal.value; action_constraint = view p.action.value; resource_constraint = view p.resource.value; when_clause = view p.when.value; slots = slots_view p.env.value }
+
+-- where a policy stands
+abbrev pub policy_location : Policy → Option Loc
+policy_location p = p.loc
+
+-- the ids of policies, in order
+abbrev pub policy_ids : List PolicyView → List Text
+policy_ids ps = map (λ p. p.id) ps
+
+-- the first text of a list that comes again, or that is among those seen before
+abbrev pub first_repeated_after : List Text → List Text → Option Text
+first_repeated_after seen [] = None
+first_repeated_after seen (t ∷ ts) = if list_any (text_eq t) seen then Some t else first_repeated_after (seen ++ t ∷ []) ts
+
+-- the first text of a list that comes again
+abbrev pub first_repeated : List Text → Option Text
+first_repeated ts = first_repeated_after [] ts

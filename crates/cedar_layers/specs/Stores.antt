@@ -1,0 +1,60 @@
+-- Stores of entities as plain data.
+use Rattle.std.specs.Prelude.{◌≡◌, ⊤, if◌then◌else◌, List, [], ◌∷◌, map, Option, None, Some, option_map}
+use Rattle.std.specs.Map.{lookup}
+use Rattle.std.specs.Rc.{rc_str_bytes}
+use Rattle.cedar_model.specs.Terms.{EntityName, unknown}
+use Rattle.cedar_model.specs.Outcomes.{entity_eq}
+use Rattle.cedar_model.specs.Settings.{StoredEntity, Store, Found, found, not_there, not_known, missing_entity}
+use Rattle.cedar_expressions.specs.declared.names.EntityUID.{EntityUID}
+use Rattle.cedar_expressions.specs.Names.{uid_name}
+use Rattle.cedar_expressions.specs.Leaves.{type_view}
+use Rattle.cedar_layers.specs.declared.policies.entities.Dereference.{Dereference}
+use Rattle.cedar_layers.specs.declared.policies.entities.Dereference.TheVariants as answers
+use Rattle.cedar_layers.specs.declared.policies.entities.Entities.{Entities}
+use Rattle.cedar_layers.specs.declared.policies.entities.Entity.{Entity}
+use Rattle.cedar_layers.specs.Parts.{parts_view}
+
+-- the name of an entity
+abbrev pub entity_name : Entity → EntityName
+entity_name e = uid_name e.uid
+
+-- its attributes, tags and ancestors
+abbrev pub entity_view : Entity → StoredEntity
+entity_view e =
+    record { attributes = parts_view e.attrs.entries; tags = parts_view e.tags.entries; ancestors = map uid_name e.ancestors.keys }
+
+-- what a store has of each entity
+abbrev pub Held : Type 0
+Held = EntityName → Option StoredEntity
+
+abbrev pub no_entities : Held
+no_entities n = None
+
+-- the same, but of this entity it has this
+abbrev pub with_entity : Held → EntityName → StoredEntity → Held
+with_entity before e facts n = if entity_eq n e then Some facts else before n
+
+-- the same, but with these entities, of which a later one stays
+abbrev pub with_entities : Held → List Entity → Held
+with_entities before [] = before
+with_entities before (e ∷ es) = with_entities (with_entity before (entity_name e) (entity_view e)) es
+
+-- what the entries of a map hold
+abbrev pub held : List (EntityUID × Entity) → Held
+held es n = option_map entity_view (lookup (λ (u : EntityUID). entity_eq n (uid_name u)) es)
+
+-- a store as plain data
+abbrev pub store_view : Entities → Store
+store_view s = record { entity = held s.entities.entries; is_partial = s.partial }
+
+-- what a look-up answered
+abbrev pub found_view : Dereference → Found
+found_view answers.NoSuchEntity = not_there
+found_view (answers.Residual u) = not_known
+found_view (answers.Data e) = found (entity_view e.now)
+
+-- an answered unknown is the one that stands for this entity
+abbrev pub AsksFor : EntityName → Dereference → Type 0
+AsksFor n answers.NoSuchEntity = ⊤
+AsksFor n (answers.Residual u) = unknown (rc_str_bytes u.name) (option_map type_view u.type_annotation) ≡ missing_entity n
+AsksFor n (answers.Data e) = ⊤

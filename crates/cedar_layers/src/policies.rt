@@ -1,0 +1,11 @@
+//! Policies, sets of policies and the store of entities.
+
+mod entities;
+mod policy;
+mod policy_set;
+#[cfg(test)]
+mod tests;
+
+pub use entities::{Dereference, Entities, Entity};
+pub use policy::{Annotations, Effect, Policy, PolicyID};
+pub use policy_set::{Policies, PolicySet, PolicySetError};

@@ -1,0 +1,198 @@
+//! The store of entities.
+ghost use Rattle.std.specs.Prelude.{◌≡◌, true};
+ghost use Rattle.cedar_layers.specs.Parts.{parts_view, are_restricted_parts};
+ghost use mathlib.Core.Bool.{Bool-set};
+
+use cedar_expressions::{EntityUID, PartialValue, Type, Unknown};
+use std::alloc::{AllocError, Global};
+use std::collections::btree_map::Keys;
+use std::collections::{BTreeMap, HashMap, HashSet};
+use std::rc::RcStr;
+
+/// An entity: its uid, its attributes and tags under their names, and the entities that it is in. A residual among the
+/// attributes and tags is a restricted expression.
+#[derive(Debug, Drop)]
+pub struct Entity {
+    uid: EntityUID,
+    attrs: BTreeMap<RcStr, PartialValue>,
+    ancestors: HashSet<EntityUID>,
+    tags: BTreeMap<RcStr, PartialValue>,
+    ghost attrs_restricted: { are_restricted_parts (parts_view attrs.entries) ≡ true } by { Bool-set _ _ },
+    ghost tags_restricted: { are_restricted_parts (parts_view tags.entries) ≡ true } by { Bool-set _ _ },
+}
+
+impl Entity {
+    ghost use Rattle.std.specs.Prelude.{IfSome, map, length, option_map, option_copied};
+    ghost use Rattle.std.specs.Cmp.Lexicographic.{slice_cmp};
+    ghost use Rattle.std.specs.List.Sorted.{IsStrictlySortedBy};
+    ghost use Rattle.std.specs.Ordering.{nat_cmp};
+    ghost use Rattle.std.specs.Rc.{rc_str_bytes};
+    ghost use Rattle.cedar_model.specs.Settings.{part_at, is_among, names_of};
+    ghost use Rattle.cedar_expressions.specs.Names.{uid_name};
+    ghost use Rattle.cedar_expressions.specs.Residuals.{partial_view};
+    ghost use Rattle.cedar_layers.specs.Parts.{is_restricted_part};
+    ghost use Rattle.cedar_layers.specs.Stores.{entity_name, entity_view};
+
+    /// The entity of this uid with these attributes, ancestors and tags, taken as they are.
+    pub fn new(
+        uid: EntityUID,
+        attrs: BTreeMap<RcStr, PartialValue>,
+        ancestors: HashSet<EntityUID>,
+        tags: BTreeMap<RcStr, PartialValue>,
+    ) -> Entity
+        requires attrs { are_restricted_parts (parts_view attrs.entries) ≡ true }
+        requires tags { are_restricted_parts (parts_view tags.entries) ≡ true }
+        ensures name { entity_name result ≡ uid_name uid }
+        ensures view { entity_view result ≡ record { attributes = parts_view attrs.entries; tags = parts_view tags.entries; ancestors = map uid_name ancestors.keys } }
+    {
+        Entity {
+            uid,
+            attrs,
+            ancestors,
+            tags,
+        }
+    }
+
+    /// The attribute of this name, if there is one.
+    pub fn get(&self, attr: &str) -> Option<&PartialValue>
+        ensures value { option_map partial_view (option_copied result) ≡ part_at attr.now (entity_view self.now).attributes }
+        ensures restricted { IfSome result (λ p. is_restricted_part (partial_view p.now) ≡ true) }
+    {
+        self.attrs.get(attr)
+    }
+
+    /// The tag of this name, if there is one.
+    pub fn get_tag(&self, tag: &str) -> Option<&PartialValue>
+        ensures value { option_map partial_view (option_copied result) ≡ part_at tag.now (entity_view self.now).tags }
+        ensures restricted { IfSome result (λ p. is_restricted_part (partial_view p.now) ≡ true) }
+    {
+        self.tags.get(tag)
+    }
+
+    /// The names of the attributes, in the order of their bytes.
+    pub fn keys(&self) -> Keys<'_, RcStr, PartialValue>
+        ensures names { map rc_str_bytes result ≡ names_of (entity_view self.now).attributes }
+        ensures in_order { IsStrictlySortedBy (slice_cmp nat_cmp) (names_of (entity_view self.now).attributes) }
+    {
+        self.attrs.keys()
+    }
+
+    /// The names of the tags, in the order of their bytes.
+    pub fn tag_keys(&self) -> Keys<'_, RcStr, PartialValue>
+        ensures names { map rc_str_bytes result ≡ names_of (entity_view self.now).tags }
+        ensures in_order { IsStrictlySortedBy (slice_cmp nat_cmp) (names_of (entity_view self.now).tags) }
+    {
+        self.tags.keys()
+    }
+
+    /// How many attributes there are.
+    pub fn attrs_len(&self) -> usize
+        ensures { result ≡ length (entity_view self.now).attributes }
+    {
+        self.attrs.len()
+    }
+
+    /// How many tags there are.
+    pub fn tags_len(&self) -> usize
+        ensures { result ≡ length (entity_view self.now).tags }
+    {
+        self.tags.len()
+    }
+
+    /// Whether the entity of this uid is among the recorded ancestors.
+    pub fn is_descendant_of(&self, uid: &EntityUID) -> bool
+        ensures { result ≡ is_among (uid_name uid.now) (entity_view self.now).ancestors }
+    {
+        self.ancestors.contains(uid)
+    }
+}
+
+/// What a store answers of an entity.
+#[derive(Debug, Drop)]
+pub enum Dereference<'a> {
+    /// There is no such entity.
+    NoSuchEntity,
+    /// The entity is not known: this unknown stands for it.
+    Residual(Unknown),
+    /// The entity.
+    Data(&'a Entity),
+}
+
+/// A store of entities. A concrete store has every entity; of a partial one a missing entity is not known.
+#[derive(Debug, Drop)]
+pub struct Entities {
+    entities: HashMap<EntityUID, Entity>,
+    partial: bool,
+}
+
+impl Entities {
+    ghost use Rattle.std.specs.Prelude.{false, IfOk, OnOk, option_map};
+    ghost use Rattle.std.specs.Rc.{rc_str_bytes};
+    ghost use Rattle.cedar_model.specs.Terms.{unknown};
+    ghost use Rattle.cedar_model.specs.Settings.{look_up, missing_entity};
+    ghost use Rattle.cedar_expressions.specs.Names.{uid_name};
+    ghost use Rattle.cedar_expressions.specs.Leaves.{type_view};
+    ghost use Rattle.cedar_layers.specs.Stores.{entity_name, entity_view, held, no_entities, with_entity, with_entities, store_view, found_view, AsksFor};
+
+    /// The concrete store without entities. It takes no memory.
+    pub fn new(alloc: Global) -> Entities
+        ensures { store_view result ≡ record { entity = no_entities; is_partial = false } }
+    {
+        Entities {
+            entities: HashMap::new(alloc),
+            partial: false,
+        }
+    }
+
+    /// The store of these entities, of which those of one uid are one entity, the last. Refuses only for want of memory.
+    pub fn with(alloc: Global, entities: Vec<Entity>, partial: bool) -> Result<Entities, AllocError>
+        ensures { IfOk result (λ s. store_view s ≡ record { entity = with_entities no_entities entities.items; is_partial = partial }) }
+    {
+        let mut held: HashMap<EntityUID, Entity> = HashMap::new(alloc);
+        'put: for entity in entities {
+            Entities::put(&mut held, entity)?;
+        }
+        Ok(Entities {
+            entities: held,
+            partial,
+        })
+    }
+
+    // Puts the entity into the map, in the place of one of the same uid.
+    fn put(map: &mut HashMap<EntityUID, Entity>, entity: Entity) -> Result<(), AllocError>
+        ensures { OnOk result (held map.new.entries ≡ with_entity (held map.old.entries) (entity_name entity) (entity_view entity)) }
+    {
+        let uid = entity.uid.clone()?;
+        map.insert(uid, entity)?;
+        Ok(())
+    }
+
+    /// The entity of this uid; for one that the store lacks `NoSuchEntity` or, in a partial store, the unknown that is named by
+    /// the uid's text and annotated with its type. Refuses only for want of memory.
+    pub fn entity(&self, alloc: Global, uid: &EntityUID) -> Result<Dereference<'_>, AllocError>
+        ensures found { IfOk result (λ d. found_view d ≡ look_up (store_view self.now) (uid_name uid.now)) }
+        ensures unknown { IfOk result (AsksFor (uid_name uid.now)) }
+    {
+        match self.entities.get(uid) {
+            Some(entity) => Ok(Dereference::Data(entity)),
+            None => {
+                if self.partial {
+                    Ok(Dereference::Residual(Entities::missing(alloc, uid)?))
+                } else {
+                    Ok(Dereference::NoSuchEntity)
+                }
+            }
+        }
+    }
+
+    // The unknown that stands for the entity of this uid.
+    fn missing(alloc: Global, uid: &EntityUID) -> Result<Unknown, AllocError>
+        ensures { IfOk result (λ u. unknown (rc_str_bytes u.name) (option_map type_view u.type_annotation) ≡ missing_entity (uid_name uid.now)) }
+    {
+        let name = RcStr::from_string(uid.to_string(alloc)?)?;
+        let ty = Type::Entity {
+            ty: uid.entity_type().clone()?,
+        };
+        Ok(Unknown::new_with_type(name, ty))
+    }
+}

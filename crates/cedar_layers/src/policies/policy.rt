@@ -1,0 +1,206 @@
+#![tactic(auto, using(cedar_expressions::proofs::Levels::levels))]
+//! Policies: an effect and the condition under which it applies.
+ghost use Rattle.std.specs.Prelude.{◌≡◌, Some};
+ghost use Rattle.std.specs.Rc.{rc_str_bytes};
+
+use cedar_expressions::{Expr, Literal, Loc, SlotEnv};
+use std::alloc::{AllocError, Global};
+use std::collections::BTreeMap;
+use std::fmt;
+use std::rc::{Rc, RcStr};
+
+/// What a policy does with the requests that satisfy its condition.
+#[derive(Clone, Copy, Debug, PartialEq, Eq)]
+pub enum Effect {
+    /// It allows them, unless a policy forbids them.
+    Permit,
+    /// It denies them.
+    Forbid,
+}
+
+/// The id of a policy. Ids are ordered by the bytes of their texts.
+#[derive(Clone, Debug, PartialEq, Eq, PartialOrd, Ord, Hash, Drop)]
+pub struct PolicyID(RcStr);
+
+impl PolicyID {
+    ghost use Rattle.cedar_layers.specs.Policies.{policy_id_text};
+
+    /// The id of this text.
+    pub fn from_string(text: RcStr) -> PolicyID
+        ensures { policy_id_text result ≡ rc_str_bytes text }
+    {
+        PolicyID(text)
+    }
+}
+
+impl fmt::Display for PolicyID {
+    ghost use Rattle.cedar_layers.specs.Policies.{policy_id_text};
+
+    ghost output = { λ id. Some (policy_id_text id) };
+
+    fn fmt<W: fmt::Write>(&self, f: &mut fmt::Formatter<W>) -> fmt::Result {
+        f.write_str(self.0.as_str())
+    }
+}
+
+/// The annotations of a policy: texts under their keys. They say nothing to the evaluator.
+#[derive(Clone, Debug, PartialEq, Eq, Drop)]
+pub struct Annotations(pub BTreeMap<RcStr, RcStr>);
+
+impl Annotations {
+    ghost use Rattle.std.specs.Prelude.{[]};
+    ghost use Rattle.cedar_layers.specs.Policies.{annotations_view};
+
+    /// No annotations. It takes no memory.
+    pub fn new(alloc: Global) -> Annotations
+        ensures { annotations_view result ≡ [] }
+    {
+        Annotations(BTreeMap::new(alloc))
+    }
+}
+
+/// A policy: its effect, and the condition under which it applies. The condition is in four parts: the constraints on the
+/// principal, on the action and on the resource, and the when clause. Slots in these parts have the values of `env`.
+#[derive(Debug, Drop)]
+pub struct Policy {
+    effect: Effect,
+    id: PolicyID,
+    annotations: Rc<Annotations>,
+    principal: Rc<Expr>,
+    action: Rc<Expr>,
+    resource: Rc<Expr>,
+    when: Rc<Expr>,
+    env: Rc<SlotEnv>,
+    loc: Option<Loc>,
+}
+
+impl Policy {
+    ghost use Rattle.std.specs.Prelude.{IfOk, None, true};
+    ghost use Rattle.cedar_model.specs.Terms.{literal, bool_literal, both};
+    ghost use Rattle.cedar_model.specs.Agreement.{no_slots};
+    ghost use Rattle.cedar_expressions.specs.View.{view, expr_loc};
+    ghost use Rattle.cedar_layers.specs.Policies.{effect_view, policy_id_text, annotations_view, slots_view, policy_view, condition_term, policy_location};
+
+    /// The policy of these parts, at no known place. Refuses only for want of memory.
+    pub fn new(
+        alloc: Global,
+        effect: Effect,
+        id: PolicyID,
+        annotations: Annotations,
+        principal: Expr,
+        action: Expr,
+        resource: Expr,
+        when: Expr,
+        env: SlotEnv,
+    ) -> Result<Policy, AllocError>
+        ensures view { IfOk result (λ p. policy_view p ≡ record { effect = effect_view effect; id = policy_id_text id; annotations = annotations_view annotations; principal_constraint = view principal; action_constraint = view action; resource_constraint = view resource; when_clause = view when; slots = slots_view env }) }
+        ensures loc { IfOk result (λ p. policy_location p ≡ None) }
+    {
+        Ok(Policy {
+            effect,
+            id,
+            annotations: Rc::new(alloc, annotations)?,
+            principal: Rc::new(alloc, principal)?,
+            action: Rc::new(alloc, action)?,
+            resource: Rc::new(alloc, resource)?,
+            when: Rc::new(alloc, when)?,
+            env: Rc::new(alloc, env)?,
+            loc: None,
+        })
+    }
+
+    /// The policy with this when clause, at this place: its constraints are all `true`, and no slot has a value. Refuses only
+    /// for want of memory.
+    pub fn from_when_clause_annos(
+        alloc: Global,
+        effect: Effect,
+        expr: Rc<Expr>,
+        id: PolicyID,
+        loc: Option<Loc>,
+        annotations: Rc<Annotations>,
+    ) -> Result<Policy, AllocError>
+        ensures view { IfOk result (λ p. policy_view p ≡ record { effect = effect_view effect; id = policy_id_text id; annotations = annotations_view annotations.value; principal_constraint = literal (bool_literal true); action_constraint = literal (bool_literal true); resource_constraint = literal (bool_literal true); when_clause = view expr.value; slots = no_slots }) }
+        ensures loc { IfOk result (λ p. policy_location p ≡ loc) }
+    {
+        let any = Rc::new(alloc, Expr::val(Literal::Bool(true)))?;
+        Ok(Policy {
+            effect,
+            id,
+            annotations,
+            principal: any.clone()?,
+            action: any.clone()?,
+            resource: any,
+            when: expr,
+            env: Rc::new(alloc, SlotEnv::new(alloc))?,
+            loc,
+        })
+    }
+
+    /// The id.
+    pub fn id(&self) -> &PolicyID
+        ensures { policy_id_text result.now ≡ (policy_view self.now).id }
+    {
+        &self.id
+    }
+
+    /// The effect.
+    pub fn effect(&self) -> Effect
+        ensures { effect_view result ≡ (policy_view self.now).effect }
+    {
+        self.effect
+    }
+
+    /// The annotations.
+    pub fn annotations_rc(&self) -> &Rc<Annotations>
+        ensures { annotations_view result.now.value ≡ (policy_view self.now).annotations }
+    {
+        &self.annotations
+    }
+
+    /// The values of the slots.
+    pub fn env(&self) -> &SlotEnv
+        ensures { slots_view result.now ≡ (policy_view self.now).slots }
+    {
+        &self.env
+    }
+
+    /// The condition, `((principal && action) && resource) && when`, each `&&` at the policy's place. Its value is a boolean
+    /// or an error. Refuses only for want of memory.
+    pub fn condition(&self, alloc: Global) -> Result<Expr, AllocError>
+        ensures view { IfOk result (λ e. view e ≡ condition_term (policy_view self.now)) }
+        ensures loc { IfOk result (λ e. expr_loc e ≡ policy_location self.now) }
+    {
+        let scope = self.both(alloc, self.principal.as_ref().clone()?, &self.action)?;
+        let scope = self.both(alloc, scope, &self.resource)?;
+        self.both(alloc, scope, &self.when)
+    }
+
+    fn both(&self, alloc: Global, left: Expr, right: &Rc<Expr>) -> Result<Expr, AllocError>
+        ensures view { IfOk result (λ e. view e ≡ both (view left) (view right.now.value)) }
+        ensures loc { IfOk result (λ e. expr_loc e ≡ policy_location self.now) }
+    {
+        let right = right.as_ref().clone()?;
+        let conjunction = Expr::and(alloc, left, right)?;
+        Ok(conjunction.with_maybe_source_loc(self.loc))
+    }
+}
+
+impl Clone for Policy {
+    ghost use Rattle.cedar_layers.specs.Policies.{policy_view, policy_location};
+
+    ghost is_clone = { λ p copy. (policy_view copy ≡ policy_view p) × (policy_location copy ≡ policy_location p) };
+
+    fn clone(&self) -> Result<Policy, AllocError> {
+        Ok(Policy {
+            effect: self.effect,
+            id: self.id.clone()?,
+            annotations: self.annotations.clone()?,
+            principal: self.principal.clone()?,
+            action: self.action.clone()?,
+            resource: self.resource.clone()?,
+            when: self.when.clone()?,
+            env: self.env.clone()?,
+            loc: self.loc,
+        })
+    }
+}

@@ -1,0 +1,103 @@
+//! Sets of policies.
+ghost use Rattle.std.specs.Prelude.{◌≡◌, None, map};
+ghost use Rattle.std.specs.Map.{values_of};
+ghost use Rattle.cedar_layers.specs.Policies.{policy_view, policy_ids, first_repeated};
+
+use super::policy::{Policy, PolicyID};
+use indexmap::IndexMap;
+use indexmap::map::Values;
+use std::alloc::{AllocError, Global};
+use thiserror::Error;
+
+/// Policies in order of insertion, no two of one id.
+#[derive(Drop)]
+pub struct PolicySet {
+    policies: IndexMap<PolicyID, Policy>,
+    ghost distinct: { first_repeated (policy_ids (map policy_view (values_of policies.entries))) ≡ None },
+}
+
+/// Why policies can't be put into one set.
+#[derive(Clone, Debug, PartialEq, Eq, Drop, Error)]
+pub enum PolicySetError {
+    /// Two policies have this id.
+    #[error("duplicate policy id `{id}`")]
+    Occupied { id: PolicyID },
+    /// There is not enough memory.
+    #[error("out of memory")]
+    Memory(AllocError),
+}
+
+impl From<AllocError> for PolicySetError {
+    ghost use Rattle.cedar_layers.specs.declared.policies.policy_set.PolicySetError.TheVariants.{Memory};
+
+    ghost from_gives = { λ x e. e ≡ Memory x };
+
+    fn from(error: AllocError) -> PolicySetError {
+        PolicySetError::Memory(error)
+    }
+}
+
+impl PolicySet {
+    ghost use Rattle.std.specs.Prelude.{Some, IfOk, OnOk, IfErr, IfSome};
+    ghost use Rattle.cedar_layers.specs.PolicySets.{policies_view, policies_left, occupied_id, Adds, IsTaken};
+
+    /// The set of these policies. Refuses with `Occupied`, which names the first id that comes again, or for want of memory.
+    pub fn try_from_iter(alloc: Global, policies: Vec<Policy>) -> Result<PolicySet, PolicySetError>
+        ensures view { IfOk result (λ s. policies_view s ≡ map policy_view policies.items) }
+        ensures occupied { IfErr result (λ e. IfSome (occupied_id e) (λ i. first_repeated (policy_ids (map policy_view policies.items)) ≡ Some i)) }
+    {
+        let mut set: IndexMap<PolicyID, Policy> = IndexMap::new(alloc);
+        'insert: for policy in policies {
+            PolicySet::insert(&mut set, policy)?;
+        }
+        Ok(PolicySet { policies: set })
+    }
+
+    // Puts the policy after the others, or refuses where its id is there.
+    fn insert(set: &mut IndexMap<PolicyID, Policy>, policy: Policy) -> Result<(), PolicySetError>
+        ensures ok { OnOk result (Adds set.old.entries set.new.entries policy) }
+        ensures occupied { IfErr result (λ e. IfSome (occupied_id e) (λ i. IsTaken set.old.entries policy i)) }
+    {
+        if set.contains_key(policy.id()) {
+            return Err(PolicySetError::Occupied {
+                id: policy.id().clone()?,
+            });
+        }
+        let id = policy.id().clone()?;
+        match set.insert(id, policy) {
+            Ok(_) => Ok(()),
+            Err(_) => Err(PolicySetError::Memory(AllocError)),
+        }
+    }
+
+    /// The policies, in order of insertion.
+    pub fn policies(&self) -> Policies<'_>
+        ensures view { map policy_view (policies_left result) ≡ policies_view self.now }
+        ensures distinct { first_repeated (policy_ids (policies_view self.now)) ≡ None }
+    {
+        Policies {
+            policies: self.policies.values(),
+        }
+    }
+}
+
+/// The policies of a set, in order of insertion.
+#[derive(Drop)]
+pub struct Policies<'a> {
+    policies: Values<'a, PolicyID, Policy>,
+}
+
+impl<'a> Iterator for Policies<'a> {
+    ghost use Rattle.std.specs.Iterator.{YieldsFirstRef, item_count};
+    ghost use Rattle.cedar_layers.specs.PolicySets.{policies_left};
+
+    type Item = &'a Policy;
+
+    ghost next_gives = { YieldsFirstRef policies_left };
+
+    ghost remaining = { item_count policies_left };
+
+    fn next(&mut self) -> Option<&'a Policy> {
+        self.policies.next()
+    }
+}

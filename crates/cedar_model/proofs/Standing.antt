@@ -1,0 +1,109 @@
+-- A first response stands, in every completion that fits the conditions.
+use Rattle.std.specs.Prelude.{◌≡◌, ◌≢◌, ℕ, Bool, true, false, List, [], ◌∷◌, Option, Some, None}
+use Rattle.std.proofs.Common.{refl, sym, ap, ◌∙◌, subst}
+use Rattle.cedar_model.specs.Terms.{Text, bool_literal, long_literal, text_literal, entity_literal}
+use Rattle.cedar_model.specs.Values.{AbstractValue, plain, set_value, record_value, extension_value, Represented, abstract_value}
+use Rattle.cedar_model.specs.Outcomes.{Outcome, gives, errs, bool_of}
+use Rattle.cedar_model.specs.World.{World, Slots, Functions}
+use Rattle.cedar_model.specs.Meaning.{meaning}
+use Rattle.cedar_model.specs.Failures.{Failure, FailureKind, of_meaning, of_residual, of_limit, of_memory, failure_kind, value, residual, Answer, answers, fails}
+use Rattle.cedar_model.specs.Settings.{Setting}
+use Rattle.cedar_model.specs.Rules.{StoredCalls}
+use Rattle.cedar_model.specs.Agreement.{outcome_value, IsCompletion, AgreesWithFunctions, AnswerFaithfully, StandsFor, FailsFor}
+use Rattle.cedar_model.specs.Policies.{Policy, satisfied, unsatisfied, erring, verdict}
+use Rattle.cedar_model.specs.Reordering.{IsReordering, nothing, keeping}
+use Rattle.cedar_model.specs.Responses
+use Rattle.cedar_model.proofs.Soundness.{sound_stands, runs_sound}
+
+bool_is : (a : AbstractValue) (b : Bool) → bool_of a ≡ Some b → a ≡ plain (bool_literal b)
+unfolding bool_of
+bool_is (plain (bool_literal c)) b e = let f : c ≡ b = cc in ap (λ x. plain (bool_literal x)) f
+bool_is (plain (long_literal n)) b e = absurd (cc)
+bool_is (plain (text_literal t)) b e = absurd (cc)
+bool_is (plain (entity_literal d)) b e = absurd (cc)
+bool_is (set_value vs) b e = absurd (cc)
+bool_is (record_value fs) b e = absurd (cc)
+bool_is (extension_value t k) b e = absurd (cc)
+
+no_bool_errs : (a : AbstractValue) → bool_of a ≡ None → verdict (gives a) ≡ erring
+unfolding bool_of verdict
+no_bool_errs (plain (bool_literal c)) e = absurd (cc)
+no_bool_errs (plain (long_literal n)) e = refl
+no_bool_errs (plain (text_literal t)) e = refl
+no_bool_errs (plain (entity_literal d)) e = refl
+no_bool_errs (set_value vs) e = refl
+no_bool_errs (record_value fs) e = refl
+no_bool_errs (extension_value t k) e = refl
+
+error_errs : (o : Outcome) → outcome_value o ≡ None → verdict o ≡ erring
+unfolding outcome_value verdict
+error_errs (gives v) e = absurd (cc)
+error_errs (errs k) e = refl
+
+unsatisfied_is : unsatisfied ≢ satisfied
+unsatisfied_is e = cc
+
+verdict_true : verdict (gives (plain (bool_literal true))) ≡ satisfied
+unfolding verdict
+verdict_true = refl
+
+verdict_false : verdict (gives (plain (bool_literal false))) ≡ unsatisfied
+unfolding verdict
+verdict_false = refl
+
+module _ (ans : Functions) (w : World) (s : Setting) (p : Policy) where
+  abbrev M : Outcome
+  M = meaning s.extensions ans w p.slots p.condition
+
+  value_stands : (v : Represented) (o : Option Bool) → bool_of (abstract_value v) ≡ o → M ≡ gives (abstract_value v) → Responses.StandsAs s.extensions ans w p (Responses.reported_bool o)
+  unfolding Responses.reported_bool
+  value_stands v (Some true) e h = ap verdict (h ∙ ap gives (bool_is (abstract_value v) true e)) ∙ verdict_true
+  value_stands v (Some false) e h =
+      let f : verdict M ≡ unsatisfied = ap verdict (h ∙ ap gives (bool_is (abstract_value v) false e)) ∙ verdict_false in
+      λ q. unsatisfied_is (sym f ∙ q)
+  value_stands v None e h = ap verdict h ∙ no_bool_errs (abstract_value v) e
+
+  failure_stands : (k : FailureKind) → k ≢ of_limit → k ≢ of_memory → FailsFor k M → verdict M ≡ erring
+  failure_stands (of_meaning j) nl nm h = error_errs M h
+  failure_stands of_residual nl nm h = error_errs M h
+  failure_stands of_limit nl nm h = absurd (nl refl)
+  failure_stands of_memory nl nm h = absurd (nm refl)
+
+  pub answer_stands : (a : Answer) → Responses.IsRecordable (Responses.error_of a) → StandsFor s.extensions ans w a M → Responses.StandsAs s.extensions ans w p (Responses.reported_of a)
+  unfolding Responses.reported_of Responses.error_of
+  answer_stands (answers (value v)) r h = value_stands v (bool_of (abstract_value v)) refl h.1
+  answer_stands (answers (residual t)) r h = h
+  answer_stands (fails e) r h = failure_stands (failure_kind e) r.0 r.1 h
+
+pub with_slots_done : (ans : Functions) (w : World) (s : Setting) (slots : Slots) → IsCompletion ans w s → IsCompletion ans w (Responses.with_slots s slots)
+with_slots_done ans w s slots d = record {
+  request_agrees = d.request_agrees;
+  store_agrees = d.store_agrees;
+  map_agrees = d.map_agrees;
+  context_faithful = d.context_faithful;
+  store_faithful = d.store_faithful;
+  map_faithful = d.map_faithful;
+  context_fits = d.context_fits;
+  store_fits = d.store_fits;
+}
+
+-- an error that is recorded, or none, and those after it
+pub recorded : (id : Text) (o : Option Failure) (later : List (Text × Failure)) → Responses.AreRecordable (Responses.with_error id o later) → Responses.IsRecordable o × Responses.AreRecordable later
+unfolding Responses.with_error
+recorded id None later h = (tt, h)
+recorded id (Some e) later h = (h.0, h.1)
+
+module _ (ans : Functions) (calls : StoredCalls) (agree : AgreesWithFunctions ans calls) (w : World) (s : Setting) (done : IsCompletion ans w s) (faithful : AnswerFaithfully s.extensions ans calls) (limit : ℕ) where
+  pub run_stands : (ps : List Policy) (rows : List Responses.Row) (errors : List (Text × Failure)) → Responses.FitPolicies ans w ps → Responses.AreRecordable errors → Responses.RunOf s calls limit ps rows errors → Responses.StandInOrder s.extensions ans w ps rows
+  run_stands [] rows errors f r h = subst (Responses.StandInOrder s.extensions ans w []) (sym h.0) tt
+  run_stands (p ∷ ps) rows errors f r (a, rest, later, g, j, e, q) =
+      let z = recorded p.id (Responses.error_of a) later (subst Responses.AreRecordable q r) in
+      let k = sound_stands ans calls agree w (Responses.with_slots s p.slots) (with_slots_done ans w s p.slots done) faithful p.condition a (runs_sound ans calls agree w (Responses.with_slots s p.slots) (with_slots_done ans w s p.slots done) faithful limit p.condition a f.0 g) in
+      subst (Responses.StandInOrder s.extensions ans w (p ∷ ps)) (sym e) (refl, refl, answer_stands ans w s p a z.0 k, run_stands ps rest later f.1 z.1 j)
+
+reorder_refl : {A : Type 0} (xs : List A) → IsReordering A xs xs
+reorder_refl [] = nothing
+reorder_refl (x ∷ xs) = keeping x (reorder_refl xs)
+
+pub in_order_stands : (rows : List Responses.Row) (P : List Responses.Row → Type 0) → P rows → (ordered : List Responses.Row) × IsReordering Responses.Row ordered rows × P ordered
+in_order_stands rows P h = (rows, reorder_refl rows, h)

@@ -1,0 +1,5 @@
+use Rattle.cedar_model.proofs.Total.{total}
+use Rattle.cedar_model.proofs.levels.levels_have_answers.Goals as goal
+
+pub returns : goal.returns
+returns g c = λ callable s. total s _ callable

@@ -1,0 +1,21 @@
+-- The laws of responses, which the functions of `responses` have as their contracts.
+use Rattle.std.specs.Prelude.{ℕ, List}
+use Rattle.cedar_model.specs.Terms.{Text}
+use Rattle.cedar_model.specs.World.{World, Functions}
+use Rattle.cedar_model.specs.Failures.{Failure}
+use Rattle.cedar_model.specs.Settings.{Setting, Store}
+use Rattle.cedar_model.specs.Rules.{StoredCalls}
+use Rattle.cedar_model.specs.Agreement.{AgreesWithFunctions, IsCompletion, AnswerFaithfully}
+use Rattle.cedar_model.specs.Policies.{Policy}
+use Rattle.cedar_model.specs.Responses.{Row, Stand, RunOf, AreRecordable, FitPolicies, AreConditions}
+use Rattle.cedar_model.specs.Chains.{Mapping, Response, at_step, StepsTo}
+
+-- in every completion that fits the conditions a run stands, if none of its errors is the recursion limit or want of memory
+abbrev pub RunsStand : StoredCalls → Type 0
+RunsStand calls =
+    (ans : Functions) → AgreesWithFunctions ans calls → (w : World) (s : Setting) → IsCompletion ans w s → AnswerFaithfully s.extensions ans calls → (limit : ℕ) (ps : List Policy) (rows : List Row) (errors : List (Text × Failure)) → FitPolicies ans w ps → AreRecordable errors → RunOf s calls limit ps rows errors → Stand s.extensions ans w ps rows
+
+-- a step keeps what stands, in every world that agrees with the new request, the map and the store, if none of its errors is the recursion limit or want of memory
+abbrev pub StepsKeepWhatStands : StoredCalls → Type 0
+StepsKeepWhatStands calls =
+    (ans : Functions) → AgreesWithFunctions ans calls → (w : World) (s : Setting) (limit : ℕ) (m : Mapping) (store : Store) (old new : Response) → IsCompletion ans w (at_step s new.request store m) → AnswerFaithfully s.extensions ans calls → (ps : List Policy) → AreConditions ps → Stand s.extensions ans w ps old.rows → AreRecordable new.errors → StepsTo s calls limit m store old new → Stand s.extensions ans w ps new.rows

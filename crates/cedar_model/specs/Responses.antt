@@ -1,0 +1,122 @@
+-- Responses: what is reported of each policy, when that stands in a world, and which responses follow from a request, policies and a limit.
+use Rattle.std.specs.Prelude.{◌≡◌, ◌≢◌, ℕ, Bool, true, false, List, [], ◌∷◌, Option, Some, None}
+use Rattle.cedar_model.specs.Terms.{Text, bool_literal, bool_type, Term, literal, both}
+use Rattle.cedar_model.specs.Values.{Represented, abstract_value}
+use Rattle.cedar_model.specs.Outcomes.{bool_of}
+use Rattle.cedar_model.specs.World.{World, Slots, Extensions, Functions}
+use Rattle.cedar_model.specs.Meaning.{meaning}
+use Rattle.cedar_model.specs.Failures.{Failure, of_limit, of_memory, failure_kind, value, residual, Answer, answers, fails, wrong_type}
+use Rattle.cedar_model.specs.Settings.{Setting}
+use Rattle.cedar_model.specs.Rules.{StoredCalls, Runs}
+use Rattle.cedar_model.specs.Agreement.{Fits, HaveSameOutcome, no_slots}
+use Rattle.cedar_model.specs.Policies.{Effect, Policy, satisfied, erring, verdict}
+use Rattle.cedar_model.specs.Reordering.{IsReordering}
+
+-- what a response reports of a policy: true; false, perhaps for an error; or the residual of its condition
+pub data Reported : Type 0 where
+  reported_true : Reported
+  reported_false : Bool → Reported
+  reported_residual : Term → Reported
+
+pub record Row : Type 0 where
+  pub id : Text
+  pub effect : Effect
+  pub reported : Reported
+
+-- ---- what stands
+
+-- a true policy is satisfied; a false one isn't, and with an error it errs; a residual fits the world and has, without slots, the outcome of the condition
+abbrev pub StandsAs : Extensions → Functions → World → Policy → Reported → Type 0
+StandsAs X ans w p reported_true = verdict (meaning X ans w p.slots p.condition) ≡ satisfied
+StandsAs X ans w p (reported_false true) = verdict (meaning X ans w p.slots p.condition) ≡ erring
+StandsAs X ans w p (reported_false false) = verdict (meaning X ans w p.slots p.condition) ≢ satisfied
+StandsAs X ans w p (reported_residual t) =
+    Fits ans w t × HaveSameOutcome (meaning X ans w no_slots t) (meaning X ans w p.slots p.condition)
+
+abbrev pub StandInOrder : Extensions → Functions → World → List Policy → List Row → Type 0
+StandInOrder X ans w [] [] = Unit {0}
+StandInOrder X ans w [] (r ∷ rs) = ⊥
+StandInOrder X ans w (p ∷ ps) [] = ⊥
+StandInOrder X ans w (p ∷ ps) (r ∷ rs) =
+    (r.id ≡ p.id) × (r.effect ≡ p.effect) × StandsAs X ans w p r.reported × StandInOrder X ans w ps rs
+
+-- the rows of a response are the policies, each once, in whatever order, and each stands
+abbrev pub Stand : Extensions → Functions → World → List Policy → List Row → Type 0
+Stand X ans w ps rows = (ordered : List Row) × IsReordering Row ordered rows × StandInOrder X ans w ps ordered
+
+-- ---- what a response follows from
+
+unfoldable pub reported_bool : Option Bool → Reported
+reported_bool (Some true) = reported_true
+reported_bool (Some false) = reported_false false
+reported_bool None = reported_false true
+
+-- what is reported of an answer: a value that is no bool is an error
+unfoldable pub reported_of : Answer → Reported
+reported_of (answers (value v)) = reported_bool (bool_of (abstract_value v))
+reported_of (answers (residual t)) = reported_residual t
+reported_of (fails e) = reported_false true
+
+unfoldable pub bool_error : Option Bool → Represented → Option Failure
+bool_error (Some b) v = None
+bool_error None v = Some (wrong_type bool_type [] (abstract_value v))
+
+unfoldable pub error_of : Answer → Option Failure
+error_of (answers (value v)) = bool_error (bool_of (abstract_value v)) v
+error_of (answers (residual t)) = None
+error_of (fails e) = Some e
+
+abbrev pub with_slots : Setting → Slots → Setting
+with_slots s slots =
+    record { request = s.request; store = s.store; map = s.map; slots = slots; extensions = s.extensions }
+
+unfoldable pub with_error : Text → Option Failure → List (Text × Failure) → List (Text × Failure)
+with_error id None errors = errors
+with_error id (Some e) errors = (id, e) ∷ errors
+
+-- each policy in order is reported by an answer of its condition within the limit, and its error, if any, is recorded in that order; a condition whose need is above the limit errs with the recursion limit
+abbrev pub RunOf : Setting → StoredCalls → ℕ → List Policy → List Row → List (Text × Failure) → Type 0
+RunOf s calls limit [] rows errors = (rows ≡ []) × (errors ≡ [])
+RunOf s calls limit (p ∷ ps) rows errors =
+    (a : Answer) × (rest : List Row) × (later : List (Text × Failure)) × Runs (with_slots s p.slots) calls limit p.condition a × RunOf s calls limit ps rest later × (rows ≡ record { id = p.id; effect = p.effect; reported = reported_of a } ∷ rest) × (errors ≡ with_error p.id (error_of a) later)
+
+-- ---- what a response carries on
+
+abbrev pub truth : Term
+truth = literal (bool_literal true)
+
+-- the when clause that stands for what is reported
+unfoldable pub clause_of : Reported → Term
+clause_of reported_true = truth
+clause_of (reported_false e) = literal (bool_literal false)
+clause_of (reported_residual t) = t
+
+-- the policy that a row is carried on as: scope constraints that are true, the clause, and no slots
+abbrev pub carried : Row → Policy
+carried r =
+    record { id = r.id; effect = r.effect; condition = both (both (both truth truth) truth) (clause_of r.reported); slots = no_slots }
+
+-- ---- premises of what stands
+
+-- an error of a policy: neither the recursion limit nor want of memory
+abbrev pub IsRecordable : Option Failure → Type 0
+IsRecordable None = Unit {0}
+IsRecordable (Some e) = (failure_kind e ≢ of_limit) × (failure_kind e ≢ of_memory)
+
+abbrev pub AreRecordable : List (Text × Failure) → Type 0
+AreRecordable [] = Unit {0}
+AreRecordable (e ∷ es) = IsRecordable (Some e.1) × AreRecordable es
+
+-- a world fits each policy's condition
+abbrev pub FitPolicies : Functions → World → List Policy → Type 0
+FitPolicies ans w [] = Unit {0}
+FitPolicies ans w (p ∷ ps) = Fits ans w p.condition × FitPolicies ans w ps
+
+-- a condition is a conjunction, so its outcome is a bool or an error
+abbrev pub IsCondition : Term → Type 0
+IsCondition (both t u) = Unit {0}
+IsCondition t = ⊥
+
+abbrev pub AreConditions : List Policy → Type 0
+AreConditions [] = Unit {0}
+AreConditions (p ∷ ps) = IsCondition p.condition × AreConditions ps

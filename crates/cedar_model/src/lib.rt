@@ -1,0 +1,9 @@
+//! The definitions that the contracts of the other crates cite, and the laws that follow from them alone.
+#![tactic(auto)]
+
+pub mod examples;
+pub mod levels;
+pub mod meaning;
+pub mod policies;
+pub mod responses;
+pub mod values;

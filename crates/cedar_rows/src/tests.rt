@@ -1,0 +1,3 @@
+//! What no clause says: the printed lines, the statuses, and that calls succeed where there is memory.
+mod evaluation;
+mod program;

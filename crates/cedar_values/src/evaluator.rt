@@ -1,0 +1,3 @@
+//! Evaluation, as far as its errors go.
+
+pub mod err;

@@ -1,0 +1,275 @@
+//! Why an evaluation failed.
+use crate::extensions::ExtensionFunctionLookupError;
+use cedar_expressions::Loc;
+use evaluation_errors::{
+    EntityAttrDoesNotExistError, EntityDoesNotExistError, ExtensionFunctionExecutionError,
+    IntegerOverflowError, NonValueError, RecordAttrDoesNotExistError, RecursionLimitError,
+    TypeError, UnlinkedSlotError, WrongNumArgumentsError,
+};
+use std::alloc::{AllocError, AllocFailed};
+use thiserror::Error;
+
+pub mod evaluation_errors;
+
+/// Why an evaluation failed. Nine of the kinds are errors of the language; `NonValue`, `RecursionLimit` and `Memory` say that
+/// the evaluation did not come to an end.
+#[derive(Debug, Clone, PartialEq, Eq, Drop, Error)]
+pub enum EvaluationError {
+    /// An entity was read that the store does not have.
+    #[error(transparent)]
+    EntityDoesNotExist(EntityDoesNotExistError),
+    /// An attribute or a tag was read that the entity does not have.
+    #[error(transparent)]
+    EntityAttrDoesNotExist(EntityAttrDoesNotExistError),
+    /// An attribute was read that the record does not have.
+    #[error(transparent)]
+    RecordAttrDoesNotExist(RecordAttrDoesNotExistError),
+    /// A function was called that no extension has.
+    #[error(transparent)]
+    FailedExtensionFunctionLookup(ExtensionFunctionLookupError),
+    /// A value was of another type than its place takes.
+    #[error(transparent)]
+    TypeError(TypeError),
+    /// An extension function was called with more or fewer arguments than it takes.
+    #[error(transparent)]
+    WrongNumArguments(WrongNumArgumentsError),
+    /// A number needs more than 64 bits.
+    #[error(transparent)]
+    IntegerOverflow(IntegerOverflowError),
+    /// A slot of a template was read that is not linked to an entity.
+    #[error(transparent)]
+    UnlinkedSlot(UnlinkedSlotError),
+    /// An extension function answered an error of its own.
+    #[error(transparent)]
+    FailedExtensionFunctionExecution(ExtensionFunctionExecutionError),
+    /// The expression holds an unknown, where a value was asked for.
+    #[error(transparent)]
+    NonValue(NonValueError),
+    /// The depth of evaluation passed the limit.
+    #[error(transparent)]
+    RecursionLimit(RecursionLimitError),
+    /// Memory was wanting.
+    #[error("out of memory")]
+    Memory(AllocError),
+}
+
+impl EvaluationError {
+    ghost use Rattle.std.specs.Prelude.{◌≡◌, option_copied};
+    ghost use Rattle.cedar_values.specs.Errors.{error_loc, error_at};
+
+    /// Where the error arose, if that is known. Want of memory has no place.
+    pub fn source_loc(&self) -> Option<&Loc>
+        ensures { option_copied result ≡ error_loc self.now }
+    {
+        match self {
+            EvaluationError::EntityDoesNotExist(e) => e.source_loc.as_ref(),
+            EvaluationError::EntityAttrDoesNotExist(e) => e.source_loc.as_ref(),
+            EvaluationError::RecordAttrDoesNotExist(e) => e.source_loc.as_ref(),
+            EvaluationError::FailedExtensionFunctionLookup(e) => e.source_loc(),
+            EvaluationError::TypeError(e) => e.source_loc.as_ref(),
+            EvaluationError::WrongNumArguments(e) => e.source_loc.as_ref(),
+            EvaluationError::IntegerOverflow(e) => e.source_loc(),
+            EvaluationError::UnlinkedSlot(e) => e.source_loc.as_ref(),
+            EvaluationError::FailedExtensionFunctionExecution(e) => e.source_loc.as_ref(),
+            EvaluationError::NonValue(e) => e.source_loc.as_ref(),
+            EvaluationError::RecursionLimit(e) => e.source_loc.as_ref(),
+            EvaluationError::Memory(_) => None,
+        }
+    }
+
+    /// The same error at this place, or at no known place.
+    pub fn with_maybe_source_loc(self, source_loc: Option<Loc>) -> EvaluationError
+        ensures { result ≡ error_at self source_loc }
+    {
+        match self {
+            EvaluationError::EntityDoesNotExist(e) => EvaluationError::EntityDoesNotExist(
+                EntityDoesNotExistError { source_loc, ..e },
+            ),
+            EvaluationError::EntityAttrDoesNotExist(e) => EvaluationError::EntityAttrDoesNotExist(
+                EntityAttrDoesNotExistError { source_loc, ..e },
+            ),
+            EvaluationError::RecordAttrDoesNotExist(e) => EvaluationError::RecordAttrDoesNotExist(
+                RecordAttrDoesNotExistError { source_loc, ..e },
+            ),
+            EvaluationError::FailedExtensionFunctionLookup(e) =>
+                EvaluationError::FailedExtensionFunctionLookup(e.with_maybe_source_loc(source_loc)),
+            EvaluationError::TypeError(e) => EvaluationError::TypeError(TypeError {
+                source_loc,
+                ..e
+            }),
+            EvaluationError::WrongNumArguments(e) => EvaluationError::WrongNumArguments(
+                WrongNumArgumentsError { source_loc, ..e },
+            ),
+            EvaluationError::IntegerOverflow(e) => EvaluationError::IntegerOverflow(
+                e.with_maybe_source_loc(source_loc),
+            ),
+            EvaluationError::UnlinkedSlot(e) => EvaluationError::UnlinkedSlot(UnlinkedSlotError {
+                source_loc,
+                ..e
+            }),
+            EvaluationError::FailedExtensionFunctionExecution(e) =>
+                EvaluationError::FailedExtensionFunctionExecution(ExtensionFunctionExecutionError {
+                    source_loc,
+                    ..e
+                }),
+            EvaluationError::NonValue(e) => EvaluationError::NonValue(NonValueError {
+                source_loc,
+                ..e
+            }),
+            EvaluationError::RecursionLimit(_) => EvaluationError::RecursionLimit(
+                RecursionLimitError { source_loc },
+            ),
+            EvaluationError::Memory(e) => EvaluationError::Memory(e),
+        }
+    }
+}
+
+impl From<EntityDoesNotExistError> for EvaluationError {
+    ghost use Rattle.std.specs.Prelude.{◌≡◌};
+    ghost use Rattle.cedar_values.specs.declared.evaluator.err.EvaluationError.TheVariants.{EntityDoesNotExist};
+
+    ghost from_gives = { λ e r. r ≡ EntityDoesNotExist e };
+
+    fn from(e: EntityDoesNotExistError) -> EvaluationError {
+        EvaluationError::EntityDoesNotExist(e)
+    }
+}
+
+impl From<EntityAttrDoesNotExistError> for EvaluationError {
+    ghost use Rattle.std.specs.Prelude.{◌≡◌};
+    ghost use Rattle.cedar_values.specs.declared.evaluator.err.EvaluationError.TheVariants.{EntityAttrDoesNotExist};
+
+    ghost from_gives = { λ e r. r ≡ EntityAttrDoesNotExist e };
+
+    fn from(e: EntityAttrDoesNotExistError) -> EvaluationError {
+        EvaluationError::EntityAttrDoesNotExist(e)
+    }
+}
+
+impl From<RecordAttrDoesNotExistError> for EvaluationError {
+    ghost use Rattle.std.specs.Prelude.{◌≡◌};
+    ghost use Rattle.cedar_values.specs.declared.evaluator.err.EvaluationError.TheVariants.{RecordAttrDoesNotExist};
+
+    ghost from_gives = { λ e r. r ≡ RecordAttrDoesNotExist e };
+
+    fn from(e: RecordAttrDoesNotExistError) -> EvaluationError {
+        EvaluationError::RecordAttrDoesNotExist(e)
+    }
+}
+
+impl From<TypeError> for EvaluationError {
+    ghost use Rattle.std.specs.Prelude.{◌≡◌};
+    ghost use Rattle.cedar_values.specs.declared.evaluator.err.EvaluationError.TheVariants.{TypeError};
+
+    ghost from_gives = { λ e r. r ≡ TypeError e };
+
+    fn from(e: TypeError) -> EvaluationError {
+        EvaluationError::TypeError(e)
+    }
+}
+
+impl From<WrongNumArgumentsError> for EvaluationError {
+    ghost use Rattle.std.specs.Prelude.{◌≡◌};
+    ghost use Rattle.cedar_values.specs.declared.evaluator.err.EvaluationError.TheVariants.{WrongNumArguments};
+
+    ghost from_gives = { λ e r. r ≡ WrongNumArguments e };
+
+    fn from(e: WrongNumArgumentsError) -> EvaluationError {
+        EvaluationError::WrongNumArguments(e)
+    }
+}
+
+impl From<IntegerOverflowError> for EvaluationError {
+    ghost use Rattle.std.specs.Prelude.{◌≡◌};
+    ghost use Rattle.cedar_values.specs.declared.evaluator.err.EvaluationError.TheVariants.{IntegerOverflow};
+
+    ghost from_gives = { λ e r. r ≡ IntegerOverflow e };
+
+    fn from(e: IntegerOverflowError) -> EvaluationError {
+        EvaluationError::IntegerOverflow(e)
+    }
+}
+
+impl From<UnlinkedSlotError> for EvaluationError {
+    ghost use Rattle.std.specs.Prelude.{◌≡◌};
+    ghost use Rattle.cedar_values.specs.declared.evaluator.err.EvaluationError.TheVariants.{UnlinkedSlot};
+
+    ghost from_gives = { λ e r. r ≡ UnlinkedSlot e };
+
+    fn from(e: UnlinkedSlotError) -> EvaluationError {
+        EvaluationError::UnlinkedSlot(e)
+    }
+}
+
+impl From<ExtensionFunctionExecutionError> for EvaluationError {
+    ghost use Rattle.std.specs.Prelude.{◌≡◌};
+    ghost use Rattle.cedar_values.specs.declared.evaluator.err.EvaluationError.TheVariants.{FailedExtensionFunctionExecution};
+
+    ghost from_gives = { λ e r. r ≡ FailedExtensionFunctionExecution e };
+
+    fn from(e: ExtensionFunctionExecutionError) -> EvaluationError {
+        EvaluationError::FailedExtensionFunctionExecution(e)
+    }
+}
+
+impl From<NonValueError> for EvaluationError {
+    ghost use Rattle.std.specs.Prelude.{◌≡◌};
+    ghost use Rattle.cedar_values.specs.declared.evaluator.err.EvaluationError.TheVariants.{NonValue};
+
+    ghost from_gives = { λ e r. r ≡ NonValue e };
+
+    fn from(e: NonValueError) -> EvaluationError {
+        EvaluationError::NonValue(e)
+    }
+}
+
+impl From<RecursionLimitError> for EvaluationError {
+    ghost use Rattle.std.specs.Prelude.{◌≡◌};
+    ghost use Rattle.cedar_values.specs.declared.evaluator.err.EvaluationError.TheVariants.{RecursionLimit};
+
+    ghost from_gives = { λ e r. r ≡ RecursionLimit e };
+
+    fn from(e: RecursionLimitError) -> EvaluationError {
+        EvaluationError::RecursionLimit(e)
+    }
+}
+
+impl From<ExtensionFunctionLookupError> for EvaluationError {
+    ghost use Rattle.std.specs.Prelude.{◌≡◌};
+    ghost use Rattle.cedar_values.specs.Errors.{error_of_lookup};
+
+    ghost from_gives = { λ e r. r ≡ error_of_lookup e };
+
+    fn from(e: ExtensionFunctionLookupError) -> EvaluationError {
+        match e {
+            ExtensionFunctionLookupError::FuncDoesNotExist(e) => {
+                EvaluationError::FailedExtensionFunctionLookup(
+                    ExtensionFunctionLookupError::FuncDoesNotExist(e),
+                )
+            }
+            ExtensionFunctionLookupError::Memory(e) => EvaluationError::Memory(e),
+        }
+    }
+}
+
+impl From<AllocError> for EvaluationError {
+    ghost use Rattle.std.specs.Prelude.{◌≡◌};
+    ghost use Rattle.cedar_values.specs.declared.evaluator.err.EvaluationError.TheVariants.{Memory};
+
+    ghost from_gives = { λ e r. r ≡ Memory e };
+
+    fn from(e: AllocError) -> EvaluationError {
+        EvaluationError::Memory(e)
+    }
+}
+
+impl<T: Drop> From<AllocFailed<T>> for EvaluationError {
+    ghost use Rattle.std.specs.Prelude.{◌≡◌, alloc_error};
+    ghost use Rattle.cedar_values.specs.declared.evaluator.err.EvaluationError.TheVariants.{Memory};
+
+    ghost from_gives = { λ _ r. r ≡ Memory alloc_error };
+
+    fn from(_e: AllocFailed<T>) -> EvaluationError {
+        EvaluationError::Memory(AllocError)
+    }
+}

@@ -1,0 +1,260 @@
+//! The errors of evaluation, one struct for each.
+use cedar_expressions::{
+    BinaryOp, EntityUID, Expr, FirstRest, Loc, Name, SlotId, Type, UnaryOp, Value,
+};
+use std::fmt;
+use std::rc::{Rc, RcStr};
+use thiserror::Error;
+
+/// An entity was read that the store does not have.
+#[derive(Debug, Clone, PartialEq, Eq, Drop, Error)]
+#[error("entity `{uid}` does not exist")]
+pub struct EntityDoesNotExistError {
+    /// The entity that the store does not have.
+    pub uid: Rc<EntityUID>,
+    /// Where the error arose, if that is known.
+    pub source_loc: Option<Loc>,
+}
+
+/// An attribute or a tag was read that the entity does not have.
+#[derive(Debug, Clone, PartialEq, Eq, Drop, Error)]
+#[error("`{entity}` does not have the {} `{attr_or_tag}`", attr_or_tag_word(*.was_attr))]
+pub struct EntityAttrDoesNotExistError {
+    /// The entity.
+    pub entity: Rc<EntityUID>,
+    /// The attribute or tag that it does not have.
+    pub attr_or_tag: RcStr,
+    /// Whether an attribute was read (`true`) or a tag (`false`).
+    pub was_attr: bool,
+    /// Whether the entity has a tag of the attribute's name, or an attribute of the tag's name.
+    pub exists_the_other_kind: bool,
+    /// The first five, by bytes, of the names that it has of this kind.
+    pub available_attrs_or_tags: Vec<RcStr>,
+    /// How many names it has of this kind.
+    pub total_attrs_or_tags: usize,
+    /// Where the error arose, if that is known.
+    pub source_loc: Option<Loc>,
+}
+
+fn attr_or_tag_word(was_attr: bool) -> &'static str {
+    if was_attr { "attribute" } else { "tag" }
+}
+
+/// An attribute was read that the record does not have.
+#[derive(Debug, Clone, PartialEq, Eq, Drop, Error)]
+#[error("record does not have the attribute `{attr}`")]
+pub struct RecordAttrDoesNotExistError {
+    /// The attribute that it does not have.
+    pub attr: RcStr,
+    /// The first five, by bytes, of the attributes that it has.
+    pub available_attrs: Vec<RcStr>,
+    /// How many attributes it has.
+    pub total_attrs: usize,
+    /// Where the error arose, if that is known.
+    pub source_loc: Option<Loc>,
+}
+
+/// A value was of another type than its place takes.
+#[derive(Debug, Clone, PartialEq, Eq, Drop)]
+pub struct TypeError {
+    /// The types that the place takes.
+    pub expected: FirstRest<Type>,
+    /// The type of the value.
+    pub actual: Type,
+    /// Where the error arose, if that is known.
+    pub source_loc: Option<Loc>,
+}
+
+impl std::error::Error for TypeError {}
+
+impl fmt::Display for TypeError {
+    fn fmt<W: fmt::Write>(&self, f: &mut fmt::Formatter<W>) -> fmt::Result {
+        if self.expected.rest.is_empty() {
+            write!(f, "type error: expected {}", self.expected.first)?;
+        } else {
+            write!(f, "type error: expected one of [{}", self.expected.first)?;
+            for ty in &self.expected.rest {
+                write!(f, ", {ty}")?;
+            }
+            write!(f, "]")?;
+        }
+        write!(f, ", got {}", self.actual)
+    }
+}
+
+/// An extension function was called with more or fewer arguments than it takes.
+#[derive(Debug, Clone, PartialEq, Eq, Drop, Error)]
+#[error("wrong number of arguments provided to extension function `{function_name}`: expected {expected}, got {actual}")]
+pub struct WrongNumArgumentsError {
+    /// The function.
+    pub function_name: Name,
+    /// How many arguments it takes.
+    pub expected: usize,
+    /// How many it was given.
+    pub actual: usize,
+    /// Where the error arose, if that is known.
+    pub source_loc: Option<Loc>,
+}
+
+/// An operator on two longs gave a number that needs more than 64 bits.
+#[derive(Debug, Clone, PartialEq, Eq, Drop, Error)]
+#[error("integer overflow while attempting to {} the values `{arg1}` and `{arg2}`", binary_verb(*.op))]
+pub struct BinaryOpOverflowError {
+    /// The operator: `Add`, `Sub` or `Mul`.
+    pub op: BinaryOp,
+    /// Its left operand.
+    pub arg1: Value,
+    /// Its right operand.
+    pub arg2: Value,
+    /// Where the error arose, if that is known.
+    pub source_loc: Option<Loc>,
+}
+
+fn binary_verb(op: BinaryOp) -> &'static str {
+    match op {
+        BinaryOp::Add => "add",
+        BinaryOp::Sub => "subtract",
+        BinaryOp::Mul => "multiply",
+        BinaryOp::Eq
+        | BinaryOp::Less
+        | BinaryOp::LessEq
+        | BinaryOp::In
+        | BinaryOp::Contains
+        | BinaryOp::ContainsAll
+        | BinaryOp::ContainsAny
+        | BinaryOp::GetTag
+        | BinaryOp::HasTag => "perform an operation on",
+    }
+}
+
+/// An operator on a long gave a number that needs more than 64 bits.
+#[derive(Debug, Clone, PartialEq, Eq, Drop, Error)]
+#[error("integer overflow while attempting to {} the value `{arg}`", unary_verb(*.op))]
+pub struct UnaryOpOverflowError {
+    /// The operator: `Neg`.
+    pub op: UnaryOp,
+    /// Its operand.
+    pub arg: Value,
+    /// Where the error arose, if that is known.
+    pub source_loc: Option<Loc>,
+}
+
+fn unary_verb(op: UnaryOp) -> &'static str {
+    match op {
+        UnaryOp::Neg => "negate",
+        UnaryOp::Not | UnaryOp::IsEmpty => "perform an operation on",
+    }
+}
+
+/// A slot of a template was read that is not linked to an entity.
+#[derive(Debug, Clone, PartialEq, Eq, Drop, Error)]
+#[error("template slot `{slot}` was not linked")]
+pub struct UnlinkedSlotError {
+    /// The slot.
+    pub slot: SlotId,
+    /// Where the error arose, if that is known.
+    pub source_loc: Option<Loc>,
+}
+
+/// An extension function answered an error of its own.
+#[derive(Debug, Clone, PartialEq, Eq, Drop, Error)]
+#[error("error while evaluating `{extension_name}` extension function: {msg}")]
+pub struct ExtensionFunctionExecutionError {
+    /// The extension of the function.
+    pub extension_name: Name,
+    /// What the function says of it.
+    pub msg: String,
+    /// Where the error arose, if that is known.
+    pub source_loc: Option<Loc>,
+}
+
+/// The expression holds an unknown, where a value was asked for.
+#[derive(Debug, Clone, PartialEq, Eq, Drop, Error)]
+#[error("the expression contains unknown(s): `{expr}`")]
+pub struct NonValueError {
+    /// What is left of the expression.
+    pub expr: Expr,
+    /// Where the error arose, if that is known.
+    pub source_loc: Option<Loc>,
+}
+
+/// The depth of evaluation passed the limit, which counts levels of evaluation.
+#[derive(Debug, Clone, PartialEq, Eq, Drop, Error)]
+#[error("recursion limit reached")]
+pub struct RecursionLimitError {
+    /// Where the error arose, if that is known.
+    pub source_loc: Option<Loc>,
+}
+
+/// A number needs more than 64 bits.
+#[derive(Debug, Clone, PartialEq, Eq, Drop, Error)]
+pub enum IntegerOverflowError {
+    /// Of an operator on two longs.
+    #[error(transparent)]
+    BinaryOp(BinaryOpOverflowError),
+    /// Of an operator on one long.
+    #[error(transparent)]
+    UnaryOp(UnaryOpOverflowError),
+}
+
+impl From<BinaryOpOverflowError> for IntegerOverflowError {
+    ghost use Rattle.std.specs.Prelude.{◌≡◌};
+    ghost use Rattle.cedar_values.specs.declared.evaluator.err.evaluation_errors.IntegerOverflowError.TheVariants.{BinaryOp};
+
+    ghost from_gives = { λ e r. r ≡ BinaryOp e };
+
+    fn from(e: BinaryOpOverflowError) -> IntegerOverflowError {
+        IntegerOverflowError::BinaryOp(e)
+    }
+}
+
+impl From<UnaryOpOverflowError> for IntegerOverflowError {
+    ghost use Rattle.std.specs.Prelude.{◌≡◌};
+    ghost use Rattle.cedar_values.specs.declared.evaluator.err.evaluation_errors.IntegerOverflowError.TheVariants.{UnaryOp};
+
+    ghost from_gives = { λ e r. r ≡ UnaryOp e };
+
+    fn from(e: UnaryOpOverflowError) -> IntegerOverflowError {
+        IntegerOverflowError::UnaryOp(e)
+    }
+}
+
+impl IntegerOverflowError {
+    ghost use Rattle.std.specs.Prelude.{◌≡◌, option_copied};
+    ghost use Rattle.cedar_values.specs.Errors.{overflow_loc, overflow_at};
+
+    /// Where the error arose, if that is known.
+    pub fn source_loc(&self) -> Option<&Loc>
+        ensures { option_copied result ≡ overflow_loc self.now }
+    {
+        match self {
+            IntegerOverflowError::BinaryOp(e) => e.source_loc.as_ref(),
+            IntegerOverflowError::UnaryOp(e) => e.source_loc.as_ref(),
+        }
+    }
+
+    /// The same error at this place, or at no known place.
+    pub fn with_maybe_source_loc(self, source_loc: Option<Loc>) -> IntegerOverflowError
+        ensures { result ≡ overflow_at self source_loc }
+    {
+        match self {
+            IntegerOverflowError::BinaryOp(e) => {
+                IntegerOverflowError::BinaryOp(BinaryOpOverflowError { source_loc, ..e })
+            }
+            IntegerOverflowError::UnaryOp(e) => {
+                IntegerOverflowError::UnaryOp(UnaryOpOverflowError { source_loc, ..e })
+            }
+        }
+    }
+}
+
+impl ExtensionFunctionExecutionError {
+    ghost use Rattle.std.specs.Prelude.{◌≡◌};
+
+    /// The extension of the function.
+    pub fn extension_name(&self) -> &Name
+        ensures { result.now ≡ self.now.extension_name }
+    {
+        &self.extension_name
+    }
+}

@@ -1,0 +1,100 @@
+//! Extensions: functions that the caller of the evaluator makes and hands in.
+use cedar_expressions::Loc;
+use extension_function_lookup_errors::FuncDoesNotExistError;
+use std::alloc::AllocError;
+use std::marker::PhantomData;
+use thiserror::Error;
+
+/// The extensions that an evaluation may use.
+#[derive(Clone, Copy)]
+pub struct Extensions<'a> {
+    extensions: PhantomData<&'a ()>,
+}
+
+impl<'a> Extensions<'a> {
+    /// No extension: each call of a function fails with `FuncDoesNotExist`.
+    pub fn none() -> Extensions<'a> {
+        Extensions {
+            extensions: PhantomData,
+        }
+    }
+}
+
+/// Why no extension function was found.
+#[derive(Debug, Clone, PartialEq, Eq, Drop, Error)]
+pub enum ExtensionFunctionLookupError {
+    /// No extension has a function of this name.
+    #[error(transparent)]
+    FuncDoesNotExist(FuncDoesNotExistError),
+    /// Memory was wanting.
+    #[error("out of memory")]
+    Memory(AllocError),
+}
+
+/// The structs of `ExtensionFunctionLookupError`.
+pub mod extension_function_lookup_errors {
+    use cedar_expressions::{Loc, Name};
+    use thiserror::Error;
+
+    /// No extension has a function of this name.
+    #[derive(Debug, Clone, PartialEq, Eq, Drop, Error)]
+    #[error("extension function `{name}` does not exist")]
+    pub struct FuncDoesNotExistError {
+        /// The name that was called.
+        pub name: Name,
+        /// Where it was called, if that is known.
+        pub source_loc: Option<Loc>,
+    }
+}
+
+impl ExtensionFunctionLookupError {
+    ghost use Rattle.std.specs.Prelude.{◌≡◌, option_copied};
+    ghost use Rattle.cedar_values.specs.Errors.{lookup_loc, lookup_at};
+
+    /// Where the function was called, if that is known. Want of memory has no place.
+    pub fn source_loc(&self) -> Option<&Loc>
+        ensures { option_copied result ≡ lookup_loc self.now }
+    {
+        match self {
+            ExtensionFunctionLookupError::FuncDoesNotExist(e) => e.source_loc.as_ref(),
+            ExtensionFunctionLookupError::Memory(_) => None,
+        }
+    }
+
+    /// The same error at this place, or at no known place.
+    pub fn with_maybe_source_loc(self, source_loc: Option<Loc>) -> ExtensionFunctionLookupError
+        ensures { result ≡ lookup_at self source_loc }
+    {
+        match self {
+            ExtensionFunctionLookupError::FuncDoesNotExist(e) => {
+                ExtensionFunctionLookupError::FuncDoesNotExist(FuncDoesNotExistError {
+                    source_loc,
+                    ..e
+                })
+            }
+            ExtensionFunctionLookupError::Memory(e) => ExtensionFunctionLookupError::Memory(e),
+        }
+    }
+}
+
+impl From<FuncDoesNotExistError> for ExtensionFunctionLookupError {
+    ghost use Rattle.std.specs.Prelude.{◌≡◌};
+    ghost use Rattle.cedar_values.specs.declared.extensions.ExtensionFunctionLookupError.TheVariants.{FuncDoesNotExist};
+
+    ghost from_gives = { λ e r. r ≡ FuncDoesNotExist e };
+
+    fn from(e: FuncDoesNotExistError) -> ExtensionFunctionLookupError {
+        ExtensionFunctionLookupError::FuncDoesNotExist(e)
+    }
+}
+
+impl From<AllocError> for ExtensionFunctionLookupError {
+    ghost use Rattle.std.specs.Prelude.{◌≡◌};
+    ghost use Rattle.cedar_values.specs.declared.extensions.ExtensionFunctionLookupError.TheVariants.{Memory};
+
+    ghost from_gives = { λ e r. r ≡ Memory e };
+
+    fn from(e: AllocError) -> ExtensionFunctionLookupError {
+        ExtensionFunctionLookupError::Memory(e)
+    }
+}
