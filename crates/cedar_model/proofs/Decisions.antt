@@ -11,7 +11,7 @@ reorder_refl : {A : Type 0} (xs : List A) → IsReordering A xs xs
 reorder_refl [] = nothing
 reorder_refl (x ∷ xs) = keeping x (reorder_refl xs)
 
-or_swap : (p q r : Bool) → (p || (q || r)) ≡ (q || (p || r))
+pub or_swap : (p q r : Bool) → (p || (q || r)) ≡ (q || (p || r))
 or_swap true true r = refl
 or_swap true false r = refl
 or_swap false q r = refl

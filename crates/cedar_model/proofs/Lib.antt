@@ -16,3 +16,5 @@ pub mod Functional
 pub mod Standing
 pub mod Carried
 pub mod Chained
+pub mod Exactly
+pub mod Stability

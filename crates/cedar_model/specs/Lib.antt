@@ -28,3 +28,5 @@ pub mod Chains
 pub mod ResponseLaws
 pub mod Needs
 pub mod Steps
+pub mod Authorizations
+pub mod AuthorizationLaws

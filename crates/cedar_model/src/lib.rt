@@ -1,6 +1,7 @@
 //! The definitions that the contracts of the other crates cite, and the laws that follow from them alone.
 #![tactic(auto)]
 
+pub mod authorizations;
 pub mod examples;
 pub mod levels;
 pub mod meaning;

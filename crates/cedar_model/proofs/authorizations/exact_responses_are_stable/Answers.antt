@@ -1,0 +1,14 @@
+use Rattle.cedar_model.proofs.Stability.{order_same, forbid_keeps, permit_keeps, erring_same}
+use Rattle.cedar_model.proofs.authorizations.exact_responses_are_stable.Goals as goal
+
+pub returns-clause-order : goal.returns-clause-order
+returns-clause-order c = order_same
+
+pub returns-clause-forbids : goal.returns-clause-forbids
+returns-clause-forbids c = forbid_keeps
+
+pub returns-clause-permits : goal.returns-clause-permits
+returns-clause-permits c = permit_keeps
+
+pub returns-clause-erring : goal.returns-clause-erring
+returns-clause-erring c = erring_same
