@@ -1,14 +1,26 @@
 //! The authorizer.
+ghost use Rattle.std.specs.Prelude.{◌≡◌, ◌≢◌, ◌||◌, true, false, IfOk, OnOk};
+ghost use Rattle.cedar_model.specs.Outcomes.{text_eq};
+ghost use Rattle.cedar_model.specs.Failures.{out_of_memory};
+ghost use Rattle.cedar_layers.specs.Policies.{effect_view, policy_id_text, policy_view, condition_term};
+ghost use Rattle.cedar_layers.specs.Stores.{store_view};
+ghost use Rattle.cedar_values.specs.Failures.{failure_of};
+ghost use Rattle.cedar_evaluator.specs.Requests.{request_view};
+ghost use Rattle.cedar_evaluator.specs.Evaluations.{setting_of, limit_of};
+ghost use Rattle.cedar_evaluator.specs.Treated.{TreatedRuns};
+ghost use Rattle.cedar_authorizer.specs.Sheets.{has_some_id, IsJudged};
+ghost use Rattle.cedar_authorizer.specs.Responding.{MayAnswerAs, has_id, response_view, decision_view, errors_view, deciding, authorization_of};
 
 pub use crate::authorizer::err::AuthorizationError;
 use cedar_evaluator::evaluator::{EvaluationError, Evaluator};
 use cedar_evaluator::request::Request;
 use cedar_layers::policies::{Effect, Entities, Policy, PolicyID, PolicySet};
-use cedar_values::extensions::Extensions;
+use cedar_values::extensions::{ExtensionFunctionLookupError, Extensions};
 use std::alloc::{AllocError, Global};
 use std::collections::HashSet;
 
 pub mod err;
+pub mod laws;
 
 /// Decides requests, with these extensions and within so many levels of evaluation.
 #[derive(Clone, Copy)]
@@ -48,7 +60,9 @@ impl Response {
         decision: Decision,
         reason: HashSet<PolicyID>,
         errors: Vec<AuthorizationError>,
-    ) -> Response {
+    ) -> Response
+        ensures { response_view result ≡ record { decided_as = decision_view decision; is_reason = has_id reason; errors = errors_view errors.items } }
+    {
         Response {
             decision,
             diagnostics: Diagnostics { reason, errors },
@@ -57,9 +71,14 @@ impl Response {
 }
 
 impl<'x, 'f> Authorizer<'x, 'f> {
+    ghost use Rattle.cedar_model.specs.Authorizations.{IsResponse};
+    ghost use Rattle.cedar_authorizer.specs.Responding.{IsKnownResponse, MeetsNoLimit, OwnWorldCompletesCall};
+
     /// The authorizer that uses these extensions. A condition that is nested more than `limit` levels deep counts as erring, with
     /// `RecursionLimit`.
-    pub fn new(extensions: &'x Extensions<'f>, limit: usize) -> Authorizer<'x, 'f> {
+    pub fn new(extensions: &'x Extensions<'f>, limit: usize) -> Authorizer<'x, 'f>
+        ensures { result.limit ≡ limit }
+    {
         Authorizer { extensions, limit }
     }
 
@@ -71,7 +90,12 @@ impl<'x, 'f> Authorizer<'x, 'f> {
         request: Request,
         policies: &PolicySet,
         entities: &Entities,
-    ) -> Result<Response, AllocError> {
+    ) -> Result<Response, AllocError>
+        ensures response { IfOk result (λ r. IsResponse (MayAnswerAs (authorization_of (request_view request) (store_view entities.now)) self.now.limit) (deciding policies.now) (response_view r)) }
+        ensures known { IfOk result (λ r. IsKnownResponse (authorization_of (request_view request) (store_view entities.now)) (deciding policies.now) (response_view r)) }
+        ensures limit { IfOk result (λ r. MeetsNoLimit (authorization_of (request_view request) (store_view entities.now)) self.now.limit (deciding policies.now) (response_view r)) }
+        ensures own_world { OwnWorldCompletesCall (authorization_of (request_view request) (store_view entities.now)) (deciding policies.now) }
+    {
         let sheet = judge_all(
             alloc,
             request,
@@ -92,7 +116,9 @@ fn judge_all(
     entities: &Entities,
     extensions: &Extensions<'_>,
     limit: usize,
-) -> Result<Sheet, AllocError> {
+) -> Result<Sheet, AllocError>
+    ensures { IfOk result (λ s. IsJudged (MayAnswerAs (authorization_of (request_view request) (store_view entities.now)) limit) (deciding policies.now) s) }
+{
     let evaluator = Evaluator::new(alloc, request, entities, extensions, limit)?;
     let mut sheet = Sheet::new(alloc);
     'policies: for policy in policies.policies() {
@@ -110,7 +136,13 @@ struct Sheet {
 }
 
 impl Sheet {
-    fn new(alloc: Global) -> Sheet {
+    ghost use Rattle.std.specs.Prelude.{[], Ok};
+    ghost use Rattle.cedar_authorizer.specs.Sheets.{sheet_errors, Notes, NotesAnswer, NotesError, Reflects, RespondsTo};
+
+    fn new(alloc: Global) -> Sheet
+        ensures reflects { Reflects [] result }
+        ensures errors { sheet_errors result ≡ [] }
+    {
         Sheet {
             satisfied_permits: HashSet::new(alloc),
             satisfied_forbids: HashSet::new(alloc),
@@ -124,7 +156,9 @@ impl Sheet {
         alloc: Global,
         evaluator: &Evaluator<'_, '_, '_>,
         policy: &Policy,
-    ) -> Result<(), AllocError> {
+    ) -> Result<(), AllocError>
+        ensures { OnOk result (NotesAnswer (TreatedRuns (setting_of evaluator.now (policy_view policy.now).slots) (limit_of evaluator.now) (condition_term (policy_view policy.now))) self.old self.new (policy_view policy.now).id (policy_view policy.now).effect) }
+    {
         match evaluator.evaluate(alloc, policy) {
             Ok(true) => self.note_satisfied(policy.effect(), policy.id()),
             Ok(false) => Ok(()),
@@ -132,23 +166,22 @@ impl Sheet {
         }
     }
 
-    fn note_satisfied(&mut self, effect: Effect, id: &PolicyID) -> Result<(), AllocError> {
-        let id = id.clone()?;
+    fn note_satisfied(&mut self, effect: Effect, id: &PolicyID) -> Result<(), AllocError>
+        ensures { OnOk result (Notes self.old self.new (policy_id_text id.now) (effect_view effect) (Ok true)) }
+    {
         match effect {
-            Effect::Permit => {
-                self.satisfied_permits.insert(id)?;
-            }
-            Effect::Forbid => {
-                self.satisfied_forbids.insert(id)?;
-            }
+            Effect::Permit => put(&mut self.satisfied_permits, id),
+            Effect::Forbid => put(&mut self.satisfied_forbids, id),
         }
-        Ok(())
     }
 
     // Want of memory is never recorded.
-    fn note_error(&mut self, id: &PolicyID, error: EvaluationError) -> Result<(), AllocError> {
-        if let EvaluationError::Memory(error) = error {
-            return Err(error);
+    fn note_error(&mut self, id: &PolicyID, error: EvaluationError) -> Result<(), AllocError>
+        ensures memory { OnOk result (failure_of error ≢ out_of_memory) }
+        ensures noted { OnOk result (NotesError self.old self.new (policy_id_text id.now) (failure_of error)) }
+    {
+        if is_want_of_memory(&error) {
+            return Err(AllocError);
         }
         self.errors.push(AuthorizationError::PolicyEvaluationError {
             id: id.clone()?,
@@ -157,18 +190,59 @@ impl Sheet {
         Ok(())
     }
 
-    fn into_response(self) -> Response {
+    fn into_response(self) -> Response
+        ensures responds { RespondsTo self (response_view result) }
+        ensures errors { (response_view result).errors ≡ sheet_errors self }
+    {
         let Sheet {
             satisfied_permits,
             satisfied_forbids,
             errors,
         } = self;
-        if !satisfied_forbids.is_empty() {
+        if has_some(&satisfied_forbids) {
             Response::new(Decision::Deny, satisfied_forbids, errors)
-        } else if !satisfied_permits.is_empty() {
+        } else if has_some(&satisfied_permits) {
             Response::new(Decision::Allow, satisfied_permits, errors)
         } else {
             Response::new(Decision::Deny, satisfied_permits, errors)
         }
+    }
+}
+
+fn has_some(ids: &HashSet<PolicyID>) -> bool
+    ensures { result ≡ has_some_id ids.now.keys }
+{
+    !ids.is_empty()
+}
+
+// Puts the id among these.
+fn put(ids: &mut HashSet<PolicyID>, id: &PolicyID) -> Result<(), AllocError>
+    ensures { OnOk result ((t : _) → has_id ids.new t ≡ (text_eq t (policy_id_text id.now) || has_id ids.old t)) }
+{
+    let id = id.clone()?;
+    ids.insert(id)?;
+    Ok(())
+}
+
+fn is_want_of_memory(error: &EvaluationError) -> bool
+    ensures yes { result ≡ true → failure_of error.now ≡ out_of_memory }
+    ensures no { result ≡ false → failure_of error.now ≢ out_of_memory }
+{
+    match error {
+        EvaluationError::Memory(_) => true,
+        EvaluationError::FailedExtensionFunctionLookup(error) => match error {
+            ExtensionFunctionLookupError::Memory(_) => true,
+            ExtensionFunctionLookupError::FuncDoesNotExist(_) => false,
+        },
+        EvaluationError::EntityDoesNotExist(_) => false,
+        EvaluationError::EntityAttrDoesNotExist(_) => false,
+        EvaluationError::RecordAttrDoesNotExist(_) => false,
+        EvaluationError::TypeError(_) => false,
+        EvaluationError::WrongNumArguments(_) => false,
+        EvaluationError::IntegerOverflow(_) => false,
+        EvaluationError::UnlinkedSlot(_) => false,
+        EvaluationError::FailedExtensionFunctionExecution(_) => false,
+        EvaluationError::NonValue(_) => false,
+        EvaluationError::RecursionLimit(_) => false,
     }
 }

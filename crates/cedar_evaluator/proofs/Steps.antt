@@ -11,7 +11,8 @@ use Rattle.cedar_model.specs.Rules.{MayAnswer, Meets, AndLeft, AfterLeft, joined
 use Rattle.cedar_values.specs.declared.evaluator.err.EvaluationError.{EvaluationError}
 use Rattle.cedar_values.specs.Failures.{failure_of}
 use Rattle.cedar_evaluator.specs.Treated.{TreatedRule, TreatedRuns}
-use Rattle.cedar_evaluator.specs.Answering.{attribute_of_fields, decided, Decides, FailsWith}
+use Rattle.cedar_model.specs.Authorizations.{bool_result, decided}
+use Rattle.cedar_evaluator.specs.Answering.{attribute_of_fields, DecidesBy, FailsWith}
 
 pub value_is_no_want : (w : Represented) → answers_value w ≢ fails out_of_memory
 value_is_no_want w = λ e. cc
@@ -61,19 +62,20 @@ pub context_at_none : (s : Setting) (n : ℕ) (k : Text) (a : Answer) → n ≡ 
 context_at_none s n k a none is = (limit, at_none s n (variable context) limit none refl, is)
 
 -- a condition's value that is a boolean
-pub decides_value : (May : Answer → Type 0) (v : Represented) (b : Bool) → Meets May (answers_value v) → bool_of (abstract_value v) ≡ Some b → Decides May (Ok b)
-unfolding decided bool_or_failure
+pub decides_value : (May : Answer → Type 0) (v : Represented) (b : Bool) → Meets May (answers_value v) → bool_of (abstract_value v) ≡ Some b → DecidesBy May (Ok b)
+unfolding decided bool_result
 decides_value May v b may is ok =
-    (answers_value v, may (value_is_no_want v), sym (ap (λ o. bool_or_failure o v) is))
+    (answers_value v, may (value_is_no_want v), sym (ap (λ o. bool_result o v) is))
 
 -- a condition's value that is no boolean
-pub decides_no_bool : (May : Answer → Type 0) (v : Represented) (e : EvaluationError) → Meets May (answers_value v) → (failure_of e ≢ out_of_memory → bool_of (abstract_value v) ≡ None) → FailsWith e (wrong_type bool_type [] (abstract_value v)) → Decides May (Err e)
-unfolding decided bool_or_failure
+pub decides_no_bool : (May : Answer → Type 0) (v : Represented) (e : EvaluationError) → Meets May (answers_value v) → (failure_of e ≢ out_of_memory → bool_of (abstract_value v) ≡ None) → FailsWith e (wrong_type bool_type [] (abstract_value v)) → DecidesBy May (Err e)
+unfolding decided bool_result
 decides_no_bool May v e may none is ok =
-    let want : failure_of e ≢ out_of_memory = λ m. ok (ap fails m) in
-    (answers_value v, may (value_is_no_want v), ap fails (is want) ∙ sym (ap (λ o. bool_or_failure o v) (none want)))
+    let want : failure_of e ≢ out_of_memory = λ m. ok (ap Err m) in
+    (answers_value v, may (value_is_no_want v), ap Err (is want) ∙ sym (ap (λ o. bool_result o v) (none want)))
 
 -- a condition that errs
-pub decides_error : (May : Answer → Type 0) (e : EvaluationError) → Meets May (fails (failure_of e)) → Decides May (Err e)
+pub decides_error : (May : Answer → Type 0) (e : EvaluationError) → Meets May (fails (failure_of e)) → DecidesBy May (Err e)
 unfolding decided
-decides_error May e may ok = (fails (failure_of e), may ok, refl)
+decides_error May e may ok =
+    (fails (failure_of e), may (λ m. let f : failure_of e ≡ out_of_memory = cc in ok (ap Err f)), refl)

@@ -1,15 +1,13 @@
 -- What calls answer, as plain data.
 use Rattle.std.specs.Prelude.{◌≡◌, ◌≢◌, Bool, Result, Ok, Err}
-use Rattle.cedar_model.specs.Terms.{Text, bool_literal}
-use Rattle.cedar_model.specs.Values.{Represented, plain_represented, RepresentedFields}
-use Rattle.cedar_model.specs.Outcomes.{bool_of}
-use Rattle.cedar_model.specs.Failures.{Failure, out_of_memory, Answer, fails, answers_value, answers, value, residual, limit, residual_is_left}
+use Rattle.cedar_model.specs.Terms.{Text}
+use Rattle.cedar_model.specs.Values.{RepresentedFields}
+use Rattle.cedar_model.specs.Failures.{Failure, out_of_memory, Answer, fails, answers_value}
 use Rattle.cedar_model.specs.Operators.{value_or_failure, represented_at, key_is_missing, represented_names}
-use Rattle.cedar_model.specs.Rules.{bool_or_failure}
+use Rattle.cedar_model.specs.Authorizations.{decided}
 use Rattle.cedar_expressions.specs.Sound.{Placed}
 use Rattle.cedar_values.specs.declared.evaluator.err.EvaluationError.{EvaluationError}
 use Rattle.cedar_values.specs.Failures.{failure_of}
-use Rattle.cedar_model.specs.Values.{abstract_value}
 
 -- the answer of a call that gives a value
 abbrev pub answer_of : Result Placed EvaluationError → Answer
@@ -28,17 +26,11 @@ FailsWith e f = failure_of e ≢ out_of_memory → failure_of e ≡ f
 abbrev pub attribute_of_fields : RepresentedFields → Text → Answer
 attribute_of_fields fs k = value_or_failure (represented_at k fs) (key_is_missing k (represented_names fs))
 
--- a condition's answer, where only a boolean decides
-unfoldable pub decided : Answer → Answer
-decided (fails e) = fails e
-decided (answers (value v)) = bool_or_failure (bool_of (abstract_value v)) v
-decided (answers (residual t)) = fails (residual_is_left t)
-
--- the answer of a call that gives a boolean
-abbrev pub bool_answer : Result Bool EvaluationError → Answer
-bool_answer (Ok b) = answers_value (plain_represented (bool_literal b))
-bool_answer (Err e) = fails (failure_of e)
+-- what a call that gives a boolean decided
+abbrev pub decision_of : Result Bool EvaluationError → Result Bool Failure
+decision_of (Ok b) = Ok b
+decision_of (Err e) = Err (failure_of e)
 
 -- a call that gives a boolean decides by such an answer, unless it finds no memory
-abbrev pub Decides : (Answer → Type 0) → Result Bool EvaluationError → Type 0
-Decides May r = bool_answer r ≢ fails out_of_memory → (x : Answer) × May x × (bool_answer r ≡ decided x)
+abbrev pub DecidesBy : (Answer → Type 0) → Result Bool EvaluationError → Type 0
+DecidesBy May r = decision_of r ≢ Err out_of_memory → (x : Answer) × May x × (decision_of r ≡ decided x)

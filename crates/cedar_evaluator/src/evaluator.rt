@@ -53,8 +53,9 @@ impl<'e, 'x, 'f> Evaluator<'e, 'x, 'f> {
     ghost use Rattle.cedar_layers.specs.Policies.{condition_term, policy_view};
     ghost use Rattle.cedar_layers.specs.Stores.{store_view};
     ghost use Rattle.cedar_evaluator.specs.Requests.{request_view};
-    ghost use Rattle.cedar_evaluator.specs.Evaluations.{setting_of, limit_of};
-    ghost use Rattle.cedar_evaluator.specs.Answering.{answer_of, Decides};
+    ghost use Rattle.cedar_evaluator.specs.Evaluations.{setting_for, setting_of, limit_of};
+    ghost use Rattle.cedar_evaluator.specs.Treated.{IsKnownExactly, IsDecidedExactly};
+    ghost use Rattle.cedar_evaluator.specs.Answering.{answer_of, decision_of, DecidesBy};
 
     /// The evaluator of this request over this store, with these extensions. Evaluation goes at most `limit` levels deep: an
     /// expression is one level, its parts one more. Refuses only for want of memory.
@@ -65,8 +66,7 @@ impl<'e, 'x, 'f> Evaluator<'e, 'x, 'f> {
         extensions: &'x Extensions<'f>,
         limit: usize,
     ) -> Result<Evaluator<'e, 'x, 'f>, AllocError>
-        ensures request { IfOk result (λ v. (s : _) → (setting_of v s).request ≡ request_view request) }
-        ensures store { IfOk result (λ v. (s : _) → (setting_of v s).store ≡ store_view entities.now) }
+        ensures setting { IfOk result (λ v. (slots : _) → setting_of v slots ≡ setting_for (request_view request) (store_view entities.now) slots) }
         ensures limit { IfOk result (λ v. limit_of v ≡ limit) }
     {
         let (principal, action, resource, context) = request.into_parts();
@@ -85,7 +85,15 @@ impl<'e, 'x, 'f> Evaluator<'e, 'x, 'f> {
     /// Whether the policy's condition is true. A condition of another value than a boolean is a `TypeError` that expects `Bool`;
     /// an error of the condition is that error.
     pub fn evaluate(&self, alloc: Global, policy: &Policy) -> Result<bool, EvaluationError>
-        ensures { Decides (TreatedRuns (setting_of self.now (policy_view policy.now).slots) (limit_of self.now) (condition_term (policy_view policy.now))) result }
+        ensures decides { DecidesBy (TreatedRuns (setting_of self.now (policy_view policy.now).slots) (limit_of self.now) (condition_term (policy_view policy.now))) result }
+        ensures known { IsDecidedExactly (setting_of self.now (policy_view policy.now).slots) (limit_of self.now) (condition_term (policy_view policy.now)) (decision_of result) }
+    {
+        self.decide(alloc, policy)
+    }
+
+    // Whether the policy's condition is true.
+    fn decide(&self, alloc: Global, policy: &Policy) -> Result<bool, EvaluationError>
+        ensures { DecidesBy (TreatedRuns (setting_of self.now (policy_view policy.now).slots) (limit_of self.now) (condition_term (policy_view policy.now))) result }
     {
         let condition = policy.condition(alloc)?;
         match self.interpret(alloc, &condition, policy.env()) {
@@ -107,6 +115,7 @@ impl<'e, 'x, 'f> Evaluator<'e, 'x, 'f> {
     ) -> Result<Value, EvaluationError>
         ensures answer { Meets (TreatedRuns (setting_of self.now (slots_view slots.now)) (limit_of self.now) (view e.now)) (answer_of result) }
         ensures place { IfOk result (λ v. v.loc ≡ expr_loc e.now) }
+        ensures known { IsKnownExactly (setting_of self.now (slots_view slots.now)) (limit_of self.now) (view e.now) (answer_of result) }
     {
         self.interpret_within(alloc, e, slots, self.limit)
     }

@@ -1,0 +1,5 @@
+use Rattle.cedar_evaluator.proofs.Throughout.{known_exactly}
+use Rattle.cedar_evaluator.proofs.evaluator.Evaluator.interpret.Goals as goal
+
+pub returns-clause-known : goal.returns-clause-known
+returns-clause-known c = known_exactly _ _ _ _ c.interpret_within.ensures.answer
