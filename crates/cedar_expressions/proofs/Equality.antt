@@ -1,24 +1,11 @@
--- The tests of `Equality`, level by level, and what a derived `==` on a leaf says in their words.
-use Rattle.std.proofs.Common.{◌≡◌, ℕ, pos, Bool, true, false, ◌&&◌, nat_eq, List, [], ◌∷◌, Option, None, Some, refl, sym, ap, ◌∙◌}
-use Rattle.std.specs.declared.cmp.Ordering.{Ordering}
-use Rattle.std.specs.declared.cmp.Ordering.TheVariants.{Less, Equal, Greater}
-use Rattle.std.specs.Bool.{Decides, one_answer}
+-- The tests of `Equality` on terms, level by level.
+use Rattle.std.proofs.Common.{◌≡◌, ℕ, pos, Bool, true, false, ◌&&◌, List, Option, refl, ap, ◌∙◌}
 use Rattle.std.specs.Ordering.{is_eq, ordering_then}
-use Rattle.std.specs.Cmp.Lexicographic.{pointwise, bytes_decides}
-use Rattle.cedar_model.specs.Terms.{Text, EntityName, Literal, Variable, Slot, ValueType, UnaryOperator, BinaryOperator, PatternPart, Term, literal, variable, slot, unknown, if_then_else, both, either, unary, binary, call, get_attribute, has_attribute, extended_has, like, is_of_type, set_of, record_of, Terms, no_terms, one_term, Fields, no_fields, one_field}
-use Rattle.cedar_model.specs.Keys.{Key, end_key, number_key, key_cmp, key_cmp-self, text_key, entity_key, literal_key}
+use Rattle.cedar_model.specs.Terms.{Text, Literal, Variable, Slot, ValueType, UnaryOperator, BinaryOperator, PatternPart, Term, literal, variable, slot, unknown, if_then_else, both, either, unary, binary, call, get_attribute, has_attribute, extended_has, like, is_of_type, set_of, record_of, Terms, no_terms, one_term, Fields, no_fields, one_field}
+use Rattle.cedar_model.specs.Keys.{Key, end_key, number_key, key_cmp, key_cmp-self, text_key, literal_key}
 use Rattle.cedar_model.specs.Codes.{node_key, term_key, terms_key, fields_key, annotation_key, texts_key, pattern_key, variable_number, slot_number, unary_number, binary_number}
-use Rattle.cedar_expressions.specs.Equality.{key_eq, text_eq, texts_eq, entity_eq, literal_eq, type_eq, annotation_eq, variable_eq, slot_eq, unary_eq, binary_eq, pattern_eq, term_eq, terms_eq, fields_eq}
-use Rattle.cedar_expressions.specs.EqualityLaws.{text_eq-decides}
-
-pub then_eq : (p q : Ordering) → is_eq (ordering_then p q) ≡ (is_eq p && is_eq q)
-then_eq Less q = refl
-then_eq Equal q = refl
-then_eq Greater q = refl
-
-pub and_true : (b : Bool) → (b && true) ≡ b
-and_true true = refl
-and_true false = refl
+use Rattle.cedar_names.specs.Equality.{key_eq, text_eq, texts_eq, literal_eq, annotation_eq, variable_eq, slot_eq, unary_eq, binary_eq, pattern_eq, term_eq, terms_eq, fields_eq}
+use Rattle.cedar_names.proofs.Equality.{then_eq, and_true}
 
 and_swap : (a b : Bool) → (a && b) ≡ (b && a)
 and_swap true true = refl
@@ -155,15 +142,4 @@ unfolding text_eq term_eq fields_eq
 fields_eq-one k l a b fs gs =
     then_eq (key_cmp (text_key k) (text_key l)) (ordering_then (key_cmp (term_key a) (term_key b)) (key_cmp (fields_key fs) (fields_key gs))) ∙ ap (λ x. key_eq (text_key k) (text_key l) && x) (then_eq (key_cmp (term_key a) (term_key b)) (key_cmp (fields_key fs) (fields_key gs)))
 
--- `==` of shared texts
-pub text_eq-bytes : (a b : Text) → pointwise nat_eq a b ≡ text_eq a b
-text_eq-bytes a b = one_answer (pointwise nat_eq a b) (text_eq a b) (bytes_decides a b) (text_eq-decides a b)
-
-pub entity_eq-parts : (a b : EntityName) → entity_eq a b ≡ (text_eq a.type_name b.type_name && text_eq a.id b.id)
-unfolding entity_eq text_eq
-entity_eq-parts a b =
-    then_eq (key_cmp (text_key a.type_name) (text_key b.type_name)) (key_cmp (text_key a.id) (text_key b.id))
-
 pub ruleset levels = (term_eq-literal, term_eq-variable, term_eq-slot, term_eq-unknown, term_eq-if, term_eq-both, term_eq-either, term_eq-unary, term_eq-binary, term_eq-call, term_eq-get_attribute, term_eq-has_attribute, term_eq-extended_has, term_eq-like, term_eq-is_of_type, term_eq-set_of, term_eq-record_of, terms_eq-none, terms_eq-more, terms_eq-less, terms_eq-one, fields_eq-none, fields_eq-more, fields_eq-less, fields_eq-one)
-
-pub ruleset texts = (text_eq-bytes, entity_eq-parts)

@@ -1,111 +1,14 @@
--- What an expression feeds a hasher, step by step, and what the leaves' derived `hash` feeds it.
-use Rattle.std.proofs.Common.{◌≡◌, ℕ, suc, ℤ, pos, ◌+◌, Bool, List, [], ◌∷◌, ◌++◌, ◌<◌, ◌≤◌, map, length, drop, get_or, fold, Option, None, Some, Global, refl, sym, ap, subst, ◌∙◌}
+-- What an expression feeds a hasher, step by step.
+use Rattle.std.proofs.Common.{◌≡◌, ℕ, ◌+◌, List, [], ◌∷◌, ◌++◌, ◌<◌, ◌≤◌, length, drop, get_or, pos, fold, Option, refl, sym, ap, subst, ◌∙◌}
 use Rattle.std.proofs.lemmas.List.{drop_more, drop_all}
-use Rattle.std.specs.declared.rc.RcStr.{RcStr}
-use Rattle.std.specs.Rc.{rc_str_bytes}
 use Rattle.std.specs.Hash as fed
 use Rattle.std.specs.Hash.{HashWrites}
-use Rattle.std.specs.List.{flat_map}
-use Rattle.std.specs.Option.{option_map}
 use Rattle.cedar_model.specs.Terms as model
 use Rattle.cedar_model.specs.Terms.{Text, ValueType, UnaryOperator, BinaryOperator, PatternPart, Term, literal, variable, slot, unknown, if_then_else, both, either, unary, binary, call, get_attribute, has_attribute, extended_has, like, is_of_type, set_of, record_of, Terms, no_terms, one_term, Fields, no_fields, one_field}
 use Rattle.cedar_model.specs.Codes.{variable_number, slot_number, unary_number, binary_number}
-use Rattle.cedar_expressions.specs.declared.names.SlotId.{SlotId}
-use Rattle.cedar_expressions.specs.declared.names.SlotId.TheVariants as slots
-use Rattle.cedar_expressions.specs.declared.names.Var.{Var}
-use Rattle.cedar_expressions.specs.declared.names.Var.TheVariants as variables
-use Rattle.cedar_expressions.specs.declared.operators.UnaryOp.{UnaryOp}
-use Rattle.cedar_expressions.specs.declared.operators.UnaryOp.TheVariants as unaries
-use Rattle.cedar_expressions.specs.declared.operators.BinaryOp.{BinaryOp}
-use Rattle.cedar_expressions.specs.declared.operators.BinaryOp.TheVariants as binaries
-use Rattle.cedar_expressions.specs.declared.pattern.PatternElem.{PatternElem}
-use Rattle.cedar_expressions.specs.declared.pattern.PatternElem.TheVariants as parts
-use Rattle.cedar_expressions.specs.declared.types.«Type».{«Type» as RType}
-use Rattle.cedar_expressions.specs.declared.types.«Type».TheVariants as types
-use Rattle.cedar_expressions.specs.declared.types.Literal.{Literal}
-use Rattle.cedar_expressions.specs.declared.types.Literal.TheVariants as literals
-use Rattle.cedar_expressions.specs.contracts.names.SlotIdHash.TheImpl as derived_slot
-use Rattle.cedar_expressions.specs.contracts.names.VarHash.TheImpl as derived_variable
-use Rattle.cedar_expressions.specs.contracts.operators.UnaryOpHash.TheImpl as derived_unary
-use Rattle.cedar_expressions.specs.contracts.operators.BinaryOpHash.TheImpl as derived_binary
-use Rattle.cedar_expressions.specs.contracts.pattern.PatternElemHash.TheImpl as derived_part
-use Rattle.cedar_expressions.specs.contracts.types.TypeHash.TheImpl as derived_type
-use Rattle.cedar_expressions.specs.contracts.types.LiteralHash.TheImpl as derived_literal
 use Rattle.cedar_expressions.specs.declared.expr.Expr.{Expr}
 use Rattle.cedar_expressions.specs.View.{view, terms_view}
-use Rattle.cedar_expressions.specs.Leaves.{slot_view, variable_view, unary_view, binary_view, part_view, type_view, literal_view, texts_view}
-use Rattle.cedar_expressions.specs.Hashing.{fed_literal, fed_type, fed_annotation, fed_part, fed_pattern, fed_texts, fed_term, fed_terms, fed_fields}
-
-pub slots_fed : (a : SlotId) → (derived_slot.ghosts).hash_input a ≡ fed.isize (pos (slot_number (slot_view a)))
-slots_fed slots.Principal = refl
-slots_fed slots.Resource = refl
-
-pub variables_fed : (a : Var) → (derived_variable.ghosts).hash_input a ≡ fed.isize (pos (variable_number (variable_view a)))
-variables_fed variables.Principal = refl
-variables_fed variables.Action = refl
-variables_fed variables.Resource = refl
-variables_fed variables.Context = refl
-
-pub unaries_fed : (a : UnaryOp) → (derived_unary.ghosts).hash_input a ≡ fed.isize (pos (unary_number (unary_view a)))
-unaries_fed unaries.Not = refl
-unaries_fed unaries.Neg = refl
-unaries_fed unaries.IsEmpty = refl
-
-pub binaries_fed : (a : BinaryOp) → (derived_binary.ghosts).hash_input a ≡ fed.isize (pos (binary_number (binary_view a)))
-binaries_fed binaries.Eq = refl
-binaries_fed binaries.Less = refl
-binaries_fed binaries.LessEq = refl
-binaries_fed binaries.Add = refl
-binaries_fed binaries.Sub = refl
-binaries_fed binaries.Mul = refl
-binaries_fed binaries.In = refl
-binaries_fed binaries.Contains = refl
-binaries_fed binaries.ContainsAll = refl
-binaries_fed binaries.ContainsAny = refl
-binaries_fed binaries.GetTag = refl
-binaries_fed binaries.HasTag = refl
-
-pub literals_fed : (a : Literal) → (derived_literal.ghosts).hash_input a ≡ fed_literal (literal_view a)
-literals_fed (literals.Bool x) = refl
-literals_fed (literals.Long x) = refl
-literals_fed (literals.String x) = refl
-literals_fed (literals.EntityUID x) = refl
-
-pub types_fed : (a : RType) → (derived_type.ghosts).hash_input a ≡ fed_type (type_view a)
-types_fed types.Bool = refl
-types_fed types.Long = refl
-types_fed types.String = refl
-types_fed types.Set = refl
-types_fed types.Record = refl
-types_fed (types.Entity x) = refl
-types_fed (types.Extension x) = refl
-
-pub annotations_fed : (a : Option RType) → fed.option (derived_type.ghosts).hash_input a ≡ fed_annotation (option_map type_view a)
-annotations_fed None = refl
-annotations_fed (Some t) = ap (λ w. fed.isize (pos 1) ++ w) (types_fed t)
-
--- a list of seen elements feeds as the list does
-seen : {X Y : Type 0} (F : X → HashWrites) (G : Y → HashWrites) (f : X → Y) → ((x : X) → F x ≡ G (f x)) → (xs : List X) → flat_map F xs ≡ flat_map G (map f xs)
-seen F G f e [] = refl
-seen F G f e (x ∷ xs) = λ i. e x i ++ seen F G f e xs i
-
-as_many : {X Y : Type 0} (f : X → Y) (xs : List X) → length xs ≡ length (map f xs)
-as_many f [] = refl
-as_many f (x ∷ xs) = ap suc (as_many f xs)
-
-part_fed : (a : PatternElem) → (derived_part.ghosts).hash_input a ≡ fed_part (part_view a)
-part_fed (parts.Char c) = refl
-part_fed parts.Wildcard = refl
-
-pub patterns_fed : (ps : List PatternElem) → fed.slice (derived_part.ghosts).hash_input ps ≡ fed_pattern (map part_view ps)
-patterns_fed ps =
-    λ i. fed.usize (as_many part_view ps i) ++ seen (derived_part.ghosts).hash_input fed_part part_view part_fed ps i
-
-pub texts_fed : (ts : List (RcStr Global)) → fed.slice (λ s. fed.str (rc_str_bytes s)) ts ≡ fed_texts (texts_view ts)
-texts_fed ts =
-    λ i. fed.usize (as_many {X = RcStr Global} rc_str_bytes ts i) ++ seen {X = RcStr Global} (λ s. fed.str (rc_str_bytes s)) fed.str rc_str_bytes (λ s. refl) ts i
-
--- ---- expressions
+use Rattle.cedar_names.specs.Hashing.{fed_literal, fed_annotation, fed_pattern, fed_texts, fed_term, fed_terms, fed_fields}
 
 module _ {S : Type 0} (write : S → List ℕ → S) (s : S) where
   -- the writes us, and then the writes vs
@@ -221,5 +124,3 @@ module _ {S : Type 0} (write : S → List ℕ → S) (s : S) (xs v : List Expr) 
       (ap (λ u. fold write s (fed_terms (terms_view u))) (drop_all i v h) ∙ fed-no_terms write s)
 
 pub ruleset levels = (fed-literal, fed-variable, fed-slot, fed-unknown, fed-if_then_else, fed-both, fed-either, fed-unary, fed-binary, fed-call, fed-get_attribute, fed-has_attribute, fed-extended_has, fed-like, fed-is_of_type, fed-set_of, fed-record_of, fed-no_terms, fed-one_term, fed-no_fields, fed-one_field)
-
-pub ruleset leaves = (slots_fed, variables_fed, unaries_fed, binaries_fed, literals_fed, types_fed, annotations_fed, patterns_fed, texts_fed)

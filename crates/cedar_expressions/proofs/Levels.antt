@@ -1,24 +1,23 @@
 -- The view of an expression, level by level: one equation a kind.
-use Rattle.std.proofs.Common.{◌≡◌, Option, option_map, map, Vec, BTreeMap, Global, rules}
+use Rattle.std.proofs.Common.{◌≡◌, option_map, Vec, BTreeMap, Global, rules}
 use Rattle.std.specs.declared.rc.Rc.{Rc}
 use Rattle.std.specs.declared.rc.RcStr.{RcStr}
 use Rattle.std.specs.Rc.{rc_str_bytes}
 use Rattle.cedar_model.specs.Terms.{literal, variable, slot, unknown, if_then_else, both, either, unary, binary, call, get_attribute, has_attribute, extended_has, like, is_of_type, set_of, record_of}
 use Rattle.cedar_expressions.specs.declared.expr.Expr.{Expr, out-Expr, the_lemmas}
-use Rattle.cedar_expressions.specs.declared.expr.ExprKind as kinds
-use Rattle.cedar_expressions.specs.declared.expr.ExprKind.{ExprKind, Lit, Var, Slot, Unknown, If, And, Or, UnaryApp, BinaryApp, ExtensionFunctionApp, GetAttr, HasAttr, ExtHasAttr, Like, Is, Set, Record}
-use Rattle.cedar_expressions.specs.declared.names.Name.{Name}
-use Rattle.cedar_expressions.specs.declared.names.EntityType.{EntityType}
-use Rattle.cedar_expressions.specs.declared.names.SlotId.{SlotId}
-use Rattle.cedar_expressions.specs.declared.names.Var as names
-use Rattle.cedar_expressions.specs.declared.operators.UnaryOp.{UnaryOp}
-use Rattle.cedar_expressions.specs.declared.operators.BinaryOp.{BinaryOp}
-use Rattle.cedar_expressions.specs.declared.pattern.Pattern.{Pattern}
-use Rattle.cedar_expressions.specs.declared.types.Literal.{Literal}
-use Rattle.cedar_expressions.specs.declared.types.FirstRest.{FirstRest}
-use Rattle.cedar_expressions.specs.declared.types.Unknown as unknowns
-use Rattle.cedar_expressions.specs.Names.{name_text, type_text}
-use Rattle.cedar_expressions.specs.Leaves.{slot_view, variable_view, unary_view, binary_view, pattern_view, type_view, literal_view, texts_view}
+use Rattle.cedar_expressions.specs.declared.expr.ExprKind.{Lit, Var, Slot, Unknown, If, And, Or, UnaryApp, BinaryApp, ExtensionFunctionApp, GetAttr, HasAttr, ExtHasAttr, Like, Is, Set, Record}
+use Rattle.cedar_names.specs.declared.names.Name.{Name}
+use Rattle.cedar_names.specs.declared.names.EntityType.{EntityType}
+use Rattle.cedar_names.specs.declared.names.SlotId.{SlotId}
+use Rattle.cedar_names.specs.declared.names.Var as names
+use Rattle.cedar_names.specs.declared.operators.UnaryOp.{UnaryOp}
+use Rattle.cedar_names.specs.declared.operators.BinaryOp.{BinaryOp}
+use Rattle.cedar_names.specs.declared.pattern.Pattern.{Pattern}
+use Rattle.cedar_names.specs.declared.types.Literal.{Literal}
+use Rattle.cedar_names.specs.declared.types.FirstRest.{FirstRest}
+use Rattle.cedar_names.specs.declared.types.Unknown as unknowns
+use Rattle.cedar_names.specs.Names.{name_text, type_text}
+use Rattle.cedar_names.specs.Leaves.{slot_view, variable_view, unary_view, binary_view, pattern_view, type_view, literal_view, texts_view}
 use Rattle.cedar_expressions.specs.View.{view, kind_view, terms_view, fields_view}
 
 -- an expression's view is its kind's

@@ -1,15 +1,7 @@
 pub mod Levels
-pub mod Order
-pub mod Escapes
-pub mod SetOrder
-pub mod SetMembers
-pub mod Written
 pub mod Loops
-pub mod Injective
 pub mod Equality
 pub mod Unlike
-pub mod Derived
 pub mod Walks
 pub mod Hashing
 pub mod Records
-pub mod Matching

@@ -1,18 +1,10 @@
 -- What is left to write, one part after another.
-use Rattle.std.proofs.Common.{◌≡◌, ℕ, ◌+◌, ◌<◌, Bool, true, false, Option, List, ◌++◌, length, get_or, drop, map, flat_map, codes, append_assoc}
+use Rattle.std.proofs.Common.{◌≡◌, ℕ, ◌+◌, ◌<◌, Bool, true, false, Option, List, ◌++◌, length, get_or, drop, codes, append_assoc}
 use Rattle.std.proofs.lemmas.List.{drop_more}
 use Rattle.cedar_model.specs.Terms.{Text, Term, Terms, one_term, Fields, one_field}
-use Rattle.cedar_model.specs.Values.{expression_of, expressions_of}
-use Rattle.cedar_model.specs.Sets.{represented_values_of}
 use Rattle.cedar_expressions.specs.declared.expr.Expr.{Expr}
 use Rattle.cedar_expressions.specs.View.{view, terms_view}
-use Rattle.cedar_expressions.specs.Sound.{Placed, whats}
-use Rattle.cedar_expressions.specs.Texts.{shown, shown_parts, shown_fields, quoted, separator, is_spent, one_less}
-
--- one text of a list
-pub flat_map_left : {X Y : Type 0} (f : Y → List ℕ) (v : X → Y) (xs : List X) (i : ℕ) (d : X) (done total : List ℕ) → i < length xs
-    → done ++ flat_map f (map v (drop i xs)) ≡ total → (done ++ f (v (get_or xs i d))) ++ flat_map f (map v (drop (i + 1) xs)) ≡ total
-flat_map_left f v xs i d done total h whole = rw append_assoc (rw (drop_more xs i d h) at whole)
+use Rattle.cedar_names.specs.Texts.{shown, shown_parts, shown_fields, quoted, separator, is_spent, one_less}
 
 -- one part of a list
 pub parts_left : (m left : Option ℕ) (first : Bool) (t : Term) (ts rest : Terms) (done total : List ℕ) → ts ≡ one_term t rest → is_spent left ≡ false
@@ -36,10 +28,6 @@ pub fields_end : (m left : Option ℕ) (first : Bool) (k : Text) (t : Term) (fs 
     → done ++ shown_fields m left first fs ≡ total → done ++ (separator first ++ codes "..") ≡ total
 fields_end m left first k t fs rest done total is spent whole = rw (is, spent) at whole
 
--- the terms of expressions, and of values, from one on
+-- the terms of expressions, from one on
 pub terms_view-drop : (es : List Expr) (i : ℕ) (e : Expr) → i < length es → e ≡ get_or es i e → terms_view (drop i es) ≡ one_term (view e) (terms_view (drop (i + 1) es))
 terms_view-drop es i e h is = rw (drop_more es i e h, ← is)
-
-pub expressions_of-drop : (ps : List Placed) (i : ℕ) (p : Placed) → i < length ps → p ≡ get_or ps i p
-    → expressions_of (represented_values_of (whats (drop i ps))) ≡ one_term (expression_of p.what) (expressions_of (represented_values_of (whats (drop (i + 1) ps))))
-expressions_of-drop ps i p h is = rw (drop_more ps i p h, ← is)

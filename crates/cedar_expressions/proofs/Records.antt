@@ -1,22 +1,21 @@
 -- A walk over the pairs of a record, which are put into a map in turn.
-use Rattle.std.proofs.Common.{◌≡◌, ℕ, Bool, true, false, ◌||◌, cond, List, [], ◌∷◌, ◌++◌, map, Option, None, Some, Global, refl, sym, ap, ◌∙◌}
+use Rattle.std.proofs.Common.{◌≡◌, Bool, true, false, ◌||◌, cond, List, [], ◌∷◌, Option, Some, Global, refl, sym, ap, ◌∙◌}
 use Rattle.std.specs.declared.cmp.Ordering.{Ordering}
 use Rattle.std.specs.declared.cmp.Ordering.TheVariants.{Less, Equal, Greater}
 use Rattle.std.specs.declared.rc.RcStr.{RcStr}
-use Rattle.std.specs.Bool.{Decides}
 use Rattle.std.specs.Rc.{rc_str_bytes}
 use Rattle.std.specs.Option.{is_some}
 use Rattle.std.specs.Ordering.{nat_cmp, is_eq, match_ordering}
 use Rattle.std.specs.Cmp.Lexicographic.{slice_cmp}
 use Rattle.std.specs.BTreeMap.{insert_entry, is_at}
 use Rattle.std.specs.Map.{lookup}
-use Rattle.cedar_model.specs.Terms.{Text, Term, Fields, no_fields, one_field}
-use Rattle.cedar_model.specs.Keys.{text_key, key_cmp, key_cmp-text_key}
+use Rattle.cedar_model.specs.Terms.{Text, one_field}
+use Rattle.cedar_model.specs.Keys.{key_cmp-text_key}
 use Rattle.cedar_expressions.specs.declared.expr.Expr.{Expr}
-use Rattle.cedar_expressions.specs.Equality.{text_eq}
-use Rattle.cedar_expressions.specs.EqualityLaws.{text_eq-decides}
+use Rattle.cedar_names.specs.Equality.{text_eq}
+use Rattle.cedar_names.specs.EqualityLaws.{text_eq-decides}
 use Rattle.cedar_expressions.specs.View.{view, fields_view}
-use Rattle.cedar_expressions.specs.Records.{is_among, first_again, put_field, put_fields, pairs_view, keys_view}
+use Rattle.cedar_expressions.specs.Records.{is_among, first_again, put_field, keys_view}
 
 -- `==` of texts, by their order
 text_eq-order : (k l : Text) → is_eq (slice_cmp nat_cmp k l) ≡ text_eq k l

@@ -1,5 +1,5 @@
 -- Which kind an expression has: an expression that is not of a kind is not equal to a term of that kind.
-use Rattle.std.proofs.Common.{◌≡◌, ℕ, List, Option, Bool, true, false, Vec, BTreeMap, Global, sym, ap, ◌∙◌, refl, arith}
+use Rattle.std.proofs.Common.{◌≡◌, ℕ, List, Option, true, false, Vec, BTreeMap, Global, sym, ap, ◌∙◌, refl, arith}
 use Rattle.std.specs.declared.rc.Rc.{Rc}
 use Rattle.std.specs.declared.rc.RcStr.{RcStr}
 use Rattle.cedar_model.specs.Terms as model
@@ -7,19 +7,19 @@ use Rattle.cedar_model.specs.Terms.{Text, Variable, ValueType, UnaryOperator, Bi
 use Rattle.cedar_expressions.specs.declared.expr.Expr.{Expr}
 use Rattle.cedar_expressions.specs.declared.expr.ExprKind.{ExprKind, ExprKind-F, out-ExprKind, roll-ExprKind, roll-out-ExprKind, Lit, Var, Slot, Unknown, If, And, Or, UnaryApp, BinaryApp, ExtensionFunctionApp, GetAttr, HasAttr, ExtHasAttr, Like, Is, Set, Record}
 use Rattle.cedar_expressions.specs.declared.expr.ExprKind.TheViews.{rolls-Lit, rolls-Var, rolls-Slot, rolls-Unknown, rolls-If, rolls-And, rolls-Or, rolls-UnaryApp, rolls-BinaryApp, rolls-ExtensionFunctionApp, rolls-GetAttr, rolls-HasAttr, rolls-ExtHasAttr, rolls-Like, rolls-Is, rolls-Set, rolls-Record}
-use Rattle.cedar_expressions.specs.declared.names.Name.{Name}
-use Rattle.cedar_expressions.specs.declared.names.EntityType.{EntityType}
-use Rattle.cedar_expressions.specs.declared.names.SlotId.{SlotId}
-use Rattle.cedar_expressions.specs.declared.names.Var as names
-use Rattle.cedar_expressions.specs.declared.operators.UnaryOp.{UnaryOp}
-use Rattle.cedar_expressions.specs.declared.operators.BinaryOp.{BinaryOp}
-use Rattle.cedar_expressions.specs.declared.pattern.Pattern.{Pattern}
-use Rattle.cedar_expressions.specs.declared.types.Literal.{Literal}
-use Rattle.cedar_expressions.specs.declared.types.FirstRest.{FirstRest}
-use Rattle.cedar_expressions.specs.declared.types.Unknown as unknowns
+use Rattle.cedar_names.specs.declared.names.Name.{Name}
+use Rattle.cedar_names.specs.declared.names.EntityType.{EntityType}
+use Rattle.cedar_names.specs.declared.names.SlotId.{SlotId}
+use Rattle.cedar_names.specs.declared.names.Var as names
+use Rattle.cedar_names.specs.declared.operators.UnaryOp.{UnaryOp}
+use Rattle.cedar_names.specs.declared.operators.BinaryOp.{BinaryOp}
+use Rattle.cedar_names.specs.declared.pattern.Pattern.{Pattern}
+use Rattle.cedar_names.specs.declared.types.Literal.{Literal}
+use Rattle.cedar_names.specs.declared.types.FirstRest.{FirstRest}
+use Rattle.cedar_names.specs.declared.types.Unknown as unknowns
 use Rattle.cedar_expressions.specs.View.{kind_view}
-use Rattle.cedar_expressions.specs.Equality.{term_eq}
-use Rattle.cedar_expressions.specs.EqualityLaws.{term_eq-decides}
+use Rattle.cedar_names.specs.Equality.{term_eq}
+use Rattle.cedar_names.specs.EqualityLaws.{term_eq-decides}
 use Rattle.cedar_expressions.proofs.Levels.{kind_view-Lit, kind_view-Var, kind_view-Slot, kind_view-Unknown, kind_view-If, kind_view-And, kind_view-Or, kind_view-UnaryApp, kind_view-BinaryApp, kind_view-ExtensionFunctionApp, kind_view-GetAttr, kind_view-HasAttr, kind_view-ExtHasAttr, kind_view-Like, kind_view-Is, kind_view-Set, kind_view-Record}
 
 -- the number of a term's kind

@@ -3,9 +3,9 @@ use Rattle.std.specs.Slice.Iter.{iter_rest, iter_steps}
 use Rattle.std.specs.Option.{is_some}
 use Rattle.std.proofs.Common.{◌≡◌, ℕ, ◌+◌, ◌<◌, ◌≤◌, Bool, true, false, not, Option, None, Some, Bor, Iter, ◌&&◌, List, [], ◌∷◌, length, get_or, drop, refl, sym, ap, subst, ◌∙◌, arith}
 use Rattle.std.proofs.lemmas.List.{drop_more, drop_all}
-use Rattle.cedar_model.specs.Terms.{no_terms, one_term}
+use Rattle.cedar_model.specs.Terms.{no_terms}
 use Rattle.cedar_expressions.specs.declared.expr.Expr.{Expr}
-use Rattle.cedar_expressions.specs.Equality.{term_eq, terms_eq}
+use Rattle.cedar_names.specs.Equality.{term_eq, terms_eq}
 use Rattle.cedar_expressions.specs.View.{view, terms_view}
 use Rattle.cedar_expressions.proofs.Equality.{terms_eq-none, terms_eq-more, terms_eq-less, terms_eq-one}
 

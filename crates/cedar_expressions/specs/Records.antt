@@ -1,5 +1,5 @@
 -- The fields of a record, made of pairs of a key and a part.
-use Rattle.std.specs.Prelude.{ℕ, Bool, true, false, ◌||◌, cond, List, [], ◌∷◌, map, Option, None, Some}
+use Rattle.std.specs.Prelude.{Bool, false, ◌||◌, cond, List, [], ◌∷◌, map, Option, None, Some}
 use Rattle.std.specs.Ordering.{nat_cmp, match_ordering}
 use Rattle.std.specs.Cmp.Lexicographic.{slice_cmp}
 use Rattle.std.specs.Rc.{rc_str_bytes}
@@ -7,7 +7,7 @@ use Rattle.std.specs.declared.alloc.Global.{Global}
 use Rattle.std.specs.declared.rc.RcStr.{RcStr}
 use Rattle.cedar_model.specs.Terms.{Text, Term, Fields, no_fields, one_field}
 use Rattle.cedar_expressions.specs.declared.expr.Expr.{Expr}
-use Rattle.cedar_expressions.specs.Equality.{text_eq}
+use Rattle.cedar_names.specs.Equality.{text_eq}
 use Rattle.cedar_expressions.specs.View.{view}
 
 -- whether the text is one of these

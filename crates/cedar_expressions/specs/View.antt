@@ -3,12 +3,12 @@ use Rattle.std.specs.Prelude.{List, [], ◌∷◌, map, Option, option_map}
 use Rattle.std.specs.Rc.{rc_str_bytes}
 use Rattle.std.specs.declared.alloc.Global.{Global}
 use Rattle.std.specs.declared.rc.RcStr.{RcStr}
-use Rattle.cedar_model.specs.Terms.{Text, Term, literal, variable, slot, unknown, if_then_else, both, either, unary, binary, call, get_attribute, has_attribute, extended_has, like, is_of_type, set_of, record_of, Terms, Fields, no_fields, one_field, terms_of}
+use Rattle.cedar_model.specs.Terms.{Term, literal, variable, slot, unknown, if_then_else, both, either, unary, binary, call, get_attribute, has_attribute, extended_has, like, is_of_type, set_of, record_of, Terms, Fields, no_fields, one_field, terms_of}
 use Rattle.cedar_expressions.specs.declared.expr.Expr.{Expr, Expr-F, fold-Expr, out-Expr}
 use Rattle.cedar_expressions.specs.declared.expr.ExprKind.{ExprKind, ExprKind-F, fold-ExprKind}
-use Rattle.cedar_expressions.specs.declared.names.Loc.{Loc}
-use Rattle.cedar_expressions.specs.Names.{name_text, type_text}
-use Rattle.cedar_expressions.specs.Leaves.{slot_view, variable_view, unary_view, binary_view, pattern_view, type_view, literal_view, texts_view}
+use Rattle.cedar_names.specs.declared.names.Loc.{Loc}
+use Rattle.cedar_names.specs.Names.{name_text, type_text}
+use Rattle.cedar_names.specs.Leaves.{slot_view, variable_view, unary_view, binary_view, pattern_view, type_view, literal_view, texts_view}
 
 -- the terms under their keys, in order
 abbrev pub fields_under : List (RcStr Global × Term) → Fields

@@ -5,16 +5,13 @@ ghost use Rattle.std.specs.Prelude.{◌≡◌};
 mod copies;
 mod equality;
 mod hashing;
-mod leaf_equality;
-mod leaf_hashing;
 mod made;
 mod record;
 mod shape;
 
-use crate::names::{EntityType, Loc, Name, SlotId, Var};
-use crate::operators::{BinaryOp, UnaryOp};
-use crate::pattern::Pattern;
-use crate::types::{FirstRest, Literal, Unknown};
+use cedar_names::{
+    BinaryOp, EntityType, FirstRest, Literal, Loc, Name, Pattern, SlotId, UnaryOp, Unknown, Var,
+};
 use std::alloc::{AllocError, Global};
 use std::collections::BTreeMap;
 use std::rc::{Rc, RcStr};
@@ -106,8 +103,8 @@ impl Expr {
     ghost use Rattle.std.specs.Prelude.{◌≡◌, IfOk, None, option_copied, option_map};
     ghost use Rattle.std.specs.Rc.{rc_str_bytes};
     ghost use Rattle.cedar_model.specs.Terms.{literal, variable, slot, unknown, if_then_else, both, either, unary, binary, call, get_attribute, has_attribute, extended_has, like, is_of_type, set_of, record_of};
-    ghost use Rattle.cedar_expressions.specs.Names.{name_text, type_text};
-    ghost use Rattle.cedar_expressions.specs.Leaves.{slot_view, variable_view, unary_view, binary_view, pattern_view, type_view, literal_view, texts_view};
+    ghost use Rattle.cedar_names.specs.Names.{name_text, type_text};
+    ghost use Rattle.cedar_names.specs.Leaves.{slot_view, variable_view, unary_view, binary_view, pattern_view, type_view, literal_view, texts_view};
     ghost use Rattle.cedar_expressions.specs.View.{view, kind_view, expr_loc, expr_kind_of, terms_view};
 
     /// The kind of the expression, with its parts.

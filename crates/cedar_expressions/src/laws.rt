@@ -1,39 +1,11 @@
-//! When the parts of this layer are equal. Each function is a law, and does nothing.
-ghost use Rattle.std.specs.Prelude.{◌≡◌, option_map};
+//! When expressions are equal. The function is a law, and does nothing.
+ghost use Rattle.std.specs.Prelude.{◌≡◌};
 ghost use Rattle.std.specs.Bool.{Decides};
-ghost use Rattle.std.specs.Rc.{rc_str_bytes};
-ghost use Rattle.cedar_expressions.specs.declared.names.Name.{Name};
-ghost use Rattle.cedar_expressions.specs.declared.names.EntityType.{EntityType};
-ghost use Rattle.cedar_expressions.specs.declared.names.EntityUID.{EntityUID};
-ghost use Rattle.cedar_expressions.specs.declared.types.«Type».{«Type» as RType};
-ghost use Rattle.cedar_expressions.specs.declared.types.Literal.{Literal};
-ghost use Rattle.cedar_expressions.specs.declared.types.Unknown as unknowns;
-ghost use Rattle.cedar_expressions.specs.declared.pattern.Pattern.{Pattern};
 ghost use Rattle.cedar_expressions.specs.declared.expr.Expr.{Expr};
 ghost use Rattle.cedar_expressions.specs.declared.expr.ExprKind.{ExprKind};
-ghost use Rattle.cedar_expressions.specs.Names.{name_text, type_text, uid_name};
-ghost use Rattle.cedar_expressions.specs.Leaves.{literal_view, type_view, pattern_view};
 ghost use Rattle.cedar_expressions.specs.View.{view, kind_view};
 
 use crate::expr::{Expr, ExprKind};
-use crate::names::{EntityType, EntityUID, Name};
-use crate::pattern::Pattern;
-use crate::types::{Literal, Type, Unknown};
-
-/// Names and entity types are equal exactly where their texts are, and names of entities where their types and ids are: locations change nothing.
-pub fn names_are_equal_by_text()
-    ensures names { (a b : Name) → Decides (⟦<Name as PartialEq>⟧.eq a b) (name_text a ≡ name_text b) }
-    ensures types { (a b : EntityType) → Decides (⟦<EntityType as PartialEq>⟧.eq a b) (type_text a ≡ type_text b) }
-    ensures entities { (a b : EntityUID) → Decides (⟦<EntityUID as PartialEq>⟧.eq a b) (uid_name a ≡ uid_name b) }
-{}
-
-/// Literals, types, unknowns and patterns are equal exactly where they stand for the same.
-pub fn leaves_are_equal_by_view()
-    ensures literals { (a b : Literal) → Decides (⟦<Literal as PartialEq>⟧.eq a b) (literal_view a ≡ literal_view b) }
-    ensures types { (a b : RType) → Decides (⟦<Type as PartialEq>⟧.eq a b) (type_view a ≡ type_view b) }
-    ensures unknowns { (a b : unknowns.Unknown) → Decides (⟦<Unknown as PartialEq>⟧.eq a b) ((rc_str_bytes a.name ≡ rc_str_bytes b.name) × (option_map type_view a.type_annotation ≡ option_map type_view b.type_annotation)) }
-    ensures patterns { (a b : Pattern) → Decides (⟦<Pattern as PartialEq>⟧.eq a b) (pattern_view a ≡ pattern_view b) }
-{}
 
 /// Expressions are equal exactly where they stand for the same term: locations change nothing, not even those of parts and names.
 pub fn expressions_are_equal_by_term()

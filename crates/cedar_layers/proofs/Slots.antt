@@ -3,12 +3,12 @@ use Rattle.std.proofs.Common.{◌≡◌, refl, List, [], ap, option_map}
 use Rattle.std.specs.Map.{lookup}
 use Rattle.cedar_model.specs.World.{Slots}
 use Rattle.cedar_model.specs.Agreement.{no_slots}
-use Rattle.cedar_expressions.specs.contracts.names.SlotIdPartialEq.TheImpl.{eq-value}
-use Rattle.cedar_expressions.specs.declared.names.EntityUID.{EntityUID}
-use Rattle.cedar_expressions.specs.declared.names.SlotId.{SlotId}
-use Rattle.cedar_expressions.specs.declared.names.SlotId.TheVariants as slots
-use Rattle.cedar_expressions.specs.Leaves.{slot_view}
-use Rattle.cedar_expressions.specs.Names.{uid_name}
+use Rattle.cedar_names.specs.contracts.names.SlotIdPartialEq.TheImpl.{eq-value}
+use Rattle.cedar_names.specs.declared.names.EntityUID.{EntityUID}
+use Rattle.cedar_names.specs.declared.names.SlotId.{SlotId}
+use Rattle.cedar_names.specs.declared.names.SlotId.TheVariants as slots
+use Rattle.cedar_names.specs.Leaves.{slot_view}
+use Rattle.cedar_names.specs.Names.{uid_name}
 use Rattle.cedar_layers.specs.Policies.{SlotValues, is_slot, slots_view}
 
 -- an empty map gives no slot a value

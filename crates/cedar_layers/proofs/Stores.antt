@@ -7,10 +7,10 @@ use Rattle.std.specs.Map.{lookup, KeepsOthers}
 use Rattle.cedar_model.specs.Terms.{Text, EntityName}
 use Rattle.cedar_model.specs.Outcomes.{text_eq, entity_eq, escaped}
 use Rattle.cedar_model.specs.Settings.{StoredEntity, found, not_there, not_known, found_in, is_among, printed_entity}
-use Rattle.cedar_expressions.specs.declared.names.EntityUID.{EntityUID}
-use Rattle.cedar_expressions.specs.contracts.names.EntityUIDPartialEq.TheImpl.{eq-value}
-use Rattle.cedar_expressions.specs.Names.{uid_name}
-use Rattle.cedar_expressions.specs.Texts as texts
+use Rattle.cedar_names.specs.declared.names.EntityUID.{EntityUID}
+use Rattle.cedar_names.specs.contracts.names.EntityUIDPartialEq.TheImpl.{eq-value}
+use Rattle.cedar_names.specs.Names.{uid_name}
+use Rattle.cedar_names.specs.Texts as texts
 use Rattle.cedar_layers.specs.declared.policies.entities.Entity.{Entity}
 use Rattle.cedar_layers.specs.Stores.{entity_view, held, with_entity}
 

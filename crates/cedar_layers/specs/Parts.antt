@@ -6,8 +6,8 @@ use Rattle.std.specs.declared.rc.RcStr.{RcStr}
 use Rattle.cedar_model.specs.Terms.{Text}
 use Rattle.cedar_model.specs.Shapes.{is_restricted}
 use Rattle.cedar_model.specs.Failures as model
-use Rattle.cedar_expressions.specs.declared.partial_value.PartialValue.{PartialValue}
-use Rattle.cedar_expressions.specs.Residuals.{partial_view}
+use Rattle.cedar_data.specs.declared.partial_value.PartialValue.{PartialValue}
+use Rattle.cedar_data.specs.Residuals.{partial_view}
 
 -- the parts under their names
 abbrev pub parts_view : List (RcStr Global × PartialValue) → List (Text × model.PartialValue)

@@ -10,11 +10,11 @@ use Rattle.cedar_model.specs.Terms.{Text, Slot, principal_slot, resource_slot, T
 use Rattle.cedar_model.specs.Outcomes.{text_eq}
 use Rattle.cedar_model.specs.World.{Slots}
 use Rattle.cedar_model.specs.Policies as model
-use Rattle.cedar_expressions.specs.declared.names.EntityUID.{EntityUID}
-use Rattle.cedar_expressions.specs.declared.names.Loc.{Loc}
-use Rattle.cedar_expressions.specs.declared.names.SlotId.{SlotId}
-use Rattle.cedar_expressions.specs.declared.names.SlotId.TheVariants as slots
-use Rattle.cedar_expressions.specs.Names.{uid_name}
+use Rattle.cedar_names.specs.declared.names.EntityUID.{EntityUID}
+use Rattle.cedar_names.specs.declared.names.Loc.{Loc}
+use Rattle.cedar_names.specs.declared.names.SlotId.{SlotId}
+use Rattle.cedar_names.specs.declared.names.SlotId.TheVariants as slots
+use Rattle.cedar_names.specs.Names.{uid_name}
 use Rattle.cedar_expressions.specs.View.{view}
 use Rattle.cedar_layers.specs.declared.policies.policy.Annotations.{Annotations}
 use Rattle.cedar_layers.specs.declared.policies.policy.Effect.{Effect}

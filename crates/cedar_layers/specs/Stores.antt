@@ -5,9 +5,9 @@ use Rattle.std.specs.Rc.{rc_str_bytes}
 use Rattle.cedar_model.specs.Terms.{EntityName, unknown}
 use Rattle.cedar_model.specs.Outcomes.{entity_eq}
 use Rattle.cedar_model.specs.Settings.{StoredEntity, Store, Found, found, not_there, not_known, missing_entity}
-use Rattle.cedar_expressions.specs.declared.names.EntityUID.{EntityUID}
-use Rattle.cedar_expressions.specs.Names.{uid_name}
-use Rattle.cedar_expressions.specs.Leaves.{type_view}
+use Rattle.cedar_names.specs.declared.names.EntityUID.{EntityUID}
+use Rattle.cedar_names.specs.Names.{uid_name}
+use Rattle.cedar_names.specs.Leaves.{type_view}
 use Rattle.cedar_layers.specs.declared.policies.entities.Dereference.{Dereference}
 use Rattle.cedar_layers.specs.declared.policies.entities.Dereference.TheVariants as answers
 use Rattle.cedar_layers.specs.declared.policies.entities.Entities.{Entities}

@@ -1,6 +1,6 @@
 -- The places of errors, and errors at other places.
 use Rattle.std.specs.Prelude.{Option, None}
-use Rattle.cedar_expressions.specs.declared.names.Loc.{Loc}
+use Rattle.cedar_names.specs.declared.names.Loc.{Loc}
 use Rattle.cedar_values.specs.declared.extensions.ExtensionFunctionLookupError.{ExtensionFunctionLookupError}
 use Rattle.cedar_values.specs.declared.extensions.ExtensionFunctionLookupError.TheVariants as lookups
 use Rattle.cedar_values.specs.declared.evaluator.err.evaluation_errors.IntegerOverflowError.{IntegerOverflowError}

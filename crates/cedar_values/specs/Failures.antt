@@ -2,8 +2,8 @@
 use Rattle.std.specs.Prelude.{map, string_bytes}
 use Rattle.std.specs.Rc.{rc_str_bytes}
 use Rattle.cedar_model.specs.Failures.{Failure, entity_is_missing, entity_attribute_is_missing, record_attribute_is_missing, function_is_missing, type_is_wrong, arguments_are_miscounted, binary_overflow, unary_overflow, slot_is_unlinked, function_has_failed, residual_is_left, recursion_limit, out_of_memory}
-use Rattle.cedar_expressions.specs.Names.{name_text, uid_name}
-use Rattle.cedar_expressions.specs.Leaves.{slot_view, unary_view, binary_view, type_view, texts_view}
+use Rattle.cedar_names.specs.Names.{name_text, uid_name}
+use Rattle.cedar_names.specs.Leaves.{slot_view, unary_view, binary_view, type_view, texts_view}
 use Rattle.cedar_expressions.specs.View.{view}
 use Rattle.cedar_values.specs.declared.extensions.ExtensionFunctionLookupError.{ExtensionFunctionLookupError}
 use Rattle.cedar_values.specs.declared.extensions.ExtensionFunctionLookupError.TheVariants as lookups

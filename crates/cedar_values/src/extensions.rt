@@ -1,5 +1,5 @@
 //! Extensions: functions that the caller of the evaluator makes and hands in.
-use cedar_expressions::Loc;
+use cedar_names::Loc;
 use extension_function_lookup_errors::FuncDoesNotExistError;
 use std::alloc::AllocError;
 use std::marker::PhantomData;
@@ -33,7 +33,7 @@ pub enum ExtensionFunctionLookupError {
 
 /// The structs of `ExtensionFunctionLookupError`.
 pub mod extension_function_lookup_errors {
-    use cedar_expressions::{Loc, Name};
+    use cedar_names::{Loc, Name};
     use thiserror::Error;
 
     /// No extension has a function of this name.

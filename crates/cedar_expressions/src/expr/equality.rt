@@ -3,14 +3,14 @@
 ghost use Rattle.std.specs.Prelude.{◌≡◌};
 ghost use Rattle.std.specs.Cmp.{on_equiv, on_per, partial_equiv_from_equiv};
 ghost use Rattle.cedar_expressions.specs.View.{view, kind_view, terms_view, fields_view};
-ghost use Rattle.cedar_expressions.specs.Equality.{term_eq, terms_eq, fields_eq};
-ghost use Rattle.cedar_expressions.specs.EqualityLaws.{term_eq-equivalence};
+ghost use Rattle.cedar_names.specs.Equality.{term_eq, terms_eq, fields_eq};
+ghost use Rattle.cedar_names.specs.EqualityLaws.{term_eq-equivalence};
 
-use super::leaf_equality::{
+use super::{Expr, ExprKind};
+use cedar_names::shared::{
     same_annotation, same_binary, same_literal, same_name, same_pattern, same_slot, same_text,
     same_texts, same_type, same_unary, same_variable,
 };
-use super::{Expr, ExprKind};
 use std::collections::BTreeMap;
 use std::rc::RcStr;
 

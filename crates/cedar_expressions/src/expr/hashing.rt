@@ -3,14 +3,14 @@
 ghost use Rattle.std.specs.Prelude.{◌≡◌, fold};
 ghost use Rattle.cedar_expressions.specs.View.{view, kind_view, terms_view, fields_view};
 ghost use Rattle.std.specs.Hash.{on_Alike, same_Alike};
-ghost use Rattle.cedar_expressions.specs.EqualityLaws.{term_eq-decides};
-ghost use Rattle.cedar_expressions.specs.Hashing.{fed_term, fed_terms, fed_fields};
+ghost use Rattle.cedar_names.specs.EqualityLaws.{term_eq-decides};
+ghost use Rattle.cedar_names.specs.Hashing.{fed_term, fed_terms, fed_fields};
 
-use super::leaf_hashing::{
+use super::{Expr, ExprKind};
+use cedar_names::shared::{
     feed_annotation, feed_binary, feed_literal, feed_name, feed_pattern, feed_slot, feed_text,
     feed_texts, feed_type, feed_unary, feed_variable,
 };
-use super::{Expr, ExprKind};
 use std::collections::BTreeMap;
 use std::hash::{Hash, Hasher};
 use std::rc::RcStr;

@@ -1,27 +1,13 @@
-//! Texts with a bound on the parts that sets and records show.
-ghost use Rattle.std.specs.Prelude.{◌≡◌, ℕ, List, Option, Some, None, OnOk, refl};
-ghost use Rattle.std.specs.Fmt.{WritesInCalls};
+//! How expressions print, also under a bound on the parts that sets and records show.
+ghost use Rattle.std.specs.Prelude.{◌≡◌, Some, None, refl};
 ghost use Rattle.cedar_expressions.specs.View.{view};
-ghost use Rattle.cedar_expressions.specs.Texts.{shown};
+ghost use Rattle.cedar_names.specs.Texts.{shown};
 
 use super::expressions::show;
 use crate::expr::Expr;
+use cedar_names::BoundedDisplay;
 use std::fmt;
-use std::fmt::{Display, Write};
-
-/// A text that can be cut: with a bound `n` each set and each record shows its first `n` parts and, where it has more,
-/// `..` as a last part. Without a bound it is the text of `Display`. The arguments of a call are never cut.
-pub trait BoundedDisplay: Display {
-    /// The bytes that are written under a bound.
-    ghost bounded_output: { Self → Option ℕ → List ℕ };
-
-    /// Writes the text under the bound `n`. Fails only where the writer does.
-    fn fmt<W: fmt::Write>(&self, f: &mut W, n: Option<usize>) -> fmt::Result
-        ensures { OnOk result (WritesInCalls W.write_str_gives f.old (bounded_output self.now n) f.new) };
-
-    /// Without a bound it is what `{}` writes.
-    ghost unbounded: { (x : Self) → Self.output x ≡ Some (bounded_output x None) };
-}
+use std::fmt::Write;
 
 /// The expression in Cedar's syntax: a part that is an if, infix, `!`, `-`, has, like or is expression stands in
 /// parentheses, unless it is an argument, a set's element or a record's value. An unknown shows its name alone.

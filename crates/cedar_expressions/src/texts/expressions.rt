@@ -4,20 +4,16 @@ ghost use Rattle.std.specs.Prelude.{◌≡◌, true, ◌++◌, codes, flat_map};
 ghost use Rattle.std.specs.Rc.{rc_str_bytes};
 ghost use Rattle.std.specs.Fmt.{WritesOnOk};
 ghost use Rattle.cedar_model.specs.Terms.{unknown, if_then_else, unary, binary, call, get_attribute, has_attribute, extended_has, like, is_of_type, set_of, record_of};
-ghost use Rattle.cedar_expressions.specs.Names.{name_text, type_text};
-ghost use Rattle.cedar_expressions.specs.Leaves.{unary_view, binary_view, pattern_view, texts_view};
+ghost use Rattle.cedar_names.specs.Names.{name_text, type_text};
+ghost use Rattle.cedar_names.specs.Leaves.{unary_view, binary_view, pattern_view, texts_view};
 ghost use Rattle.cedar_expressions.specs.View.{view, terms_view, fields_view};
-ghost use Rattle.cedar_expressions.specs.Texts as text;
+ghost use Rattle.cedar_names.specs.Texts as text;
 
-use super::lists::{is_spent, one_less, separator, write_more};
-use super::literals::write_literal;
-use super::write_quoted;
 use crate::expr::{Expr, ExprKind};
-use crate::names::{EntityType, Name};
-use crate::operators::{BinaryOp, UnaryOp};
-use crate::pattern::Pattern;
-use crate::pattern::texts::write_pattern;
-use crate::types::FirstRest;
+use cedar_names::shared::{
+    is_spent, one_less, separator, write_literal, write_more, write_pattern, write_quoted,
+};
+use cedar_names::{BinaryOp, EntityType, FirstRest, Name, Pattern, UnaryOp};
 use std::collections::BTreeMap;
 use std::fmt;
 use std::fmt::Display;
@@ -274,7 +270,7 @@ fn show_method<W: fmt::Write>(
 }
 
 #[cycle(show)]
-pub(crate) fn show_call<W: fmt::Write>(
+pub fn show_call<W: fmt::Write>(
     name: &Name,
     args: &[Expr],
     bound: Option<usize>,

@@ -3,7 +3,8 @@ ghost use Rattle.std.specs.Prelude.{◌≡◌, true};
 ghost use Rattle.cedar_layers.specs.Parts.{parts_view, are_restricted_parts};
 ghost use mathlib.Core.Bool.{Bool-set};
 
-use cedar_expressions::{EntityUID, PartialValue, Type, Unknown};
+use cedar_data::PartialValue;
+use cedar_names::{EntityUID, Type, Unknown};
 use std::alloc::{AllocError, Global};
 use std::collections::btree_map::Keys;
 use std::collections::{BTreeMap, HashMap, HashSet};
@@ -28,8 +29,8 @@ impl Entity {
     ghost use Rattle.std.specs.Ordering.{nat_cmp};
     ghost use Rattle.std.specs.Rc.{rc_str_bytes};
     ghost use Rattle.cedar_model.specs.Settings.{part_at, is_among, names_of};
-    ghost use Rattle.cedar_expressions.specs.Names.{uid_name};
-    ghost use Rattle.cedar_expressions.specs.Residuals.{partial_view};
+    ghost use Rattle.cedar_names.specs.Names.{uid_name};
+    ghost use Rattle.cedar_data.specs.Residuals.{partial_view};
     ghost use Rattle.cedar_layers.specs.Parts.{is_restricted_part};
     ghost use Rattle.cedar_layers.specs.Stores.{entity_name, entity_view};
 
@@ -130,8 +131,8 @@ impl Entities {
     ghost use Rattle.std.specs.Rc.{rc_str_bytes};
     ghost use Rattle.cedar_model.specs.Terms.{unknown};
     ghost use Rattle.cedar_model.specs.Settings.{look_up, missing_entity};
-    ghost use Rattle.cedar_expressions.specs.Names.{uid_name};
-    ghost use Rattle.cedar_expressions.specs.Leaves.{type_view};
+    ghost use Rattle.cedar_names.specs.Names.{uid_name};
+    ghost use Rattle.cedar_names.specs.Leaves.{type_view};
     ghost use Rattle.cedar_layers.specs.Stores.{entity_name, entity_view, held, no_entities, with_entity, with_entities, store_view, found_view, AsksFor};
 
     /// The concrete store without entities. It takes no memory.

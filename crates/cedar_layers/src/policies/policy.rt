@@ -3,7 +3,8 @@
 ghost use Rattle.std.specs.Prelude.{◌≡◌, Some};
 ghost use Rattle.std.specs.Rc.{rc_str_bytes};
 
-use cedar_expressions::{Expr, Literal, Loc, SlotEnv};
+use cedar_expressions::Expr;
+use cedar_names::{Literal, Loc, SlotEnv};
 use std::alloc::{AllocError, Global};
 use std::collections::BTreeMap;
 use std::fmt;

@@ -3,10 +3,9 @@
 use super::{
     Annotations, Dereference, Effect, Entities, Entity, Policy, PolicyID, PolicySet, PolicySetError,
 };
-use cedar_expressions::{
-    EntityType, EntityUID, Expr, ExprKind, Literal, Loc, Name, PartialValue, SlotEnv, SlotId, Type,
-    Value, ValueKind, Var,
-};
+use cedar_data::{PartialValue, Value, ValueKind};
+use cedar_expressions::{Expr, ExprKind};
+use cedar_names::{EntityType, EntityUID, Literal, Loc, Name, SlotEnv, SlotId, Type, Var};
 use std::alloc::{AllocError, Global};
 use std::collections::{BTreeMap, HashSet};
 use std::rc::{Rc, RcStr};

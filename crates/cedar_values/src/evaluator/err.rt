@@ -1,6 +1,6 @@
 //! Why an evaluation failed.
 use crate::extensions::ExtensionFunctionLookupError;
-use cedar_expressions::Loc;
+use cedar_names::Loc;
 use evaluation_errors::{
     EntityAttrDoesNotExistError, EntityDoesNotExistError, ExtensionFunctionExecutionError,
     IntegerOverflowError, NonValueError, RecordAttrDoesNotExistError, RecursionLimitError,

@@ -1,5 +1,5 @@
 use Rattle.std.proofs.Common.{fold, drop, ◌+◌, ap, sym, ◌∙◌}
-use Rattle.cedar_expressions.specs.Hashing.{fed_term, fed_terms}
+use Rattle.cedar_names.specs.Hashing.{fed_term, fed_terms}
 use Rattle.cedar_expressions.specs.View.{view, terms_view}
 use Rattle.cedar_expressions.proofs.Hashing.{fed_step, fed_end}
 use Rattle.cedar_expressions.proofs.expr.+feed.Goals as goal

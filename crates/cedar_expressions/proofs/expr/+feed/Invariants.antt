@@ -1,5 +1,5 @@
 use Rattle.std.proofs.Common.{◌≡◌, drop, fold}
-use Rattle.cedar_expressions.specs.Hashing.{fed_terms, fed_fields}
+use Rattle.cedar_names.specs.Hashing.{fed_terms, fed_fields}
 use Rattle.cedar_expressions.specs.View.{terms_view, fields_view}
 use Rattle.cedar_expressions.proofs.expr.+feed.Given as goal
 

@@ -1,6 +1,6 @@
 use Rattle.std.proofs.Common.{◌≡◌, drop}
 use Rattle.std.specs.Slice.Iter.{iter_rest}
-use Rattle.cedar_expressions.specs.Equality.{terms_eq, fields_eq}
+use Rattle.cedar_names.specs.Equality.{terms_eq, fields_eq}
 use Rattle.cedar_expressions.specs.View.{terms_view, fields_view}
 use Rattle.cedar_expressions.proofs.expr.+same.Given as goal
 

@@ -1,5 +1,5 @@
 use Rattle.cedar_expressions.specs.View.{view, kind_view}
-use Rattle.cedar_expressions.specs.EqualityLaws.{term_eq-decides}
+use Rattle.cedar_names.specs.EqualityLaws.{term_eq-decides}
 use Rattle.cedar_expressions.proofs.laws.expressions_are_equal_by_term.Goals as goal
 
 pub returns-clause-expressions : goal.returns-clause-expressions

@@ -1,7 +1,7 @@
 //! The errors of evaluation, one struct for each.
-use cedar_expressions::{
-    BinaryOp, EntityUID, Expr, FirstRest, Loc, Name, SlotId, Type, UnaryOp, Value,
-};
+use cedar_data::Value;
+use cedar_expressions::Expr;
+use cedar_names::{BinaryOp, EntityUID, FirstRest, Loc, Name, SlotId, Type, UnaryOp};
 use std::fmt;
 use std::rc::{Rc, RcStr};
 use thiserror::Error;

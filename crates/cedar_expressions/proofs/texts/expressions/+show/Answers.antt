@@ -2,7 +2,7 @@ use Rattle.std.proofs.Common.{◌≡◌, true, false, [], ◌∷◌, ap, sym, �
 use Rattle.std.proofs.lemmas.Grind.{common_steps}
 use Rattle.std.proofs.Output.{has_written_append, has_written_of_eq, writes_in_calls_nil}
 use Rattle.cedar_expressions.specs.View.{fields_view}
-use Rattle.cedar_expressions.specs.Texts.{is_spent}
+use Rattle.cedar_names.specs.Texts.{is_spent}
 use Rattle.cedar_expressions.proofs.Loops.{parts_left, parts_end, fields_left, fields_end, terms_view-drop}
 use Rattle.cedar_expressions.proofs.texts.expressions.+show.Goals as goal
 

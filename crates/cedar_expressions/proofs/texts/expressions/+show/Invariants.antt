@@ -2,7 +2,7 @@ use Rattle.std.proofs.Common.{◌≡◌, ℕ, ◌+◌, ◌*◌, max, true, List,
 use Rattle.std.specs.Fmt.{HasWritten, IsPlainFormatter}
 use Rattle.cedar_expressions.specs.declared.expr.Expr.{size-Expr}
 use Rattle.cedar_expressions.specs.View.{terms_view, fields_view}
-use Rattle.cedar_expressions.specs.Texts.{shown_parts, shown_fields}
+use Rattle.cedar_names.specs.Texts.{shown_parts, shown_fields}
 use Rattle.cedar_expressions.proofs.texts.expressions.+show.Given as goal
 
 -- what is written so far and what is left are the whole text

@@ -2,8 +2,8 @@ use Rattle.std.proofs.Common.{◌≡◌, ap, ◌∙◌, Some, option_map}
 use Rattle.std.specs.Rc.{rc_str_bytes}
 use Rattle.cedar_model.specs.Terms.{Text, entity_type, unknown}
 use Rattle.cedar_model.specs.Settings.{printed_entity}
-use Rattle.cedar_expressions.specs.Names.{uid_name}
-use Rattle.cedar_expressions.specs.Leaves.{type_view}
+use Rattle.cedar_names.specs.Names.{uid_name}
+use Rattle.cedar_names.specs.Leaves.{type_view}
 use Rattle.cedar_layers.proofs.Stores.{entity_text-printed}
 use Rattle.cedar_layers.proofs.policies.entities.Entities.missing.Goals as goal
 

@@ -1,6 +1,6 @@
 use Rattle.std.proofs.Common.{◌≡◌, ap, ◌∙◌, rules}
 use Rattle.cedar_model.specs.Terms.{EntityName}
-use Rattle.cedar_expressions.specs.Names.{uid_name}
+use Rattle.cedar_names.specs.Names.{uid_name}
 use Rattle.cedar_layers.specs.Stores.{entity_view, held, with_entity}
 use Rattle.cedar_layers.proofs.Stores.{held-put}
 use Rattle.cedar_layers.proofs.policies.entities.Entities.put.Goals as goal

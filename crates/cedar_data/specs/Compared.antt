@@ -1,0 +1,40 @@
+-- How lists of values compare, part by part.
+use Rattle.std.specs.Prelude.{Bool, List, [], ◌∷◌}
+use Rattle.std.specs.Rc.{rc_str_bytes}
+use Rattle.std.specs.declared.alloc.Global.{Global}
+use Rattle.std.specs.declared.rc.RcStr.{RcStr}
+use Rattle.std.specs.declared.cmp.Ordering.{Ordering}
+use Rattle.std.specs.declared.cmp.Ordering.TheVariants.{Less, Equal, Greater}
+use Rattle.std.specs.Ordering.{ordering_then, nat_cmp, is_eq}
+use Rattle.std.specs.Cmp.{IsTotalOrder, IsEquivalence}
+use Rattle.std.proofs.lemmas.Cmp.{on_total, on_equiv}
+use Rattle.std.specs.Cmp.Lexicographic.{slice_cmp}
+use Rattle.cedar_model.specs.Values.{Represented, abstract_value}
+use Rattle.cedar_model.specs.Keys.{value_cmp, value_cmp-total, value_eq-equivalence}
+use Rattle.cedar_data.specs.Sound.{Placed}
+
+-- the order of values, representations aside
+abbrev pub represented_cmp : Represented → Represented → Ordering
+represented_cmp v w = value_cmp (abstract_value v) (abstract_value w)
+
+-- their equality
+abbrev pub represented_eq : Represented → Represented → Bool
+represented_eq v w = is_eq (represented_cmp v w)
+
+pub represented_cmp-total : IsTotalOrder represented_cmp
+represented_cmp-total = on_total abstract_value value_cmp-total
+
+pub represented_eq-equivalence : IsEquivalence represented_eq
+represented_eq-equivalence = on_equiv abstract_value value_eq-equivalence
+
+-- lists of values: the first two that differ decide
+abbrev pub listed_cmp : List Placed → List Placed → Ordering
+listed_cmp = slice_cmp (λ p q. represented_cmp p.what q.what)
+
+-- values under their keys: keys and values in turn
+abbrev pub entries_cmp : List (RcStr Global × Placed) → List (RcStr Global × Placed) → Ordering
+entries_cmp [] [] = Equal
+entries_cmp [] (g ∷ gs) = Less
+entries_cmp (f ∷ fs) [] = Greater
+entries_cmp (f ∷ fs) (g ∷ gs) =
+    ordering_then (slice_cmp nat_cmp (rc_str_bytes f.0) (rc_str_bytes g.0)) (ordering_then (represented_cmp f.1.what g.1.what) (entries_cmp fs gs))

@@ -1,0 +1,125 @@
+//! What a partial evaluation gives: a value, or an expression that still holds an unknown.
+ghost use Rattle.std.specs.Prelude.{◌≡◌, true};
+ghost use Rattle.cedar_model.specs.Shapes.{has_unknown};
+ghost use Rattle.cedar_expressions.specs.View.{view};
+ghost use mathlib.Core.Bool.{Bool-set};
+
+mod texts;
+
+use crate::value::Value;
+use cedar_expressions::Expr;
+use cedar_names::Loc;
+use std::alloc::{AllocError, Global};
+
+/// An expression that holds at least one unknown.
+#[derive(Debug, Drop)]
+pub struct ResidualExpr {
+    expr: Expr,
+    ghost unknown: { has_unknown (view expr) ≡ true } by { Bool-set _ _ },
+}
+
+impl ResidualExpr {
+    ghost use Rattle.cedar_expressions.specs.View.{expr_loc};
+    ghost use Rattle.cedar_data.specs.Residuals.{residual_term, residual_loc};
+
+    /// The residual of an expression that holds an unknown.
+    pub fn new(expr: Expr) -> ResidualExpr
+        requires { has_unknown (view expr) ≡ true }
+        ensures view { residual_term result ≡ view expr }
+        ensures loc { residual_loc result ≡ expr_loc expr }
+    {
+        ResidualExpr { expr }
+    }
+
+    /// The expression.
+    pub fn as_expr(&self) -> &Expr
+        ensures view { view result.now ≡ residual_term self.now }
+        ensures loc { expr_loc result.now ≡ residual_loc self.now }
+        ensures unknown { has_unknown (view result.now) ≡ true }
+    {
+        &self.expr
+    }
+
+    /// The expression.
+    pub fn into_expr(self) -> Expr
+        ensures view { view result ≡ residual_term self }
+        ensures loc { expr_loc result ≡ residual_loc self }
+        ensures unknown { has_unknown (view result) ≡ true }
+    {
+        self.expr
+    }
+
+    /// The same residual at this place, or at no known place.
+    pub fn with_maybe_source_loc(self, loc: Option<Loc>) -> ResidualExpr
+        ensures view { residual_term result ≡ residual_term self }
+        ensures loc { residual_loc result ≡ loc }
+    {
+        ResidualExpr {
+            expr: self.expr.with_maybe_source_loc(loc),
+        }
+    }
+}
+
+impl Clone for ResidualExpr {
+    ghost use Rattle.cedar_data.specs.Residuals.{residual_term, residual_loc};
+
+    ghost is_clone = { λ r copy. (residual_term copy ≡ residual_term r) × (residual_loc copy ≡ residual_loc r) };
+
+    fn clone(&self) -> Result<ResidualExpr, AllocError> {
+        Ok(ResidualExpr {
+            expr: self.expr.clone()?,
+        })
+    }
+}
+
+/// A value, or an expression that still holds an unknown.
+#[derive(Debug, Drop)]
+pub enum PartialValue {
+    /// A value.
+    Value(Value),
+    /// An expression that holds an unknown.
+    Residual(ResidualExpr),
+}
+
+impl PartialValue {
+    ghost use Rattle.std.specs.Prelude.{IfOk};
+    ghost use Rattle.cedar_expressions.specs.View.{expr_loc};
+    ghost use Rattle.cedar_data.specs.Residuals.{partial_view, partial_loc, partial_term};
+
+    /// The same value or residual at this place, or at no known place.
+    pub fn with_maybe_source_loc(self, loc: Option<Loc>) -> PartialValue
+        ensures view { partial_view result ≡ partial_view self }
+        ensures loc { partial_loc result ≡ loc }
+    {
+        match self {
+            PartialValue::Value(value) => PartialValue::Value(value.with_maybe_source_loc(loc)),
+            PartialValue::Residual(residual) => {
+                PartialValue::Residual(residual.with_maybe_source_loc(loc))
+            }
+        }
+    }
+
+    /// The expression of the value, or the residual, at its place. Refuses only for want of memory.
+    pub fn as_expr(&self, alloc: Global) -> Result<Expr, AllocError>
+        ensures view { IfOk result (λ e. view e ≡ partial_term (partial_view self.now)) }
+        ensures loc { IfOk result (λ e. expr_loc e ≡ partial_loc self.now) }
+    {
+        match self {
+            PartialValue::Value(value) => Ok(value.to_expr(alloc)?),
+            PartialValue::Residual(residual) => Ok(residual.as_expr().clone()?),
+        }
+    }
+}
+
+impl Clone for PartialValue {
+    ghost use Rattle.cedar_data.specs.Residuals.{partial_view, partial_loc};
+
+    ghost is_clone = { λ p copy. (partial_view copy ≡ partial_view p) × (partial_loc copy ≡ partial_loc p) };
+
+    fn clone(&self) -> Result<PartialValue, AllocError> {
+        match self {
+            PartialValue::Value(value) => Ok(PartialValue::Value(value.clone()?)),
+            PartialValue::Residual(residual) => Ok(PartialValue::Residual(residual.clone()?)),
+        }
+    }
+}

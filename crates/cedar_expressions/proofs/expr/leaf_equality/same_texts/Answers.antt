@@ -1,6 +1,0 @@
-use Rattle.std.proofs.Common.{◌∙◌}
-use Rattle.cedar_expressions.proofs.Derived.{texts_equal}
-use Rattle.cedar_expressions.proofs.expr.leaf_equality.same_texts.Goals as goal
-
-pub returns : goal.returns
-returns c = c.eq.ensures ∙ texts_equal c.args.texts.now.items c.args.other.now.items

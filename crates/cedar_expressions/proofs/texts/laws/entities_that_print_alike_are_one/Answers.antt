@@ -1,5 +1,0 @@
-use Rattle.cedar_expressions.proofs.Injective.{entity_text-injective}
-use Rattle.cedar_expressions.proofs.texts.laws.entities_that_print_alike_are_one.Goals as goal
-
-pub returns : goal.returns
-returns c = entity_text-injective

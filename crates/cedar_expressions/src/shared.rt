@@ -1,0 +1,2 @@
+//! What the crates above share with this one, and their users need not know.
+pub use crate::texts::expressions::show_call;

@@ -1,0 +1,116 @@
+//! Names: of entity types, of entities, of functions, of slots and of the request's variables.
+ghost use Rattle.std.specs.Prelude.{◌≡◌, IfSome, is_some, option_copied};
+ghost use Rattle.std.specs.Rc.{rc_str_bytes};
+ghost use Rattle.cedar_names.specs.Names.{name_text, name_loc, type_text, uid_name, uid_loc};
+
+mod parts;
+mod texts;
+
+use std::collections::HashMap;
+use std::rc::RcStr;
+
+/// A place in a source text: from the byte `start` up to, but not including, the byte `end`.
+#[derive(Clone, Copy, Debug, PartialEq, Eq, Hash)]
+pub struct Loc {
+    pub start: usize,
+    pub end: usize,
+}
+
+/// A name: of a function, of an extension type or of an entity type. Equality and hash ignore its location.
+#[derive(Clone, Debug, Drop)]
+#[derive_where(PartialEq, Eq, Hash)]
+pub struct Name {
+    text: RcStr,
+    #[derive_where(skip(EqHashOrd))]
+    loc: Option<Loc>,
+}
+
+impl Name {
+    /// The name of this text, unchecked, at this place.
+    pub fn new(text: RcStr, loc: Option<Loc>) -> Name
+        ensures text { name_text result ≡ rc_str_bytes text }
+        ensures loc { name_loc result ≡ loc }
+    {
+        Name { text, loc }
+    }
+
+    /// Where the name stands in its source, if that is known.
+    pub fn loc(&self) -> Option<&Loc>
+        ensures { option_copied result ≡ name_loc self.now }
+    {
+        self.loc.as_ref()
+    }
+}
+
+/// The name of an entity type.
+#[derive(Clone, Debug, PartialEq, Eq, Hash, Drop)]
+pub struct EntityType(Name);
+
+impl EntityType {
+    /// The entity type of this name.
+    pub fn new(name: Name) -> EntityType
+        ensures { type_text result ≡ name_text name }
+    {
+        EntityType(name)
+    }
+}
+
+/// The name of an entity: its type and its id. Equality and hash ignore its location.
+#[derive(Clone, Debug, Drop)]
+#[derive_where(PartialEq, Eq, Hash)]
+pub struct EntityUID {
+    ty: EntityType,
+    eid: RcStr,
+    #[derive_where(skip(EqHashOrd))]
+    loc: Option<Loc>,
+}
+
+impl EntityUID {
+    /// The entity of this type with this id, named at this place.
+    pub fn new(ty: EntityType, eid: RcStr, loc: Option<Loc>) -> EntityUID
+        ensures name { uid_name result ≡ record { type_name = type_text ty; id = rc_str_bytes eid } }
+        ensures loc { uid_loc result ≡ loc }
+    {
+        EntityUID { ty, eid, loc }
+    }
+
+    /// The type of the entity.
+    pub fn entity_type(&self) -> &EntityType
+        ensures { type_text result.now ≡ (uid_name self.now).type_name }
+    {
+        &self.ty
+    }
+
+    /// Where the entity is named in its source, if that is known.
+    pub fn loc(&self) -> Option<&Loc>
+        ensures { option_copied result ≡ uid_loc self.now }
+    {
+        self.loc.as_ref()
+    }
+}
+
+/// A slot of a template.
+#[derive(Clone, Copy, Debug, PartialEq, Eq, Hash)]
+pub enum SlotId {
+    Principal,
+    Resource,
+}
+
+/// The entities that fill the slots of a linked policy.
+pub type SlotEnv = HashMap<SlotId, EntityUID>;
+
+/// A variable of the request.
+#[derive(Clone, Copy, Debug, PartialEq, Eq, Hash)]
+pub enum Var {
+    Principal,
+    Action,
+    Resource,
+    Context,
+}
+
+/// How a function is written at a call: `f(x)` or `x.f()`.
+#[derive(Clone, Copy, Debug, PartialEq, Eq, Hash)]
+pub enum CallStyle {
+    FunctionStyle,
+    MethodStyle,
+}
