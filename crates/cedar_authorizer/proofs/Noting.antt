@@ -1,5 +1,5 @@
 -- A sheet that is filled policy by policy.
-use Rattle.std.specs.Prelude.{◌≡◌, ◌≢◌, Bool, true, false, cond, not, ◌||◌, ◌&&◌, List, [], ◌∷◌, ◌++◌, Result, Ok, Err}
+use Rattle.std.specs.Prelude.{◌≡◌, ◌≢◌, Bool, true, false, cond, not, ◌||◌, ◌&&◌, List, [], ◌∷◌, ◌++◌, Result, Ok, Err, OnOk}
 use Rattle.std.proofs.Common.{refl, sym, ap, ◌∙◌, subst, append_assoc}
 use Rattle.std.proofs.lemmas.List.{append-nil}
 use Rattle.std.proofs.lemmas.List.Sorted.{list_any-IsPermutation}
@@ -145,3 +145,20 @@ judged_more May all old new p rest left e (done, (js, j, h), same) (a, m, n) =
 pub judged_all : (May : Policy → Answer → Type 0) (all : List Policy) (s : Sheet) (left : List Policy) → left ≡ [] → IsJudgedSoFar May all s left → IsJudged May all s
 judged_all May all s left e (done, j, same) =
     subst (λ (l : List Policy). IsJudged May l s) (sym (same ∙ ap (λ (l : List Policy). done ++ l) e ∙ append-nil done)) j
+
+pub reflects_none : (s : Sheet) → s.satisfied_permits.keys ≡ [] → s.satisfied_forbids.keys ≡ [] → Reflects [] s
+unfolding satisfied_ids has_text
+reflects_none s p f = record {
+  permits = λ t. ap (λ (ks : List PolicyID). list_any (λ (i : PolicyID). text_eq t (policy_id_text i)) ks) p;
+  forbids = λ t. ap (λ (ks : List PolicyID). list_any (λ (i : PolicyID). text_eq t (policy_id_text i)) ks) f;
+}
+
+-- ---- where a call succeeds
+
+pub on_ok : {A E : Type 0} (P Q : Type 0) (r : Result A E) → (P → Q) → OnOk r P → OnOk r Q
+on_ok P Q (Ok x) f h = f h
+on_ok P Q (Err e) f h = tt
+
+pub on_ok_both : {A E : Type 0} (P Q R : Type 0) (r : Result A E) → (P → Q → R) → OnOk r P → OnOk r Q → OnOk r R
+on_ok_both P Q R (Ok x) f h g = f h g
+on_ok_both P Q R (Err e) f h g = tt

@@ -15,7 +15,7 @@ use Rattle.cedar_model.specs.Authorizations.{IsExact, IsExactDecision, decided}
 use Rattle.cedar_model.proofs.Exactly.{answer_exact, decision_exact}
 use Rattle.cedar_evaluator.specs.Treated.{NoCalls, is_equality, is_context, is_treated, TreatedRule, TreatedRuns, IsTreatedThroughout, IsKnownExactly, IsDecidedExactly}
 
-IsNoResidual : Answer → Type 0
+abbrev IsNoResidual : Answer → Type 0
 IsNoResidual (answers (value v)) = Unit {0}
 IsNoResidual (answers (residual r)) = ⊥
 IsNoResidual (fails e) = Unit {0}
@@ -41,14 +41,14 @@ module _ (May Can : MayAnswer) where
   attribute_after s (answers (residual q)) k a n r = absurd n
 
 context_is_value : (c : ContextPart) → IsKnownContext c → IsNoResidual (answers (context_value c))
-unfolding context_value IsNoResidual
+unfolding context_value
 context_is_value absent_context k = absurd k
 context_is_value (known_context fs) k = tt
 context_is_value (residual_context fs) k = absurd k
 
 module _ (s : Setting) (known : IsKnownContext s.request.context_part) where
   variable_answers : (v : Variable) (n : ℕ) (x : Answer) → is_context (variable v) ≡ true → TreatedRuns s n (variable v) x → IsNoResidual x
-  unfolding TreatedRuns variable_part IsNoResidual
+  unfolding TreatedRuns variable_part
   variable_answers principal n x h r = absurd (cc)
   variable_answers action n x h r = absurd (cc)
   variable_answers resource n x h r = absurd (cc)

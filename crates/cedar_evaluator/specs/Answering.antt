@@ -5,7 +5,7 @@ use Rattle.cedar_model.specs.Values.{RepresentedFields}
 use Rattle.cedar_model.specs.Failures.{Failure, out_of_memory, Answer, fails, answers_value}
 use Rattle.cedar_model.specs.Operators.{value_or_failure, represented_at, key_is_missing, represented_names}
 use Rattle.cedar_model.specs.Authorizations.{decided}
-use Rattle.cedar_expressions.specs.Sound.{Placed}
+use Rattle.cedar_data.specs.Sound.{Placed}
 use Rattle.cedar_values.specs.declared.evaluator.err.EvaluationError.{EvaluationError}
 use Rattle.cedar_values.specs.Failures.{failure_of}
 

@@ -2,7 +2,7 @@
 use Rattle.std.specs.Prelude.{ℕ, None, []}
 use Rattle.cedar_model.specs.World.{Slots, Extensions}
 use Rattle.cedar_model.specs.Settings.{RequestPart, Store, Setting, known_context}
-use Rattle.cedar_expressions.specs.Sound.{whats_at}
+use Rattle.cedar_data.specs.Sound.{whats_at}
 use Rattle.cedar_layers.specs.Stores.{store_view}
 use Rattle.cedar_evaluator.specs.declared.evaluator.Evaluator.{Evaluator}
 use Rattle.cedar_evaluator.specs.Requests.{entry_view}

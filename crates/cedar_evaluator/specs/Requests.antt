@@ -2,10 +2,10 @@
 use Rattle.std.specs.Prelude.{Option}
 use Rattle.cedar_model.specs.Values.{RepresentedFields}
 use Rattle.cedar_model.specs.Settings.{Entry, known_entry, known_context, RequestPart}
-use Rattle.cedar_expressions.specs.declared.names.EntityUID.{EntityUID}
-use Rattle.cedar_expressions.specs.declared.names.Loc.{Loc}
-use Rattle.cedar_expressions.specs.Names.{uid_name}
-use Rattle.cedar_expressions.specs.Sound.{Placed, whats_at}
+use Rattle.cedar_names.specs.declared.names.EntityUID.{EntityUID}
+use Rattle.cedar_names.specs.declared.names.Loc.{Loc}
+use Rattle.cedar_names.specs.Names.{uid_name}
+use Rattle.cedar_data.specs.Sound.{Placed, whats_at}
 use Rattle.std.specs.declared.alloc.Global.{Global}
 use Rattle.std.specs.declared.rc.RcStr.{RcStr}
 use Rattle.std.specs.declared.collections.BTreeMap.{BTreeMap}

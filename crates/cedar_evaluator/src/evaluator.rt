@@ -10,9 +10,9 @@ ghost use Rattle.cedar_model.specs.Failures.{answers, answers_value, wrong_type,
 ghost use Rattle.cedar_model.specs.Settings.{variable_part};
 ghost use Rattle.cedar_model.specs.Operators.{key_is_missing, represented_names, shown_names};
 ghost use Rattle.cedar_model.specs.Rules.{Meets, AndLeft, bool_or_failure};
-ghost use Rattle.cedar_expressions.specs.Leaves.{literal_view, type_view, variable_view, texts_view};
+ghost use Rattle.cedar_names.specs.Leaves.{literal_view, type_view, variable_view, texts_view};
 ghost use Rattle.cedar_expressions.specs.View.{view, expr_loc};
-ghost use Rattle.cedar_expressions.specs.Sound.{whats_at};
+ghost use Rattle.cedar_data.specs.Sound.{whats_at};
 ghost use Rattle.cedar_layers.specs.Policies.{slots_view};
 ghost use Rattle.cedar_values.specs.Failures.{failure_of};
 ghost use Rattle.cedar_evaluator.specs.Treated as Treated;

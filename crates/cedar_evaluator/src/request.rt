@@ -16,7 +16,7 @@ pub enum EntityUIDEntry {
 impl EntityUIDEntry {
     ghost use Rattle.cedar_model.specs.Terms.{entity_literal};
     ghost use Rattle.cedar_model.specs.Values.{plain_represented};
-    ghost use Rattle.cedar_expressions.specs.Names.{uid_name};
+    ghost use Rattle.cedar_names.specs.Names.{uid_name};
     ghost use Rattle.cedar_evaluator.specs.declared.request.EntityUIDEntry.TheVariants.{Known};
     ghost use Rattle.cedar_evaluator.specs.Requests.{entry_uid, entry_loc};
 
@@ -59,7 +59,7 @@ pub struct Context {
 impl Context {
     ghost use Rattle.std.specs.BTreeMap.{btree_map_len};
     ghost use Rattle.cedar_model.specs.Values.{no_represented_at};
-    ghost use Rattle.cedar_expressions.specs.Sound.{whats_at};
+    ghost use Rattle.cedar_data.specs.Sound.{whats_at};
     ghost use Rattle.cedar_evaluator.specs.Requests.{context_map, context_fields};
 
     /// The context with no attribute. It takes no memory.
@@ -104,7 +104,7 @@ pub struct Request {
 
 impl Request {
     ghost use Rattle.cedar_model.specs.Settings.{known_entry, known_context};
-    ghost use Rattle.cedar_expressions.specs.Names.{uid_name};
+    ghost use Rattle.cedar_names.specs.Names.{uid_name};
     ghost use Rattle.cedar_evaluator.specs.Requests.{context_fields, entry_view, request_view};
 
     /// The request of these entities, each named at its place, in this context.

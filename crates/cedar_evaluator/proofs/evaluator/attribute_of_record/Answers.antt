@@ -1,6 +1,6 @@
 use Rattle.std.proofs.Common.{◌∙◌, sym, ap, refl}
 use Rattle.cedar_model.specs.Failures.{answers_value, fails}
-use Rattle.cedar_expressions.specs.Sound.{Placed}
+use Rattle.cedar_data.specs.Sound.{Placed}
 use Rattle.cedar_evaluator.proofs.Keys.{found_value, missing_value}
 use Rattle.cedar_evaluator.proofs.evaluator.attribute_of_record.Goals as goal
 

@@ -1,8 +1,8 @@
 use Rattle.std.proofs.Common.{◌≡◌, ◌≤◌, ◌++◌, map, vec_len}
 use Rattle.std.specs.Rc.{rc_str_bytes}
 use Rattle.cedar_model.specs.Operators.{represented_names}
-use Rattle.cedar_expressions.specs.Leaves.{texts_view}
-use Rattle.cedar_expressions.specs.Sound.{whats_at}
+use Rattle.cedar_names.specs.Leaves.{texts_view}
+use Rattle.cedar_data.specs.Sound.{whats_at}
 use Rattle.cedar_evaluator.proofs.evaluator.first_keys.Given as goal
 
 abbrev pub invariant-keys : goal.invariant-keys

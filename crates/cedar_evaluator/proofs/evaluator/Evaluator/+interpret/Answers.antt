@@ -2,7 +2,7 @@ use Rattle.cedar_layers.specs.Policies.{slots_view}
 use Rattle.std.proofs.Common.{◌≡◌, Some, rules, arith, ◌∙◌, sym, ap, refl, subst}
 use Rattle.cedar_model.specs.Terms.{variable}
 use Rattle.cedar_model.specs.Failures.{fails, answers_value, answers_bool}
-use Rattle.cedar_expressions.specs.Leaves.{variable_view}
+use Rattle.cedar_names.specs.Leaves.{variable_view}
 use Rattle.cedar_expressions.specs.View.{view, kind_view}
 use Rattle.cedar_expressions.proofs.Levels.{kind_view-Var}
 use Rattle.cedar_evaluator.specs.Treated.{TreatedRule}
