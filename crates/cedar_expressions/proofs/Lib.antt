@@ -5,3 +5,4 @@ pub mod Unlike
 pub mod Walks
 pub mod Hashing
 pub mod Records
+pub mod Substitution

@@ -8,6 +8,7 @@ mod hashing;
 mod made;
 mod record;
 mod shape;
+mod substitution;
 
 use cedar_names::{
     BinaryOp, EntityType, FirstRest, Literal, Loc, Name, Pattern, SlotId, UnaryOp, Unknown, Var,
@@ -15,6 +16,7 @@ use cedar_names::{
 use std::alloc::{AllocError, Global};
 use std::collections::BTreeMap;
 use std::rc::{Rc, RcStr};
+pub use substitution::AsExpression;
 
 /// An expression: its kind with its parts, and where it stands in its source, if that is known.
 #[cycle(expr)]

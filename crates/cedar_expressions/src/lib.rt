@@ -8,4 +8,4 @@ pub mod shared;
 mod texts;
 
 pub use errors::ExpressionConstructionError;
-pub use expr::{Expr, ExprKind};
+pub use expr::{AsExpression, Expr, ExprKind};
