@@ -57,7 +57,7 @@ part_view Wildcard = wildcard
 
 -- the parts of a pattern
 abbrev pub pattern_view : Pattern → List PatternPart
-pattern_view p = map part_view p.elems.value.items
+pattern_view p = map part_view p.elems.items
 
 abbrev pub type_view : RType → ValueType
 type_view types.Bool = bool_type

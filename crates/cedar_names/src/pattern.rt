@@ -4,7 +4,7 @@ ghost use Rattle.std.specs.Prelude.{◌≡◌};
 mod matching;
 pub(crate) mod texts;
 
-use std::rc::Rc;
+use std::alloc::AllocError;
 
 /// A part of a pattern: a character that stands for itself, or any run of characters.
 #[derive(Clone, Copy, Debug, PartialEq, Eq, Hash)]
@@ -14,7 +14,19 @@ pub enum PatternElem {
 }
 
 /// A pattern of `like`: its parts in order.
-#[derive(Clone, Debug, PartialEq, Eq, Hash, Drop)]
+#[derive(Debug, PartialEq, Eq, Hash, Drop)]
 pub struct Pattern {
-    elems: Rc<Vec<PatternElem>>,
+    elems: Vec<PatternElem>,
+}
+
+impl Clone for Pattern {
+    ghost use Rattle.cedar_names.specs.Leaves.{pattern_view};
+
+    ghost is_clone = { λ p copy. pattern_view copy ≡ pattern_view p };
+
+    fn clone(&self) -> Result<Pattern, AllocError> {
+        Ok(Pattern {
+            elems: self.elems.clone()?,
+        })
+    }
 }

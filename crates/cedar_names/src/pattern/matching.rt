@@ -1,21 +1,18 @@
 //! Whether a text matches a pattern.
-ghost use Rattle.std.specs.Prelude.{◌≡◌, [], ◌∷◌, MatchOption, IfOk, map};
+ghost use Rattle.std.specs.Prelude.{◌≡◌, [], ◌∷◌, MatchOption, map};
 ghost use Rattle.std.specs.Str.{chars};
 ghost use Rattle.cedar_names.specs.Leaves.{part_view, pattern_view};
 ghost use Rattle.cedar_names.specs.Patterns.{matches};
 ghost use Rattle.cedar_names.specs.Looks.{LooksAt};
 
 use super::{Pattern, PatternElem};
-use std::alloc::{AllocError, Global};
-use std::rc::Rc;
 
 impl Pattern {
-    /// The pattern of these parts, in this order. Refuses only for want of memory.
-    pub fn new(alloc: Global, elems: Vec<PatternElem>) -> Result<Pattern, AllocError>
-        ensures { IfOk result (λ p. pattern_view p ≡ map part_view elems.items) }
+    /// The pattern of these parts, in this order. It takes no memory.
+    pub fn new(elems: Vec<PatternElem>) -> Pattern
+        ensures { pattern_view result ≡ map part_view elems.items }
     {
-        let elems = Rc::new(alloc, elems)?;
-        Ok(Pattern { elems })
+        Pattern { elems }
     }
 
     /// The parts of the pattern, in order.

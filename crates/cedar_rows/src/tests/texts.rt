@@ -214,7 +214,7 @@ fn patterns(rt: HostRuntime) -> Result<(), Fail> {
         PatternElem::Char('\\'),
         PatternElem::Char('é'),
     ]?;
-    let pattern = Pattern::new(alloc, elems)?;
+    let pattern = Pattern::new(elems);
     let like = Expr::like(alloc, principal(), pattern)?;
     shows(&rt, alloc, &like, "principal like \"p*\\*\\\"\\\\é\"")?;
     Ok(())

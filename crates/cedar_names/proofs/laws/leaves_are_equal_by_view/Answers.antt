@@ -20,4 +20,4 @@ returns-clause-unknowns c =
 
 pub returns-clause-patterns : goal.returns-clause-patterns
 returns-clause-patterns c =
-    λ a b. Decides-at _ _ (patterns_equal a.elems.value.items b.elems.value.items) (pattern_eq-decides (pattern_view a) (pattern_view b))
+    λ a b. Decides-at _ _ (patterns_equal a.elems.items b.elems.items) (pattern_eq-decides (pattern_view a) (pattern_view b))
