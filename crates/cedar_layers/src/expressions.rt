@@ -2,7 +2,7 @@
 pub use cedar_data::{
     ExtensionValue, PartialValue, Representation, ResidualExpr, Set, Value, ValueKind,
 };
-pub use cedar_expressions::{Expr, ExprKind, ExpressionConstructionError};
+pub use cedar_expressions::{AsExpression, Expr, ExprKind, ExpressionConstructionError};
 pub use cedar_names::{
     BinaryOp, BoundedDisplay, CallStyle, EntityType, EntityUID, FirstRest, Literal, Loc, Name,
     Pattern, PatternElem, SlotEnv, SlotId, Type, UnaryOp, Unknown, Var,

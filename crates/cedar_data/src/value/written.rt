@@ -9,7 +9,7 @@ ghost use Rattle.cedar_data.specs.Representations.{extension_what};
 
 use super::{Set, Value, ValueKind};
 use crate::extension_value::ExtensionValue;
-use cedar_expressions::Expr;
+use cedar_expressions::{AsExpression, Expr};
 use std::alloc::{AllocError, Global};
 use std::collections::BTreeMap;
 use std::rc::RcStr;
@@ -21,6 +21,14 @@ impl Value {
         ensures loc { IfOk result (λ e. expr_loc e ≡ self.now.loc) }
     {
         expr_of(alloc, self)
+    }
+}
+
+impl AsExpression for Value {
+    ghost represents = { λ v. v.what };
+
+    fn as_expression(&self, alloc: Global) -> Result<Expr, AllocError> {
+        Ok(self.to_expr(alloc)?)
     }
 }
 
