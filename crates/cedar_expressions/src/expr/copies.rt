@@ -1,5 +1,5 @@
 #![tactic(auto, using(crate::proofs::Levels::levels))]
-//! Copies of expressions. The parts lie behind `Rc`, so a copy is a copy of one node.
+//! Copies of expressions. The parts lie behind `Rc`, so a copy is a copy of one node, and of the pattern that a `like` has.
 ghost use Rattle.std.specs.Prelude.{◌≡◌, IfOk};
 ghost use Rattle.cedar_expressions.specs.View.{view, kind_view, expr_loc};
 
