@@ -70,11 +70,11 @@ fn decide(alloc: Global, row: Row, extensions: &Extensions<'_>) -> Result<Respon
     authorizer.is_authorized(alloc, request(alloc)?, &policies, &Entities::new(alloc))
 }
 
-// The rows have no id twice, so that only memory can be wanting.
+// No two policies of a row have one id, so only memory can be wanting.
 fn row_policies(alloc: Global, row: Row) -> Result<PolicySet, AllocError> {
     match PolicySet::try_from_iter(alloc, row.policies(alloc)?) {
         Ok(policies) => Ok(policies),
-        Err(PolicySetError::Occupied { id: _ }) => Err(AllocError),
+        Err(PolicySetError::Occupied { id: _ }) => unreachable!(),
         Err(PolicySetError::Memory(error)) => Err(error),
     }
 }

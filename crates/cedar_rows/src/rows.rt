@@ -1,4 +1,8 @@
 //! The built-in rows: their policies and requests.
+ghost use Rattle.std.specs.Prelude.{◌≡◌, None, IfOk};
+ghost use Rattle.cedar_layers.specs.Policies.{policy_view, first_repeated};
+ghost use Rattle.cedar_rows.specs.Ids.{ids_of, skipped_permit_ids, skipped_forbid_ids, forbidden_ids};
+
 use cedar_evaluator::request::{Context, Request};
 use cedar_layers::expressions::{
     BinaryOp, EntityType, EntityUID, Expr, Literal, Name, SlotEnv, Var,
@@ -34,19 +38,16 @@ impl Row {
         }
     }
 
-    /// The policies of the row, in order.
-    pub fn policies(self, alloc: Global) -> Result<Vec<Policy>, AllocError> {
-        let mut policies: Vec<Policy> = Vec::new(alloc);
+    /// The policies of the row, in order. No two have one id.
+    pub fn policies(self, alloc: Global) -> Result<Vec<Policy>, AllocError>
+        ensures { IfOk result (λ v. first_repeated (ids_of v.items) ≡ None) }
+    {
         match self {
-            Row::Empty => {}
-            Row::Skip2 => add_skipped_permit(alloc, &mut policies)?,
-            Row::Skip3 => add_skipped_forbid(alloc, &mut policies)?,
-            Row::Skip4 => {
-                add_skipped_forbid(alloc, &mut policies)?;
-                policies.push(always(alloc, Effect::Forbid, "4")?)?;
-            }
+            Row::Empty => Ok(Vec::new(alloc)),
+            Row::Skip2 => skipped_permit(alloc),
+            Row::Skip3 => skipped_forbid(alloc),
+            Row::Skip4 => forbidden(alloc),
         }
-        Ok(policies)
     }
 }
 
@@ -70,25 +71,42 @@ pub fn request(alloc: Global) -> Result<Request, AllocError> {
     ))
 }
 
-fn add_skipped_permit(alloc: Global, policies: &mut Vec<Policy>) -> Result<(), AllocError> {
+fn skipped_permit(alloc: Global) -> Result<Vec<Policy>, AllocError>
+    ensures { IfOk result (λ v. ids_of v.items ≡ skipped_permit_ids) }
+{
+    let mut policies: Vec<Policy> = Vec::new(alloc);
     policies.push(always(alloc, Effect::Permit, "1")?)?;
     policies.push(when_bad_is_two(alloc, Effect::Permit, "2")?)?;
-    Ok(())
+    Ok(policies)
 }
 
-fn add_skipped_forbid(alloc: Global, policies: &mut Vec<Policy>) -> Result<(), AllocError> {
-    add_skipped_permit(alloc, policies)?;
+fn skipped_forbid(alloc: Global) -> Result<Vec<Policy>, AllocError>
+    ensures { IfOk result (λ v. ids_of v.items ≡ skipped_forbid_ids) }
+{
+    let mut policies = skipped_permit(alloc)?;
     policies.push(when_bad_is_two(alloc, Effect::Forbid, "3")?)?;
-    Ok(())
+    Ok(policies)
+}
+
+fn forbidden(alloc: Global) -> Result<Vec<Policy>, AllocError>
+    ensures { IfOk result (λ v. ids_of v.items ≡ forbidden_ids) }
+{
+    let mut policies = skipped_forbid(alloc)?;
+    policies.push(always(alloc, Effect::Forbid, "4")?)?;
+    Ok(policies)
 }
 
 // A policy that applies to all requests.
-fn always(alloc: Global, effect: Effect, id: &str) -> Result<Policy, AllocError> {
+fn always(alloc: Global, effect: Effect, id: &str) -> Result<Policy, AllocError>
+    ensures { IfOk result (λ p. (policy_view p).id ≡ id.now) }
+{
     policy(alloc, effect, id, Expr::val(Literal::Bool(true)))
 }
 
 // A policy that applies when `context.bad == 2`.
-fn when_bad_is_two(alloc: Global, effect: Effect, id: &str) -> Result<Policy, AllocError> {
+fn when_bad_is_two(alloc: Global, effect: Effect, id: &str) -> Result<Policy, AllocError>
+    ensures { IfOk result (λ p. (policy_view p).id ≡ id.now) }
+{
     let bad = RcStr::from_str(alloc, "bad")?;
     let bad = Expr::get_attr(alloc, Expr::var(Var::Context), bad)?;
     let two = Expr::val(Literal::Long(2));
@@ -101,7 +119,9 @@ fn when_bad_is_two(alloc: Global, effect: Effect, id: &str) -> Result<Policy, Al
 }
 
 // A policy with no constraint on its scope.
-fn policy(alloc: Global, effect: Effect, id: &str, when: Expr) -> Result<Policy, AllocError> {
+fn policy(alloc: Global, effect: Effect, id: &str, when: Expr) -> Result<Policy, AllocError>
+    ensures { IfOk result (λ p. (policy_view p).id ≡ id.now) }
+{
     Policy::new(
         alloc,
         effect,
