@@ -2,11 +2,11 @@
 //! Equality of what stands in an expression besides expressions: true exactly where both sides stand for the same.
 ghost use Rattle.std.specs.Prelude.{◌≡◌, option_map};
 ghost use Rattle.std.specs.Rc.{rc_str_bytes};
-ghost use Rattle.cedar_names.specs.Names.{name_text, type_text, uid_name};
+ghost use Rattle.cedar_names.specs.Names.{name_text, type_text};
 ghost use Rattle.cedar_names.specs.Leaves.{slot_view, variable_view, unary_view, binary_view, pattern_view, type_view, literal_view, texts_view};
-ghost use Rattle.cedar_names.specs.Equality.{text_eq, texts_eq, entity_eq, literal_eq, type_eq, annotation_eq, variable_eq, slot_eq, unary_eq, binary_eq, pattern_eq};
+ghost use Rattle.cedar_names.specs.Equality.{text_eq, texts_eq, literal_eq, annotation_eq, variable_eq, slot_eq, unary_eq, binary_eq, pattern_eq};
 
-use crate::names::{EntityType, EntityUID, Name, SlotId, Var};
+use crate::names::{EntityType, Name, SlotId, Var};
 use crate::operators::{BinaryOp, UnaryOp};
 use crate::pattern::Pattern;
 use crate::types::{Literal, Type};
@@ -28,12 +28,6 @@ pub fn same_type(ty: &EntityType, other: &EntityType) -> bool
     ensures { result ≡ text_eq (type_text ty.now) (type_text other.now) }
 {
     ty == other
-}
-
-pub fn same_entity(entity: &EntityUID, other: &EntityUID) -> bool
-    ensures { result ≡ entity_eq (uid_name entity.now) (uid_name other.now) }
-{
-    entity == other
 }
 
 pub fn same_literal(literal: &Literal, other: &Literal) -> bool
@@ -64,12 +58,6 @@ pub fn same_binary(op: BinaryOp, other: BinaryOp) -> bool
     ensures { result ≡ binary_eq (binary_view op) (binary_view other) }
 {
     op == other
-}
-
-pub fn same_value_type(ty: &Type, other: &Type) -> bool
-    ensures { result ≡ type_eq (type_view ty.now) (type_view other.now) }
-{
-    ty == other
 }
 
 pub fn same_annotation(annotation: &Option<Type>, other: &Option<Type>) -> bool

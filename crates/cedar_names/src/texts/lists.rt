@@ -1,5 +1,5 @@
 //! Lists of parts under a bound.
-ghost use Rattle.std.specs.Prelude.{◌≡◌, false, ◌++◌, codes};
+ghost use Rattle.std.specs.Prelude.{◌≡◌, ◌++◌, codes};
 ghost use Rattle.std.specs.Fmt.{WritesOnOk};
 ghost use Rattle.cedar_names.specs.Texts as text;
 
@@ -30,13 +30,12 @@ pub fn is_spent(bound: Option<usize>) -> bool
     }
 }
 
-/// The bound after one part.
+/// The bound after one part. A bound that leaves room for no part stays.
 pub fn one_less(bound: Option<usize>) -> Option<usize>
-    requires { text.is_spent bound ≡ false }
     ensures { result ≡ text.one_less bound }
 {
     match bound {
         None => None,
-        Some(n) => Some(n - 1),
+        Some(n) => Some(n.saturating_sub(1)),
     }
 }
