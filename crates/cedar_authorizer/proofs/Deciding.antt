@@ -1,12 +1,11 @@
 -- The response that a sheet makes, and when it is exact.
-use Rattle.std.specs.Prelude.{◌≡◌, ◌≢◌, ◌↔◌, ℕ, Bool, true, false, cond, not, ◌||◌, List, [], ◌∷◌, length, IsTrue}
+use Rattle.std.specs.Prelude.{◌≡◌, ◌↔◌, ℕ, Bool, true, false, cond, not, ◌||◌, List, [], ◌∷◌, length, IsTrue}
 use Rattle.std.proofs.Common.{refl, sym, ap, ◌∙◌, subst, arith}
 use Rattle.std.proofs.lemmas.Slice.Eq.{bytes_eq-Decides}
 use Rattle.std.specs.List.{list_any}
 use Rattle.cedar_model.specs.Terms.{Text, bool_literal}
-use Rattle.cedar_model.specs.Values.{AbstractValue, plain}
+use Rattle.cedar_model.specs.Values.{plain}
 use Rattle.cedar_model.specs.Outcomes.{text_eq, has_text}
-use Rattle.cedar_model.specs.World.{Functions}
 use Rattle.cedar_model.specs.Failures.{Failure, Answer}
 use Rattle.cedar_model.specs.Settings.{RequestPart, Store, Setting}
 use Rattle.cedar_model.specs.Agreement.{HasNothingUnknown}

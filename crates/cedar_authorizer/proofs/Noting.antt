@@ -9,8 +9,9 @@ use Rattle.std.specs.HashSet.{PutsKey, contains}
 use Rattle.cedar_model.specs.Terms.{Text}
 use Rattle.cedar_model.specs.Outcomes.{text_eq, has_text}
 use Rattle.cedar_model.specs.Failures.{Failure, out_of_memory, Answer}
-use Rattle.cedar_model.specs.Policies.{Policy, Effect, permit, forbid, Verdict, erring, Judged, is_satisfied_by, is_satisfied, satisfied_ids}
+use Rattle.cedar_model.specs.Policies.{Policy, Effect, permit, forbid, Judged, is_satisfied_by, is_satisfied, satisfied_ids}
 use Rattle.cedar_model.specs.Authorizations.{decided, bool_verdict, result_verdict, with_result, judged_by, JudgesEach}
+use Rattle.cedar_model.proofs.Decisions.{or_swap}
 use Rattle.cedar_layers.specs.contracts.policies.policy.PolicyIDPartialEq.TheImpl.{eq-value}
 use Rattle.cedar_layers.specs.declared.policies.policy.PolicyID.{PolicyID}
 use Rattle.cedar_layers.specs.Policies.{policy_id_text}
@@ -22,9 +23,6 @@ use Rattle.cedar_authorizer.specs.Responding.{PolicyIDs, has_id}
 use Rattle.cedar_authorizer.specs.Sheets.{sheet_errors, Notes, NotesAnswer, NotesError, Reflects, IsJudged}
 
 -- ---- ids
-
-any_id : Text → List PolicyID → Bool
-any_id t ks = list_any (λ (i : PolicyID). text_eq t (policy_id_text i)) ks
 
 already_there : (t : Text) (k : PolicyID) (ks : List PolicyID) (b : Bool) → text_eq t (policy_id_text k) ≡ b → list_any (eq-value.it k) ks ≡ true → list_any (λ (i : PolicyID). text_eq t (policy_id_text i)) ks ≡ (b || list_any (λ (i : PolicyID). text_eq t (policy_id_text i)) ks)
 already_there t k ks true e h =
@@ -91,26 +89,21 @@ erred_noted May old new id effect e d ok n =
 
 -- ---- one policy more
 
-or_swap : (p q r : Bool) → (p || (q || r)) ≡ (q || (p || r))
-or_swap true true r = refl
-or_swap true false r = refl
-or_swap false q r = refl
-
 one_id : (t id : Text) (b : Bool) → has_text t (cond b (id ∷ []) []) ≡ ((b && text_eq t id) || false)
 unfolding has_text
 one_id t id true = refl
 one_id t id false = refl
 
-one_id_more : (t id : Text) (b x y : Bool) (xs ys : List Text) → has_text t ys ≡ (x || has_text t xs) → has_text t (cond b (id ∷ ys) ys) ≡ (x || has_text t (cond b (id ∷ xs) xs))
+one_id_more : (t id : Text) (b x : Bool) (xs ys : List Text) → has_text t ys ≡ (x || has_text t xs) → has_text t (cond b (id ∷ ys) ys) ≡ (x || has_text t (cond b (id ∷ xs) xs))
 unfolding has_text
-one_id_more t id true x y xs ys h = ap (λ (z : Bool). text_eq t id || z) h ∙ or_swap (text_eq t id) x (has_text t xs)
-one_id_more t id false x y xs ys h = h
+one_id_more t id true x xs ys h = ap (λ (z : Bool). text_eq t id || z) h ∙ or_swap (text_eq t id) x (has_text t xs)
+one_id_more t id false x xs ys h = h
 
 ids_more : (e : Effect) (t : Text) (js : List Judged) (j : Judged) → has_text t (satisfied_ids e (js ++ j ∷ [])) ≡ ((is_satisfied e j && text_eq t j.id) || has_text t (satisfied_ids e js))
 unfolding satisfied_ids has_text
 ids_more e t [] j = one_id t j.id (is_satisfied e j)
 ids_more e t (k ∷ js) j =
-    one_id_more t k.id (is_satisfied e k) (is_satisfied e j && text_eq t j.id) true (satisfied_ids e js) (satisfied_ids e (js ++ j ∷ [])) (ids_more e t js j)
+    one_id_more t k.id (is_satisfied e k) (is_satisfied e j && text_eq t j.id) (satisfied_ids e js) (satisfied_ids e (js ++ j ∷ [])) (ids_more e t js j)
 
 reflects_more : (js : List Judged) (old new : Sheet) (p : Policy) (r : Result Bool Failure) → Reflects js old → Notes old new p.id p.effect r → Reflects (js ++ judged_by p r ∷ []) new
 reflects_more js old new p r h n = record {

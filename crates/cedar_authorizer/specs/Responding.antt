@@ -1,5 +1,5 @@
 -- Responses as plain data, and what an authorizer promises of them.
-use Rattle.std.specs.Prelude.{◌≡◌, ℕ, Bool, List, map, None}
+use Rattle.std.specs.Prelude.{ℕ, Bool, List, map}
 use Rattle.std.specs.List.{list_any}
 use Rattle.std.specs.declared.hash.BuildHasherDefault.{BuildHasherDefault}
 use Rattle.std.specs.declared.hash.FoldHasher.{FoldHasher}
@@ -13,14 +13,14 @@ use Rattle.cedar_model.specs.Settings.{RequestPart, Store, Setting}
 use Rattle.cedar_model.specs.Agreement.{no_slots, HasNothingUnknown, own_world}
 use Rattle.cedar_model.specs.Policies as model
 use Rattle.cedar_model.specs.Responses.{with_slots}
-use Rattle.cedar_model.specs.Authorizations.{Authorized, IsResponse, IsExactResponse, HaveNoLimit, HaveKnownConditions, AreNoHigher, Completes}
+use Rattle.cedar_model.specs.Authorizations.{Authorized, IsExactResponse, HaveNoLimit, HaveKnownConditions, AreNoHigher, Completes}
 use Rattle.cedar_layers.specs.declared.policies.policy.PolicyID.{PolicyID}
 use Rattle.cedar_layers.specs.declared.policies.policy_set.PolicySet.{PolicySet}
 use Rattle.cedar_layers.specs.Policies.{policy_id_text, decides_as}
 use Rattle.cedar_layers.specs.PolicySets.{policies_view}
 use Rattle.cedar_values.specs.Failures.{failure_of}
 use Rattle.cedar_evaluator.specs.Evaluations.{no_extensions, setting_for}
-use Rattle.cedar_evaluator.specs.Treated.{NoCalls, TreatedRuns, AreTreatedThroughout}
+use Rattle.cedar_evaluator.specs.Treated.{TreatedRuns, AreTreatedThroughout}
 use Rattle.cedar_authorizer.specs.declared.authorizer.Decision.{Decision}
 use Rattle.cedar_authorizer.specs.declared.authorizer.Decision.TheVariants as decisions
 use Rattle.cedar_authorizer.specs.declared.authorizer.Response.{Response}

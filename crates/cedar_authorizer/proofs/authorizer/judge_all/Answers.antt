@@ -1,7 +1,7 @@
 use Rattle.std.proofs.Common.{sym, ap, ◌∙◌, subst, map}
 use Rattle.cedar_layers.specs.Policies.{policy_view, condition_term, decides_as}
 use Rattle.cedar_layers.specs.PolicySets.{policies_left}
-use Rattle.cedar_evaluator.specs.Evaluations.{setting_of, limit_of}
+use Rattle.cedar_evaluator.specs.Evaluations.{setting_of}
 use Rattle.cedar_evaluator.specs.Treated.{TreatedRuns}
 use Rattle.cedar_authorizer.proofs.Noting.{judged_none, judged_more, judged_all}
 use Rattle.cedar_authorizer.proofs.authorizer.judge_all.Goals as goal

@@ -1,4 +1,3 @@
-use Rattle.std.proofs.Common.{refl, ap}
 use Rattle.cedar_authorizer.proofs.Noting.{reflects_none}
 use Rattle.cedar_authorizer.proofs.authorizer.Sheet.new.Goals as goal
 

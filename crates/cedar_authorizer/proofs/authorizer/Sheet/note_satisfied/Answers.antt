@@ -1,4 +1,4 @@
-use Rattle.std.proofs.Common.{refl, sym, ap, subst, true, Ok, OnOk}
+use Rattle.std.proofs.Common.{refl, sym, subst, true, Ok, OnOk}
 use Rattle.cedar_layers.specs.Policies.{effect_view, policy_id_text}
 use Rattle.cedar_authorizer.specs.Sheets.{Notes}
 use Rattle.cedar_authorizer.proofs.Noting.{permit_noted, forbid_noted, on_ok}
