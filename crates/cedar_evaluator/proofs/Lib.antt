@@ -1,3 +1,3 @@
 pub mod Steps
-pub mod Keys
-pub mod Throughout
+pub mod Parts
+pub mod Knowing

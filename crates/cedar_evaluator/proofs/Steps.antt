@@ -1,65 +1,277 @@
 -- One step of the evaluator against the rules, over plain variables.
-use Rattle.std.proofs.Common.{◌≡◌, ◌≢◌, ℕ, zero, suc, ◌-◌, ◌<◌, Bool, true, false, List, [], Option, Some, None, Ok, Err, refl, sym, ap, ◌∙◌, subst, arith}
-use Rattle.cedar_model.specs.Terms.{Text, Term, variable, context, bool_literal, eq_operator, bool_type}
-use Rattle.cedar_model.specs.Values.{Represented, plain_represented, record_represented, RepresentedFields, abstract_value}
-use Rattle.cedar_model.specs.Keys.{value_eq}
+use Rattle.std.proofs.Common.{◌≡◌, ◌≢◌, ℕ, zero, suc, ◌-◌, ◌<◌, Bool, true, false, List, [], ◌∷◌, Option, Some, None, Result, Ok, Err, refl, sym, ap, ◌∙◌, subst, arith}
+use Rattle.cedar_model.specs.Terms.{Text, bool_type, Literal, Variable, UnaryOperator, BinaryOperator, PatternPart, ValueType, Slot, Term, literal, variable, unknown, slot, if_then_else, both, either, unary, binary, call, get_attribute, has_attribute, extended_has, like, is_of_type, set_of, record_of, Terms, Fields}
+use Rattle.cedar_model.specs.Values.{Represented, plain_represented, set_represented, record_represented, abstract_value}
+use Rattle.cedar_model.specs.Sets.{canonical_set, represented_fields_of}
 use Rattle.cedar_model.specs.Outcomes.{bool_of}
-use Rattle.cedar_model.specs.Failures.{Failure, out_of_memory, Answer, answers, fails, value, answers_value, answers_bool, limit, wrong_type}
-use Rattle.cedar_model.specs.Settings.{Setting, known_context, variable_part, context_value}
-use Rattle.cedar_model.specs.Operators.{binary_answer, container_of, attribute_in}
-use Rattle.cedar_model.specs.Rules.{MayAnswer, Meets, AndLeft, AfterLeft, joined, bool_or_failure, binary_beside, binary_of_parts, AtAttribute}
+use Rattle.cedar_model.specs.Failures.{Failure, function_is_missing, out_of_memory, residual_is_left, PartialValue, value, residual, Answer, answers, fails, answers_value, answers_bool, limit, wrong_type}
+use Rattle.cedar_model.specs.Settings.{Setting, variable_part}
+use Rattle.cedar_model.specs.Operators.{slot_answer, unary_answer, binary_answer, attribute_answer, has_answer, path_answer, like_answer, is_answer, mapped}
+use Rattle.cedar_model.specs.Rules
+use Rattle.cedar_model.specs.Rules.{MayAnswer, Meets, bool_expected, joined, bool_or_failure, on_part, binary_beside, binary_of_parts, has_part, is_part, Parts, FieldParts, part_then, field_part_then, add_value, values_of_parts, add_value_at, values_of_field_parts, set_answer, set_of_parts, record_answer, record_of_parts, TakesBranch, AndLeft, OrLeft, AfterValues}
+use Rattle.cedar_model.specs.Authorizations.{bool_result, decided}
+use Rattle.cedar_data.specs.Sound.{Placed}
 use Rattle.cedar_values.specs.declared.evaluator.err.EvaluationError.{EvaluationError}
 use Rattle.cedar_values.specs.Failures.{failure_of}
-use Rattle.cedar_evaluator.specs.Treated.{TreatedRule, TreatedRuns}
-use Rattle.cedar_model.specs.Authorizations.{bool_result, decided}
-use Rattle.cedar_evaluator.specs.Answering.{attribute_of_fields, DecidesBy, FailsWith}
+use Rattle.cedar_operators.specs.Answering.{answer_of, Answers, FailsWith}
+use Rattle.cedar_operators.specs.Stopping.{not_known_in, stopped}
+use Rattle.cedar_evaluator.specs.Answering.{DecidesBy}
+use Rattle.cedar_evaluator.specs.Stops.{NoCalls, StoppingRule, StoppingRuns}
+use Rattle.cedar_evaluator.specs.Evaluations.{all_values, all_fields}
 
 pub value_is_no_want : (w : Represented) → answers_value w ≢ fails out_of_memory
 value_is_no_want w = λ e. cc
 
+pub no_want : (e : EvaluationError) → failure_of e ≢ out_of_memory → fails (failure_of e) ≢ fails out_of_memory
+no_want e m h = m (let f : failure_of e ≡ out_of_memory = cc in f)
+
+-- what a call answers is no residual
+pub stopped-answer_of : (r : Result Placed EvaluationError) → stopped (answer_of r) ≡ answer_of r
+unfolding stopped
+stopped-answer_of (Ok v) = refl
+stopped-answer_of (Err e) = refl
+
+pub answers_stopped : (r : Result Placed EvaluationError) (a : Answer) → Answers r a → Answers r (stopped a)
+answers_stopped r a is ok = sym (stopped-answer_of r) ∙ ap stopped (is ok)
+
 -- with no level left the limit is met
-pub at_none : (s : Setting) (n : ℕ) (t : Term) (a : Answer) → n ≡ 0 → a ≡ limit → TreatedRuns s n t a
-unfolding TreatedRuns
+pub at_none : (s : Setting) (n : ℕ) (t : Term) (a : Answer) → n ≡ 0 → a ≡ limit → StoppingRuns s n t a
+unfolding StoppingRuns
 at_none s zero t a none is = is
 at_none s (suc n) t a none is = absurd (omega arith)
 
 -- with a level left the rules hold, one level less for the parts
-pub at_some : (s : Setting) (n : ℕ) (t : Term) (a : Answer) → 0 < n → TreatedRule s (TreatedRuns s (n - 1)) t a → TreatedRuns s n t a
-unfolding TreatedRuns
+pub at_some : (s : Setting) (n : ℕ) (t : Term) (a : Answer) → 0 < n → StoppingRule s (StoppingRuns s (n - 1)) t a → StoppingRuns s n t a
+unfolding StoppingRuns
 at_some s zero t a some h = absurd (omega arith)
 at_some s (suc n) t a some h =
-    let e : suc n - 1 ≡ n = omega arith in subst (λ m. TreatedRule s (TreatedRuns s m) t a) e h
+    let e : suc n - 1 ≡ n = omega arith in subst (λ m. StoppingRule s (StoppingRuns s m) t a) e h
 
--- the right side of `&&` beside `true`
-pub and_reads : (May : MayAnswer) (left : Option Bool) (v : Represented) (t : Term) (w : Represented) (a : Answer) → left ≡ Some true → Meets (May t) (answers_value w) → Meets (λ b. b ≡ bool_or_failure (bool_of (abstract_value w)) w) a → Meets (AndLeft May left v t) a
-unfolding joined
-and_reads May left v t w a is_true may is ok =
-    subst (λ l. AndLeft May l v t a) (sym is_true) (answers_value w, may (value_is_no_want w), is ok)
+module _ (s : Setting) (May : MayAnswer) where
+  -- what a call may answer to a term
+  abbrev Gives : Term → Result Placed EvaluationError → Type 0
+  Gives t r = Meets (StoppingRule s May t) (answer_of r)
 
-pub and_right_fails : (May : MayAnswer) (left : Option Bool) (v : Represented) (t : Term) (e : Failure) → left ≡ Some true → Meets (May t) (fails e) → Meets (AndLeft May left v t) (fails e)
-unfolding joined
-and_right_fails May left v t e is_true may ok =
-    subst (λ l. AndLeft May l v t (fails e)) (sym is_true) (fails e, may ok, refl)
+  abbrev Reads : Term → Represented → Type 0
+  Reads t v = Meets (May t) (answers_value v)
 
--- `==` of two values
-pub equal_reads : (May : MayAnswer) (s : Setting) (t u : Term) (v w : Represented) (a : Answer) → Meets (May t) (answers_value v) → Meets (May u) (answers_value w) → a ≡ answers_bool (value_eq (abstract_value v) (abstract_value w)) → (x : Answer) × May t x × AfterLeft May s eq_operator x u a
-unfolding binary_beside binary_of_parts binary_answer
-equal_reads May s t u v w a first second is =
-    (answers_value v, first (value_is_no_want v), (answers_value w, second (value_is_no_want w), is))
+  abbrev Errs : Term → EvaluationError → Type 0
+  Errs t e = Meets (May t) (fails (failure_of e))
 
-pub equal_right_fails : (May : MayAnswer) (s : Setting) (t u : Term) (v : Represented) (e : Failure) → Meets (May t) (answers_value v) → Meets (May u) (fails e) → fails e ≢ fails out_of_memory → (x : Answer) × May t x × AfterLeft May s eq_operator x u (fails e)
-unfolding binary_beside
-equal_right_fails May s t u v e first second ok =
-    (answers_value v, first (value_is_no_want v), (fails e, second ok, refl))
+  -- ---- parts that a term does not have
 
--- an attribute of the variable `context`, which is a record
-pub context_reads : (s : Setting) (fs : RepresentedFields) (n : ℕ) (k : Text) (a : Answer) → s.request.context_part ≡ known_context fs → 0 < n → a ≡ attribute_of_fields fs k → (x : Answer) × TreatedRuns s n (variable context) x × AtAttribute (TreatedRuns s n) s x k a
-unfolding variable_part context_value container_of attribute_in
-context_reads s fs n k a known some is =
-    (answers (value (record_represented fs)), at_some s n (variable context) _ some (ap (λ c. answers (context_value c)) (sym known)), is)
+  pub literal_gives : (l : Literal) (r : Result Placed EvaluationError) → Answers r (answers_value (plain_represented l)) → Gives (literal l) r
+  literal_gives l r is ok = (answers_value (plain_represented l), refl, answers_stopped r _ is ok)
 
-pub context_at_none : (s : Setting) (n : ℕ) (k : Text) (a : Answer) → n ≡ 0 → a ≡ limit → (x : Answer) × TreatedRuns s n (variable context) x × AtAttribute (TreatedRuns s n) s x k a
-context_at_none s n k a none is = (limit, at_none s n (variable context) limit none refl, is)
+  pub variable_gives : (v : Variable) (r : Result Placed EvaluationError) → Answers r (answers (variable_part s.request v)) → Gives (variable v) r
+  variable_gives v r is ok = (answers (variable_part s.request v), refl, answers_stopped r _ is ok)
+
+  pub slot_gives : (i : Slot) (r : Result Placed EvaluationError) → Answers r (slot_answer i (s.slots i)) → Gives (slot i) r
+  slot_gives i r is ok = (slot_answer i (s.slots i), refl, answers_stopped r _ is ok)
+
+  pub unknown_stops : (n : Text) (t : Option ValueType) (e : EvaluationError) → s.map n ≡ None → FailsWith e (residual_is_left (unknown n t)) → Gives (unknown n t) (Err e)
+  unfolding stopped not_known_in mapped
+  unknown_stops n t e none is ok =
+      (mapped None n t, ap (λ o. mapped o n t) (sym none), ap fails (is (λ m. ok (ap fails m))))
+
+  -- ---- if
+
+  pub if_no_bool : (c t u : Term) (v : Represented) (e : EvaluationError) → Reads c v → (failure_of e ≢ out_of_memory → bool_of (abstract_value v) ≡ None) → FailsWith e (wrong_type bool_type [] (abstract_value v)) → Gives (if_then_else c t u) (Err e)
+  unfolding stopped
+  if_no_bool c t u v e reads none is ok =
+      let want : failure_of e ≢ out_of_memory = λ m. ok (ap fails m) in
+      (bool_expected v, (answers_value v, reads (value_is_no_want v), subst (λ b. TakesBranch May b v t u (bool_expected v)) (sym (none want)) refl), ap fails (is want))
+
+  pub if_true : (c t u : Term) (v : Represented) (r : Result Placed EvaluationError) → Reads c v → bool_of (abstract_value v) ≡ Some true → Meets (May t) (answer_of r) → Gives (if_then_else c t u) r
+  if_true c t u v r reads is_true may ok =
+      (answer_of r, (answers_value v, reads (value_is_no_want v), subst (λ b. TakesBranch May b v t u (answer_of r)) (sym is_true) (may ok)), sym (stopped-answer_of r))
+
+  pub if_false : (c t u : Term) (v : Represented) (r : Result Placed EvaluationError) → Reads c v → bool_of (abstract_value v) ≡ Some false → Meets (May u) (answer_of r) → Gives (if_then_else c t u) r
+  if_false c t u v r reads is_false may ok =
+      (answer_of r, (answers_value v, reads (value_is_no_want v), subst (λ b. TakesBranch May b v t u (answer_of r)) (sym is_false) (may ok)), sym (stopped-answer_of r))
+
+  pub if_fails : (c t u : Term) (e : EvaluationError) → Errs c e → Gives (if_then_else c t u) (Err e)
+  unfolding stopped
+  if_fails c t u e errs ok = (fails (failure_of e), (fails (failure_of e), errs ok, refl), refl)
+
+  -- ---- && and ||
+
+  stopped-bool_or_failure : (o : Option Bool) (v : Represented) → stopped (bool_or_failure o v) ≡ bool_or_failure o v
+  unfolding stopped bool_or_failure
+  stopped-bool_or_failure (Some b) v = refl
+  stopped-bool_or_failure None v = refl
+
+  pub and_no_bool : (t u : Term) (v : Represented) (e : EvaluationError) → Reads t v → (failure_of e ≢ out_of_memory → bool_of (abstract_value v) ≡ None) → FailsWith e (wrong_type bool_type [] (abstract_value v)) → Gives (both t u) (Err e)
+  unfolding stopped
+  and_no_bool t u v e reads none is ok =
+      let want : failure_of e ≢ out_of_memory = λ m. ok (ap fails m) in
+      (bool_expected v, (answers_value v, reads (value_is_no_want v), subst (λ b. AndLeft May b v u (bool_expected v)) (sym (none want)) refl), ap fails (is want))
+
+  pub and_decides : (t u : Term) (v : Represented) (r : Result Placed EvaluationError) → Reads t v → bool_of (abstract_value v) ≡ Some false → answer_of r ≡ answers_bool false → Gives (both t u) r
+  unfolding stopped
+  and_decides t u v r reads is_false is ok =
+      (answers_bool false, (answers_value v, reads (value_is_no_want v), subst (λ b. AndLeft May b v u (answers_bool false)) (sym is_false) refl), is)
+
+  pub and_reads : (t u : Term) (v w : Represented) (r : Result Placed EvaluationError) → Reads t v → bool_of (abstract_value v) ≡ Some true → Reads u w → Answers r (bool_or_failure (bool_of (abstract_value w)) w) → Gives (both t u) r
+  unfolding joined
+  and_reads t u v w r reads is_true right is ok =
+      let a = bool_or_failure (bool_of (abstract_value w)) w in
+      (a, (answers_value v, reads (value_is_no_want v), subst (λ b. AndLeft May b v u a) (sym is_true) (answers_value w, right (value_is_no_want w), refl)), is ok ∙ sym (stopped-bool_or_failure _ w))
+
+  pub and_right_fails : (t u : Term) (v : Represented) (e : EvaluationError) → Reads t v → bool_of (abstract_value v) ≡ Some true → Errs u e → Gives (both t u) (Err e)
+  unfolding stopped joined
+  and_right_fails t u v e reads is_true errs ok =
+      (fails (failure_of e), (answers_value v, reads (value_is_no_want v), subst (λ b. AndLeft May b v u (fails (failure_of e))) (sym is_true) (fails (failure_of e), errs ok, refl)), refl)
+
+  pub and_fails : (t u : Term) (e : EvaluationError) → Errs t e → Gives (both t u) (Err e)
+  unfolding stopped
+  and_fails t u e errs ok = (fails (failure_of e), (fails (failure_of e), errs ok, refl), refl)
+
+  pub or_no_bool : (t u : Term) (v : Represented) (e : EvaluationError) → Reads t v → (failure_of e ≢ out_of_memory → bool_of (abstract_value v) ≡ None) → FailsWith e (wrong_type bool_type [] (abstract_value v)) → Gives (either t u) (Err e)
+  unfolding stopped
+  or_no_bool t u v e reads none is ok =
+      let want : failure_of e ≢ out_of_memory = λ m. ok (ap fails m) in
+      (bool_expected v, (answers_value v, reads (value_is_no_want v), subst (λ b. OrLeft May b v u (bool_expected v)) (sym (none want)) refl), ap fails (is want))
+
+  pub or_decides : (t u : Term) (v : Represented) (r : Result Placed EvaluationError) → Reads t v → bool_of (abstract_value v) ≡ Some true → answer_of r ≡ answers_bool true → Gives (either t u) r
+  unfolding stopped
+  or_decides t u v r reads is_true is ok =
+      (answers_bool true, (answers_value v, reads (value_is_no_want v), subst (λ b. OrLeft May b v u (answers_bool true)) (sym is_true) refl), is)
+
+  pub or_reads : (t u : Term) (v w : Represented) (r : Result Placed EvaluationError) → Reads t v → bool_of (abstract_value v) ≡ Some false → Reads u w → Answers r (bool_or_failure (bool_of (abstract_value w)) w) → Gives (either t u) r
+  unfolding joined
+  or_reads t u v w r reads is_false right is ok =
+      let a = bool_or_failure (bool_of (abstract_value w)) w in
+      (a, (answers_value v, reads (value_is_no_want v), subst (λ b. OrLeft May b v u a) (sym is_false) (answers_value w, right (value_is_no_want w), refl)), is ok ∙ sym (stopped-bool_or_failure _ w))
+
+  pub or_right_fails : (t u : Term) (v : Represented) (e : EvaluationError) → Reads t v → bool_of (abstract_value v) ≡ Some false → Errs u e → Gives (either t u) (Err e)
+  unfolding stopped joined
+  or_right_fails t u v e reads is_false errs ok =
+      (fails (failure_of e), (answers_value v, reads (value_is_no_want v), subst (λ b. OrLeft May b v u (fails (failure_of e))) (sym is_false) (fails (failure_of e), errs ok, refl)), refl)
+
+  pub or_fails : (t u : Term) (e : EvaluationError) → Errs t e → Gives (either t u) (Err e)
+  unfolding stopped
+  or_fails t u e errs ok = (fails (failure_of e), (fails (failure_of e), errs ok, refl), refl)
+
+  -- ---- operators
+
+  pub unary_reads : (op : UnaryOperator) (t : Term) (v : Represented) (r : Result Placed EvaluationError) → Reads t v → Answers r (unary_answer op v) → Gives (unary op t) r
+  unfolding on_part
+  unary_reads op t v r reads is ok =
+      (answer_of r, (answers_value v, reads (value_is_no_want v), is ok), sym (stopped-answer_of r))
+
+  pub unary_fails : (op : UnaryOperator) (t : Term) (e : EvaluationError) → Errs t e → Gives (unary op t) (Err e)
+  unfolding stopped on_part
+  unary_fails op t e errs ok = (fails (failure_of e), (fails (failure_of e), errs ok, refl), refl)
+
+  pub binary_reads : (op : BinaryOperator) (t u : Term) (v w : Represented) (r : Result Placed EvaluationError) → Reads t v → Reads u w → Answers r (stopped (binary_answer s op v w)) → Gives (binary op t u) r
+  unfolding binary_beside binary_of_parts
+  binary_reads op t u v w r first second is ok =
+      (binary_answer s op v w, (answers_value v, first (value_is_no_want v), (answers_value w, second (value_is_no_want w), refl)), is ok)
+
+  pub binary_right_fails : (op : BinaryOperator) (t u : Term) (v : Represented) (e : EvaluationError) → Reads t v → Errs u e → Gives (binary op t u) (Err e)
+  unfolding stopped binary_beside
+  binary_right_fails op t u v e first errs ok =
+      (fails (failure_of e), (answers_value v, first (value_is_no_want v), (fails (failure_of e), errs ok, refl)), refl)
+
+  pub binary_fails : (op : BinaryOperator) (t u : Term) (e : EvaluationError) → Errs t e → Gives (binary op t u) (Err e)
+  unfolding stopped
+  binary_fails op t u e errs ok = (fails (failure_of e), (fails (failure_of e), errs ok, refl), refl)
+
+  pub like_reads : (t : Term) (p : List PatternPart) (v : Represented) (r : Result Placed EvaluationError) → Reads t v → Answers r (like_answer p v) → Gives (like t p) r
+  unfolding on_part
+  like_reads t p v r reads is ok =
+      (answer_of r, (answers_value v, reads (value_is_no_want v), is ok), sym (stopped-answer_of r))
+
+  pub like_fails : (t : Term) (p : List PatternPart) (e : EvaluationError) → Errs t e → Gives (like t p) (Err e)
+  unfolding stopped on_part
+  like_fails t p e errs ok = (fails (failure_of e), (fails (failure_of e), errs ok, refl), refl)
+
+  pub is_reads : (t : Term) (n : Text) (v : Represented) (r : Result Placed EvaluationError) → Reads t v → Answers r (is_answer n v) → Gives (is_of_type t n) r
+  unfolding is_part
+  is_reads t n v r reads is ok =
+      (answer_of r, (answers_value v, reads (value_is_no_want v), is ok), sym (stopped-answer_of r))
+
+  pub is_fails : (t : Term) (n : Text) (e : EvaluationError) → Errs t e → Gives (is_of_type t n) (Err e)
+  unfolding stopped is_part
+  is_fails t n e errs ok = (fails (failure_of e), (fails (failure_of e), errs ok, refl), refl)
+
+  -- ---- attributes
+
+  pub attribute_reads : (t : Term) (k : Text) (v : Represented) (r : Result Placed EvaluationError) → Reads t v → Answers r (stopped (attribute_answer s v k)) → Gives (get_attribute t k) r
+  attribute_reads t k v r reads is ok =
+      (attribute_answer s v k, (answers_value v, reads (value_is_no_want v), refl), is ok)
+
+  pub attribute_fails : (t : Term) (k : Text) (e : EvaluationError) → Errs t e → Gives (get_attribute t k) (Err e)
+  unfolding stopped
+  attribute_fails t k e errs ok = (fails (failure_of e), (fails (failure_of e), errs ok, refl), refl)
+
+  pub has_reads : (t : Term) (k : Text) (v : Represented) (r : Result Placed EvaluationError) → Reads t v → Answers r (stopped (has_answer s v k)) → Gives (has_attribute t k) r
+  unfolding has_part
+  has_reads t k v r reads is ok =
+      (has_answer s v k, (answers_value v, reads (value_is_no_want v), refl), is ok)
+
+  pub has_fails : (t : Term) (k : Text) (e : EvaluationError) → Errs t e → Gives (has_attribute t k) (Err e)
+  unfolding stopped has_part
+  has_fails t k e errs ok = (fails (failure_of e), (fails (failure_of e), errs ok, refl), refl)
+
+  pub path_reads : (t : Term) (k : Text) (ks : List Text) (v : Represented) (r : Result Placed EvaluationError) → Reads t v → Answers r (stopped (path_answer s.store v k ks)) → Gives (extended_has t k ks) r
+  unfolding on_part
+  path_reads t k ks v r reads is ok =
+      (path_answer s.store v k ks, (answers_value v, reads (value_is_no_want v), refl), is ok)
+
+  pub path_fails : (t : Term) (k : Text) (ks : List Text) (e : EvaluationError) → Errs t e → Gives (extended_has t k ks) (Err e)
+  unfolding stopped on_part
+  path_fails t k ks e errs ok = (fails (failure_of e), (fails (failure_of e), errs ok, refl), refl)
+
+  -- ---- sets, records and calls
+
+  values_of-all : (vs : List Represented) → values_of_parts (all_values vs) ≡ Some vs
+  unfolding values_of_parts add_value
+  values_of-all [] = refl
+  values_of-all (v ∷ vs) = ap (add_value (value v)) (values_of-all vs)
+
+  fields_of-all : (fs : List (Text × Represented)) → values_of_field_parts (all_fields fs) ≡ Some fs
+  unfolding values_of_field_parts add_value_at
+  fields_of-all [] = refl
+  fields_of-all (f ∷ fs) = ap (add_value_at f.0 (value f.1)) (fields_of-all fs)
+
+  pub set_reads : (ts : Terms) (vs : List Represented) (r : Result Placed EvaluationError) → Parts May ts (Ok (all_values vs)) → Answers r (answers_value (set_represented (canonical_set vs))) → Gives (set_of ts) r
+  unfolding set_answer set_of_parts
+  set_reads ts vs r parts is ok =
+      (answer_of r, (Ok (all_values vs), parts, is ok ∙ ap (λ o. set_of_parts o (all_values vs)) (sym (values_of-all vs))), sym (stopped-answer_of r))
+
+  pub set_fails : (ts : Terms) (e : EvaluationError) → (failure_of e ≢ out_of_memory → Parts May ts (Err (failure_of e))) → Gives (set_of ts) (Err e)
+  unfolding stopped set_answer
+  set_fails ts e errs ok =
+      (fails (failure_of e), (Err (failure_of e), errs (λ m. ok (ap fails m)), refl), refl)
+
+  pub record_reads : (ts : Fields) (fs : List (Text × Represented)) (r : Result Placed EvaluationError) → FieldParts May ts (Ok (all_fields fs)) → Answers r (answers_value (record_represented (represented_fields_of fs))) → Gives (record_of ts) r
+  unfolding record_answer record_of_parts
+  record_reads ts fs r parts is ok =
+      (answer_of r, (Ok (all_fields fs), parts, is ok ∙ ap (λ o. record_of_parts o (all_fields fs)) (sym (fields_of-all fs))), sym (stopped-answer_of r))
+
+  pub record_fails : (ts : Fields) (e : EvaluationError) → (failure_of e ≢ out_of_memory → FieldParts May ts (Err (failure_of e))) → Gives (record_of ts) (Err e)
+  unfolding stopped record_answer
+  record_fails ts e errs ok =
+      (fails (failure_of e), (Err (failure_of e), errs (λ m. ok (ap fails m)), refl), refl)
+
+  -- no extension has a function
+  pub call_reads : (f : Text) (ts : Terms) (vs : List Represented) (e : EvaluationError) → s.extensions.arity f ≡ None → Parts May ts (Ok (all_values vs)) → FailsWith e (function_is_missing f) → Gives (call f ts) (Err e)
+  unfolding stopped
+  call_reads f ts vs e none parts is ok =
+      let a : Answer = fails (function_is_missing f) in
+      (a, (Ok (all_values vs), parts, subst (λ o. AfterValues NoCalls s.extensions.arity o f (all_values vs) a) (sym (values_of-all vs)) (missing none)), ap fails (is (λ m. ok (ap fails m))))
+    where
+      missing : s.extensions.arity f ≡ None → Rules.LooksUp NoCalls (s.extensions.arity f) f vs (fails (function_is_missing f))
+      missing h = subst (λ o. Rules.LooksUp NoCalls o f vs (fails (function_is_missing f))) (sym h) refl
+
+  pub call_fails : (f : Text) (ts : Terms) (e : EvaluationError) → (failure_of e ≢ out_of_memory → Parts May ts (Err (failure_of e))) → Gives (call f ts) (Err e)
+  unfolding stopped
+  call_fails f ts e errs ok =
+      (fails (failure_of e), (Err (failure_of e), errs (λ m. ok (ap fails m)), refl), refl)
+
+-- ---- conditions
 
 -- a condition's value that is a boolean
 pub decides_value : (May : Answer → Type 0) (v : Represented) (b : Bool) → Meets May (answers_value v) → bool_of (abstract_value v) ≡ Some b → DecidesBy May (Ok b)

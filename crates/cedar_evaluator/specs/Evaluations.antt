@@ -1,11 +1,24 @@
--- What an evaluator is given, as plain data.
-use Rattle.std.specs.Prelude.{ℕ, None, []}
+-- What an evaluator is given and what its parts answer, as plain data.
+use Rattle.std.specs.Prelude.{ℕ, List, map, None, [], Result, Ok, Err}
+use Rattle.std.specs.Rc.{rc_str_bytes}
+use Rattle.std.specs.declared.alloc.Global.{Global}
+use Rattle.std.specs.declared.rc.RcStr.{RcStr}
+use Rattle.cedar_model.specs.Terms.{Text, Term}
+use Rattle.cedar_model.specs.Values.{Represented}
 use Rattle.cedar_model.specs.World.{Slots, Extensions}
+use Rattle.cedar_model.specs.Failures.{Failure, PartialValue, value}
 use Rattle.cedar_model.specs.Settings.{RequestPart, Store, Setting, known_context}
-use Rattle.cedar_data.specs.Sound.{whats_at}
+use Rattle.cedar_model.specs.Rules.{Meets, Parts, FieldParts}
+use Rattle.cedar_expressions.specs.declared.expr.Expr.{Expr}
+use Rattle.cedar_expressions.specs.View.{terms_view, fields_view}
+use Rattle.cedar_data.specs.Sound.{Placed, whats, whats_at}
+use Rattle.cedar_layers.specs.Policies.{SlotValues, slots_view}
 use Rattle.cedar_layers.specs.Stores.{store_view}
+use Rattle.cedar_values.specs.declared.evaluator.err.EvaluationError.{EvaluationError}
+use Rattle.cedar_operators.specs.Answering.{answer_of}
 use Rattle.cedar_evaluator.specs.declared.evaluator.Evaluator.{Evaluator}
 use Rattle.cedar_evaluator.specs.Requests.{entry_view}
+use Rattle.cedar_evaluator.specs.Stops.{StoppingRule, StoppingRuns}
 
 -- no extension
 abbrev pub no_extensions : Extensions
@@ -24,3 +37,40 @@ setting_of v slots =
 -- how many levels deep it goes
 abbrev pub limit_of : Evaluator → ℕ
 limit_of v = v.limit
+
+-- ---- what its parts answer
+
+-- a call answers what the rules allow for a term, over parts with this many levels
+abbrev pub MeetsKind : Evaluator → SlotValues → ℕ → Term → Result Placed EvaluationError → Type 0
+MeetsKind v slots n t r =
+    Meets (StoppingRule (setting_of v (slots_view slots)) (StoppingRuns (setting_of v (slots_view slots)) n) t) (answer_of r)
+
+abbrev pub all_values : List Represented → List PartialValue
+all_values vs = map {B = PartialValue} (λ v. value v) vs
+
+-- the values of fields under their keys
+abbrev pub values_under : List (RcStr Global × Placed) → List (Text × Represented)
+values_under fs = map {B = Text × Represented} (λ f. (rc_str_bytes f.0, f.1.what)) fs
+
+abbrev pub all_fields : List (Text × Represented) → List (Text × PartialValue)
+all_fields fs = map {B = Text × PartialValue} (λ f. (f.0, value f.1)) fs
+
+-- the parts give these values in order
+abbrev pub GivesParts : Evaluator → SlotValues → ℕ → List Expr → List Placed → Type 0
+GivesParts v slots n parts vs =
+    Parts (StoppingRuns (setting_of v (slots_view slots)) n) (terms_view parts) (Ok (all_values (whats vs)))
+
+-- the parts fail with this error
+abbrev pub FailsParts : Evaluator → SlotValues → ℕ → List Expr → Failure → Type 0
+FailsParts v slots n parts e =
+    Parts (StoppingRuns (setting_of v (slots_view slots)) n) (terms_view parts) (Err e)
+
+-- the parts under their keys give these values under the same keys
+abbrev pub GivesFields : Evaluator → SlotValues → ℕ → List (RcStr Global × Expr) → List (RcStr Global × Placed) → Type 0
+GivesFields v slots n pairs fs =
+    FieldParts (StoppingRuns (setting_of v (slots_view slots)) n) (fields_view pairs) (Ok (all_fields (values_under fs)))
+
+-- the parts under their keys fail with this error
+abbrev pub FailsFields : Evaluator → SlotValues → ℕ → List (RcStr Global × Expr) → Failure → Type 0
+FailsFields v slots n pairs e =
+    FieldParts (StoppingRuns (setting_of v (slots_view slots)) n) (fields_view pairs) (Err e)

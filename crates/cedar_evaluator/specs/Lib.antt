@@ -1,4 +1,4 @@
 pub mod Requests
-pub mod Treated
+pub mod Stops
 pub mod Answering
 pub mod Evaluations

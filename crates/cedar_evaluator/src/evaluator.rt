@@ -1,40 +1,50 @@
 #![tactic(auto, using(cedar_expressions::proofs::Levels::levels))]
 //! The evaluator.
-ghost use Rattle.std.specs.Prelude.{◌≡◌, ◌≢◌, IfOk, IfErr, Some, None, []};
+ghost use Rattle.std.specs.Prelude.{◌≡◌, ◌≢◌, IfOk, IfErr};
 ghost use Rattle.std.specs.Rc.{rc_str_bytes};
-ghost use Rattle.cedar_model.specs.Terms.{bool_literal, both, binary, eq_operator, get_attribute, bool_type, context};
-ghost use Rattle.cedar_model.specs.Values.{plain_represented, abstract_value};
+ghost use Rattle.cedar_model.specs.Terms.{both, either, binary, unary, call, get_attribute, has_attribute, extended_has, like, is_of_type, set_of, record_of};
+ghost use Rattle.cedar_model.specs.Terms as Terms;
+ghost use Rattle.cedar_model.specs.Values.{plain_represented, set_represented, record_represented, abstract_value};
+ghost use Rattle.cedar_model.specs.Sets.{canonical_set};
 ghost use Rattle.cedar_model.specs.Outcomes.{bool_of};
 ghost use Rattle.cedar_model.specs.Failures as Failures;
-ghost use Rattle.cedar_model.specs.Failures.{answers, answers_value, wrong_type, residual_is_left, out_of_memory};
+ghost use Rattle.cedar_model.specs.Failures.{answers, answers_value, residual_is_left, function_is_missing, out_of_memory};
 ghost use Rattle.cedar_model.specs.Settings.{variable_part};
-ghost use Rattle.cedar_model.specs.Operators.{key_is_missing, represented_names, shown_names};
-ghost use Rattle.cedar_model.specs.Rules.{Meets, AndLeft, bool_or_failure};
-ghost use Rattle.cedar_names.specs.Leaves.{literal_view, type_view, variable_view, texts_view};
-ghost use Rattle.cedar_expressions.specs.View.{view, expr_loc};
-ghost use Rattle.cedar_data.specs.Sound.{whats_at};
+ghost use Rattle.cedar_model.specs.Operators.{binary_answer, slot_answer};
+ghost use Rattle.cedar_model.specs.Rules.{Meets, bool_or_failure};
+ghost use Rattle.cedar_names.specs.Names.{name_text, type_text};
+ghost use Rattle.cedar_names.specs.Leaves.{literal_view, variable_view, slot_view, unary_view, binary_view, pattern_view, texts_view};
+ghost use Rattle.cedar_expressions.specs.View.{view, terms_view, fields_view, expr_loc};
+ghost use Rattle.cedar_data.specs.Sound.{whats, whats_at};
 ghost use Rattle.cedar_layers.specs.Policies.{slots_view};
 ghost use Rattle.cedar_values.specs.Failures.{failure_of};
-ghost use Rattle.cedar_evaluator.specs.Treated as Treated;
-ghost use Rattle.cedar_evaluator.specs.Treated.{TreatedRule, TreatedRuns};
-ghost use Rattle.cedar_evaluator.specs.Answering.{Answers, FailsWith, attribute_of_fields};
+ghost use Rattle.cedar_operators.specs.Answering.{answer_of, Answers, FailsWith};
+ghost use Rattle.cedar_operators.specs.Stopping.{stopped};
+ghost use Rattle.cedar_evaluator.specs.Stops.{StoppingRule, StoppingRuns};
+ghost use Rattle.cedar_evaluator.specs.Evaluations.{MeetsKind, GivesParts, FailsParts, GivesFields, FailsFields};
 
 use crate::request::{EntityUIDEntry, Request};
 use cedar_layers::expressions::{
-    BinaryOp, Expr, ExprKind, FirstRest, Literal, Loc, SlotEnv, Type, Value, ValueKind, Var,
+    BinaryOp, EntityType, Expr, ExprKind, FirstRest, Literal, Loc, Name, Pattern, SlotEnv, SlotId,
+    UnaryOp, Value, ValueKind, Var,
 };
 use cedar_layers::policies::{Entities, Policy};
+use cedar_operators::attributes::{attribute_of, has_attribute, has_path};
+use cedar_operators::failures::non_value;
+pub use cedar_operators::operators::{binary_arith, binary_relation, unary_app};
+use cedar_operators::operators::{is_of_type, likeness};
+use cedar_operators::sets::{contains, contains_all, contains_any};
+use cedar_operators::store::{has_tag, is_in, tag_of};
+use cedar_operators::typed::{bool_value, get_as_bool};
 pub use cedar_values::evaluator::err::{EvaluationError, evaluation_errors};
-use cedar_values::extensions::Extensions;
-use evaluation_errors::{
-    NonValueError, RecordAttrDoesNotExistError, RecursionLimitError, TypeError,
+use cedar_values::extensions::{
+    ExtensionFunctionLookupError, Extensions, extension_function_lookup_errors,
 };
+use evaluation_errors::{RecursionLimitError, UnlinkedSlotError};
+use extension_function_lookup_errors::FuncDoesNotExistError;
 use std::alloc::{AllocError, Global};
 use std::collections::BTreeMap;
 use std::rc::{Rc, RcStr};
-
-/// How many names an error about a missing attribute shows at most.
-const TOO_MANY_ATTRS: usize = 5;
 
 /// An evaluator: a request, a store of entities and extensions, and how many levels deep it goes.
 #[derive(Drop)]
@@ -54,8 +64,8 @@ impl<'e, 'x, 'f> Evaluator<'e, 'x, 'f> {
     ghost use Rattle.cedar_layers.specs.Stores.{store_view};
     ghost use Rattle.cedar_evaluator.specs.Requests.{request_view};
     ghost use Rattle.cedar_evaluator.specs.Evaluations.{setting_for, setting_of, limit_of};
-    ghost use Rattle.cedar_evaluator.specs.Treated.{IsKnownExactly, IsDecidedExactly};
-    ghost use Rattle.cedar_evaluator.specs.Answering.{answer_of, decision_of, DecidesBy};
+    ghost use Rattle.cedar_evaluator.specs.Stops.{IsKnownExactly, IsDecidedExactly};
+    ghost use Rattle.cedar_evaluator.specs.Answering.{decision_of, DecidesBy};
 
     /// The evaluator of this request over this store, with these extensions. Evaluation goes at most `limit` levels deep: an
     /// expression is one level, its parts one more. Refuses only for want of memory.
@@ -85,7 +95,7 @@ impl<'e, 'x, 'f> Evaluator<'e, 'x, 'f> {
     /// Whether the policy's condition is true. A condition of another value than a boolean is a `TypeError` that expects `Bool`;
     /// an error of the condition is that error.
     pub fn evaluate(&self, alloc: Global, policy: &Policy) -> Result<bool, EvaluationError>
-        ensures decides { DecidesBy (TreatedRuns (setting_of self.now (policy_view policy.now).slots) (limit_of self.now) (condition_term (policy_view policy.now))) result }
+        ensures decides { DecidesBy (StoppingRuns (setting_of self.now (policy_view policy.now).slots) (limit_of self.now) (condition_term (policy_view policy.now))) result }
         ensures known { IsDecidedExactly (setting_of self.now (policy_view policy.now).slots) (limit_of self.now) (condition_term (policy_view policy.now)) (decision_of result) }
     {
         self.decide(alloc, policy)
@@ -93,7 +103,7 @@ impl<'e, 'x, 'f> Evaluator<'e, 'x, 'f> {
 
     // Whether the policy's condition is true.
     fn decide(&self, alloc: Global, policy: &Policy) -> Result<bool, EvaluationError>
-        ensures { DecidesBy (TreatedRuns (setting_of self.now (policy_view policy.now).slots) (limit_of self.now) (condition_term (policy_view policy.now))) result }
+        ensures { DecidesBy (StoppingRuns (setting_of self.now (policy_view policy.now).slots) (limit_of self.now) (condition_term (policy_view policy.now))) result }
     {
         let condition = policy.condition(alloc)?;
         match self.interpret(alloc, &condition, policy.env()) {
@@ -113,7 +123,7 @@ impl<'e, 'x, 'f> Evaluator<'e, 'x, 'f> {
         e: &Expr,
         slots: &SlotEnv,
     ) -> Result<Value, EvaluationError>
-        ensures answer { Meets (TreatedRuns (setting_of self.now (slots_view slots.now)) (limit_of self.now) (view e.now)) (answer_of result) }
+        ensures answer { Meets (StoppingRuns (setting_of self.now (slots_view slots.now)) (limit_of self.now) (view e.now)) (answer_of result) }
         ensures place { IfOk result (λ v. v.loc ≡ expr_loc e.now) }
         ensures known { IsKnownExactly (setting_of self.now (slots_view slots.now)) (limit_of self.now) (view e.now) (answer_of result) }
     {
@@ -129,7 +139,7 @@ impl<'e, 'x, 'f> Evaluator<'e, 'x, 'f> {
         slots: &SlotEnv,
         left: usize,
     ) -> Result<Value, EvaluationError>
-        ensures answer { Meets (TreatedRuns (setting_of self.now (slots_view slots.now)) left (view e.now)) (answer_of result) }
+        ensures answer { Meets (StoppingRuns (setting_of self.now (slots_view slots.now)) left (view e.now)) (answer_of result) }
         ensures place { IfOk result (λ v. v.loc ≡ expr_loc e.now) }
     {
         if left == 0 {
@@ -150,65 +160,73 @@ impl<'e, 'x, 'f> Evaluator<'e, 'x, 'f> {
         slots: &SlotEnv,
         left: usize,
     ) -> Result<Value, EvaluationError>
-        ensures { Meets (TreatedRule (setting_of self.now (slots_view slots.now)) (TreatedRuns (setting_of self.now (slots_view slots.now)) left) (view e.now)) (answer_of result) }
+        ensures { MeetsKind self.now slots.now left (view e.now) result }
     {
         match e.expr_kind() {
             ExprKind::Lit(value) => literal_value(value),
             ExprKind::Var(var) => self.variable(alloc, *var),
+            ExprKind::Slot(slot) => slot_value(alloc, slots, *slot),
+            ExprKind::Unknown(_) => Err(non_value(e)),
+            ExprKind::If {
+                test_expr,
+                then_expr,
+                else_expr,
+            } => self.branch(alloc, test_expr, then_expr, else_expr, slots, left),
             ExprKind::And {
                 left: first,
                 right: second,
             } => self.both(alloc, first, second, slots, left),
-            ExprKind::BinaryApp { op, arg1, arg2 } => match op {
-                BinaryOp::Eq => self.equal(alloc, arg1, arg2, slots, left),
-                BinaryOp::Less => Err(non_value(e)),
-                BinaryOp::LessEq => Err(non_value(e)),
-                BinaryOp::Add => Err(non_value(e)),
-                BinaryOp::Sub => Err(non_value(e)),
-                BinaryOp::Mul => Err(non_value(e)),
-                BinaryOp::In => Err(non_value(e)),
-                BinaryOp::Contains => Err(non_value(e)),
-                BinaryOp::ContainsAll => Err(non_value(e)),
-                BinaryOp::ContainsAny => Err(non_value(e)),
-                BinaryOp::GetTag => Err(non_value(e)),
-                BinaryOp::HasTag => Err(non_value(e)),
-            },
-            ExprKind::GetAttr { expr, attr } => {
-                if is_context(expr) {
-                    self.context_attribute(alloc, attr, e.source_loc().copied(), left)
-                } else {
-                    Err(non_value(e))
-                }
+            ExprKind::Or {
+                left: first,
+                right: second,
+            } => self.either(alloc, first, second, slots, left),
+            ExprKind::UnaryApp { op, arg } => {
+                self.unary(alloc, *op, arg, slots, left, e.source_loc())
             }
-            ExprKind::Slot(_) => Err(non_value(e)),
-            ExprKind::Unknown(_) => Err(non_value(e)),
-            ExprKind::If {
-                test_expr: _,
-                then_expr: _,
-                else_expr: _,
-            } => Err(non_value(e)),
-            ExprKind::Or { left: _, right: _ } => Err(non_value(e)),
-            ExprKind::UnaryApp { op: _, arg: _ } => Err(non_value(e)),
-            ExprKind::ExtensionFunctionApp {
-                fn_name: _,
-                args: _,
-            } => Err(non_value(e)),
-            ExprKind::HasAttr { expr: _, attr: _ } => Err(non_value(e)),
-            ExprKind::ExtHasAttr { expr: _, attrs: _ } => Err(non_value(e)),
-            ExprKind::Like {
-                expr: _,
-                pattern: _,
-            } => Err(non_value(e)),
-            ExprKind::Is {
-                expr: _,
-                entity_type: _,
-            } => Err(non_value(e)),
-            ExprKind::Set(_) => Err(non_value(e)),
-            ExprKind::Record(_) => Err(non_value(e)),
+            ExprKind::BinaryApp { op, arg1, arg2 } => {
+                self.binary(alloc, *op, (arg1, arg2), slots, left, e.source_loc())
+            }
+            ExprKind::ExtensionFunctionApp { fn_name, args } => {
+                self.call(alloc, fn_name, args, slots, left)
+            }
+            ExprKind::GetAttr { expr, attr } => {
+                self.attribute(alloc, expr, attr, slots, left, e.source_loc())
+            }
+            ExprKind::HasAttr { expr, attr } => self.has(alloc, expr, attr, slots, left),
+            ExprKind::ExtHasAttr { expr, attrs } => {
+                self.extended_has(alloc, expr, attrs, slots, left)
+            }
+            ExprKind::Like { expr, pattern } => self.like(alloc, expr, pattern, slots, left),
+            ExprKind::Is { expr, entity_type } => self.is(alloc, expr, entity_type, slots, left),
+            ExprKind::Set(parts) => self.set(alloc, parts, slots, left),
+            ExprKind::Record(pairs) => self.record(alloc, pairs, slots, left),
         }
     }
 
-    // `first && second`
+    // `if test_expr then then_expr else else_expr`: the branch that the guard takes, alone.
+    #[cycle(interpret)]
+    fn branch(
+        &self,
+        alloc: Global,
+        test_expr: &Expr,
+        then_expr: &Expr,
+        else_expr: &Expr,
+        slots: &SlotEnv,
+        left: usize,
+    ) -> Result<Value, EvaluationError>
+        ensures { MeetsKind self.now slots.now left (Terms.if_then_else (view test_expr.now) (view then_expr.now) (view else_expr.now)) result }
+    {
+        match self.interpret_within(alloc, test_expr, slots, left) {
+            Ok(value) => match get_as_bool(alloc, &value) {
+                Ok(true) => self.interpret_within(alloc, then_expr, slots, left),
+                Ok(false) => self.interpret_within(alloc, else_expr, slots, left),
+                Err(error) => Err(error),
+            },
+            Err(error) => Err(error),
+        }
+    }
+
+    // `first && second`: a false left side decides.
     #[cycle(interpret)]
     fn both(
         &self,
@@ -218,39 +236,24 @@ impl<'e, 'x, 'f> Evaluator<'e, 'x, 'f> {
         slots: &SlotEnv,
         left: usize,
     ) -> Result<Value, EvaluationError>
-        ensures { Meets (TreatedRule (setting_of self.now (slots_view slots.now)) (TreatedRuns (setting_of self.now (slots_view slots.now)) left) (both (view first.now) (view second.now))) (answer_of result) }
+        ensures { MeetsKind self.now slots.now left (both (view first.now) (view second.now)) result }
     {
         match self.interpret_within(alloc, first, slots, left) {
-            Ok(value) => self.both_after(alloc, &value, second, slots, left),
-            Err(error) => Err(error),
-        }
-    }
-
-    // The right side of `&&`, after this value of the left side: a false left decides.
-    #[cycle(interpret)]
-    fn both_after(
-        &self,
-        alloc: Global,
-        first: &Value,
-        second: &Expr,
-        slots: &SlotEnv,
-        left: usize,
-    ) -> Result<Value, EvaluationError>
-        ensures { Meets (AndLeft (TreatedRuns (setting_of self.now (slots_view slots.now)) left) (bool_of (abstract_value first.now.what)) first.now.what (view second.now)) (answer_of result) }
-    {
-        match get_as_bool(alloc, first) {
-            Ok(true) => match self.interpret_within(alloc, second, slots, left) {
-                Ok(value) => as_bool_value(alloc, &value),
+            Ok(value) => match get_as_bool(alloc, &value) {
+                Ok(true) => match self.interpret_within(alloc, second, slots, left) {
+                    Ok(value) => as_bool_value(alloc, &value),
+                    Err(error) => Err(error),
+                },
+                Ok(false) => Ok(bool_value(false)),
                 Err(error) => Err(error),
             },
-            Ok(false) => Ok(bool_value(false)),
             Err(error) => Err(error),
         }
     }
 
-    // `first == second`
+    // `first || second`: a true left side decides.
     #[cycle(interpret)]
-    fn equal(
+    fn either(
         &self,
         alloc: Global,
         first: &Expr,
@@ -258,31 +261,278 @@ impl<'e, 'x, 'f> Evaluator<'e, 'x, 'f> {
         slots: &SlotEnv,
         left: usize,
     ) -> Result<Value, EvaluationError>
-        ensures { Meets (TreatedRule (setting_of self.now (slots_view slots.now)) (TreatedRuns (setting_of self.now (slots_view slots.now)) left) (binary eq_operator (view first.now) (view second.now))) (answer_of result) }
+        ensures { MeetsKind self.now slots.now left (either (view first.now) (view second.now)) result }
     {
         match self.interpret_within(alloc, first, slots, left) {
-            Ok(first) => match self.interpret_within(alloc, second, slots, left) {
-                Ok(second) => Ok(bool_value(first == second)),
+            Ok(value) => match get_as_bool(alloc, &value) {
+                Ok(true) => Ok(bool_value(true)),
+                Ok(false) => match self.interpret_within(alloc, second, slots, left) {
+                    Ok(value) => as_bool_value(alloc, &value),
+                    Err(error) => Err(error),
+                },
                 Err(error) => Err(error),
             },
             Err(error) => Err(error),
         }
     }
 
-    // An attribute of the variable `context`, which is one level deeper.
-    fn context_attribute(
+    // An operator on one part.
+    #[cycle(interpret)]
+    fn unary(
         &self,
         alloc: Global,
-        attr: &RcStr,
-        loc: Option<Loc>,
+        op: UnaryOp,
+        arg: &Expr,
+        slots: &SlotEnv,
+        left: usize,
+        loc: Option<&Loc>,
+    ) -> Result<Value, EvaluationError>
+        ensures { MeetsKind self.now slots.now left (unary (unary_view op) (view arg.now)) result }
+    {
+        match self.interpret_within(alloc, arg, slots, left) {
+            Ok(value) => unary_app(alloc, op, value, loc),
+            Err(error) => Err(error),
+        }
+    }
+
+    // An operator on two parts: the left, the right, then the operation.
+    #[cycle(interpret)]
+    fn binary(
+        &self,
+        alloc: Global,
+        op: BinaryOp,
+        args: (&Expr, &Expr),
+        slots: &SlotEnv,
+        left: usize,
+        loc: Option<&Loc>,
+    ) -> Result<Value, EvaluationError>
+        ensures { MeetsKind self.now slots.now left (binary (binary_view op) (view args.entry.0.now) (view args.entry.1.now)) result }
+    {
+        match self.interpret_within(alloc, args.0, slots, left) {
+            Ok(first) => match self.interpret_within(alloc, args.1, slots, left) {
+                Ok(second) => self.operate(alloc, op, first, second, loc),
+                Err(error) => Err(error),
+            },
+            Err(error) => Err(error),
+        }
+    }
+
+    // A call of an extension function: its arguments in order, then the look-up of the function.
+    #[cycle(interpret)]
+    fn call(
+        &self,
+        alloc: Global,
+        fn_name: &Name,
+        args: &[Expr],
+        slots: &SlotEnv,
         left: usize,
     ) -> Result<Value, EvaluationError>
-        ensures { (s : _) → Meets (TreatedRule (setting_of self.now s) (TreatedRuns (setting_of self.now s) left) (get_attribute (variable context) (rc_str_bytes attr.now))) (answer_of result) }
+        ensures { MeetsKind self.now slots.now left (call (name_text fn_name.now) (terms_view args.now)) result }
     {
-        if left == 0 {
-            return Err(recursion_limit());
+        match self.values(alloc, args, slots, left) {
+            Ok(_) => Err(no_such_function(fn_name)),
+            Err(error) => Err(error),
         }
-        attribute_of_record(alloc, &self.context, attr, loc)
+    }
+
+    // `expr.attr`
+    #[cycle(interpret)]
+    fn attribute(
+        &self,
+        alloc: Global,
+        expr: &Expr,
+        attr: &RcStr,
+        slots: &SlotEnv,
+        left: usize,
+        loc: Option<&Loc>,
+    ) -> Result<Value, EvaluationError>
+        ensures { MeetsKind self.now slots.now left (get_attribute (view expr.now) (rc_str_bytes attr.now)) result }
+    {
+        match self.interpret_within(alloc, expr, slots, left) {
+            Ok(value) => attribute_of(alloc, self.entities, &value, attr, loc),
+            Err(error) => Err(error),
+        }
+    }
+
+    // `expr has attr`
+    #[cycle(interpret)]
+    fn has(
+        &self,
+        alloc: Global,
+        expr: &Expr,
+        attr: &RcStr,
+        slots: &SlotEnv,
+        left: usize,
+    ) -> Result<Value, EvaluationError>
+        ensures { MeetsKind self.now slots.now left (Terms.has_attribute (view expr.now) (rc_str_bytes attr.now)) result }
+    {
+        match self.interpret_within(alloc, expr, slots, left) {
+            Ok(value) => has_attribute(alloc, self.entities, &value, attr),
+            Err(error) => Err(error),
+        }
+    }
+
+    // `expr has first.second..`
+    #[cycle(interpret)]
+    fn extended_has(
+        &self,
+        alloc: Global,
+        expr: &Expr,
+        attrs: &FirstRest<RcStr>,
+        slots: &SlotEnv,
+        left: usize,
+    ) -> Result<Value, EvaluationError>
+        ensures { MeetsKind self.now slots.now left (extended_has (view expr.now) (rc_str_bytes attrs.now.first) (texts_view attrs.now.rest.items)) result }
+    {
+        match self.interpret_within(alloc, expr, slots, left) {
+            Ok(value) => has_path(alloc, self.entities, &value, attrs),
+            Err(error) => Err(error),
+        }
+    }
+
+    // `expr like pattern`
+    #[cycle(interpret)]
+    fn like(
+        &self,
+        alloc: Global,
+        expr: &Expr,
+        pattern: &Pattern,
+        slots: &SlotEnv,
+        left: usize,
+    ) -> Result<Value, EvaluationError>
+        ensures { MeetsKind self.now slots.now left (like (view expr.now) (pattern_view pattern.now)) result }
+    {
+        match self.interpret_within(alloc, expr, slots, left) {
+            Ok(value) => likeness(alloc, &value, pattern),
+            Err(error) => Err(error),
+        }
+    }
+
+    // `expr is entity_type`
+    #[cycle(interpret)]
+    fn is(
+        &self,
+        alloc: Global,
+        expr: &Expr,
+        entity_type: &EntityType,
+        slots: &SlotEnv,
+        left: usize,
+    ) -> Result<Value, EvaluationError>
+        ensures { MeetsKind self.now slots.now left (Terms.is_of_type (view expr.now) (type_text entity_type.now)) result }
+    {
+        match self.interpret_within(alloc, expr, slots, left) {
+            Ok(value) => is_of_type(alloc, &value, entity_type),
+            Err(error) => Err(error),
+        }
+    }
+
+    // A set of parts.
+    #[cycle(interpret)]
+    fn set(
+        &self,
+        alloc: Global,
+        parts: &[Expr],
+        slots: &SlotEnv,
+        left: usize,
+    ) -> Result<Value, EvaluationError>
+        ensures { MeetsKind self.now slots.now left (set_of (terms_view parts.now)) result }
+    {
+        match self.values(alloc, parts, slots, left) {
+            Ok(values) => set_value(alloc, values),
+            Err(error) => Err(error),
+        }
+    }
+
+    // A record of parts.
+    #[cycle(interpret)]
+    fn record(
+        &self,
+        alloc: Global,
+        pairs: &BTreeMap<RcStr, Expr>,
+        slots: &SlotEnv,
+        left: usize,
+    ) -> Result<Value, EvaluationError>
+        ensures { MeetsKind self.now slots.now left (record_of (fields_view pairs.now.entries)) result }
+    {
+        match self.fields(alloc, pairs, slots, left) {
+            Ok(fields) => record_value(alloc, fields),
+            Err(error) => Err(error),
+        }
+    }
+
+    // The values of the parts in order, or the first error.
+    #[cycle(interpret)]
+    fn values(
+        &self,
+        alloc: Global,
+        parts: &[Expr],
+        slots: &SlotEnv,
+        left: usize,
+    ) -> Result<Vec<Value>, EvaluationError>
+        ensures ok { IfOk result (λ v. GivesParts self.now slots.now left parts.now v.items) }
+        ensures error { IfErr result (λ e. failure_of e ≢ out_of_memory → FailsParts self.now slots.now left parts.now (failure_of e)) }
+    {
+        let mut values: Vec<Value> = Vec::new(alloc);
+        'parts: for part in parts {
+            match self.interpret_within(alloc, part, slots, left) {
+                Ok(value) => values.push(value)?,
+                Err(error) => return Err(error),
+            }
+        }
+        Ok(values)
+    }
+
+    // The values of the parts under their keys, in the order of the keys, or the first error.
+    #[cycle(interpret)]
+    fn fields(
+        &self,
+        alloc: Global,
+        pairs: &BTreeMap<RcStr, Expr>,
+        slots: &SlotEnv,
+        left: usize,
+    ) -> Result<BTreeMap<RcStr, Value>, EvaluationError>
+        ensures ok { IfOk result (λ m. GivesFields self.now slots.now left pairs.now.entries m.entries) }
+        ensures error { IfErr result (λ e. failure_of e ≢ out_of_memory → FailsFields self.now slots.now left pairs.now.entries (failure_of e)) }
+    {
+        let mut fields: BTreeMap<RcStr, Value> = BTreeMap::new(alloc);
+        'fields: for (key, part) in pairs.iter() {
+            match self.interpret_within(alloc, part, slots, left) {
+                Ok(value) => {
+                    let key = key.clone()?;
+                    drop(fields.insert(key, value)?);
+                }
+                Err(error) => return Err(error),
+            }
+        }
+        Ok(fields)
+    }
+
+    // An operator on two values.
+    #[tactic(auto, unfolding(cedar_model::specs::Operators::binary_answer))]
+    fn operate(
+        &self,
+        alloc: Global,
+        op: BinaryOp,
+        first: Value,
+        second: Value,
+        loc: Option<&Loc>,
+    ) -> Result<Value, EvaluationError>
+        ensures { (s : _) → Answers result (stopped (binary_answer (setting_of self.now s) (binary_view op) first.what second.what)) }
+    {
+        match op {
+            BinaryOp::Eq => binary_relation(alloc, op, &first, &second, self.extensions),
+            BinaryOp::Less => binary_relation(alloc, op, &first, &second, self.extensions),
+            BinaryOp::LessEq => binary_relation(alloc, op, &first, &second, self.extensions),
+            BinaryOp::Add => binary_arith(alloc, op, first, second, loc),
+            BinaryOp::Sub => binary_arith(alloc, op, first, second, loc),
+            BinaryOp::Mul => binary_arith(alloc, op, first, second, loc),
+            BinaryOp::In => is_in(alloc, self.entities, &first, &second),
+            BinaryOp::Contains => contains(alloc, &first, &second),
+            BinaryOp::ContainsAll => contains_all(alloc, &first, &second),
+            BinaryOp::ContainsAny => contains_any(alloc, &first, &second),
+            BinaryOp::GetTag => tag_of(alloc, self.entities, &first, &second, loc),
+            BinaryOp::HasTag => has_tag(alloc, self.entities, &first, &second),
+        }
     }
 
     // The value of a variable: an entity of the request, or its context.
@@ -299,81 +549,60 @@ impl<'e, 'x, 'f> Evaluator<'e, 'x, 'f> {
     }
 }
 
-fn is_context(e: &Expr) -> bool
-    ensures { result ≡ Treated.is_context (view e.now) }
-{
-    match e.expr_kind() {
-        ExprKind::Var(var) => match var {
-            Var::Context => true,
-            Var::Principal => false,
-            Var::Action => false,
-            Var::Resource => false,
-        },
-        ExprKind::Lit(_) => false,
-        ExprKind::Slot(_) => false,
-        ExprKind::Unknown(_) => false,
-        ExprKind::If {
-            test_expr: _,
-            then_expr: _,
-            else_expr: _,
-        } => false,
-        ExprKind::And { left: _, right: _ } => false,
-        ExprKind::Or { left: _, right: _ } => false,
-        ExprKind::UnaryApp { op: _, arg: _ } => false,
-        ExprKind::BinaryApp {
-            op: _,
-            arg1: _,
-            arg2: _,
-        } => false,
-        ExprKind::ExtensionFunctionApp {
-            fn_name: _,
-            args: _,
-        } => false,
-        ExprKind::GetAttr { expr: _, attr: _ } => false,
-        ExprKind::HasAttr { expr: _, attr: _ } => false,
-        ExprKind::ExtHasAttr { expr: _, attrs: _ } => false,
-        ExprKind::Like {
-            expr: _,
-            pattern: _,
-        } => false,
-        ExprKind::Is {
-            expr: _,
-            entity_type: _,
-        } => false,
-        ExprKind::Set(_) => false,
-        ExprKind::Record(_) => false,
-    }
-}
-
 fn literal_value(value: &Literal) -> Result<Value, EvaluationError>
     ensures { Answers result (answers_value (plain_represented (literal_view value.now))) }
 {
     Ok(Value::new(ValueKind::Lit(value.clone()?), None))
 }
 
-fn bool_value(b: bool) -> Value
-    ensures { result.what ≡ plain_represented (bool_literal b) }
+// The entity that the slot is linked to.
+#[tactic(auto, unfolding(cedar_model::specs::Operators::slot_answer))]
+fn slot_value(alloc: Global, slots: &SlotEnv, slot: SlotId) -> Result<Value, EvaluationError>
+    ensures { Answers result (slot_answer (slot_view slot) (slots_view slots.now (slot_view slot))) }
 {
-    Value::new(ValueKind::Lit(Literal::Bool(b)), None)
+    match slots.get(&slot) {
+        Some(uid) => {
+            let uid = Rc::new(alloc, uid.clone()?)?;
+            Ok(Value::new(ValueKind::Lit(Literal::EntityUID(uid)), None))
+        }
+        None => Err(EvaluationError::UnlinkedSlot(UnlinkedSlotError {
+            slot,
+            source_loc: None,
+        })),
+    }
+}
+
+fn set_value(alloc: Global, values: Vec<Value>) -> Result<Value, EvaluationError>
+    ensures { Answers result (answers_value (set_represented (canonical_set (whats values.items)))) }
+{
+    Ok(Value::set(alloc, values, None)?)
+}
+
+fn record_value(alloc: Global, fields: BTreeMap<RcStr, Value>) -> Result<Value, EvaluationError>
+    ensures { Answers result (answers_value (record_represented (whats_at fields.entries))) }
+{
+    Ok(Value::record(alloc, fields, None)?)
+}
+
+// The error that no extension has the function, at the place of its name.
+fn no_such_function(fn_name: &Name) -> EvaluationError
+    ensures { FailsWith result (function_is_missing (name_text fn_name.now)) }
+{
+    match fn_name.clone() {
+        Ok(name) => EvaluationError::FailedExtensionFunctionLookup(
+            ExtensionFunctionLookupError::FuncDoesNotExist(FuncDoesNotExistError {
+                name,
+                source_loc: fn_name.loc().copied(),
+            }),
+        ),
+        Err(error) => EvaluationError::Memory(error),
+    }
 }
 
 fn recursion_limit() -> EvaluationError
     ensures { failure_of result ≡ Failures.recursion_limit }
 {
     EvaluationError::RecursionLimit(RecursionLimitError { source_loc: None })
-}
-
-// The error that this expression is left, at the expression's place.
-fn non_value(e: &Expr) -> EvaluationError
-    ensures { FailsWith result (residual_is_left (view e.now)) }
-{
-    match e.clone() {
-        Ok(expr) => EvaluationError::NonValue(NonValueError {
-            expr,
-            source_loc: e.source_loc().copied(),
-        }),
-        Err(error) => EvaluationError::Memory(error),
-    }
 }
 
 // The error, at this place if it has none.
@@ -387,26 +616,6 @@ fn with_enclosing_loc(error: EvaluationError, loc: Option<Loc>) -> EvaluationErr
     }
 }
 
-// The boolean, or a type error that expects one.
-#[tactic(auto, unfolding(cedar_model::specs::Outcomes::bool_of))]
-fn get_as_bool(alloc: Global, value: &Value) -> Result<bool, EvaluationError>
-    ensures ok { IfOk result (λ b. bool_of (abstract_value value.now.what) ≡ Some b) }
-    ensures not_bool { IfErr result (λ e. failure_of e ≢ out_of_memory → bool_of (abstract_value value.now.what) ≡ None) }
-    ensures error { IfErr result (λ e. FailsWith e (wrong_type bool_type [] (abstract_value value.now.what))) }
-{
-    match value.value_kind() {
-        ValueKind::Lit(literal) => match literal {
-            Literal::Bool(b) => Ok(*b),
-            Literal::Long(_) => Err(type_error(alloc, Type::Bool, value)),
-            Literal::String(_) => Err(type_error(alloc, Type::Bool, value)),
-            Literal::EntityUID(_) => Err(type_error(alloc, Type::Bool, value)),
-        },
-        ValueKind::Set(_) => Err(type_error(alloc, Type::Bool, value)),
-        ValueKind::Record(_) => Err(type_error(alloc, Type::Bool, value)),
-        ValueKind::ExtensionValue(_) => Err(type_error(alloc, Type::Bool, value)),
-    }
-}
-
 // The value, if it is a boolean, or a type error that expects one.
 #[tactic(auto, unfolding(cedar_model::specs::Rules::bool_or_failure))]
 fn as_bool_value(alloc: Global, value: &Value) -> Result<Value, EvaluationError>
@@ -416,69 +625,4 @@ fn as_bool_value(alloc: Global, value: &Value) -> Result<Value, EvaluationError>
         Ok(b) => Ok(bool_value(b)),
         Err(error) => Err(error),
     }
-}
-
-// The error that the value is not of this type, at the value's place.
-fn type_error(alloc: Global, expected: Type, value: &Value) -> EvaluationError
-    ensures { FailsWith result (wrong_type (type_view expected) [] (abstract_value value.now.what)) }
-{
-    match value.type_of() {
-        Ok(actual) => EvaluationError::TypeError(TypeError {
-            expected: FirstRest {
-                first: expected,
-                rest: Vec::new(alloc),
-            },
-            actual,
-            source_loc: value.source_loc().copied(),
-        }),
-        Err(error) => EvaluationError::Memory(error),
-    }
-}
-
-// The value at the key, or an error at this place that shows the first five keys.
-#[tactic(auto, unfolding(cedar_model::specs::Operators::value_or_failure))]
-fn attribute_of_record(
-    alloc: Global,
-    pairs: &BTreeMap<RcStr, Value>,
-    attr: &RcStr,
-    loc: Option<Loc>,
-) -> Result<Value, EvaluationError>
-    ensures { Answers result (attribute_of_fields (whats_at pairs.now.entries) (rc_str_bytes attr.now)) }
-{
-    match pairs.get(attr) {
-        Some(value) => Ok(value.clone()?),
-        None => Err(attribute_does_not_exist(alloc, pairs, attr, loc)?),
-    }
-}
-
-fn attribute_does_not_exist(
-    alloc: Global,
-    pairs: &BTreeMap<RcStr, Value>,
-    attr: &RcStr,
-    source_loc: Option<Loc>,
-) -> Result<EvaluationError, AllocError>
-    ensures { IfOk result (λ e. failure_of e ≡ key_is_missing (rc_str_bytes attr.now) (represented_names (whats_at pairs.now.entries))) }
-{
-    let attr = attr.clone()?;
-    let available_attrs = first_keys(alloc, pairs)?;
-    Ok(EvaluationError::RecordAttrDoesNotExist(RecordAttrDoesNotExistError {
-        attr,
-        available_attrs,
-        total_attrs: pairs.len(),
-        source_loc,
-    }))
-}
-
-// The first five keys, by bytes.
-fn first_keys(alloc: Global, pairs: &BTreeMap<RcStr, Value>) -> Result<Vec<RcStr>, AllocError>
-    ensures { IfOk result (λ v. texts_view v.items ≡ shown_names (represented_names (whats_at pairs.now.entries))) }
-{
-    let mut keys: Vec<RcStr> = Vec::new(alloc);
-    'keys: for key in pairs.keys() {
-        if keys.len() == TOO_MANY_ATTRS {
-            return Ok(keys);
-        }
-        keys.push(key.clone()?)?;
-    }
-    Ok(keys)
 }

@@ -1,31 +1,18 @@
+use Rattle.std.proofs.Common.{◌≡◌, ◌+◌, suc, ◌∷◌, drop, Some, Ok, arith, ap, refl, sym, ◌∙◌}
+use Rattle.std.proofs.Math.Seq.{drop-cons}
+use Rattle.std.proofs.lemmas.List.{drop_all}
+use Rattle.std.specs.Rc.{rc_str_bytes}
+use Rattle.cedar_values.specs.Failures.{failure_of}
+use Rattle.cedar_expressions.specs.View.{view, terms_view, fields_view}
+use Rattle.cedar_model.specs.Failures.{fails, answers_value}
+use Rattle.cedar_expressions.proofs.Levels.{kind_view-Lit, kind_view-Var, kind_view-Slot, kind_view-Unknown}
 use Rattle.cedar_layers.specs.Policies.{slots_view}
-use Rattle.std.proofs.Common.{◌≡◌, Some, rules, arith, ◌∙◌, sym, ap, refl, subst}
-use Rattle.cedar_model.specs.Terms.{variable}
-use Rattle.cedar_model.specs.Failures.{fails, answers_value, answers_bool}
-use Rattle.cedar_names.specs.Leaves.{variable_view}
-use Rattle.cedar_expressions.specs.View.{view, kind_view}
-use Rattle.cedar_expressions.proofs.Levels.{kind_view-Var}
-use Rattle.cedar_evaluator.specs.Treated.{TreatedRule}
-use Rattle.cedar_evaluator.proofs.Steps.{value_is_no_want, at_none, at_some, and_reads, and_right_fails, equal_reads, equal_right_fails}
+use Rattle.cedar_evaluator.specs.Stops.{StoppingRuns}
+use Rattle.cedar_evaluator.specs.Evaluations.{setting_of}
+use Rattle.cedar_evaluator.proofs.Steps.{value_is_no_want, at_none, at_some}
+use Rattle.cedar_evaluator.proofs.Steps as step
+use Rattle.cedar_evaluator.proofs.Parts as parts
 use Rattle.cedar_evaluator.proofs.evaluator.Evaluator.+interpret.Goals as goal
-
-pub both_after-returns-in-Ok : goal.both_after-returns-in-Ok
-both_after-returns-in-Ok t c = and_reads _ _ _ _ _ _ (c.in-Ok-true.ensures.ok ∙ ap Some c.in-Ok-true.field-0-test) c.in-Ok.ensures.answer c.as_bool_value.ensures
-
-pub both_after-returns-in-Err-interpret_within : goal.both_after-returns-in-Err-interpret_within
-both_after-returns-in-Err-interpret_within t c = and_right_fails _ _ _ _ _ (c.in-Ok-true.ensures.ok ∙ ap Some c.in-Ok-true.field-0-test) c.in-Err-interpret_within.ensures.answer
-
-pub equal-returns-in-Ok-interpret_within : goal.equal-returns-in-Ok-interpret_within
-equal-returns-in-Ok-interpret_within t c =
-    λ ok. equal_reads _ _ _ _ _ _ _ c.in-Ok.ensures.answer c.in-Ok-interpret_within.ensures.answer (ap answers_value c.bool_value.ensures ∙ ap answers_bool c.eq.ensures)
-
-pub equal-returns-in-Ok : goal.equal-returns-in-Ok
-equal-returns-in-Ok t c =
-    λ ok. equal_right_fails _ _ _ _ _ _ c.in-Ok.ensures.answer c.in-Err-interpret_within.ensures.answer ok
-
-pub interpret_kind-returns-in-Var : goal.interpret_kind-returns-in-Var
-interpret_kind-returns-in-Var t c =
-    λ ok. rw (← c.expr_kind.ensures.view, c.in-Var.is, kind_view-Var) (c.variable.ensures (slots_view c.args.slots.now) ok)
 
 pub interpret_within-returns-then-left-eq0-clause-answer : goal.interpret_within-returns-then-left-eq0-clause-answer
 interpret_within-returns-then-left-eq0-clause-answer t c =
@@ -38,3 +25,285 @@ interpret_within-returns-in-Ok-clause-answer t c =
 pub interpret_within-returns-in-Err-clause-answer : goal.interpret_within-returns-in-Err-clause-answer
 interpret_within-returns-in-Err-clause-answer t c =
     λ ok. at_some _ _ _ _ (omega arith) (rw c.with_enclosing_loc.ensures (c.in-Err.ensures (rw c.with_enclosing_loc.ensures at ok)))
+
+pub interpret_kind-returns-in-Lit : goal.interpret_kind-returns-in-Lit
+interpret_kind-returns-in-Lit t c =
+    let s = setting_of c.args.self.now (slots_view c.args.slots.now) in
+    let May = StoppingRuns s c.args.left in
+    λ ok. rw (← c.expr_kind.ensures.view, c.in-Lit.is, kind_view-Lit) (step.literal_gives s May _ _ c.literal_value.ensures ok)
+
+pub interpret_kind-returns-in-Var : goal.interpret_kind-returns-in-Var
+interpret_kind-returns-in-Var t c =
+    let s = setting_of c.args.self.now (slots_view c.args.slots.now) in
+    let May = StoppingRuns s c.args.left in
+    λ ok. rw (← c.expr_kind.ensures.view, c.in-Var.is, kind_view-Var) (step.variable_gives s May _ _ (c.variable.ensures (slots_view c.args.slots.now)) ok)
+
+pub interpret_kind-returns-in-Slot : goal.interpret_kind-returns-in-Slot
+interpret_kind-returns-in-Slot t c =
+    let s = setting_of c.args.self.now (slots_view c.args.slots.now) in
+    let May = StoppingRuns s c.args.left in
+    λ ok. rw (← c.expr_kind.ensures.view, c.in-Slot.is, kind_view-Slot) (step.slot_gives s May _ _ c.slot_value.ensures ok)
+
+pub interpret_kind-returns-in-Unknown : goal.interpret_kind-returns-in-Unknown
+interpret_kind-returns-in-Unknown t c =
+    let s = setting_of c.args.self.now (slots_view c.args.slots.now) in
+    let May = StoppingRuns s c.args.left in
+    λ ok. rw (← c.expr_kind.ensures.view, c.in-Unknown.is, kind_view-Unknown) (step.unknown_stops s May _ _ c.non_value.result refl (rw (← c.expr_kind.ensures.view, c.in-Unknown.is, kind_view-Unknown) at c.non_value.ensures) ok)
+
+pub branch-returns-in-Ok-true : goal.branch-returns-in-Ok-true
+branch-returns-in-Ok-true t c =
+    let s = setting_of c.args.self.now (slots_view c.args.slots.now) in
+    let May = StoppingRuns s c.args.left in
+    step.if_true s May _ _ _ _ _ c.in-Ok.ensures.answer (c.in-Ok-true.ensures.ok ∙ ap Some c.in-Ok-true.field-0-test) c.interpret_within-in-Ok-true.ensures.answer
+
+pub branch-returns-in-Ok-false : goal.branch-returns-in-Ok-false
+branch-returns-in-Ok-false t c =
+    let s = setting_of c.args.self.now (slots_view c.args.slots.now) in
+    let May = StoppingRuns s c.args.left in
+    step.if_false s May _ _ _ _ _ c.in-Ok.ensures.answer (c.in-Ok-false.ensures.ok ∙ ap Some c.in-Ok-false.field-0-test) c.interpret_within-in-Ok-false.ensures.answer
+
+pub branch-returns-in-Ok : goal.branch-returns-in-Ok
+branch-returns-in-Ok t c =
+    let s = setting_of c.args.self.now (slots_view c.args.slots.now) in
+    let May = StoppingRuns s c.args.left in
+    step.if_no_bool s May _ _ _ _ c.in-Err-get_as_bool.error c.in-Ok.ensures.answer c.in-Err-get_as_bool.ensures.no_bool c.in-Err-get_as_bool.ensures.error
+
+pub branch-returns : goal.branch-returns
+branch-returns t c =
+    let s = setting_of c.args.self.now (slots_view c.args.slots.now) in
+    let May = StoppingRuns s c.args.left in
+    step.if_fails s May _ _ _ c.in-Err.error c.in-Err.ensures.answer
+
+pub both-returns-in-Ok-interpret_within : goal.both-returns-in-Ok-interpret_within
+both-returns-in-Ok-interpret_within t c =
+    let s = setting_of c.args.self.now (slots_view c.args.slots.now) in
+    let May = StoppingRuns s c.args.left in
+    step.and_reads s May _ _ _ _ _ c.in-Ok.ensures.answer (c.in-Ok-true.ensures.ok ∙ ap Some c.in-Ok-true.field-0-test) c.in-Ok-interpret_within.ensures.answer c.as_bool_value.ensures
+
+pub both-returns-in-Ok-true : goal.both-returns-in-Ok-true
+both-returns-in-Ok-true t c =
+    let s = setting_of c.args.self.now (slots_view c.args.slots.now) in
+    let May = StoppingRuns s c.args.left in
+    step.and_right_fails s May _ _ _ c.in-Err-interpret_within.error c.in-Ok.ensures.answer (c.in-Ok-true.ensures.ok ∙ ap Some c.in-Ok-true.field-0-test) c.in-Err-interpret_within.ensures.answer
+
+pub both-returns-in-Ok-false : goal.both-returns-in-Ok-false
+both-returns-in-Ok-false t c =
+    let s = setting_of c.args.self.now (slots_view c.args.slots.now) in
+    let May = StoppingRuns s c.args.left in
+    step.and_decides s May _ _ _ (Ok c.bool_value.result) c.in-Ok.ensures.answer (c.in-Ok-false.ensures.ok ∙ ap Some c.in-Ok-false.field-0-test) (ap answers_value c.bool_value.ensures)
+
+pub both-returns-in-Ok : goal.both-returns-in-Ok
+both-returns-in-Ok t c =
+    let s = setting_of c.args.self.now (slots_view c.args.slots.now) in
+    let May = StoppingRuns s c.args.left in
+    step.and_no_bool s May _ _ _ c.in-Err-get_as_bool.error c.in-Ok.ensures.answer c.in-Err-get_as_bool.ensures.no_bool c.in-Err-get_as_bool.ensures.error
+
+pub both-returns : goal.both-returns
+both-returns t c =
+    let s = setting_of c.args.self.now (slots_view c.args.slots.now) in
+    let May = StoppingRuns s c.args.left in
+    step.and_fails s May _ _ c.in-Err.error c.in-Err.ensures.answer
+
+pub either-returns-in-Ok-true : goal.either-returns-in-Ok-true
+either-returns-in-Ok-true t c =
+    let s = setting_of c.args.self.now (slots_view c.args.slots.now) in
+    let May = StoppingRuns s c.args.left in
+    step.or_decides s May _ _ _ (Ok c.bool_value.result) c.in-Ok.ensures.answer (c.in-Ok-true.ensures.ok ∙ ap Some c.in-Ok-true.field-0-test) (ap answers_value c.bool_value.ensures)
+
+pub either-returns-in-Ok-interpret_within : goal.either-returns-in-Ok-interpret_within
+either-returns-in-Ok-interpret_within t c =
+    let s = setting_of c.args.self.now (slots_view c.args.slots.now) in
+    let May = StoppingRuns s c.args.left in
+    step.or_reads s May _ _ _ _ _ c.in-Ok.ensures.answer (c.in-Ok-false.ensures.ok ∙ ap Some c.in-Ok-false.field-0-test) c.in-Ok-interpret_within.ensures.answer c.as_bool_value.ensures
+
+pub either-returns-in-Ok-false : goal.either-returns-in-Ok-false
+either-returns-in-Ok-false t c =
+    let s = setting_of c.args.self.now (slots_view c.args.slots.now) in
+    let May = StoppingRuns s c.args.left in
+    step.or_right_fails s May _ _ _ c.in-Err-interpret_within.error c.in-Ok.ensures.answer (c.in-Ok-false.ensures.ok ∙ ap Some c.in-Ok-false.field-0-test) c.in-Err-interpret_within.ensures.answer
+
+pub either-returns-in-Ok : goal.either-returns-in-Ok
+either-returns-in-Ok t c =
+    let s = setting_of c.args.self.now (slots_view c.args.slots.now) in
+    let May = StoppingRuns s c.args.left in
+    step.or_no_bool s May _ _ _ c.in-Err-get_as_bool.error c.in-Ok.ensures.answer c.in-Err-get_as_bool.ensures.no_bool c.in-Err-get_as_bool.ensures.error
+
+pub either-returns : goal.either-returns
+either-returns t c =
+    let s = setting_of c.args.self.now (slots_view c.args.slots.now) in
+    let May = StoppingRuns s c.args.left in
+    step.or_fails s May _ _ c.in-Err.error c.in-Err.ensures.answer
+
+pub unary-returns-in-Ok : goal.unary-returns-in-Ok
+unary-returns-in-Ok t c =
+    let s = setting_of c.args.self.now (slots_view c.args.slots.now) in
+    let May = StoppingRuns s c.args.left in
+    step.unary_reads s May _ _ _ _ c.in-Ok.ensures.answer c.unary_app.ensures
+
+pub unary-returns-in-Err : goal.unary-returns-in-Err
+unary-returns-in-Err t c =
+    let s = setting_of c.args.self.now (slots_view c.args.slots.now) in
+    let May = StoppingRuns s c.args.left in
+    step.unary_fails s May _ _ c.in-Err.error c.in-Err.ensures.answer
+
+pub binary-returns-in-Ok-interpret_within : goal.binary-returns-in-Ok-interpret_within
+binary-returns-in-Ok-interpret_within t c =
+    let s = setting_of c.args.self.now (slots_view c.args.slots.now) in
+    let May = StoppingRuns s c.args.left in
+    step.binary_reads s May _ _ _ _ _ _ c.in-Ok.ensures.answer c.in-Ok-interpret_within.ensures.answer (c.operate.ensures (slots_view c.args.slots.now))
+
+pub binary-returns-in-Err-interpret_within : goal.binary-returns-in-Err-interpret_within
+binary-returns-in-Err-interpret_within t c =
+    let s = setting_of c.args.self.now (slots_view c.args.slots.now) in
+    let May = StoppingRuns s c.args.left in
+    step.binary_right_fails s May _ _ _ _ c.in-Err-interpret_within.error c.in-Ok.ensures.answer c.in-Err-interpret_within.ensures.answer
+
+pub binary-returns-in-Err : goal.binary-returns-in-Err
+binary-returns-in-Err t c =
+    let s = setting_of c.args.self.now (slots_view c.args.slots.now) in
+    let May = StoppingRuns s c.args.left in
+    step.binary_fails s May _ _ _ c.in-Err.error c.in-Err.ensures.answer
+
+pub call-returns-in-Ok : goal.call-returns-in-Ok
+call-returns-in-Ok t c =
+    let s = setting_of c.args.self.now (slots_view c.args.slots.now) in
+    let May = StoppingRuns s c.args.left in
+    step.call_reads s May _ _ _ c.no_such_function.result refl c.in-Ok.ensures.ok c.no_such_function.ensures
+
+pub call-returns : goal.call-returns
+call-returns t c =
+    let s = setting_of c.args.self.now (slots_view c.args.slots.now) in
+    let May = StoppingRuns s c.args.left in
+    step.call_fails s May _ _ c.in-Err.error c.in-Err.ensures.error
+
+pub attribute-returns-in-Ok : goal.attribute-returns-in-Ok
+attribute-returns-in-Ok t c =
+    let s = setting_of c.args.self.now (slots_view c.args.slots.now) in
+    let May = StoppingRuns s c.args.left in
+    step.attribute_reads s May _ _ _ _ c.in-Ok.ensures.answer (c.attribute_of.ensures s)
+
+pub attribute-returns-in-Err : goal.attribute-returns-in-Err
+attribute-returns-in-Err t c =
+    let s = setting_of c.args.self.now (slots_view c.args.slots.now) in
+    let May = StoppingRuns s c.args.left in
+    step.attribute_fails s May _ _ c.in-Err.error c.in-Err.ensures.answer
+
+pub has-returns-in-Ok : goal.has-returns-in-Ok
+has-returns-in-Ok t c =
+    let s = setting_of c.args.self.now (slots_view c.args.slots.now) in
+    let May = StoppingRuns s c.args.left in
+    step.has_reads s May _ _ _ _ c.in-Ok.ensures.answer c.has_attribute.ensures
+
+pub has-returns-in-Err : goal.has-returns-in-Err
+has-returns-in-Err t c =
+    let s = setting_of c.args.self.now (slots_view c.args.slots.now) in
+    let May = StoppingRuns s c.args.left in
+    step.has_fails s May _ _ c.in-Err.error c.in-Err.ensures.answer
+
+pub extended_has-returns-in-Ok : goal.extended_has-returns-in-Ok
+extended_has-returns-in-Ok t c =
+    let s = setting_of c.args.self.now (slots_view c.args.slots.now) in
+    let May = StoppingRuns s c.args.left in
+    step.path_reads s May _ _ _ _ _ c.in-Ok.ensures.answer c.has_path.ensures
+
+pub extended_has-returns-in-Err : goal.extended_has-returns-in-Err
+extended_has-returns-in-Err t c =
+    let s = setting_of c.args.self.now (slots_view c.args.slots.now) in
+    let May = StoppingRuns s c.args.left in
+    step.path_fails s May _ _ _ c.in-Err.error c.in-Err.ensures.answer
+
+pub like-returns-in-Ok : goal.like-returns-in-Ok
+like-returns-in-Ok t c =
+    let s = setting_of c.args.self.now (slots_view c.args.slots.now) in
+    let May = StoppingRuns s c.args.left in
+    step.like_reads s May _ _ _ _ c.in-Ok.ensures.answer c.likeness.ensures
+
+pub like-returns-in-Err : goal.like-returns-in-Err
+like-returns-in-Err t c =
+    let s = setting_of c.args.self.now (slots_view c.args.slots.now) in
+    let May = StoppingRuns s c.args.left in
+    step.like_fails s May _ _ c.in-Err.error c.in-Err.ensures.answer
+
+pub is-returns-in-Ok : goal.is-returns-in-Ok
+is-returns-in-Ok t c =
+    let s = setting_of c.args.self.now (slots_view c.args.slots.now) in
+    let May = StoppingRuns s c.args.left in
+    step.is_reads s May _ _ _ _ c.in-Ok.ensures.answer c.is_of_type.ensures
+
+pub is-returns-in-Err : goal.is-returns-in-Err
+is-returns-in-Err t c =
+    let s = setting_of c.args.self.now (slots_view c.args.slots.now) in
+    let May = StoppingRuns s c.args.left in
+    step.is_fails s May _ _ c.in-Err.error c.in-Err.ensures.answer
+
+pub set-returns-in-Ok : goal.set-returns-in-Ok
+set-returns-in-Ok t c =
+    let s = setting_of c.args.self.now (slots_view c.args.slots.now) in
+    let May = StoppingRuns s c.args.left in
+    step.set_reads s May _ _ _ c.in-Ok.ensures.ok c.set_value.ensures
+
+pub set-returns-in-Err : goal.set-returns-in-Err
+set-returns-in-Err t c =
+    let s = setting_of c.args.self.now (slots_view c.args.slots.now) in
+    let May = StoppingRuns s c.args.left in
+    step.set_fails s May _ c.in-Err.error c.in-Err.ensures.error
+
+pub record-returns-in-Ok : goal.record-returns-in-Ok
+record-returns-in-Ok t c =
+    let s = setting_of c.args.self.now (slots_view c.args.slots.now) in
+    let May = StoppingRuns s c.args.left in
+    step.record_reads s May _ _ _ c.in-Ok.ensures.ok (rw parts.whats_at-values_under c.record_value.ensures)
+
+pub record-returns-in-Err : goal.record-returns-in-Err
+record-returns-in-Err t c =
+    let s = setting_of c.args.self.now (slots_view c.args.slots.now) in
+    let May = StoppingRuns s c.args.left in
+    step.record_fails s May _ c.in-Err.error c.in-Err.ensures.error
+
+pub values-parts-preserved : goal.values-parts-preserved
+values-parts-preserved t c =
+    let s = setting_of c.args.self.now (slots_view c.args.slots.now) in
+    let May = StoppingRuns s c.args.left in
+    let items = c.args.parts.now in
+    let i = c.parts.part-index in
+    let item = c.part-item.result in
+    let more : suc i ≡ i + 1 = omega arith in
+    let next : drop i items ≡ item ∷ drop (i + 1) items = drop-cons items i item c.parts-test.true ∙ ap (λ p. p ∷ drop (suc i) items) (sym c.part-item.is) ∙ ap (λ j. item ∷ drop j items) more in
+    rw c.in_ok-push-in-Ok.ensures.items (parts.collected_more May (terms_view items) (terms_view (drop i items)) (terms_view (drop (i + 1) items)) (view item) c.parts.values.items c.in-Ok.value c.parts.invariant (ap terms_view next) (c.in-Ok.ensures.answer (value_is_no_want _)))
+
+pub values-returns-in-Err-clause-error : goal.values-returns-in-Err-clause-error
+values-returns-in-Err-clause-error t c =
+    let s = setting_of c.args.self.now (slots_view c.args.slots.now) in
+    let May = StoppingRuns s c.args.left in
+    let items = c.args.parts.now in
+    let i = c.parts.part-index in
+    let item = c.part-item.result in
+    let more : suc i ≡ i + 1 = omega arith in
+    let next : drop i items ≡ item ∷ drop (i + 1) items = drop-cons items i item c.parts-test.true ∙ ap (λ p. p ∷ drop (suc i) items) (sym c.part-item.is) ∙ ap (λ j. item ∷ drop j items) more in
+    λ m. parts.collected_fails May (terms_view items) (terms_view (drop i items)) (terms_view (drop (i + 1) items)) (view item) c.parts.values.items (failure_of c.in-Err.error) c.parts.invariant (ap terms_view next) (c.in-Err.ensures.answer (step.no_want c.in-Err.error m))
+
+pub values-returns-clause-ok : goal.values-returns-clause-ok
+values-returns-clause-ok t c =
+    let s = setting_of c.args.self.now (slots_view c.args.slots.now) in
+    let May = StoppingRuns s c.args.left in
+    let items = c.args.parts.now in
+    let i = c.parts.part-index in
+    parts.collected_all May (terms_view items) (terms_view (drop i items)) c.parts.values.items c.parts.invariant (ap terms_view (drop_all i items c.parts-test.false))
+
+pub fields-fields-preserved : goal.fields-fields-preserved
+fields-fields-preserved t c =
+    let s = setting_of c.args.self.now (slots_view c.args.slots.now) in
+    let May = StoppingRuns s c.args.left in
+    parts.collected_at_more May _ _ _ _ _ _ _ _ c.in-Some.key.now c.in_ok-key-in-Ok.key (view c.in-Some.part.now) c.in-Ok.value c.fields.invariant (ap fields_view c.in-Some.ensures.steps) (ap parts.names_under c.in-Some.ensures.steps) (parts.names_sorted c.args.pairs.now.entries c.iter-key-items.ensures.ordered) c.in_ok-key-in-Ok.ensures.cases (c.in-Ok.ensures.answer (value_is_no_want _)) c.in_ok-insert-in-Ok.ensures.entries
+
+pub fields-returns-in-Err-clause-error : goal.fields-returns-in-Err-clause-error
+fields-returns-in-Err-clause-error t c =
+    let s = setting_of c.args.self.now (slots_view c.args.slots.now) in
+    let May = StoppingRuns s c.args.left in
+    λ m. parts.collected_at_fails May _ _ _ _ _ _ (rc_str_bytes c.in-Some.key.now) (view c.in-Some.part.now) (failure_of c.in-Err.error) c.fields.invariant (ap fields_view c.in-Some.ensures.steps) (c.in-Err.ensures.answer (step.no_want c.in-Err.error m))
+
+pub fields-returns-clause-ok : goal.fields-returns-clause-ok
+fields-returns-clause-ok t c =
+    let s = setting_of c.args.self.now (slots_view c.args.slots.now) in
+    let May = StoppingRuns s c.args.left in
+    parts.collected_at_all May _ _ _ _ _ c.fields.invariant (ap fields_view c.in-None.ensures.steps.0)

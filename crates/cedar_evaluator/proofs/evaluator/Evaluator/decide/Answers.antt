@@ -7,7 +7,7 @@ returns-in-Ok-get_as_bool c =
 
 pub returns-in-Ok : goal.returns-in-Ok
 returns-in-Ok c =
-    decides_no_bool _ _ _ (rw (c.in_ok-condition.ensures.view, c.env.ensures) at c.in-Ok.ensures.answer) c.in-Err-get_as_bool.ensures.not_bool c.in-Err-get_as_bool.ensures.error
+    decides_no_bool _ _ _ (rw (c.in_ok-condition.ensures.view, c.env.ensures) at c.in-Ok.ensures.answer) c.in-Err-get_as_bool.ensures.no_bool c.in-Err-get_as_bool.ensures.error
 
 pub returns : goal.returns
 returns c = decides_error _ _ (rw (c.in_ok-condition.ensures.view, c.env.ensures) at c.in-Err.ensures.answer)

@@ -1,4 +1,4 @@
-use Rattle.cedar_evaluator.proofs.Throughout.{decided_exactly}
+use Rattle.cedar_evaluator.proofs.Knowing.{decided_exactly}
 use Rattle.cedar_evaluator.proofs.evaluator.Evaluator.evaluate.Goals as goal
 
 pub returns-clause-known : goal.returns-clause-known

@@ -1,4 +1,4 @@
-use Rattle.cedar_evaluator.proofs.Throughout.{known_exactly}
+use Rattle.cedar_evaluator.proofs.Knowing.{known_exactly}
 use Rattle.cedar_evaluator.proofs.evaluator.Evaluator.interpret.Goals as goal
 
 pub returns-clause-known : goal.returns-clause-known

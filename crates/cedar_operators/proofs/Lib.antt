@@ -1,0 +1,6 @@
+pub mod Keys
+pub mod Longs
+pub mod Expecting
+pub mod Stored
+pub mod Likeness
+pub mod Elements

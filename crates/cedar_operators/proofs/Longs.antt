@@ -1,0 +1,103 @@
+-- Longs: what fits 64 bits, and how two compare.
+use Rattle.std.proofs.Common.{◌≡◌, ◌≢◌, ◌≤◌, ◌<◌, ℤ, pos, negsuc, ℕ, leb, Bool, true, false, cond, ◌&&◌, map, [], Option, Some, None, Err, refl, sym, ap, ◌∙◌, FitsSigned, w64, to_z, of_z, le-leb, leb-true, arith}
+use Rattle.std.specs.declared.cmp.Ordering.{Ordering}
+use Rattle.std.specs.Ordering.{int_cmp, nat_cmp}
+use Rattle.std.specs.Cmp.Lexicographic.{slice_cmp}
+use Rattle.cedar_model.specs.Terms.{long_literal, long_type, extension_type}
+use Rattle.cedar_model.specs.Values.{AbstractValue, plain, set_value, record_value, extension_value, plain_represented}
+use Rattle.cedar_model.specs.Outcomes.{long_of, is_long, text_eq, has_text}
+use Rattle.cedar_model.specs.World.{Extensions}
+use Rattle.cedar_model.specs.Meaning.{order_of, extension_order, comparison}
+use Rattle.cedar_model.specs.Failures.{Failure, out_of_memory, fails, answers_value, wrong_type}
+use Rattle.cedar_model.specs.Operators.{long_answer, overloaded_type, order_failure, comparison_failure, comparison_answer}
+use Rattle.cedar_values.specs.declared.evaluator.err.EvaluationError.{EvaluationError}
+use Rattle.cedar_values.specs.Failures.{failure_of}
+use Rattle.cedar_operators.specs.Answering.{Answers, FailsWith}
+use Rattle.cedar_operators.proofs.Expecting.{refuses}
+
+
+no_more : (n : ℕ) (b : Bool) → leb n 9223372036854775807 ≡ b → (n ≤ 9223372036854775807 → ⊥) → leb n 9223372036854775807 ≡ false
+no_more n true e f = absurd (f (leb-true n 9223372036854775807 e))
+no_more n false e f = e
+
+fits_long : (n : ℤ) → FitsSigned w64 n → is_long n ≡ true
+unfolding is_long
+fits_long (pos n) f = le-leb n 9223372036854775807 (omega (arith, f.sfits))
+fits_long (negsuc n) f = le-leb n 9223372036854775807 (omega (arith, f.sfits))
+
+fits_not : (n : ℤ) → (FitsSigned w64 n → ⊥) → is_long n ≡ false
+unfolding is_long
+fits_not (pos n) f =
+    no_more n (leb n 9223372036854775807) refl (λ h. f record { sfits = omega (arith, h) })
+fits_not (negsuc n) f =
+    no_more n (leb n 9223372036854775807) refl (λ h. f record { sfits = omega (arith, h) })
+
+-- a result that fits is answered, and another is an overflow
+pub long_kept : (n m : ℤ) (overflow : Failure) → FitsSigned w64 n → m ≡ n → long_answer n overflow ≡ answers_value (plain_represented (long_literal m))
+long_kept n m overflow f is =
+    ap (λ b. cond b (answers_value (plain_represented (long_literal n))) (fails overflow)) (fits_long n f) ∙ ap (λ k. answers_value (plain_represented (long_literal k))) (sym is)
+
+pub long_over : (n : ℤ) (overflow : Failure) → (FitsSigned w64 n → ⊥) → long_answer n overflow ≡ fails overflow
+long_over n overflow f =
+    ap (λ b. cond b (answers_value (plain_represented (long_literal n))) (fails overflow)) (fits_not n f)
+
+-- ---- comparisons, where no extension type is overloaded
+
+abbrev pub IsBare : Extensions → Type 0
+IsBare X = X.overloaded ≡ []
+
+and_none : (b : Bool) → (b && false) ≡ false
+and_none true = refl
+and_none false = refl
+
+pub longs_compare : (X : Extensions) (v w : AbstractValue) (m n : ℤ) → long_of v ≡ Some m → long_of w ≡ Some n → comparison X v w ≡ Some (int_cmp m n)
+unfolding order_of
+longs_compare X v w m n e f = λ i. order_of (e i) (f i) (extension_order X v w)
+
+no_extension_order : (X : Extensions) (v w : AbstractValue) → IsBare X → extension_order X v w ≡ None
+unfolding extension_order has_text
+no_extension_order X (extension_value s j) (extension_value t k) h =
+    ap (λ os. cond (text_eq s t && has_text s os) (Some (slice_cmp nat_cmp j k)) None) h ∙ ap (λ b. cond b (Some (slice_cmp nat_cmp j k)) None) (and_none (text_eq s t))
+no_extension_order X (extension_value s j) (plain l) h = refl
+no_extension_order X (extension_value s j) (set_value vs) h = refl
+no_extension_order X (extension_value s j) (record_value fs) h = refl
+no_extension_order X (plain l) w h = refl
+no_extension_order X (set_value vs) w h = refl
+no_extension_order X (record_value fs) w h = refl
+
+no_overload : (X : Extensions) (v : AbstractValue) → IsBare X → overloaded_type X v ≡ None
+unfolding overloaded_type has_text
+no_overload X (extension_value t k) h = ap (λ os. cond (has_text t os) (Some t) None) h
+no_overload X (plain l) h = refl
+no_overload X (set_value vs) h = refl
+no_overload X (record_value fs) h = refl
+
+-- a left side that is no long is expected to be one
+pub left_no_long : (X : Extensions) (v w : AbstractValue) → IsBare X → long_of v ≡ None → (comparison X v w ≡ None) × (comparison_failure X v w ≡ wrong_type long_type [] v)
+unfolding order_of order_failure
+left_no_long X v w h e =
+    (ap (λ o. order_of o (long_of w) (extension_order X v w)) e ∙ no_extension_order X v w h, ap (λ o. order_failure X o (long_of w) (overloaded_type X v) (overloaded_type X w) v w) e ∙ left (long_of w))
+  where
+    left : (n : Option ℤ) → order_failure X None n (overloaded_type X v) (overloaded_type X w) v w ≡ wrong_type long_type [] v
+    left (Some n) = refl
+    left None =
+        (λ i. order_failure X None None (no_overload X v h i) (no_overload X w h i) v w) ∙ ap (λ os. wrong_type long_type (map extension_type os) v) h
+
+-- beside a left side that is a long, the right is expected to be one
+pub right_no_long : (X : Extensions) (v w : AbstractValue) (m : ℤ) → IsBare X → long_of v ≡ Some m → long_of w ≡ None → (comparison X v w ≡ None) × (comparison_failure X v w ≡ wrong_type long_type [] w)
+unfolding order_of order_failure
+right_no_long X v w m h e f =
+    ((λ i. order_of (e i) (f i) (extension_order X v w)) ∙ no_extension_order X v w h, ap (λ o. order_failure X o (long_of w) (overloaded_type X v) (overloaded_type X w) v w) e)
+
+-- where one side is no long, `<` and `<=` answer that it is expected to be one
+pub left_refused : (X : Extensions) (test : Ordering → Bool) (v w : AbstractValue) (e : EvaluationError) → IsBare X → (failure_of e ≢ out_of_memory → long_of v ≡ None) → FailsWith e (wrong_type long_type [] v) → Answers (Err e) (comparison_answer X test v w)
+left_refused X test v w e h none is ok =
+    let want : failure_of e ≢ out_of_memory = λ m. ok (ap fails m) in
+    let both_are = left_no_long X v w h (none want) in
+    refuses _ _ _ e (λ _. both_are.0) (λ _. is want ∙ sym both_are.1) ok
+
+pub right_refused : (X : Extensions) (test : Ordering → Bool) (v w : AbstractValue) (m : ℤ) (e : EvaluationError) → IsBare X → long_of v ≡ Some m → (failure_of e ≢ out_of_memory → long_of w ≡ None) → FailsWith e (wrong_type long_type [] w) → Answers (Err e) (comparison_answer X test v w)
+right_refused X test v w m e h a_long none is ok =
+    let want : failure_of e ≢ out_of_memory = λ n. ok (ap fails n) in
+    let both_are = right_no_long X v w m h a_long (none want) in
+    refuses _ _ _ e (λ _. both_are.0) (λ _. is want ∙ sym both_are.1) ok

@@ -1,0 +1,13 @@
+use Rattle.std.proofs.Common.{◌∙◌, sym, ap, refl}
+use Rattle.cedar_model.specs.Failures.{answers_value, fails}
+use Rattle.cedar_data.specs.Sound.{Placed}
+use Rattle.cedar_operators.proofs.Keys.{found_value, missing_value}
+use Rattle.cedar_operators.proofs.attributes.attribute_of_record.Goals as goal
+
+pub returns-in_ok-clone-in-Some : goal.returns-in_ok-clone-in-Some
+returns-in_ok-clone-in-Some c =
+    λ ok. ap (λ (p : Placed). answers_value p.what) c.in_ok-clone-in-Some.ensures.cases ∙ sym (found_value _ _ _ _ _ c.in-Some.ensures.value refl)
+
+pub returns-in-None : goal.returns-in-None
+returns-in-None c =
+    λ ok. ap fails (c.no_such_key.ensures (λ m. ok (ap fails m))) ∙ sym (missing_value _ _ _ _ c.in-None.ensures.value refl)

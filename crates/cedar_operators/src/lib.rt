@@ -1,0 +1,12 @@
+//! What operators answer to values, over a store of entities: one function for each row of the rules, below the evaluator, which
+//! finds the values. `cedar_evaluator` exports those that its users call.
+#![tactic(auto)]
+
+pub mod attributes;
+pub mod failures;
+pub mod missing;
+pub mod numbers;
+pub mod operators;
+pub mod sets;
+pub mod store;
+pub mod typed;

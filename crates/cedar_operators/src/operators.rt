@@ -1,0 +1,142 @@
+//! Operators on one value, and the relations and the arithmetic of two.
+ghost use Rattle.std.specs.Prelude.{◌≡◌, true};
+ghost use Rattle.cedar_model.specs.Terms.{not_operator, is_empty_operator, eq_operator};
+ghost use Rattle.cedar_model.specs.Settings.{Setting};
+ghost use Rattle.cedar_model.specs.Operators.{unary_answer, binary_answer, like_answer, is_answer};
+ghost use Rattle.cedar_names.specs.Names.{type_text};
+ghost use Rattle.cedar_names.specs.Leaves.{unary_view, binary_view, pattern_view};
+ghost use Rattle.cedar_operators.specs.Answering.{Answers};
+ghost use Rattle.cedar_operators.specs.Operations.{extensions_view, with_extensions, is_relation, is_arithmetic};
+
+use crate::numbers::{difference, less, less_or_equal, negated, product, sum};
+use crate::typed::{bool_value, get_as_bool, get_as_entity, get_as_set, get_as_string};
+use cedar_layers::expressions::{BinaryOp, EntityType, Loc, Pattern, UnaryOp, Value};
+use cedar_values::evaluator::err::EvaluationError;
+use cedar_values::extensions::Extensions;
+use std::alloc::Global;
+
+/// An operator on one value: `!` of a boolean, `-` of a long, `isEmpty` of a set. A value of another type is a `TypeError` at the
+/// value's place; a negated long that needs more than 64 bits is an `IntegerOverflow` with its operand, at the place handed in.
+/// The result is at no known place.
+pub fn unary_app(
+    alloc: Global,
+    op: UnaryOp,
+    arg: Value,
+    loc: Option<&Loc>,
+) -> Result<Value, EvaluationError>
+    ensures { Answers result (unary_answer (unary_view op) arg.what) }
+{
+    match op {
+        UnaryOp::Not => negation(alloc, &arg),
+        UnaryOp::Neg => negated(alloc, arg, loc),
+        UnaryOp::IsEmpty => emptiness(alloc, &arg),
+    }
+}
+
+/// A relation of two values, as its caller hands `Eq`, `Less` or `LessEq`: `==` of any two, `<` and `<=` of two longs. Where one
+/// side is a long and the other is not, that other is a `TypeError` that expects a long; else the left is.
+/// The result is at no known place.
+#[tactic(auto, unfolding(cedar_model::specs::Operators::binary_answer))]
+pub fn binary_relation(
+    alloc: Global,
+    op: BinaryOp,
+    a: &Value,
+    b: &Value,
+    extensions: &Extensions<'_>,
+) -> Result<Value, EvaluationError>
+    requires { is_relation (binary_view op) ≡ true }
+    ensures { (s : Setting) → Answers result (binary_answer (with_extensions s (extensions_view extensions.now)) (binary_view op) a.now.what b.now.what) }
+{
+    match op {
+        BinaryOp::Eq => Ok(bool_value(a == b)),
+        BinaryOp::Less => less(alloc, a, b, extensions),
+        BinaryOp::LessEq => less_or_equal(alloc, a, b, extensions),
+        BinaryOp::Add => unreachable!(),
+        BinaryOp::Sub => unreachable!(),
+        BinaryOp::Mul => unreachable!(),
+        BinaryOp::In => unreachable!(),
+        BinaryOp::Contains => unreachable!(),
+        BinaryOp::ContainsAll => unreachable!(),
+        BinaryOp::ContainsAny => unreachable!(),
+        BinaryOp::GetTag => unreachable!(),
+        BinaryOp::HasTag => unreachable!(),
+    }
+}
+
+/// Arithmetic of two values, as its caller hands `Add`, `Sub` or `Mul`. An operand, the left first, that is no long is a
+/// `TypeError` at the operand's place; a result that needs more than 64 bits is an `IntegerOverflow` with both operands, at the
+/// place handed in. The result is at no known place.
+#[tactic(auto, unfolding(cedar_model::specs::Operators::binary_answer))]
+pub fn binary_arith(
+    alloc: Global,
+    op: BinaryOp,
+    a: Value,
+    b: Value,
+    loc: Option<&Loc>,
+) -> Result<Value, EvaluationError>
+    requires { is_arithmetic (binary_view op) ≡ true }
+    ensures { (s : Setting) → Answers result (binary_answer s (binary_view op) a.what b.what) }
+{
+    match op {
+        BinaryOp::Eq => unreachable!(),
+        BinaryOp::Less => unreachable!(),
+        BinaryOp::LessEq => unreachable!(),
+        BinaryOp::Add => sum(alloc, a, b, loc),
+        BinaryOp::Sub => difference(alloc, a, b, loc),
+        BinaryOp::Mul => product(alloc, a, b, loc),
+        BinaryOp::In => unreachable!(),
+        BinaryOp::Contains => unreachable!(),
+        BinaryOp::ContainsAll => unreachable!(),
+        BinaryOp::ContainsAny => unreachable!(),
+        BinaryOp::GetTag => unreachable!(),
+        BinaryOp::HasTag => unreachable!(),
+    }
+}
+
+/// `value like pattern`: whether the text is one of the pattern's. A type error where it is no text.
+#[tactic(auto, unfolding(cedar_model::specs::Operators::expecting))]
+pub fn likeness(alloc: Global, value: &Value, pattern: &Pattern) -> Result<Value, EvaluationError>
+    ensures { Answers result (like_answer (pattern_view pattern.now) value.now.what) }
+{
+    match get_as_string(alloc, value) {
+        Ok(text) => Ok(bool_value(pattern.wildcard_match(text))),
+        Err(error) => Err(error),
+    }
+}
+
+/// `value is entity_type`: whether the entity is of the type. A type error where it is no entity.
+#[tactic(auto, unfolding(cedar_model::specs::Operators::expecting))]
+pub fn is_of_type(
+    alloc: Global,
+    value: &Value,
+    entity_type: &EntityType,
+) -> Result<Value, EvaluationError>
+    ensures { Answers result (is_answer (type_text entity_type.now) value.now.what) }
+{
+    match get_as_entity(alloc, value) {
+        Ok(uid) => Ok(bool_value(uid.entity_type() == entity_type)),
+        Err(error) => Err(error),
+    }
+}
+
+// `!arg`
+#[tactic(auto, unfolding(cedar_model::specs::Operators::unary_answer, cedar_model::specs::Operators::expecting))]
+fn negation(alloc: Global, arg: &Value) -> Result<Value, EvaluationError>
+    ensures { Answers result (unary_answer not_operator arg.now.what) }
+{
+    match get_as_bool(alloc, arg) {
+        Ok(b) => Ok(bool_value(!b)),
+        Err(error) => Err(error),
+    }
+}
+
+// `arg.isEmpty()`
+#[tactic(auto, unfolding(cedar_model::specs::Operators::unary_answer, cedar_model::specs::Operators::expecting))]
+fn emptiness(alloc: Global, arg: &Value) -> Result<Value, EvaluationError>
+    ensures { Answers result (unary_answer is_empty_operator arg.now.what) }
+{
+    match get_as_set(alloc, arg) {
+        Ok(set) => Ok(bool_value(set.is_empty())),
+        Err(error) => Err(error),
+    }
+}

@@ -1,0 +1,126 @@
+//! Values of the types that operators take, and the type errors of others.
+ghost use Rattle.std.specs.Prelude.{◌≡◌, ◌≢◌, IfOk, IfErr, Some, None, []};
+ghost use Rattle.std.specs.Rc.{rc_str_bytes};
+ghost use Rattle.cedar_model.specs.Terms.{bool_type, long_type, string_type, set_type};
+ghost use Rattle.cedar_model.specs.Terms as Terms;
+ghost use Rattle.cedar_model.specs.Values.{abstract_value, abstract_values, plain_represented};
+ghost use Rattle.cedar_model.specs.Outcomes.{bool_of, long_of, text_of, entity_of, elements_of};
+ghost use Rattle.cedar_model.specs.Failures.{wrong_type, any_entity, out_of_memory};
+ghost use Rattle.cedar_names.specs.Names.{uid_name};
+ghost use Rattle.cedar_values.specs.Failures.{failure_of};
+ghost use Rattle.cedar_operators.specs.Answering.{FailsWith};
+
+use crate::failures::{entity_expected, type_error};
+use cedar_layers::expressions::{EntityUID, Literal, Set, Type, Value, ValueKind};
+use cedar_values::evaluator::err::EvaluationError;
+use std::alloc::Global;
+use std::rc::{Rc, RcStr};
+
+/// A boolean, at no known place.
+pub fn bool_value(b: bool) -> Value
+    ensures { result.what ≡ plain_represented (Terms.bool_literal b) }
+{
+    Value::new(ValueKind::Lit(Literal::Bool(b)), None)
+}
+
+/// A long, at no known place.
+pub fn long_value(n: i64) -> Value
+    ensures { result.what ≡ plain_represented (Terms.long_literal n) }
+{
+    Value::new(ValueKind::Lit(Literal::Long(n)), None)
+}
+
+/// The boolean, or a type error that expects one.
+#[tactic(auto, unfolding(cedar_model::specs::Outcomes::bool_of))]
+pub fn get_as_bool(alloc: Global, value: &Value) -> Result<bool, EvaluationError>
+    ensures ok { IfOk result (λ b. bool_of (abstract_value value.now.what) ≡ Some b) }
+    ensures no_bool { IfErr result (λ e. failure_of e ≢ out_of_memory → bool_of (abstract_value value.now.what) ≡ None) }
+    ensures error { IfErr result (λ e. FailsWith e (wrong_type bool_type [] (abstract_value value.now.what))) }
+{
+    match value.value_kind() {
+        ValueKind::Lit(literal) => match literal {
+            Literal::Bool(b) => Ok(*b),
+            Literal::Long(_) => Err(type_error(alloc, Type::Bool, value)),
+            Literal::String(_) => Err(type_error(alloc, Type::Bool, value)),
+            Literal::EntityUID(_) => Err(type_error(alloc, Type::Bool, value)),
+        },
+        ValueKind::Set(_) => Err(type_error(alloc, Type::Bool, value)),
+        ValueKind::Record(_) => Err(type_error(alloc, Type::Bool, value)),
+        ValueKind::ExtensionValue(_) => Err(type_error(alloc, Type::Bool, value)),
+    }
+}
+
+/// The long, or a type error that expects one.
+#[tactic(auto, unfolding(cedar_model::specs::Outcomes::long_of))]
+pub fn get_as_long(alloc: Global, value: &Value) -> Result<i64, EvaluationError>
+    ensures ok { IfOk result (λ n. long_of (abstract_value value.now.what) ≡ Some n) }
+    ensures no_long { IfErr result (λ e. failure_of e ≢ out_of_memory → long_of (abstract_value value.now.what) ≡ None) }
+    ensures error { IfErr result (λ e. FailsWith e (wrong_type long_type [] (abstract_value value.now.what))) }
+{
+    match value.value_kind() {
+        ValueKind::Lit(literal) => match literal {
+            Literal::Bool(_) => Err(type_error(alloc, Type::Long, value)),
+            Literal::Long(n) => Ok(*n),
+            Literal::String(_) => Err(type_error(alloc, Type::Long, value)),
+            Literal::EntityUID(_) => Err(type_error(alloc, Type::Long, value)),
+        },
+        ValueKind::Set(_) => Err(type_error(alloc, Type::Long, value)),
+        ValueKind::Record(_) => Err(type_error(alloc, Type::Long, value)),
+        ValueKind::ExtensionValue(_) => Err(type_error(alloc, Type::Long, value)),
+    }
+}
+
+/// The text, or a type error that expects one.
+#[tactic(auto, unfolding(cedar_model::specs::Outcomes::text_of))]
+pub fn get_as_string(alloc: Global, value: &Value) -> Result<&RcStr, EvaluationError>
+    ensures ok { IfOk result (λ t. text_of (abstract_value value.now.what) ≡ Some (rc_str_bytes t.now)) }
+    ensures no_text { IfErr result (λ e. failure_of e ≢ out_of_memory → text_of (abstract_value value.now.what) ≡ None) }
+    ensures error { IfErr result (λ e. FailsWith e (wrong_type string_type [] (abstract_value value.now.what))) }
+{
+    match value.value_kind() {
+        ValueKind::Lit(literal) => match literal {
+            Literal::Bool(_) => Err(type_error(alloc, Type::String, value)),
+            Literal::Long(_) => Err(type_error(alloc, Type::String, value)),
+            Literal::String(text) => Ok(text),
+            Literal::EntityUID(_) => Err(type_error(alloc, Type::String, value)),
+        },
+        ValueKind::Set(_) => Err(type_error(alloc, Type::String, value)),
+        ValueKind::Record(_) => Err(type_error(alloc, Type::String, value)),
+        ValueKind::ExtensionValue(_) => Err(type_error(alloc, Type::String, value)),
+    }
+}
+
+/// The entity, or a type error that expects one.
+#[tactic(auto, unfolding(cedar_model::specs::Outcomes::entity_of))]
+pub fn get_as_entity(alloc: Global, value: &Value) -> Result<&Rc<EntityUID>, EvaluationError>
+    ensures ok { IfOk result (λ u. entity_of (abstract_value value.now.what) ≡ Some (uid_name u.now.value)) }
+    ensures no_entity { IfErr result (λ e. failure_of e ≢ out_of_memory → entity_of (abstract_value value.now.what) ≡ None) }
+    ensures error { IfErr result (λ e. FailsWith e (wrong_type any_entity [] (abstract_value value.now.what))) }
+{
+    match value.value_kind() {
+        ValueKind::Lit(literal) => match literal {
+            Literal::Bool(_) => Err(entity_expected(alloc, value)),
+            Literal::Long(_) => Err(entity_expected(alloc, value)),
+            Literal::String(_) => Err(entity_expected(alloc, value)),
+            Literal::EntityUID(uid) => Ok(uid),
+        },
+        ValueKind::Set(_) => Err(entity_expected(alloc, value)),
+        ValueKind::Record(_) => Err(entity_expected(alloc, value)),
+        ValueKind::ExtensionValue(_) => Err(entity_expected(alloc, value)),
+    }
+}
+
+/// The set, or a type error that expects one.
+#[tactic(auto, unfolding(cedar_model::specs::Outcomes::elements_of))]
+pub fn get_as_set(alloc: Global, value: &Value) -> Result<&Set, EvaluationError>
+    ensures ok { IfOk result (λ s. elements_of (abstract_value value.now.what) ≡ Some (abstract_values s.now.all)) }
+    ensures no_set { IfErr result (λ e. failure_of e ≢ out_of_memory → elements_of (abstract_value value.now.what) ≡ None) }
+    ensures error { IfErr result (λ e. FailsWith e (wrong_type set_type [] (abstract_value value.now.what))) }
+{
+    match value.value_kind() {
+        ValueKind::Lit(_) => Err(type_error(alloc, Type::Set, value)),
+        ValueKind::Set(set) => Ok(set),
+        ValueKind::Record(_) => Err(type_error(alloc, Type::Set, value)),
+        ValueKind::ExtensionValue(_) => Err(type_error(alloc, Type::Set, value)),
+    }
+}
