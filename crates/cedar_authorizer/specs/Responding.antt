@@ -20,7 +20,7 @@ use Rattle.cedar_layers.specs.Policies.{policy_id_text, decides_as}
 use Rattle.cedar_layers.specs.PolicySets.{policies_view}
 use Rattle.cedar_values.specs.Failures.{failure_of}
 use Rattle.cedar_evaluator.specs.Evaluations.{no_extensions, setting_for}
-use Rattle.cedar_evaluator.specs.Treated.{TreatedRuns, AreTreatedThroughout}
+use Rattle.cedar_evaluator.specs.Stops.{StoppingRuns}
 use Rattle.cedar_authorizer.specs.declared.authorizer.Decision.{Decision}
 use Rattle.cedar_authorizer.specs.declared.authorizer.Decision.TheVariants as decisions
 use Rattle.cedar_authorizer.specs.declared.authorizer.Response.{Response}
@@ -61,19 +61,19 @@ authorization_of r s = setting_for r s no_slots
 
 -- what a policy's condition may answer within so many levels
 abbrev pub MayAnswerAs : Setting → ℕ → model.Policy → Answer → Type 0
-MayAnswerAs s levels p a = TreatedRuns (with_slots s p.slots) levels p.condition a
+MayAnswerAs s levels p a = StoppingRuns (with_slots s p.slots) levels p.condition a
 
--- ---- where nothing is unknown, and each condition is of kinds that are treated
+-- ---- where nothing is unknown
 
 -- decision and reasons are those of the policies in the own world, and the errors exactly those of the erring policies, in their order, if none is the recursion limit
 abbrev pub IsKnownResponse : Setting → List model.Policy → Authorized → Type 0
 IsKnownResponse s ps r =
-    HasNothingUnknown s → AreTreatedThroughout ps → (ans : Functions) → HaveKnownConditions ans ps → (sigma : Text → AbstractValue) → HaveNoLimit r.errors → IsExactResponse no_extensions ans (own_world s sigma) ps r
+    HasNothingUnknown s → (ans : Functions) → HaveKnownConditions ans ps → (sigma : Text → AbstractValue) → HaveNoLimit r.errors → IsExactResponse no_extensions ans (own_world s sigma) ps r
 
 -- where no condition is higher than the limit, no error is the recursion limit
 abbrev pub MeetsNoLimit : Setting → ℕ → List model.Policy → Authorized → Type 0
 MeetsNoLimit s levels ps r =
-    HasNothingUnknown s → AreTreatedThroughout ps → (ans : Functions) → HaveKnownConditions ans ps → AreNoHigher ps levels → HaveNoLimit r.errors
+    HasNothingUnknown s → (ans : Functions) → HaveKnownConditions ans ps → AreNoHigher ps levels → HaveNoLimit r.errors
 
 -- the own world completes the call
 abbrev pub OwnWorldCompletesCall : Setting → List model.Policy → Type 0

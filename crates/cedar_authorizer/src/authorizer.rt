@@ -7,7 +7,7 @@ ghost use Rattle.cedar_layers.specs.Stores.{store_view};
 ghost use Rattle.cedar_values.specs.Failures.{failure_of};
 ghost use Rattle.cedar_evaluator.specs.Requests.{request_view};
 ghost use Rattle.cedar_evaluator.specs.Evaluations.{setting_of, limit_of};
-ghost use Rattle.cedar_evaluator.specs.Treated.{TreatedRuns};
+ghost use Rattle.cedar_evaluator.specs.Stops.{StoppingRuns};
 ghost use Rattle.cedar_authorizer.specs.Sheets.{has_some_id, IsJudged};
 ghost use Rattle.cedar_authorizer.specs.Responding.{MayAnswerAs, has_id, response_view, decision_view, errors_view, deciding, authorization_of};
 
@@ -157,7 +157,7 @@ impl Sheet {
         evaluator: &Evaluator<'_, '_, '_>,
         policy: &Policy,
     ) -> Result<(), AllocError>
-        ensures { OnOk result (NotesAnswer (TreatedRuns (setting_of evaluator.now (policy_view policy.now).slots) (limit_of evaluator.now) (condition_term (policy_view policy.now))) self.old self.new (policy_view policy.now).id (policy_view policy.now).effect) }
+        ensures { OnOk result (NotesAnswer (StoppingRuns (setting_of evaluator.now (policy_view policy.now).slots) (limit_of evaluator.now) (condition_term (policy_view policy.now))) self.old self.new (policy_view policy.now).id (policy_view policy.now).effect) }
     {
         match evaluator.evaluate(alloc, policy) {
             Ok(true) => self.note_satisfied(policy.effect(), policy.id()),
