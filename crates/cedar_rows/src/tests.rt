@@ -2,4 +2,5 @@
 mod evaluation;
 mod program;
 mod substitution;
+mod table;
 mod texts;
