@@ -61,10 +61,10 @@ fn each_expression_has_its_answer(rt: HostRuntime) -> Result<(), Fail> {
     let extensions = Extensions::none();
     let evaluator = Evaluator::new(alloc, request(alloc)?, &entities, &extensions, LIMIT)?;
     let slots = slots(alloc)?;
-    compare(&rt, alloc, &evaluator, &slots, &operands::ROWS)?;
-    compare(&rt, alloc, &evaluator, &slots, &operators::ROWS)?;
-    compare(&rt, alloc, &evaluator, &slots, &logic::ROWS)?;
-    compare(&rt, alloc, &evaluator, &slots, &parts::ROWS)?;
-    compare(&rt, alloc, &evaluator, &slots, &store::ROWS)?;
+    compare(&rt, alloc, &evaluator, &slots, operands::rows())?;
+    compare(&rt, alloc, &evaluator, &slots, operators::rows())?;
+    compare(&rt, alloc, &evaluator, &slots, logic::rows())?;
+    compare(&rt, alloc, &evaluator, &slots, parts::rows())?;
+    compare(&rt, alloc, &evaluator, &slots, store::rows())?;
     Ok(())
 }

@@ -24,12 +24,18 @@ pub fn described(alloc: Global, error: &EvaluationError) -> Result<String, Alloc
         EvaluationError::TypeError(error) => wrong_type(alloc, error),
         EvaluationError::WrongNumArguments(error) => {
             let (expected, actual) = (error.expected, error.actual);
-            format!(in alloc; "WrongNumArguments {} {expected} {actual}", error.function_name)
+            format!(in alloc;
+                "WrongNumArguments {} {expected} {actual}",
+                error.function_name
+            )
         }
         EvaluationError::IntegerOverflow(error) => overflow(alloc, error),
         EvaluationError::UnlinkedSlot(error) => format!(in alloc; "UnlinkedSlot {}", error.slot),
         EvaluationError::FailedExtensionFunctionExecution(error) => {
-            format!(in alloc; "FailedExtensionFunctionExecution {} {}", error.extension_name, error.msg)
+            format!(in alloc;
+                "FailedExtensionFunctionExecution {} {}",
+                error.extension_name, error.msg
+            )
         }
         EvaluationError::NonValue(error) => format!(in alloc; "NonValue {}", error.expr),
         EvaluationError::RecursionLimit(_) => String::from_str(alloc, "RecursionLimit"),
@@ -46,8 +52,7 @@ fn missing_attribute(
     let total = error.total_attrs_or_tags;
     format!(in alloc;
         "EntityAttrDoesNotExist {} {} was_attr={was_attr} other={other} [{names}] {total}",
-        error.entity,
-        error.attr_or_tag
+        error.entity, error.attr_or_tag
     )
 }
 
@@ -76,7 +81,10 @@ fn wrong_type(alloc: Global, error: &TypeError) -> Result<String, AllocError> {
 fn overflow(alloc: Global, error: &IntegerOverflowError) -> Result<String, AllocError> {
     match error {
         IntegerOverflowError::BinaryOp(error) => {
-            format!(in alloc; "IntegerOverflow {} {} {}", error.op, error.arg1, error.arg2)
+            format!(in alloc;
+                "IntegerOverflow {} {} {}",
+                error.op, error.arg1, error.arg2
+            )
         }
         IntegerOverflowError::UnaryOp(error) => {
             format!(in alloc; "IntegerOverflow {} {}", error.op, error.arg)

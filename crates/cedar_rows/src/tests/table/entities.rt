@@ -2,15 +2,7 @@
 
 /// The entities.
 pub static ENTITIES: [&str; 9] = [
-    "User:a",
-    "User:b",
-    "Group:g",
-    "Photo:p",
-    "E:e",
-    "E:p",
-    "E:t",
-    "E:step",
-    "E:root",
+    "User:a", "User:b", "Group:g", "Photo:p", "E:e", "E:p", "E:t", "E:step", "E:root",
 ];
 
 /// The attributes: the entity, the name, and the words of the value.

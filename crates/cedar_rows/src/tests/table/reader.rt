@@ -65,7 +65,11 @@ pub fn value(alloc: Global, words: &str) -> Result<Value, Fail> {
     for word in words.split(' ') {
         let (kind, rest) = word.split_once(':').ok_or("a word that is no value")?;
         let value = match kind {
-            "set" => Value::set(alloc, last(alloc, &mut parts, rest.parse::<usize>()?)?, None)?,
+            "set" => Value::set(
+                alloc,
+                last(alloc, &mut parts, rest.parse::<usize>()?)?,
+                None,
+            )?,
             "record" => Value::record(alloc, map(alloc, named(alloc, &mut parts, rest)?)?, None)?,
             _ => Value::from(literal(alloc, kind, rest)?),
         };
@@ -76,7 +80,9 @@ pub fn value(alloc: Global, words: &str) -> Result<Value, Fail> {
 
 /// The name of an entity, written as its type, a colon and its id.
 pub fn uid(alloc: Global, text: &str) -> Result<EntityUID, Fail> {
-    let (ty, id) = text.rsplit_once(':').ok_or("an entity has a type and an id")?;
+    let (ty, id) = text
+        .rsplit_once(':')
+        .ok_or("an entity has a type and an id")?;
     Ok(EntityUID::new(entity_type(alloc, ty)?, RcStr::from_str(alloc, id)?, None))
 }
 
@@ -99,12 +105,7 @@ fn literal(alloc: Global, kind: &str, text: &str) -> Result<Literal, Fail> {
 }
 
 // A word with a text: a leaf, a list, or a word on the part before it.
-fn with_text(
-    alloc: Global,
-    kind: &str,
-    rest: &str,
-    parts: &mut Vec<Expr>,
-) -> Result<Expr, Fail> {
+fn with_text(alloc: Global, kind: &str, rest: &str, parts: &mut Vec<Expr>) -> Result<Expr, Fail> {
     match kind {
         "V" => Ok(Expr::var(found(&VARIABLES, rest).ok_or("no such variable")?)),
         "S" => Ok(Expr::slot(found(&SLOTS, rest).ok_or("no such slot")?)),
@@ -225,11 +226,7 @@ fn last<T: Drop>(alloc: Global, parts: &mut Vec<T>, count: usize) -> Result<Vec<
 }
 
 // The last parts, one for each key, with their keys.
-fn named<T: Drop>(
-    alloc: Global,
-    parts: &mut Vec<T>,
-    keys: &str,
-) -> Result<Vec<(RcStr, T)>, Fail> {
+fn named<T: Drop>(alloc: Global, parts: &mut Vec<T>, keys: &str) -> Result<Vec<(RcStr, T)>, Fail> {
     let mut pairs: Vec<(RcStr, T)> = Vec::new(alloc);
     if keys.is_empty() {
         return Ok(pairs);
@@ -244,10 +241,7 @@ fn named<T: Drop>(
     Ok(pairs)
 }
 
-fn map(
-    alloc: Global,
-    pairs: Vec<(RcStr, Value)>,
-) -> Result<BTreeMap<RcStr, Value>, AllocError> {
+fn map(alloc: Global, pairs: Vec<(RcStr, Value)>) -> Result<BTreeMap<RcStr, Value>, AllocError> {
     let mut map: BTreeMap<RcStr, Value> = BTreeMap::new(alloc);
     for (key, value) in pairs {
         map.insert(key, value)?;

@@ -28,6 +28,7 @@ impl Values {
     }
 
     // The values, and this one under its name.
+    #[tactic(auto, using(crate::proofs::StoredValues::restricted_insert))]
     fn with(self, name: RcStr, value: Value) -> Result<Values, AllocError> {
         let mut parts = self.parts;
         parts.insert(name, PartialValue::Value(value))?;
@@ -62,10 +63,18 @@ pub fn stored(alloc: Global) -> Result<Entities, Fail> {
 }
 
 fn entity(alloc: Global, name: &str) -> Result<Entity, Fail> {
-    let attributes = values(alloc, &ATTRIBUTES, name)?;
-    let tags = values(alloc, &TAGS, name)?;
+    let attributes = attributes(alloc, name)?;
+    let tags = tags(alloc, name)?;
     let ancestors = ancestors(alloc, name)?;
     Ok(Entity::new(uid(alloc, name)?, attributes.parts, ancestors, tags.parts))
+}
+
+fn attributes(alloc: Global, name: &str) -> Result<Values, Fail> {
+    values_of(alloc, &ATTRIBUTES, name)
+}
+
+fn tags(alloc: Global, name: &str) -> Result<Values, Fail> {
+    values_of(alloc, &TAGS, name)
 }
 
 fn ancestors(alloc: Global, name: &str) -> Result<HashSet<EntityUID>, Fail> {
@@ -79,7 +88,7 @@ fn ancestors(alloc: Global, name: &str) -> Result<HashSet<EntityUID>, Fail> {
 }
 
 // The values of the entity among these rows.
-fn values(alloc: Global, rows: &[(&str, &str, &str)], name: &str) -> Result<Values, Fail> {
+fn values_of(alloc: Global, rows: &[(&str, &str, &str)], name: &str) -> Result<Values, Fail> {
     let mut values = Values::new(alloc);
     for (owner, key, words) in rows {
         if *owner == name {
