@@ -1,402 +1,216 @@
 //! Rows on what operators answer.
 
-// What operators answer. The words of an expression, and the answer.
-static ROWS: [(&str, &str); 200] = [
-    // `==`
-    ("L:1 L:1 eq", "true"),
-    ("L:1 L:2 eq", "false"),
-    ("T:a T:a eq", "true"),
-    ("T:a T:A eq", "false"),
-    ("B:true B:true eq", "true"),
-    ("B:true B:false eq", "false"),
-    ("T:1 L:1 eq", "false"),
-    ("E:User:a E:User:a eq", "true"),
-    ("E:User:a E:User:b eq", "false"),
-    ("E:User:a E:Group:a eq", "false"),
-    ("E:E:none E:E:none eq", "true"),
-    ("E:E:none E:E:gone eq", "false"),
-    ("L:1 L:2 set:2 L:2 L:1 L:1 set:3 eq", "true"),
-    ("set:0 set:0 eq", "true"),
-    ("L:1 set:1 L:1 L:2 set:2 eq", "false"),
-    ("L:1 set:1 L:1 eq", "false"),
-    ("set:0 record: eq", "false"),
-    ("L:1 L:2 record:a,b L:2 L:1 record:b,a eq", "true"),
-    ("L:1 record:a L:2 record:a eq", "false"),
-    ("L:1 record:a L:1 L:2 record:a,b eq", "false"),
-    ("L:1 record:a L:1 record:b eq", "false"),
-    ("L:1 L:2 set:2 record:a L:2 L:1 set:2 record:a eq", "true"),
-    (
-        "L:1 record:a set:1 L:1 record:a L:1 record:a set:2 eq",
-        "true",
-    ),
-    ("V:principal E:User:a eq", "true"),
-    ("E:User:a V:principal eq", "true"),
-    ("V:resource V:principal eq", "false"),
-    ("V:context record: eq", "true"),
-    ("S:resource V:resource eq", "true"),
-    // `<` and `<=`
-    ("L:4 L:3 less", "false"),
-    ("L:-1 L:0 less", "true"),
-    ("L:-9223372036854775808 L:9223372036854775807 less", "true"),
-    ("L:9223372036854775807 L:-9223372036854775808 less", "false"),
-    (
-        "L:-9223372036854775808 L:-9223372036854775808 less",
-        "false",
-    ),
-    ("T:a T:b less", "TypeError expected Long actual String"),
-    ("T:a L:1 less", "TypeError expected Long actual String"),
-    ("L:1 T:a less", "TypeError expected Long actual String"),
-    ("B:true B:false less", "TypeError expected Long actual Bool"),
-    (
-        "E:User:a E:User:b less",
-        "TypeError expected Long actual Entity User",
-    ),
-    (
-        "L:1 set:1 L:2 set:1 less",
-        "TypeError expected Long actual Set",
-    ),
-    (
-        "L:1 record:a T:a less",
-        "TypeError expected Long actual Record",
-    ),
-    (
-        "V:principal L:1 less",
-        "TypeError expected Long actual Entity User",
-    ),
-    (
-        "L:1 V:context less",
-        "TypeError expected Long actual Record",
-    ),
-    ("L:4 L:3 lessEq", "false"),
-    ("L:-1 L:0 lessEq", "true"),
-    (
-        "L:-9223372036854775808 L:9223372036854775807 lessEq",
-        "true",
-    ),
-    (
-        "L:9223372036854775807 L:-9223372036854775808 lessEq",
-        "false",
-    ),
-    (
-        "L:-9223372036854775808 L:-9223372036854775808 lessEq",
-        "true",
-    ),
-    ("T:a T:b lessEq", "TypeError expected Long actual String"),
-    ("T:a L:1 lessEq", "TypeError expected Long actual String"),
-    ("L:1 T:a lessEq", "TypeError expected Long actual String"),
-    (
-        "B:true B:false lessEq",
-        "TypeError expected Long actual Bool",
-    ),
-    (
-        "E:User:a E:User:b lessEq",
-        "TypeError expected Long actual Entity User",
-    ),
-    (
-        "L:1 set:1 L:2 set:1 lessEq",
-        "TypeError expected Long actual Set",
-    ),
-    (
-        "L:1 record:a T:a lessEq",
-        "TypeError expected Long actual Record",
-    ),
-    (
-        "V:principal L:1 lessEq",
-        "TypeError expected Long actual Entity User",
-    ),
-    (
-        "L:1 V:context lessEq",
-        "TypeError expected Long actual Record",
-    ),
-    // `+`, `-` and `*`
-    (
-        "L:9223372036854775807 L:1 add",
-        "IntegerOverflow _+_ 9223372036854775807 1",
-    ),
-    (
-        "L:1 L:9223372036854775807 add",
-        "IntegerOverflow _+_ 1 9223372036854775807",
-    ),
-    (
-        "L:-9223372036854775808 L:-1 add",
-        "IntegerOverflow _+_ -9223372036854775808 -1",
-    ),
-    ("L:9223372036854775807 L:-9223372036854775808 add", "-1"),
-    ("L:9223372036854775807 L:0 add", "9223372036854775807"),
-    (
-        "L:9223372036854775807 L:9223372036854775807 add",
-        "IntegerOverflow _+_ 9223372036854775807 9223372036854775807",
-    ),
-    ("L:-3 L:3 add", "0"),
-    (
-        "L:-9223372036854775808 L:1 sub",
-        "IntegerOverflow _-_ -9223372036854775808 1",
-    ),
-    (
-        "L:9223372036854775807 L:-1 sub",
-        "IntegerOverflow _-_ 9223372036854775807 -1",
-    ),
-    (
-        "L:0 L:-9223372036854775808 sub",
-        "IntegerOverflow _-_ 0 -9223372036854775808",
-    ),
-    ("L:-1 L:-9223372036854775808 sub", "9223372036854775807"),
-    ("L:-9223372036854775808 L:-9223372036854775808 sub", "0"),
-    ("L:0 L:9223372036854775807 sub", "-9223372036854775807"),
-    (
-        "L:9223372036854775807 L:2 mul",
-        "IntegerOverflow _*_ 9223372036854775807 2",
-    ),
-    (
-        "L:-9223372036854775808 L:-1 mul",
-        "IntegerOverflow _*_ -9223372036854775808 -1",
-    ),
-    (
-        "L:-1 L:-9223372036854775808 mul",
-        "IntegerOverflow _*_ -1 -9223372036854775808",
-    ),
-    ("L:9223372036854775807 L:-1 mul", "-9223372036854775807"),
-    ("L:-9223372036854775808 L:1 mul", "-9223372036854775808"),
-    ("L:0 L:-9223372036854775808 mul", "0"),
-    ("L:-3 L:5 mul", "-15"),
-    (
-        "L:4294967296 L:2147483648 mul",
-        "IntegerOverflow _*_ 4294967296 2147483648",
-    ),
-    ("L:4294967296 L:2147483647 mul", "9223372032559808512"),
-    (
-        "L:3037000500 L:3037000500 mul",
-        "IntegerOverflow _*_ 3037000500 3037000500",
-    ),
-    ("L:3037000499 L:3037000499 mul", "9223372030926249001"),
-    ("L:2 L:3 mul L:10 L:4 sub add", "12"),
-    (
-        "L:9223372036854775807 L:1 add L:1 sub",
-        "IntegerOverflow _+_ 9223372036854775807 1",
-    ),
-    (
-        "L:1 L:9223372036854775807 T:z add add",
-        "TypeError expected Long actual String",
-    ),
-    // `in`
-    ("E:User:a E:User:b in", "false"),
-    ("E:User:a E:Group:all in", "true"),
-    ("E:User:b E:Group:g in", "false"),
-    ("E:Group:g E:Group:all in", "true"),
-    ("E:Group:all E:Group:g in", "false"),
-    ("E:Group:g E:User:a in", "false"),
-    ("E:E:none E:E:none in", "true"),
-    ("E:E:none E:E:root in", "false"),
-    ("E:User:a E:E:none in", "false"),
-    ("E:E:e E:E:root in", "true"),
-    ("E:E:p E:E:e in", "false"),
-    ("E:E:step E:E:e in", "true"),
-    ("E:E:step E:E:root in", "false"),
-    ("E:E:a E:User:a in", "false"),
-    ("E:User:a E:E:a in", "false"),
-    ("E:User:a set:0 in", "false"),
-    ("E:User:a E:User:a set:1 in", "true"),
-    ("E:User:a E:User:b E:Group:g set:2 in", "true"),
-    ("E:User:a E:User:b E:E:none set:2 in", "false"),
-    ("E:E:none E:User:b E:E:none set:2 in", "true"),
-    ("E:E:none set:0 in", "false"),
-    (
-        "E:User:a E:User:a L:1 set:2 in",
-        "TypeError expected Entity any_entity_type actual Long",
-    ),
-    (
-        "E:User:a E:User:b T:a L:7 set:3 in",
-        "TypeError expected Entity any_entity_type actual Long",
-    ),
-    (
-        "E:User:a E:Group:g E:User:a set:1 set:2 in",
-        "TypeError expected Entity any_entity_type actual Set",
-    ),
-    (
-        "E:User:a E:Group:g E:User:a record:a E:Group:g set:1 set:3 in",
-        "TypeError expected Entity any_entity_type actual Set",
-    ),
-    (
-        "E:User:b B:false E:Group:g L:1 set:3 in",
-        "TypeError expected Entity any_entity_type actual Bool",
-    ),
-    (
-        "E:E:none L:1 set:1 in",
-        "TypeError expected Entity any_entity_type actual Long",
-    ),
-    (
-        "L:3 E:User:a in",
-        "TypeError expected Entity any_entity_type actual Long",
-    ),
-    (
-        "L:3 L:4 in",
-        "TypeError expected Entity any_entity_type actual Long",
-    ),
-    (
-        "E:User:a T:Group in",
-        "TypeError expected Set, Entity any_entity_type actual String",
-    ),
-    (
-        "E:User:a E:Group:g record:a in",
-        "TypeError expected Set, Entity any_entity_type actual Record",
-    ),
-    (
-        "E:User:a set:1 E:Group:g in",
-        "TypeError expected Entity any_entity_type actual Set",
-    ),
-    (
-        "E:User:a set:1 L:3 in",
-        "TypeError expected Entity any_entity_type actual Set",
-    ),
-    (
-        "E:E:none L:3 in",
-        "TypeError expected Set, Entity any_entity_type actual Long",
-    ),
-    ("V:principal E:Group:g in", "true"),
-    ("V:resource E:Album:al in", "true"),
-    ("S:resource E:Album:al in", "true"),
-    ("V:action E:Action:any in", "false"),
-    ("V:action V:action in", "true"),
-    (
-        "V:context E:Group:g in",
-        "TypeError expected Entity any_entity_type actual Record",
-    ),
-    (
-        "V:principal V:context in",
-        "TypeError expected Set, Entity any_entity_type actual Record",
-    ),
-    // `contains`, `containsAll` and `containsAny`
-    ("set:0 L:1 contains", "false"),
-    ("L:1 set:1 L:2 contains", "false"),
-    ("L:1 T:a set:2 T:a contains", "true"),
-    ("E:User:a set:1 V:principal contains", "true"),
-    ("L:1 L:2 set:2 set:1 L:2 L:1 set:2 contains", "true"),
-    ("L:1 record:a set:1 L:1 record:a contains", "true"),
-    ("L:1 set:1 L:1 set:1 contains", "false"),
-    (
-        "L:1 L:1 T:a add set:2 L:1 contains",
-        "TypeError expected Long actual String",
-    ),
-    ("E:E:e get:e L:2 contains", "true"),
-    ("E:E:e get:e L:3 contains", "false"),
-    (
-        "L:3 L:1 T:a add contains",
-        "TypeError expected Long actual String",
-    ),
-    ("set:0 set:0 containsAll", "true"),
-    ("L:1 set:1 set:0 containsAll", "true"),
-    ("set:0 L:1 set:1 containsAll", "false"),
-    ("L:1 L:2 set:2 L:2 L:1 set:2 containsAll", "true"),
-    ("L:1 L:2 set:2 L:2 L:3 set:2 containsAll", "false"),
-    ("L:1 set:1 L:2 set:1 containsAll", "false"),
-    (
-        "L:1 T:a set:2 L:2 containsAll",
-        "TypeError expected Set actual Long",
-    ),
-    (
-        "L:2 L:1 set:1 containsAll",
-        "TypeError expected Set actual Long",
-    ),
-    ("L:2 T:a containsAll", "TypeError expected Set actual Long"),
-    (
-        "T:a L:2 containsAll",
-        "TypeError expected Set actual String",
-    ),
-    (
-        "E:User:a E:User:a set:1 containsAll",
-        "TypeError expected Set actual Entity User",
-    ),
-    ("E:User:a E:User:b set:2 E:User:b set:1 containsAll", "true"),
-    ("L:1 set:1 set:1 L:1 L:1 set:2 set:1 containsAll", "true"),
-    ("set:0 set:0 containsAny", "false"),
-    ("L:1 set:1 set:0 containsAny", "false"),
-    ("set:0 L:1 set:1 containsAny", "false"),
-    ("L:1 L:2 set:2 L:2 L:1 set:2 containsAny", "true"),
-    ("L:1 L:2 set:2 L:2 L:3 set:2 containsAny", "true"),
-    ("L:1 set:1 L:2 set:1 containsAny", "false"),
-    (
-        "L:1 T:a set:2 L:2 containsAny",
-        "TypeError expected Set actual Long",
-    ),
-    (
-        "L:2 L:1 set:1 containsAny",
-        "TypeError expected Set actual Long",
-    ),
-    ("L:2 T:a containsAny", "TypeError expected Set actual Long"),
-    (
-        "T:a L:2 containsAny",
-        "TypeError expected Set actual String",
-    ),
-    (
-        "E:User:a E:User:a set:1 containsAny",
-        "TypeError expected Set actual Entity User",
-    ),
-    ("E:User:a E:User:b set:2 E:User:b set:1 containsAny", "true"),
-    ("L:1 set:1 set:1 L:1 L:1 set:2 set:1 containsAny", "true"),
-    // `!`, `-` and `isEmpty`
-    ("B:true not", "false"),
-    ("L:3 not", "TypeError expected Bool actual Long"),
-    ("T:a not", "TypeError expected Bool actual String"),
-    ("E:User:a not", "TypeError expected Bool actual Entity User"),
-    ("L:1 L:2 set:2 not", "TypeError expected Bool actual Set"),
-    ("L:1 record:a not", "TypeError expected Bool actual Record"),
-    ("B:true neg", "TypeError expected Long actual Bool"),
-    ("L:3 neg", "-3"),
-    ("T:a neg", "TypeError expected Long actual String"),
-    ("E:User:a neg", "TypeError expected Long actual Entity User"),
-    ("L:1 L:2 set:2 neg", "TypeError expected Long actual Set"),
-    ("L:1 record:a neg", "TypeError expected Long actual Record"),
-    ("B:true isEmpty", "TypeError expected Set actual Bool"),
-    ("L:3 isEmpty", "TypeError expected Set actual Long"),
-    ("T:a isEmpty", "TypeError expected Set actual String"),
-    (
-        "E:User:a isEmpty",
-        "TypeError expected Set actual Entity User",
-    ),
-    ("L:1 L:2 set:2 isEmpty", "false"),
-    (
-        "L:1 record:a isEmpty",
-        "TypeError expected Set actual Record",
-    ),
-    ("B:false not", "true"),
-    ("B:true not not", "true"),
-    ("L:1 T:a add not", "TypeError expected Long actual String"),
-    ("T:a neg not", "TypeError expected Long actual String"),
-    ("L:0 neg", "0"),
-    (
-        "L:-9223372036854775808 neg",
-        "IntegerOverflow -_ -9223372036854775808",
-    ),
-    ("L:9223372036854775807 neg", "-9223372036854775807"),
-    ("L:-5 neg neg", "-5"),
-    (
-        "L:-9223372036854775808 neg neg",
-        "IntegerOverflow -_ -9223372036854775808",
-    ),
-    (
-        "L:9223372036854775807 L:1 add neg",
-        "IntegerOverflow _+_ 9223372036854775807 1",
-    ),
-    ("L:3 L:5 sub neg", "2"),
-    ("L:-9223372036854775808 L:1 add neg", "9223372036854775807"),
-    ("set:0 isEmpty", "true"),
-    ("L:1 set:1 isEmpty", "false"),
-    ("set:0 set:1 isEmpty", "false"),
-    (
-        "L:1 T:a add isEmpty",
-        "TypeError expected Long actual String",
-    ),
-    ("record: isEmpty", "TypeError expected Set actual Record"),
-    ("T: isEmpty", "TypeError expected Set actual String"),
-    (
-        "V:principal not",
-        "TypeError expected Bool actual Entity User",
-    ),
-    ("V:context neg", "TypeError expected Long actual Record"),
-    ("S:principal isEmpty", "UnlinkedSlot ?principal"),
-];
+// What operators answer. Each row has the words of an expression and its answer; a line that begins with `#` is a title.
+static ROWS: &str = r#"
+# `==`
+L:1 L:1 eq => true
+L:1 L:2 eq => false
+T:a T:a eq => true
+T:a T:A eq => false
+B:true B:true eq => true
+B:true B:false eq => false
+T:1 L:1 eq => false
+E:User:a E:User:a eq => true
+E:User:a E:User:b eq => false
+E:User:a E:Group:a eq => false
+E:E:none E:E:none eq => true
+E:E:none E:E:gone eq => false
+L:1 L:2 set:2 L:2 L:1 L:1 set:3 eq => true
+set:0 set:0 eq => true
+L:1 set:1 L:1 L:2 set:2 eq => false
+L:1 set:1 L:1 eq => false
+set:0 record: eq => false
+L:1 L:2 record:a,b L:2 L:1 record:b,a eq => true
+L:1 record:a L:2 record:a eq => false
+L:1 record:a L:1 L:2 record:a,b eq => false
+L:1 record:a L:1 record:b eq => false
+L:1 L:2 set:2 record:a L:2 L:1 set:2 record:a eq => true
+L:1 record:a set:1 L:1 record:a L:1 record:a set:2 eq => true
+V:principal E:User:a eq => true
+E:User:a V:principal eq => true
+V:resource V:principal eq => false
+V:context record: eq => true
+S:resource V:resource eq => true
+# `<` and `<=`
+L:4 L:3 less => false
+L:-1 L:0 less => true
+L:-9223372036854775808 L:9223372036854775807 less => true
+L:9223372036854775807 L:-9223372036854775808 less => false
+L:-9223372036854775808 L:-9223372036854775808 less => false
+T:a T:b less => TypeError expected Long actual String
+T:a L:1 less => TypeError expected Long actual String
+L:1 T:a less => TypeError expected Long actual String
+B:true B:false less => TypeError expected Long actual Bool
+E:User:a E:User:b less => TypeError expected Long actual Entity User
+L:1 set:1 L:2 set:1 less => TypeError expected Long actual Set
+L:1 record:a T:a less => TypeError expected Long actual Record
+V:principal L:1 less => TypeError expected Long actual Entity User
+L:1 V:context less => TypeError expected Long actual Record
+L:4 L:3 lessEq => false
+L:-1 L:0 lessEq => true
+L:-9223372036854775808 L:9223372036854775807 lessEq => true
+L:9223372036854775807 L:-9223372036854775808 lessEq => false
+L:-9223372036854775808 L:-9223372036854775808 lessEq => true
+T:a T:b lessEq => TypeError expected Long actual String
+T:a L:1 lessEq => TypeError expected Long actual String
+L:1 T:a lessEq => TypeError expected Long actual String
+B:true B:false lessEq => TypeError expected Long actual Bool
+E:User:a E:User:b lessEq => TypeError expected Long actual Entity User
+L:1 set:1 L:2 set:1 lessEq => TypeError expected Long actual Set
+L:1 record:a T:a lessEq => TypeError expected Long actual Record
+V:principal L:1 lessEq => TypeError expected Long actual Entity User
+L:1 V:context lessEq => TypeError expected Long actual Record
+# `+`, `-` and `*`
+L:9223372036854775807 L:1 add => IntegerOverflow _+_ 9223372036854775807 1
+L:1 L:9223372036854775807 add => IntegerOverflow _+_ 1 9223372036854775807
+L:-9223372036854775808 L:-1 add => IntegerOverflow _+_ -9223372036854775808 -1
+L:9223372036854775807 L:-9223372036854775808 add => -1
+L:9223372036854775807 L:0 add => 9223372036854775807
+L:9223372036854775807 L:9223372036854775807 add => IntegerOverflow _+_ 9223372036854775807 9223372036854775807
+L:-3 L:3 add => 0
+L:-9223372036854775808 L:1 sub => IntegerOverflow _-_ -9223372036854775808 1
+L:9223372036854775807 L:-1 sub => IntegerOverflow _-_ 9223372036854775807 -1
+L:0 L:-9223372036854775808 sub => IntegerOverflow _-_ 0 -9223372036854775808
+L:-1 L:-9223372036854775808 sub => 9223372036854775807
+L:-9223372036854775808 L:-9223372036854775808 sub => 0
+L:0 L:9223372036854775807 sub => -9223372036854775807
+L:9223372036854775807 L:2 mul => IntegerOverflow _*_ 9223372036854775807 2
+L:-9223372036854775808 L:-1 mul => IntegerOverflow _*_ -9223372036854775808 -1
+L:-1 L:-9223372036854775808 mul => IntegerOverflow _*_ -1 -9223372036854775808
+L:9223372036854775807 L:-1 mul => -9223372036854775807
+L:-9223372036854775808 L:1 mul => -9223372036854775808
+L:0 L:-9223372036854775808 mul => 0
+L:-3 L:5 mul => -15
+L:4294967296 L:2147483648 mul => IntegerOverflow _*_ 4294967296 2147483648
+L:4294967296 L:2147483647 mul => 9223372032559808512
+L:3037000500 L:3037000500 mul => IntegerOverflow _*_ 3037000500 3037000500
+L:3037000499 L:3037000499 mul => 9223372030926249001
+L:2 L:3 mul L:10 L:4 sub add => 12
+L:9223372036854775807 L:1 add L:1 sub => IntegerOverflow _+_ 9223372036854775807 1
+L:1 L:9223372036854775807 T:z add add => TypeError expected Long actual String
+# `in`
+E:User:a E:User:b in => false
+E:User:a E:Group:all in => true
+E:User:b E:Group:g in => false
+E:Group:g E:Group:all in => true
+E:Group:all E:Group:g in => false
+E:Group:g E:User:a in => false
+E:E:none E:E:none in => true
+E:E:none E:E:root in => false
+E:User:a E:E:none in => false
+E:E:e E:E:root in => true
+E:E:p E:E:e in => false
+E:E:step E:E:e in => true
+E:E:step E:E:root in => false
+E:E:a E:User:a in => false
+E:User:a E:E:a in => false
+E:User:a set:0 in => false
+E:User:a E:User:a set:1 in => true
+E:User:a E:User:b E:Group:g set:2 in => true
+E:User:a E:User:b E:E:none set:2 in => false
+E:E:none E:User:b E:E:none set:2 in => true
+E:E:none set:0 in => false
+E:User:a E:User:a L:1 set:2 in => TypeError expected Entity any_entity_type actual Long
+E:User:a E:User:b T:a L:7 set:3 in => TypeError expected Entity any_entity_type actual Long
+E:User:a E:Group:g E:User:a set:1 set:2 in => TypeError expected Entity any_entity_type actual Set
+E:User:a E:Group:g E:User:a record:a E:Group:g set:1 set:3 in => TypeError expected Entity any_entity_type actual Set
+E:User:b B:false E:Group:g L:1 set:3 in => TypeError expected Entity any_entity_type actual Bool
+E:E:none L:1 set:1 in => TypeError expected Entity any_entity_type actual Long
+L:3 E:User:a in => TypeError expected Entity any_entity_type actual Long
+L:3 L:4 in => TypeError expected Entity any_entity_type actual Long
+E:User:a T:Group in => TypeError expected Set, Entity any_entity_type actual String
+E:User:a E:Group:g record:a in => TypeError expected Set, Entity any_entity_type actual Record
+E:User:a set:1 E:Group:g in => TypeError expected Entity any_entity_type actual Set
+E:User:a set:1 L:3 in => TypeError expected Entity any_entity_type actual Set
+E:E:none L:3 in => TypeError expected Set, Entity any_entity_type actual Long
+V:principal E:Group:g in => true
+V:resource E:Album:al in => true
+S:resource E:Album:al in => true
+V:action E:Action:any in => false
+V:action V:action in => true
+V:context E:Group:g in => TypeError expected Entity any_entity_type actual Record
+V:principal V:context in => TypeError expected Set, Entity any_entity_type actual Record
+# `contains`, `containsAll` and `containsAny`
+set:0 L:1 contains => false
+L:1 set:1 L:2 contains => false
+L:1 T:a set:2 T:a contains => true
+E:User:a set:1 V:principal contains => true
+L:1 L:2 set:2 set:1 L:2 L:1 set:2 contains => true
+L:1 record:a set:1 L:1 record:a contains => true
+L:1 set:1 L:1 set:1 contains => false
+L:1 L:1 T:a add set:2 L:1 contains => TypeError expected Long actual String
+E:E:e get:e L:2 contains => true
+E:E:e get:e L:3 contains => false
+L:3 L:1 T:a add contains => TypeError expected Long actual String
+set:0 set:0 containsAll => true
+L:1 set:1 set:0 containsAll => true
+set:0 L:1 set:1 containsAll => false
+L:1 L:2 set:2 L:2 L:1 set:2 containsAll => true
+L:1 L:2 set:2 L:2 L:3 set:2 containsAll => false
+L:1 set:1 L:2 set:1 containsAll => false
+L:1 T:a set:2 L:2 containsAll => TypeError expected Set actual Long
+L:2 L:1 set:1 containsAll => TypeError expected Set actual Long
+L:2 T:a containsAll => TypeError expected Set actual Long
+T:a L:2 containsAll => TypeError expected Set actual String
+E:User:a E:User:a set:1 containsAll => TypeError expected Set actual Entity User
+E:User:a E:User:b set:2 E:User:b set:1 containsAll => true
+L:1 set:1 set:1 L:1 L:1 set:2 set:1 containsAll => true
+set:0 set:0 containsAny => false
+L:1 set:1 set:0 containsAny => false
+set:0 L:1 set:1 containsAny => false
+L:1 L:2 set:2 L:2 L:1 set:2 containsAny => true
+L:1 L:2 set:2 L:2 L:3 set:2 containsAny => true
+L:1 set:1 L:2 set:1 containsAny => false
+L:1 T:a set:2 L:2 containsAny => TypeError expected Set actual Long
+L:2 L:1 set:1 containsAny => TypeError expected Set actual Long
+L:2 T:a containsAny => TypeError expected Set actual Long
+T:a L:2 containsAny => TypeError expected Set actual String
+E:User:a E:User:a set:1 containsAny => TypeError expected Set actual Entity User
+E:User:a E:User:b set:2 E:User:b set:1 containsAny => true
+L:1 set:1 set:1 L:1 L:1 set:2 set:1 containsAny => true
+# `!`, `-` and `isEmpty`
+B:true not => false
+L:3 not => TypeError expected Bool actual Long
+T:a not => TypeError expected Bool actual String
+E:User:a not => TypeError expected Bool actual Entity User
+L:1 L:2 set:2 not => TypeError expected Bool actual Set
+L:1 record:a not => TypeError expected Bool actual Record
+B:true neg => TypeError expected Long actual Bool
+L:3 neg => -3
+T:a neg => TypeError expected Long actual String
+E:User:a neg => TypeError expected Long actual Entity User
+L:1 L:2 set:2 neg => TypeError expected Long actual Set
+L:1 record:a neg => TypeError expected Long actual Record
+B:true isEmpty => TypeError expected Set actual Bool
+L:3 isEmpty => TypeError expected Set actual Long
+T:a isEmpty => TypeError expected Set actual String
+E:User:a isEmpty => TypeError expected Set actual Entity User
+L:1 L:2 set:2 isEmpty => false
+L:1 record:a isEmpty => TypeError expected Set actual Record
+B:false not => true
+B:true not not => true
+L:1 T:a add not => TypeError expected Long actual String
+T:a neg not => TypeError expected Long actual String
+L:0 neg => 0
+L:-9223372036854775808 neg => IntegerOverflow -_ -9223372036854775808
+L:9223372036854775807 neg => -9223372036854775807
+L:-5 neg neg => -5
+L:-9223372036854775808 neg neg => IntegerOverflow -_ -9223372036854775808
+L:9223372036854775807 L:1 add neg => IntegerOverflow _+_ 9223372036854775807 1
+L:3 L:5 sub neg => 2
+L:-9223372036854775808 L:1 add neg => 9223372036854775807
+set:0 isEmpty => true
+L:1 set:1 isEmpty => false
+set:0 set:1 isEmpty => false
+L:1 T:a add isEmpty => TypeError expected Long actual String
+record: isEmpty => TypeError expected Set actual Record
+T: isEmpty => TypeError expected Set actual String
+V:principal not => TypeError expected Bool actual Entity User
+V:context neg => TypeError expected Long actual Record
+S:principal isEmpty => UnlinkedSlot ?principal
+"#;
 
 /// The rows.
-pub fn rows() -> &'static [(&'static str, &'static str)] {
-    &ROWS
+pub fn rows() -> &'static str {
+    ROWS
 }
