@@ -1,10 +1,10 @@
 //! Worked rows of the evaluator and the authorizer, and calls with ample memory.
+use super::table::reader::expression;
 use cedar_authorizer::authorizer::{AuthorizationError, Authorizer, Decision};
 use cedar_evaluator::evaluator::{EvaluationError, Evaluator};
 use cedar_evaluator::request::{Context, EntityUIDEntry, Request};
 use cedar_layers::expressions::{
-    BinaryOp, EntityType, EntityUID, Expr, Literal, Loc, Name, SlotEnv, UnaryOp, Value, ValueKind,
-    Var,
+    BinaryOp, EntityType, EntityUID, Expr, Literal, Loc, Name, SlotEnv, Value, ValueKind, Var,
 };
 use cedar_layers::policies::{
     Annotations, Effect, Entities, Policy, PolicyID, PolicySet, PolicySetError,
@@ -57,13 +57,6 @@ fn is_limit(answer: &Result<Value, EvaluationError>) -> bool {
     }
 }
 
-fn is_left(error: &EvaluationError, e: &Expr) -> bool {
-    match error {
-        EvaluationError::NonValue(error) => error.expr == *e,
-        _ => false,
-    }
-}
-
 // The id that a set of policies refuses, if it does.
 fn refused(alloc: Global, policies: Vec<Policy>) -> Result<Option<String>, AllocError> {
     match PolicySet::try_from_iter(alloc, policies) {
@@ -104,13 +97,11 @@ fn a_part_takes_the_place_of_the_nearest_expression(rt: HostRuntime) -> Result<(
 }
 
 #[test]
-fn kinds_that_are_not_treated_yet(rt: HostRuntime) -> Result<(), Fail> {
+fn a_negation_of_a_negation_needs_three_levels(rt: HostRuntime) -> Result<(), Fail> {
     let alloc = rt.alloc();
-    let not_true = Expr::unary_app(alloc, UnaryOp::Not, Expr::val(Literal::Bool(true)))?;
-    match interpret(alloc, &not_true, 10) {
-        Err(error) => assert!(rt; is_left(&error, &not_true)),
-        Ok(_) => assert!(rt; false),
-    }
+    let e = expression(alloc, "B:true not not")?;
+    assert!(rt; is_bool(&interpret(alloc, &e, 3), true));
+    assert!(rt; is_limit(&interpret(alloc, &e, 2)));
     Ok(())
 }
 

@@ -6,8 +6,8 @@ mod logic;
 mod operands;
 mod operators;
 mod parts;
-mod reader;
-mod setting;
+pub mod reader;
+pub mod setting;
 mod store;
 
 use cedar_evaluator::evaluator::Evaluator;
