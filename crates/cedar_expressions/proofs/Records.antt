@@ -1,5 +1,5 @@
 -- A walk over the pairs of a record, which are put into a map in turn.
-use Rattle.std.proofs.Common.{◌≡◌, Bool, true, false, ◌||◌, cond, List, [], ◌∷◌, Option, Some, Global, refl, sym, ap, ◌∙◌}
+use Rattle.std.proofs.Common.{◌≡◌, Bool, true, false, ◌||◌, cond, List, [], ◌∷◌, Option, None, Some, Global, refl, sym, ap, ◌∙◌}
 use Rattle.std.specs.declared.cmp.Ordering.{Ordering}
 use Rattle.std.specs.declared.cmp.Ordering.TheVariants.{Less, Equal, Greater}
 use Rattle.std.specs.declared.rc.RcStr.{RcStr}
@@ -15,7 +15,10 @@ use Rattle.cedar_expressions.specs.declared.expr.Expr.{Expr}
 use Rattle.cedar_names.specs.Equality.{text_eq}
 use Rattle.cedar_names.specs.EqualityLaws.{text_eq-decides}
 use Rattle.cedar_expressions.specs.View.{view, fields_view}
-use Rattle.cedar_expressions.specs.Records.{is_among, first_again, put_field, keys_view}
+use Rattle.cedar_expressions.specs.declared.errors.ExpressionConstructionError.{ExpressionConstructionError}
+use Rattle.cedar_expressions.specs.declared.errors.ExpressionConstructionError.TheVariants.{DuplicateKey, Memory}
+use Rattle.cedar_expressions.specs.Errors.{IsRefusalOf}
+use Rattle.cedar_expressions.specs.Records.{is_among, first_again, repeated_key, put_field, keys_view}
 
 -- `==` of texts, by their order
 text_eq-order : (k l : Text) → is_eq (slice_cmp nat_cmp k l) ≡ text_eq k l
@@ -81,8 +84,17 @@ pub first_again-step : (es : Pairs) (k : RcStr Global) (e : Expr) (ks : List Tex
 first_again-step es k e ks h =
     ap (λ b. cond b (Some (rc_str_bytes k)) (first_again (rc_str_bytes k ∷ keys_view es) ks)) (sym (has_key es k) ∙ h) ∙ seen_alike ks (rc_str_bytes k ∷ keys_view es) (keys_view (insert_entry order es k e)) (more_keys es k e)
 
-pub first_again-here : (es : Pairs) (k : RcStr Global) (ks : List Text) → is_some (lookup (is_at (order k)) es) ≡ true → first_again (keys_view es) (rc_str_bytes k ∷ ks) ≡ Some (rc_str_bytes k)
-first_again-here es k ks h =
-    ap (λ b. cond b (Some (rc_str_bytes k)) (first_again (rc_str_bytes k ∷ keys_view es) ks)) (sym (has_key es k) ∙ h)
+pub repeated-here : (es : Pairs) (k : RcStr Global) → is_some (lookup (is_at (order k)) es) ≡ true → repeated_key (keys_view es) (rc_str_bytes k) ≡ Some (rc_str_bytes k)
+repeated-here es k h = ap (λ b. cond b (Some (rc_str_bytes k)) None) (sym (has_key es k) ∙ h)
 
-pub ruleset steps = (put_field-entries, first_again-step, first_again-here)
+-- a refusal of a key that is there is one of the first key that comes again, where the key comes next
+pub refusal_again : (seen : List Text) (k : Text) (more : List Text) (place : Text) (e : ExpressionConstructionError) → IsRefusalOf (repeated_key seen k) place e → IsRefusalOf (first_again seen (k ∷ more)) place e
+refusal_again seen k more place (DuplicateKey key context) h =
+    (at_test (is_among k seen) (first_again (k ∷ seen) more) h.0, h.1)
+  where
+    at_test : (b : Bool) (rest : Option Text) → cond b (Some k) None ≡ Some (rc_str_bytes key) → cond b (Some k) rest ≡ Some (rc_str_bytes key)
+    at_test true rest q = q
+    at_test false rest q = absurd (cc)
+refusal_again seen k more place (Memory error) h = h
+
+pub ruleset steps = (repeated-here, refusal_again)

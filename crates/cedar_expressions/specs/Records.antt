@@ -1,5 +1,5 @@
 -- The fields of a record, made of pairs of a key and a part.
-use Rattle.std.specs.Prelude.{Bool, false, ◌||◌, cond, List, [], ◌∷◌, map, Option, None, Some}
+use Rattle.std.specs.Prelude.{◌≡◌, Bool, false, ◌||◌, cond, List, [], ◌∷◌, map, Option, None, Some}
 use Rattle.std.specs.Ordering.{nat_cmp, match_ordering}
 use Rattle.std.specs.Cmp.Lexicographic.{slice_cmp}
 use Rattle.std.specs.Rc.{rc_str_bytes}
@@ -23,6 +23,14 @@ first_again seen (k ∷ ks) = cond (is_among k seen) (Some k) (first_again (k �
 -- the first text that comes again
 abbrev pub first_repeated : List Text → Option Text
 first_repeated ks = first_again [] ks
+
+-- the key, if it is among these
+abbrev pub repeated_key : List Text → Text → Option Text
+repeated_key ks k = cond (is_among k ks) (Some k) None
+
+-- the new keys are the old ones and k: of further keys the same comes again
+abbrev pub HasOneMore : List Text → Text → List Text → Type 0
+HasOneMore old k new = (more : List Text) → first_again old (k ∷ more) ≡ first_again new more
 
 -- the fields with t under k, at its place in byte order
 abbrev pub put_field : Fields → Text → Term → Fields

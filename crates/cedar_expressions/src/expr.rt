@@ -1,6 +1,6 @@
 #![tactic(auto, using(crate::proofs::Levels::levels))]
 //! Expressions.
-ghost use Rattle.std.specs.Prelude.{◌≡◌};
+ghost use Rattle.std.specs.Prelude.{◌≡◌, IfOk};
 
 mod copies;
 mod equality;
@@ -178,8 +178,7 @@ impl Expr {
         ensures loc { IfOk result (λ e. expr_loc e ≡ None) }
     {
         let test_expr = Rc::new(alloc, test_expr)?;
-        let then_expr = Rc::new(alloc, then_expr)?;
-        let else_expr = Rc::new(alloc, else_expr)?;
+        let (then_expr, else_expr) = shared_pair(alloc, then_expr, else_expr)?;
         Ok(Expr::of_kind(ExprKind::If {
             test_expr,
             then_expr,
@@ -192,8 +191,7 @@ impl Expr {
         ensures view { IfOk result (λ e. view e ≡ both (view left) (view right)) }
         ensures loc { IfOk result (λ e. expr_loc e ≡ None) }
     {
-        let left = Rc::new(alloc, left)?;
-        let right = Rc::new(alloc, right)?;
+        let (left, right) = shared_pair(alloc, left, right)?;
         Ok(Expr::of_kind(ExprKind::And { left, right }))
     }
 
@@ -202,8 +200,7 @@ impl Expr {
         ensures view { IfOk result (λ e. view e ≡ either (view left) (view right)) }
         ensures loc { IfOk result (λ e. expr_loc e ≡ None) }
     {
-        let left = Rc::new(alloc, left)?;
-        let right = Rc::new(alloc, right)?;
+        let (left, right) = shared_pair(alloc, left, right)?;
         Ok(Expr::of_kind(ExprKind::Or { left, right }))
     }
 
@@ -226,8 +223,7 @@ impl Expr {
         ensures view { IfOk result (λ e. view e ≡ binary (binary_view op) (view arg1) (view arg2)) }
         ensures loc { IfOk result (λ e. expr_loc e ≡ None) }
     {
-        let arg1 = Rc::new(alloc, arg1)?;
-        let arg2 = Rc::new(alloc, arg2)?;
+        let (arg1, arg2) = shared_pair(alloc, arg1, arg2)?;
         Ok(Expr::of_kind(ExprKind::BinaryApp { op, arg1, arg2 }))
     }
 
@@ -316,4 +312,14 @@ impl Expr {
             source_loc: None,
         }
     }
+}
+
+// Both expressions, to be parts of another.
+fn shared_pair(alloc: Global, first: Expr, second: Expr) -> Result<(Rc<Expr>, Rc<Expr>), AllocError>
+    ensures first { IfOk result (λ p. p.0.value ≡ first) }
+    ensures second { IfOk result (λ p. p.1.value ≡ second) }
+{
+    let first = Rc::new(alloc, first)?;
+    let second = Rc::new(alloc, second)?;
+    Ok((first, second))
 }

@@ -1,9 +1,10 @@
 #![tactic(auto, using(crate::proofs::Levels::levels, crate::proofs::Records::steps))]
 //! Records.
-ghost use Rattle.std.specs.Prelude.{◌≡◌, IfOk, IfErr, None, codes};
+ghost use Rattle.std.specs.Prelude.{◌≡◌, IfOk, OnOk, IfErr, None, codes};
+ghost use Rattle.std.specs.Rc.{rc_str_bytes};
 ghost use Rattle.cedar_model.specs.Terms.{record_of};
 ghost use Rattle.cedar_expressions.specs.Errors.{IsRefusalOf};
-ghost use Rattle.cedar_expressions.specs.Records.{first_repeated, fields_in_order, pairs_view, keys_view};
+ghost use Rattle.cedar_expressions.specs.Records.{first_repeated, repeated_key, HasOneMore, put_field, fields_in_order, pairs_view, keys_view};
 ghost use Rattle.cedar_expressions.specs.View.{view, expr_loc, fields_view};
 
 use super::{Expr, ExprKind};
@@ -25,13 +26,7 @@ impl Expr {
     {
         let mut fields: BTreeMap<RcStr, Expr> = BTreeMap::new(alloc);
         'pairs: for (key, part) in pairs {
-            if fields.contains_key(&key) {
-                return Err(ExpressionConstructionError::DuplicateKey {
-                    key,
-                    context: "in record literal",
-                });
-            }
-            fields.insert(key, part)?;
+            put_new(&mut fields, key, part)?;
         }
         Ok(Expr::record_map(alloc, fields)?)
     }
@@ -44,4 +39,24 @@ impl Expr {
         let map = Rc::new(alloc, map)?;
         Ok(Expr::of_kind(ExprKind::Record(map)))
     }
+}
+
+// Puts the part under the key, or refuses where the key is there.
+fn put_new(
+    fields: &mut BTreeMap<RcStr, Expr>,
+    key: RcStr,
+    part: Expr,
+) -> Result<(), ExpressionConstructionError>
+    ensures fields { OnOk result (fields_view fields.new.entries ≡ put_field (fields_view fields.old.entries) (rc_str_bytes key) (view part)) }
+    ensures keys { OnOk result (HasOneMore (keys_view fields.old.entries) (rc_str_bytes key) (keys_view fields.new.entries)) }
+    ensures refused { IfErr result (IsRefusalOf (repeated_key (keys_view fields.old.entries) (rc_str_bytes key)) (codes "in record literal")) }
+{
+    if fields.contains_key(&key) {
+        return Err(ExpressionConstructionError::DuplicateKey {
+            key,
+            context: "in record literal",
+        });
+    }
+    fields.insert(key, part)?;
+    Ok(())
 }

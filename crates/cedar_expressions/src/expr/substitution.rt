@@ -9,7 +9,7 @@ ghost use Rattle.cedar_names.specs.Leaves.{type_view};
 ghost use Rattle.cedar_expressions.specs.Mappings.{mapping_of};
 ghost use Rattle.cedar_expressions.specs.View.{view, kind_view, expr_loc, terms_view, fields_view};
 
-use super::{Expr, ExprKind};
+use super::{Expr, ExprKind, shared_pair};
 use cedar_names::Unknown;
 use std::alloc::{AllocError, Global};
 use std::collections::{BTreeMap, HashMap};
@@ -37,6 +37,21 @@ impl Expr {
     {
         let expr = self.expr_kind.substitute(alloc, map)?;
         Ok(expr.with_maybe_source_loc(self.source_loc))
+    }
+
+    #[cycle(substitute)]
+    fn substitute_pair<V: AsExpression>(
+        alloc: Global,
+        first: &Expr,
+        second: &Expr,
+        map: &HashMap<RcStr, V>,
+    ) -> Result<(Rc<Expr>, Rc<Expr>), AllocError>
+        ensures first { IfOk result (λ p. view p.0.value ≡ substituted (mapping_of V.represents map.now.entries) (view first.now)) }
+        ensures second { IfOk result (λ p. view p.1.value ≡ substituted (mapping_of V.represents map.now.entries) (view second.now)) }
+    {
+        let first = first.substitute(alloc, map)?;
+        let second = second.substitute(alloc, map)?;
+        Ok(shared_pair(alloc, first, second)?)
     }
 
     #[cycle(substitute)]
@@ -84,68 +99,66 @@ impl ExprKind {
             ExprKind::Lit(value) => Ok(Expr::val(value.clone()?)),
             ExprKind::Var(var) => Ok(Expr::var(*var)),
             ExprKind::Slot(slot) => Ok(Expr::slot(*slot)),
-            ExprKind::Unknown(unknown) => Ok(value_or_unknown(alloc, unknown, map)?),
+            ExprKind::Unknown(unknown) => value_or_unknown(alloc, unknown, map),
             ExprKind::If {
                 test_expr,
                 then_expr,
                 else_expr,
             } => {
-                let test_expr = test_expr.substitute(alloc, map)?;
-                let then_expr = then_expr.substitute(alloc, map)?;
-                let else_expr = else_expr.substitute(alloc, map)?;
-                Ok(Expr::ite(alloc, test_expr, then_expr, else_expr)?)
+                let test_expr = Rc::new(alloc, test_expr.substitute(alloc, map)?)?;
+                let (then_expr, else_expr) = Expr::substitute_pair(
+                    alloc, then_expr, else_expr, map,
+                )?;
+                Ok(Expr::of_kind(ExprKind::If {
+                    test_expr,
+                    then_expr,
+                    else_expr,
+                }))
             }
             ExprKind::And { left, right } => {
-                let left = left.substitute(alloc, map)?;
-                let right = right.substitute(alloc, map)?;
-                Ok(Expr::and(alloc, left, right)?)
+                let (left, right) = Expr::substitute_pair(alloc, left, right, map)?;
+                Ok(Expr::of_kind(ExprKind::And { left, right }))
             }
             ExprKind::Or { left, right } => {
-                let left = left.substitute(alloc, map)?;
-                let right = right.substitute(alloc, map)?;
-                Ok(Expr::or(alloc, left, right)?)
+                let (left, right) = Expr::substitute_pair(alloc, left, right, map)?;
+                Ok(Expr::of_kind(ExprKind::Or { left, right }))
             }
             ExprKind::UnaryApp { op, arg } => {
-                let arg = arg.substitute(alloc, map)?;
-                Ok(Expr::unary_app(alloc, *op, arg)?)
+                Expr::unary_app(alloc, *op, arg.substitute(alloc, map)?)
             }
             ExprKind::BinaryApp { op, arg1, arg2 } => {
-                let arg1 = arg1.substitute(alloc, map)?;
-                let arg2 = arg2.substitute(alloc, map)?;
-                Ok(Expr::binary_app(alloc, *op, arg1, arg2)?)
+                let (arg1, arg2) = Expr::substitute_pair(alloc, arg1, arg2, map)?;
+                let op = *op;
+                Ok(Expr::of_kind(ExprKind::BinaryApp { op, arg1, arg2 }))
             }
             ExprKind::ExtensionFunctionApp { fn_name, args } => {
-                let args = Expr::substitute_each(alloc, args, map)?;
-                Ok(Expr::call_extension_fn(alloc, fn_name.clone()?, args)?)
+                let fn_name = fn_name.clone()?;
+                Expr::call_extension_fn(alloc, fn_name, Expr::substitute_each(alloc, args, map)?)
             }
             ExprKind::GetAttr { expr, attr } => {
-                let expr = expr.substitute(alloc, map)?;
-                Ok(Expr::get_attr(alloc, expr, attr.clone()?)?)
+                let attr = attr.clone()?;
+                Expr::get_attr(alloc, expr.substitute(alloc, map)?, attr)
             }
             ExprKind::HasAttr { expr, attr } => {
-                let expr = expr.substitute(alloc, map)?;
-                Ok(Expr::has_attr(alloc, expr, attr.clone()?)?)
+                let attr = attr.clone()?;
+                Expr::has_attr(alloc, expr.substitute(alloc, map)?, attr)
             }
             ExprKind::ExtHasAttr { expr, attrs } => {
-                let expr = Rc::new(alloc, expr.substitute(alloc, map)?)?;
                 let attrs = attrs.clone()?;
+                let expr = Rc::new(alloc, expr.substitute(alloc, map)?)?;
                 Ok(Expr::of_kind(ExprKind::ExtHasAttr { expr, attrs }))
             }
             ExprKind::Like { expr, pattern } => {
-                let expr = expr.substitute(alloc, map)?;
-                Ok(Expr::like(alloc, expr, pattern.clone()?)?)
+                let pattern = pattern.clone()?;
+                Expr::like(alloc, expr.substitute(alloc, map)?, pattern)
             }
             ExprKind::Is { expr, entity_type } => {
-                let expr = expr.substitute(alloc, map)?;
-                Ok(Expr::is_entity_type(alloc, expr, entity_type.clone()?)?)
+                let entity_type = entity_type.clone()?;
+                Expr::is_entity_type(alloc, expr.substitute(alloc, map)?, entity_type)
             }
-            ExprKind::Set(parts) => {
-                let parts = Expr::substitute_each(alloc, parts, map)?;
-                Ok(Expr::set(alloc, parts)?)
-            }
+            ExprKind::Set(parts) => Expr::set(alloc, Expr::substitute_each(alloc, parts, map)?),
             ExprKind::Record(pairs) => {
-                let pairs = Expr::substitute_at(alloc, pairs, map)?;
-                Ok(Expr::record_map(alloc, pairs)?)
+                Expr::record_map(alloc, Expr::substitute_at(alloc, pairs, map)?)
             }
         }
     }
