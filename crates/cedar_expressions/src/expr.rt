@@ -177,8 +177,8 @@ impl Expr {
         ensures view { IfOk result (λ e. view e ≡ if_then_else (view test_expr) (view then_expr) (view else_expr)) }
         ensures loc { IfOk result (λ e. expr_loc e ≡ None) }
     {
-        let test_expr = Rc::new(alloc, test_expr)?;
         let (then_expr, else_expr) = shared_pair(alloc, then_expr, else_expr)?;
+        let test_expr = Rc::new(alloc, test_expr)?;
         Ok(Expr::of_kind(ExprKind::If {
             test_expr,
             then_expr,

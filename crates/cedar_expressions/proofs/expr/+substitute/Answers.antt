@@ -1,10 +1,11 @@
-use Rattle.std.proofs.Common.{◌≡◌, [], ◌∷◌, ◌++◌, sym, ap, ◌∙◌, subst, append_assoc}
+use Rattle.std.proofs.Common.{arith, ◌≡◌, [], ◌∷◌, ◌++◌, sym, ap, ◌∙◌, subst, append_assoc}
 use Rattle.std.specs.List.Sorted.{IsStrictlySortedBy}
 use Rattle.std.specs.Map.{keys_of}
 use Rattle.cedar_expressions.specs.Mappings.{mapping_of}
 use Rattle.cedar_expressions.specs.View.{fields_view}
 use Rattle.cedar_expressions.proofs.Records.{order}
-use Rattle.cedar_expressions.proofs.Substitution.{substituted_at-none, replaced_all, put_step}
+use Rattle.cedar_expressions.proofs.Levels.{kind_view-Lit, kind_view-Var, kind_view-Slot, kind_view-Unknown, kind_view-If, kind_view-And, kind_view-Or, kind_view-UnaryApp, kind_view-BinaryApp, kind_view-ExtensionFunctionApp, kind_view-GetAttr, kind_view-HasAttr, kind_view-ExtHasAttr, kind_view-Like, kind_view-Is, kind_view-Set, kind_view-Record}
+use Rattle.cedar_expressions.proofs.Substitution.{substituted-literal, substituted-variable, substituted-slot, substituted-unknown, substituted-if, substituted-both, substituted-either, substituted-unary, substituted-binary, substituted-call, substituted-get, substituted-has, substituted-extended, substituted-like, substituted-is, substituted-set, substituted-record, substituted_at-none, replaced_all, put_step}
 use Rattle.cedar_expressions.proofs.expr.+substitute.Goals as goal
 
 pub Expr::substitute_each-returns : goal.Expr::substitute_each-returns
@@ -30,3 +31,54 @@ Expr::substitute_at-pairs-preserved g t c =
       all ∙ sym (append_assoc done ((key, part) ∷ []) left),
       put_step m l.new_pairs.entries c.insert.new.self.entries done left c.in_ok-name.name key c.in_ok-substitute.field-0 part sorted c.in_ok-insert.ensures.entries c.in_ok-name.ensures.cases c.in_ok-substitute.ensures.view l.invariant.2,
     )
+
+pub ExprKind::substitute-returns-in_ok-clone-in-Lit : goal.ExprKind::substitute-returns-in_ok-clone-in-Lit
+ExprKind::substitute-returns-in_ok-clone-in-Lit g t c = grind (arith, kind_view-Lit, substituted-literal)
+
+pub ExprKind::substitute-returns-in-Var : goal.ExprKind::substitute-returns-in-Var
+ExprKind::substitute-returns-in-Var g t c = grind (arith, kind_view-Var, substituted-variable)
+
+pub ExprKind::substitute-returns-in-Slot : goal.ExprKind::substitute-returns-in-Slot
+ExprKind::substitute-returns-in-Slot g t c = grind (arith, kind_view-Slot, substituted-slot)
+
+pub ExprKind::substitute-returns-in-Unknown : goal.ExprKind::substitute-returns-in-Unknown
+ExprKind::substitute-returns-in-Unknown g t c = grind (arith, kind_view-Unknown, substituted-unknown)
+
+pub ExprKind::substitute-returns-in_ok-then_expr-in-If : goal.ExprKind::substitute-returns-in_ok-then_expr-in-If
+ExprKind::substitute-returns-in_ok-then_expr-in-If g t c = grind (arith, kind_view-If, substituted-if)
+
+pub ExprKind::substitute-returns-in_ok-left-in-And : goal.ExprKind::substitute-returns-in_ok-left-in-And
+ExprKind::substitute-returns-in_ok-left-in-And g t c = grind (arith, kind_view-And, substituted-both)
+
+pub ExprKind::substitute-returns-in_ok-left-in-Or : goal.ExprKind::substitute-returns-in_ok-left-in-Or
+ExprKind::substitute-returns-in_ok-left-in-Or g t c = grind (arith, kind_view-Or, substituted-either)
+
+pub ExprKind::substitute-returns-in_ok-substitute-in-UnaryApp : goal.ExprKind::substitute-returns-in_ok-substitute-in-UnaryApp
+ExprKind::substitute-returns-in_ok-substitute-in-UnaryApp g t c = grind (arith, kind_view-UnaryApp, substituted-unary)
+
+pub ExprKind::substitute-returns-in_ok-arg1-in-BinaryApp : goal.ExprKind::substitute-returns-in_ok-arg1-in-BinaryApp
+ExprKind::substitute-returns-in_ok-arg1-in-BinaryApp g t c = grind (arith, kind_view-BinaryApp, substituted-binary)
+
+pub ExprKind::substitute-returns-in_ok-substitute_each-in-ExtensionFunctionApp : goal.ExprKind::substitute-returns-in_ok-substitute_each-in-ExtensionFunctionApp
+ExprKind::substitute-returns-in_ok-substitute_each-in-ExtensionFunctionApp g t c = grind (arith, kind_view-ExtensionFunctionApp, substituted-call)
+
+pub ExprKind::substitute-returns-in_ok-substitute-in-GetAttr : goal.ExprKind::substitute-returns-in_ok-substitute-in-GetAttr
+ExprKind::substitute-returns-in_ok-substitute-in-GetAttr g t c = grind (arith, kind_view-GetAttr, substituted-get)
+
+pub ExprKind::substitute-returns-in_ok-substitute-in-HasAttr : goal.ExprKind::substitute-returns-in_ok-substitute-in-HasAttr
+ExprKind::substitute-returns-in_ok-substitute-in-HasAttr g t c = grind (arith, kind_view-HasAttr, substituted-has)
+
+pub ExprKind::substitute-returns-in_ok-expr-in-ExtHasAttr : goal.ExprKind::substitute-returns-in_ok-expr-in-ExtHasAttr
+ExprKind::substitute-returns-in_ok-expr-in-ExtHasAttr g t c = grind (arith, kind_view-ExtHasAttr, substituted-extended)
+
+pub ExprKind::substitute-returns-in_ok-substitute-in-Like : goal.ExprKind::substitute-returns-in_ok-substitute-in-Like
+ExprKind::substitute-returns-in_ok-substitute-in-Like g t c = grind (arith, kind_view-Like, substituted-like)
+
+pub ExprKind::substitute-returns-in_ok-substitute-in-Is : goal.ExprKind::substitute-returns-in_ok-substitute-in-Is
+ExprKind::substitute-returns-in_ok-substitute-in-Is g t c = grind (arith, kind_view-Is, substituted-is)
+
+pub ExprKind::substitute-returns-in_ok-substitute_each-in-Set : goal.ExprKind::substitute-returns-in_ok-substitute_each-in-Set
+ExprKind::substitute-returns-in_ok-substitute_each-in-Set g t c = grind (arith, kind_view-Set, substituted-set)
+
+pub ExprKind::substitute-returns-in_ok-substitute_at-in-Record : goal.ExprKind::substitute-returns-in_ok-substitute_at-in-Record
+ExprKind::substitute-returns-in_ok-substitute_at-in-Record g t c = grind (arith, kind_view-Record, substituted-record)
