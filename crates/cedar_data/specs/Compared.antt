@@ -1,5 +1,6 @@
 -- How lists of values compare, part by part.
-use Rattle.std.specs.Prelude.{Bool, List, [], ◌∷◌}
+use Rattle.std.specs.Prelude.{◌≡◌, Bool, true, false, List, [], ◌∷◌}
+use Rattle.std.proofs.Common.{refl}
 use Rattle.std.specs.Rc.{rc_str_bytes}
 use Rattle.std.specs.declared.alloc.Global.{Global}
 use Rattle.std.specs.declared.rc.RcStr.{RcStr}
@@ -11,6 +12,9 @@ use Rattle.std.proofs.lemmas.Cmp.{on_total, on_equiv}
 use Rattle.std.specs.Cmp.Lexicographic.{slice_cmp}
 use Rattle.cedar_model.specs.Values.{Represented, abstract_value}
 use Rattle.cedar_model.specs.Keys.{value_cmp, value_cmp-total, value_eq-equivalence}
+use Rattle.cedar_model.specs.Failures.{PartialValue, value, residual}
+use Rattle.cedar_names.specs.Equality.{term_eq}
+use Rattle.cedar_names.specs.EqualityLaws.{term_eq-equivalence}
 use Rattle.cedar_data.specs.Sound.{Placed}
 
 -- the order of values, representations aside
@@ -38,3 +42,31 @@ entries_cmp [] (g ∷ gs) = Less
 entries_cmp (f ∷ fs) [] = Greater
 entries_cmp (f ∷ fs) (g ∷ gs) =
     ordering_then (slice_cmp nat_cmp (rc_str_bytes f.0) (rc_str_bytes g.0)) (ordering_then (represented_cmp f.1.what g.1.what) (entries_cmp fs gs))
+
+-- partial values: values as values, and residuals as terms
+abbrev pub partial_eq : PartialValue → PartialValue → Bool
+partial_eq (value v) (value w) = represented_eq v w
+partial_eq (value v) (residual t) = false
+partial_eq (residual s) (value w) = false
+partial_eq (residual s) (residual t) = term_eq s t
+
+partial_refl : (p : PartialValue) → partial_eq p p ≡ true
+partial_refl (value v) = represented_eq-equivalence.refl v
+partial_refl (residual t) = term_eq-equivalence.refl t
+
+partial_symm : (p q : PartialValue) → partial_eq p q ≡ partial_eq q p
+partial_symm (value v) (value w) = represented_eq-equivalence.symm v w
+partial_symm (value v) (residual t) = refl
+partial_symm (residual s) (value w) = refl
+partial_symm (residual s) (residual t) = term_eq-equivalence.symm s t
+
+partial_congr : (p q r : PartialValue) → partial_eq p q ≡ true → partial_eq p r ≡ partial_eq q r
+partial_congr (value u) (value v) (value w) h = represented_eq-equivalence.congr u v w h
+partial_congr (value u) (value v) (residual t) h = refl
+partial_congr (value u) (residual s) r h = absurd (cc)
+partial_congr (residual s) (value v) r h = absurd (cc)
+partial_congr (residual s) (residual t) (value w) h = refl
+partial_congr (residual s) (residual t) (residual u) h = term_eq-equivalence.congr s t u h
+
+pub partial_eq-equivalence : IsEquivalence partial_eq
+partial_eq-equivalence = record { refl = partial_refl; symm = partial_symm; congr = partial_congr }

@@ -4,6 +4,7 @@ ghost use Rattle.cedar_model.specs.Shapes.{has_unknown};
 ghost use Rattle.cedar_expressions.specs.View.{view};
 ghost use mathlib.Core.Bool.{Bool-set};
 
+mod equality;
 mod texts;
 
 use crate::value::Value;
