@@ -115,8 +115,9 @@ impl<'e, 'x, 'f> Evaluator<'e, 'x, 'f> {
         }
     }
 
-    /// The value of the expression under these slots, at the expression's place. Fails with the first error in the order of evaluation,
-    /// and with `RecursionLimit` where the evaluation goes deeper than the limit.
+    /// The value of the expression under these slots, at the expression's place. Fails with the first error in the order of
+    /// evaluation; with `RecursionLimit` where the evaluation goes more levels deep than the limit; and with `NonValue` where it
+    /// meets what is not known: an unknown, a stored residual, or an entity that a partial store lacks.
     pub fn interpret(
         &self,
         alloc: Global,
