@@ -15,7 +15,6 @@ use Rattle.cedar_values.specs.Failures.{failure_of}
 use Rattle.cedar_operators.specs.Answering.{Answers, FailsWith}
 use Rattle.cedar_operators.proofs.Expecting.{refuses}
 
-
 no_more : (n : ℕ) (b : Bool) → leb n 9223372036854775807 ≡ b → (n ≤ 9223372036854775807 → ⊥) → leb n 9223372036854775807 ≡ false
 no_more n true e f = absurd (f (leb-true n 9223372036854775807 e))
 no_more n false e f = e
