@@ -34,7 +34,8 @@ fn one_operand(rt: HostRuntime) -> Result<(), Fail> {
 fn the_least_long_has_no_negation(rt: HostRuntime) -> Result<(), Fail> {
     let alloc = rt.alloc();
     let least = Value::from(i64::MIN);
-    match unary_app(alloc, UnaryOp::Neg, least, Some(&PLACE)) {
+    let answer = unary_app(alloc, UnaryOp::Neg, least, Some(&PLACE));
+    match &answer {
         Err(EvaluationError::IntegerOverflow(IntegerOverflowError::UnaryOp(error))) => {
             assert_eq!(rt; error.op, UnaryOp::Neg);
             assert!(rt; error.arg == Value::from(i64::MIN));
@@ -98,7 +99,8 @@ fn arithmetic(rt: HostRuntime) -> Result<(), Fail> {
 fn one_more_than_the_greatest_long(rt: HostRuntime) -> Result<(), Fail> {
     let alloc = rt.alloc();
     let (greatest, one) = (Value::from(i64::MAX), Value::from(1));
-    match binary_arith(alloc, BinaryOp::Add, greatest, one, Some(&PLACE)) {
+    let answer = binary_arith(alloc, BinaryOp::Add, greatest, one, Some(&PLACE));
+    match &answer {
         Err(EvaluationError::IntegerOverflow(IntegerOverflowError::BinaryOp(error))) => {
             assert_eq!(rt; error.op, BinaryOp::Add);
             assert!(rt; error.arg1 == Value::from(i64::MAX));
