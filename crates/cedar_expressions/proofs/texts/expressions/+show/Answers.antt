@@ -1,8 +1,10 @@
-use Rattle.std.proofs.Common.{◌≡◌, true, false, [], ◌∷◌, ap, sym, ◌∙◌, rules, arith}
+use Rattle.std.proofs.Common.{◌≡◌, true, false, [], ◌∷◌, refl, ap, sym, ◌∙◌, codes, flat_map, rules, arith}
 use Rattle.std.proofs.lemmas.Grind.{common_steps}
 use Rattle.std.proofs.Output.{has_written_append, has_written_of_eq, writes_in_calls_nil}
+use Rattle.std.specs.Rc.{rc_str_bytes}
 use Rattle.cedar_expressions.specs.View.{fields_view}
-use Rattle.cedar_names.specs.Texts.{is_spent}
+use Rattle.cedar_names.specs.Leaves.{texts_view}
+use Rattle.cedar_names.specs.Texts.{is_spent, quoted, further_text}
 use Rattle.cedar_expressions.proofs.Levels.{kind_view-Lit, kind_view-Var, kind_view-Slot, kind_view-Unknown, kind_view-And, kind_view-Or, kind_view-UnaryApp, kind_view-ExtensionFunctionApp, kind_view-GetAttr, kind_view-HasAttr, kind_view-ExtHasAttr, kind_view-Like, kind_view-Is, kind_view-Set, kind_view-Record}
 use Rattle.cedar_expressions.proofs.Loops.{parts_left, parts_end, fields_left, fields_end, terms_view-drop}
 use Rattle.cedar_expressions.proofs.texts.expressions.+show.Goals as goal
@@ -88,3 +90,103 @@ show-returns-in-Set g t c = grind (arith, kind_view-Set)
 
 pub show-returns-in-Record : goal.show-returns-in-Record
 show-returns-in-Record g t c = grind (arith, kind_view-Record)
+
+pub show_enclosed-returns : goal.show_enclosed-returns
+show_enclosed-returns g t c = λ plain ok.
+    let first = c.in_ok-write_str.ensures.writes plain refl in
+    let then = c.in_ok-show.ensures first.plain refl in
+    has_written_append _ _ (codes "(") _ _ _ first (has_written_append _ _ _ _ _ _ then (c.write_str-2.ensures.writes then.plain ok))
+
+pub show_if-returns : goal.show_if-returns
+show_if-returns g t c = λ plain ok.
+    let one = c.in_ok-write_str.ensures.writes plain refl in
+    let test = c.in_ok-show_part.ensures one.plain refl in
+    let two = c.in_ok-write_str-2.ensures.writes test.plain refl in
+    let yes = c.in_ok-show_part-2.ensures two.plain refl in
+    let three = c.in_ok-write_str-3.ensures.writes yes.plain refl in
+    let no = c.show_part-3.ensures three.plain ok in
+    has_written_append _ _ (codes "if ") _ _ _ one (has_written_append _ _ _ _ _ _ test (has_written_append _ _ (codes " then ") _ _ _ two (has_written_append _ _ _ _ _ _ yes (has_written_append _ _ (codes " else ") _ _ _ three no))))
+
+pub show_pair-returns : goal.show_pair-returns
+show_pair-returns g t c = λ plain ok.
+    let left = c.in_ok-show_part.ensures plain refl in
+    let between = c.in_ok-write_str.ensures.writes left.plain refl in
+    has_written_append _ _ _ _ _ _ left (has_written_append _ _ _ _ _ _ between (c.show_part-2.ensures between.plain ok))
+
+pub show_unary-returns : goal.show_unary-returns
+show_unary-returns g t c = λ plain ok.
+    let before = c.in_ok-write_str.ensures.writes plain refl in
+    let part = c.in_ok-show_part.ensures before.plain refl in
+    let after = c.write_str-2.ensures.writes part.plain ok in
+    has_written_append _ _ _ _ _ _ (has_written_of_eq _ _ _ _ _ c.before_part.ensures before) (has_written_append _ _ _ _ _ _ part (has_written_of_eq _ _ _ _ _ c.after_part.ensures after))
+
+pub show_method-returns : goal.show_method-returns
+show_method-returns g t c = λ plain ok.
+    let left = c.in_ok-show_part.ensures plain refl in
+    let between = c.in_ok-write_str.ensures.writes left.plain refl in
+    let right = c.in_ok-show.ensures between.plain refl in
+    has_written_append _ _ _ _ _ _ left (has_written_append _ _ _ _ _ _ between (has_written_append _ _ _ _ _ _ right (c.write_str-2.ensures.writes right.plain ok)))
+
+pub show_call-returns : goal.show_call-returns
+show_call-returns g t c = λ plain ok.
+    let name = c.in_ok-fmt.ensures.writes plain refl in
+    let start = c.in_ok-write_str.ensures.writes name.plain refl in
+    let parts = c.in_ok-show_parts.ensures start.plain refl in
+    has_written_append _ _ _ _ _ _ name (has_written_append _ _ (codes "(") _ _ _ start (has_written_append _ _ _ _ _ _ parts (c.write_str-2.ensures.writes parts.plain ok)))
+
+pub show_attribute-returns : goal.show_attribute-returns
+show_attribute-returns g t c = λ plain ok.
+    let part = c.in_ok-show_part.ensures plain refl in
+    let start = c.in_ok-write_str.ensures.writes part.plain refl in
+    let attr = c.in_ok-write_quoted.ensures start.plain refl in
+    has_written_append _ _ _ _ _ _ part (has_written_append _ _ (codes "[") _ _ _ start (has_written_append _ _ (quoted (rc_str_bytes c.args.attr.now)) _ _ _ (has_written_of_eq _ _ _ _ _ (ap quoted c.as_str.ensures.value) attr) (c.write_str-2.ensures.writes attr.plain ok)))
+
+pub show_has-returns : goal.show_has-returns
+show_has-returns g t c = λ plain ok.
+    let part = c.in_ok-show_part.ensures plain refl in
+    let between = c.in_ok-write_str.ensures.writes part.plain refl in
+    has_written_append _ _ _ _ _ _ part (has_written_append _ _ (codes " has ") _ _ _ between (has_written_of_eq _ _ _ _ _ (ap quoted c.as_str.ensures.value) (c.write_quoted.ensures between.plain ok)))
+
+pub show_extended_has-returns : goal.show_extended_has-returns
+show_extended_has-returns g t c = λ plain ok.
+    let part = c.in_ok-show_part.ensures plain refl in
+    let between = c.in_ok-write_str.ensures.writes part.plain refl in
+    let first = c.in_ok-write_quoted.ensures between.plain refl in
+    let further = c.write_further.ensures first.plain ok in
+    has_written_append _ _ _ _ _ _ part (has_written_append _ _ (codes " has ") _ _ _ between (has_written_append _ _ (quoted (rc_str_bytes c.args.attrs.now.first)) _ _ _ (has_written_of_eq _ _ _ _ _ (ap quoted c.as_str.ensures.value) first) (has_written_of_eq _ _ _ _ _ (ap (λ v. flat_map further_text (texts_view v)) c.deref.ensures.value) further)))
+
+pub show_like-returns : goal.show_like-returns
+show_like-returns g t c = λ plain ok.
+    let part = c.in_ok-show_part.ensures plain refl in
+    let between = c.in_ok-write_str.ensures.writes part.plain refl in
+    has_written_append _ _ _ _ _ _ part (has_written_append _ _ (codes " like ") _ _ _ between (c.write_pattern.ensures between.plain ok))
+
+pub show_is-returns : goal.show_is-returns
+show_is-returns g t c = λ plain ok.
+    let part = c.in_ok-show_part.ensures plain refl in
+    let between = c.in_ok-write_str.ensures.writes part.plain refl in
+    has_written_append _ _ _ _ _ _ part (has_written_append _ _ (codes " is ") _ _ _ between (c.fmt.ensures.writes between.plain ok))
+
+pub show_set-returns : goal.show_set-returns
+show_set-returns g t c = λ plain ok.
+    let start = c.in_ok-write_str.ensures.writes plain refl in
+    let parts = c.in_ok-show_parts.ensures start.plain refl in
+    has_written_append _ _ (codes "[") _ _ _ start (has_written_append _ _ _ _ _ _ parts (c.write_str-2.ensures.writes parts.plain ok))
+
+pub show_record-returns : goal.show_record-returns
+show_record-returns g t c = λ plain ok.
+    let start = c.in_ok-write_str.ensures.writes plain refl in
+    let fields = c.in_ok-show_fields.ensures start.plain refl in
+    has_written_append _ _ (codes "{") _ _ _ start (has_written_append _ _ _ _ _ _ fields (c.write_str-2.ensures.writes fields.plain ok))
+
+pub show_next-returns : goal.show_next-returns
+show_next-returns g t c = λ plain ok.
+    let start = c.in_ok-write_str.ensures.writes plain refl in
+    has_written_append _ _ _ _ _ _ (has_written_of_eq _ _ _ _ _ c.separator.ensures start) (c.show.ensures start.plain ok)
+
+pub show_next_field-returns : goal.show_next_field-returns
+show_next_field-returns g t c = λ plain ok.
+    let start = c.in_ok-write_str.ensures.writes plain refl in
+    let key = c.in_ok-write_quoted.ensures start.plain refl in
+    let colon = c.in_ok-write_str-2.ensures.writes key.plain refl in
+    has_written_append _ _ _ _ _ _ (has_written_of_eq _ _ _ _ _ c.separator.ensures start) (has_written_append _ _ (quoted (rc_str_bytes c.args.key.now)) _ _ _ (has_written_of_eq _ _ _ _ _ (ap quoted c.as_str.ensures.value) key) (has_written_append _ _ (codes ": ") _ _ _ colon (c.show.ensures colon.plain ok)))
