@@ -1,18 +1,18 @@
 -- Where nothing is unknown nothing stops the evaluator, and its answers are those of the rules.
-use Rattle.std.specs.Prelude.{◌≡◌, ◌≢◌, ℕ, zero, suc, Bool, true, false, List, ◌∷◌, Option, Some, None, Result, Ok, Err}
+use Rattle.std.specs.Prelude.{◌≡◌, ◌≢◌, ℕ, zero, suc, Bool, true, false, List, Option, Some, None, Result, Err}
 use Rattle.std.proofs.Common.{refl, sym, ◌∙◌, subst}
 use Rattle.cedar_model.specs.Terms.{Text, BinaryOperator, Term, literal, variable, slot, unknown, if_then_else, both, either, unary, binary, call, get_attribute, has_attribute, extended_has, like, is_of_type, set_of, record_of, Terms, no_terms, one_term, Fields, no_fields, one_field}
 use Rattle.cedar_model.specs.Values.{AbstractValue, Represented, abstract_value}
 use Rattle.cedar_model.specs.Outcomes.{bool_of}
 use Rattle.cedar_model.specs.World.{Functions}
-use Rattle.cedar_model.specs.Failures.{Failure, out_of_memory, PartialValue, value, residual, Answer, answers, fails, limit}
+use Rattle.cedar_model.specs.Failures.{Failure, out_of_memory, PartialValue, value, residual, Answer, answers, fails}
 use Rattle.cedar_model.specs.Settings.{Setting}
 use Rattle.cedar_model.specs.Rules.{MayAnswer, Meets, Rule, Runs, TakesBranch, AfterGuard, AndLeft, AfterAndLeft, OrLeft, AfterOrLeft, AfterLeft, AtAttribute, Parts, AfterPart, FieldParts, AfterFieldPart}
 use Rattle.cedar_model.specs.Agreement.{AgreesWithFunctions, HasNothingUnknown, IsKnown, AreKnown, AreKnownAt, own_world}
 use Rattle.cedar_model.specs.Authorizations.{IsExact, IsExactDecision, decided}
 use Rattle.cedar_model.proofs.Exactly.{answer_exact, decision_exact}
 use Rattle.cedar_operators.specs.Stopping.{stopped}
-use Rattle.cedar_evaluator.specs.Stops.{NoCalls, StoppingRule, StoppingRuns, IsKnownExactly, IsDecidedExactly}
+use Rattle.cedar_evaluator.specs.Stops.{NoCalls, StoppingRuns, IsKnownExactly, IsDecidedExactly}
 
 abbrev IsNoResidual : Answer → Type 0
 IsNoResidual (answers (value v)) = Unit {0}

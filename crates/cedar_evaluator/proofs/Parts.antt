@@ -1,5 +1,5 @@
 -- The values of parts, as they are collected in order.
-use Rattle.std.proofs.Common.{◌≡◌, ℕ, List, [], ◌∷◌, ◌++◌, map, Result, Ok, Err, Global, Ordering, Less, Equal, Greater, refl, sym, ap, ◌∙◌, subst}
+use Rattle.std.proofs.Common.{◌≡◌, List, [], ◌∷◌, ◌++◌, map, Result, Ok, Err, Global, Ordering, Less, Greater, refl, sym, ap, ◌∙◌, subst}
 use Rattle.std.proofs.lemmas.Cmp.{nat_list_cmp_total}
 use Rattle.std.specs.declared.rc.RcStr.{RcStr}
 use Rattle.std.specs.Rc.{rc_str_bytes}
@@ -14,7 +14,6 @@ use Rattle.cedar_model.specs.Values.{Represented, one_represented_at}
 use Rattle.cedar_model.specs.Sets.{represented_fields_of}
 use Rattle.cedar_model.specs.Failures.{Failure, PartialValue, value, fails, answers_value}
 use Rattle.cedar_model.specs.Rules.{MayAnswer, Parts, FieldParts, part_then, field_part_then}
-use Rattle.cedar_expressions.specs.declared.expr.Expr.{Expr}
 use Rattle.cedar_data.specs.Sound.{Placed, whats, whats_at}
 use Rattle.cedar_evaluator.specs.Evaluations.{all_values, values_under, all_fields}
 
@@ -47,9 +46,6 @@ whats-append (w ∷ vs) v = ap (λ l. w.what ∷ l) (whats-append vs v)
 -- what the rest answers, all parts answer after these values
 abbrev pub Collected : MayAnswer → Terms → Terms → List Represented → Type 0
 Collected May all rest vs = (r : Result (List PartialValue) Failure) → Parts May rest r → Parts May all (parts_after vs r)
-
-pub collected_none : (May : MayAnswer) (all : Terms) → Collected May all all []
-collected_none May all r h = h
 
 pub collected_more : (May : MayAnswer) (all rest more : Terms) (t : Term) (vs : List Placed) (v : Placed) → Collected May all rest (whats vs) → rest ≡ one_term t more → May t (answers_value v.what) → Collected May all more (whats (vs ++ v ∷ []))
 collected_more May all rest more t vs v sofar is may r h =

@@ -4,11 +4,11 @@ use Rattle.cedar_model.specs.Terms.{Text, bool_type, Literal, Variable, UnaryOpe
 use Rattle.cedar_model.specs.Values.{Represented, plain_represented, set_represented, record_represented, abstract_value}
 use Rattle.cedar_model.specs.Sets.{canonical_set, represented_fields_of}
 use Rattle.cedar_model.specs.Outcomes.{bool_of}
-use Rattle.cedar_model.specs.Failures.{Failure, function_is_missing, out_of_memory, residual_is_left, PartialValue, value, residual, Answer, answers, fails, answers_value, answers_bool, limit, wrong_type}
+use Rattle.cedar_model.specs.Failures.{function_is_missing, out_of_memory, residual_is_left, value, residual, Answer, answers, fails, answers_value, answers_bool, limit, wrong_type}
 use Rattle.cedar_model.specs.Settings.{Setting, variable_part}
 use Rattle.cedar_model.specs.Operators.{slot_answer, unary_answer, binary_answer, attribute_answer, has_answer, path_answer, like_answer, is_answer, mapped}
 use Rattle.cedar_model.specs.Rules
-use Rattle.cedar_model.specs.Rules.{MayAnswer, Meets, bool_expected, joined, bool_or_failure, on_part, binary_beside, binary_of_parts, has_part, is_part, Parts, FieldParts, part_then, field_part_then, add_value, values_of_parts, add_value_at, values_of_field_parts, set_answer, set_of_parts, record_answer, record_of_parts, TakesBranch, AndLeft, OrLeft, AfterValues}
+use Rattle.cedar_model.specs.Rules.{MayAnswer, Meets, bool_expected, joined, bool_or_failure, on_part, binary_beside, binary_of_parts, has_part, is_part, Parts, FieldParts, add_value, values_of_parts, add_value_at, values_of_field_parts, set_answer, set_of_parts, record_answer, record_of_parts, TakesBranch, AndLeft, OrLeft, AfterValues}
 use Rattle.cedar_model.specs.Authorizations.{bool_result, decided}
 use Rattle.cedar_data.specs.Sound.{Placed}
 use Rattle.cedar_values.specs.declared.evaluator.err.EvaluationError.{EvaluationError}

@@ -1,11 +1,11 @@
 -- What an evaluator is given and what its parts answer, as plain data.
-use Rattle.std.specs.Prelude.{ℕ, List, map, None, [], Result, Ok, Err}
+use Rattle.std.specs.Prelude.{ℕ, List, map, None, Result, Ok, Err}
 use Rattle.std.specs.Rc.{rc_str_bytes}
 use Rattle.std.specs.declared.alloc.Global.{Global}
 use Rattle.std.specs.declared.rc.RcStr.{RcStr}
 use Rattle.cedar_model.specs.Terms.{Text, Term}
 use Rattle.cedar_model.specs.Values.{Represented}
-use Rattle.cedar_model.specs.World.{Slots, Extensions}
+use Rattle.cedar_model.specs.World.{Slots}
 use Rattle.cedar_model.specs.Failures.{Failure, PartialValue, value}
 use Rattle.cedar_model.specs.Settings.{RequestPart, Store, Setting, known_context}
 use Rattle.cedar_model.specs.Rules.{Meets, Parts, FieldParts}
@@ -16,13 +16,10 @@ use Rattle.cedar_layers.specs.Policies.{SlotValues, slots_view}
 use Rattle.cedar_layers.specs.Stores.{store_view}
 use Rattle.cedar_values.specs.declared.evaluator.err.EvaluationError.{EvaluationError}
 use Rattle.cedar_operators.specs.Answering.{answer_of}
+use Rattle.cedar_operators.specs.Operations.{no_extensions}
 use Rattle.cedar_evaluator.specs.declared.evaluator.Evaluator.{Evaluator}
 use Rattle.cedar_evaluator.specs.Requests.{entry_view}
 use Rattle.cedar_evaluator.specs.Stops.{StoppingRule, StoppingRuns}
-
--- no extension
-abbrev pub no_extensions : Extensions
-no_extensions = record { arity = λ f. None; overloaded = [] }
 
 -- what an evaluator of this request over this store is given, for an expression with these slots
 abbrev pub setting_for : RequestPart → Store → Slots → Setting

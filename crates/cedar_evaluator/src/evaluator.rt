@@ -8,7 +8,7 @@ ghost use Rattle.cedar_model.specs.Values.{plain_represented, set_represented, r
 ghost use Rattle.cedar_model.specs.Sets.{canonical_set};
 ghost use Rattle.cedar_model.specs.Outcomes.{bool_of};
 ghost use Rattle.cedar_model.specs.Failures as Failures;
-ghost use Rattle.cedar_model.specs.Failures.{answers, answers_value, residual_is_left, function_is_missing, out_of_memory};
+ghost use Rattle.cedar_model.specs.Failures.{answers, answers_value, function_is_missing, out_of_memory};
 ghost use Rattle.cedar_model.specs.Settings.{variable_part};
 ghost use Rattle.cedar_model.specs.Operators.{binary_answer, slot_answer};
 ghost use Rattle.cedar_model.specs.Rules.{Meets, bool_or_failure};
@@ -20,7 +20,7 @@ ghost use Rattle.cedar_layers.specs.Policies.{slots_view};
 ghost use Rattle.cedar_values.specs.Failures.{failure_of};
 ghost use Rattle.cedar_operators.specs.Answering.{answer_of, Answers, FailsWith};
 ghost use Rattle.cedar_operators.specs.Stopping.{stopped};
-ghost use Rattle.cedar_evaluator.specs.Stops.{StoppingRule, StoppingRuns};
+ghost use Rattle.cedar_evaluator.specs.Stops.{StoppingRuns};
 ghost use Rattle.cedar_evaluator.specs.Evaluations.{MeetsKind, GivesParts, FailsParts, GivesFields, FailsFields};
 
 use crate::request::{EntityUIDEntry, Request};

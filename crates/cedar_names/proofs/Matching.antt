@@ -3,7 +3,7 @@ use Rattle.std.proofs.Common.{◌≡◌, ℕ, zero, suc, ◌+◌, ◌*◌, ◌<�
 use Rattle.std.proofs.Math.Nat.{mul-le-mul_left}
 use Rattle.std.proofs.lemmas.Bool.Decides.{Decides-eqb}
 use Rattle.cedar_model.specs.Terms.{PatternPart, character, wildcard}
-use Rattle.cedar_names.specs.Patterns.{some_end, matches}
+use Rattle.cedar_model.specs.Outcomes.{some_end, matches}
 
 -- whether the test holds of some end but the whole
 abbrev pub later : (List ℕ → Bool) → List ℕ → Bool
@@ -15,6 +15,7 @@ or_false true = refl
 or_false false = refl
 
 some_end-split : (test : List ℕ → Bool) (cs : List ℕ) → some_end test cs ≡ (test cs || later test cs)
+unfolding some_end matches
 some_end-split test [] = sym (or_false (test []))
 some_end-split test (c ∷ cs) = refl
 
@@ -27,29 +28,34 @@ or_right false b e = e
 
 -- a wildcard may take one character more
 longer : (test : List ℕ → Bool) (c : ℕ) (cs : List ℕ) → some_end test cs ≡ true → some_end test (c ∷ cs) ≡ true
+unfolding some_end matches
 longer test c cs e = or_right (test (c ∷ cs)) (some_end test cs) e
 
 earlier : (test : List ℕ → Bool) (n : ℕ) (cs : List ℕ) → some_end test (drop (suc n) cs) ≡ true → some_end test (drop n cs) ≡ true
+unfolding some_end matches
 earlier test zero [] e = e
 earlier test zero (c ∷ cs) e = longer test c cs e
 earlier test (suc n) [] e = e
 earlier test (suc n) (c ∷ cs) e = earlier test n cs e
 
 one_earlier : (test : List ℕ → Bool) (n : ℕ) (c : ℕ) (cs : List ℕ) → some_end test (drop n cs) ≡ true → some_end test (drop n (c ∷ cs)) ≡ true
+unfolding some_end matches
 one_earlier test zero c cs e = longer test c cs e
 one_earlier test (suc n) c cs e = earlier test n cs e
 
 -- what begins with these characters and then a wildcard
 behind : (seen : List ℕ) (qs : List PatternPart) (fs : List ℕ) → matches (map character seen ++ (wildcard ∷ qs)) fs ≡ true → some_end (matches qs) (drop (length seen) fs) ≡ true
+unfolding some_end matches
 behind [] qs fs e = e
 behind (d ∷ seen) qs [] e = absurd (cc)
-behind (d ∷ seen) qs (c ∷ fs) e = behind seen qs fs (second (c == d) (matches (map character seen ++ (wildcard ∷ qs)) fs) e)
+behind (d ∷ seen) qs (c ∷ fs) e = behind seen qs fs (second (d == c) (matches (map character seen ++ (wildcard ∷ qs)) fs) e)
   where
     second : (a b : Bool) → (a && b) ≡ true → b ≡ true
     second true b e = e
     second false b e = absurd (cc)
 
 behind_some : (seen : List ℕ) (qs : List PatternPart) (fs : List ℕ) → some_end (matches (map character seen ++ (wildcard ∷ qs))) fs ≡ true → some_end (matches qs) (drop (length seen) fs) ≡ true
+unfolding some_end matches
 behind_some seen qs [] e = behind seen qs [] e
 behind_some seen qs (c ∷ fs) e =
     either_way (matches (map character seen ++ (wildcard ∷ qs)) (c ∷ fs)) (some_end (matches (map character seen ++ (wildcard ∷ qs))) fs) e (behind seen qs (c ∷ fs)) (λ h. one_earlier (matches qs) (length seen) c fs (behind_some seen qs fs h))
@@ -64,6 +70,7 @@ drop_seen (c ∷ seen) ds = drop_seen seen ds
 
 -- where an earlier wildcard could take more, the new one can too
 enough : (seen : List ℕ) (qs : List PatternPart) (fs ds : List ℕ) → fs ≡ seen ++ ds → later (matches (map character seen ++ (wildcard ∷ qs))) fs ≡ true → some_end (matches qs) ds ≡ true
+unfolding some_end matches
 enough seen qs [] ds e h = absurd (cc)
 enough seen qs (c ∷ fs) ds e h =
     subst (λ v. some_end (matches qs) v ≡ true) (ap (drop (length seen)) e ∙ drop_seen seen ds) (one_earlier (matches qs) (length seen) c fs (behind_some seen qs fs h))
@@ -76,9 +83,11 @@ pub record IsWalk (ps : List PatternPart) (cs : List ℕ) (qs : List PatternPart
   pub from_is : fs ≡ seen ++ ds
 
 pub starts : (ps : List PatternPart) (cs : List ℕ) → IsWalk ps cs ps cs false ps cs
+unfolding some_end matches
 starts ps cs = record { same = sym (or_false (matches ps cs)); seen = []; more_is = refl; from_is = refl }
 
 pub skips : {ps qs ms : List PatternPart} {cs ds fs : List ℕ} {after : Bool} (us : List PatternPart) → qs ≡ wildcard ∷ us → IsWalk ps cs qs ds after ms fs → IsWalk ps cs us ds true us ds
+unfolding some_end matches
 skips {ps} {qs} {ms} {cs} {ds} {fs} {after} us e w = record {
   same = w.same ∙ ap (λ v. matches v ds || (after && later (matches ms) fs)) e ∙ absorbed (some_end (matches us) ds) (after && later (matches ms) fs) (λ h. enough w.seen us fs ds w.from_is (ap (λ v. later (matches v) fs) (sym (w.more_is ∙ ap (λ v. map character w.seen ++ v) e)) ∙ second after (later (matches ms) fs) h)) ∙ some_end-split (matches us) ds;
   seen = [];
@@ -96,6 +105,7 @@ skips {ps} {qs} {ms} {cs} {ds} {fs} {after} us e w = record {
     absorbed false false f = refl
 
 pub goes_on : {ps qs ms : List PatternPart} {cs ds fs : List ℕ} {after : Bool} (c : ℕ) (us : List PatternPart) (es : List ℕ) → qs ≡ character c ∷ us → ds ≡ c ∷ es → IsWalk ps cs qs ds after ms fs → IsWalk ps cs us es after ms fs
+unfolding some_end matches
 goes_on {ps} {qs} {ms} {cs} {ds} {fs} {after} c us es e f w = record {
   same = w.same ∙ (λ i. matches (e i) (f i) || (after && later (matches ms) fs)) ∙ ap (λ b. (b && matches us es) || (after && later (matches ms) fs)) (itself c);
   seen = w.seen ++ c ∷ [];
@@ -111,6 +121,7 @@ goes_on {ps} {qs} {ms} {cs} {ds} {fs} {after} c us es e f w = record {
     parts_on (x ∷ xs) = ap (λ v. character x ∷ v) (parts_on xs)
 
 pub tries_again : {ps qs ms : List PatternPart} {cs ds fs : List ℕ} {after : Bool} (c : ℕ) (es : List ℕ) → after ≡ true → fs ≡ c ∷ es → matches qs ds ≡ false → IsWalk ps cs qs ds after ms fs → IsWalk ps cs ms es true ms es
+unfolding some_end matches
 tries_again {ps} {qs} {ms} {cs} {ds} {fs} {after} c es a e differs w = record {
   same = w.same ∙ (λ i. differs i || (a i && later (matches ms) (e i))) ∙ some_end-split (matches ms) es;
   seen = [];
@@ -119,12 +130,15 @@ tries_again {ps} {qs} {ms} {cs} {ds} {fs} {after} c es a e differs w = record {
 }
 
 pub ends : {ps qs ms : List PatternPart} {cs ds fs : List ℕ} {after : Bool} → qs ≡ [] → ds ≡ [] → IsWalk ps cs qs ds after ms fs → true ≡ matches ps cs
+unfolding some_end matches
 ends {ps} {qs} {ms} {cs} {ds} {fs} {after} e f w = sym (w.same ∙ (λ i. matches (e i) (f i) || (after && later (matches ms) fs)))
 
 pub fails : {ps qs ms : List PatternPart} {cs ds fs : List ℕ} {after : Bool} → after ≡ false → matches qs ds ≡ false → IsWalk ps cs qs ds after ms fs → false ≡ matches ps cs
+unfolding some_end matches
 fails {ps} {qs} {ms} {cs} {ds} {fs} {after} a differs w = sym (w.same ∙ (λ i. differs i || (a i && later (matches ms) fs)))
 
 pub fails_at_end : {ps qs ms : List PatternPart} {cs ds fs : List ℕ} {after : Bool} → fs ≡ [] → matches qs ds ≡ false → IsWalk ps cs qs ds after ms fs → false ≡ matches ps cs
+unfolding some_end matches
 fails_at_end {ps} {qs} {ms} {cs} {ds} {fs} {after} e differs w =
     sym (w.same ∙ (λ i. differs i || (after && later (matches ms) (e i))) ∙ never after)
   where

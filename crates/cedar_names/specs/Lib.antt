@@ -4,5 +4,4 @@ pub mod Texts
 pub mod Equality
 pub mod EqualityLaws
 pub mod Hashing
-pub mod Patterns
 pub mod Looks

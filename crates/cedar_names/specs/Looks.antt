@@ -3,7 +3,7 @@ use Rattle.std.specs.Prelude.{◌≡◌, ℕ, false, List, [], ◌∷◌, map}
 use Rattle.std.specs.Str.{chars, IsUtf8}
 use Rattle.cedar_model.specs.Terms.{PatternPart, character, wildcard}
 use Rattle.cedar_names.specs.Leaves.{part_view}
-use Rattle.cedar_names.specs.Patterns.{matches}
+use Rattle.cedar_model.specs.Outcomes.{matches}
 use Rattle.cedar_names.specs.declared.pattern.matching.Look.{Look}
 use Rattle.cedar_names.specs.declared.pattern.matching.Look.TheVariants.{Ends, Wildcard, Same, Differs}
 

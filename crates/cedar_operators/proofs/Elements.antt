@@ -1,5 +1,5 @@
 -- The elements on the right of `in`, one by one.
-use Rattle.std.proofs.Common.{◌≡◌, ◌≢◌, ℕ, Bool, true, false, cond, ◌||◌, List, [], ◌∷◌, drop, Option, Some, None, Err, refl, sym, ap, ◌∙◌, subst}
+use Rattle.std.proofs.Common.{◌≡◌, ◌≢◌, Bool, true, false, ◌||◌, List, [], ◌∷◌, Option, Some, None, refl, sym, ap, ◌∙◌}
 use Rattle.cedar_model.specs.Terms.{EntityName}
 use Rattle.cedar_model.specs.Values.{AbstractValue, AbstractValues, no_values, one_value, abstract_value, abstract_values}
 use Rattle.cedar_model.specs.Sets.{represented_values_of}
@@ -11,7 +11,6 @@ use Rattle.cedar_data.specs.Sound.{Placed, whats}
 use Rattle.cedar_values.specs.declared.evaluator.err.EvaluationError.{EvaluationError}
 use Rattle.cedar_values.specs.Failures.{failure_of}
 use Rattle.cedar_operators.specs.Answering.{FailsWith}
-use Rattle.cedar_operators.specs.Operations.{element_answer}
 
 -- the elements of a list
 abbrev pub elements_in : List Placed → AbstractValues
@@ -25,9 +24,14 @@ or_false : (a : Bool) → (a || false) ≡ a
 or_false true = refl
 or_false false = refl
 
+-- whether the test holds of one of the elements, or held of one before them
+abbrev pub answer_from : Bool → (EntityName → Bool) → Failure → AbstractValues → Answer
+answer_from before test failure vs =
+    expecting (entities_of_set vs) (element_failure vs failure) (λ es. answers_bool (before || some_entity test es))
+
 module _ (test : EntityName → Bool) (failure : Failure) where
   abbrev From : Bool → AbstractValues → Answer
-  From b vs = element_answer b test failure vs
+  From b vs = answer_from b test failure vs
 
   -- an element that is an entity is tested
   pub tested : (b : Bool) (v : AbstractValue) (vs : AbstractValues) (e : EntityName) → entity_of v ≡ Some e → From b (one_value v vs) ≡ From (b || test e) vs

@@ -12,7 +12,6 @@ use Rattle.std.specs.declared.alloc.Global.{Global}
 use Rattle.std.specs.declared.rc.RcStr.{RcStr}
 use Rattle.cedar_model.specs.Terms.{Text}
 use Rattle.cedar_model.specs.Values.{Represented}
-use Rattle.cedar_model.specs.Outcomes.{text_eq}
 use Rattle.cedar_model.specs.Failures.{Failure, answers_value, fails}
 use Rattle.cedar_model.specs.Operators.{represented_at, represented_names, shown_names, value_or_failure}
 use Rattle.cedar_names.specs.Leaves.{texts_view}

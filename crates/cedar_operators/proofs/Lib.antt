@@ -2,5 +2,4 @@ pub mod Keys
 pub mod Longs
 pub mod Expecting
 pub mod Stored
-pub mod Likeness
 pub mod Elements

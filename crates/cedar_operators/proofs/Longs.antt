@@ -1,7 +1,7 @@
 -- Longs: what fits 64 bits, and how two compare.
-use Rattle.std.proofs.Common.{◌≡◌, ◌≢◌, ◌≤◌, ◌<◌, ℤ, pos, negsuc, ℕ, leb, Bool, true, false, cond, ◌&&◌, map, [], Option, Some, None, Err, refl, sym, ap, ◌∙◌, FitsSigned, w64, to_z, of_z, le-leb, leb-true, arith}
+use Rattle.std.proofs.Common.{◌≡◌, ◌≢◌, ◌≤◌, ◌<◌, ℤ, pos, negsuc, ℕ, leb, Bool, true, false, cond, ◌&&◌, map, [], Option, Some, None, Err, refl, sym, ap, ◌∙◌, FitsSigned, w64, le-leb, leb-true, arith}
 use Rattle.std.specs.declared.cmp.Ordering.{Ordering}
-use Rattle.std.specs.Ordering.{int_cmp, nat_cmp}
+use Rattle.std.specs.Ordering.{nat_cmp}
 use Rattle.std.specs.Cmp.Lexicographic.{slice_cmp}
 use Rattle.cedar_model.specs.Terms.{long_literal, long_type, extension_type}
 use Rattle.cedar_model.specs.Values.{AbstractValue, plain, set_value, record_value, extension_value, plain_represented}
@@ -48,10 +48,6 @@ IsBare X = X.overloaded ≡ []
 and_none : (b : Bool) → (b && false) ≡ false
 and_none true = refl
 and_none false = refl
-
-pub longs_compare : (X : Extensions) (v w : AbstractValue) (m n : ℤ) → long_of v ≡ Some m → long_of w ≡ Some n → comparison X v w ≡ Some (int_cmp m n)
-unfolding order_of
-longs_compare X v w m n e f = λ i. order_of (e i) (f i) (extension_order X v w)
 
 no_extension_order : (X : Extensions) (v w : AbstractValue) → IsBare X → extension_order X v w ≡ None
 unfolding extension_order has_text

@@ -12,12 +12,12 @@ use Rattle.cedar_model.specs.Values.{Represented, plain_represented, record_repr
 use Rattle.cedar_model.specs.Shapes.{is_restricted}
 use Rattle.cedar_model.specs.Failures.{Failure, out_of_memory, residual_is_left, PartialValue, value, residual, Answer, answers, fails, answers_value, answers_bool}
 use Rattle.cedar_model.specs.Settings.{Store, Found, found, not_there, not_known}
-use Rattle.cedar_model.specs.Operators.{represented_at, container_of, container_expected, has_in, has_found, last_in, last_found, step_in, step_to, step_to_stored, stored_attribute, unknown_answer, mapped, path_answer, after_step, Container, a_record, an_entity, no_container, Step, walks_on, stops}
+use Rattle.cedar_model.specs.Operators.{represented_at, container_of, container_expected, has_in, has_found, last_in, last_found, step_in, step_to, step_to_stored, stored_attribute, mapped, path_answer, after_step, Container, a_record, an_entity, no_container}
 use Rattle.cedar_names.specs.Leaves.{texts_view}
 use Rattle.cedar_data.specs.Sound.{Placed, whats_at}
 use Rattle.cedar_values.specs.declared.evaluator.err.EvaluationError.{EvaluationError}
 use Rattle.cedar_values.specs.Failures.{failure_of}
-use Rattle.cedar_operators.specs.Answering.{answer_of, Answers, FailsWith}
+use Rattle.cedar_operators.specs.Answering.{Answers, FailsWith}
 use Rattle.cedar_operators.specs.Stopping.{not_known_in, stopped, StepFails}
 use Rattle.cedar_operators.proofs.Keys.{whats-lookup}
 
@@ -125,14 +125,6 @@ path_walks store v u k l ls is = ap (λ s. after_step s (λ w. path_answer store
 pub path_is_none : (store : Store) (v : Represented) (k l : Text) (ls : List Text) → step_in store (container_of v) (container_expected v) k l ls ≡ step_to None → path_answer store v k (l ∷ ls) ≡ answers_bool false
 unfolding path_answer after_step step_to
 path_is_none store v k l ls is = ap (λ s. after_step s (λ w. path_answer store w l ls)) is
-
-pub path_fails : (store : Store) (v : Represented) (k l : Text) (ls : List Text) (f : Failure) → StepFails f (step_in store (container_of v) (container_expected v) k l ls) → stopped (path_answer store v k (l ∷ ls)) ≡ fails f
-unfolding path_answer after_step
-path_fails store v k l ls f h = stops_with (step_in store (container_of v) (container_expected v) k l ls) h
-  where
-    stops_with : (s : Step) → StepFails f s → stopped (after_step s (λ w. path_answer store w l ls)) ≡ fails f
-    stops_with (walks_on u) h = absurd h
-    stops_with (stops a) h = h
 
 pub texts_of_none : (ts : List (RcStr Global)) → length ts ≡ 0 → texts_view ts ≡ []
 texts_of_none [] h = refl

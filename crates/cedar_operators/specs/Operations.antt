@@ -10,9 +10,12 @@ use Rattle.cedar_model.specs.Operators.{expecting, element_failure, entities_fai
 use Rattle.cedar_model.specs.Settings.{Store, StoredEntity, Setting, is_among}
 use Rattle.cedar_values.specs.declared.extensions.Extensions.{Extensions}
 
+abbrev pub no_extensions : model.Extensions
+no_extensions = record { arity = λ f. None; overloaded = [] }
+
 -- no extension is there yet
 abbrev pub extensions_view : Extensions → model.Extensions
-extensions_view x = record { arity = λ f. None; overloaded = [] }
+extensions_view x = no_extensions
 
 -- the setting, but with these extensions
 abbrev pub with_extensions : Setting → model.Extensions → Setting
@@ -58,10 +61,10 @@ abbrev pub is_within : EntityName → Option StoredEntity → EntityName → Boo
 is_within d None e = entity_eq d e
 is_within d (Some x) e = entity_eq d e || is_among e x.ancestors
 
--- whether the test holds of one of the elements, or this is so already; or the error for the first that is no entity
-abbrev pub element_answer : Bool → (EntityName → Bool) → Failure → AbstractValues → Answer
-element_answer already test failure vs =
-    expecting (entities_of_set vs) (element_failure vs failure) (λ es. answers_bool (already || some_entity test es))
+-- whether the test holds of one of a set's elements, or the error for the first that is no entity
+abbrev pub element_answer : (EntityName → Bool) → Failure → AbstractValues → Answer
+element_answer test failure vs =
+    expecting (entities_of_set vs) (element_failure vs failure) (λ es. answers_bool (some_entity test es))
 
 -- what stands to the right of `in` is no set of entities
 abbrev pub right_expected : AbstractValue → Failure

@@ -1,7 +1,5 @@
 //! Errors that several operators answer.
 ghost use Rattle.std.specs.Prelude.{◌≡◌, IfOk, [], ◌∷◌};
-ghost use Rattle.std.specs.Rc.{rc_str_bytes};
-ghost use Rattle.cedar_model.specs.Terms.{unknown};
 ghost use Rattle.cedar_model.specs.Values.{abstract_value};
 ghost use Rattle.cedar_model.specs.Failures as Failures;
 ghost use Rattle.cedar_model.specs.Failures.{wrong_type, residual_is_left};
@@ -16,8 +14,8 @@ use evaluation_errors::{NonValueError, TypeError};
 use std::alloc::{AllocError, Global};
 use std::rc::RcStr;
 
-/// The type of any entity, as errors name it. Refuses only for want of memory.
-pub fn any_entity_type(alloc: Global) -> Result<Type, AllocError>
+// The type of any entity, as errors name it. Refuses only for want of memory.
+pub(crate) fn any_entity_type(alloc: Global) -> Result<Type, AllocError>
     ensures { IfOk result (λ t. type_view t ≡ Failures.any_entity) }
 {
     let name = RcStr::from_str(alloc, "any_entity_type")?;
@@ -26,8 +24,8 @@ pub fn any_entity_type(alloc: Global) -> Result<Type, AllocError>
     })
 }
 
-/// The error that the value is not of this type, at the value's place.
-pub fn type_error(alloc: Global, expected: Type, value: &Value) -> EvaluationError
+// The error that the value is not of this type, at the value's place.
+pub(crate) fn type_error(alloc: Global, expected: Type, value: &Value) -> EvaluationError
     ensures { FailsWith result (wrong_type (type_view expected) [] (abstract_value value.now.what)) }
 {
     match value.type_of() {
@@ -43,8 +41,8 @@ pub fn type_error(alloc: Global, expected: Type, value: &Value) -> EvaluationErr
     }
 }
 
-/// The error that the value is no entity, at the value's place.
-pub fn entity_expected(alloc: Global, value: &Value) -> EvaluationError
+// The error that the value is no entity, at the value's place.
+pub(crate) fn entity_expected(alloc: Global, value: &Value) -> EvaluationError
     ensures { FailsWith result (wrong_type Failures.any_entity [] (abstract_value value.now.what)) }
 {
     match any_entity_type(alloc) {
@@ -53,8 +51,8 @@ pub fn entity_expected(alloc: Global, value: &Value) -> EvaluationError
     }
 }
 
-/// The error that the value is neither of this type nor an entity, at the value's place.
-pub fn or_entity_expected(alloc: Global, expected: Type, value: &Value) -> EvaluationError
+// The error that the value is neither of this type nor an entity, at the value's place.
+pub(crate) fn or_entity_expected(alloc: Global, expected: Type, value: &Value) -> EvaluationError
     ensures { FailsWith result (wrong_type (type_view expected) (Failures.any_entity ∷ []) (abstract_value value.now.what)) }
 {
     match or_entity_error(alloc, expected, value) {
@@ -94,8 +92,8 @@ pub fn non_value(e: &Expr) -> EvaluationError
     }
 }
 
-/// The error that this expression is left, at the expression's place.
-pub fn expression_left(expr: Expr) -> EvaluationError
+// The error that this expression is left, at the expression's place.
+pub(crate) fn expression_left(expr: Expr) -> EvaluationError
     ensures { failure_of result ≡ residual_is_left (view expr) }
 {
     let source_loc: Option<Loc> = expr.source_loc().copied();

@@ -4,8 +4,8 @@
 
 pub mod attributes;
 pub mod failures;
-pub mod missing;
-pub mod numbers;
+mod missing;
+mod numbers;
 pub mod operators;
 pub mod sets;
 pub mod store;

@@ -18,11 +18,11 @@ use std::collections::BTreeMap;
 use std::collections::btree_map::Keys;
 use std::rc::{Rc, RcStr};
 
-/// How many names an error about a missing attribute or tag shows at most.
+// How many names an error about a missing attribute or tag shows at most.
 const TOO_MANY_ATTRS: usize = 5;
 
-/// The error that the entity has no such attribute, at this place.
-pub fn no_such_attribute(
+// The error that the entity has no such attribute, at this place.
+pub(crate) fn no_such_attribute(
     alloc: Global,
     entity: &Entity,
     uid: &Rc<EntityUID>,
@@ -60,8 +60,8 @@ fn missing_attribute(
     }))
 }
 
-/// The error that the entity has no such tag, at this place.
-pub fn no_such_tag(
+// The error that the entity has no such tag, at this place.
+pub(crate) fn no_such_tag(
     alloc: Global,
     entity: &Entity,
     uid: &Rc<EntityUID>,
@@ -99,8 +99,8 @@ fn missing_tag(
     }))
 }
 
-/// The error that the record has no such key, at this place.
-pub fn no_such_key(
+// The error that the record has no such key, at this place.
+pub(crate) fn no_such_key(
     alloc: Global,
     pairs: &BTreeMap<RcStr, Value>,
     attr: &RcStr,

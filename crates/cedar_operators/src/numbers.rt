@@ -17,9 +17,13 @@ use cedar_values::extensions::Extensions;
 use evaluation_errors::{BinaryOpOverflowError, IntegerOverflowError, UnaryOpOverflowError};
 use std::alloc::Global;
 
-/// `-arg`: a type error where it is no long, an overflow at this place where the result needs more than 64 bits.
+// `-arg`: a type error where it is no long, an overflow at this place where the result needs more than 64 bits.
 #[tactic(auto, unfolding(cedar_model::specs::Operators::unary_answer, cedar_model::specs::Operators::expecting))]
-pub fn negated(alloc: Global, arg: Value, loc: Option<&Loc>) -> Result<Value, EvaluationError>
+pub(crate) fn negated(
+    alloc: Global,
+    arg: Value,
+    loc: Option<&Loc>,
+) -> Result<Value, EvaluationError>
     ensures { Answers result (unary_answer neg_operator arg.what) }
 {
     match get_as_long(alloc, &arg) {
@@ -31,9 +35,14 @@ pub fn negated(alloc: Global, arg: Value, loc: Option<&Loc>) -> Result<Value, Ev
     }
 }
 
-/// `a + b`: a type error where one, the left first, is no long, an overflow at this place where the sum needs more than 64 bits.
+// `a + b`: a type error where one, the left first, is no long, an overflow at this place where the sum needs more than 64 bits.
 #[tactic(auto, unfolding(cedar_model::specs::Operators::expecting))]
-pub fn sum(alloc: Global, a: Value, b: Value, loc: Option<&Loc>) -> Result<Value, EvaluationError>
+pub(crate) fn sum(
+    alloc: Global,
+    a: Value,
+    b: Value,
+    loc: Option<&Loc>,
+) -> Result<Value, EvaluationError>
     ensures { Answers result (arithmetic_answer add_operator ◌+ℤ◌ a.what b.what) }
 {
     match get_as_long(alloc, &a) {
@@ -48,9 +57,9 @@ pub fn sum(alloc: Global, a: Value, b: Value, loc: Option<&Loc>) -> Result<Value
     }
 }
 
-/// `a - b`, as `sum`.
+// `a - b`, as `sum`.
 #[tactic(auto, unfolding(cedar_model::specs::Operators::expecting))]
-pub fn difference(
+pub(crate) fn difference(
     alloc: Global,
     a: Value,
     b: Value,
@@ -70,9 +79,9 @@ pub fn difference(
     }
 }
 
-/// `a * b`, as `sum`.
+// `a * b`, as `sum`.
 #[tactic(auto, unfolding(cedar_model::specs::Operators::expecting))]
-pub fn product(
+pub(crate) fn product(
     alloc: Global,
     a: Value,
     b: Value,
@@ -92,9 +101,9 @@ pub fn product(
     }
 }
 
-/// `a < b`: of two longs; where one side is a long, the other is expected to be one, else the left.
+// `a < b`: of two longs; where one side is a long, the other is expected to be one, else the left.
 #[tactic(auto, unfolding(cedar_model::specs::Operators::expecting, cedar_model::specs::Meaning::order_of))]
-pub fn less(
+pub(crate) fn less(
     alloc: Global,
     a: &Value,
     b: &Value,
@@ -111,9 +120,9 @@ pub fn less(
     }
 }
 
-/// `a <= b`, as `less`.
+// `a <= b`, as `less`.
 #[tactic(auto, unfolding(cedar_model::specs::Operators::expecting, cedar_model::specs::Meaning::order_of))]
-pub fn less_or_equal(
+pub(crate) fn less_or_equal(
     alloc: Global,
     a: &Value,
     b: &Value,

@@ -1,6 +1,6 @@
 //! Operators on one value, and the relations and the arithmetic of two.
 ghost use Rattle.std.specs.Prelude.{◌≡◌, true};
-ghost use Rattle.cedar_model.specs.Terms.{not_operator, is_empty_operator, eq_operator};
+ghost use Rattle.cedar_model.specs.Terms.{not_operator, is_empty_operator};
 ghost use Rattle.cedar_model.specs.Settings.{Setting};
 ghost use Rattle.cedar_model.specs.Operators.{unary_answer, binary_answer, like_answer, is_answer};
 ghost use Rattle.cedar_names.specs.Names.{type_text};

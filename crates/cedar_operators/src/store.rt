@@ -1,6 +1,6 @@
 //! Operators that ask the store: `in`, `getTag` and `hasTag`. For now an entity that a partial store lacks, and a stored residual,
 //! are answered by the error `NonValue` with the unknown or the residual.
-ghost use Rattle.std.specs.Prelude.{◌≡◌, true, false, option_map, option_copied};
+ghost use Rattle.std.specs.Prelude.{◌≡◌, true, option_map, option_copied};
 ghost use Rattle.std.specs.Rc.{rc_str_bytes};
 ghost use Rattle.cedar_model.specs.Terms.{get_tag_operator, has_tag_operator};
 ghost use Rattle.cedar_model.specs.Values.{abstract_values, set_value};
@@ -94,7 +94,7 @@ fn in_set(
     entity: Option<&Entity>,
     set: &Set,
 ) -> Result<Value, EvaluationError>
-    ensures { Answers result (element_answer false (is_within (uid_name uid.now) (option_map entity_view (option_copied entity.entry))) (right_expected (set_value (abstract_values set.now.all))) (abstract_values set.now.all)) }
+    ensures { Answers result (element_answer (is_within (uid_name uid.now) (option_map entity_view (option_copied entity.entry))) (right_expected (set_value (abstract_values set.now.all))) (abstract_values set.now.all)) }
 {
     let mut is_found = false;
     'elements: for element in set.as_slice() {
@@ -218,9 +218,9 @@ fn entity_has_tag(
     }
 }
 
-/// The stored value, or the error that this residual is left.
+// The stored value, or the error that this residual is left.
 #[tactic(auto, unfolding(crate::specs::Stopping::stopped))]
-pub fn stored_part(part: &PartialValue) -> Result<Value, EvaluationError>
+pub(crate) fn stored_part(part: &PartialValue) -> Result<Value, EvaluationError>
     requires { is_restricted_part (partial_view part.now) ≡ true }
     ensures { Answers result (stopped (answers (partial_view part.now))) }
 {
@@ -230,8 +230,8 @@ pub fn stored_part(part: &PartialValue) -> Result<Value, EvaluationError>
     }
 }
 
-/// The error that there is no such entity, at this place.
-pub fn no_such_entity(uid: &Rc<EntityUID>, loc: Option<&Loc>) -> EvaluationError
+// The error that there is no such entity, at this place.
+pub(crate) fn no_such_entity(uid: &Rc<EntityUID>, loc: Option<&Loc>) -> EvaluationError
     ensures { FailsWith result (entity_is_missing (uid_name uid.now.value)) }
 {
     match uid.clone() {

@@ -23,8 +23,8 @@ pub fn bool_value(b: bool) -> Value
     Value::new(ValueKind::Lit(Literal::Bool(b)), None)
 }
 
-/// A long, at no known place.
-pub fn long_value(n: i64) -> Value
+// A long, at no known place.
+pub(crate) fn long_value(n: i64) -> Value
     ensures { result.what ≡ plain_represented (Terms.long_literal n) }
 {
     Value::new(ValueKind::Lit(Literal::Long(n)), None)
@@ -50,9 +50,9 @@ pub fn get_as_bool(alloc: Global, value: &Value) -> Result<bool, EvaluationError
     }
 }
 
-/// The long, or a type error that expects one.
+// The long, or a type error that expects one.
 #[tactic(auto, unfolding(cedar_model::specs::Outcomes::long_of))]
-pub fn get_as_long(alloc: Global, value: &Value) -> Result<i64, EvaluationError>
+pub(crate) fn get_as_long(alloc: Global, value: &Value) -> Result<i64, EvaluationError>
     ensures ok { IfOk result (λ n. long_of (abstract_value value.now.what) ≡ Some n) }
     ensures no_long { IfErr result (λ e. failure_of e ≢ out_of_memory → long_of (abstract_value value.now.what) ≡ None) }
     ensures error { IfErr result (λ e. FailsWith e (wrong_type long_type [] (abstract_value value.now.what))) }
@@ -70,9 +70,9 @@ pub fn get_as_long(alloc: Global, value: &Value) -> Result<i64, EvaluationError>
     }
 }
 
-/// The text, or a type error that expects one.
+// The text, or a type error that expects one.
 #[tactic(auto, unfolding(cedar_model::specs::Outcomes::text_of))]
-pub fn get_as_string(alloc: Global, value: &Value) -> Result<&RcStr, EvaluationError>
+pub(crate) fn get_as_string(alloc: Global, value: &Value) -> Result<&RcStr, EvaluationError>
     ensures ok { IfOk result (λ t. text_of (abstract_value value.now.what) ≡ Some (rc_str_bytes t.now)) }
     ensures no_text { IfErr result (λ e. failure_of e ≢ out_of_memory → text_of (abstract_value value.now.what) ≡ None) }
     ensures error { IfErr result (λ e. FailsWith e (wrong_type string_type [] (abstract_value value.now.what))) }
@@ -90,9 +90,9 @@ pub fn get_as_string(alloc: Global, value: &Value) -> Result<&RcStr, EvaluationE
     }
 }
 
-/// The entity, or a type error that expects one.
+// The entity, or a type error that expects one.
 #[tactic(auto, unfolding(cedar_model::specs::Outcomes::entity_of))]
-pub fn get_as_entity(alloc: Global, value: &Value) -> Result<&Rc<EntityUID>, EvaluationError>
+pub(crate) fn get_as_entity(alloc: Global, value: &Value) -> Result<&Rc<EntityUID>, EvaluationError>
     ensures ok { IfOk result (λ u. entity_of (abstract_value value.now.what) ≡ Some (uid_name u.now.value)) }
     ensures no_entity { IfErr result (λ e. failure_of e ≢ out_of_memory → entity_of (abstract_value value.now.what) ≡ None) }
     ensures error { IfErr result (λ e. FailsWith e (wrong_type any_entity [] (abstract_value value.now.what))) }
@@ -110,9 +110,9 @@ pub fn get_as_entity(alloc: Global, value: &Value) -> Result<&Rc<EntityUID>, Eva
     }
 }
 
-/// The set, or a type error that expects one.
+// The set, or a type error that expects one.
 #[tactic(auto, unfolding(cedar_model::specs::Outcomes::elements_of))]
-pub fn get_as_set(alloc: Global, value: &Value) -> Result<&Set, EvaluationError>
+pub(crate) fn get_as_set(alloc: Global, value: &Value) -> Result<&Set, EvaluationError>
     ensures ok { IfOk result (λ s. elements_of (abstract_value value.now.what) ≡ Some (abstract_values s.now.all)) }
     ensures no_set { IfErr result (λ e. failure_of e ≢ out_of_memory → elements_of (abstract_value value.now.what) ≡ None) }
     ensures error { IfErr result (λ e. FailsWith e (wrong_type set_type [] (abstract_value value.now.what))) }

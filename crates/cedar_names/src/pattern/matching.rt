@@ -1,8 +1,8 @@
 //! Whether a text matches a pattern.
 ghost use Rattle.std.specs.Prelude.{◌≡◌, [], ◌∷◌, MatchOption, map};
 ghost use Rattle.std.specs.Str.{chars};
+ghost use Rattle.cedar_model.specs.Outcomes.{matches};
 ghost use Rattle.cedar_names.specs.Leaves.{part_view, pattern_view};
-ghost use Rattle.cedar_names.specs.Patterns.{matches};
 ghost use Rattle.cedar_names.specs.Looks.{LooksAt};
 
 use super::{Pattern, PatternElem};
@@ -54,6 +54,7 @@ fn split_char(text: &str) -> Option<(char, &str)>
     }
 }
 
+#[tactic(auto, unfolding(cedar_model::specs::Outcomes::matches))]
 fn beginning<'a>(parts: &'a [PatternElem], text: &'a str) -> Look<'a>
     ensures { LooksAt (map part_view parts.now) (chars text.now) result }
 {
@@ -66,7 +67,7 @@ fn beginning<'a>(parts: &'a [PatternElem], text: &'a str) -> Look<'a>
         Some((PatternElem::Char(expected), more)) => match split_char(text) {
             None => Look::Differs,
             Some((c, rest)) => {
-                if c == *expected {
+                if *expected == c {
                     Look::Same(more, rest)
                 } else {
                     Look::Differs
@@ -77,6 +78,7 @@ fn beginning<'a>(parts: &'a [PatternElem], text: &'a str) -> Look<'a>
 }
 
 // Matches from the left. A wildcard takes no character at first. Where what follows the last wildcard does not match, that wildcard takes one character more, and the walk goes on behind it: the wildcards before it never need to take more.
+#[tactic(auto, unfolding(cedar_model::specs::Outcomes::matches, cedar_model::specs::Outcomes::some_end))]
 fn matches_parts(elems: &[PatternElem], text: &str) -> bool
     ensures { result ≡ matches (map part_view elems.now) (chars text.now) }
 {

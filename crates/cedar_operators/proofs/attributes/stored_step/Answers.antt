@@ -1,5 +1,3 @@
-use Rattle.std.proofs.Common.{ap, ◌∙◌}
-use Rattle.cedar_data.specs.Residuals.{partial_view}
 use Rattle.cedar_operators.proofs.Stored.{step_left}
 use Rattle.cedar_operators.proofs.attributes.stored_step.Goals as goal
 

@@ -1,7 +1,3 @@
-use Rattle.std.proofs.Common.{ap, sym, ◌∙◌}
-use Rattle.cedar_data.specs.Residuals.{partial_view}
-use Rattle.cedar_layers.specs.Parts.{is_restricted_part}
-use Rattle.cedar_operators.specs.Stopping.{stopped}
 use Rattle.cedar_operators.proofs.Stored.{part_left}
 use Rattle.cedar_operators.proofs.store.stored_part.Goals as goal
 

@@ -1,5 +1,4 @@
-use Rattle.std.proofs.Common.{◌≡◌, ◌+◌, ◌*◌, drop}
-use Rattle.std.specs.Map.{keys_of}
+use Rattle.std.proofs.Common.{◌+◌, ◌*◌, drop}
 use Rattle.cedar_expressions.specs.View.{terms_view, fields_view}
 use Rattle.cedar_data.specs.Sound.{whats}
 use Rattle.cedar_layers.specs.Policies.{slots_view}
