@@ -104,7 +104,7 @@ pub enum ExprKind {
 impl Expr {
     ghost use Rattle.std.specs.Prelude.{◌≡◌, IfOk, None, option_copied, option_map};
     ghost use Rattle.std.specs.Rc.{rc_str_bytes};
-    ghost use Rattle.cedar_model.specs.Terms.{literal, variable, slot, unknown, if_then_else, both, either, unary, binary, call, get_attribute, has_attribute, extended_has, like, is_of_type, set_of, record_of};
+    ghost use Rattle.cedar_model.specs.Terms.{literal, variable, slot, unknown, if_then_else, both, either, unary, binary, call, get_attribute, has_attribute, extended_has, like, is_of_type, set_of};
     ghost use Rattle.cedar_names.specs.Names.{name_text, type_text};
     ghost use Rattle.cedar_names.specs.Leaves.{slot_view, variable_view, unary_view, binary_view, pattern_view, type_view, literal_view, texts_view};
     ghost use Rattle.cedar_expressions.specs.View.{view, kind_view, expr_loc, expr_kind_of, terms_view};

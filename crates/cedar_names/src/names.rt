@@ -1,5 +1,5 @@
 //! Names: of entity types, of entities, of functions, of slots and of the request's variables.
-ghost use Rattle.std.specs.Prelude.{◌≡◌, IfSome, is_some, option_copied};
+ghost use Rattle.std.specs.Prelude.{◌≡◌, option_copied};
 ghost use Rattle.std.specs.Rc.{rc_str_bytes};
 ghost use Rattle.cedar_names.specs.Names.{name_text, name_loc, type_text, uid_name, uid_loc};
 

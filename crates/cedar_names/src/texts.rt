@@ -8,6 +8,7 @@ pub(crate) mod laws;
 pub(crate) mod lists;
 pub(crate) mod literals;
 mod operators;
+pub(crate) mod pieces;
 mod types;
 
 pub use bounded::BoundedDisplay;

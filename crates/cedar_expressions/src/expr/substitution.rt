@@ -2,15 +2,16 @@
 //! Values in the place of unknowns.
 ghost use Rattle.std.specs.Prelude.{◌≡◌, IfOk, option_map};
 ghost use Rattle.std.specs.Rc.{rc_str_bytes};
-ghost use Rattle.cedar_model.specs.Terms.{unknown};
+ghost use Rattle.cedar_model.specs.Terms.{unknown, if_then_else, both, either, unary, binary, call, get_attribute, has_attribute, extended_has, like, is_of_type};
 ghost use Rattle.cedar_model.specs.Values.{Represented, expression_of};
 ghost use Rattle.cedar_model.specs.Chains.{value_for, substituted, substituted_each, substituted_at};
-ghost use Rattle.cedar_names.specs.Leaves.{type_view};
+ghost use Rattle.cedar_names.specs.Names.{name_text, type_text};
+ghost use Rattle.cedar_names.specs.Leaves.{unary_view, binary_view, pattern_view, type_view, texts_view};
 ghost use Rattle.cedar_expressions.specs.Mappings.{mapping_of};
 ghost use Rattle.cedar_expressions.specs.View.{view, kind_view, expr_loc, terms_view, fields_view};
 
-use super::{Expr, ExprKind, shared_pair};
-use cedar_names::Unknown;
+use super::{Expr, ExprKind};
+use cedar_names::{BinaryOp, EntityType, FirstRest, Name, Pattern, UnaryOp, Unknown};
 use std::alloc::{AllocError, Global};
 use std::collections::{BTreeMap, HashMap};
 use std::rc::{Rc, RcStr};
@@ -39,19 +40,17 @@ impl Expr {
         Ok(expr.with_maybe_source_loc(self.source_loc))
     }
 
+    // The same, to be a part of another expression.
     #[cycle(substitute)]
-    fn substitute_pair<V: AsExpression>(
+    fn substitute_shared<V: AsExpression>(
+        &self,
         alloc: Global,
-        first: &Expr,
-        second: &Expr,
         map: &HashMap<RcStr, V>,
-    ) -> Result<(Rc<Expr>, Rc<Expr>), AllocError>
-        ensures first { IfOk result (λ p. view p.0.value ≡ substituted (mapping_of V.represents map.now.entries) (view first.now)) }
-        ensures second { IfOk result (λ p. view p.1.value ≡ substituted (mapping_of V.represents map.now.entries) (view second.now)) }
+    ) -> Result<Rc<Expr>, AllocError>
+        ensures { IfOk result (λ e. view e.value ≡ substituted (mapping_of V.represents map.now.entries) (view self.now)) }
     {
-        let first = first.substitute(alloc, map)?;
-        let second = second.substitute(alloc, map)?;
-        Ok(shared_pair(alloc, first, second)?)
+        let expr = self.substitute(alloc, map)?;
+        Ok(Rc::new(alloc, expr)?)
     }
 
     #[cycle(substitute)]
@@ -104,64 +103,189 @@ impl ExprKind {
                 test_expr,
                 then_expr,
                 else_expr,
-            } => {
-                let test_expr = Rc::new(alloc, test_expr.substitute(alloc, map)?)?;
-                let (then_expr, else_expr) = Expr::substitute_pair(
-                    alloc, then_expr, else_expr, map,
-                )?;
-                Ok(Expr::of_kind(ExprKind::If {
-                    test_expr,
-                    then_expr,
-                    else_expr,
-                }))
-            }
-            ExprKind::And { left, right } => {
-                let (left, right) = Expr::substitute_pair(alloc, left, right, map)?;
-                Ok(Expr::of_kind(ExprKind::And { left, right }))
-            }
-            ExprKind::Or { left, right } => {
-                let (left, right) = Expr::substitute_pair(alloc, left, right, map)?;
-                Ok(Expr::of_kind(ExprKind::Or { left, right }))
-            }
-            ExprKind::UnaryApp { op, arg } => {
-                Expr::unary_app(alloc, *op, arg.substitute(alloc, map)?)
-            }
-            ExprKind::BinaryApp { op, arg1, arg2 } => {
-                let (arg1, arg2) = Expr::substitute_pair(alloc, arg1, arg2, map)?;
-                let op = *op;
-                Ok(Expr::of_kind(ExprKind::BinaryApp { op, arg1, arg2 }))
-            }
-            ExprKind::ExtensionFunctionApp { fn_name, args } => {
-                let fn_name = fn_name.clone()?;
-                Expr::call_extension_fn(alloc, fn_name, Expr::substitute_each(alloc, args, map)?)
-            }
-            ExprKind::GetAttr { expr, attr } => {
-                let attr = attr.clone()?;
-                Expr::get_attr(alloc, expr.substitute(alloc, map)?, attr)
-            }
-            ExprKind::HasAttr { expr, attr } => {
-                let attr = attr.clone()?;
-                Expr::has_attr(alloc, expr.substitute(alloc, map)?, attr)
-            }
-            ExprKind::ExtHasAttr { expr, attrs } => {
-                let attrs = attrs.clone()?;
-                let expr = Rc::new(alloc, expr.substitute(alloc, map)?)?;
-                Ok(Expr::of_kind(ExprKind::ExtHasAttr { expr, attrs }))
-            }
-            ExprKind::Like { expr, pattern } => {
-                let pattern = pattern.clone()?;
-                Expr::like(alloc, expr.substitute(alloc, map)?, pattern)
-            }
-            ExprKind::Is { expr, entity_type } => {
-                let entity_type = entity_type.clone()?;
-                Expr::is_entity_type(alloc, expr.substitute(alloc, map)?, entity_type)
-            }
+            } => substitute_if(alloc, test_expr, then_expr, else_expr, map),
+            ExprKind::And { left, right } => substitute_and(alloc, left, right, map),
+            ExprKind::Or { left, right } => substitute_or(alloc, left, right, map),
+            ExprKind::UnaryApp { op, arg } => substitute_unary(alloc, *op, arg, map),
+            ExprKind::BinaryApp { op, arg1, arg2 } => substitute_binary(
+                alloc, *op, arg1, arg2, map,
+            ),
+            ExprKind::ExtensionFunctionApp { fn_name, args } => substitute_call(
+                alloc, fn_name, args, map,
+            ),
+            ExprKind::GetAttr { expr, attr } => substitute_attribute(alloc, expr, attr, map),
+            ExprKind::HasAttr { expr, attr } => substitute_has(alloc, expr, attr, map),
+            ExprKind::ExtHasAttr { expr, attrs } => substitute_extended_has(
+                alloc, expr, attrs, map,
+            ),
+            ExprKind::Like { expr, pattern } => substitute_like(alloc, expr, pattern, map),
+            ExprKind::Is { expr, entity_type } => substitute_is(alloc, expr, entity_type, map),
             ExprKind::Set(parts) => Expr::set(alloc, Expr::substitute_each(alloc, parts, map)?),
             ExprKind::Record(pairs) => {
                 Expr::record_map(alloc, Expr::substitute_at(alloc, pairs, map)?)
             }
         }
     }
+}
+
+#[cycle(substitute)]
+fn substitute_if<V: AsExpression>(
+    alloc: Global,
+    test_expr: &Expr,
+    then_expr: &Expr,
+    else_expr: &Expr,
+    map: &HashMap<RcStr, V>,
+) -> Result<Expr, AllocError>
+    ensures { IfOk result (λ e. view e ≡ substituted (mapping_of V.represents map.now.entries) (if_then_else (view test_expr.now) (view then_expr.now) (view else_expr.now))) }
+{
+    let test_expr = test_expr.substitute_shared(alloc, map)?;
+    let then_expr = then_expr.substitute_shared(alloc, map)?;
+    let else_expr = else_expr.substitute_shared(alloc, map)?;
+    Ok(Expr::of_kind(ExprKind::If {
+        test_expr,
+        then_expr,
+        else_expr,
+    }))
+}
+
+#[cycle(substitute)]
+fn substitute_and<V: AsExpression>(
+    alloc: Global,
+    left: &Expr,
+    right: &Expr,
+    map: &HashMap<RcStr, V>,
+) -> Result<Expr, AllocError>
+    ensures { IfOk result (λ e. view e ≡ substituted (mapping_of V.represents map.now.entries) (both (view left.now) (view right.now))) }
+{
+    let left = left.substitute_shared(alloc, map)?;
+    let right = right.substitute_shared(alloc, map)?;
+    Ok(Expr::of_kind(ExprKind::And { left, right }))
+}
+
+#[cycle(substitute)]
+fn substitute_or<V: AsExpression>(
+    alloc: Global,
+    left: &Expr,
+    right: &Expr,
+    map: &HashMap<RcStr, V>,
+) -> Result<Expr, AllocError>
+    ensures { IfOk result (λ e. view e ≡ substituted (mapping_of V.represents map.now.entries) (either (view left.now) (view right.now))) }
+{
+    let left = left.substitute_shared(alloc, map)?;
+    let right = right.substitute_shared(alloc, map)?;
+    Ok(Expr::of_kind(ExprKind::Or { left, right }))
+}
+
+#[cycle(substitute)]
+fn substitute_unary<V: AsExpression>(
+    alloc: Global,
+    op: UnaryOp,
+    arg: &Expr,
+    map: &HashMap<RcStr, V>,
+) -> Result<Expr, AllocError>
+    ensures { IfOk result (λ e. view e ≡ substituted (mapping_of V.represents map.now.entries) (unary (unary_view op) (view arg.now))) }
+{
+    let arg = arg.substitute_shared(alloc, map)?;
+    Ok(Expr::of_kind(ExprKind::UnaryApp { op, arg }))
+}
+
+#[cycle(substitute)]
+fn substitute_binary<V: AsExpression>(
+    alloc: Global,
+    op: BinaryOp,
+    arg1: &Expr,
+    arg2: &Expr,
+    map: &HashMap<RcStr, V>,
+) -> Result<Expr, AllocError>
+    ensures { IfOk result (λ e. view e ≡ substituted (mapping_of V.represents map.now.entries) (binary (binary_view op) (view arg1.now) (view arg2.now))) }
+{
+    let arg1 = arg1.substitute_shared(alloc, map)?;
+    let arg2 = arg2.substitute_shared(alloc, map)?;
+    Ok(Expr::of_kind(ExprKind::BinaryApp { op, arg1, arg2 }))
+}
+
+#[cycle(substitute)]
+fn substitute_call<V: AsExpression>(
+    alloc: Global,
+    fn_name: &Name,
+    args: &Vec<Expr>,
+    map: &HashMap<RcStr, V>,
+) -> Result<Expr, AllocError>
+    ensures { IfOk result (λ e. view e ≡ substituted (mapping_of V.represents map.now.entries) (call (name_text fn_name.now) (terms_view args.now.items))) }
+{
+    let fn_name = fn_name.clone()?;
+    let args = Expr::substitute_each(alloc, args, map)?;
+    Expr::call_extension_fn(alloc, fn_name, args)
+}
+
+#[cycle(substitute)]
+fn substitute_attribute<V: AsExpression>(
+    alloc: Global,
+    expr: &Expr,
+    attr: &RcStr,
+    map: &HashMap<RcStr, V>,
+) -> Result<Expr, AllocError>
+    ensures { IfOk result (λ e. view e ≡ substituted (mapping_of V.represents map.now.entries) (get_attribute (view expr.now) (rc_str_bytes attr.now))) }
+{
+    let attr = attr.clone()?;
+    let expr = expr.substitute_shared(alloc, map)?;
+    Ok(Expr::of_kind(ExprKind::GetAttr { expr, attr }))
+}
+
+#[cycle(substitute)]
+fn substitute_has<V: AsExpression>(
+    alloc: Global,
+    expr: &Expr,
+    attr: &RcStr,
+    map: &HashMap<RcStr, V>,
+) -> Result<Expr, AllocError>
+    ensures { IfOk result (λ e. view e ≡ substituted (mapping_of V.represents map.now.entries) (has_attribute (view expr.now) (rc_str_bytes attr.now))) }
+{
+    let attr = attr.clone()?;
+    let expr = expr.substitute_shared(alloc, map)?;
+    Ok(Expr::of_kind(ExprKind::HasAttr { expr, attr }))
+}
+
+#[cycle(substitute)]
+fn substitute_extended_has<V: AsExpression>(
+    alloc: Global,
+    expr: &Expr,
+    attrs: &Rc<FirstRest<RcStr>>,
+    map: &HashMap<RcStr, V>,
+) -> Result<Expr, AllocError>
+    ensures { IfOk result (λ e. view e ≡ substituted (mapping_of V.represents map.now.entries) (extended_has (view expr.now) (rc_str_bytes attrs.now.value.first) (texts_view attrs.now.value.rest.items))) }
+{
+    let attrs = attrs.clone()?;
+    let expr = expr.substitute_shared(alloc, map)?;
+    Ok(Expr::of_kind(ExprKind::ExtHasAttr { expr, attrs }))
+}
+
+#[cycle(substitute)]
+fn substitute_like<V: AsExpression>(
+    alloc: Global,
+    expr: &Expr,
+    pattern: &Pattern,
+    map: &HashMap<RcStr, V>,
+) -> Result<Expr, AllocError>
+    ensures { IfOk result (λ e. view e ≡ substituted (mapping_of V.represents map.now.entries) (like (view expr.now) (pattern_view pattern.now))) }
+{
+    let pattern = pattern.clone()?;
+    let expr = expr.substitute_shared(alloc, map)?;
+    Ok(Expr::of_kind(ExprKind::Like { expr, pattern }))
+}
+
+#[cycle(substitute)]
+fn substitute_is<V: AsExpression>(
+    alloc: Global,
+    expr: &Expr,
+    entity_type: &EntityType,
+    map: &HashMap<RcStr, V>,
+) -> Result<Expr, AllocError>
+    ensures { IfOk result (λ e. view e ≡ substituted (mapping_of V.represents map.now.entries) (is_of_type (view expr.now) (type_text entity_type.now))) }
+{
+    let entity_type = entity_type.clone()?;
+    let expr = expr.substitute_shared(alloc, map)?;
+    Ok(Expr::of_kind(ExprKind::Is { expr, entity_type }))
 }
 
 // The expression of the value that the map has for the unknown, or the unknown.

@@ -1,5 +1,5 @@
 //! How expressions print, also under a bound on the parts that sets and records show.
-ghost use Rattle.std.specs.Prelude.{◌≡◌, Some, None, refl};
+ghost use Rattle.std.specs.Prelude.{Some, None, refl};
 ghost use Rattle.cedar_expressions.specs.View.{view};
 ghost use Rattle.cedar_names.specs.Texts.{shown};
 

@@ -1,9 +1,9 @@
 #![tactic(auto, using(crate::proofs::Levels::levels))]
 //! How expressions print.
-ghost use Rattle.std.specs.Prelude.{◌≡◌, true, ◌++◌, codes, flat_map};
+ghost use Rattle.std.specs.Prelude.{◌≡◌, true, ◌++◌, codes};
 ghost use Rattle.std.specs.Rc.{rc_str_bytes};
 ghost use Rattle.std.specs.Fmt.{WritesOnOk};
-ghost use Rattle.cedar_model.specs.Terms.{unknown, if_then_else, unary, binary, call, get_attribute, has_attribute, extended_has, like, is_of_type, set_of, record_of};
+ghost use Rattle.cedar_model.specs.Terms.{if_then_else, unary, binary, call, get_attribute, has_attribute, extended_has, like, is_of_type, set_of, record_of};
 ghost use Rattle.cedar_names.specs.Names.{name_text, type_text};
 ghost use Rattle.cedar_names.specs.Leaves.{unary_view, binary_view, pattern_view, texts_view};
 ghost use Rattle.cedar_expressions.specs.View.{view, terms_view, fields_view};
@@ -11,7 +11,9 @@ ghost use Rattle.cedar_names.specs.Texts as text;
 
 use crate::expr::{Expr, ExprKind};
 use cedar_names::shared::{
-    is_spent, one_less, separator, write_literal, write_more, write_pattern, write_quoted,
+    after_part, before_part, between_parts, is_infix, is_prefix, is_spent, one_less, separator,
+    write_attribute, write_extended_has, write_has, write_is, write_like, write_literal,
+    write_more, write_quoted, write_unknown,
 };
 use cedar_names::{BinaryOp, EntityType, FirstRest, Name, Pattern, UnaryOp};
 use std::collections::BTreeMap;
@@ -32,7 +34,7 @@ pub(crate) fn show<W: fmt::Write>(
         ExprKind::Lit(literal) => write_literal(literal, f),
         ExprKind::Var(var) => var.fmt(f),
         ExprKind::Slot(slot) => slot.fmt(f),
-        ExprKind::Unknown(unknown) => show_unknown(unknown.name.as_str(), f),
+        ExprKind::Unknown(unknown) => write_unknown(unknown.name.as_str(), f),
         ExprKind::If {
             test_expr,
             then_expr,
@@ -78,74 +80,6 @@ fn is_compound(expr: &Expr) -> bool
     }
 }
 
-fn is_prefix(op: UnaryOp) -> bool
-    ensures { result ≡ text.is_prefix (unary_view op) }
-{
-    match op {
-        UnaryOp::Not => true,
-        UnaryOp::Neg => true,
-        UnaryOp::IsEmpty => false,
-    }
-}
-
-fn is_infix(op: BinaryOp) -> bool
-    ensures { result ≡ text.is_infix (binary_view op) }
-{
-    match op {
-        BinaryOp::Eq => true,
-        BinaryOp::Less => true,
-        BinaryOp::LessEq => true,
-        BinaryOp::Add => true,
-        BinaryOp::Sub => true,
-        BinaryOp::Mul => true,
-        BinaryOp::In => true,
-        BinaryOp::Contains => false,
-        BinaryOp::ContainsAll => false,
-        BinaryOp::ContainsAny => false,
-        BinaryOp::GetTag => false,
-        BinaryOp::HasTag => false,
-    }
-}
-
-fn before_part(op: UnaryOp) -> &'static str
-    ensures { result.now ≡ text.before_part (unary_view op) }
-{
-    match op {
-        UnaryOp::Not => "!",
-        UnaryOp::Neg => "-",
-        UnaryOp::IsEmpty => "",
-    }
-}
-
-fn after_part(op: UnaryOp) -> &'static str
-    ensures { result.now ≡ text.after_part (unary_view op) }
-{
-    match op {
-        UnaryOp::Not => "",
-        UnaryOp::Neg => "",
-        UnaryOp::IsEmpty => ".isEmpty()",
-    }
-}
-
-fn between_parts(op: BinaryOp) -> &'static str
-    ensures { result.now ≡ text.between_parts (binary_view op) }
-{
-    match op {
-        BinaryOp::Eq => " == ",
-        BinaryOp::Less => " < ",
-        BinaryOp::LessEq => " <= ",
-        BinaryOp::Add => " + ",
-        BinaryOp::Sub => " - ",
-        BinaryOp::Mul => " * ",
-        BinaryOp::In => " in ",
-        BinaryOp::Contains => ".contains(",
-        BinaryOp::ContainsAll => ".containsAll(",
-        BinaryOp::ContainsAny => ".containsAny(",
-        BinaryOp::GetTag => ".getTag(",
-        BinaryOp::HasTag => ".hasTag(",
-    }
-}
-
 /// Writes an expression as a part of another: in parentheses where it is compound.
 #[cycle(show)]
 fn show_part<W: fmt::Write>(
@@ -172,14 +106,6 @@ fn show_enclosed<W: fmt::Write>(
 {
     f.write_str("(")?;
     show(part, bound, f)?;
-    f.write_str(")")
-}
-
-fn show_unknown<W: fmt::Write>(name: &str, f: &mut fmt::Formatter<W>) -> fmt::Result
-    ensures { WritesOnOk W.write_str_gives f.old result (codes "unknown(" ++ (text.quoted name.now ++ codes ")")) f.new }
-{
-    f.write_str("unknown(")?;
-    write_quoted(name, f)?;
     f.write_str(")")
 }
 
@@ -296,9 +222,7 @@ fn show_attribute<W: fmt::Write>(
         (text.shown bound (get_attribute (view expr.now) (rc_str_bytes attr.now))) f.new }
 {
     show_part(expr, bound, f)?;
-    f.write_str("[")?;
-    write_quoted(attr.as_str(), f)?;
-    f.write_str("]")
+    write_attribute(attr, f)
 }
 
 #[cycle(show)]
@@ -312,8 +236,7 @@ fn show_has<W: fmt::Write>(
         (text.shown bound (has_attribute (view expr.now) (rc_str_bytes attr.now))) f.new }
 {
     show_part(expr, bound, f)?;
-    f.write_str(" has ")?;
-    write_quoted(attr.as_str(), f)
+    write_has(attr, f)
 }
 
 #[cycle(show)]
@@ -327,25 +250,7 @@ fn show_extended_has<W: fmt::Write>(
         (text.shown bound (extended_has (view expr.now) (rc_str_bytes attrs.now.first) (texts_view attrs.now.rest.items))) f.new }
 {
     show_part(expr, bound, f)?;
-    f.write_str(" has ")?;
-    write_quoted(attrs.first.as_str(), f)?;
-    write_further(&attrs.rest, f)
-}
-
-fn write_further<W: fmt::Write>(attrs: &[RcStr], f: &mut fmt::Formatter<W>) -> fmt::Result
-    ensures { WritesOnOk W.write_str_gives f.old result (flat_map text.further_text (texts_view attrs.now)) f.new }
-{
-    'attrs: for attr in attrs {
-        write_one_further(attr, f)?;
-    }
-    Ok(())
-}
-
-fn write_one_further<W: fmt::Write>(attr: &RcStr, f: &mut fmt::Formatter<W>) -> fmt::Result
-    ensures { WritesOnOk W.write_str_gives f.old result (text.further_text (rc_str_bytes attr.now)) f.new }
-{
-    f.write_str(".")?;
-    write_quoted(attr.as_str(), f)
+    write_extended_has(attrs, f)
 }
 
 #[cycle(show)]
@@ -359,8 +264,7 @@ fn show_like<W: fmt::Write>(
         (text.shown bound (like (view expr.now) (pattern_view pattern.now))) f.new }
 {
     show_part(expr, bound, f)?;
-    f.write_str(" like ")?;
-    write_pattern(pattern, f)
+    write_like(pattern, f)
 }
 
 #[cycle(show)]
@@ -374,8 +278,7 @@ fn show_is<W: fmt::Write>(
         (text.shown bound (is_of_type (view expr.now) (type_text entity_type.now))) f.new }
 {
     show_part(expr, bound, f)?;
-    f.write_str(" is ")?;
-    entity_type.fmt(f)
+    write_is(entity_type, f)
 }
 
 #[cycle(show)]

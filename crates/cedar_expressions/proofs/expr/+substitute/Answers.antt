@@ -5,7 +5,7 @@ use Rattle.cedar_expressions.specs.Mappings.{mapping_of}
 use Rattle.cedar_expressions.specs.View.{fields_view}
 use Rattle.cedar_expressions.proofs.Records.{order}
 use Rattle.cedar_expressions.proofs.Levels.{kind_view-Lit, kind_view-Var, kind_view-Slot, kind_view-Unknown, kind_view-If, kind_view-And, kind_view-Or, kind_view-UnaryApp, kind_view-BinaryApp, kind_view-ExtensionFunctionApp, kind_view-GetAttr, kind_view-HasAttr, kind_view-ExtHasAttr, kind_view-Like, kind_view-Is, kind_view-Set, kind_view-Record}
-use Rattle.cedar_expressions.proofs.Substitution.{substituted-literal, substituted-variable, substituted-slot, substituted-unknown, substituted-if, substituted-both, substituted-either, substituted-unary, substituted-binary, substituted-call, substituted-get, substituted-has, substituted-extended, substituted-like, substituted-is, substituted-set, substituted-record, substituted_at-none, replaced_all, put_step}
+use Rattle.cedar_expressions.proofs.Substitution.{substituted-literal, substituted-variable, substituted-slot, substituted-unknown, substituted-set, substituted-record, substituted_at-none, replaced_all, put_step}
 use Rattle.cedar_expressions.proofs.expr.+substitute.Goals as goal
 
 pub Expr::substitute_each-returns : goal.Expr::substitute_each-returns
@@ -44,38 +44,38 @@ ExprKind::substitute-returns-in-Slot g t c = grind (arith, kind_view-Slot, subst
 pub ExprKind::substitute-returns-in-Unknown : goal.ExprKind::substitute-returns-in-Unknown
 ExprKind::substitute-returns-in-Unknown g t c = grind (arith, kind_view-Unknown, substituted-unknown)
 
-pub ExprKind::substitute-returns-in_ok-then_expr-in-If : goal.ExprKind::substitute-returns-in_ok-then_expr-in-If
-ExprKind::substitute-returns-in_ok-then_expr-in-If g t c = grind (arith, kind_view-If, substituted-if)
+pub ExprKind::substitute-returns-in-If : goal.ExprKind::substitute-returns-in-If
+ExprKind::substitute-returns-in-If g t c = grind (arith, kind_view-If)
 
-pub ExprKind::substitute-returns-in_ok-left-in-And : goal.ExprKind::substitute-returns-in_ok-left-in-And
-ExprKind::substitute-returns-in_ok-left-in-And g t c = grind (arith, kind_view-And, substituted-both)
+pub ExprKind::substitute-returns-in-And : goal.ExprKind::substitute-returns-in-And
+ExprKind::substitute-returns-in-And g t c = grind (arith, kind_view-And)
 
-pub ExprKind::substitute-returns-in_ok-left-in-Or : goal.ExprKind::substitute-returns-in_ok-left-in-Or
-ExprKind::substitute-returns-in_ok-left-in-Or g t c = grind (arith, kind_view-Or, substituted-either)
+pub ExprKind::substitute-returns-in-Or : goal.ExprKind::substitute-returns-in-Or
+ExprKind::substitute-returns-in-Or g t c = grind (arith, kind_view-Or)
 
-pub ExprKind::substitute-returns-in_ok-substitute-in-UnaryApp : goal.ExprKind::substitute-returns-in_ok-substitute-in-UnaryApp
-ExprKind::substitute-returns-in_ok-substitute-in-UnaryApp g t c = grind (arith, kind_view-UnaryApp, substituted-unary)
+pub ExprKind::substitute-returns-in-UnaryApp : goal.ExprKind::substitute-returns-in-UnaryApp
+ExprKind::substitute-returns-in-UnaryApp g t c = grind (arith, kind_view-UnaryApp)
 
-pub ExprKind::substitute-returns-in_ok-arg1-in-BinaryApp : goal.ExprKind::substitute-returns-in_ok-arg1-in-BinaryApp
-ExprKind::substitute-returns-in_ok-arg1-in-BinaryApp g t c = grind (arith, kind_view-BinaryApp, substituted-binary)
+pub ExprKind::substitute-returns-in-BinaryApp : goal.ExprKind::substitute-returns-in-BinaryApp
+ExprKind::substitute-returns-in-BinaryApp g t c = grind (arith, kind_view-BinaryApp)
 
-pub ExprKind::substitute-returns-in_ok-substitute_each-in-ExtensionFunctionApp : goal.ExprKind::substitute-returns-in_ok-substitute_each-in-ExtensionFunctionApp
-ExprKind::substitute-returns-in_ok-substitute_each-in-ExtensionFunctionApp g t c = grind (arith, kind_view-ExtensionFunctionApp, substituted-call)
+pub ExprKind::substitute-returns-in-ExtensionFunctionApp : goal.ExprKind::substitute-returns-in-ExtensionFunctionApp
+ExprKind::substitute-returns-in-ExtensionFunctionApp g t c = grind (arith, kind_view-ExtensionFunctionApp)
 
-pub ExprKind::substitute-returns-in_ok-substitute-in-GetAttr : goal.ExprKind::substitute-returns-in_ok-substitute-in-GetAttr
-ExprKind::substitute-returns-in_ok-substitute-in-GetAttr g t c = grind (arith, kind_view-GetAttr, substituted-get)
+pub ExprKind::substitute-returns-in-GetAttr : goal.ExprKind::substitute-returns-in-GetAttr
+ExprKind::substitute-returns-in-GetAttr g t c = grind (arith, kind_view-GetAttr)
 
-pub ExprKind::substitute-returns-in_ok-substitute-in-HasAttr : goal.ExprKind::substitute-returns-in_ok-substitute-in-HasAttr
-ExprKind::substitute-returns-in_ok-substitute-in-HasAttr g t c = grind (arith, kind_view-HasAttr, substituted-has)
+pub ExprKind::substitute-returns-in-HasAttr : goal.ExprKind::substitute-returns-in-HasAttr
+ExprKind::substitute-returns-in-HasAttr g t c = grind (arith, kind_view-HasAttr)
 
-pub ExprKind::substitute-returns-in_ok-expr-in-ExtHasAttr : goal.ExprKind::substitute-returns-in_ok-expr-in-ExtHasAttr
-ExprKind::substitute-returns-in_ok-expr-in-ExtHasAttr g t c = grind (arith, kind_view-ExtHasAttr, substituted-extended)
+pub ExprKind::substitute-returns-in-ExtHasAttr : goal.ExprKind::substitute-returns-in-ExtHasAttr
+ExprKind::substitute-returns-in-ExtHasAttr g t c = grind (arith, kind_view-ExtHasAttr)
 
-pub ExprKind::substitute-returns-in_ok-substitute-in-Like : goal.ExprKind::substitute-returns-in_ok-substitute-in-Like
-ExprKind::substitute-returns-in_ok-substitute-in-Like g t c = grind (arith, kind_view-Like, substituted-like)
+pub ExprKind::substitute-returns-in-Like : goal.ExprKind::substitute-returns-in-Like
+ExprKind::substitute-returns-in-Like g t c = grind (arith, kind_view-Like)
 
-pub ExprKind::substitute-returns-in_ok-substitute-in-Is : goal.ExprKind::substitute-returns-in_ok-substitute-in-Is
-ExprKind::substitute-returns-in_ok-substitute-in-Is g t c = grind (arith, kind_view-Is, substituted-is)
+pub ExprKind::substitute-returns-in-Is : goal.ExprKind::substitute-returns-in-Is
+ExprKind::substitute-returns-in-Is g t c = grind (arith, kind_view-Is)
 
 pub ExprKind::substitute-returns-in_ok-substitute_each-in-Set : goal.ExprKind::substitute-returns-in_ok-substitute_each-in-Set
 ExprKind::substitute-returns-in_ok-substitute_each-in-Set g t c = grind (arith, kind_view-Set, substituted-set)

@@ -1,10 +1,9 @@
-use Rattle.std.proofs.Common.{◌≡◌, true, false, [], ◌∷◌, refl, ap, sym, ◌∙◌, codes, flat_map, rules, arith}
+use Rattle.std.proofs.Common.{◌≡◌, true, false, [], ◌∷◌, refl, ap, sym, ◌∙◌, codes, rules, arith}
 use Rattle.std.proofs.lemmas.Grind.{common_steps}
 use Rattle.std.proofs.Output.{has_written_append, has_written_of_eq, writes_in_calls_nil}
 use Rattle.std.specs.Rc.{rc_str_bytes}
 use Rattle.cedar_expressions.specs.View.{fields_view}
-use Rattle.cedar_names.specs.Leaves.{texts_view}
-use Rattle.cedar_names.specs.Texts.{is_spent, quoted, further_text}
+use Rattle.cedar_names.specs.Texts.{is_spent, quoted}
 use Rattle.cedar_expressions.proofs.Levels.{kind_view-Lit, kind_view-Var, kind_view-Slot, kind_view-Unknown, kind_view-And, kind_view-Or, kind_view-UnaryApp, kind_view-ExtensionFunctionApp, kind_view-GetAttr, kind_view-HasAttr, kind_view-ExtHasAttr, kind_view-Like, kind_view-Is, kind_view-Set, kind_view-Record}
 use Rattle.cedar_expressions.proofs.Loops.{parts_left, parts_end, fields_left, fields_end, terms_view-drop}
 use Rattle.cedar_expressions.proofs.texts.expressions.+show.Goals as goal
@@ -137,35 +136,27 @@ show_call-returns g t c = λ plain ok.
 pub show_attribute-returns : goal.show_attribute-returns
 show_attribute-returns g t c = λ plain ok.
     let part = c.in_ok-show_part.ensures plain refl in
-    let start = c.in_ok-write_str.ensures.writes part.plain refl in
-    let attr = c.in_ok-write_quoted.ensures start.plain refl in
-    has_written_append _ _ _ _ _ _ part (has_written_append _ _ (codes "[") _ _ _ start (has_written_append _ _ (quoted (rc_str_bytes c.args.attr.now)) _ _ _ (has_written_of_eq _ _ _ _ _ (ap quoted c.as_str.ensures.value) attr) (c.write_str-2.ensures.writes attr.plain ok)))
+    has_written_append _ _ _ _ _ _ part (c.write_attribute.ensures part.plain ok)
 
 pub show_has-returns : goal.show_has-returns
 show_has-returns g t c = λ plain ok.
     let part = c.in_ok-show_part.ensures plain refl in
-    let between = c.in_ok-write_str.ensures.writes part.plain refl in
-    has_written_append _ _ _ _ _ _ part (has_written_append _ _ (codes " has ") _ _ _ between (has_written_of_eq _ _ _ _ _ (ap quoted c.as_str.ensures.value) (c.write_quoted.ensures between.plain ok)))
+    has_written_append _ _ _ _ _ _ part (c.write_has.ensures part.plain ok)
 
 pub show_extended_has-returns : goal.show_extended_has-returns
 show_extended_has-returns g t c = λ plain ok.
     let part = c.in_ok-show_part.ensures plain refl in
-    let between = c.in_ok-write_str.ensures.writes part.plain refl in
-    let first = c.in_ok-write_quoted.ensures between.plain refl in
-    let further = c.write_further.ensures first.plain ok in
-    has_written_append _ _ _ _ _ _ part (has_written_append _ _ (codes " has ") _ _ _ between (has_written_append _ _ (quoted (rc_str_bytes c.args.attrs.now.first)) _ _ _ (has_written_of_eq _ _ _ _ _ (ap quoted c.as_str.ensures.value) first) (has_written_of_eq _ _ _ _ _ (ap (λ v. flat_map further_text (texts_view v)) c.deref.ensures.value) further)))
+    has_written_append _ _ _ _ _ _ part (c.write_extended_has.ensures part.plain ok)
 
 pub show_like-returns : goal.show_like-returns
 show_like-returns g t c = λ plain ok.
     let part = c.in_ok-show_part.ensures plain refl in
-    let between = c.in_ok-write_str.ensures.writes part.plain refl in
-    has_written_append _ _ _ _ _ _ part (has_written_append _ _ (codes " like ") _ _ _ between (c.write_pattern.ensures between.plain ok))
+    has_written_append _ _ _ _ _ _ part (c.write_like.ensures part.plain ok)
 
 pub show_is-returns : goal.show_is-returns
 show_is-returns g t c = λ plain ok.
     let part = c.in_ok-show_part.ensures plain refl in
-    let between = c.in_ok-write_str.ensures.writes part.plain refl in
-    has_written_append _ _ _ _ _ _ part (has_written_append _ _ (codes " is ") _ _ _ between (c.fmt.ensures.writes between.plain ok))
+    has_written_append _ _ _ _ _ _ part (c.write_is.ensures part.plain ok)
 
 pub show_set-returns : goal.show_set-returns
 show_set-returns g t c = λ plain ok.

@@ -2,7 +2,7 @@ use Rattle.std.proofs.Common.{◌≡◌, ℕ, List, ◌++◌, flat_map, drop}
 use Rattle.std.specs.Fmt.{HasWritten, IsPlainFormatter}
 use Rattle.cedar_names.specs.Leaves.{texts_view}
 use Rattle.cedar_names.specs.Texts.{further_text}
-use Rattle.cedar_expressions.proofs.texts.expressions.write_further.Given as goal
+use Rattle.cedar_names.proofs.texts.pieces.write_further.Given as goal
 
 abbrev pub invariant-attrs : goal.invariant-attrs
 invariant-attrs g l =

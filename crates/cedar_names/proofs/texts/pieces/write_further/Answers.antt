@@ -3,7 +3,7 @@ use Rattle.std.specs.Rc.{rc_str_bytes}
 use Rattle.std.proofs.Output.{has_written_append}
 use Rattle.cedar_names.specs.Texts.{further_text}
 use Rattle.cedar_names.proofs.Loops.{flat_map_left}
-use Rattle.cedar_expressions.proofs.texts.expressions.write_further.Goals as goal
+use Rattle.cedar_names.proofs.texts.pieces.write_further.Goals as goal
 
 pub attrs-preserved : goal.attrs-preserved
 attrs-preserved g c = λ plain.
