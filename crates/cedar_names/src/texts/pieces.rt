@@ -89,7 +89,7 @@ pub fn between_parts(op: BinaryOp) -> &'static str
     }
 }
 
-/// Writes an unknown of this name.
+/// Writes `unknown("name")`.
 pub fn write_unknown<W: fmt::Write>(name: &str, f: &mut fmt::Formatter<W>) -> fmt::Result
     ensures { WritesOnOk W.write_str_gives f.old result (codes "unknown(" ++ (text.quoted name.now ++ codes ")")) f.new }
 {
@@ -98,7 +98,7 @@ pub fn write_unknown<W: fmt::Write>(name: &str, f: &mut fmt::Formatter<W>) -> fm
     f.write_str(")")
 }
 
-/// Writes what asks a part for this attribute.
+/// Writes `["attr"]`, which stands after a part.
 pub fn write_attribute<W: fmt::Write>(attr: &RcStr, f: &mut fmt::Formatter<W>) -> fmt::Result
     ensures { WritesOnOk W.write_str_gives f.old result (codes "[" ++ (text.quoted (rc_str_bytes attr.now) ++ codes "]")) f.new }
 {
@@ -107,7 +107,7 @@ pub fn write_attribute<W: fmt::Write>(attr: &RcStr, f: &mut fmt::Formatter<W>) -
     f.write_str("]")
 }
 
-/// Writes what asks whether a part has this attribute.
+/// Writes ` has "attr"`, which stands after a part.
 pub fn write_has<W: fmt::Write>(attr: &RcStr, f: &mut fmt::Formatter<W>) -> fmt::Result
     ensures { WritesOnOk W.write_str_gives f.old result (codes " has " ++ text.quoted (rc_str_bytes attr.now)) f.new }
 {
@@ -115,7 +115,7 @@ pub fn write_has<W: fmt::Write>(attr: &RcStr, f: &mut fmt::Formatter<W>) -> fmt:
     write_quoted(attr.as_str(), f)
 }
 
-/// Writes what asks whether a part has these attributes, each in the one before.
+/// Writes ` has "first"."second"` and so on, which stands after a part.
 pub fn write_extended_has<W: fmt::Write>(
     attrs: &FirstRest<RcStr>,
     f: &mut fmt::Formatter<W>,
@@ -144,7 +144,7 @@ fn write_one_further<W: fmt::Write>(attr: &RcStr, f: &mut fmt::Formatter<W>) -> 
     write_quoted(attr.as_str(), f)
 }
 
-/// Writes what asks whether a part is like this pattern.
+/// Writes ` like` and the pattern, which stand after a part.
 pub fn write_like<W: fmt::Write>(pattern: &Pattern, f: &mut fmt::Formatter<W>) -> fmt::Result
     ensures { WritesOnOk W.write_str_gives f.old result (codes " like " ++ text.pattern_text (pattern_view pattern.now)) f.new }
 {
@@ -152,7 +152,7 @@ pub fn write_like<W: fmt::Write>(pattern: &Pattern, f: &mut fmt::Formatter<W>) -
     write_pattern(pattern, f)
 }
 
-/// Writes what asks whether a part is of this type.
+/// Writes ` is` and the type, which stand after a part.
 pub fn write_is<W: fmt::Write>(entity_type: &EntityType, f: &mut fmt::Formatter<W>) -> fmt::Result
     ensures { WritesOnOk W.write_str_gives f.old result (codes " is " ++ type_text entity_type.now) f.new }
 {
