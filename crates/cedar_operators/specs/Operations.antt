@@ -10,6 +10,7 @@ use Rattle.cedar_model.specs.Operators.{expecting, element_failure, entities_fai
 use Rattle.cedar_model.specs.Settings.{Store, StoredEntity, Setting, is_among}
 use Rattle.cedar_values.specs.declared.extensions.Extensions.{Extensions}
 
+-- no extension
 abbrev pub no_extensions : model.Extensions
 no_extensions = record { arity = λ f. None; overloaded = [] }
 
