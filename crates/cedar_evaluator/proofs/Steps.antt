@@ -13,9 +13,9 @@ use Rattle.cedar_model.specs.Authorizations.{bool_result, decided}
 use Rattle.cedar_data.specs.Sound.{Placed}
 use Rattle.cedar_values.specs.declared.evaluator.err.EvaluationError.{EvaluationError}
 use Rattle.cedar_values.specs.Failures.{failure_of}
-use Rattle.cedar_operators.specs.Answering.{answer_of, Answers, FailsWith}
+use Rattle.cedar_operators.specs.Answers.{answer_of, Answers, FailsWith}
 use Rattle.cedar_operators.specs.Stopping.{not_known_in, stopped}
-use Rattle.cedar_evaluator.specs.Answering.{DecidesBy}
+use Rattle.cedar_evaluator.specs.Decisions.{DecidesBy}
 use Rattle.cedar_evaluator.specs.Stops.{NoCalls, StoppingRule, StoppingRuns}
 use Rattle.cedar_evaluator.specs.Evaluations.{all_values, all_fields}
 

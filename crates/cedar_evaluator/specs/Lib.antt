@@ -1,4 +1,4 @@
 pub mod Requests
 pub mod Stops
-pub mod Answering
+pub mod Decisions
 pub mod Evaluations

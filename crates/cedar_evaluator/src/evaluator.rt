@@ -18,7 +18,7 @@ ghost use Rattle.cedar_expressions.specs.View.{view, terms_view, fields_view, ex
 ghost use Rattle.cedar_data.specs.Sound.{whats, whats_at};
 ghost use Rattle.cedar_layers.specs.Policies.{slots_view};
 ghost use Rattle.cedar_values.specs.Failures.{failure_of};
-ghost use Rattle.cedar_operators.specs.Answering.{answer_of, Answers, FailsWith};
+ghost use Rattle.cedar_operators.specs.Answers.{answer_of, Answers, FailsWith};
 ghost use Rattle.cedar_operators.specs.Stopping.{stopped};
 ghost use Rattle.cedar_evaluator.specs.Stops.{StoppingRuns};
 ghost use Rattle.cedar_evaluator.specs.Evaluations.{MeetsKind, GivesParts, FailsParts, GivesFields, FailsFields};
@@ -65,7 +65,7 @@ impl<'e, 'x, 'f> Evaluator<'e, 'x, 'f> {
     ghost use Rattle.cedar_evaluator.specs.Requests.{request_view};
     ghost use Rattle.cedar_evaluator.specs.Evaluations.{setting_for, setting_of, limit_of};
     ghost use Rattle.cedar_evaluator.specs.Stops.{IsKnownExactly, IsDecidedExactly};
-    ghost use Rattle.cedar_evaluator.specs.Answering.{decision_of, DecidesBy};
+    ghost use Rattle.cedar_evaluator.specs.Decisions.{decision_of, DecidesBy};
 
     /// The evaluator of this request over this store, with these extensions. Evaluation goes at most `limit` levels deep: an
     /// expression is one level, its parts one more. Refuses only for want of memory.

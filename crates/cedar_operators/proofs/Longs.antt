@@ -12,7 +12,7 @@ use Rattle.cedar_model.specs.Failures.{Failure, out_of_memory, fails, answers_va
 use Rattle.cedar_model.specs.Operators.{long_answer, overloaded_type, order_failure, comparison_failure, comparison_answer}
 use Rattle.cedar_values.specs.declared.evaluator.err.EvaluationError.{EvaluationError}
 use Rattle.cedar_values.specs.Failures.{failure_of}
-use Rattle.cedar_operators.specs.Answering.{Answers, FailsWith}
+use Rattle.cedar_operators.specs.Answers.{Answers, FailsWith}
 use Rattle.cedar_operators.proofs.Expecting.{refuses}
 
 no_more : (n : ℕ) (b : Bool) → leb n 9223372036854775807 ≡ b → (n ≤ 9223372036854775807 → ⊥) → leb n 9223372036854775807 ≡ false

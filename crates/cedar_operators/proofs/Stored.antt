@@ -17,7 +17,7 @@ use Rattle.cedar_names.specs.Leaves.{texts_view}
 use Rattle.cedar_data.specs.Sound.{Placed, whats_at}
 use Rattle.cedar_values.specs.declared.evaluator.err.EvaluationError.{EvaluationError}
 use Rattle.cedar_values.specs.Failures.{failure_of}
-use Rattle.cedar_operators.specs.Answering.{Answers, FailsWith}
+use Rattle.cedar_operators.specs.Answers.{Answers, FailsWith}
 use Rattle.cedar_operators.specs.Stopping.{not_known_in, stopped, StepFails}
 use Rattle.cedar_operators.proofs.Keys.{whats-lookup}
 

@@ -1,3 +1,3 @@
-pub mod Answering
+pub mod Answers
 pub mod Stopping
-pub mod Operations
+pub mod Operands

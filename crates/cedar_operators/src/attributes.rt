@@ -11,9 +11,9 @@ ghost use Rattle.cedar_names.specs.Leaves.{texts_view};
 ghost use Rattle.cedar_data.specs.Sound.{Placed, whats_at};
 ghost use Rattle.cedar_layers.specs.Stores.{store_view, entity_view};
 ghost use Rattle.cedar_values.specs.Failures.{failure_of};
-ghost use Rattle.cedar_operators.specs.Answering.{Answers};
+ghost use Rattle.cedar_operators.specs.Answers.{Answers};
 ghost use Rattle.cedar_operators.specs.Stopping.{stopped, StepFails};
-ghost use Rattle.cedar_operators.specs.Operations.{over};
+ghost use Rattle.cedar_operators.specs.Operands.{over};
 
 use crate::failures::{expression_left, non_value, or_entity_expected};
 use crate::missing::{no_such_attribute, no_such_key};
@@ -67,13 +67,10 @@ fn attribute_of_entity(
 ) -> Result<Value, EvaluationError>
     ensures { Answers result (stopped (attribute_found (λ n. None) (look_up (store_view entities.now) (uid_name named.entry.0.now.value)) (uid_name named.entry.0.now.value) (rc_str_bytes attr.now))) }
 {
-    match entities.entity(alloc, named.0) {
-        Ok(found) => match found {
-            Dereference::NoSuchEntity => Err(no_such_entity(named.0, named.1)),
-            Dereference::Residual(unknown) => Err(expression_left(Expr::unknown(unknown))),
-            Dereference::Data(entity) => stored_attribute(alloc, entity, named.0, attr, loc),
-        },
-        Err(error) => Err(EvaluationError::Memory(error)),
+    match entities.entity(alloc, named.0)? {
+        Dereference::NoSuchEntity => Err(no_such_entity(named.0, named.1)),
+        Dereference::Residual(unknown) => Err(expression_left(Expr::unknown(unknown))),
+        Dereference::Data(entity) => stored_attribute(alloc, entity, named.0, attr, loc),
     }
 }
 
@@ -144,13 +141,10 @@ fn entity_has(
 ) -> Result<Value, EvaluationError>
     ensures { Answers result (stopped (has_found (look_up (store_view entities.now) (uid_name uid.now)) (uid_name uid.now) (rc_str_bytes attr.now))) }
 {
-    match entities.entity(alloc, uid) {
-        Ok(found) => match found {
-            Dereference::NoSuchEntity => Ok(bool_value(false)),
-            Dereference::Residual(unknown) => Err(expression_left(Expr::unknown(unknown))),
-            Dereference::Data(entity) => Ok(bool_value(entity.get(attr).is_some())),
-        },
-        Err(error) => Err(EvaluationError::Memory(error)),
+    match entities.entity(alloc, uid)? {
+        Dereference::NoSuchEntity => Ok(bool_value(false)),
+        Dereference::Residual(unknown) => Err(expression_left(Expr::unknown(unknown))),
+        Dereference::Data(entity) => Ok(bool_value(entity.get(attr).is_some())),
     }
 }
 
@@ -223,13 +217,10 @@ fn step_of_entity<'v>(
     ensures ok { IfOk result (λ o. (l : Text) (ls : List Text) → step_found (look_up (store_view entities.now) (uid_name uid.now)) (uid_name uid.now) (rc_str_bytes attr.now) l ls ≡ step_to (option_map (λ (p : Placed). p.what) (option_copied o))) }
     ensures error { IfErr result (λ e. failure_of e ≢ out_of_memory → (l : Text) (ls : List Text) → StepFails (failure_of e) (step_found (look_up (store_view entities.now) (uid_name uid.now)) (uid_name uid.now) (rc_str_bytes attr.now) l ls)) }
 {
-    match entities.entity(alloc, uid) {
-        Ok(found) => match found {
-            Dereference::NoSuchEntity => Ok(None),
-            Dereference::Residual(unknown) => Err(expression_left(Expr::unknown(unknown))),
-            Dereference::Data(entity) => stored_step(entity, attr),
-        },
-        Err(error) => Err(EvaluationError::Memory(error)),
+    match entities.entity(alloc, uid)? {
+        Dereference::NoSuchEntity => Ok(None),
+        Dereference::Residual(unknown) => Err(expression_left(Expr::unknown(unknown))),
+        Dereference::Data(entity) => stored_step(entity, attr),
     }
 }
 

@@ -6,7 +6,7 @@ ghost use Rattle.cedar_model.specs.Failures.{wrong_type, residual_is_left};
 ghost use Rattle.cedar_names.specs.Leaves.{type_view};
 ghost use Rattle.cedar_expressions.specs.View.{view};
 ghost use Rattle.cedar_values.specs.Failures.{failure_of};
-ghost use Rattle.cedar_operators.specs.Answering.{FailsWith};
+ghost use Rattle.cedar_operators.specs.Answers.{FailsWith};
 
 use cedar_layers::expressions::{EntityType, Expr, FirstRest, Loc, Name, Type, Value};
 use cedar_values::evaluator::err::{EvaluationError, evaluation_errors};
@@ -25,6 +25,8 @@ pub(crate) fn any_entity_type(alloc: Global) -> Result<Type, AllocError>
 }
 
 // The error that the value is not of this type, at the value's place.
+#[cold]
+#[inline(never)]
 pub(crate) fn type_error(alloc: Global, expected: Type, value: &Value) -> EvaluationError
     ensures { FailsWith result (wrong_type (type_view expected) [] (abstract_value value.now.what)) }
 {
@@ -42,6 +44,8 @@ pub(crate) fn type_error(alloc: Global, expected: Type, value: &Value) -> Evalua
 }
 
 // The error that the value is no entity, at the value's place.
+#[cold]
+#[inline(never)]
 pub(crate) fn entity_expected(alloc: Global, value: &Value) -> EvaluationError
     ensures { FailsWith result (wrong_type Failures.any_entity [] (abstract_value value.now.what)) }
 {
@@ -52,6 +56,8 @@ pub(crate) fn entity_expected(alloc: Global, value: &Value) -> EvaluationError
 }
 
 // The error that the value is neither of this type nor an entity, at the value's place.
+#[cold]
+#[inline(never)]
 pub(crate) fn or_entity_expected(alloc: Global, expected: Type, value: &Value) -> EvaluationError
     ensures { FailsWith result (wrong_type (type_view expected) (Failures.any_entity ∷ []) (abstract_value value.now.what)) }
 {
@@ -83,6 +89,8 @@ fn or_entity_error(
 }
 
 /// The error that this expression is left, at the expression's place.
+#[cold]
+#[inline(never)]
 pub fn non_value(e: &Expr) -> EvaluationError
     ensures { FailsWith result (residual_is_left (view e.now)) }
 {
@@ -93,6 +101,8 @@ pub fn non_value(e: &Expr) -> EvaluationError
 }
 
 // The error that this expression is left, at the expression's place.
+#[cold]
+#[inline(never)]
 pub(crate) fn expression_left(expr: Expr) -> EvaluationError
     ensures { failure_of result ≡ residual_is_left (view expr) }
 {

@@ -7,7 +7,7 @@ ghost use Rattle.cedar_names.specs.Leaves.{texts_view};
 ghost use Rattle.cedar_data.specs.Sound.{whats_at};
 ghost use Rattle.cedar_layers.specs.Stores.{entity_view};
 ghost use Rattle.cedar_values.specs.Failures.{failure_of};
-ghost use Rattle.cedar_operators.specs.Answering.{FailsWith};
+ghost use Rattle.cedar_operators.specs.Answers.{FailsWith};
 
 use cedar_layers::expressions::{EntityUID, Loc, Value};
 use cedar_layers::policies::Entity;
@@ -22,6 +22,8 @@ use std::rc::{Rc, RcStr};
 const TOO_MANY_ATTRS: usize = 5;
 
 // The error that the entity has no such attribute, at this place.
+#[cold]
+#[inline(never)]
 pub(crate) fn no_such_attribute(
     alloc: Global,
     entity: &Entity,
@@ -61,6 +63,8 @@ fn missing_attribute(
 }
 
 // The error that the entity has no such tag, at this place.
+#[cold]
+#[inline(never)]
 pub(crate) fn no_such_tag(
     alloc: Global,
     entity: &Entity,
@@ -100,6 +104,8 @@ fn missing_tag(
 }
 
 // The error that the record has no such key, at this place.
+#[cold]
+#[inline(never)]
 pub(crate) fn no_such_key(
     alloc: Global,
     pairs: &BTreeMap<RcStr, Value>,

@@ -1,23 +1,24 @@
-//! Longs: arithmetic within 64 bits, and comparisons.
-ghost use Rattle.std.specs.Prelude.{◌≡◌, ◌+ℤ◌, ◌-ℤ◌, ◌*ℤ◌};
-ghost use Rattle.std.specs.Ordering.{is_lt, is_le};
-ghost use Rattle.cedar_model.specs.Terms.{neg_operator, add_operator, sub_operator, mul_operator};
+//! Longs: arithmetic within 64 bits, and the order of two values.
+ghost use Rattle.std.specs.Prelude.{◌≡◌, ◌≢◌, true, Some, None, IfOk, IfErr, FitsSigned, w64, SomeIff};
+ghost use Rattle.cedar_model.specs.Terms.{neg_operator};
 ghost use Rattle.cedar_model.specs.Values.{abstract_value};
+ghost use Rattle.cedar_model.specs.Meaning.{comparison};
 ghost use Rattle.cedar_model.specs.Failures as Failures;
-ghost use Rattle.cedar_model.specs.Operators.{arithmetic_answer, comparison_answer, unary_answer};
+ghost use Rattle.cedar_model.specs.Operators.{arithmetic_answer, comparison_failure, unary_answer};
 ghost use Rattle.cedar_names.specs.Leaves.{binary_view};
 ghost use Rattle.cedar_values.specs.Failures.{failure_of};
-ghost use Rattle.cedar_operators.specs.Answering.{Answers};
-ghost use Rattle.cedar_operators.specs.Operations.{extensions_view};
+ghost use Rattle.cedar_operators.specs.Answers.{Answers, FailsWith};
+ghost use Rattle.cedar_operators.specs.Operands.{extensions_view, is_arithmetic, arithmetic_of};
 
-use crate::typed::{bool_value, get_as_long, long_value};
+use crate::typed::{get_as_long, long_value};
 use cedar_layers::expressions::{BinaryOp, Loc, UnaryOp, Value};
 use cedar_values::evaluator::err::{EvaluationError, evaluation_errors};
 use cedar_values::extensions::Extensions;
 use evaluation_errors::{BinaryOpOverflowError, IntegerOverflowError, UnaryOpOverflowError};
 use std::alloc::Global;
+use std::cmp::Ordering;
 
-// `-arg`: a type error where it is no long, an overflow at this place where the result needs more than 64 bits.
+// `-arg`: a type error where it is no long, an overflow at this location where the result needs more than 64 bits.
 #[tactic(auto, unfolding(cedar_model::specs::Operators::unary_answer, cedar_model::specs::Operators::expecting))]
 pub(crate) fn negated(
     alloc: Global,
@@ -26,119 +27,73 @@ pub(crate) fn negated(
 ) -> Result<Value, EvaluationError>
     ensures { Answers result (unary_answer neg_operator arg.what) }
 {
-    match get_as_long(alloc, &arg) {
-        Ok(n) => match n.checked_neg() {
-            Some(m) => Ok(long_value(m)),
-            None => Err(unary_overflow(arg, loc)),
-        },
-        Err(error) => Err(error),
+    let n = get_as_long(alloc, &arg)?;
+    match n.checked_neg() {
+        Some(m) => Ok(long_value(m)),
+        None => Err(unary_overflow(arg, loc)),
     }
 }
 
-// `a + b`: a type error where one, the left first, is no long, an overflow at this place where the sum needs more than 64 bits.
+// `a + b`, `a - b` or `a * b`: a type error where one, the left first, is no long, an overflow at this location where the result
+// needs more than 64 bits.
 #[tactic(auto, unfolding(cedar_model::specs::Operators::expecting))]
-pub(crate) fn sum(
+pub(crate) fn arithmetic(
     alloc: Global,
+    op: BinaryOp,
     a: Value,
     b: Value,
     loc: Option<&Loc>,
 ) -> Result<Value, EvaluationError>
-    ensures { Answers result (arithmetic_answer add_operator ◌+ℤ◌ a.what b.what) }
+    requires { is_arithmetic (binary_view op) ≡ true }
+    ensures { Answers result (arithmetic_answer (binary_view op) (arithmetic_of (binary_view op)) a.what b.what) }
 {
-    match get_as_long(alloc, &a) {
-        Ok(m) => match get_as_long(alloc, &b) {
-            Ok(n) => match m.checked_add(n) {
-                Some(k) => Ok(long_value(k)),
-                None => Err(overflow(BinaryOp::Add, a, b, loc)),
-            },
-            Err(error) => Err(error),
-        },
-        Err(error) => Err(error),
+    let m = get_as_long(alloc, &a)?;
+    let n = get_as_long(alloc, &b)?;
+    match checked(op, m, n) {
+        Some(k) => Ok(long_value(k)),
+        None => Err(overflow(op, a, b, loc)),
     }
 }
 
-// `a - b`, as `sum`.
-#[tactic(auto, unfolding(cedar_model::specs::Operators::expecting))]
-pub(crate) fn difference(
-    alloc: Global,
-    a: Value,
-    b: Value,
-    loc: Option<&Loc>,
-) -> Result<Value, EvaluationError>
-    ensures { Answers result (arithmetic_answer sub_operator ◌-ℤ◌ a.what b.what) }
+// The sum, the difference or the product, where it fits 64 bits.
+fn checked(op: BinaryOp, m: i64, n: i64) -> Option<i64>
+    requires { is_arithmetic (binary_view op) ≡ true }
+    ensures { SomeIff result (FitsSigned w64 (arithmetic_of (binary_view op) m n)) (arithmetic_of (binary_view op) m n) }
 {
-    match get_as_long(alloc, &a) {
-        Ok(m) => match get_as_long(alloc, &b) {
-            Ok(n) => match m.checked_sub(n) {
-                Some(k) => Ok(long_value(k)),
-                None => Err(overflow(BinaryOp::Sub, a, b, loc)),
-            },
-            Err(error) => Err(error),
-        },
-        Err(error) => Err(error),
+    match op {
+        BinaryOp::Add => m.checked_add(n),
+        BinaryOp::Sub => m.checked_sub(n),
+        BinaryOp::Mul => m.checked_mul(n),
+        BinaryOp::Eq => unreachable!(),
+        BinaryOp::Less => unreachable!(),
+        BinaryOp::LessEq => unreachable!(),
+        BinaryOp::In => unreachable!(),
+        BinaryOp::Contains => unreachable!(),
+        BinaryOp::ContainsAll => unreachable!(),
+        BinaryOp::ContainsAny => unreachable!(),
+        BinaryOp::GetTag => unreachable!(),
+        BinaryOp::HasTag => unreachable!(),
     }
 }
 
-// `a * b`, as `sum`.
-#[tactic(auto, unfolding(cedar_model::specs::Operators::expecting))]
-pub(crate) fn product(
-    alloc: Global,
-    a: Value,
-    b: Value,
-    loc: Option<&Loc>,
-) -> Result<Value, EvaluationError>
-    ensures { Answers result (arithmetic_answer mul_operator ◌*ℤ◌ a.what b.what) }
-{
-    match get_as_long(alloc, &a) {
-        Ok(m) => match get_as_long(alloc, &b) {
-            Ok(n) => match m.checked_mul(n) {
-                Some(k) => Ok(long_value(k)),
-                None => Err(overflow(BinaryOp::Mul, a, b, loc)),
-            },
-            Err(error) => Err(error),
-        },
-        Err(error) => Err(error),
-    }
-}
-
-// `a < b`: of two longs; where one side is a long, the other is expected to be one, else the left.
-#[tactic(auto, unfolding(cedar_model::specs::Operators::expecting, cedar_model::specs::Meaning::order_of))]
-pub(crate) fn less(
+// How two longs compare. Where one side is a long and the other is not, that other is expected to be one, else the left.
+pub(crate) fn order(
     alloc: Global,
     a: &Value,
     b: &Value,
     extensions: &Extensions<'_>,
-) -> Result<Value, EvaluationError>
-    ensures { Answers result (comparison_answer (extensions_view extensions.now) is_lt (abstract_value a.now.what) (abstract_value b.now.what)) }
+) -> Result<Ordering, EvaluationError>
+    ensures ok { IfOk result (λ o. comparison (extensions_view extensions.now) (abstract_value a.now.what) (abstract_value b.now.what) ≡ Some o) }
+    ensures no_order { IfErr result (λ e. failure_of e ≢ Failures.out_of_memory → comparison (extensions_view extensions.now) (abstract_value a.now.what) (abstract_value b.now.what) ≡ None) }
+    ensures error { IfErr result (λ e. FailsWith e (comparison_failure (extensions_view extensions.now) (abstract_value a.now.what) (abstract_value b.now.what))) }
 {
-    match get_as_long(alloc, a) {
-        Ok(m) => match get_as_long(alloc, b) {
-            Ok(n) => Ok(bool_value(m.cmp(&n).is_lt())),
-            Err(error) => Err(error),
-        },
-        Err(error) => Err(error),
-    }
+    let m = get_as_long(alloc, a)?;
+    let n = get_as_long(alloc, b)?;
+    Ok(m.cmp(&n))
 }
 
-// `a <= b`, as `less`.
-#[tactic(auto, unfolding(cedar_model::specs::Operators::expecting, cedar_model::specs::Meaning::order_of))]
-pub(crate) fn less_or_equal(
-    alloc: Global,
-    a: &Value,
-    b: &Value,
-    extensions: &Extensions<'_>,
-) -> Result<Value, EvaluationError>
-    ensures { Answers result (comparison_answer (extensions_view extensions.now) is_le (abstract_value a.now.what) (abstract_value b.now.what)) }
-{
-    match get_as_long(alloc, a) {
-        Ok(m) => match get_as_long(alloc, b) {
-            Ok(n) => Ok(bool_value(m.cmp(&n).is_le())),
-            Err(error) => Err(error),
-        },
-        Err(error) => Err(error),
-    }
-}
-
+#[cold]
+#[inline(never)]
 fn unary_overflow(arg: Value, loc: Option<&Loc>) -> EvaluationError
     ensures { failure_of result ≡ Failures.unary_overflow neg_operator arg.what }
 {
@@ -149,6 +104,8 @@ fn unary_overflow(arg: Value, loc: Option<&Loc>) -> EvaluationError
     }))
 }
 
+#[cold]
+#[inline(never)]
 fn overflow(op: BinaryOp, arg1: Value, arg2: Value, loc: Option<&Loc>) -> EvaluationError
     ensures { failure_of result ≡ Failures.binary_overflow (binary_view op) arg1.what arg2.what }
 {

@@ -5,10 +5,10 @@ ghost use Rattle.cedar_model.specs.Settings.{Setting};
 ghost use Rattle.cedar_model.specs.Operators.{unary_answer, binary_answer, like_answer, is_answer};
 ghost use Rattle.cedar_names.specs.Names.{type_text};
 ghost use Rattle.cedar_names.specs.Leaves.{unary_view, binary_view, pattern_view};
-ghost use Rattle.cedar_operators.specs.Answering.{Answers};
-ghost use Rattle.cedar_operators.specs.Operations.{extensions_view, with_extensions, is_relation, is_arithmetic};
+ghost use Rattle.cedar_operators.specs.Answers.{Answers};
+ghost use Rattle.cedar_operators.specs.Operands.{extensions_view, with_extensions, is_relation, is_arithmetic};
 
-use crate::numbers::{difference, less, less_or_equal, negated, product, sum};
+use crate::numbers::{arithmetic, negated, order};
 use crate::typed::{bool_value, get_as_bool, get_as_entity, get_as_set, get_as_string};
 use cedar_layers::expressions::{BinaryOp, EntityType, Loc, Pattern, UnaryOp, Value};
 use cedar_values::evaluator::err::EvaluationError;
@@ -36,7 +36,7 @@ pub fn unary_app(
 /// A relation of two values, as its caller hands `Eq`, `Less` or `LessEq`: `==` of any two, `<` and `<=` of two longs. Where one
 /// side is a long and the other is not, that other is a `TypeError` that expects a long; else the left is.
 /// The result is at no known place.
-#[tactic(auto, unfolding(cedar_model::specs::Operators::binary_answer))]
+#[tactic(auto, unfolding(cedar_model::specs::Operators::binary_answer, cedar_model::specs::Operators::expecting))]
 pub fn binary_relation(
     alloc: Global,
     op: BinaryOp,
@@ -49,8 +49,8 @@ pub fn binary_relation(
 {
     match op {
         BinaryOp::Eq => Ok(bool_value(a == b)),
-        BinaryOp::Less => less(alloc, a, b, extensions),
-        BinaryOp::LessEq => less_or_equal(alloc, a, b, extensions),
+        BinaryOp::Less => Ok(bool_value(order(alloc, a, b, extensions)?.is_lt())),
+        BinaryOp::LessEq => Ok(bool_value(order(alloc, a, b, extensions)?.is_le())),
         BinaryOp::Add => unreachable!(),
         BinaryOp::Sub => unreachable!(),
         BinaryOp::Mul => unreachable!(),
@@ -77,20 +77,7 @@ pub fn binary_arith(
     requires { is_arithmetic (binary_view op) ≡ true }
     ensures { (s : Setting) → Answers result (binary_answer s (binary_view op) a.what b.what) }
 {
-    match op {
-        BinaryOp::Eq => unreachable!(),
-        BinaryOp::Less => unreachable!(),
-        BinaryOp::LessEq => unreachable!(),
-        BinaryOp::Add => sum(alloc, a, b, loc),
-        BinaryOp::Sub => difference(alloc, a, b, loc),
-        BinaryOp::Mul => product(alloc, a, b, loc),
-        BinaryOp::In => unreachable!(),
-        BinaryOp::Contains => unreachable!(),
-        BinaryOp::ContainsAll => unreachable!(),
-        BinaryOp::ContainsAny => unreachable!(),
-        BinaryOp::GetTag => unreachable!(),
-        BinaryOp::HasTag => unreachable!(),
-    }
+    arithmetic(alloc, op, a, b, loc)
 }
 
 /// `value like pattern`: whether the text is one of the pattern's. A type error where it is no text.
@@ -98,10 +85,8 @@ pub fn binary_arith(
 pub fn likeness(alloc: Global, value: &Value, pattern: &Pattern) -> Result<Value, EvaluationError>
     ensures { Answers result (like_answer (pattern_view pattern.now) value.now.what) }
 {
-    match get_as_string(alloc, value) {
-        Ok(text) => Ok(bool_value(pattern.wildcard_match(text))),
-        Err(error) => Err(error),
-    }
+    let text = get_as_string(alloc, value)?;
+    Ok(bool_value(pattern.wildcard_match(text)))
 }
 
 /// `value is entity_type`: whether the entity is of the type. A type error where it is no entity.
@@ -113,10 +98,8 @@ pub fn is_of_type(
 ) -> Result<Value, EvaluationError>
     ensures { Answers result (is_answer (type_text entity_type.now) value.now.what) }
 {
-    match get_as_entity(alloc, value) {
-        Ok(uid) => Ok(bool_value(uid.entity_type() == entity_type)),
-        Err(error) => Err(error),
-    }
+    let uid = get_as_entity(alloc, value)?;
+    Ok(bool_value(uid.entity_type() == entity_type))
 }
 
 // `!arg`
@@ -124,10 +107,8 @@ pub fn is_of_type(
 fn negation(alloc: Global, arg: &Value) -> Result<Value, EvaluationError>
     ensures { Answers result (unary_answer not_operator arg.now.what) }
 {
-    match get_as_bool(alloc, arg) {
-        Ok(b) => Ok(bool_value(!b)),
-        Err(error) => Err(error),
-    }
+    let b = get_as_bool(alloc, arg)?;
+    Ok(bool_value(!b))
 }
 
 // `arg.isEmpty()`
@@ -135,8 +116,6 @@ fn negation(alloc: Global, arg: &Value) -> Result<Value, EvaluationError>
 fn emptiness(alloc: Global, arg: &Value) -> Result<Value, EvaluationError>
     ensures { Answers result (unary_answer is_empty_operator arg.now.what) }
 {
-    match get_as_set(alloc, arg) {
-        Ok(set) => Ok(bool_value(set.is_empty())),
-        Err(error) => Err(error),
-    }
+    let set = get_as_set(alloc, arg)?;
+    Ok(bool_value(set.is_empty()))
 }

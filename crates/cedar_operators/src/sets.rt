@@ -2,7 +2,7 @@
 ghost use Rattle.cedar_model.specs.Terms.{contains_operator, contains_all_operator, contains_any_operator};
 ghost use Rattle.cedar_model.specs.Settings.{Setting};
 ghost use Rattle.cedar_model.specs.Operators.{binary_answer};
-ghost use Rattle.cedar_operators.specs.Answering.{Answers};
+ghost use Rattle.cedar_operators.specs.Answers.{Answers};
 
 use crate::typed::{bool_value, get_as_set};
 use cedar_layers::expressions::Value;
@@ -14,10 +14,8 @@ use std::alloc::Global;
 pub fn contains(alloc: Global, a: &Value, b: &Value) -> Result<Value, EvaluationError>
     ensures { (s : Setting) → Answers result (binary_answer s contains_operator a.now.what b.now.what) }
 {
-    match get_as_set(alloc, a) {
-        Ok(set) => Ok(bool_value(set.contains(b))),
-        Err(error) => Err(error),
-    }
+    let set = get_as_set(alloc, a)?;
+    Ok(bool_value(set.contains(b)))
 }
 
 /// `a.containsAll(b)`: whether each element of the second set is one of the first. A type error where one, the left first, is no set.
@@ -25,13 +23,9 @@ pub fn contains(alloc: Global, a: &Value, b: &Value) -> Result<Value, Evaluation
 pub fn contains_all(alloc: Global, a: &Value, b: &Value) -> Result<Value, EvaluationError>
     ensures { (s : Setting) → Answers result (binary_answer s contains_all_operator a.now.what b.now.what) }
 {
-    match get_as_set(alloc, a) {
-        Ok(all) => match get_as_set(alloc, b) {
-            Ok(some) => Ok(bool_value(some.is_subset(all))),
-            Err(error) => Err(error),
-        },
-        Err(error) => Err(error),
-    }
+    let all = get_as_set(alloc, a)?;
+    let some = get_as_set(alloc, b)?;
+    Ok(bool_value(some.is_subset(all)))
 }
 
 /// `a.containsAny(b)`: whether the sets have an element in common. A type error where one, the left first, is no set.
@@ -39,11 +33,7 @@ pub fn contains_all(alloc: Global, a: &Value, b: &Value) -> Result<Value, Evalua
 pub fn contains_any(alloc: Global, a: &Value, b: &Value) -> Result<Value, EvaluationError>
     ensures { (s : Setting) → Answers result (binary_answer s contains_any_operator a.now.what b.now.what) }
 {
-    match get_as_set(alloc, a) {
-        Ok(all) => match get_as_set(alloc, b) {
-            Ok(some) => Ok(bool_value(!some.is_disjoint(all))),
-            Err(error) => Err(error),
-        },
-        Err(error) => Err(error),
-    }
+    let all = get_as_set(alloc, a)?;
+    let some = get_as_set(alloc, b)?;
+    Ok(bool_value(!some.is_disjoint(all)))
 }

@@ -11,9 +11,9 @@ ghost use Rattle.cedar_names.specs.Names.{uid_name};
 ghost use Rattle.cedar_data.specs.Residuals.{partial_view};
 ghost use Rattle.cedar_layers.specs.Stores.{store_view, entity_view};
 ghost use Rattle.cedar_layers.specs.Parts.{is_restricted_part};
-ghost use Rattle.cedar_operators.specs.Answering.{Answers, FailsWith};
+ghost use Rattle.cedar_operators.specs.Answers.{Answers, FailsWith};
 ghost use Rattle.cedar_operators.specs.Stopping.{stopped};
-ghost use Rattle.cedar_operators.specs.Operations.{over, is_within, element_answer, right_answer, right_expected};
+ghost use Rattle.cedar_operators.specs.Operands.{over, is_within, element_answer, right_answer, right_expected};
 
 use crate::failures::{expression_left, non_value, or_entity_expected};
 use crate::missing::no_such_tag;
@@ -38,10 +38,8 @@ pub fn is_in(
 ) -> Result<Value, EvaluationError>
     ensures { Answers result (stopped (in_answer (store_view entities.now) a.now.what b.now.what)) }
 {
-    match get_as_entity(alloc, a) {
-        Ok(uid) => is_in_any(alloc, entities, uid, b),
-        Err(error) => Err(error),
-    }
+    let uid = get_as_entity(alloc, a)?;
+    is_in_any(alloc, entities, uid, b)
 }
 
 // Whether the entity is in the entity or the set on the right.
@@ -54,13 +52,10 @@ fn is_in_any(
 ) -> Result<Value, EvaluationError>
     ensures { Answers result (stopped (in_found (look_up (store_view entities.now) (uid_name uid.now)) (uid_name uid.now) b.now.what)) }
 {
-    match entities.entity(alloc, uid) {
-        Ok(found) => match found {
-            Dereference::NoSuchEntity => in_right(alloc, uid, None, b),
-            Dereference::Residual(unknown) => Err(expression_left(Expr::unknown(unknown))),
-            Dereference::Data(entity) => in_right(alloc, uid, Some(entity), b),
-        },
-        Err(error) => Err(EvaluationError::Memory(error)),
+    match entities.entity(alloc, uid)? {
+        Dereference::NoSuchEntity => in_right(alloc, uid, None, b),
+        Dereference::Residual(unknown) => Err(expression_left(Expr::unknown(unknown))),
+        Dereference::Data(entity) => in_right(alloc, uid, Some(entity), b),
     }
 }
 
@@ -98,12 +93,8 @@ fn in_set(
 {
     let mut is_found = false;
     'elements: for element in set.as_slice() {
-        match get_as_entity(alloc, element) {
-            Ok(other) => {
-                is_found = is_found || is_in_one(uid, entity, other);
-            }
-            Err(error) => return Err(error),
-        }
+        let other = get_as_entity(alloc, element)?;
+        is_found = is_found || is_in_one(uid, entity, other);
     }
     Ok(bool_value(is_found))
 }
@@ -131,13 +122,9 @@ pub fn tag_of(
 ) -> Result<Value, EvaluationError>
     ensures { (s : Setting) → Answers result (stopped (binary_answer (over s (store_view entities.now)) get_tag_operator a.now.what b.now.what)) }
 {
-    match get_as_entity(alloc, a) {
-        Ok(uid) => match get_as_string(alloc, b) {
-            Ok(tag) => tag_of_entity(alloc, entities, (uid, a.source_loc()), tag, loc),
-            Err(error) => Err(error),
-        },
-        Err(error) => Err(error),
-    }
+    let uid = get_as_entity(alloc, a)?;
+    let tag = get_as_string(alloc, b)?;
+    tag_of_entity(alloc, entities, (uid, a.source_loc()), tag, loc)
 }
 
 // The tag of the entity, which is named at a place.
@@ -151,13 +138,10 @@ fn tag_of_entity(
 ) -> Result<Value, EvaluationError>
     ensures { Answers result (stopped (tag_found (look_up (store_view entities.now) (uid_name named.entry.0.now.value)) (uid_name named.entry.0.now.value) (rc_str_bytes tag.now))) }
 {
-    match entities.entity(alloc, named.0) {
-        Ok(found) => match found {
-            Dereference::NoSuchEntity => Err(no_such_entity(named.0, named.1)),
-            Dereference::Residual(unknown) => Err(expression_left(Expr::unknown(unknown))),
-            Dereference::Data(entity) => stored_tag(alloc, entity, named.0, tag, loc),
-        },
-        Err(error) => Err(EvaluationError::Memory(error)),
+    match entities.entity(alloc, named.0)? {
+        Dereference::NoSuchEntity => Err(no_such_entity(named.0, named.1)),
+        Dereference::Residual(unknown) => Err(expression_left(Expr::unknown(unknown))),
+        Dereference::Data(entity) => stored_tag(alloc, entity, named.0, tag, loc),
     }
 }
 
@@ -189,13 +173,9 @@ pub fn has_tag(
 ) -> Result<Value, EvaluationError>
     ensures { (s : Setting) → Answers result (stopped (binary_answer (over s (store_view entities.now)) has_tag_operator a.now.what b.now.what)) }
 {
-    match get_as_entity(alloc, a) {
-        Ok(uid) => match get_as_string(alloc, b) {
-            Ok(tag) => entity_has_tag(alloc, entities, uid, tag),
-            Err(error) => Err(error),
-        },
-        Err(error) => Err(error),
-    }
+    let uid = get_as_entity(alloc, a)?;
+    let tag = get_as_string(alloc, b)?;
+    entity_has_tag(alloc, entities, uid, tag)
 }
 
 // Whether the entity has the tag.
@@ -208,13 +188,10 @@ fn entity_has_tag(
 ) -> Result<Value, EvaluationError>
     ensures { Answers result (stopped (has_tag_found (look_up (store_view entities.now) (uid_name uid.now)) (uid_name uid.now) (rc_str_bytes tag.now))) }
 {
-    match entities.entity(alloc, uid) {
-        Ok(found) => match found {
-            Dereference::NoSuchEntity => Ok(bool_value(false)),
-            Dereference::Residual(unknown) => Err(expression_left(Expr::unknown(unknown))),
-            Dereference::Data(entity) => Ok(bool_value(entity.get_tag(tag).is_some())),
-        },
-        Err(error) => Err(EvaluationError::Memory(error)),
+    match entities.entity(alloc, uid)? {
+        Dereference::NoSuchEntity => Ok(bool_value(false)),
+        Dereference::Residual(unknown) => Err(expression_left(Expr::unknown(unknown))),
+        Dereference::Data(entity) => Ok(bool_value(entity.get_tag(tag).is_some())),
     }
 }
 
@@ -231,6 +208,8 @@ pub(crate) fn stored_part(part: &PartialValue) -> Result<Value, EvaluationError>
 }
 
 // The error that there is no such entity, at this place.
+#[cold]
+#[inline(never)]
 pub(crate) fn no_such_entity(uid: &Rc<EntityUID>, loc: Option<&Loc>) -> EvaluationError
     ensures { FailsWith result (entity_is_missing (uid_name uid.now.value)) }
 {

@@ -1,5 +1,5 @@
 //! Values of the types that operators take, and the type errors of others.
-ghost use Rattle.std.specs.Prelude.{◌≡◌, ◌≢◌, IfOk, IfErr, Some, None, []};
+ghost use Rattle.std.specs.Prelude.{◌≡◌, ◌≢◌, IfOk, IfErr, Some, None, [], option_map, option_copied};
 ghost use Rattle.std.specs.Rc.{rc_str_bytes};
 ghost use Rattle.cedar_model.specs.Terms.{bool_type, long_type, string_type, set_type};
 ghost use Rattle.cedar_model.specs.Terms as Terms;
@@ -7,8 +7,12 @@ ghost use Rattle.cedar_model.specs.Values.{abstract_value, abstract_values, plai
 ghost use Rattle.cedar_model.specs.Outcomes.{bool_of, long_of, text_of, entity_of, elements_of};
 ghost use Rattle.cedar_model.specs.Failures.{wrong_type, any_entity, out_of_memory};
 ghost use Rattle.cedar_names.specs.Names.{uid_name};
+ghost use Rattle.cedar_names.specs.declared.names.EntityUID.{EntityUID};
+ghost use Rattle.std.specs.declared.rc.Rc.{Rc};
+ghost use Rattle.std.specs.declared.alloc.Global.{Global};
+ghost use Rattle.cedar_data.specs.Sound.{Elements};
 ghost use Rattle.cedar_values.specs.Failures.{failure_of};
-ghost use Rattle.cedar_operators.specs.Answering.{FailsWith};
+ghost use Rattle.cedar_operators.specs.Answers.{FailsWith};
 
 use crate::failures::{entity_expected, type_error};
 use cedar_layers::expressions::{EntityUID, Literal, Set, Type, Value, ValueKind};
@@ -37,16 +41,26 @@ pub fn get_as_bool(alloc: Global, value: &Value) -> Result<bool, EvaluationError
     ensures no_bool { IfErr result (λ e. failure_of e ≢ out_of_memory → bool_of (abstract_value value.now.what) ≡ None) }
     ensures error { IfErr result (λ e. FailsWith e (wrong_type bool_type [] (abstract_value value.now.what))) }
 {
+    match bool_in(value) {
+        Some(x) => Ok(x),
+        None => Err(type_error(alloc, Type::Bool, value)),
+    }
+}
+
+#[tactic(auto, unfolding(cedar_model::specs::Outcomes::bool_of))]
+fn bool_in(value: &Value) -> Option<bool>
+    ensures { result ≡ bool_of (abstract_value value.now.what) }
+{
     match value.value_kind() {
         ValueKind::Lit(literal) => match literal {
-            Literal::Bool(b) => Ok(*b),
-            Literal::Long(_) => Err(type_error(alloc, Type::Bool, value)),
-            Literal::String(_) => Err(type_error(alloc, Type::Bool, value)),
-            Literal::EntityUID(_) => Err(type_error(alloc, Type::Bool, value)),
+            Literal::Bool(x) => Some(*x),
+            Literal::Long(_) => None,
+            Literal::String(_) => None,
+            Literal::EntityUID(_) => None,
         },
-        ValueKind::Set(_) => Err(type_error(alloc, Type::Bool, value)),
-        ValueKind::Record(_) => Err(type_error(alloc, Type::Bool, value)),
-        ValueKind::ExtensionValue(_) => Err(type_error(alloc, Type::Bool, value)),
+        ValueKind::Set(_) => None,
+        ValueKind::Record(_) => None,
+        ValueKind::ExtensionValue(_) => None,
     }
 }
 
@@ -57,16 +71,26 @@ pub(crate) fn get_as_long(alloc: Global, value: &Value) -> Result<i64, Evaluatio
     ensures no_long { IfErr result (λ e. failure_of e ≢ out_of_memory → long_of (abstract_value value.now.what) ≡ None) }
     ensures error { IfErr result (λ e. FailsWith e (wrong_type long_type [] (abstract_value value.now.what))) }
 {
+    match long_in(value) {
+        Some(x) => Ok(x),
+        None => Err(type_error(alloc, Type::Long, value)),
+    }
+}
+
+#[tactic(auto, unfolding(cedar_model::specs::Outcomes::long_of))]
+fn long_in(value: &Value) -> Option<i64>
+    ensures { result ≡ long_of (abstract_value value.now.what) }
+{
     match value.value_kind() {
         ValueKind::Lit(literal) => match literal {
-            Literal::Bool(_) => Err(type_error(alloc, Type::Long, value)),
-            Literal::Long(n) => Ok(*n),
-            Literal::String(_) => Err(type_error(alloc, Type::Long, value)),
-            Literal::EntityUID(_) => Err(type_error(alloc, Type::Long, value)),
+            Literal::Bool(_) => None,
+            Literal::Long(x) => Some(*x),
+            Literal::String(_) => None,
+            Literal::EntityUID(_) => None,
         },
-        ValueKind::Set(_) => Err(type_error(alloc, Type::Long, value)),
-        ValueKind::Record(_) => Err(type_error(alloc, Type::Long, value)),
-        ValueKind::ExtensionValue(_) => Err(type_error(alloc, Type::Long, value)),
+        ValueKind::Set(_) => None,
+        ValueKind::Record(_) => None,
+        ValueKind::ExtensionValue(_) => None,
     }
 }
 
@@ -77,16 +101,26 @@ pub(crate) fn get_as_string(alloc: Global, value: &Value) -> Result<&RcStr, Eval
     ensures no_text { IfErr result (λ e. failure_of e ≢ out_of_memory → text_of (abstract_value value.now.what) ≡ None) }
     ensures error { IfErr result (λ e. FailsWith e (wrong_type string_type [] (abstract_value value.now.what))) }
 {
+    match text_in(value) {
+        Some(x) => Ok(x),
+        None => Err(type_error(alloc, Type::String, value)),
+    }
+}
+
+#[tactic(auto, unfolding(cedar_model::specs::Outcomes::text_of))]
+fn text_in(value: &Value) -> Option<&RcStr>
+    ensures { option_map rc_str_bytes (option_copied result) ≡ text_of (abstract_value value.now.what) }
+{
     match value.value_kind() {
         ValueKind::Lit(literal) => match literal {
-            Literal::Bool(_) => Err(type_error(alloc, Type::String, value)),
-            Literal::Long(_) => Err(type_error(alloc, Type::String, value)),
-            Literal::String(text) => Ok(text),
-            Literal::EntityUID(_) => Err(type_error(alloc, Type::String, value)),
+            Literal::Bool(_) => None,
+            Literal::Long(_) => None,
+            Literal::String(x) => Some(x),
+            Literal::EntityUID(_) => None,
         },
-        ValueKind::Set(_) => Err(type_error(alloc, Type::String, value)),
-        ValueKind::Record(_) => Err(type_error(alloc, Type::String, value)),
-        ValueKind::ExtensionValue(_) => Err(type_error(alloc, Type::String, value)),
+        ValueKind::Set(_) => None,
+        ValueKind::Record(_) => None,
+        ValueKind::ExtensionValue(_) => None,
     }
 }
 
@@ -97,16 +131,26 @@ pub(crate) fn get_as_entity(alloc: Global, value: &Value) -> Result<&Rc<EntityUI
     ensures no_entity { IfErr result (λ e. failure_of e ≢ out_of_memory → entity_of (abstract_value value.now.what) ≡ None) }
     ensures error { IfErr result (λ e. FailsWith e (wrong_type any_entity [] (abstract_value value.now.what))) }
 {
+    match entity_in(value) {
+        Some(x) => Ok(x),
+        None => Err(entity_expected(alloc, value)),
+    }
+}
+
+#[tactic(auto, unfolding(cedar_model::specs::Outcomes::entity_of))]
+fn entity_in(value: &Value) -> Option<&Rc<EntityUID>>
+    ensures { option_map (λ (u : Rc EntityUID Global). uid_name u.value) (option_copied result) ≡ entity_of (abstract_value value.now.what) }
+{
     match value.value_kind() {
         ValueKind::Lit(literal) => match literal {
-            Literal::Bool(_) => Err(entity_expected(alloc, value)),
-            Literal::Long(_) => Err(entity_expected(alloc, value)),
-            Literal::String(_) => Err(entity_expected(alloc, value)),
-            Literal::EntityUID(uid) => Ok(uid),
+            Literal::Bool(_) => None,
+            Literal::Long(_) => None,
+            Literal::String(_) => None,
+            Literal::EntityUID(x) => Some(x),
         },
-        ValueKind::Set(_) => Err(entity_expected(alloc, value)),
-        ValueKind::Record(_) => Err(entity_expected(alloc, value)),
-        ValueKind::ExtensionValue(_) => Err(entity_expected(alloc, value)),
+        ValueKind::Set(_) => None,
+        ValueKind::Record(_) => None,
+        ValueKind::ExtensionValue(_) => None,
     }
 }
 
@@ -117,10 +161,20 @@ pub(crate) fn get_as_set(alloc: Global, value: &Value) -> Result<&Set, Evaluatio
     ensures no_set { IfErr result (λ e. failure_of e ≢ out_of_memory → elements_of (abstract_value value.now.what) ≡ None) }
     ensures error { IfErr result (λ e. FailsWith e (wrong_type set_type [] (abstract_value value.now.what))) }
 {
+    match set_in(value) {
+        Some(x) => Ok(x),
+        None => Err(type_error(alloc, Type::Set, value)),
+    }
+}
+
+#[tactic(auto, unfolding(cedar_model::specs::Outcomes::elements_of))]
+fn set_in(value: &Value) -> Option<&Set>
+    ensures { option_map (λ (s : Elements). abstract_values s.all) (option_copied result) ≡ elements_of (abstract_value value.now.what) }
+{
     match value.value_kind() {
-        ValueKind::Lit(_) => Err(type_error(alloc, Type::Set, value)),
-        ValueKind::Set(set) => Ok(set),
-        ValueKind::Record(_) => Err(type_error(alloc, Type::Set, value)),
-        ValueKind::ExtensionValue(_) => Err(type_error(alloc, Type::Set, value)),
+        ValueKind::Lit(_) => None,
+        ValueKind::Set(x) => Some(x),
+        ValueKind::Record(_) => None,
+        ValueKind::ExtensionValue(_) => None,
     }
 }

@@ -2,7 +2,7 @@ use Rattle.std.proofs.Common.{◌≡◌, drop, option_map, option_copied}
 use Rattle.cedar_model.specs.Values.{set_value, abstract_values}
 use Rattle.cedar_names.specs.Names.{uid_name}
 use Rattle.cedar_layers.specs.Stores.{entity_view}
-use Rattle.cedar_operators.specs.Operations.{element_answer, is_within, right_expected}
+use Rattle.cedar_operators.specs.Operands.{element_answer, is_within, right_expected}
 use Rattle.cedar_operators.proofs.Elements.{elements_in, answer_from}
 use Rattle.cedar_operators.proofs.store.in_set.Given as goal
 

@@ -1,8 +1,14 @@
 //! The errors of evaluation, one struct for each.
+ghost use Rattle.std.specs.Prelude.{Some, map, flat_map};
+ghost use Rattle.std.specs.Fmt.{WritesOnOk};
+ghost use Rattle.cedar_names.specs.Leaves.{type_view};
+ghost use Rattle.cedar_values.specs.Texts.{type_error_text, expected_text, several_text, other_text};
+
 use cedar_data::Value;
 use cedar_expressions::Expr;
 use cedar_names::{BinaryOp, EntityUID, FirstRest, Loc, Name, SlotId, Type, UnaryOp};
 use std::fmt;
+use std::fmt::Display;
 use std::rc::{Rc, RcStr};
 use thiserror::Error;
 
@@ -67,19 +73,58 @@ pub struct TypeError {
 
 impl std::error::Error for TypeError {}
 
+/// `type error: expected T, got U`, and `type error: expected one of [S, T], got U` where the place takes several types.
 impl fmt::Display for TypeError {
+    ghost output = { λ e. Some (type_error_text (type_view e.expected.first) (map type_view e.expected.rest.items) (type_view e.actual)) };
+
     fn fmt<W: fmt::Write>(&self, f: &mut fmt::Formatter<W>) -> fmt::Result {
-        if self.expected.rest.is_empty() {
-            write!(f, "type error: expected {}", self.expected.first)?;
-        } else {
-            write!(f, "type error: expected one of [{}", self.expected.first)?;
-            for ty in &self.expected.rest {
-                write!(f, ", {ty}")?;
-            }
-            write!(f, "]")?;
-        }
-        write!(f, ", got {}", self.actual)
+        f.write_str("type error: expected ")?;
+        write_expected(&self.expected, f)?;
+        f.write_str(", got ")?;
+        self.actual.fmt(f)
     }
+}
+
+fn write_expected<W: fmt::Write>(
+    expected: &FirstRest<Type>,
+    f: &mut fmt::Formatter<W>,
+) -> fmt::Result
+    ensures { WritesOnOk W.write_str_gives f.old result (expected_text (type_view expected.now.first) (map type_view expected.now.rest.items)) f.new }
+{
+    if expected.rest.is_empty() {
+        expected.first.fmt(f)
+    } else {
+        write_several(&expected.first, &expected.rest, f)
+    }
+}
+
+fn write_several<W: fmt::Write>(
+    first: &Type,
+    others: &[Type],
+    f: &mut fmt::Formatter<W>,
+) -> fmt::Result
+    ensures { WritesOnOk W.write_str_gives f.old result (several_text (type_view first.now) (map type_view others.now)) f.new }
+{
+    f.write_str("one of [")?;
+    first.fmt(f)?;
+    write_others(others, f)?;
+    f.write_str("]")
+}
+
+fn write_others<W: fmt::Write>(others: &[Type], f: &mut fmt::Formatter<W>) -> fmt::Result
+    ensures { WritesOnOk W.write_str_gives f.old result (flat_map other_text (map type_view others.now)) f.new }
+{
+    'others: for ty in others {
+        write_other(ty, f)?;
+    }
+    Ok(())
+}
+
+fn write_other<W: fmt::Write>(ty: &Type, f: &mut fmt::Formatter<W>) -> fmt::Result
+    ensures { WritesOnOk W.write_str_gives f.old result (other_text (type_view ty.now)) f.new }
+{
+    f.write_str(", ")?;
+    ty.fmt(f)
 }
 
 /// An extension function was called with more or fewer arguments than it takes.
