@@ -1,5 +1,5 @@
 -- Policies as plain data.
-use Rattle.std.specs.Prelude.{Bool, true, false, if◌then◌else◌, List, [], ◌∷◌, ◌++◌, map, Option, None, Some, option_map}
+use Rattle.std.specs.Prelude.{◌≡◌, Bool, true, false, if◌then◌else◌, List, [], ◌∷◌, ◌++◌, map, Option, None, Some, option_map}
 use Rattle.std.specs.List.{list_any}
 use Rattle.std.specs.Map.{lookup}
 use Rattle.std.specs.Rc.{rc_str_bytes}
@@ -15,7 +15,9 @@ use Rattle.cedar_names.specs.declared.names.Loc.{Loc}
 use Rattle.cedar_names.specs.declared.names.SlotId.{SlotId}
 use Rattle.cedar_names.specs.declared.names.SlotId.TheVariants as slots
 use Rattle.cedar_names.specs.Names.{uid_name}
-use Rattle.cedar_expressions.specs.View.{view}
+use Rattle.cedar_expressions.specs.declared.expr.Expr.{Expr}
+use Rattle.cedar_expressions.specs.View.{view, expr_loc}
+use Rattle.cedar_expressions.specs.Nodes.{And, node_of}
 use Rattle.cedar_layers.specs.declared.policies.policy.Annotations.{Annotations}
 use Rattle.cedar_layers.specs.declared.policies.policy.Effect.{Effect}
 use Rattle.cedar_layers.specs.declared.policies.policy.Effect.TheVariants as effects
@@ -77,6 +79,30 @@ policy_view p =
 -- where a policy stands
 abbrev pub policy_location : Policy → Option Loc
 policy_location p = p.loc
+
+-- the parts of a policy's condition, whole: with their own locations
+pub record ConditionParts : Type 0 where
+  pub principal : Expr
+  pub action : Expr
+  pub resource : Expr
+  pub when : Expr
+
+abbrev pub policy_parts : Policy → ConditionParts
+policy_parts p =
+    record { principal = p.principal.value; action = p.action.value; resource = p.resource.value; when = p.when.value }
+
+-- the expression is the conjunction of these two at this location
+pub record IsConjunction (l : Option Loc) (a b e : Expr) : Type 0 where
+  pub node : node_of e ≡ And a b
+  pub loc : expr_loc e ≡ l
+
+-- the expression is `((principal && action) && resource) && when` of these parts, with each `&&` at this location
+pub record IsCondition (p : ConditionParts) (l : Option Loc) (e : Expr) : Type 0 where
+  pub pair : Expr
+  pub scope : Expr
+  pub of_pair : IsConjunction l p.principal p.action pair
+  pub of_scope : IsConjunction l pair p.resource scope
+  pub of_condition : IsConjunction l scope p.when e
 
 -- the ids of policies, in order
 abbrev pub policy_ids : List PolicyView → List Text

@@ -80,7 +80,7 @@ impl Policy {
     ghost use Rattle.cedar_model.specs.Terms.{literal, bool_literal, both};
     ghost use Rattle.cedar_model.specs.Agreement.{no_slots};
     ghost use Rattle.cedar_expressions.specs.View.{view, expr_loc};
-    ghost use Rattle.cedar_layers.specs.Policies.{effect_view, policy_id_text, annotations_view, slots_view, policy_view, condition_term, policy_location};
+    ghost use Rattle.cedar_layers.specs.Policies.{effect_view, policy_id_text, annotations_view, slots_view, policy_view, policy_parts, condition_term, policy_location, IsConjunction, IsCondition};
 
     /// The policy of these parts, at no known place. Refuses only for want of memory.
     pub fn new(
@@ -95,6 +95,7 @@ impl Policy {
         env: SlotEnv,
     ) -> Result<Policy, AllocError>
         ensures view { IfOk result (λ p. policy_view p ≡ record { effect = effect_view effect; id = policy_id_text id; annotations = annotations_view annotations; principal_constraint = view principal; action_constraint = view action; resource_constraint = view resource; when_clause = view when; slots = slots_view env }) }
+        ensures parts { IfOk result (λ p. policy_parts p ≡ record { principal = principal; action = action; resource = resource; when = when }) }
         ensures loc { IfOk result (λ p. policy_location p ≡ None) }
     {
         Ok(Policy {
@@ -121,6 +122,7 @@ impl Policy {
         annotations: Rc<Annotations>,
     ) -> Result<Policy, AllocError>
         ensures view { IfOk result (λ p. policy_view p ≡ record { effect = effect_view effect; id = policy_id_text id; annotations = annotations_view annotations.value; principal_constraint = literal (bool_literal true); action_constraint = literal (bool_literal true); resource_constraint = literal (bool_literal true); when_clause = view expr.value; slots = no_slots }) }
+        ensures clause { IfOk result (λ p. (policy_parts p).when ≡ expr.value) }
         ensures loc { IfOk result (λ p. policy_location p ≡ loc) }
     {
         let any = Rc::new(alloc, Expr::val(Literal::Bool(true)))?;
@@ -165,31 +167,31 @@ impl Policy {
         &self.env
     }
 
-    /// The condition, `((principal && action) && resource) && when`, each `&&` at the policy's place. Its value is a boolean
-    /// or an error. Refuses only for want of memory.
+    /// The condition, `((principal && action) && resource) && when`, each `&&` at the policy's location and each part as it was
+    /// handed in. Its value is a boolean or an error. Refuses only for want of memory.
     pub fn condition(&self, alloc: Global) -> Result<Expr, AllocError>
         ensures view { IfOk result (λ e. view e ≡ condition_term (policy_view self.now)) }
+        ensures parts { IfOk result (λ e. IsCondition (policy_parts self.now) (policy_location self.now) e) }
         ensures loc { IfOk result (λ e. expr_loc e ≡ policy_location self.now) }
     {
-        let scope = self.both(alloc, self.principal.as_ref().clone()?, &self.action)?;
-        let scope = self.both(alloc, scope, &self.resource)?;
-        self.both(alloc, scope, &self.when)
+        let pair = self.conjunction(self.principal.clone()?, &self.action)?;
+        let scope = self.conjunction(Rc::new(alloc, pair)?, &self.resource)?;
+        self.conjunction(Rc::new(alloc, scope)?, &self.when)
     }
 
-    fn both(&self, alloc: Global, left: Expr, right: &Rc<Expr>) -> Result<Expr, AllocError>
-        ensures view { IfOk result (λ e. view e ≡ both (view left) (view right.now.value)) }
-        ensures loc { IfOk result (λ e. expr_loc e ≡ policy_location self.now) }
+    // `left && right`, at the policy's location.
+    fn conjunction(&self, left: Rc<Expr>, right: &Rc<Expr>) -> Result<Expr, AllocError>
+        ensures view { IfOk result (λ e. view e ≡ both (view left.value) (view right.now.value)) }
+        ensures whole { IfOk result (λ e. IsConjunction (policy_location self.now) left.value right.now.value e) }
     {
-        let right = right.as_ref().clone()?;
-        let conjunction = Expr::and(alloc, left, right)?;
-        Ok(conjunction.with_maybe_source_loc(self.loc))
+        Ok(Expr::and_shared(left, right.clone()?).with_maybe_source_loc(self.loc))
     }
 }
 
 impl Clone for Policy {
-    ghost use Rattle.cedar_layers.specs.Policies.{policy_view, policy_location};
+    ghost use Rattle.cedar_layers.specs.Policies.{policy_view, policy_parts, policy_location};
 
-    ghost is_clone = { λ p copy. (policy_view copy ≡ policy_view p) × (policy_location copy ≡ policy_location p) };
+    ghost is_clone = { λ p copy. (policy_view copy ≡ policy_view p) × (policy_parts copy ≡ policy_parts p) × (policy_location copy ≡ policy_location p) };
 
     fn clone(&self) -> Result<Policy, AllocError> {
         Ok(Policy {
