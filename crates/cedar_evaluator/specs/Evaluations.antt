@@ -1,24 +1,30 @@
 -- What an evaluator is given and what its parts answer, as plain data.
 use Rattle.std.specs.Prelude.{ℕ, List, map, None, Result, Ok, Err}
 use Rattle.std.specs.Rc.{rc_str_bytes}
+use Rattle.std.specs.Cmp.Lexicographic.{slice_cmp}
+use Rattle.std.specs.List.Sorted.{IsStrictlySortedBy}
+use Rattle.std.specs.Map.{keys_of}
+use Rattle.std.specs.Ordering.{nat_cmp}
 use Rattle.std.specs.declared.alloc.Global.{Global}
+use Rattle.std.specs.declared.cmp.Ordering.{Ordering}
 use Rattle.std.specs.declared.rc.RcStr.{RcStr}
 use Rattle.cedar_model.specs.Terms.{Text, Term}
 use Rattle.cedar_model.specs.Values.{Represented}
 use Rattle.cedar_model.specs.World.{Slots}
 use Rattle.cedar_model.specs.Failures.{Failure, PartialValue, value}
-use Rattle.cedar_model.specs.Settings.{RequestPart, Store, Setting, known_context}
+use Rattle.cedar_model.specs.Settings.{Entry, known_entry, RequestPart, Store, Setting, known_context}
 use Rattle.cedar_model.specs.Rules.{Meets, Parts, FieldParts}
 use Rattle.cedar_expressions.specs.declared.expr.Expr.{Expr}
 use Rattle.cedar_expressions.specs.View.{terms_view, fields_view}
 use Rattle.cedar_data.specs.Sound.{Placed, whats, whats_at}
+use Rattle.cedar_names.specs.Names.{uid_name}
 use Rattle.cedar_layers.specs.Policies.{SlotValues, slots_view}
 use Rattle.cedar_layers.specs.Stores.{store_view}
 use Rattle.cedar_values.specs.declared.evaluator.err.EvaluationError.{EvaluationError}
 use Rattle.cedar_operators.specs.Answers.{answer_of}
 use Rattle.cedar_operators.specs.Operands.{no_extensions}
 use Rattle.cedar_evaluator.specs.declared.evaluator.Evaluator.{Evaluator}
-use Rattle.cedar_evaluator.specs.Requests.{entry_view}
+use Rattle.cedar_evaluator.specs.declared.evaluator.SharedEntity.{SharedEntity}
 use Rattle.cedar_evaluator.specs.Stops.{StoppingRule, StoppingRuns}
 
 -- what an evaluator of this request over this store is given, for an expression with these slots
@@ -26,10 +32,14 @@ abbrev pub setting_for : RequestPart → Store → Slots → Setting
 setting_for r s slots =
     record { request = r; store = s; map = λ n. None; slots = slots; extensions = no_extensions }
 
+-- the entry of a shared entity
+abbrev pub shared_entry : SharedEntity → Entry
+shared_entry s = known_entry (uid_name s.uid.value)
+
 -- what the evaluator is given
 abbrev pub setting_of : Evaluator → Slots → Setting
 setting_of v slots =
-    setting_for record { principal_entry = entry_view v.principal; action_entry = entry_view v.action; resource_entry = entry_view v.resource; context_part = known_context (whats_at v.context.value.entries) } (store_view v.entities.now) slots
+    setting_for record { principal_entry = shared_entry v.principal; action_entry = shared_entry v.action; resource_entry = shared_entry v.resource; context_part = known_context (whats_at v.context.value.entries) } (store_view v.entities.now) slots
 
 -- how many levels deep it goes
 abbrev pub limit_of : Evaluator → ℕ
@@ -66,6 +76,14 @@ FailsParts v slots n parts e =
 abbrev pub GivesFields : Evaluator → SlotValues → ℕ → List (RcStr Global × Expr) → List (RcStr Global × Placed) → Type 0
 GivesFields v slots n pairs fs =
     FieldParts (StoppingRuns (setting_of v (slots_view slots)) n) (fields_view pairs) (Ok (all_fields (values_under fs)))
+
+-- keys by their bytes
+abbrev pub key_order : RcStr Global → RcStr Global → Ordering
+key_order k l = slice_cmp nat_cmp (rc_str_bytes k) (rc_str_bytes l)
+
+-- the keys are in order, each once
+abbrev pub AreInOrder : List (RcStr Global × Placed) → Type 0
+AreInOrder fs = IsStrictlySortedBy key_order (keys_of fs)
 
 -- the parts under their keys fail with this error
 abbrev pub FailsFields : Evaluator → SlotValues → ℕ → List (RcStr Global × Expr) → Failure → Type 0

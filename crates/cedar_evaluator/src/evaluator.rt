@@ -2,6 +2,7 @@
 //! The evaluator.
 ghost use Rattle.std.specs.Prelude.{◌≡◌, ◌≢◌, IfOk, IfErr};
 ghost use Rattle.std.specs.Rc.{rc_str_bytes};
+ghost use Rattle.std.specs.BTreeMap.{IsFromIterResult};
 ghost use Rattle.cedar_model.specs.Terms.{both, either, binary, unary, call, get_attribute, has_attribute, extended_has, like, is_of_type, set_of, record_of};
 ghost use Rattle.cedar_model.specs.Terms as Terms;
 ghost use Rattle.cedar_model.specs.Values.{plain_represented, set_represented, record_represented, abstract_value};
@@ -12,7 +13,7 @@ ghost use Rattle.cedar_model.specs.Failures.{answers, answers_value, function_is
 ghost use Rattle.cedar_model.specs.Settings.{variable_part};
 ghost use Rattle.cedar_model.specs.Operators.{binary_answer, slot_answer};
 ghost use Rattle.cedar_model.specs.Rules.{Meets, bool_or_failure};
-ghost use Rattle.cedar_names.specs.Names.{name_text, type_text};
+ghost use Rattle.cedar_names.specs.Names.{name_text, type_text, uid_name};
 ghost use Rattle.cedar_names.specs.Leaves.{literal_view, variable_view, slot_view, unary_view, binary_view, pattern_view, texts_view};
 ghost use Rattle.cedar_expressions.specs.View.{view, terms_view, fields_view, expr_loc};
 ghost use Rattle.cedar_data.specs.Sound.{whats, whats_at};
@@ -21,11 +22,11 @@ ghost use Rattle.cedar_values.specs.Failures.{failure_of};
 ghost use Rattle.cedar_operators.specs.Answers.{answer_of, Answers, FailsWith};
 ghost use Rattle.cedar_operators.specs.Stopping.{stopped};
 ghost use Rattle.cedar_evaluator.specs.Stops.{StoppingRuns};
-ghost use Rattle.cedar_evaluator.specs.Evaluations.{MeetsKind, GivesParts, FailsParts, GivesFields, FailsFields};
+ghost use Rattle.cedar_evaluator.specs.Evaluations.{MeetsKind, GivesParts, FailsParts, GivesFields, FailsFields, key_order, AreInOrder};
 
 use crate::request::{EntityUIDEntry, Request};
 use cedar_layers::expressions::{
-    BinaryOp, EntityType, Expr, ExprKind, FirstRest, Literal, Loc, Name, Pattern, SlotEnv, SlotId,
+    BinaryOp, EntityType, EntityUID, Expr, ExprKind, FirstRest, Literal, Loc, Name, Pattern, SlotEnv, SlotId,
     UnaryOp, Value, ValueKind, Var,
 };
 use cedar_layers::policies::{Entities, Policy};
@@ -46,12 +47,42 @@ use std::alloc::{AllocError, Global};
 use std::collections::BTreeMap;
 use std::rc::{Rc, RcStr};
 
+// An entity of the request, shared by the values that stand for it.
+#[derive(Drop)]
+struct SharedEntity {
+    uid: Rc<EntityUID>,
+    loc: Option<Loc>,
+}
+
+impl SharedEntity {
+    ghost use Rattle.cedar_model.specs.Terms.{entity_literal};
+    ghost use Rattle.cedar_evaluator.specs.Requests.{entry_view};
+    ghost use Rattle.cedar_evaluator.specs.Evaluations.{shared_entry};
+
+    fn new(alloc: Global, entry: EntityUIDEntry) -> Result<SharedEntity, AllocError>
+        ensures { IfOk result (λ s. shared_entry s ≡ entry_view entry) }
+    {
+        match entry {
+            EntityUIDEntry::Known { euid, loc } => Ok(SharedEntity {
+                uid: Rc::new(alloc, euid)?,
+                loc,
+            }),
+        }
+    }
+
+    fn value(&self) -> Result<Value, AllocError>
+        ensures { IfOk result (λ v. v.what ≡ plain_represented (entity_literal (uid_name self.now.uid.value))) }
+    {
+        Ok(Value::new(ValueKind::Lit(Literal::EntityUID(self.uid.clone()?)), self.loc))
+    }
+}
+
 /// An evaluator: a request, a store of entities and extensions, and how many levels deep it goes.
 #[derive(Drop)]
 pub struct Evaluator<'e, 'x, 'f> {
-    principal: EntityUIDEntry,
-    action: EntityUIDEntry,
-    resource: EntityUIDEntry,
+    principal: SharedEntity,
+    action: SharedEntity,
+    resource: SharedEntity,
     context: Rc<BTreeMap<RcStr, Value>>,
     entities: &'e Entities,
     extensions: &'x Extensions<'f>,
@@ -82,9 +113,9 @@ impl<'e, 'x, 'f> Evaluator<'e, 'x, 'f> {
         let (principal, action, resource, context) = request.into_parts();
         let context = Rc::new(alloc, context.into_map())?;
         Ok(Evaluator {
-            principal,
-            action,
-            resource,
+            principal: SharedEntity::new(alloc, principal)?,
+            action: SharedEntity::new(alloc, action)?,
+            resource: SharedEntity::new(alloc, resource)?,
             context,
             entities,
             extensions,
@@ -165,7 +196,7 @@ impl<'e, 'x, 'f> Evaluator<'e, 'x, 'f> {
     {
         match e.expr_kind() {
             ExprKind::Lit(value) => literal_value(value),
-            ExprKind::Var(var) => self.variable(alloc, *var),
+            ExprKind::Var(var) => self.variable(*var),
             ExprKind::Slot(slot) => slot_value(alloc, slots, *slot),
             ExprKind::Unknown(_) => Err(non_value(e)),
             ExprKind::If {
@@ -491,17 +522,15 @@ impl<'e, 'x, 'f> Evaluator<'e, 'x, 'f> {
         pairs: &BTreeMap<RcStr, Expr>,
         slots: &SlotEnv,
         left: usize,
-    ) -> Result<BTreeMap<RcStr, Value>, EvaluationError>
-        ensures ok { IfOk result (λ m. GivesFields self.now slots.now left pairs.now.entries m.entries) }
+    ) -> Result<Vec<(RcStr, Value)>, EvaluationError>
+        ensures ok { IfOk result (λ v. GivesFields self.now slots.now left pairs.now.entries v.items) }
+        ensures in_order { IfOk result (λ v. AreInOrder v.items) }
         ensures error { IfErr result (λ e. failure_of e ≢ out_of_memory → FailsFields self.now slots.now left pairs.now.entries (failure_of e)) }
     {
-        let mut fields: BTreeMap<RcStr, Value> = BTreeMap::new(alloc);
+        let mut fields: Vec<(RcStr, Value)> = Vec::new(alloc);
         'fields: for (key, part) in pairs.iter() {
             match self.interpret_within(alloc, part, slots, left) {
-                Ok(value) => {
-                    let key = key.clone()?;
-                    drop(fields.insert(key, value)?);
-                }
+                Ok(value) => fields.push((key.clone()?, value))?,
                 Err(error) => return Err(error),
             }
         }
@@ -538,13 +567,13 @@ impl<'e, 'x, 'f> Evaluator<'e, 'x, 'f> {
 
     // The value of a variable: an entity of the request, or its context.
     #[tactic(auto, unfolding(cedar_model::specs::Settings::variable_part, cedar_model::specs::Settings::entry_part, cedar_model::specs::Settings::context_value))]
-    fn variable(&self, alloc: Global, var: Var) -> Result<Value, EvaluationError>
+    fn variable(&self, var: Var) -> Result<Value, EvaluationError>
         ensures { (s : _) → Answers result (answers (variable_part (setting_of self.now s).request (variable_view var))) }
     {
         match var {
-            Var::Principal => Ok(self.principal.evaluate(alloc)?),
-            Var::Action => Ok(self.action.evaluate(alloc)?),
-            Var::Resource => Ok(self.resource.evaluate(alloc)?),
+            Var::Principal => Ok(self.principal.value()?),
+            Var::Action => Ok(self.action.value()?),
+            Var::Resource => Ok(self.resource.value()?),
             Var::Context => Ok(Value::new(ValueKind::Record(self.context.clone()?), None)),
         }
     }
@@ -579,13 +608,28 @@ fn set_value(alloc: Global, values: Vec<Value>) -> Result<Value, EvaluationError
     Ok(Value::set(alloc, values, None)?)
 }
 
-fn record_value(alloc: Global, fields: BTreeMap<RcStr, Value>) -> Result<Value, EvaluationError>
-    ensures { Answers result (answers_value (record_represented (whats_at fields.entries))) }
+// The record of values under their keys, which are in order.
+fn record_value(alloc: Global, fields: Vec<(RcStr, Value)>) -> Result<Value, EvaluationError>
+    requires { AreInOrder fields.items }
+    ensures { Answers result (answers_value (record_represented (whats_at fields.items))) }
 {
+    let fields = map_of(alloc, fields)?;
     Ok(Value::record(alloc, fields, None)?)
 }
 
+// The map of values under their keys, which are in order.
+fn map_of(
+    alloc: Global,
+    fields: Vec<(RcStr, Value)>,
+) -> Result<BTreeMap<RcStr, Value>, AllocError>
+    ensures { IfOk result (λ m. IsFromIterResult key_order fields.items m) }
+{
+    fields.into_iter().collect(alloc)
+}
+
 // The error that no extension has the function, at the place of its name.
+#[cold]
+#[inline(never)]
 fn no_such_function(fn_name: &Name) -> EvaluationError
     ensures { FailsWith result (function_is_missing (name_text fn_name.now)) }
 {
@@ -600,6 +644,8 @@ fn no_such_function(fn_name: &Name) -> EvaluationError
     }
 }
 
+#[cold]
+#[inline(never)]
 fn recursion_limit() -> EvaluationError
     ensures { failure_of result ≡ Failures.recursion_limit }
 {
@@ -622,8 +668,5 @@ fn with_enclosing_loc(error: EvaluationError, loc: Option<Loc>) -> EvaluationErr
 fn as_bool_value(alloc: Global, value: &Value) -> Result<Value, EvaluationError>
     ensures { Answers result (bool_or_failure (bool_of (abstract_value value.now.what)) value.now.what) }
 {
-    match get_as_bool(alloc, value) {
-        Ok(b) => Ok(bool_value(b)),
-        Err(error) => Err(error),
-    }
+    Ok(bool_value(get_as_bool(alloc, value)?))
 }

@@ -1,19 +1,17 @@
 -- Longs: what fits 64 bits, and how two compare.
-use Rattle.std.proofs.Common.{◌≡◌, ◌≢◌, ◌≤◌, ◌<◌, ℤ, pos, negsuc, ℕ, leb, Bool, true, false, cond, ◌&&◌, map, [], Option, Some, None, Err, refl, sym, ap, ◌∙◌, FitsSigned, w64, le-leb, leb-true, arith}
+use Rattle.std.proofs.Common.{int_cmp, ◌≡◌, ◌≢◌, ◌≤◌, ◌<◌, ℤ, pos, negsuc, ℕ, leb, Bool, true, false, cond, ◌&&◌, map, [], Option, Some, None, Err, refl, sym, ap, ◌∙◌, FitsSigned, w64, le-leb, leb-true, arith}
 use Rattle.std.specs.declared.cmp.Ordering.{Ordering}
 use Rattle.std.specs.Ordering.{nat_cmp}
 use Rattle.std.specs.Cmp.Lexicographic.{slice_cmp}
-use Rattle.cedar_model.specs.Terms.{long_literal, long_type, extension_type}
-use Rattle.cedar_model.specs.Values.{AbstractValue, plain, set_value, record_value, extension_value, plain_represented}
+use Rattle.cedar_model.specs.Terms.{long_literal, long_type, extension_type, BinaryOperator, eq_operator, less_operator, less_eq_operator, add_operator, sub_operator, mul_operator, in_operator, contains_operator, contains_all_operator, contains_any_operator, get_tag_operator, has_tag_operator}
+use Rattle.cedar_model.specs.Settings.{Setting}
+use Rattle.cedar_model.specs.Values.{Represented, AbstractValue, plain, set_value, record_value, extension_value, plain_represented}
 use Rattle.cedar_model.specs.Outcomes.{long_of, is_long, text_eq, has_text}
 use Rattle.cedar_model.specs.World.{Extensions}
 use Rattle.cedar_model.specs.Meaning.{order_of, extension_order, comparison}
-use Rattle.cedar_model.specs.Failures.{Failure, out_of_memory, fails, answers_value, wrong_type}
-use Rattle.cedar_model.specs.Operators.{long_answer, overloaded_type, order_failure, comparison_failure, comparison_answer}
-use Rattle.cedar_values.specs.declared.evaluator.err.EvaluationError.{EvaluationError}
-use Rattle.cedar_values.specs.Failures.{failure_of}
-use Rattle.cedar_operators.specs.Answers.{Answers, FailsWith}
-use Rattle.cedar_operators.proofs.Expecting.{refuses}
+use Rattle.cedar_model.specs.Failures.{Failure, fails, answers_value, wrong_type}
+use Rattle.cedar_model.specs.Operators.{long_answer, overloaded_type, order_failure, comparison_failure, arithmetic_answer, binary_answer}
+use Rattle.cedar_operators.specs.Operands.{is_arithmetic, arithmetic_of}
 
 no_more : (n : ℕ) (b : Bool) → leb n 9223372036854775807 ≡ b → (n ≤ 9223372036854775807 → ⊥) → leb n 9223372036854775807 ≡ false
 no_more n true e f = absurd (f (leb-true n 9223372036854775807 e))
@@ -84,15 +82,37 @@ unfolding order_of order_failure
 right_no_long X v w m h e f =
     ((λ i. order_of (e i) (f i) (extension_order X v w)) ∙ no_extension_order X v w h, ap (λ o. order_failure X o (long_of w) (overloaded_type X v) (overloaded_type X w) v w) e)
 
--- where one side is no long, `<` and `<=` answer that it is expected to be one
-pub left_refused : (X : Extensions) (test : Ordering → Bool) (v w : AbstractValue) (e : EvaluationError) → IsBare X → (failure_of e ≢ out_of_memory → long_of v ≡ None) → FailsWith e (wrong_type long_type [] v) → Answers (Err e) (comparison_answer X test v w)
-left_refused X test v w e h none is ok =
-    let want : failure_of e ≢ out_of_memory = λ m. ok (ap fails m) in
-    let both_are = left_no_long X v w h (none want) in
-    refuses _ _ _ e (λ _. both_are.0) (λ _. is want ∙ sym both_are.1) ok
+-- the same, one fact a lemma
+pub left_unordered : (X : Extensions) (v w : AbstractValue) → IsBare X → long_of v ≡ None → comparison X v w ≡ None
+left_unordered X v w h e = (left_no_long X v w h e).0
 
-pub right_refused : (X : Extensions) (test : Ordering → Bool) (v w : AbstractValue) (m : ℤ) (e : EvaluationError) → IsBare X → long_of v ≡ Some m → (failure_of e ≢ out_of_memory → long_of w ≡ None) → FailsWith e (wrong_type long_type [] w) → Answers (Err e) (comparison_answer X test v w)
-right_refused X test v w m e h a_long none is ok =
-    let want : failure_of e ≢ out_of_memory = λ n. ok (ap fails n) in
-    let both_are = right_no_long X v w m h a_long (none want) in
-    refuses _ _ _ e (λ _. both_are.0) (λ _. is want ∙ sym both_are.1) ok
+pub left_expected : (X : Extensions) (v w : AbstractValue) → IsBare X → long_of v ≡ None → comparison_failure X v w ≡ wrong_type long_type [] v
+left_expected X v w h e = (left_no_long X v w h e).1
+
+pub right_unordered : (X : Extensions) (v w : AbstractValue) (m : ℤ) → IsBare X → long_of v ≡ Some m → long_of w ≡ None → comparison X v w ≡ None
+right_unordered X v w m h e f = (right_no_long X v w m h e f).0
+
+pub right_expected : (X : Extensions) (v w : AbstractValue) (m : ℤ) → IsBare X → long_of v ≡ Some m → long_of w ≡ None → comparison_failure X v w ≡ wrong_type long_type [] w
+right_expected X v w m h e f = (right_no_long X v w m h e f).1
+
+-- two longs compare as longs
+pub longs_ordered : (X : Extensions) (v w : AbstractValue) (m n : ℤ) → long_of v ≡ Some m → long_of w ≡ Some n → comparison X v w ≡ Some (int_cmp m n)
+unfolding order_of
+longs_ordered X v w m n e f = (λ i. order_of (e i) (f i) (extension_order X v w))
+
+-- ---- arithmetic
+
+pub arithmetic_is_operation : (s : Setting) (op : BinaryOperator) (v w : Represented) → is_arithmetic op ≡ true → binary_answer s op v w ≡ arithmetic_answer op (arithmetic_of op) v w
+unfolding binary_answer
+arithmetic_is_operation s add_operator v w h = refl
+arithmetic_is_operation s sub_operator v w h = refl
+arithmetic_is_operation s mul_operator v w h = refl
+arithmetic_is_operation s eq_operator v w h = absurd (cc)
+arithmetic_is_operation s less_operator v w h = absurd (cc)
+arithmetic_is_operation s less_eq_operator v w h = absurd (cc)
+arithmetic_is_operation s in_operator v w h = absurd (cc)
+arithmetic_is_operation s contains_operator v w h = absurd (cc)
+arithmetic_is_operation s contains_all_operator v w h = absurd (cc)
+arithmetic_is_operation s contains_any_operator v w h = absurd (cc)
+arithmetic_is_operation s get_tag_operator v w h = absurd (cc)
+arithmetic_is_operation s has_tag_operator v w h = absurd (cc)

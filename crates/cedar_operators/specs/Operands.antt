@@ -1,5 +1,5 @@
 -- What the operators are given, as plain data, and which operators there are.
-use Rattle.std.specs.Prelude.{Bool, true, false, ◌||◌, [], ◌∷◌, Option, Some, None}
+use Rattle.std.specs.Prelude.{ℤ, ◌+ℤ◌, ◌-ℤ◌, ◌*ℤ◌, Bool, true, false, ◌||◌, [], ◌∷◌, Option, Some, None}
 use Rattle.cedar_model.specs.Terms.{EntityName, set_type, BinaryOperator, eq_operator, less_operator, less_eq_operator, add_operator, sub_operator, mul_operator, in_operator, contains_operator, contains_all_operator, contains_any_operator, get_tag_operator, has_tag_operator}
 use Rattle.cedar_model.specs.Values.{AbstractValue, AbstractValues, Represented, abstract_value}
 use Rattle.cedar_model.specs.Outcomes.{elements_of, entity_eq}
@@ -56,6 +56,21 @@ is_arithmetic contains_all_operator = false
 is_arithmetic contains_any_operator = false
 is_arithmetic get_tag_operator = false
 is_arithmetic has_tag_operator = false
+
+-- what arithmetic computes; of another operator it says nothing
+abbrev pub arithmetic_of : BinaryOperator → ℤ → ℤ → ℤ
+arithmetic_of add_operator m n = m +ℤ n
+arithmetic_of sub_operator m n = m -ℤ n
+arithmetic_of mul_operator m n = m *ℤ n
+arithmetic_of eq_operator m n = m
+arithmetic_of less_operator m n = m
+arithmetic_of less_eq_operator m n = m
+arithmetic_of in_operator m n = m
+arithmetic_of contains_operator m n = m
+arithmetic_of contains_all_operator m n = m
+arithmetic_of contains_any_operator m n = m
+arithmetic_of get_tag_operator m n = m
+arithmetic_of has_tag_operator m n = m
 
 -- whether the entity equals the other or, where its facts are known, has it among its ancestors
 abbrev pub is_within : EntityName → Option StoredEntity → EntityName → Bool

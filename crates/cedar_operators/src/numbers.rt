@@ -1,5 +1,7 @@
 //! Longs: arithmetic within 64 bits, and the order of two values.
-ghost use Rattle.std.specs.Prelude.{◌≡◌, ◌≢◌, true, Some, None, IfOk, IfErr, FitsSigned, w64, SomeIff};
+ghost use Rattle.std.specs.Prelude.{◌≡◌, ◌≢◌, true, Some, None, IfOk, IfErr, FitsSigned};
+ghost use Rattle.std.specs.Int.{w64};
+ghost use Rattle.std.specs.Option.{SomeIff};
 ghost use Rattle.cedar_model.specs.Terms.{neg_operator};
 ghost use Rattle.cedar_model.specs.Values.{abstract_value};
 ghost use Rattle.cedar_model.specs.Meaning.{comparison};
@@ -77,6 +79,7 @@ fn checked(op: BinaryOp, m: i64, n: i64) -> Option<i64>
 }
 
 // How two longs compare. Where one side is a long and the other is not, that other is expected to be one, else the left.
+#[tactic(auto, using(crate::proofs::Longs::left_unordered, crate::proofs::Longs::left_expected, crate::proofs::Longs::right_unordered, crate::proofs::Longs::right_expected, crate::proofs::Longs::longs_ordered))]
 pub(crate) fn order(
     alloc: Global,
     a: &Value,

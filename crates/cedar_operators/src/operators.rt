@@ -66,7 +66,7 @@ pub fn binary_relation(
 /// Arithmetic of two values, as its caller hands `Add`, `Sub` or `Mul`. An operand, the left first, that is no long is a
 /// `TypeError` at the operand's place; a result that needs more than 64 bits is an `IntegerOverflow` with both operands, at the
 /// place handed in. The result is at no known place.
-#[tactic(auto, unfolding(cedar_model::specs::Operators::binary_answer))]
+#[tactic(auto, using(crate::proofs::Longs::arithmetic_is_operation))]
 pub fn binary_arith(
     alloc: Global,
     op: BinaryOp,

@@ -93,8 +93,12 @@ fn in_set(
 {
     let mut is_found = false;
     'elements: for element in set.as_slice() {
-        let other = get_as_entity(alloc, element)?;
-        is_found = is_found || is_in_one(uid, entity, other);
+        match get_as_entity(alloc, element) {
+            Ok(other) => {
+                is_found = is_found || is_in_one(uid, entity, other);
+            }
+            Err(error) => return Err(error),
+        }
     }
     Ok(bool_value(is_found))
 }

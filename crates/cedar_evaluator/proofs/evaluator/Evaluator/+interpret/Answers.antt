@@ -294,7 +294,7 @@ pub fields-fields-preserved : goal.fields-fields-preserved
 fields-fields-preserved t c =
     let s = setting_of c.args.self.now (slots_view c.args.slots.now) in
     let May = StoppingRuns s c.args.left in
-    parts.collected_at_more May _ _ _ _ _ _ _ _ c.in-Some.key.now c.in_ok-key-in-Ok.key (view c.in-Some.part.now) c.in-Ok.value c.fields.invariant (ap fields_view c.in-Some.ensures.steps) (ap parts.names_under c.in-Some.ensures.steps) (parts.names_sorted c.args.pairs.now.entries c.iter-key-items.ensures.ordered) c.in_ok-key-in-Ok.ensures.cases (c.in-Ok.ensures.answer (value_is_no_want _)) c.in_ok-insert-in-Ok.ensures.entries
+    parts.collected_at_more May _ _ _ _ _ _ _ _ c.in-Some.key.now c.in_ok-clone-in-Ok.field-0 (view c.in-Some.part.now) c.in-Ok.value c.fields.invariant (ap fields_view c.in-Some.ensures.steps) (ap parts.names_under c.in-Some.ensures.steps) c.in_ok-clone-in-Ok.ensures.cases (c.in-Ok.ensures.answer (value_is_no_want _)) c.in_ok-push-in-Ok.ensures.items
 
 pub fields-returns-in-Err-clause-error : goal.fields-returns-in-Err-clause-error
 fields-returns-in-Err-clause-error t c =
@@ -307,3 +307,9 @@ fields-returns-clause-ok t c =
     let s = setting_of c.args.self.now (slots_view c.args.slots.now) in
     let May = StoppingRuns s c.args.left in
     parts.collected_at_all May _ _ _ _ _ c.fields.invariant (ap fields_view c.in-None.ensures.steps.0)
+
+pub fields-returns-clause-in_order : goal.fields-returns-clause-in_order
+fields-returns-clause-in_order t c =
+    let s = setting_of c.args.self.now (slots_view c.args.slots.now) in
+    let May = StoppingRuns s c.args.left in
+    parts.collected_in_order May _ _ _ _ _ c.fields.invariant (ap parts.names_under c.in-None.ensures.steps.0) (parts.names_sorted c.args.pairs.now.entries c.iter-key-items.ensures.ordered)

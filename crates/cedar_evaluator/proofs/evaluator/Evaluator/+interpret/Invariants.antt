@@ -64,4 +64,4 @@ invariant-values-parts l =
 
 abbrev pub invariant-fields-fields : goal.invariant-fields-fields
 invariant-fields-fields l =
-    CollectedAt (StoppingRuns (setting_of l.fn.self (slots_view l.fn.slots)) l.fn.left) (fields_view l.fn.pairs.entries) (fields_view l.key-iterator) (names_under l.fn.pairs.entries) (names_under l.key-iterator) l.fields.entries
+    CollectedAt (StoppingRuns (setting_of l.fn.self (slots_view l.fn.slots)) l.fn.left) (fields_view l.fn.pairs.entries) (fields_view l.key-iterator) (names_under l.fn.pairs.entries) (names_under l.key-iterator) l.fields.items
