@@ -127,6 +127,7 @@ impl Expr {
     /// The same expression at this place, or at no known place.
     pub fn with_maybe_source_loc(self, source_loc: Option<Loc>) -> Expr
         ensures view { view result ≡ view self }
+        ensures kind { expr_kind_of result ≡ expr_kind_of self }
         ensures loc { expr_loc result ≡ source_loc }
     {
         Expr {
@@ -305,6 +306,7 @@ impl Expr {
 
     fn of_kind(expr_kind: ExprKind) -> Expr
         ensures view { view result ≡ kind_view expr_kind }
+        ensures kind { expr_kind_of result ≡ expr_kind }
         ensures loc { expr_loc result ≡ None }
     {
         Expr {
