@@ -13,6 +13,7 @@ mod substitution;
 use cedar_names::{
     BinaryOp, EntityType, FirstRest, Literal, Loc, Name, Pattern, SlotId, UnaryOp, Unknown, Var,
 };
+pub use equality::same_call;
 use std::alloc::{AllocError, Global};
 use std::collections::BTreeMap;
 use std::rc::{Rc, RcStr};
@@ -126,7 +127,7 @@ impl Expr {
         self.source_loc.as_ref()
     }
 
-    /// The same expression at this place, or at no known place.
+    /// The same expression with this location, or with none.
     pub fn with_maybe_source_loc(self, source_loc: Option<Loc>) -> Expr
         ensures view { view result ≡ view self }
         ensures kind { expr_kind_of result ≡ expr_kind_of self }

@@ -53,7 +53,6 @@ fn put_new(
     part: Expr,
 ) -> Result<(), ExpressionConstructionError>
     ensures entries { OnOk result (fields.new.entries ≡ insert_entry key_order fields.old.entries key part) }
-    ensures fields { OnOk result (fields_view fields.new.entries ≡ put_field (fields_view fields.old.entries) (rc_str_bytes key) (view part)) }
     ensures keys { OnOk result (HasOneMore (keys_view fields.old.entries) (rc_str_bytes key) (keys_view fields.new.entries)) }
     ensures refused { IfErr result (IsRefusalOf (repeated_key (keys_view fields.old.entries) (rc_str_bytes key)) (codes "in record literal")) }
 {
