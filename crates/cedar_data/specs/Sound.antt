@@ -1,16 +1,16 @@
 -- Values as a program holds them: each set in one is in canonical order, and each representation is written without unknowns.
-use Rattle.std.specs.Prelude.{◌≡◌, ℕ, Bool, true, false, cond, not, ◌&&◌, ◌||◌, List, [], ◌∷◌, Option}
+use Rattle.std.specs.Prelude.{◌≡◌, ℕ, Bool, true, false, cond, not, ◌&&◌, ◌||◌, List, [], ◌∷◌, ◌++◌, Option, None, Some}
 use Rattle.std.specs.declared.cmp.Ordering.{Ordering}
 use Rattle.std.specs.declared.cmp.Ordering.TheVariants.{Less, Equal, Greater}
 use Rattle.std.specs.Ordering.{match_ordering}
-use Rattle.std.specs.Coded.{Coded, code_by, coded×, coded_ℕ, coded_option, ×_prop}
+use Rattle.std.specs.Coded.{Coded, code_by, coded×, coded_ℕ, coded_list, coded_option, ×_prop}
 use mathlib.Core.Bool.{Bool-set}
 use mathlib.Core.HLevel.{is_prop→PathP}
 use Rattle.std.proofs.Common.{refl, ap, ◌∙◌}
 use Rattle.cedar_model.specs.Terms.{Terms, no_terms}
-use Rattle.cedar_model.specs.Values.{Represented, plain_represented, set_represented, record_represented, extension_represented, RepresentedValues, no_represented, one_represented, RepresentedFields, no_represented_at, one_represented_at, abstract_value, expression_of, expressions_of, expressions_at}
+use Rattle.cedar_model.specs.Values.{AbstractValue, Represented, plain_represented, set_represented, record_represented, extension_represented, RepresentedValues, no_represented, one_represented, RepresentedFields, no_represented_at, one_represented_at, abstract_value, expression_of, expressions_of, expressions_at}
 use Rattle.cedar_model.specs.Shapes.{is_restricted, are_restricted, are_restricted_at, has_unknown, have_unknown, have_unknown_at}
-use Rattle.cedar_model.specs.Keys.{value_cmp}
+use Rattle.cedar_model.specs.Keys.{value_cmp, value_eq}
 use Rattle.cedar_model.specs.Codes.{represented_code, represented_values_code}
 use Rattle.cedar_model.specs.Sets.{represented_values_of, list_of_represented, insert_represented, insert_each, canonical_set, canonical_set-in_order, IsStrictlyInOrder, IsStrictlyInOrder-prop, IsStrictlyInOrder-canonical_set, IsCanonical, AreCanonical, AreCanonicalAt}
 use Rattle.std.specs.Rc.{rc_str_bytes}
@@ -34,15 +34,17 @@ abbrev mutual
   AreSoundAt no_represented_at = Unit {0}
   AreSoundAt (one_represented_at k v fs) = IsSound v × AreSoundAt fs
 
--- a value and where it stands
+-- a value and where it stands, and where the values inside it stand: of each element of a set or value of a record, in order, its own location and then those inside it
 pub record Placed : Type 0 where
   pub what : Represented
   pub loc : Option Loc
+  pub inside : List (Option Loc)
   pub sound : IsSound what
 
--- the elements of a set, in canonical order
+-- the elements of a set, in canonical order, and the same with their locations
 pub record Elements : Type 0 where
   pub all : RepresentedValues
+  pub members : List Placed
   pub in_order : IsStrictlyInOrder all
   pub sound : AreSound all
 
@@ -197,42 +199,42 @@ mutual
 
 -- ---- how the views are stored
 
-pub same_placed : (a b : Placed) → a.what ≡ b.what → a.loc ≡ b.loc → a ≡ b
-same_placed a b e f =
-    λ i. record { what = e i; loc = f i; sound = is_prop→PathP (λ j. IsSound (e j)) (λ j. IsSound-prop (e j)) a.sound b.sound i }
+pub same_placed : (a b : Placed) → a.what ≡ b.what → a.loc ≡ b.loc → a.inside ≡ b.inside → a ≡ b
+same_placed a b e f g =
+    λ i. record { what = e i; loc = f i; inside = g i; sound = is_prop→PathP (λ j. IsSound (e j)) (λ j. IsSound-prop (e j)) a.sound b.sound i }
 
-pub same_elements : (a b : Elements) → a.all ≡ b.all → a ≡ b
-same_elements a b e =
-    λ i. record { all = e i; in_order = is_prop→PathP (λ j. IsStrictlyInOrder (e j)) (λ j. IsStrictlyInOrder-prop (e j)) a.in_order b.in_order i; sound = is_prop→PathP (λ j. AreSound (e j)) (λ j. AreSound-prop (e j)) a.sound b.sound i }
+pub same_elements : (a b : Elements) → a.all ≡ b.all → a.members ≡ b.members → a ≡ b
+same_elements a b e f =
+    λ i. record { all = e i; members = f i; in_order = is_prop→PathP (λ j. IsStrictlyInOrder (e j)) (λ j. IsStrictlyInOrder-prop (e j)) a.in_order b.in_order i; sound = is_prop→PathP (λ j. AreSound (e j)) (λ j. AreSound-prop (e j)) a.sound b.sound i }
 
 abbrev pub loc_code : Coded Loc
 loc_code = code_by (ℕ × ℕ) (coded× coded_ℕ coded_ℕ) (λ l. (l.start, l.end)) (λ p. record { start = p.0; end = p.1 }) (λ _. refl)
 
-abbrev pub settled : Represented → Option Loc → Placed
-settled v loc = record { what = settle v; loc = loc; sound = IsSound-settle v }
+abbrev pub settled : Represented → Option Loc → List (Option Loc) → Placed
+settled v loc inside = record { what = settle v; loc = loc; inside = inside; sound = IsSound-settle v }
 
-pub settled-placed : (p : Placed) → settled p.what p.loc ≡ p
-settled-placed p = same_placed (settled p.what p.loc) p (settle-sound p.what p.sound) refl
+pub settled-placed : (p : Placed) → settled p.what p.loc p.inside ≡ p
+settled-placed p = same_placed (settled p.what p.loc p.inside) p (settle-sound p.what p.sound) refl refl
 
 abbrev pub placed_code : Coded Placed
 placed_code =
-    code_by (Represented × Option Loc) (coded× represented_code (coded_option loc_code)) (λ p. (p.what, p.loc)) (λ q. settled q.0 q.1) settled-placed
+    code_by (Represented × (Option Loc × List (Option Loc))) (coded× represented_code (coded× (coded_option loc_code) (coded_list (coded_option loc_code)))) (λ p. (p.what, (p.loc, p.inside))) (λ q. settled q.0 q.1.0 q.1.1) settled-placed
 
--- the set of a list of sound values
-abbrev pub elements_of : (vs : List Represented) → AreSound (represented_values_of vs) → Elements
-elements_of vs h =
-    record { all = canonical_set vs; in_order = IsStrictlyInOrder-canonical_set vs; sound = AreSound-canonical_set vs h }
+-- the set of a list of sound values, with these members
+abbrev pub elements_of : (vs : List Represented) → AreSound (represented_values_of vs) → List Placed → Elements
+elements_of vs h ps =
+    record { all = canonical_set vs; members = ps; in_order = IsStrictlyInOrder-canonical_set vs; sound = AreSound-canonical_set vs h }
 
-abbrev pub settled_elements : RepresentedValues → Elements
-settled_elements vs = elements_of (settle_each vs) (AreSound-settle_each vs)
+abbrev pub settled_elements : RepresentedValues → List Placed → Elements
+settled_elements vs ps = elements_of (settle_each vs) (AreSound-settle_each vs) ps
 
-pub settled_elements-elements : (s : Elements) → settled_elements s.all ≡ s
+pub settled_elements-elements : (s : Elements) → settled_elements s.all s.members ≡ s
 settled_elements-elements s =
-    same_elements (settled_elements s.all) s (ap canonical_set (settle_each-sound s.all s.sound) ∙ canonical_set-in_order s.all s.in_order)
+    same_elements (settled_elements s.all s.members) s (ap canonical_set (settle_each-sound s.all s.sound) ∙ canonical_set-in_order s.all s.in_order) refl
 
 abbrev pub elements_code : Coded Elements
 elements_code =
-    code_by RepresentedValues represented_values_code (λ s. s.all) settled_elements settled_elements-elements
+    code_by (RepresentedValues × List Placed) (coded× represented_values_code (coded_list placed_code)) (λ s. (s.all, s.members)) (λ q. settled_elements q.0 q.1) settled_elements-elements
 
 -- ---- lists of values
 
@@ -247,7 +249,12 @@ AreSound-whats (p ∷ ps) = (p.sound, AreSound-whats ps)
 
 -- the set of a list of values
 abbrev pub elements_seen : List Placed → Elements
-elements_seen ps = elements_of (whats ps) (AreSound-whats ps)
+elements_seen ps = elements_of (whats ps) (AreSound-whats ps) ps
+
+-- where the values of a list stand, and those inside each
+abbrev pub inside_each : List Placed → List (Option Loc)
+inside_each [] = []
+inside_each (p ∷ ps) = p.loc ∷ p.inside ++ inside_each ps
 
 -- the values under their keys, in order
 abbrev pub whats_at : List (RcStr Global × Placed) → RepresentedFields
@@ -257,3 +264,28 @@ whats_at (f ∷ fs) = one_represented_at (rc_str_bytes f.0) f.1.what (whats_at f
 pub AreSoundAt-whats_at : (fs : List (RcStr Global × Placed)) → AreSoundAt (whats_at fs)
 AreSoundAt-whats_at [] = tt
 AreSoundAt-whats_at (f ∷ fs) = (f.1.sound, AreSoundAt-whats_at fs)
+
+-- where they stand, and those inside each
+abbrev pub inside_at : List (RcStr Global × Placed) → List (Option Loc)
+inside_at [] = []
+inside_at (f ∷ fs) = f.1.loc ∷ f.1.inside ++ inside_at fs
+
+-- ---- the first of equal values, with its location and those inside it
+
+-- the first of the values that equals this one
+abbrev pub first_equal : AbstractValue → List Placed → Option Placed
+first_equal a [] = None
+first_equal a (p ∷ ps) = cond (value_eq a (abstract_value p.what)) (Some p) (first_equal a ps)
+
+abbrev pub in_front : Option Placed → List Placed → List Placed
+in_front None ps = ps
+in_front (Some p) ps = p ∷ ps
+
+-- of each element of a set the first of the values that equals it
+abbrev pub each_first : List Placed → RepresentedValues → List Placed
+each_first ps no_represented = []
+each_first ps (one_represented v vs) = in_front (first_equal (abstract_value v) ps) (each_first ps vs)
+
+-- of each element of the set of the values the first of them that equals it
+abbrev pub firsts : List Placed → List Placed
+firsts ps = each_first ps (canonical_set (whats ps))

@@ -5,6 +5,7 @@ ghost use Rattle.cedar_expressions.specs.View.{terms_view};
 ghost use mathlib.Core.Bool.{Bool-set};
 
 use cedar_expressions::Expr;
+use cedar_expressions::shared::same_call;
 use cedar_names::Name;
 use std::alloc::AllocError;
 use std::cmp::Ordering;
@@ -23,8 +24,11 @@ pub struct Representation {
 /// An extension value: its type, how it is written, and its key.
 #[derive(Debug, Drop)]
 pub struct ExtensionValue {
+    /// The name of its type.
     pub typename: Name,
+    /// How it is written.
     pub representation: Representation,
+    /// What tells it apart from the others of its type, and orders them: by bytes.
     pub key: Vec<u8>,
 }
 
@@ -71,6 +75,29 @@ impl Clone for Representation {
             args: self.args.clone()?,
         })
     }
+}
+
+impl PartialEq for Representation {
+    ghost use Rattle.std.specs.Cmp.{on_per, partial_equiv_from_equiv};
+    ghost use Rattle.cedar_names.specs.Equality.{term_eq};
+    ghost use Rattle.cedar_names.specs.EqualityLaws.{term_eq-equivalence};
+    ghost use Rattle.cedar_data.specs.Representations.{representation_term};
+
+    ghost eq = { λ a b. term_eq (representation_term a) (representation_term b) };
+
+    ghost laws = { on_per representation_term (partial_equiv_from_equiv term_eq-equivalence) };
+
+    fn eq(&self, other: &Representation) -> bool {
+        same_call(&self.fn_name, &self.args, &other.fn_name, &other.args)
+    }
+}
+
+impl Eq for Representation {
+    ghost use Rattle.std.specs.Cmp.{on_equiv};
+    ghost use Rattle.cedar_names.specs.EqualityLaws.{term_eq-equivalence};
+    ghost use Rattle.cedar_data.specs.Representations.{representation_term};
+
+    ghost laws = { on_equiv representation_term term_eq-equivalence };
 }
 
 impl Clone for ExtensionValue {

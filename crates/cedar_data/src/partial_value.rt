@@ -50,7 +50,7 @@ impl ResidualExpr {
         self.expr
     }
 
-    /// The same residual at this place, or at no known place.
+    /// The same residual with this location, or with none.
     pub fn with_maybe_source_loc(self, loc: Option<Loc>) -> ResidualExpr
         ensures view { residual_term result ≡ residual_term self }
         ensures loc { residual_loc result ≡ loc }
@@ -87,7 +87,7 @@ impl PartialValue {
     ghost use Rattle.cedar_expressions.specs.View.{expr_loc};
     ghost use Rattle.cedar_data.specs.Residuals.{partial_view, partial_loc, partial_term};
 
-    /// The same value or residual at this place, or at no known place.
+    /// The same value or residual with this location, or with none.
     pub fn with_maybe_source_loc(self, loc: Option<Loc>) -> PartialValue
         ensures view { partial_view result ≡ partial_view self }
         ensures loc { partial_loc result ≡ loc }
@@ -100,7 +100,7 @@ impl PartialValue {
         }
     }
 
-    /// The expression of the value, or the residual, at its place. Refuses only for want of memory.
+    /// The expression of the value, or the residual, with its location. Refuses only for want of memory.
     pub fn as_expr(&self, alloc: Global) -> Result<Expr, AllocError>
         ensures view { IfOk result (λ e. view e ≡ partial_term (partial_view self.now)) }
         ensures loc { IfOk result (λ e. expr_loc e ≡ partial_loc self.now) }

@@ -18,7 +18,9 @@ use std::rc::{Rc, RcStr};
 #[cycle(value)]
 #[derive(Debug, Drop)]
 pub struct Value {
+    /// Its kind, with its parts.
     pub value: ValueKind,
+    /// Its location.
     pub loc: Option<Loc>,
 }
 
@@ -89,21 +91,23 @@ impl Value {
     ghost use Rattle.cedar_model.specs.Values.{abstract_value, set_represented, record_represented};
     ghost use Rattle.cedar_model.specs.Sets.{canonical_set};
     ghost use Rattle.cedar_names.specs.Leaves.{type_view};
-    ghost use Rattle.cedar_data.specs.Sound.{whats, whats_at};
-    ghost use Rattle.cedar_data.specs.Kinds.{kind_what};
+    ghost use Rattle.cedar_data.specs.Sound.{whats, whats_at, firsts, inside_each, inside_at};
+    ghost use Rattle.cedar_data.specs.Kinds.{kind_what, kind_inside};
     ghost use Rattle.cedar_model.specs.Outcomes.{value_type};
 
-    /// The value of this kind at this place, or at no known place.
+    /// The value of this kind with this location, or with none.
     pub fn new(value: ValueKind, loc: Option<Loc>) -> Value
         ensures what { result.what ≡ kind_what value }
+        ensures inside { result.inside ≡ kind_inside value }
         ensures loc { result.loc ≡ loc }
     {
         Value { value, loc }
     }
 
-    /// The set of these values, in the order of values, each once: where two are equal, the first stays. Refuses only for want of memory.
+    /// The set of these values, in the order of values, each once: where two are equal, the first stays, with its representation and its location. Refuses only for want of memory.
     pub fn set(alloc: Global, elements: Vec<Value>, loc: Option<Loc>) -> Result<Value, AllocError>
         ensures what { IfOk result (λ v. v.what ≡ set_represented (canonical_set (whats elements.items))) }
+        ensures inside { IfOk result (λ v. v.inside ≡ inside_each (firsts elements.items)) }
         ensures loc { IfOk result (λ v. v.loc ≡ loc) }
     {
         let set = Set::new(alloc, elements)?;
@@ -117,6 +121,7 @@ impl Value {
         loc: Option<Loc>,
     ) -> Result<Value, AllocError>
         ensures what { IfOk result (λ v. v.what ≡ record_represented (whats_at pairs.entries)) }
+        ensures inside { IfOk result (λ v. v.inside ≡ inside_at pairs.entries) }
         ensures loc { IfOk result (λ v. v.loc ≡ loc) }
     {
         let pairs = Rc::new(alloc, pairs)?;
@@ -125,7 +130,8 @@ impl Value {
 
     /// The kind of the value, with its parts.
     pub fn value_kind(&self) -> &ValueKind
-        ensures { kind_what result.now ≡ self.now.what }
+        ensures what { kind_what result.now ≡ self.now.what }
+        ensures inside { kind_inside result.now ≡ self.now.inside }
     {
         &self.value
     }
@@ -137,9 +143,10 @@ impl Value {
         self.loc.as_ref()
     }
 
-    /// The same value at this place, or at no known place.
+    /// The same value with this location, or with none.
     pub fn with_maybe_source_loc(self, loc: Option<Loc>) -> Value
         ensures what { result.what ≡ self.what }
+        ensures inside { result.inside ≡ self.inside }
         ensures loc { result.loc ≡ loc }
     {
         Value {
@@ -202,9 +209,9 @@ impl Clone for Value {
 
 impl Clone for ValueKind {
     ghost use Rattle.std.specs.Prelude.{◌≡◌};
-    ghost use Rattle.cedar_data.specs.Kinds.{kind_what};
+    ghost use Rattle.cedar_data.specs.Kinds.{kind_what, kind_inside};
 
-    ghost is_clone = { λ k copy. kind_what copy ≡ kind_what k };
+    ghost is_clone = { λ k copy. (kind_what copy ≡ kind_what k) × (kind_inside copy ≡ kind_inside k) };
 
     fn clone(&self) -> Result<ValueKind, AllocError> {
         match self {

@@ -1,4 +1,5 @@
 pub mod Levels
+pub mod NodeLevels
 pub mod Loops
 pub mod Equality
 pub mod Unlike

@@ -18,7 +18,8 @@ use Rattle.cedar_expressions.specs.View.{view, fields_view}
 use Rattle.cedar_expressions.specs.declared.errors.ExpressionConstructionError.{ExpressionConstructionError}
 use Rattle.cedar_expressions.specs.declared.errors.ExpressionConstructionError.TheVariants.{DuplicateKey, Memory}
 use Rattle.cedar_expressions.specs.Errors.{IsRefusalOf}
-use Rattle.cedar_expressions.specs.Records.{is_among, first_again, repeated_key, put_field, keys_view}
+use Rattle.cedar_expressions.specs.Records.{is_among, first_again, repeated_key, put_field, put_fields, fields_in_order, pairs_view, keys_view}
+use Rattle.cedar_expressions.specs.Nodes.{key_order, with_entries, entries_in_order}
 
 -- `==` of texts, by their order
 text_eq-order : (k l : Text) → is_eq (slice_cmp nat_cmp k l) ≡ text_eq k l
@@ -29,7 +30,7 @@ abbrev pub Pairs : Type 0
 Pairs = List (RcStr Global × Expr)
 
 abbrev pub order : RcStr Global → RcStr Global → Ordering
-order a b = slice_cmp nat_cmp (rc_str_bytes a) (rc_str_bytes b)
+order = key_order
 
 -- a map with one more entry has the fields with one more
 pub put_field-entries : (es : Pairs) (k : RcStr Global) (e : Expr) → fields_view (insert_entry order es k e) ≡ put_field (fields_view es) (rc_str_bytes k) (view e)
@@ -40,6 +41,15 @@ put_field-entries (p ∷ es) k e = at_order (order k p.0) (put_field-entries es 
     at_order Less rest = refl
     at_order Equal rest = refl
     at_order Greater rest = ap (one_field (rc_str_bytes p.0) (view p.1)) rest
+
+-- entries that are put in one after the other have the fields that are
+pub put_fields-with_entries : (es ps : Pairs) → fields_view (with_entries es ps) ≡ put_fields (fields_view es) (pairs_view ps)
+put_fields-with_entries es [] = refl
+put_fields-with_entries es (p ∷ ps) =
+    put_fields-with_entries (insert_entry order es p.0 p.1) ps ∙ ap (λ fs. put_fields fs (pairs_view ps)) (put_field-entries es p.0 p.1)
+
+pub fields_in_order-entries : (ps : Pairs) → fields_view (entries_in_order ps) ≡ fields_in_order (pairs_view ps)
+fields_in_order-entries ps = put_fields-with_entries [] ps
 
 -- whether a map has a key
 pub has_key : (es : Pairs) (k : RcStr Global) → is_some (lookup (is_at (order k)) es) ≡ is_among (rc_str_bytes k) (keys_view es)
@@ -97,4 +107,4 @@ refusal_again seen k more place (DuplicateKey key context) h =
     at_test false rest q = absurd (cc)
 refusal_again seen k more place (Memory error) h = h
 
-pub ruleset steps = (repeated-here, refusal_again)
+pub ruleset steps = (repeated-here, refusal_again, fields_in_order-entries)

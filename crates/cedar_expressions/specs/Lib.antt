@@ -1,4 +1,5 @@
 pub mod View
+pub mod Nodes
 pub mod Errors
 pub mod Records
 pub mod Mappings

@@ -14,7 +14,7 @@ pub enum ExpressionConstructionError {
     /// A key comes more than once. It is the first that comes again.
     #[error("duplicate key `{key}` {context}")]
     DuplicateKey { key: RcStr, context: &'static str },
-    /// There was no memory left.
+    /// Want of memory.
     #[error("out of memory")]
     Memory(AllocError),
 }

@@ -1,4 +1,4 @@
-#![tactic(auto, using(crate::proofs::Levels::levels))]
+#![tactic(auto, using(crate::proofs::Levels::levels, crate::proofs::NodeLevels::nodes))]
 //! Expressions.
 ghost use Rattle.std.specs.Prelude.{◌≡◌, IfOk};
 
@@ -13,6 +13,7 @@ mod substitution;
 use cedar_names::{
     BinaryOp, EntityType, FirstRest, Literal, Loc, Name, Pattern, SlotId, UnaryOp, Unknown, Var,
 };
+pub use equality::same_call;
 use std::alloc::{AllocError, Global};
 use std::collections::BTreeMap;
 use std::rc::{Rc, RcStr};
@@ -108,6 +109,8 @@ impl Expr {
     ghost use Rattle.cedar_names.specs.Names.{name_text, type_text};
     ghost use Rattle.cedar_names.specs.Leaves.{slot_view, variable_view, unary_view, binary_view, pattern_view, type_view, literal_view, texts_view};
     ghost use Rattle.cedar_expressions.specs.View.{view, kind_view, expr_loc, expr_kind_of, terms_view};
+    ghost use Rattle.cedar_expressions.specs.Nodes.{node_of};
+    ghost use Rattle.cedar_expressions.specs.Nodes as node;
 
     /// The kind of the expression, with its parts.
     pub fn expr_kind(&self) -> &ExprKind
@@ -124,7 +127,7 @@ impl Expr {
         self.source_loc.as_ref()
     }
 
-    /// The same expression at this place, or at no known place.
+    /// The same expression with this location, or with none.
     pub fn with_maybe_source_loc(self, source_loc: Option<Loc>) -> Expr
         ensures view { view result ≡ view self }
         ensures kind { expr_kind_of result ≡ expr_kind_of self }
@@ -139,6 +142,7 @@ impl Expr {
     /// A literal.
     pub fn val(value: Literal) -> Expr
         ensures view { view result ≡ literal (literal_view value) }
+        ensures kind { node_of result ≡ node.Lit value }
         ensures loc { expr_loc result ≡ None }
     {
         Expr::of_kind(ExprKind::Lit(value))
@@ -147,6 +151,7 @@ impl Expr {
     /// A variable of the request.
     pub fn var(var: Var) -> Expr
         ensures view { view result ≡ variable (variable_view var) }
+        ensures kind { node_of result ≡ node.Var var }
         ensures loc { expr_loc result ≡ None }
     {
         Expr::of_kind(ExprKind::Var(var))
@@ -155,6 +160,7 @@ impl Expr {
     /// A slot of a template.
     pub fn slot(slot_id: SlotId) -> Expr
         ensures view { view result ≡ slot (slot_view slot_id) }
+        ensures kind { node_of result ≡ node.Slot slot_id }
         ensures loc { expr_loc result ≡ None }
     {
         Expr::of_kind(ExprKind::Slot(slot_id))
@@ -163,6 +169,7 @@ impl Expr {
     /// A value that is not known yet.
     pub fn unknown(value: Unknown) -> Expr
         ensures view { view result ≡ unknown (rc_str_bytes value.name) (option_map type_view value.type_annotation) }
+        ensures kind { node_of result ≡ node.Unknown value }
         ensures loc { expr_loc result ≡ None }
     {
         Expr::of_kind(ExprKind::Unknown(value))
@@ -176,6 +183,7 @@ impl Expr {
         else_expr: Expr,
     ) -> Result<Expr, AllocError>
         ensures view { IfOk result (λ e. view e ≡ if_then_else (view test_expr) (view then_expr) (view else_expr)) }
+        ensures kind { IfOk result (λ e. node_of e ≡ node.If test_expr then_expr else_expr) }
         ensures loc { IfOk result (λ e. expr_loc e ≡ None) }
     {
         let (then_expr, else_expr) = shared_pair(alloc, then_expr, else_expr)?;
@@ -190,6 +198,7 @@ impl Expr {
     /// `left && right`. Refuses only for want of memory.
     pub fn and(alloc: Global, left: Expr, right: Expr) -> Result<Expr, AllocError>
         ensures view { IfOk result (λ e. view e ≡ both (view left) (view right)) }
+        ensures kind { IfOk result (λ e. node_of e ≡ node.And left right) }
         ensures loc { IfOk result (λ e. expr_loc e ≡ None) }
     {
         let (left, right) = shared_pair(alloc, left, right)?;
@@ -199,6 +208,7 @@ impl Expr {
     /// `left || right`. Refuses only for want of memory.
     pub fn or(alloc: Global, left: Expr, right: Expr) -> Result<Expr, AllocError>
         ensures view { IfOk result (λ e. view e ≡ either (view left) (view right)) }
+        ensures kind { IfOk result (λ e. node_of e ≡ node.Or left right) }
         ensures loc { IfOk result (λ e. expr_loc e ≡ None) }
     {
         let (left, right) = shared_pair(alloc, left, right)?;
@@ -208,6 +218,7 @@ impl Expr {
     /// An operator on one part. Refuses only for want of memory.
     pub fn unary_app(alloc: Global, op: UnaryOp, arg: Expr) -> Result<Expr, AllocError>
         ensures view { IfOk result (λ e. view e ≡ unary (unary_view op) (view arg)) }
+        ensures kind { IfOk result (λ e. node_of e ≡ node.UnaryApp op arg) }
         ensures loc { IfOk result (λ e. expr_loc e ≡ None) }
     {
         let arg = Rc::new(alloc, arg)?;
@@ -222,6 +233,7 @@ impl Expr {
         arg2: Expr,
     ) -> Result<Expr, AllocError>
         ensures view { IfOk result (λ e. view e ≡ binary (binary_view op) (view arg1) (view arg2)) }
+        ensures kind { IfOk result (λ e. node_of e ≡ node.BinaryApp op arg1 arg2) }
         ensures loc { IfOk result (λ e. expr_loc e ≡ None) }
     {
         let (arg1, arg2) = shared_pair(alloc, arg1, arg2)?;
@@ -235,6 +247,7 @@ impl Expr {
         args: Vec<Expr>,
     ) -> Result<Expr, AllocError>
         ensures view { IfOk result (λ e. view e ≡ call (name_text fn_name) (terms_view args.items)) }
+        ensures kind { IfOk result (λ e. node_of e ≡ node.ExtensionFunctionApp fn_name args.items) }
         ensures loc { IfOk result (λ e. expr_loc e ≡ None) }
     {
         let args = Rc::new(alloc, args)?;
@@ -244,6 +257,7 @@ impl Expr {
     /// `expr.attr`, of a record or an entity. Refuses only for want of memory.
     pub fn get_attr(alloc: Global, expr: Expr, attr: RcStr) -> Result<Expr, AllocError>
         ensures view { IfOk result (λ e. view e ≡ get_attribute (view expr) (rc_str_bytes attr)) }
+        ensures kind { IfOk result (λ e. node_of e ≡ node.GetAttr expr attr) }
         ensures loc { IfOk result (λ e. expr_loc e ≡ None) }
     {
         let expr = Rc::new(alloc, expr)?;
@@ -253,6 +267,7 @@ impl Expr {
     /// `expr has attr`, of a record or an entity. Refuses only for want of memory.
     pub fn has_attr(alloc: Global, expr: Expr, attr: RcStr) -> Result<Expr, AllocError>
         ensures view { IfOk result (λ e. view e ≡ has_attribute (view expr) (rc_str_bytes attr)) }
+        ensures kind { IfOk result (λ e. node_of e ≡ node.HasAttr expr attr) }
         ensures loc { IfOk result (λ e. expr_loc e ≡ None) }
     {
         let expr = Rc::new(alloc, expr)?;
@@ -266,6 +281,7 @@ impl Expr {
         attrs: FirstRest<RcStr>,
     ) -> Result<Expr, AllocError>
         ensures view { IfOk result (λ e. view e ≡ extended_has (view expr) (rc_str_bytes attrs.first) (texts_view attrs.rest.items)) }
+        ensures kind { IfOk result (λ e. node_of e ≡ node.ExtHasAttr expr attrs) }
         ensures loc { IfOk result (λ e. expr_loc e ≡ None) }
     {
         let expr = Rc::new(alloc, expr)?;
@@ -276,6 +292,7 @@ impl Expr {
     /// `expr like pattern`, of a text. Refuses only for want of memory.
     pub fn like(alloc: Global, expr: Expr, pattern: Pattern) -> Result<Expr, AllocError>
         ensures view { IfOk result (λ e. view e ≡ like (view expr) (pattern_view pattern)) }
+        ensures kind { IfOk result (λ e. node_of e ≡ node.Like expr pattern) }
         ensures loc { IfOk result (λ e. expr_loc e ≡ None) }
     {
         let expr = Rc::new(alloc, expr)?;
@@ -289,6 +306,7 @@ impl Expr {
         entity_type: EntityType,
     ) -> Result<Expr, AllocError>
         ensures view { IfOk result (λ e. view e ≡ is_of_type (view expr) (type_text entity_type)) }
+        ensures kind { IfOk result (λ e. node_of e ≡ node.Is expr entity_type) }
         ensures loc { IfOk result (λ e. expr_loc e ≡ None) }
     {
         let expr = Rc::new(alloc, expr)?;
@@ -298,6 +316,7 @@ impl Expr {
     /// A set of these parts, in this order. Refuses only for want of memory.
     pub fn set(alloc: Global, parts: Vec<Expr>) -> Result<Expr, AllocError>
         ensures view { IfOk result (λ e. view e ≡ set_of (terms_view parts.items)) }
+        ensures kind { IfOk result (λ e. node_of e ≡ node.Set parts.items) }
         ensures loc { IfOk result (λ e. expr_loc e ≡ None) }
     {
         let parts = Rc::new(alloc, parts)?;

@@ -15,77 +15,77 @@ use crate::types::{Literal, Type};
 use std::hash::{Hash, Hasher};
 use std::rc::RcStr;
 
-/// Feeds a text to the hasher; places change nothing.
+/// Feeds a text to the hasher; locations change nothing.
 pub fn feed_text<H: Hasher>(text: &RcStr, state: &mut H)
     ensures { state.new ≡ fold H.write state.old (fed.str (rc_str_bytes text.now)) }
 {
     text.hash(state);
 }
 
-/// Feeds a name to the hasher; places change nothing.
+/// Feeds a name to the hasher; locations change nothing.
 pub fn feed_name<H: Hasher>(name: &Name, state: &mut H)
     ensures { state.new ≡ fold H.write state.old (fed.str (name_text name.now)) }
 {
     name.hash(state);
 }
 
-/// Feeds an entity type to the hasher; places change nothing.
+/// Feeds an entity type to the hasher; locations change nothing.
 pub fn feed_type<H: Hasher>(ty: &EntityType, state: &mut H)
     ensures { state.new ≡ fold H.write state.old (fed.str (type_text ty.now)) }
 {
     ty.hash(state);
 }
 
-/// Feeds a literal to the hasher; places change nothing.
+/// Feeds a literal to the hasher; locations change nothing.
 pub fn feed_literal<H: Hasher>(literal: &Literal, state: &mut H)
     ensures { state.new ≡ fold H.write state.old (fed_literal (literal_view literal.now)) }
 {
     literal.hash(state);
 }
 
-/// Feeds a variable to the hasher; places change nothing.
+/// Feeds a variable to the hasher; locations change nothing.
 pub fn feed_variable<H: Hasher>(variable: Var, state: &mut H)
     ensures { state.new ≡ fold H.write state.old (fed.isize (pos (variable_number (variable_view variable)))) }
 {
     variable.hash(state);
 }
 
-/// Feeds a slot to the hasher; places change nothing.
+/// Feeds a slot to the hasher; locations change nothing.
 pub fn feed_slot<H: Hasher>(slot: SlotId, state: &mut H)
     ensures { state.new ≡ fold H.write state.old (fed.isize (pos (slot_number (slot_view slot)))) }
 {
     slot.hash(state);
 }
 
-/// Feeds an operator on one part to the hasher; places change nothing.
+/// Feeds an operator on one part to the hasher; locations change nothing.
 pub fn feed_unary<H: Hasher>(op: UnaryOp, state: &mut H)
     ensures { state.new ≡ fold H.write state.old (fed.isize (pos (unary_number (unary_view op)))) }
 {
     op.hash(state);
 }
 
-/// Feeds an operator on two parts to the hasher; places change nothing.
+/// Feeds an operator on two parts to the hasher; locations change nothing.
 pub fn feed_binary<H: Hasher>(op: BinaryOp, state: &mut H)
     ensures { state.new ≡ fold H.write state.old (fed.isize (pos (binary_number (binary_view op)))) }
 {
     op.hash(state);
 }
 
-/// Feeds an annotation to the hasher; places change nothing.
+/// Feeds an annotation to the hasher; locations change nothing.
 pub fn feed_annotation<H: Hasher>(annotation: &Option<Type>, state: &mut H)
     ensures { state.new ≡ fold H.write state.old (fed_annotation (option_map type_view annotation.now)) }
 {
     annotation.hash(state);
 }
 
-/// Feeds a list of texts to the hasher; places change nothing.
+/// Feeds a list of texts to the hasher; locations change nothing.
 pub fn feed_texts<H: Hasher>(texts: &Vec<RcStr>, state: &mut H)
     ensures { state.new ≡ fold H.write state.old (fed_texts (texts_view texts.now.items)) }
 {
     texts.hash(state);
 }
 
-/// Feeds a pattern to the hasher; places change nothing.
+/// Feeds a pattern to the hasher; locations change nothing.
 pub fn feed_pattern<H: Hasher>(pattern: &Pattern, state: &mut H)
     ensures { state.new ≡ fold H.write state.old (fed_pattern (pattern_view pattern.now)) }
 {

@@ -9,10 +9,12 @@ mod texts;
 use std::collections::HashMap;
 use std::rc::RcStr;
 
-/// A place in a source text: from the byte `start` up to, but not including, the byte `end`.
+/// A location in a source text: from the byte `start` up to, but not including, the byte `end`.
 #[derive(Clone, Copy, Debug, PartialEq, Eq, Hash)]
 pub struct Loc {
+    /// The first byte.
     pub start: usize,
+    /// The byte behind the last.
     pub end: usize,
 }
 
@@ -26,7 +28,7 @@ pub struct Name {
 }
 
 impl Name {
-    /// The name of this text, unchecked, at this place.
+    /// The name of this text, unchecked, with this location or none.
     pub fn new(text: RcStr, loc: Option<Loc>) -> Name
         ensures text { name_text result ≡ rc_str_bytes text }
         ensures loc { name_loc result ≡ loc }
@@ -66,7 +68,7 @@ pub struct EntityUID {
 }
 
 impl EntityUID {
-    /// The entity of this type with this id, named at this place.
+    /// The entity of this type with this id, named at this location or at none that is known.
     pub fn new(ty: EntityType, eid: RcStr, loc: Option<Loc>) -> EntityUID
         ensures name { uid_name result ≡ record { type_name = type_text ty; id = rc_str_bytes eid } }
         ensures loc { uid_loc result ≡ loc }
@@ -92,7 +94,9 @@ impl EntityUID {
 /// A slot of a template.
 #[derive(Clone, Copy, Debug, PartialEq, Eq, Hash)]
 pub enum SlotId {
+    /// `?principal`
     Principal,
+    /// `?resource`
     Resource,
 }
 
@@ -102,15 +106,21 @@ pub type SlotEnv = HashMap<SlotId, EntityUID>;
 /// A variable of the request.
 #[derive(Clone, Copy, Debug, PartialEq, Eq, Hash)]
 pub enum Var {
+    /// Who asks: `principal`.
     Principal,
+    /// What is to be done: `action`.
     Action,
+    /// To what it is to be done: `resource`.
     Resource,
+    /// What else is known of the request: `context`.
     Context,
 }
 
 /// How a function is written at a call: `f(x)` or `x.f()`.
 #[derive(Clone, Copy, Debug, PartialEq, Eq, Hash)]
 pub enum CallStyle {
+    /// `f(x)`
     FunctionStyle,
+    /// `x.f()`
     MethodStyle,
 }

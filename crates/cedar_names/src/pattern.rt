@@ -9,7 +9,9 @@ use std::alloc::AllocError;
 /// A part of a pattern: a character that stands for itself, or any run of characters.
 #[derive(Clone, Copy, Debug, PartialEq, Eq, Hash)]
 pub enum PatternElem {
+    /// A character, which matches itself.
     Char(char),
+    /// `*`, which matches any run of characters, the empty one too.
     Wildcard,
 }
 

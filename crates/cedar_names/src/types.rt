@@ -7,28 +7,41 @@ use std::rc::{Rc, RcStr};
 /// The type of a value.
 #[derive(Clone, Debug, PartialEq, Eq, Hash, Drop)]
 pub enum Type {
+    /// A boolean.
     Bool,
+    /// A whole number of 64 bits.
     Long,
+    /// A text.
     String,
+    /// A set of values of any types.
     Set,
+    /// A record.
     Record,
+    /// An entity of this type.
     Entity { ty: EntityType },
+    /// A value of the extension type of this name.
     Extension { name: Name },
 }
 
 /// A literal of the language.
 #[derive(Clone, Debug, PartialEq, Eq, Hash, Drop)]
 pub enum Literal {
+    /// `true` or `false`.
     Bool(bool),
+    /// A whole number of 64 bits.
     Long(i64),
+    /// A text.
     String(RcStr),
+    /// The name of an entity.
     EntityUID(Rc<EntityUID>),
 }
 
 /// A value that is not known yet: its name, and its type where that is known.
 #[derive(Clone, Debug, PartialEq, Eq, Hash, Drop)]
 pub struct Unknown {
+    /// The name by which its value can be given later.
     pub name: RcStr,
+    /// The type that its value must have, if that is known.
     pub type_annotation: Option<Type>,
 }
 
@@ -59,6 +72,8 @@ impl Unknown {
 /// A list that is not empty: its first element and the others.
 #[derive(Clone, Debug, PartialEq, Eq, Hash, Drop)]
 pub struct FirstRest<T> {
+    /// The first element.
     pub first: T,
+    /// The others, in order.
     pub rest: Vec<T>,
 }

@@ -1,4 +1,4 @@
-//! Equality of residuals and of partial values, which ignores places.
+//! Equality of residuals and of partial values, which ignores locations.
 ghost use Rattle.std.specs.Cmp.{on_equiv, on_per, partial_equiv_from_equiv};
 ghost use Rattle.cedar_names.specs.Equality.{term_eq};
 ghost use Rattle.cedar_names.specs.EqualityLaws.{term_eq-equivalence};

@@ -1,9 +1,10 @@
 //! Sets of values.
-ghost use Rattle.std.specs.Prelude.{◌≡◌, IfOk, not};
+ghost use Rattle.std.specs.Prelude.{◌≡◌, ◌^◌, ◌<◌, IfOk, not, length};
 ghost use Rattle.std.specs.Slice.Iter.{iter_rest};
+ghost use Rattle.std.specs.Iterator.Adapters.{IterYieldsInOrder};
 ghost use Rattle.cedar_model.specs.Values.{abstract_value, abstract_values};
 ghost use Rattle.cedar_model.specs.Sets.{represented_values_of, canonical_set, has_value};
-ghost use Rattle.cedar_data.specs.Sound.{whats};
+ghost use Rattle.cedar_data.specs.Sound.{Placed, whats, firsts};
 ghost use Rattle.cedar_model.specs.Meaning.{is_empty, has_each, has_some};
 ghost use Rattle.cedar_data.specs.Members.{values_count};
 
@@ -13,9 +14,10 @@ use std::rc::Rc;
 use std::slice::Iter;
 
 impl Set {
-    /// The set of these values, in the order of values, each once: where two are equal, the first stays. Refuses only for want of memory.
+    /// The set of these values, in the order of values, each once: where two are equal, the first stays, with its representation and its location. Refuses only for want of memory.
     pub fn new(alloc: Global, mut elements: Vec<Value>) -> Result<Set, AllocError>
-        ensures { IfOk result (λ s. s.all ≡ canonical_set (whats elements.items)) }
+        ensures all { IfOk result (λ s. s.all ≡ canonical_set (whats elements.items)) }
+        ensures members { IfOk result (λ s. s.members ≡ firsts elements.items) }
     {
         elements.sort()?;
         elements.dedup();
@@ -26,7 +28,8 @@ impl Set {
 
     /// The elements in the order of values, each once.
     pub fn as_slice(&self) -> &[Value]
-        ensures { represented_values_of (whats result.now) ≡ self.now.all }
+        ensures all { represented_values_of (whats result.now) ≡ self.now.all }
+        ensures members { result.now ≡ self.now.members }
     {
         self.elements.as_slice()
     }
@@ -80,8 +83,23 @@ impl Set {
 
     /// The elements one by one, in the order of values, each once.
     pub fn iter(&self) -> Iter<'_, Value>
-        ensures { represented_values_of (whats (iter_rest result)) ≡ self.now.all }
+        ensures all { represented_values_of (whats (iter_rest result)) ≡ self.now.all }
+        ensures members { iter_rest result ≡ self.now.members }
+        ensures bound { length (iter_rest result) < 2 ^ 64 }
+        ensures runs { IterYieldsInOrder Placed }
     {
         self.as_slice().iter()
+    }
+}
+
+impl<'a> IntoIterator for &'a Set {
+    type Item = &'a Value;
+
+    type IntoIter = Iter<'a, Value>;
+
+    ghost into_iter_gives = { λ s it. (represented_values_of (whats (iter_rest it)) ≡ s.now.all) × (iter_rest it ≡ s.now.members) × (length (iter_rest it) < 2 ^ 64) × IterYieldsInOrder Placed };
+
+    fn into_iter(self) -> Iter<'a, Value> {
+        self.iter()
     }
 }

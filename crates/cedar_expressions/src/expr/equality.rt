@@ -3,10 +3,13 @@
 ghost use Rattle.std.specs.Prelude.{◌≡◌};
 ghost use Rattle.std.specs.Cmp.{on_equiv, on_per, partial_equiv_from_equiv};
 ghost use Rattle.cedar_expressions.specs.View.{view, kind_view, terms_view, fields_view};
+ghost use Rattle.cedar_model.specs.Terms.{call};
+ghost use Rattle.cedar_names.specs.Names.{name_text};
 ghost use Rattle.cedar_names.specs.Equality.{term_eq, terms_eq, fields_eq};
 ghost use Rattle.cedar_names.specs.EqualityLaws.{term_eq-equivalence};
 
 use super::{Expr, ExprKind};
+use cedar_names::Name;
 use cedar_names::shared::{
     same_annotation, same_binary, same_literal, same_name, same_pattern, same_slot, same_text,
     same_texts, same_type, same_unary, same_variable,
@@ -244,6 +247,22 @@ impl ExprKind {
                 }
             }
         }
+    }
+}
+
+/// Whether both calls are the same: of one function, on the same arguments; locations change nothing.
+pub fn same_call(
+    fn_name: &Name,
+    args: &Vec<Expr>,
+    other_name: &Name,
+    other_args: &Vec<Expr>,
+) -> bool
+    ensures { result ≡ term_eq (call (name_text fn_name.now) (terms_view args.now.items)) (call (name_text other_name.now) (terms_view other_args.now.items)) }
+{
+    if same_name(fn_name, other_name) {
+        Expr::same_parts(args, other_args)
+    } else {
+        false
     }
 }
 

@@ -1,4 +1,4 @@
-#![tactic(auto, using(crate::proofs::Levels::levels, crate::proofs::Records::steps))]
+#![tactic(auto, using(crate::proofs::Levels::levels, crate::proofs::NodeLevels::nodes, crate::proofs::Records::steps))]
 //! Records.
 ghost use Rattle.std.specs.Prelude.{◌≡◌, IfOk, OnOk, IfErr, None, codes};
 ghost use Rattle.std.specs.Rc.{rc_str_bytes};
@@ -6,6 +6,9 @@ ghost use Rattle.cedar_model.specs.Terms.{record_of};
 ghost use Rattle.cedar_expressions.specs.Errors.{IsRefusalOf};
 ghost use Rattle.cedar_expressions.specs.Records.{first_repeated, repeated_key, HasOneMore, put_field, fields_in_order, pairs_view, keys_view};
 ghost use Rattle.cedar_expressions.specs.View.{view, expr_loc, fields_view};
+ghost use Rattle.cedar_expressions.specs.Nodes.{node_of, key_order, entries_in_order};
+ghost use Rattle.cedar_expressions.specs.Nodes as node;
+ghost use Rattle.std.specs.BTreeMap.{insert_entry};
 
 use super::{Expr, ExprKind};
 use crate::errors::ExpressionConstructionError;
@@ -20,6 +23,7 @@ impl Expr {
         pairs: Vec<(RcStr, Expr)>,
     ) -> Result<Expr, ExpressionConstructionError>
         ensures view { IfOk result (λ e. view e ≡ record_of (fields_in_order (pairs_view pairs.items))) }
+        ensures kind { IfOk result (λ e. node_of e ≡ node.Record (entries_in_order pairs.items)) }
         ensures loc { IfOk result (λ e. expr_loc e ≡ None) }
         ensures distinct { IfOk result (λ e. first_repeated (keys_view pairs.items) ≡ None) }
         ensures refused { IfErr result (IsRefusalOf (first_repeated (keys_view pairs.items)) (codes "in record literal")) }
@@ -34,6 +38,7 @@ impl Expr {
     /// A record of the parts that the map has. Refuses only for want of memory.
     pub fn record_map(alloc: Global, map: BTreeMap<RcStr, Expr>) -> Result<Expr, AllocError>
         ensures view { IfOk result (λ e. view e ≡ record_of (fields_view map.entries)) }
+        ensures kind { IfOk result (λ e. node_of e ≡ node.Record map.entries) }
         ensures loc { IfOk result (λ e. expr_loc e ≡ None) }
     {
         let map = Rc::new(alloc, map)?;
@@ -47,7 +52,7 @@ fn put_new(
     key: RcStr,
     part: Expr,
 ) -> Result<(), ExpressionConstructionError>
-    ensures fields { OnOk result (fields_view fields.new.entries ≡ put_field (fields_view fields.old.entries) (rc_str_bytes key) (view part)) }
+    ensures entries { OnOk result (fields.new.entries ≡ insert_entry key_order fields.old.entries key part) }
     ensures keys { OnOk result (HasOneMore (keys_view fields.old.entries) (rc_str_bytes key) (keys_view fields.new.entries)) }
     ensures refused { IfErr result (IsRefusalOf (repeated_key (keys_view fields.old.entries) (rc_str_bytes key)) (codes "in record literal")) }
 {

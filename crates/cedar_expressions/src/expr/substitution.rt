@@ -1,5 +1,5 @@
 #![tactic(auto, using(crate::proofs::Levels::levels, crate::proofs::Substitution::levels))]
-//! Values in the place of unknowns.
+//! Values for unknowns.
 ghost use Rattle.std.specs.Prelude.{◌≡◌, IfOk, option_map};
 ghost use Rattle.std.specs.Rc.{rc_str_bytes};
 ghost use Rattle.cedar_model.specs.Terms.{unknown, if_then_else, both, either, unary, binary, call, get_attribute, has_attribute, extended_has, like, is_of_type};
@@ -16,7 +16,7 @@ use std::alloc::{AllocError, Global};
 use std::collections::{BTreeMap, HashMap};
 use std::rc::{Rc, RcStr};
 
-/// What can stand in the place of an unknown: a value, by its expression.
+/// What can stand for an unknown: a value, by its expression.
 pub trait AsExpression {
     ghost represents: { Self → Represented };
 
@@ -26,7 +26,7 @@ pub trait AsExpression {
 }
 
 impl Expr {
-    /// The expression with the map's values in the place of the unknowns that it names, at any depth. An annotation is not looked at, and the rest is unchanged. The result stands at the place of the expression, so a value in the place of an unknown stands where the unknown stood; where parts stand is not promised. Refuses only for want of memory.
+    /// The expression with the map's values for the unknowns that it names, at any depth. An annotation is not looked at, and the rest is unchanged. The result has the location of the expression, so a value for an unknown has the location of that unknown; the locations of parts are not promised. Refuses only for want of memory.
     #[cycle(substitute)]
     pub fn substitute<V: AsExpression>(
         &self,

@@ -22,7 +22,7 @@ impl Pattern {
         self.elems.as_slice()
     }
 
-    /// Whether the text matches: each character matches itself, and a wildcard any run of characters, the empty one too. Takes at most as many steps as the pattern has parts times the text has characters.
+    /// Whether the text matches: each character matches itself, and a wildcard any run of characters, the empty one too. Takes at most (parts + 1) times (characters + 1) steps.
     pub fn wildcard_match(&self, text: &str) -> bool
         ensures { result ≡ matches (pattern_view self.now) (chars text.now) }
     {

@@ -6,6 +6,6 @@ use Rattle.cedar_data.proofs.value.Set.contains.Goals as goal
 
 pub returns : goal.returns
 returns c =
-    let order = subst IsStrictlyInOrder (sym c.as_slice.ensures) c.args.self.now.in_order in
+    let order = subst IsStrictlyInOrder (sym c.as_slice.ensures.all) c.args.self.now.in_order in
     c.is_ok.ensures.value ∙ is_ok-searched c.args.value.now c.as_slice.result.now c.binary_search.result order c.binary_search.ensures.bound c.binary_search.ensures.position
-    ∙ ap (λ vs. has_value (abstract_value c.args.value.now.what) (abstract_values vs)) c.as_slice.ensures
+    ∙ ap (λ vs. has_value (abstract_value c.args.value.now.what) (abstract_values vs)) c.as_slice.ensures.all

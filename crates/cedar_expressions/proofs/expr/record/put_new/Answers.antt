@@ -2,17 +2,12 @@ use Rattle.std.proofs.Common.{◌≡◌, false, ap, sym, ◌∙◌}
 use Rattle.std.specs.BTreeMap.{is_at}
 use Rattle.std.specs.Map.{lookup}
 use Rattle.std.specs.Option.{is_some}
-use Rattle.cedar_expressions.specs.View.{fields_view}
 use Rattle.cedar_expressions.specs.Records.{first_again, keys_view}
-use Rattle.cedar_expressions.proofs.Records.{order, put_field-entries, first_again-step}
+use Rattle.cedar_expressions.proofs.Records.{order, first_again-step}
 use Rattle.cedar_expressions.proofs.expr.record.put_new.Goals as goal
-
-pub returns-clause-fields : goal.returns-clause-fields
-returns-clause-fields c =
-    ap fields_view c.in_ok-insert.ensures.entries ∙ put_field-entries c.args.fields.now.entries c.args.key c.args.part
 
 pub returns-clause-keys : goal.returns-clause-keys
 returns-clause-keys c =
     let es = c.args.fields.now.entries in
     let absent : is_some (lookup (is_at (order c.args.key)) es) ≡ false = sym c.contains_key.ensures ∙ c.if-contains_key.false in
-    λ more. first_again-step es c.args.key c.args.part more absent ∙ ap (λ fs. first_again (keys_view fs) more) (sym c.in_ok-insert.ensures.entries)
+    λ more. first_again-step es c.args.key _ more absent ∙ ap (λ fs. first_again (keys_view fs) more) (sym c.in_ok-insert.ensures.entries)

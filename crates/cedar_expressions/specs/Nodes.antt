@@ -1,0 +1,84 @@
+-- An expression's node: its kind with its parts whole, their locations included, whether they are shared or not.
+use Rattle.std.specs.Prelude.{List, [], ◌∷◌}
+use Rattle.std.specs.declared.cmp.Ordering.{Ordering}
+use Rattle.std.specs.Ordering.{nat_cmp}
+use Rattle.std.specs.Cmp.Lexicographic.{slice_cmp}
+use Rattle.std.specs.BTreeMap.{insert_entry}
+use Rattle.std.specs.Rc.{rc_str_bytes}
+use Rattle.std.specs.declared.alloc.Global.{Global}
+use Rattle.std.specs.declared.rc.RcStr.{RcStr}
+use Rattle.cedar_expressions.specs.declared.expr.Expr.{Expr}
+use Rattle.cedar_expressions.specs.declared.expr.ExprKind.{ExprKind, ExprKind-F, out-ExprKind}
+use Rattle.cedar_names.specs.declared.names.Name.{Name}
+use Rattle.cedar_names.specs.declared.names.EntityType.{EntityType}
+use Rattle.cedar_names.specs.declared.names.SlotId.{SlotId}
+use Rattle.cedar_names.specs.declared.names.Var as names
+use Rattle.cedar_names.specs.declared.operators.UnaryOp.{UnaryOp}
+use Rattle.cedar_names.specs.declared.operators.BinaryOp.{BinaryOp}
+use Rattle.cedar_names.specs.declared.pattern.Pattern.{Pattern}
+use Rattle.cedar_names.specs.declared.types.Literal.{Literal}
+use Rattle.cedar_names.specs.declared.types.FirstRest.{FirstRest}
+use Rattle.cedar_names.specs.declared.types.Unknown as unknowns
+use Rattle.cedar_expressions.specs.View.{expr_kind_of}
+
+pub data Node : Type 0 where
+  Lit : Literal → Node
+  Var : names.Var → Node
+  Slot : SlotId → Node
+  Unknown : unknowns.Unknown → Node
+  If : Expr → Expr → Expr → Node
+  And : Expr → Expr → Node
+  Or : Expr → Expr → Node
+  UnaryApp : UnaryOp → Expr → Node
+  BinaryApp : BinaryOp → Expr → Expr → Node
+  ExtensionFunctionApp : Name → List Expr → Node
+  GetAttr : Expr → RcStr Global → Node
+  HasAttr : Expr → RcStr Global → Node
+  ExtHasAttr : Expr → FirstRest (RcStr Global) → Node
+  Like : Expr → Pattern → Node
+  Is : Expr → EntityType → Node
+  Set : List Expr → Node
+  Record : List (RcStr Global × Expr) → Node
+
+-- one level of an expression
+abbrev pub node_step : ExprKind-F ExprKind Expr → Node
+node_step (ExprKind-F.Lit l) = Lit l
+node_step (ExprKind-F.Var v) = Var v
+node_step (ExprKind-F.Slot s) = Slot s
+node_step (ExprKind-F.Unknown u) = Unknown u
+node_step (ExprKind-F.If c a b) = If c.value a.value b.value
+node_step (ExprKind-F.And a b) = And a.value b.value
+node_step (ExprKind-F.Or a b) = Or a.value b.value
+node_step (ExprKind-F.UnaryApp op a) = UnaryApp op a.value
+node_step (ExprKind-F.BinaryApp op a b) = BinaryApp op a.value b.value
+node_step (ExprKind-F.ExtensionFunctionApp f args) = ExtensionFunctionApp f args.value.items
+node_step (ExprKind-F.GetAttr e a) = GetAttr e.value a
+node_step (ExprKind-F.HasAttr e a) = HasAttr e.value a
+node_step (ExprKind-F.ExtHasAttr e attrs) = ExtHasAttr e.value attrs.value
+node_step (ExprKind-F.Like e p) = Like e.value p
+node_step (ExprKind-F.Is e t) = Is e.value t
+node_step (ExprKind-F.Set parts) = Set parts.value.items
+node_step (ExprKind-F.Record m) = Record m.value.entries
+
+-- the node of a kind with its parts
+unfoldable pub kind_node : ExprKind → Node
+kind_node k = node_step (out-ExprKind k)
+
+-- the node of an expression
+abbrev pub node_of : Expr → Node
+node_of e = kind_node (expr_kind_of e)
+
+-- ---- the entries of a record
+
+-- keys by their bytes
+abbrev pub key_order : RcStr Global → RcStr Global → Ordering
+key_order a b = slice_cmp nat_cmp (rc_str_bytes a) (rc_str_bytes b)
+
+-- the entries with these too, one after the other
+abbrev pub with_entries : List (RcStr Global × Expr) → List (RcStr Global × Expr) → List (RcStr Global × Expr)
+with_entries es [] = es
+with_entries es (p ∷ ps) = with_entries (insert_entry key_order es p.0 p.1) ps
+
+-- the entries in byte order of their keys
+abbrev pub entries_in_order : List (RcStr Global × Expr) → List (RcStr Global × Expr)
+entries_in_order ps = with_entries [] ps
