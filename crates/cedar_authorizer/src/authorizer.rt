@@ -19,9 +19,10 @@ use cedar_values::extensions::{ExtensionFunctionLookupError, Extensions};
 use std::alloc::{AllocError, Global};
 use std::collections::HashSet;
 
+mod copies;
 pub mod err;
 pub mod laws;
-mod response;
+mod texts;
 
 /// Decides requests, with these extensions and within so many levels of evaluation.
 #[derive(Clone, Copy)]

@@ -58,7 +58,7 @@ pub fn print_request<W: Write>(
     let decision = response.decision;
     writeln!(
         out,
-        "{} {} {} at {}: {:?}",
+        "{} {} {} at {}: {}",
         asked.user, asked.action, asked.document, asked.hour, decision
     )?;
     for id in sorted(alloc, &response.diagnostics.reason)? {

@@ -1,23 +1,8 @@
-//! The texts of decisions, and copies of responses.
-ghost use Rattle.std.specs.Prelude.{◌≡◌, Some};
+//! Copies of responses.
+ghost use Rattle.std.specs.Prelude.{◌≡◌};
 
-use super::{Decision, Diagnostics, Response};
+use super::{Diagnostics, Response};
 use std::alloc::AllocError;
-use std::fmt;
-
-/// `Allow` or `Deny`.
-impl fmt::Display for Decision {
-    ghost use Rattle.cedar_authorizer.specs.Responding.{decision_text};
-
-    ghost output = { λ d. Some (decision_text d) };
-
-    fn fmt<W: fmt::Write>(&self, f: &mut fmt::Formatter<W>) -> fmt::Result {
-        match self {
-            Decision::Allow => f.write_str("Allow"),
-            Decision::Deny => f.write_str("Deny"),
-        }
-    }
-}
 
 impl Clone for Diagnostics {
     ghost use Rattle.cedar_authorizer.specs.Responding.{has_id, errors_view};
