@@ -1,5 +1,5 @@
 -- Responses as plain data, and what an authorizer promises of them.
-use Rattle.std.specs.Prelude.{ℕ, Bool, List, map}
+use Rattle.std.specs.Prelude.{ℕ, Bool, List, map, codes}
 use Rattle.std.specs.List.{list_any}
 use Rattle.std.specs.declared.hash.BuildHasherDefault.{BuildHasherDefault}
 use Rattle.std.specs.declared.hash.FoldHasher.{FoldHasher}
@@ -31,6 +31,10 @@ use Rattle.cedar_authorizer.specs.declared.authorizer.err.AuthorizationError.The
 abbrev pub decision_view : Decision → model.Decision
 decision_view decisions.Allow = model.allow
 decision_view decisions.Deny = model.deny
+
+abbrev pub decision_text : Decision → Text
+decision_text decisions.Allow = codes "Allow"
+decision_text decisions.Deny = codes "Deny"
 
 -- a set of ids
 abbrev pub PolicyIDs : Type 0

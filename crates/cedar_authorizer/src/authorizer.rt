@@ -19,8 +19,10 @@ use cedar_values::extensions::{ExtensionFunctionLookupError, Extensions};
 use std::alloc::{AllocError, Global};
 use std::collections::HashSet;
 
+mod copies;
 pub mod err;
 pub mod laws;
+mod texts;
 
 /// Decides requests, with these extensions and within so many levels of evaluation.
 #[derive(Clone, Copy)]
@@ -38,15 +40,18 @@ pub enum Decision {
     Deny,
 }
 
-/// A decision with what led to it.
-#[derive(Debug, Drop)]
+/// A decision with what led to it. Equality is that of the parts.
+#[derive(Debug, PartialEq, Eq, Drop)]
 pub struct Response {
+    /// Whether the request is allowed.
     pub decision: Decision,
+    /// What led to it.
     pub diagnostics: Diagnostics,
 }
 
-/// The policies that determined a decision, and the errors met.
-#[derive(Debug, Drop)]
+/// The policies that determined a decision, and the errors met. Equality compares the reasons as a set, and the errors in order,
+/// with the places that they hold.
+#[derive(Debug, PartialEq, Eq, Drop)]
 pub struct Diagnostics {
     /// The satisfied forbids or, with none, the satisfied permits.
     pub reason: HashSet<PolicyID>,

@@ -1,3 +1,4 @@
 pub mod Steps
 pub mod Parts
 pub mod Knowing
+pub mod Copies

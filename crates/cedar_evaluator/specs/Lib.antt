@@ -1,4 +1,5 @@
 pub mod Requests
+pub mod Pairs
 pub mod Stops
 pub mod Decisions
 pub mod Evaluations

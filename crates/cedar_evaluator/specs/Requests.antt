@@ -1,5 +1,5 @@
 -- What a request says, as plain data.
-use Rattle.std.specs.Prelude.{Option}
+use Rattle.std.specs.Prelude.{List, map, Option}
 use Rattle.cedar_model.specs.Values.{RepresentedFields}
 use Rattle.cedar_model.specs.Settings.{Entry, known_entry, known_context, RequestPart}
 use Rattle.cedar_names.specs.declared.names.EntityUID.{EntityUID}
@@ -33,6 +33,14 @@ context_map c = c.pairs
 abbrev pub context_fields : Context → RepresentedFields
 context_fields c = whats_at c.pairs.entries
 
+-- its values under their names, in order
+abbrev pub context_pairs : Context → List (RcStr Global × Placed)
+context_pairs c = c.pairs.entries
+
+-- where they stand
+abbrev pub context_locs : Context → List (Option Loc)
+context_locs c = map (λ p. p.1.loc) c.pairs.entries
+
 -- what a request says
 abbrev pub request_view : Request → RequestPart
 request_view r = record {
@@ -41,3 +49,11 @@ request_view r = record {
   resource_entry = entry_view r.resource;
   context_part = known_context (context_fields r.context);
 }
+
+-- the parts of a request as they were handed in, places included: who asks, to do what, with what, and in which context
+abbrev pub request_parts : Request → EntityUIDEntry × EntityUIDEntry × EntityUIDEntry × Context
+request_parts r = (r.principal, r.action, r.resource, r.context)
+
+-- where a request names its entities, and where the values of its context stand
+abbrev pub request_locs : Request → Option Loc × Option Loc × Option Loc × List (Option Loc)
+request_locs r = (entry_loc r.principal, entry_loc r.action, entry_loc r.resource, context_locs r.context)

@@ -1,6 +1,9 @@
 //! Requests: who asks to do what with what, and in which context.
 ghost use Rattle.std.specs.Prelude.{◌≡◌, Some, option_copied, IfOk, IfSome, IsSome};
 
+mod copies;
+mod equality;
+
 use cedar_layers::expressions::{EntityUID, Literal, Loc, Value, ValueKind};
 use std::alloc::{AllocError, Global};
 use std::collections::BTreeMap;
@@ -71,6 +74,14 @@ impl Context {
         }
     }
 
+    /// The context of these attributes with their values.
+    pub fn from_values(pairs: BTreeMap<RcStr, Value>) -> Context
+        ensures fields { context_fields result ≡ whats_at pairs.entries }
+        ensures map { context_map result ≡ pairs }
+    {
+        Context { pairs }
+    }
+
     /// How many attributes the context has.
     pub fn num_keys(&self) -> usize
         ensures { result ≡ btree_map_len (context_map self.now) }
@@ -87,7 +98,8 @@ impl Context {
 
     // The attributes with their values.
     pub(crate) fn into_map(self) -> BTreeMap<RcStr, Value>
-        ensures { whats_at result.entries ≡ context_fields self }
+        ensures fields { whats_at result.entries ≡ context_fields self }
+        ensures map { result ≡ context_map self }
     {
         self.pairs
     }
@@ -105,7 +117,8 @@ pub struct Request {
 impl Request {
     ghost use Rattle.cedar_model.specs.Settings.{known_entry, known_context};
     ghost use Rattle.cedar_names.specs.Names.{uid_name};
-    ghost use Rattle.cedar_evaluator.specs.Requests.{context_fields, entry_view, request_view};
+    ghost use Rattle.cedar_evaluator.specs.declared.request.EntityUIDEntry.TheVariants.{Known};
+    ghost use Rattle.cedar_evaluator.specs.Requests.{context_fields, entry_view, request_view, request_parts};
 
     /// The request of these entities, each named at its place, in this context.
     pub fn new(
@@ -114,7 +127,8 @@ impl Request {
         resource: (EntityUID, Option<Loc>),
         context: Context,
     ) -> Request
-        ensures { request_view result ≡ record { principal_entry = known_entry (uid_name principal.0); action_entry = known_entry (uid_name action.0); resource_entry = known_entry (uid_name resource.0); context_part = known_context (context_fields context) } }
+        ensures view { request_view result ≡ record { principal_entry = known_entry (uid_name principal.0); action_entry = known_entry (uid_name action.0); resource_entry = known_entry (uid_name resource.0); context_part = known_context (context_fields context) } }
+        ensures parts { request_parts result ≡ (Known principal.0 principal.1, Known action.0 action.1, Known resource.0 resource.1, context) }
     {
         Request {
             principal: EntityUIDEntry::known(principal.0, principal.1),
@@ -126,21 +140,24 @@ impl Request {
 
     /// Who asks.
     pub fn principal(&self) -> &EntityUIDEntry
-        ensures { entry_view result.now ≡ (request_view self.now).principal_entry }
+        ensures view { entry_view result.now ≡ (request_view self.now).principal_entry }
+        ensures entry { result.now ≡ (request_parts self.now).0 }
     {
         &self.principal
     }
 
     /// What is to be done.
     pub fn action(&self) -> &EntityUIDEntry
-        ensures { entry_view result.now ≡ (request_view self.now).action_entry }
+        ensures view { entry_view result.now ≡ (request_view self.now).action_entry }
+        ensures entry { result.now ≡ (request_parts self.now).1 }
     {
         &self.action
     }
 
     /// What it is to be done with.
     pub fn resource(&self) -> &EntityUIDEntry
-        ensures { entry_view result.now ≡ (request_view self.now).resource_entry }
+        ensures view { entry_view result.now ≡ (request_view self.now).resource_entry }
+        ensures entry { result.now ≡ (request_parts self.now).2 }
     {
         &self.resource
     }
@@ -149,13 +166,15 @@ impl Request {
     pub fn context(&self) -> Option<&Context>
         ensures context { IfSome result (λ c. known_context (context_fields c.now) ≡ (request_view self.now).context_part) }
         ensures given { IsSome result }
+        ensures whole { option_copied result ≡ Some (request_parts self.now).3 }
     {
         Some(&self.context)
     }
 
     // The request's parts.
     pub(crate) fn into_parts(self) -> (EntityUIDEntry, EntityUIDEntry, EntityUIDEntry, Context)
-        ensures { record { principal_entry = entry_view result.0; action_entry = entry_view result.1; resource_entry = entry_view result.2; context_part = known_context (context_fields result.3) } ≡ request_view self }
+        ensures view { record { principal_entry = entry_view result.0; action_entry = entry_view result.1; resource_entry = entry_view result.2; context_part = known_context (context_fields result.3) } ≡ request_view self }
+        ensures parts { result ≡ request_parts self }
     {
         let Request {
             principal,
@@ -164,6 +183,19 @@ impl Request {
             context,
         } = self;
         (principal, action, resource, context)
+    }
+}
+
+impl From<EntityUID> for EntityUIDEntry {
+    ghost use Rattle.cedar_names.specs.Names.{uid_loc};
+    ghost use Rattle.cedar_evaluator.specs.declared.request.EntityUIDEntry.TheVariants.{Known};
+
+    ghost from_gives = { λ u e. e ≡ Known u (uid_loc u) };
+
+    /// The entity, named where its uid is.
+    fn from(euid: EntityUID) -> EntityUIDEntry {
+        let loc = euid.loc().copied();
+        EntityUIDEntry::known(euid, loc)
     }
 }
 

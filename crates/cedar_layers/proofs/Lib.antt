@@ -2,3 +2,4 @@ pub mod Slots
 pub mod Repeats
 pub mod Parts
 pub mod Stores
+pub mod StoredValues

@@ -5,6 +5,9 @@ use Rattle.std.specs.Rc.{rc_str_bytes}
 use Rattle.cedar_model.specs.Terms.{EntityName, unknown}
 use Rattle.cedar_model.specs.Outcomes.{entity_eq}
 use Rattle.cedar_model.specs.Settings.{StoredEntity, Store, Found, found, not_there, not_known, missing_entity}
+use Rattle.std.specs.declared.alloc.Global.{Global}
+use Rattle.std.specs.declared.rc.RcStr.{RcStr}
+use Rattle.cedar_data.specs.declared.partial_value.PartialValue.{PartialValue}
 use Rattle.cedar_names.specs.declared.names.EntityUID.{EntityUID}
 use Rattle.cedar_names.specs.Names.{uid_name}
 use Rattle.cedar_names.specs.Leaves.{type_view}
@@ -13,6 +16,19 @@ use Rattle.cedar_layers.specs.declared.policies.entities.Dereference.TheVariants
 use Rattle.cedar_layers.specs.declared.policies.entities.Entities.{Entities}
 use Rattle.cedar_layers.specs.declared.policies.entities.Entity.{Entity}
 use Rattle.cedar_layers.specs.Parts.{parts_view}
+
+-- the parts of an entity as they were handed in, places included
+abbrev pub entity_uid : Entity → EntityUID
+entity_uid e = e.uid
+
+abbrev pub entity_attributes : Entity → List (RcStr Global × PartialValue)
+entity_attributes e = e.attrs.entries
+
+abbrev pub entity_tags : Entity → List (RcStr Global × PartialValue)
+entity_tags e = e.tags.entries
+
+abbrev pub entity_ancestors : Entity → List EntityUID
+entity_ancestors e = e.ancestors.keys
 
 -- the name of an entity
 abbrev pub entity_name : Entity → EntityName

@@ -1,9 +1,9 @@
 //! The store of entities.
-ghost use Rattle.std.specs.Prelude.{◌≡◌, true};
-ghost use Rattle.cedar_layers.specs.Parts.{parts_view, are_restricted_parts};
+ghost use Rattle.std.specs.Prelude.{◌≡◌, true, IfOk};
+ghost use Rattle.cedar_layers.specs.Parts.{parts_view, values_as_parts, are_restricted_parts};
 ghost use mathlib.Core.Bool.{Bool-set};
 
-use cedar_data::PartialValue;
+use cedar_data::{PartialValue, Value};
 use cedar_names::{EntityUID, Type, Unknown};
 use std::alloc::{AllocError, Global};
 use std::collections::btree_map::Keys;
@@ -31,8 +31,8 @@ impl Entity {
     ghost use Rattle.cedar_model.specs.Settings.{part_at, is_among, names_of};
     ghost use Rattle.cedar_names.specs.Names.{uid_name};
     ghost use Rattle.cedar_data.specs.Residuals.{partial_view};
-    ghost use Rattle.cedar_layers.specs.Parts.{is_restricted_part};
-    ghost use Rattle.cedar_layers.specs.Stores.{entity_name, entity_view};
+    ghost use Rattle.cedar_layers.specs.Parts.{is_restricted_part, part_under};
+    ghost use Rattle.cedar_layers.specs.Stores.{entity_uid, entity_attributes, entity_ancestors, entity_name, entity_view, entity_tags};
 
     /// The entity of this uid with these attributes, ancestors and tags, taken as they are.
     pub fn new(
@@ -45,6 +45,10 @@ impl Entity {
         requires tags { are_restricted_parts (parts_view tags.entries) ≡ true }
         ensures name { entity_name result ≡ uid_name uid }
         ensures view { entity_view result ≡ record { attributes = parts_view attrs.entries; tags = parts_view tags.entries; ancestors = map uid_name ancestors.keys } }
+        ensures uid { entity_uid result ≡ uid }
+        ensures attributes { entity_attributes result ≡ attrs.entries }
+        ensures tags { entity_tags result ≡ tags.entries }
+        ensures ancestors { entity_ancestors result ≡ ancestors.keys }
     {
         Entity {
             uid,
@@ -54,9 +58,38 @@ impl Entity {
         }
     }
 
+    /// The entity of this uid whose attributes and tags are these values, with these ancestors. Refuses only for want of memory.
+    pub fn from_values(
+        alloc: Global,
+        uid: EntityUID,
+        attrs: BTreeMap<RcStr, Value>,
+        ancestors: HashSet<EntityUID>,
+        tags: BTreeMap<RcStr, Value>,
+    ) -> Result<Entity, AllocError>
+        ensures name { IfOk result (λ e. entity_name e ≡ uid_name uid) }
+        ensures view { IfOk result (λ e. entity_view e ≡ record { attributes = parts_view (values_as_parts attrs.entries); tags = parts_view (values_as_parts tags.entries); ancestors = map uid_name ancestors.keys }) }
+        ensures uid { IfOk result (λ e. entity_uid e ≡ uid) }
+        ensures attributes { IfOk result (λ e. entity_attributes e ≡ values_as_parts attrs.entries) }
+        ensures tags { IfOk result (λ e. entity_tags e ≡ values_as_parts tags.entries) }
+        ensures ancestors { IfOk result (λ e. entity_ancestors e ≡ ancestors.keys) }
+    {
+        let attributes = parts_of_values(alloc, attrs)?;
+        let tag_parts = parts_of_values(alloc, tags)?;
+        Ok(Entity::new(uid, attributes, ancestors, tag_parts))
+    }
+
+    /// The uid.
+    pub fn uid(&self) -> &EntityUID
+        ensures uid { result.now ≡ entity_uid self.now }
+        ensures name { uid_name result.now ≡ entity_name self.now }
+    {
+        &self.uid
+    }
+
     /// The attribute of this name, if there is one.
     pub fn get(&self, attr: &str) -> Option<&PartialValue>
         ensures value { option_map partial_view (option_copied result) ≡ part_at attr.now (entity_view self.now).attributes }
+        ensures whole { option_copied result ≡ part_under attr.now (entity_attributes self.now) }
         ensures restricted { IfSome result (λ p. is_restricted_part (partial_view p.now) ≡ true) }
     {
         self.attrs.get(attr)
@@ -65,6 +98,7 @@ impl Entity {
     /// The tag of this name, if there is one.
     pub fn get_tag(&self, tag: &str) -> Option<&PartialValue>
         ensures value { option_map partial_view (option_copied result) ≡ part_at tag.now (entity_view self.now).tags }
+        ensures whole { option_copied result ≡ part_under tag.now (entity_tags self.now) }
         ensures restricted { IfSome result (λ p. is_restricted_part (partial_view p.now) ≡ true) }
     {
         self.tags.get(tag)
@@ -108,6 +142,21 @@ impl Entity {
     }
 }
 
+// The values as the parts of an entity.
+fn parts_of_values(
+    alloc: Global,
+    values: BTreeMap<RcStr, Value>,
+) -> Result<BTreeMap<RcStr, PartialValue>, AllocError>
+    ensures entries { IfOk result (λ m. m.entries ≡ values_as_parts values.entries) }
+    ensures restricted { IfOk result (λ m. are_restricted_parts (parts_view m.entries) ≡ true) }
+{
+    let mut parts: BTreeMap<RcStr, PartialValue> = BTreeMap::new(alloc);
+    'values: for (name, value) in values {
+        drop(parts.insert(name, PartialValue::Value(value))?);
+    }
+    Ok(parts)
+}
+
 /// What a store answers of an entity.
 #[derive(Debug, Drop)]
 pub enum Dereference<'a> {
@@ -127,7 +176,7 @@ pub struct Entities {
 }
 
 impl Entities {
-    ghost use Rattle.std.specs.Prelude.{false, IfOk, OnOk, option_map};
+    ghost use Rattle.std.specs.Prelude.{false, OnOk, option_map};
     ghost use Rattle.std.specs.Rc.{rc_str_bytes};
     ghost use Rattle.cedar_model.specs.Terms.{unknown};
     ghost use Rattle.cedar_model.specs.Settings.{look_up, missing_entity};

@@ -10,7 +10,7 @@ use std::alloc::{AllocError, Global};
 use thiserror::Error;
 
 /// Policies in order of insertion, no two of one id.
-#[derive(Drop)]
+#[derive(Debug, Drop)]
 pub struct PolicySet {
     policies: IndexMap<PolicyID, Policy>,
     ghost distinct: { first_repeated (policy_ids (map policy_view (values_of policies.entries))) ≡ None },
@@ -78,6 +78,21 @@ impl PolicySet {
         Policies {
             policies: self.policies.values(),
         }
+    }
+}
+
+/// The policies, in order of insertion.
+impl<'a> IntoIterator for &'a PolicySet {
+    ghost use Rattle.cedar_layers.specs.PolicySets.{policies_view, policies_left};
+
+    type Item = &'a Policy;
+
+    type IntoIter = Policies<'a>;
+
+    ghost into_iter_gives = { λ s r. (map policy_view (policies_left r) ≡ policies_view s.now) × (first_repeated (policy_ids (policies_view s.now)) ≡ None) };
+
+    fn into_iter(self) -> Policies<'a> {
+        self.policies()
     }
 }
 

@@ -1,0 +1,30 @@
+//! Entities and texts.
+use cedar_layers::expressions::{EntityType, EntityUID, Expr, Literal, Name, Value};
+use std::alloc::{AllocError, Global};
+use std::rc::{Rc, RcStr};
+
+/// The entity of this type with this id.
+pub fn uid(alloc: Global, type_name: &str, id: &str) -> Result<EntityUID, AllocError> {
+    let name = Name::new(RcStr::from_str(alloc, type_name)?, None);
+    Ok(EntityUID::new(EntityType::new(name), RcStr::from_str(alloc, id)?, None))
+}
+
+/// The same, as a literal.
+pub fn entity(alloc: Global, type_name: &str, id: &str) -> Result<Literal, AllocError> {
+    Ok(Literal::EntityUID(Rc::new(alloc, uid(alloc, type_name, id)?)?))
+}
+
+/// The same, as an expression.
+pub fn entity_expr(alloc: Global, type_name: &str, id: &str) -> Result<Expr, AllocError> {
+    Ok(Expr::val(entity(alloc, type_name, id)?))
+}
+
+/// A text, as an expression.
+pub fn text_expr(alloc: Global, text: &str) -> Result<Expr, AllocError> {
+    Ok(Expr::val(Literal::String(RcStr::from_str(alloc, text)?)))
+}
+
+/// A text, as a value.
+pub fn text_value(alloc: Global, text: &str) -> Result<Value, AllocError> {
+    Ok(Value::from(RcStr::from_str(alloc, text)?))
+}

@@ -1,0 +1,105 @@
+//! The policies.
+use crate::names::{entity_expr, text_expr};
+use crate::stop::Stop;
+use cedar_layers::expressions::{BinaryOp, Expr, Literal, SlotEnv, Var};
+use cedar_layers::policies::{Annotations, Effect, Policy, PolicyID, PolicySet};
+use std::alloc::{AllocError, Global};
+use std::rc::RcStr;
+
+/// The four policies.
+pub fn policies(alloc: Global) -> Result<PolicySet, Stop> {
+    let mut policies: Vec<Policy> = Vec::new(alloc);
+    policies.push(editors(alloc)?)?;
+    policies.push(owner(alloc)?)?;
+    policies.push(sealed(alloc)?)?;
+    policies.push(public(alloc)?)?;
+    Ok(PolicySet::try_from_iter(alloc, policies)?)
+}
+
+// permit(principal in Role::"editor", action, resource in Folder::"archive");
+fn editors(alloc: Global) -> Result<Policy, AllocError> {
+    let principal = is_in(alloc, Var::Principal, "Role", "editor")?;
+    let resource = is_in(alloc, Var::Resource, "Folder", "archive")?;
+    policy(
+        alloc,
+        Effect::Permit,
+        "editors",
+        principal,
+        any(),
+        resource,
+        any(),
+    )
+}
+
+// permit(principal, action, resource) when { resource.owner == principal };
+fn owner(alloc: Global) -> Result<Policy, AllocError> {
+    let owner = attribute(alloc, Var::Resource, "owner")?;
+    let when = Expr::binary_app(alloc, BinaryOp::Eq, owner, Expr::var(Var::Principal))?;
+    policy(alloc, Effect::Permit, "owner", any(), any(), any(), when)
+}
+
+// forbid(principal, action == Action::"edit", resource) when { resource.hasTag("sealed") };
+fn sealed(alloc: Global) -> Result<Policy, AllocError> {
+    let action = is_edit(alloc)?;
+    let sealed = text_expr(alloc, "sealed")?;
+    let when = Expr::binary_app(alloc, BinaryOp::HasTag, Expr::var(Var::Resource), sealed)?;
+    policy(alloc, Effect::Forbid, "sealed", any(), action, any(), when)
+}
+
+// permit(principal, action, resource) when { resource.public && context.hour < 18 };
+// It errs where the document does not say whether it is public.
+fn public(alloc: Global) -> Result<Policy, AllocError> {
+    let public = attribute(alloc, Var::Resource, "public")?;
+    let when = Expr::and(alloc, public, is_day(alloc)?)?;
+    policy(alloc, Effect::Permit, "public", any(), any(), any(), when)
+}
+
+fn policy(
+    alloc: Global,
+    effect: Effect,
+    id: &str,
+    principal: Expr,
+    action: Expr,
+    resource: Expr,
+    when: Expr,
+) -> Result<Policy, AllocError> {
+    Policy::new(
+        alloc,
+        effect,
+        PolicyID::from_string(RcStr::from_str(alloc, id)?),
+        Annotations::new(alloc),
+        principal,
+        action,
+        resource,
+        when,
+        SlotEnv::new(alloc),
+    )
+}
+
+// true
+fn any() -> Expr {
+    Expr::val(Literal::Bool(true))
+}
+
+// var in TYPE::"ID"
+fn is_in(alloc: Global, var: Var, type_name: &str, id: &str) -> Result<Expr, AllocError> {
+    let group = entity_expr(alloc, type_name, id)?;
+    Expr::binary_app(alloc, BinaryOp::In, Expr::var(var), group)
+}
+
+// action == Action::"edit"
+fn is_edit(alloc: Global) -> Result<Expr, AllocError> {
+    let edit = entity_expr(alloc, "Action", "edit")?;
+    Expr::binary_app(alloc, BinaryOp::Eq, Expr::var(Var::Action), edit)
+}
+
+// context.hour < 18
+fn is_day(alloc: Global) -> Result<Expr, AllocError> {
+    let hour = attribute(alloc, Var::Context, "hour")?;
+    Expr::binary_app(alloc, BinaryOp::Less, hour, Expr::val(Literal::Long(18)))
+}
+
+// var.name
+fn attribute(alloc: Global, var: Var, name: &str) -> Result<Expr, AllocError> {
+    Expr::get_attr(alloc, Expr::var(var), RcStr::from_str(alloc, name)?)
+}

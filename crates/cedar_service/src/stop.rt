@@ -1,0 +1,46 @@
+//! Why the service stops.
+use cedar_layers::policies::PolicySetError;
+use std::alloc::{AllocError, AllocFailed};
+use std::io;
+
+/// Why the service stops.
+#[derive(Debug, Drop)]
+pub enum Stop {
+    /// Memory was wanting.
+    Memory,
+    /// The output could not be written.
+    Output,
+    /// Two policies have one id.
+    RepeatedId,
+}
+
+impl From<AllocError> for Stop {
+    fn from(_error: AllocError) -> Stop {
+        Stop::Memory
+    }
+}
+
+impl<T: Drop> From<AllocFailed<T>> for Stop {
+    fn from(_error: AllocFailed<T>) -> Stop {
+        Stop::Memory
+    }
+}
+
+impl From<io::Error> for Stop {
+    fn from(error: io::Error) -> Stop {
+        if error.kind() == io::ErrorKind::OutOfMemory {
+            Stop::Memory
+        } else {
+            Stop::Output
+        }
+    }
+}
+
+impl From<PolicySetError> for Stop {
+    fn from(error: PolicySetError) -> Stop {
+        match error {
+            PolicySetError::Occupied { id: _ } => Stop::RepeatedId,
+            PolicySetError::Memory(_) => Stop::Memory,
+        }
+    }
+}
