@@ -2,9 +2,9 @@
 //!
 //! - of the words of an expression: `value LIMIT`, `place LIMIT` and `error LIMIT` (what it evaluates to, where that or its error stands, and the error's text; with no limit as many levels as it needs),
 //!   `text`, `cut BOUND` (`all` for no bound), `copy`, `shape`, and `substitute x WORDS`, which is answered by the words of an expression;
-//! - of the words of a value: `operator PLACE` (values and then an operator), `value-text`, `value-cut BOUND`, `value-expression`, `value-type`, `part-text` and `part-cut BOUND`;
-//! - of a leaf: `leaf`; of the words of an error: `built-error PLACE`;
-//! - of the ids of policies: `decide LIMIT`, `evaluate LIMIT`, `set`, `policy` and `condition`;
+//! - of the words of a value: `operator PLACE` (values and then an operator), `value-text`, `value-cut BOUND`, `value-expression`, `value-type`, `value-copy`, `part-text`, `part-cut BOUND` and `part-copy`;
+//! - of two expressions with ` ~ ` between them: `equal`; of the keys of a record: `keys`; of a leaf: `leaf`; of the words of an error: `built-error PLACE`;
+//! - of the ids of policies: `decide LIMIT`, `decide-texts LIMIT` (the errors' own texts), `evaluate LIMIT`, `set`, `policy` and `condition`;
 //! - of the setting: `request` and `entity`.
 pub mod described;
 mod evaluated;
@@ -14,10 +14,9 @@ mod stored;
 mod written;
 
 use super::reader::headed;
+use cedar_layers::expressions::Loc;
 use std::alloc::{AllocError, Global};
 use std::test::Fail;
-
-use cedar_layers::expressions::Loc;
 
 /// What is answered to these words, where the answer that is wanted is this one.
 pub fn answer(
@@ -34,7 +33,9 @@ pub fn answer(
         "text" | "cut" | "copy" | "shape" => written::answer(alloc, kind, argument, words),
         "operator" => operated::answer(alloc, argument, words),
         "built-error" => operated::built_error(alloc, argument, words),
-        "decide" | "evaluate" => judged::answer(alloc, setting, kind, argument, words),
+        "decide" | "decide-texts" | "evaluate" => judged::answer(
+            alloc, setting, kind, argument, words,
+        ),
         "set" | "policy" | "condition" => judged::listed(alloc, setting, kind, words),
         "request" | "entity" => stored::answer(alloc, setting, kind, words),
         _ => written::other(alloc, kind, argument, words),

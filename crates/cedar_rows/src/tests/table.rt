@@ -1,12 +1,19 @@
 //! Tables: texts with a row a line. A row has words, ` => ` and the answer that is wanted. A line `ask QUESTION` says what is asked of the rows
 //! below it, and `answers` which questions there are; before the first one it is what expressions evaluate to. A line that begins with `#` is a
 //! title. Each table is answered in a setting, which is such a text of facts too.
+mod depth;
+mod errors;
 mod everyday;
 mod logic;
 mod operands;
 mod operators;
 mod parts;
+mod places;
+mod policies;
 mod store;
+mod texts;
+mod unknowns;
+mod written;
 
 use super::answers::answer;
 use super::reader::fact;
@@ -74,5 +81,47 @@ fn rows_on_parts(rt: HostRuntime) -> Result<(), Fail> {
 #[test]
 fn rows_on_store(rt: HostRuntime) -> Result<(), Fail> {
     assert!(rt; rows_hold(&rt, rt.alloc(), everyday::setting(), store::rows())?);
+    Ok(())
+}
+
+#[test]
+fn rows_on_depth(rt: HostRuntime) -> Result<(), Fail> {
+    assert!(rt; rows_hold(&rt, rt.alloc(), everyday::setting(), depth::rows())?);
+    Ok(())
+}
+
+#[test]
+fn rows_on_places(rt: HostRuntime) -> Result<(), Fail> {
+    assert!(rt; rows_hold(&rt, rt.alloc(), everyday::setting(), places::rows())?);
+    Ok(())
+}
+
+#[test]
+fn rows_on_errors(rt: HostRuntime) -> Result<(), Fail> {
+    assert!(rt; rows_hold(&rt, rt.alloc(), everyday::setting(), errors::rows())?);
+    Ok(())
+}
+
+#[test]
+fn rows_on_texts(rt: HostRuntime) -> Result<(), Fail> {
+    assert!(rt; rows_hold(&rt, rt.alloc(), everyday::setting(), texts::rows())?);
+    Ok(())
+}
+
+#[test]
+fn rows_on_written(rt: HostRuntime) -> Result<(), Fail> {
+    assert!(rt; rows_hold(&rt, rt.alloc(), everyday::setting(), written::rows())?);
+    Ok(())
+}
+
+#[test]
+fn rows_on_unknowns(rt: HostRuntime) -> Result<(), Fail> {
+    assert!(rt; rows_hold(&rt, rt.alloc(), unknowns::setting(), unknowns::rows())?);
+    Ok(())
+}
+
+#[test]
+fn rows_on_policies(rt: HostRuntime) -> Result<(), Fail> {
+    assert!(rt; rows_hold(&rt, rt.alloc(), policies::setting(), policies::rows())?);
     Ok(())
 }

@@ -23,7 +23,8 @@ pub fn answer(
 ) -> Result<String, Fail> {
     let limit = limit(limit_text)?;
     match kind {
-        "decide" => decided(alloc, setting, limit, ids),
+        "decide" => Ok(response_text(alloc, &decided(alloc, setting, limit, ids)?)?),
+        "decide-texts" => Ok(error_texts(alloc, &decided(alloc, setting, limit, ids)?)?),
         _ => evaluated(alloc, setting, limit, ids),
     }
 }
@@ -37,15 +38,13 @@ pub fn listed(alloc: Global, setting: &str, kind: &str, ids: &str) -> Result<Str
     }
 }
 
-// `Allow [reasons] [errors]`, with each error behind its policy, and its place.
-fn decided(alloc: Global, setting: &str, limit: usize, ids: &str) -> Result<String, Fail> {
+fn decided(alloc: Global, setting: &str, limit: usize, ids: &str) -> Result<Response, Fail> {
     let policies = PolicySet::try_from_iter(alloc, policies(alloc, setting, ids)?)?;
     let request = request(alloc, setting)?;
     let entities = stored(alloc, setting)?;
     let extensions = Extensions::none();
     let authorizer = Authorizer::new(&extensions, limit);
-    let response = authorizer.is_authorized(alloc, request, &policies, &entities)?;
-    Ok(response_text(alloc, &response)?)
+    Ok(authorizer.is_authorized(alloc, request, &policies, &entities)?)
 }
 
 fn evaluated(alloc: Global, setting: &str, limit: usize, id: &str) -> Result<String, Fail> {
@@ -67,6 +66,7 @@ fn truth_text(
     }
 }
 
+// `Allow [reasons] [errors]`, with each error behind its policy, and its place.
 fn response_text(alloc: Global, response: &Response) -> Result<String, AllocError> {
     let decision = match response.decision {
         Decision::Allow => "Allow",
@@ -93,6 +93,15 @@ fn errors_text(alloc: Global, errors: &[AuthorizationError]) -> Result<String, A
         let text = described(alloc, error)?;
         let place = place_text(alloc, error.source_loc())?;
         texts.push(format!(in alloc; "{id}: {text} {place}")?)?;
+    }
+    joined(alloc, &texts, "; ")
+}
+
+// The errors' own texts, of copies of them.
+fn error_texts(alloc: Global, response: &Response) -> Result<String, AllocError> {
+    let mut texts: Vec<String> = Vec::new(alloc);
+    for error in &response.diagnostics.errors {
+        texts.push(error.clone()?.to_string(alloc)?)?;
     }
     joined(alloc, &texts, "; ")
 }

@@ -1,12 +1,12 @@
 //! Expressions, values and leaves as they are printed, copied and changed.
 use super::place_text;
 use crate::tests::reader::expressions::expression;
+use crate::tests::reader::headed;
 use crate::tests::reader::leaves::{
     binary, entity_type, name, named_type, slot, uid, unary, unknown, variable,
 };
 use crate::tests::reader::values::value;
-use crate::tests::reader::headed;
-use cedar_layers::expressions::{BoundedDisplay, Expr, PartialValue, ResidualExpr, Value};
+use cedar_layers::expressions::{BoundedDisplay, Expr, Literal, PartialValue, ResidualExpr, Value};
 use std::alloc::{AllocError, Global};
 use std::collections::HashMap;
 use std::rc::RcStr;
@@ -73,10 +73,40 @@ fn mapping(alloc: Global, written: &str) -> Result<HashMap<RcStr, Value>, Fail> 
 pub fn other(alloc: Global, kind: &str, bound: &str, words: &str) -> Result<String, Fail> {
     match kind {
         "leaf" => leaf(alloc, words),
+        "equal" => equal(alloc, words),
+        "keys" => keyed(alloc, words),
         "part-text" => Ok(partial(alloc, words)?.to_string(alloc)?),
         "part-cut" => cut(alloc, &partial(alloc, words)?, bound),
         "part-copy" => Ok(part_copy(alloc, &partial(alloc, words)?)?),
         _ => of_value(alloc, kind, bound, &value(alloc, words)?),
+    }
+}
+
+// Whether the two expressions are equal, in either order.
+fn equal(alloc: Global, words: &str) -> Result<String, Fail> {
+    let (left, right) = words.split_once(" ~ ").ok_or("equality is of two")?;
+    let (left, right) = (expression(alloc, left)?, expression(alloc, right)?);
+    let is_equal = left == right;
+    if is_equal == (right == left) {
+        Ok(is_equal.to_string(alloc)?)
+    } else {
+        Err(Fail::from("equality has no order"))
+    }
+}
+
+// The record of `true` under these keys, or the text of its error as it is and in another context.
+fn keyed(alloc: Global, keys: &str) -> Result<String, Fail> {
+    let mut pairs: Vec<(RcStr, Expr)> = Vec::new(alloc);
+    for key in keys.split(',') {
+        pairs.push((RcStr::from_str(alloc, key)?, Expr::val(Literal::Bool(true))))?;
+    }
+    match Expr::record(alloc, pairs) {
+        Ok(expr) => Ok(expr.to_string(alloc)?),
+        Err(error) => {
+            let text = error.to_string(alloc)?;
+            let error = error.with_context("in a row");
+            Ok(format!(in alloc; "{text}, {error}")?)
+        }
     }
 }
 

@@ -25,7 +25,11 @@ pub fn error(alloc: Global, words: &str) -> Result<EvaluationError, Fail> {
 fn type_error(alloc: Global, actual: &str, expected: &str) -> Result<EvaluationError, Fail> {
     let expected = types(alloc, expected)?;
     let actual = named_type(alloc, actual)?;
-    Ok(EvaluationError::from(TypeError { expected, actual, source_loc: None }))
+    Ok(EvaluationError::from(TypeError {
+        expected,
+        actual,
+        source_loc: None,
+    }))
 }
 
 fn types(alloc: Global, written: &str) -> Result<FirstRest<Type>, Fail> {
@@ -39,20 +43,32 @@ fn types(alloc: Global, written: &str) -> Result<FirstRest<Type>, Fail> {
             rest.push(named_type(alloc, other)?)?;
         }
     }
-    Ok(FirstRest { first: named_type(alloc, first)?, rest })
+    Ok(FirstRest {
+        first: named_type(alloc, first)?,
+        rest,
+    })
 }
 
 fn wrong_count(alloc: Global, function: &str, counts: &str) -> Result<EvaluationError, Fail> {
     let (expected, actual) = headed(counts);
     let (expected, actual) = (expected.parse::<usize>()?, actual.parse::<usize>()?);
     let function_name = name(alloc, function)?;
-    let error = WrongNumArgumentsError { function_name, expected, actual, source_loc: None };
+    let error = WrongNumArgumentsError {
+        function_name,
+        expected,
+        actual,
+        source_loc: None,
+    };
     Ok(EvaluationError::from(error))
 }
 
 fn failed_execution(alloc: Global, extension: &str, says: &str) -> Result<EvaluationError, Fail> {
     let msg = String::from_str(alloc, text(alloc, says)?.as_str())?;
     let extension_name = name(alloc, extension)?;
-    let error = ExtensionFunctionExecutionError { extension_name, msg, source_loc: None };
+    let error = ExtensionFunctionExecutionError {
+        extension_name,
+        msg,
+        source_loc: None,
+    };
     Ok(EvaluationError::from(error))
 }

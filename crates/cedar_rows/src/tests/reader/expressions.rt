@@ -3,7 +3,7 @@
 //! - `B:true`, `L:-1`, `T:text` and `E:User:a` are literals, `V:principal` a variable, `S:principal` a slot, `U:x` and `U:x:Long` unknowns.
 //! - `eq`, `add`, `isEmpty`, `and`, `if` and the like take the parts before them.
 //! - `get:k`, `has:k`, `ext:k.l`, `like:p*` and `is:User` take the part before them. In a pattern `\` goes before a character that stands for itself.
-//! - `set:3` takes three parts, `record:k,l` a part for each key, and `call:f:2` two arguments; `call:f@1-2:2` has its name at a place.
+//! - `set:3` takes three parts, `record:k,l` and `fields:k,l` a part for each key, and `call:f:2` two arguments; `call:f@1-2:2` has its name at a place.
 //! - `@1-2` puts the part before it at this place.
 use super::leaves::{
     attributes, binary, entity_type, literal, name, pattern, place, slot, text, unary, unknown,
@@ -12,6 +12,7 @@ use super::leaves::{
 use super::{last, only};
 use cedar_layers::expressions::Expr;
 use std::alloc::Global;
+use std::collections::BTreeMap;
 use std::rc::RcStr;
 use std::test::Fail;
 
@@ -50,6 +51,7 @@ fn with_text(alloc: Global, kind: &str, rest: &str, parts: &mut Vec<Expr>) -> Re
     match kind {
         "set" => set(alloc, rest, parts),
         "record" => record(alloc, rest, parts),
+        "fields" => fields(alloc, rest, parts),
         "call" => call(alloc, rest, parts),
         "get" | "has" => on_attribute(alloc, kind, rest, parts),
         "ext" | "like" | "is" => on_one(alloc, kind, rest, parts),
@@ -76,8 +78,18 @@ fn record(alloc: Global, keys: &str, parts: &mut Vec<Expr>) -> Result<Expr, Fail
     Ok(Expr::record(alloc, pairs)?)
 }
 
+fn fields(alloc: Global, keys: &str, parts: &mut Vec<Expr>) -> Result<Expr, Fail> {
+    let mut map: BTreeMap<RcStr, Expr> = BTreeMap::new(alloc);
+    for (key, part) in named(alloc, parts, keys)? {
+        map.insert(key, part)?;
+    }
+    Ok(Expr::record_map(alloc, map)?)
+}
+
 fn call(alloc: Global, rest: &str, parts: &mut Vec<Expr>) -> Result<Expr, Fail> {
-    let (function, count) = rest.rsplit_once(':').ok_or("a call has a name and a count")?;
+    let (function, count) = rest
+        .rsplit_once(':')
+        .ok_or("a call has a name and a count")?;
     let arguments = last(alloc, parts, count.parse::<usize>()?)?;
     Ok(Expr::call_extension_fn(alloc, name(alloc, function)?, arguments)?)
 }

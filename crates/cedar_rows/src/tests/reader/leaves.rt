@@ -60,8 +60,11 @@ pub fn slot(word: &str) -> Result<SlotId, Fail> {
     Ok(found(&SLOTS, word).ok_or("no such slot")?)
 }
 
-/// The place with these ends, as `1-2`; the empty text is no place.
+/// The place with these ends, as `1-2`; the empty text and `-` are no place.
 pub fn place(text: &str) -> Result<Option<Loc>, Fail> {
+    if text == "-" {
+        return Ok(None);
+    }
     match text.split_once('-') {
         Some((start, end)) => {
             let (start, end) = (start.parse::<usize>()?, end.parse::<usize>()?);
@@ -125,8 +128,12 @@ fn entity(alloc: Global, written: &str) -> Result<Literal, Fail> {
 /// The type, as `Long`, `Entity:User` or `Extension:ipaddr`.
 pub fn named_type(alloc: Global, written: &str) -> Result<Type, Fail> {
     match written.split_once(':') {
-        Some(("Entity", ty)) => Ok(Type::Entity { ty: entity_type(alloc, ty)? }),
-        Some(("Extension", name_of)) => Ok(Type::Extension { name: name(alloc, name_of)? }),
+        Some(("Entity", ty)) => Ok(Type::Entity {
+            ty: entity_type(alloc, ty)?,
+        }),
+        Some(("Extension", name_of)) => Ok(Type::Extension {
+            name: name(alloc, name_of)?,
+        }),
         Some(_) => Err(Fail::from("no such type")),
         None => Ok(plain_type(written).ok_or("no such type")?),
     }

@@ -5,9 +5,9 @@
 //! - `clause p forbid 3-5 WORDS` is a policy made from its when clause alone, at a place.
 //! - `annotation p key text` is an annotation of a policy.
 use super::expressions::expression;
+use super::headed;
 use super::leaves::{place, text};
 use super::settings::{fact_of, slots};
-use super::headed;
 use cedar_layers::expressions::Expr;
 use cedar_layers::policies::{Annotations, Effect, Policy, PolicyID};
 use std::alloc::{AllocError, Global};
@@ -61,7 +61,17 @@ fn of_parts(alloc: Global, setting: &str, id: &str, stated: &str) -> Result<Poli
     let slots = slots(alloc, setting)?;
     let id = policy_id(alloc, id)?;
     let (principal, action, resource, when) = conjuncts(alloc, words)?;
-    Ok(Policy::new(alloc, effect, id, annotations, principal, action, resource, when, slots)?)
+    Ok(Policy::new(
+        alloc,
+        effect,
+        id,
+        annotations,
+        principal,
+        action,
+        resource,
+        when,
+        slots,
+    )?)
 }
 
 // The constraints on the principal, the action and the resource, and the when clause.
@@ -87,7 +97,9 @@ fn annotations(alloc: Global, setting: &str, id: &str) -> Result<Annotations, Fa
     for line in setting.lines() {
         if let Some(rest) = fact_of(line, "annotation", id) {
             let (key, written) = headed(rest);
-            annotations.0.insert(text(alloc, key)?, text(alloc, written)?)?;
+            annotations
+                .0
+                .insert(text(alloc, key)?, text(alloc, written)?)?;
         }
     }
     Ok(annotations)

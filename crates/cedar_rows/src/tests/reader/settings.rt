@@ -65,11 +65,7 @@ pub fn request(alloc: Global, setting: &str) -> Result<Request, Fail> {
 }
 
 // The entity that stands for this variable, and its place.
-fn entry(
-    alloc: Global,
-    setting: &str,
-    variable: &str,
-) -> Result<(EntityUID, Option<Loc>), Fail> {
+fn entry(alloc: Global, setting: &str, variable: &str) -> Result<(EntityUID, Option<Loc>), Fail> {
     let (name, ends) = headed(first_fact(setting, variable).ok_or("no such entity")?);
     Ok((uid(alloc, name)?, place(ends)?))
 }
