@@ -1,13 +1,14 @@
 //! Expressions, values and leaves as they are printed, copied and changed.
 use super::place_text;
 use crate::tests::reader::expressions::expression;
-use crate::tests::reader::headed;
 use crate::tests::reader::leaves::{
     binary, entity_type, name, named_type, slot, uid, unary, unknown, variable,
 };
-use crate::tests::reader::values::value;
+use crate::tests::reader::values::{value, values};
+use crate::tests::reader::{headed, only};
 use cedar_layers::expressions::{BoundedDisplay, Expr, Literal, PartialValue, ResidualExpr, Value};
 use std::alloc::{AllocError, Global};
+use std::cmp::Ordering;
 use std::collections::HashMap;
 use std::rc::RcStr;
 use std::test::Fail;
@@ -75,6 +76,7 @@ pub fn other(alloc: Global, kind: &str, bound: &str, words: &str) -> Result<Stri
         "leaf" => leaf(alloc, words),
         "equal" => equal(alloc, words),
         "keys" => keyed(alloc, words),
+        "order" => ordered(alloc, words),
         "part-text" => Ok(partial(alloc, words)?.to_string(alloc)?),
         "part-cut" => cut(alloc, &partial(alloc, words)?, bound),
         "part-copy" => Ok(part_copy(alloc, &partial(alloc, words)?)?),
@@ -92,6 +94,20 @@ fn equal(alloc: Global, words: &str) -> Result<String, Fail> {
     } else {
         Err(Fail::from("equality has no order"))
     }
+}
+
+// How the first value stands to the second one, and whether they are equal.
+fn ordered(alloc: Global, words: &str) -> Result<String, Fail> {
+    let mut values = values(alloc, words)?;
+    let right = values.pop().ok_or("an order is of two")?;
+    let left = only(values)?;
+    let is_equal = left == right;
+    let order = match left.cmp(&right) {
+        Ordering::Less => "Less",
+        Ordering::Equal => "Equal",
+        Ordering::Greater => "Greater",
+    };
+    Ok(format!(in alloc; "{order}, equal {is_equal}")?)
 }
 
 // The record of `true` under these keys, or the text of its error as it is and in another context.

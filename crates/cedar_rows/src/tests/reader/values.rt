@@ -1,10 +1,13 @@
-//! Reads values: literals, sets and records, as words alike. `@1-2` puts the value before it at this place.
-use super::leaves::{literal, place, text};
+//! Reads values: literals, sets and records, as words alike. `@1-2` puts the value before it at this place. `X:decimal:1.5` is the extension value of
+//! this type that a function of the type's name makes of the text, which is its key.
+use super::leaves::{literal, name, place, text};
 use super::{last, only};
-use cedar_layers::expressions::Value;
-use std::alloc::Global;
+use cedar_layers::expressions::{
+    Expr, ExtensionValue, Literal, Name, Representation, Value, ValueKind,
+};
+use std::alloc::{AllocError, Global};
 use std::collections::BTreeMap;
-use std::rc::RcStr;
+use std::rc::{Rc, RcStr};
 use std::test::Fail;
 
 /// The value that these words write.
@@ -31,6 +34,7 @@ fn part(alloc: Global, word: &str, parts: &mut Vec<Value>) -> Result<Value, Fail
     match kind {
         "set" => set(alloc, rest, parts),
         "record" => record(alloc, rest, parts),
+        "X" => extension(alloc, rest),
         _ => Ok(Value::from(literal(alloc, kind, rest)?)),
     }
 }
@@ -55,4 +59,30 @@ fn record(alloc: Global, keys: &str, parts: &mut Vec<Value>) -> Result<Value, Fa
         }
     }
     Ok(Value::record(alloc, pairs, None)?)
+}
+
+fn extension(alloc: Global, written: &str) -> Result<Value, Fail> {
+    let (ty, argument) = written.split_once(':').ok_or("a type and a text")?;
+    let value = extension_value(alloc, ty, argument)?;
+    Ok(Value::new(ValueKind::ExtensionValue(Rc::new(alloc, value)?), None))
+}
+
+fn extension_value(alloc: Global, ty: &str, argument: &str) -> Result<ExtensionValue, Fail> {
+    let mut key: Vec<u8> = Vec::new(alloc);
+    key.extend_from_slice(argument.as_bytes())?;
+    let representation = representation(alloc, name(alloc, ty)?, text(alloc, argument)?)?;
+    Ok(ExtensionValue {
+        typename: name(alloc, ty)?,
+        representation,
+        key,
+    })
+}
+
+fn representation(
+    alloc: Global,
+    function: Name,
+    text: RcStr,
+) -> Result<Representation, AllocError> {
+    let arguments = vec![in alloc; Expr::val(Literal::String(text))]?;
+    Ok(Representation::new(function, Rc::new(alloc, arguments)?))
 }

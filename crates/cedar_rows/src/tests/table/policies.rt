@@ -135,6 +135,8 @@ User:b => 1 attributes [number 2], 0 tags []
 User:c => no such entity
 ask value
 E:User:a get:number => 3
+E:User:a T:number hasTag => false
+E:User:a T:number getTag => EntityAttrDoesNotExist User::"a" number was_attr=false other=true [] 0
 E:User:a E:User:parent in => true
 E:User:a E:User:first in => false
 E:User:a E:User:b in => false

@@ -105,6 +105,7 @@ L:1 @1-2 => 1, at 1-2, the same true
 T:a => "a", nowhere, the same true
 L:2 L:1 L:2 set:3 @1-2 => [1, 2], at 1-2, the same true
 L:1 E:User:a record:l,k @1-2 => {"k": User::"a", "l": 1}, at 1-2, the same true
+X:decimal:1.5 @1-2 => decimal("1.5"), at 1-2, the same true
 # the type of a value
 ask value-type
 B:true => bool
@@ -113,6 +114,7 @@ T:a => string
 E:App::User:a => (entity of type `App::User`)
 set:0 => set
 record: => record
+X:decimal:1.5 => decimal
 # the expression of a value
 ask value-expression
 L:1 @1-2 => 1, at 1-2, the same true
@@ -120,6 +122,18 @@ T:a => "a", nowhere, the same true
 E:User:a @1-2 => User::"a", at 1-2, the same true
 L:2 L:1 L:2 set:3 @1-2 => [1, 2], at 1-2, the same true
 L:1 set:0 record:l,k @1-2 => {"k": [], "l": 1}, at 1-2, the same true
+X:decimal:1.5 @1-2 => decimal("1.5"), at 1-2, the same true
+# the order of values, and their equality
+ask order
+L:1 L:2 => Less, equal false
+L:2 L:1 => Greater, equal false
+L:1 @1-2 L:1 @3-4 => Equal, equal true
+B:false B:true => Less, equal false
+T:a T:b => Less, equal false
+L:1 L:2 set:2 L:2 L:1 set:2 => Equal, equal true
+X:decimal:1.5 X:decimal:1.5 => Equal, equal true
+X:decimal:1.5 X:decimal:1.6 => Less, equal false
+X:a:2 X:b:1 => Less, equal false
 # copies of partial values, and their expressions
 ask part-copy
 L:1 => 1, the same true, as 1
