@@ -1,77 +1,127 @@
-//! Expressions and what they evaluate to, under one request and one store: each operator at each type of operand, on each side, and
-//! errors within either side.
-mod described;
-mod entities;
+//! Tables: texts with a row a line. A row has words, ` => ` and the answer that is wanted. A line `ask QUESTION` says what is asked of the rows
+//! below it, and `answers` which questions there are; before the first one it is what expressions evaluate to. A line that begins with `#` is a
+//! title. Each table is answered in a setting, which is such a text of facts too.
+mod depth;
+mod errors;
+mod everyday;
 mod logic;
 mod operands;
 mod operators;
 mod parts;
-pub mod reader;
-pub mod setting;
+mod places;
+mod policies;
 mod store;
+mod texts;
+mod unknowns;
+mod written;
 
-use cedar_evaluator::evaluator::Evaluator;
-use cedar_layers::expressions::SlotEnv;
-use cedar_values::extensions::Extensions;
-use described::described;
-use reader::expression;
-use setting::{request, slots, stored};
+use super::answers::answer;
+use super::reader::fact;
 use std::alloc::Global;
 use std::test::Fail;
 
-/// More levels than any expression here has.
-const LIMIT: usize = 1000;
-
-/// What the expression evaluates to, as text: its value, or the error with all its fields.
-fn answer(
-    alloc: Global,
-    evaluator: &Evaluator<'_, '_, '_>,
-    slots: &SlotEnv,
-    words: &str,
-) -> Result<String, Fail> {
-    let expr = expression(alloc, words)?;
-    match evaluator.interpret(alloc, &expr, slots) {
-        Ok(value) => Ok(value.to_string(alloc)?),
-        Err(error) => Ok(described(alloc, &error)?),
-    }
-}
-
 /// Whether the answers to these rows are those that are wanted. Prints each row that has another answer.
-fn rows_hold(
-    rt: &impl Print,
-    alloc: Global,
-    evaluator: &Evaluator<'_, '_, '_>,
-    slots: &SlotEnv,
-    rows: &str,
-) -> Result<bool, Fail> {
+fn rows_hold(rt: &impl Print, alloc: Global, setting: &str, rows: &str) -> Result<bool, Fail> {
+    let mut question = "value";
     let mut all_hold = true;
-    for row in rows.lines() {
-        if row.is_empty() || row.starts_with('#') {
-            continue;
-        }
-        let (words, want) = row.split_once(" => ").ok_or("a row without an answer")?;
-        let answer = answer(alloc, evaluator, slots, words)?;
-        if answer.as_str() != want {
-            println!(rt; "{words} => {answer}, not {want}")?;
+    for line in rows.lines() {
+        if let Some(asked) = fact(line, "ask") {
+            question = asked;
+        } else if !line_holds(rt, alloc, setting, question, line)? {
             all_hold = false;
         }
     }
     Ok(all_hold)
 }
 
+// Whether the line is no row, or has the answer that is wanted.
+fn line_holds(
+    rt: &impl Print,
+    alloc: Global,
+    setting: &str,
+    question: &str,
+    line: &str,
+) -> Result<bool, Fail> {
+    if line.is_empty() || line.starts_with('#') {
+        return Ok(true);
+    }
+    let (words, want) = line.split_once(" => ").ok_or("a row without an answer")?;
+    let answer = answer(alloc, setting, question, words, want)?;
+    let holds = answer.as_str() == want;
+    if !holds {
+        println!(rt; "{question}: {words} => {answer}, not {want}")?;
+    }
+    Ok(holds)
+}
+
 #[test]
-fn each_expression_has_its_answer(rt: HostRuntime) -> Result<(), Fail> {
-    let alloc = rt.alloc();
-    let entities = stored(alloc)?;
-    let extensions = Extensions::none();
-    let evaluator = Evaluator::new(alloc, request(alloc)?, &entities, &extensions, LIMIT)?;
-    let slots = slots(alloc)?;
-    let operands_hold = rows_hold(&rt, alloc, &evaluator, &slots, operands::rows())?;
-    let operators_hold = rows_hold(&rt, alloc, &evaluator, &slots, operators::rows())?;
-    let logic_hold = rows_hold(&rt, alloc, &evaluator, &slots, logic::rows())?;
-    let parts_hold = rows_hold(&rt, alloc, &evaluator, &slots, parts::rows())?;
-    let store_hold = rows_hold(&rt, alloc, &evaluator, &slots, store::rows())?;
-    assert!(rt; operands_hold && operators_hold, "the rows above");
-    assert!(rt; logic_hold && parts_hold && store_hold, "the rows above");
+fn rows_on_operands(rt: HostRuntime) -> Result<(), Fail> {
+    assert!(rt; rows_hold(&rt, rt.alloc(), everyday::setting(), operands::rows())?);
+    Ok(())
+}
+
+#[test]
+fn rows_on_operators(rt: HostRuntime) -> Result<(), Fail> {
+    assert!(rt; rows_hold(&rt, rt.alloc(), everyday::setting(), operators::rows())?);
+    Ok(())
+}
+
+#[test]
+fn rows_on_logic(rt: HostRuntime) -> Result<(), Fail> {
+    assert!(rt; rows_hold(&rt, rt.alloc(), everyday::setting(), logic::rows())?);
+    Ok(())
+}
+
+#[test]
+fn rows_on_parts(rt: HostRuntime) -> Result<(), Fail> {
+    assert!(rt; rows_hold(&rt, rt.alloc(), everyday::setting(), parts::rows())?);
+    Ok(())
+}
+
+#[test]
+fn rows_on_store(rt: HostRuntime) -> Result<(), Fail> {
+    assert!(rt; rows_hold(&rt, rt.alloc(), everyday::setting(), store::rows())?);
+    Ok(())
+}
+
+#[test]
+fn rows_on_depth(rt: HostRuntime) -> Result<(), Fail> {
+    assert!(rt; rows_hold(&rt, rt.alloc(), everyday::setting(), depth::rows())?);
+    Ok(())
+}
+
+#[test]
+fn rows_on_places(rt: HostRuntime) -> Result<(), Fail> {
+    assert!(rt; rows_hold(&rt, rt.alloc(), everyday::setting(), places::rows())?);
+    Ok(())
+}
+
+#[test]
+fn rows_on_errors(rt: HostRuntime) -> Result<(), Fail> {
+    assert!(rt; rows_hold(&rt, rt.alloc(), everyday::setting(), errors::rows())?);
+    Ok(())
+}
+
+#[test]
+fn rows_on_texts(rt: HostRuntime) -> Result<(), Fail> {
+    assert!(rt; rows_hold(&rt, rt.alloc(), everyday::setting(), texts::rows())?);
+    Ok(())
+}
+
+#[test]
+fn rows_on_written(rt: HostRuntime) -> Result<(), Fail> {
+    assert!(rt; rows_hold(&rt, rt.alloc(), everyday::setting(), written::rows())?);
+    Ok(())
+}
+
+#[test]
+fn rows_on_unknowns(rt: HostRuntime) -> Result<(), Fail> {
+    assert!(rt; rows_hold(&rt, rt.alloc(), unknowns::setting(), unknowns::rows())?);
+    Ok(())
+}
+
+#[test]
+fn rows_on_policies(rt: HostRuntime) -> Result<(), Fail> {
+    assert!(rt; rows_hold(&rt, rt.alloc(), policies::setting(), policies::rows())?);
     Ok(())
 }

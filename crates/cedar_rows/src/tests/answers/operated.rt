@@ -1,0 +1,65 @@
+//! What the operators answer that users call by themselves, and errors that are made from their fields.
+use super::evaluated::{outcome_place, outcome_text};
+use super::place_text;
+use crate::tests::reader::errors::error;
+use crate::tests::reader::leaves::{place, unary};
+use crate::tests::reader::values::values;
+use cedar_evaluator::evaluator::{EvaluationError, binary_arith, binary_relation, unary_app};
+use cedar_layers::expressions::{BinaryOp, Loc, Value};
+use cedar_values::extensions::Extensions;
+use std::alloc::Global;
+use std::test::Fail;
+
+/// The value or the error of the operator, and where it stands.
+pub fn answer(alloc: Global, ends: &str, words: &str) -> Result<String, Fail> {
+    let (words, operator) = words.rsplit_once(' ').ok_or("an operator has operands")?;
+    let values = values(alloc, words)?;
+    let place = place(ends)?;
+    let outcome = applied(alloc, operator, values, place.as_ref())?;
+    let text = outcome_text(alloc, &outcome)?;
+    let place = outcome_place(alloc, &outcome)?;
+    Ok(format!(in alloc; "{text}, {place}")?)
+}
+
+fn applied(
+    alloc: Global,
+    operator: &str,
+    mut values: Vec<Value>,
+    place: Option<&Loc>,
+) -> Result<Result<Value, EvaluationError>, Fail> {
+    let right = values.pop().ok_or("an operand is missing")?;
+    if let Some(op) = unary(operator) {
+        return Ok(unary_app(alloc, op, right, place));
+    }
+    let left = values.pop().ok_or("an operand is missing")?;
+    match operator {
+        "eq" | "less" | "lessEq" => related(alloc, operator, &left, &right),
+        "add" => Ok(binary_arith(alloc, BinaryOp::Add, left, right, place)),
+        "sub" => Ok(binary_arith(alloc, BinaryOp::Sub, left, right, place)),
+        "mul" => Ok(binary_arith(alloc, BinaryOp::Mul, left, right, place)),
+        _ => Err(Fail::from("no such operator")),
+    }
+}
+
+fn related(
+    alloc: Global,
+    operator: &str,
+    left: &Value,
+    right: &Value,
+) -> Result<Result<Value, EvaluationError>, Fail> {
+    let none = Extensions::none();
+    match operator {
+        "eq" => Ok(binary_relation(alloc, BinaryOp::Eq, left, right, &none)),
+        "less" => Ok(binary_relation(alloc, BinaryOp::Less, left, right, &none)),
+        _ => Ok(binary_relation(alloc, BinaryOp::LessEq, left, right, &none)),
+    }
+}
+
+/// The text of the error, once it is put at the place, and where it stands; a copy of it is equal.
+pub fn built_error(alloc: Global, ends: &str, words: &str) -> Result<String, Fail> {
+    let error = error(alloc, words)?.with_maybe_source_loc(place(ends)?);
+    let text = error.to_string(alloc)?;
+    let place = place_text(alloc, error.source_loc())?;
+    let is_same = error.clone()? == error;
+    Ok(format!(in alloc; "{text}, {place}, copied {is_same}")?)
+}

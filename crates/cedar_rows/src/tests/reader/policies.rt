@@ -1,0 +1,118 @@
+//! Reads policies, of which each is a fact of the setting.
+//!
+//! - `policy p permit WORDS` has this when clause, constraints that are `true`, and no place.
+//! - `policy p permit WORDS | WORDS | WORDS | WORDS` has these constraints on the principal, the action and the resource, and this when clause.
+//! - `clause p forbid 3-5 WORDS` is a policy made from its when clause alone, at a place.
+//! - `annotation p key text` is an annotation of a policy.
+use super::expressions::expression;
+use super::headed;
+use super::leaves::{place, text};
+use super::settings::{fact_of, slots};
+use cedar_layers::expressions::Expr;
+use cedar_layers::policies::{Annotations, Effect, Policy, PolicyID};
+use std::alloc::{AllocError, Global};
+use std::rc::Rc;
+use std::test::Fail;
+
+/// The policies of these ids, in order.
+pub fn policies(alloc: Global, setting: &str, ids: &str) -> Result<Vec<Policy>, Fail> {
+    let mut policies: Vec<Policy> = Vec::new(alloc);
+    for id in ids.split(' ') {
+        let policy = policy(alloc, setting, id)?;
+        policies.push(policy)?;
+    }
+    Ok(policies)
+}
+
+/// The policy of this id.
+pub fn policy(alloc: Global, setting: &str, id: &str) -> Result<Policy, Fail> {
+    match stated(setting, "clause", id) {
+        Some(rest) => clause(alloc, setting, id, rest),
+        None => {
+            let rest = stated(setting, "policy", id).ok_or("no such policy")?;
+            of_parts(alloc, setting, id, rest)
+        }
+    }
+}
+
+fn stated<'a>(setting: &'a str, keyword: &str, id: &str) -> Option<&'a str> {
+    for line in setting.lines() {
+        if let Some(rest) = fact_of(line, keyword, id) {
+            return Some(rest);
+        }
+    }
+    None
+}
+
+fn clause(alloc: Global, setting: &str, id: &str, stated: &str) -> Result<Policy, Fail> {
+    let (effect_name, rest) = headed(stated);
+    let (ends, words) = headed(rest);
+    let (effect, place) = (effect(effect_name)?, place(ends)?);
+    let annotations = Rc::new(alloc, annotations(alloc, setting, id)?)?;
+    let clause = Rc::new(alloc, expression(alloc, words)?)?;
+    let id = policy_id(alloc, id)?;
+    Ok(Policy::from_when_clause_annos(alloc, effect, clause, id, place, annotations)?)
+}
+
+fn of_parts(alloc: Global, setting: &str, id: &str, stated: &str) -> Result<Policy, Fail> {
+    let (effect_name, words) = headed(stated);
+    let effect = effect(effect_name)?;
+    let annotations = annotations(alloc, setting, id)?;
+    let slots = slots(alloc, setting)?;
+    let id = policy_id(alloc, id)?;
+    let (principal, action, resource, when) = conjuncts(alloc, words)?;
+    Ok(Policy::new(
+        alloc,
+        effect,
+        id,
+        annotations,
+        principal,
+        action,
+        resource,
+        when,
+        slots,
+    )?)
+}
+
+// The constraints on the principal, the action and the resource, and the when clause.
+fn conjuncts(alloc: Global, words: &str) -> Result<(Expr, Expr, Expr, Expr), Fail> {
+    let (principal, rest) = cut(words);
+    let (action, rest) = cut(rest);
+    let (resource, when) = cut(rest);
+    let scope = (expression(alloc, principal)?, expression(alloc, action)?);
+    let rest = (expression(alloc, resource)?, expression(alloc, when)?);
+    Ok((scope.0, scope.1, rest.0, rest.1))
+}
+
+// The words before the bar and those behind it. Where there is no bar, `true` stands before it.
+fn cut(words: &str) -> (&str, &str) {
+    match words.split_once(" | ") {
+        Some((part, rest)) => (part, rest),
+        None => ("B:true", words),
+    }
+}
+
+fn annotations(alloc: Global, setting: &str, id: &str) -> Result<Annotations, Fail> {
+    let mut annotations = Annotations::new(alloc);
+    for line in setting.lines() {
+        if let Some(rest) = fact_of(line, "annotation", id) {
+            let (key, written) = headed(rest);
+            annotations
+                .0
+                .insert(text(alloc, key)?, text(alloc, written)?)?;
+        }
+    }
+    Ok(annotations)
+}
+
+fn policy_id(alloc: Global, id: &str) -> Result<PolicyID, AllocError> {
+    Ok(PolicyID::from_string(text(alloc, id)?))
+}
+
+fn effect(word: &str) -> Result<Effect, Fail> {
+    match word {
+        "permit" => Ok(Effect::Permit),
+        "forbid" => Ok(Effect::Forbid),
+        _ => Err(Fail::from("no such effect")),
+    }
+}

@@ -1,0 +1,148 @@
+//! Reads the setting of a table. Each line states a fact; a line that states none says nothing.
+//!
+//! - `principal User:a`, `action Action:view` and `resource Photo:p 1-2` are the request's entities, each with its place if it has one.
+//! - `slot resource Photo:p` links a slot.
+//! - `store partial`: an entity that the store lacks is not known.
+//! - `entity User:a` is an entity of the store; with `entity User:a second` the facts on it name it `second`.
+//! - `attribute User:a age L:30` and `tag User:a age L:30` have the words of a value, or an unknown as `U:x`.
+//! - `ancestor User:a Group:g`.
+//! - `policies` reads those on policies.
+ghost use Rattle.std.specs.Prelude.{◌≡◌, true};
+ghost use Rattle.cedar_layers.specs.Parts.{parts_view, are_restricted_parts};
+ghost use mathlib.Core.Bool.{Bool-set};
+
+use super::leaves::{place, slot, text, uid, unknown};
+use super::values::value;
+use super::{fact, first_fact, headed};
+use cedar_evaluator::request::{Context, Request};
+use cedar_layers::expressions::{
+    EntityUID, Expr, Loc, PartialValue, ResidualExpr, SlotEnv, Unknown, Value,
+};
+use cedar_layers::policies::{Entities, Entity};
+use std::alloc::{AllocError, Global};
+use std::collections::{BTreeMap, HashSet};
+use std::rc::RcStr;
+use std::test::Fail;
+
+/// Values and unknowns under their names, as an entity has them.
+#[derive(Drop)]
+struct Parts {
+    parts: BTreeMap<RcStr, PartialValue>,
+    ghost restricted: { are_restricted_parts (parts_view parts.entries) ≡ true } by { Bool-set _ _ },
+}
+
+impl Parts {
+    fn new(alloc: Global) -> Parts {
+        Parts {
+            parts: BTreeMap::new(alloc),
+        }
+    }
+
+    // The parts, and this value under its name.
+    #[tactic(auto, using(crate::proofs::StoredValues::restricted_insert))]
+    fn with(self, name: RcStr, value: Value) -> Result<Parts, AllocError> {
+        let mut parts = self.parts;
+        parts.insert(name, PartialValue::Value(value))?;
+        Ok(Parts { parts })
+    }
+
+    // The parts, and this unknown under its name.
+    #[tactic(auto, using(crate::proofs::StoredValues::restricted_insert))]
+    fn with_unknown(self, name: RcStr, unknown: Unknown) -> Result<Parts, AllocError> {
+        let mut parts = self.parts;
+        let residual = ResidualExpr::new(Expr::unknown(unknown));
+        parts.insert(name, PartialValue::Residual(residual))?;
+        Ok(Parts { parts })
+    }
+}
+
+/// The request.
+pub fn request(alloc: Global, setting: &str) -> Result<Request, Fail> {
+    let principal = entry(alloc, setting, "principal")?;
+    let action = entry(alloc, setting, "action")?;
+    let resource = entry(alloc, setting, "resource")?;
+    Ok(Request::new(principal, action, resource, Context::empty(alloc)))
+}
+
+// The entity that stands for this variable, and its place.
+fn entry(alloc: Global, setting: &str, variable: &str) -> Result<(EntityUID, Option<Loc>), Fail> {
+    let (name, ends) = headed(first_fact(setting, variable).ok_or("no such entity")?);
+    Ok((uid(alloc, name)?, place(ends)?))
+}
+
+/// The entities of the slots that are linked.
+pub fn slots(alloc: Global, setting: &str) -> Result<SlotEnv, Fail> {
+    let mut slots = SlotEnv::new(alloc);
+    for line in setting.lines() {
+        if let Some(rest) = fact(line, "slot") {
+            let (name, entity) = headed(rest);
+            slots.insert(slot(name)?, uid(alloc, entity)?)?;
+        }
+    }
+    Ok(slots)
+}
+
+/// The store of the entities.
+pub fn stored(alloc: Global, setting: &str) -> Result<Entities, Fail> {
+    let is_partial = first_fact(setting, "store") == Some("partial");
+    let entities = entities(alloc, setting)?;
+    Ok(Entities::with(alloc, entities, is_partial)?)
+}
+
+fn entities(alloc: Global, setting: &str) -> Result<Vec<Entity>, Fail> {
+    let mut entities: Vec<Entity> = Vec::new(alloc);
+    for line in setting.lines() {
+        if let Some(rest) = fact(line, "entity") {
+            entities.push(entity(alloc, setting, rest)?)?;
+        }
+    }
+    Ok(entities)
+}
+
+// The entity that is declared so.
+fn entity(alloc: Global, setting: &str, declared: &str) -> Result<Entity, Fail> {
+    let (name, called) = headed(declared);
+    let called = if called.is_empty() { name } else { called };
+    let ancestors = ancestors(alloc, setting, called)?;
+    let attributes = parts_of(alloc, setting, "attribute", called)?;
+    let tags = parts_of(alloc, setting, "tag", called)?;
+    Ok(Entity::new(uid(alloc, name)?, attributes.parts, ancestors, tags.parts))
+}
+
+fn ancestors(alloc: Global, setting: &str, called: &str) -> Result<HashSet<EntityUID>, Fail> {
+    let mut ancestors: HashSet<EntityUID> = HashSet::new(alloc);
+    for line in setting.lines() {
+        if let Some(above) = fact_of(line, "ancestor", called) {
+            ancestors.insert(uid(alloc, above)?)?;
+        }
+    }
+    Ok(ancestors)
+}
+
+// The attributes, or the tags, of the entity.
+fn parts_of(alloc: Global, setting: &str, keyword: &str, called: &str) -> Result<Parts, Fail> {
+    let mut parts = Parts::new(alloc);
+    for line in setting.lines() {
+        if let Some(rest) = fact_of(line, keyword, called) {
+            parts = with_part(alloc, parts, rest)?;
+        }
+    }
+    Ok(parts)
+}
+
+fn with_part(alloc: Global, parts: Parts, named: &str) -> Result<Parts, Fail> {
+    let (name, words) = headed(named);
+    let name = text(alloc, name)?;
+    match words.strip_prefix("U:") {
+        Some(rest) => Ok(parts.with_unknown(name, unknown(alloc, rest)?)?),
+        None => Ok(parts.with(name, value(alloc, words)?)?),
+    }
+}
+
+/// What the line states of this keyword on what is called so, if it states that.
+pub fn fact_of<'a>(line: &'a str, keyword: &str, called: &str) -> Option<&'a str> {
+    match fact(line, keyword) {
+        Some(rest) => fact(rest, called),
+        None => None,
+    }
+}

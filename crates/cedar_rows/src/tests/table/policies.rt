@@ -1,0 +1,156 @@
+//! Rows on policies, requests and stores: what is decided, for which reasons and with which errors, and what each holds.
+
+// Policies and a store, of which each line states a fact.
+static SETTING: &str = r#"
+principal User:a 0-1
+action User:b
+resource User:c 2-3
+slot principal User:a
+# entities, of which the later one stays
+entity User:a
+entity User:b
+entity User:a later
+attribute User:a number L:1
+attribute User:b number L:2
+attribute later number L:3
+ancestor User:a User:first
+ancestor later User:parent
+# policies that apply, that do not, and that err
+policy yes permit B:true
+policy also permit V:principal E:User:a eq
+policy never permit B:false
+policy bad permit V:context get:bad
+policy long permit L:1
+policy deny forbid V:resource E:User:c eq
+policy not-denied forbid B:false
+policy bad-deny forbid V:context get:bad @4-5 L:2 eq
+policy unlinked permit S:resource S:principal eq
+# constraints
+policy scoped permit V:principal S:principal eq | V:action E:User:b eq | B:true | V:context
+policy other permit V:principal E:User:b eq | V:action E:User:b eq | B:true | V:context get:bad
+policy late permit B:true | B:true | V:resource E:User:d eq | V:context get:bad
+policy early permit L:1 | V:context get:bad | B:true | B:true
+policy linked permit V:principal S:principal eq | B:true | B:true | B:true
+annotation linked id first
+annotation linked note of␣two␣words
+# policies at a place
+clause placed forbid 3-5 V:context
+clause placed-bad permit 3-5 V:context get:bad @6-7
+clause unplaced permit - B:true
+annotation placed id second
+"#;
+
+// Each row has the ids of policies, the name of a part of the request, or that of an entity.
+static ROWS: &str = r#"
+# which policies decide, and which err
+ask decide
+yes => Allow [yes] []
+never => Deny [] []
+never yes => Allow [yes] []
+yes also => Allow [also, yes] []
+also yes never => Allow [also, yes] []
+deny => Deny [deny] []
+yes deny => Deny [deny] []
+deny yes => Deny [deny] []
+not-denied yes => Allow [yes] []
+not-denied => Deny [] []
+bad => Deny [] [bad: RecordAttrDoesNotExist bad [] 0 nowhere]
+yes bad => Allow [yes] [bad: RecordAttrDoesNotExist bad [] 0 nowhere]
+bad bad-deny yes => Allow [yes] [bad: RecordAttrDoesNotExist bad [] 0 nowhere; bad-deny: RecordAttrDoesNotExist bad [] 0 at 4-5]
+bad-deny yes bad => Allow [yes] [bad-deny: RecordAttrDoesNotExist bad [] 0 at 4-5; bad: RecordAttrDoesNotExist bad [] 0 nowhere]
+bad-deny deny yes => Deny [deny] [bad-deny: RecordAttrDoesNotExist bad [] 0 at 4-5]
+long => Deny [] [long: TypeError expected Bool actual Long nowhere]
+unlinked => Deny [] [unlinked: UnlinkedSlot ?resource nowhere]
+linked => Allow [linked] []
+placed => Deny [] [placed: TypeError expected Bool actual Record at 3-5]
+placed-bad => Deny [] [placed-bad: RecordAttrDoesNotExist bad [] 0 at 6-7]
+scoped => Deny [] [scoped: TypeError expected Bool actual Record nowhere]
+# the texts of errors
+ask decide-texts
+bad => while evaluating policy `bad`: record does not have the attribute `bad`
+long yes unlinked => while evaluating policy `long`: type error: expected bool, got long; while evaluating policy `unlinked`: template slot `?resource` was not linked
+# a constraint that is false keeps an error of the when clause back
+ask decide
+other => Deny [] []
+late => Deny [] []
+early => Deny [] [early: TypeError expected Bool actual Long nowhere]
+# the constraint on the principal is four levels deep, that on the action too, that on the resource three, the when clause two
+ask decide 5
+linked yes => Allow [linked, yes] []
+ask decide 4
+yes => Allow [yes] []
+also yes => Allow [also, yes] []
+unplaced yes => Allow [unplaced, yes] []
+linked yes => Allow [yes] [linked: RecursionLimit nowhere]
+ask decide 3
+yes also => Deny [] [yes: RecursionLimit nowhere; also: RecursionLimit nowhere]
+unplaced deny => Deny [] [unplaced: RecursionLimit nowhere; deny: RecursionLimit nowhere]
+ask decide 2
+yes => Deny [] [yes: RecursionLimit nowhere]
+placed => Deny [] [placed: RecursionLimit at 3-5]
+ask decide 0
+yes deny => Deny [] [yes: RecursionLimit nowhere; deny: RecursionLimit nowhere]
+placed => Deny [] [placed: RecursionLimit nowhere]
+# what the condition of one policy comes out as
+ask evaluate
+yes => true
+never => false
+deny => true
+bad => RecordAttrDoesNotExist bad [] 0
+long => TypeError expected Bool actual Long
+linked => true
+ask evaluate 2
+yes => RecursionLimit
+# policies in order, and ids that come again
+ask set
+yes never deny => permit yes, permit never, forbid deny
+deny never yes => forbid deny, permit never, permit yes
+yes yes => duplicate policy id `yes`
+yes never yes never => duplicate policy id `yes`
+yes never never yes => duplicate policy id `never`
+# what a copy of a policy holds
+ask policy
+linked => permit linked [id first, note of two words] [?principal User::"a"]
+placed => forbid placed [id second] []
+yes => permit yes [] [?principal User::"a"]
+# the condition of a copy, where each of its conjunctions stands, the outermost first, and then where the first constraint does
+ask condition
+placed => ((true && true) && true) && context, at 3-5, at 3-5, at 3-5, nowhere
+linked => (((principal == ?principal) && true) && true) && true, nowhere, nowhere, nowhere, nowhere
+early => ((1 && context["bad"]) && true) && true, nowhere, nowhere, nowhere, nowhere
+# the request
+ask request
+principal => User::"a", User::"a" at 0-1
+action => User::"b", User::"b" nowhere
+resource => User::"c", User::"c" at 2-3
+context => 0 attributes, known true
+# a value of a variable stands at the expression
+ask place
+V:principal => value nowhere
+V:principal @5-6 => value at 5-6
+# the store
+ask entity
+User:a => 1 attributes [number 3], 0 tags []
+User:b => 1 attributes [number 2], 0 tags []
+User:c => no such entity
+ask value
+E:User:a get:number => 3
+E:User:a T:number hasTag => false
+E:User:a T:number getTag => EntityAttrDoesNotExist User::"a" number was_attr=false other=true [] 0
+E:User:a E:User:parent in => true
+E:User:a E:User:first in => false
+E:User:a E:User:b in => false
+# a guard that is false keeps an error back, and one that is true shows it
+V:principal E:User:b eq V:context get:bad L:2 eq and => false
+V:principal E:User:a eq V:context get:bad L:2 eq and => RecordAttrDoesNotExist bad [] 0
+"#;
+
+/// The setting.
+pub fn setting() -> &'static str {
+    SETTING
+}
+
+/// The rows.
+pub fn rows() -> &'static str {
+    ROWS
+}
