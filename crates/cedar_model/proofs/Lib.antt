@@ -13,8 +13,11 @@ pub mod Total
 pub mod Computed
 pub mod Conjunction
 pub mod Functional
+pub mod Recorded
 pub mod Standing
 pub mod Carried
+pub mod Stepping
+pub mod Completions
 pub mod Chained
 pub mod Exactly
 pub mod Stability

@@ -24,6 +24,7 @@ pub mod Examples
 pub mod Rows
 pub mod Responses
 pub mod Meanings
+pub mod Refusals
 pub mod Chains
 pub mod ResponseLaws
 pub mod Needs

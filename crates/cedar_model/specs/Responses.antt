@@ -5,7 +5,7 @@ use Rattle.cedar_model.specs.Values.{Represented, abstract_value}
 use Rattle.cedar_model.specs.Outcomes.{bool_of}
 use Rattle.cedar_model.specs.World.{World, Slots, Extensions, Functions}
 use Rattle.cedar_model.specs.Meaning.{meaning}
-use Rattle.cedar_model.specs.Failures.{Failure, of_limit, of_memory, failure_kind, value, residual, Answer, answers, fails, wrong_type}
+use Rattle.cedar_model.specs.Failures.{Failure, out_of_memory, value, residual, Answer, answers, fails, wrong_type}
 use Rattle.cedar_model.specs.Settings.{Setting}
 use Rattle.cedar_model.specs.Rules.{StoredCalls, Runs}
 use Rattle.cedar_model.specs.Agreement.{Fits, HaveSameOutcome, no_slots}
@@ -74,11 +74,11 @@ unfoldable pub with_error : Text → Option Failure → List (Text × Failure) �
 with_error id None errors = errors
 with_error id (Some e) errors = (id, e) ∷ errors
 
--- each policy in order is reported by an answer of its condition within the limit, and its error, if any, is recorded in that order; a condition whose need is above the limit errs with the recursion limit
+-- each policy in order is reported by an answer of its condition within the limit, and its error, if any, is recorded in that order; a condition whose need is above the limit errs with the recursion limit. No answer is want of memory, which ends a run
 abbrev pub RunOf : Setting → StoredCalls → ℕ → List Policy → List Row → List (Text × Failure) → Type 0
 RunOf s calls limit [] rows errors = (rows ≡ []) × (errors ≡ [])
 RunOf s calls limit (p ∷ ps) rows errors =
-    (a : Answer) × (rest : List Row) × (later : List (Text × Failure)) × Runs (with_slots s p.slots) calls limit p.condition a × RunOf s calls limit ps rest later × (rows ≡ record { id = p.id; effect = p.effect; reported = reported_of a } ∷ rest) × (errors ≡ with_error p.id (error_of a) later)
+    (a : Answer) × (rest : List Row) × (later : List (Text × Failure)) × Runs (with_slots s p.slots) calls limit p.condition a × (a ≢ fails out_of_memory) × RunOf s calls limit ps rest later × (rows ≡ record { id = p.id; effect = p.effect; reported = reported_of a } ∷ rest) × (errors ≡ with_error p.id (error_of a) later)
 
 -- ---- what a response carries on
 
@@ -97,15 +97,6 @@ carried r =
     record { id = r.id; effect = r.effect; condition = both (both (both truth truth) truth) (clause_of r.reported); slots = no_slots }
 
 -- ---- premises of what stands
-
--- an error of a policy: neither the recursion limit nor want of memory
-abbrev pub IsRecordable : Option Failure → Type 0
-IsRecordable None = Unit {0}
-IsRecordable (Some e) = (failure_kind e ≢ of_limit) × (failure_kind e ≢ of_memory)
-
-abbrev pub AreRecordable : List (Text × Failure) → Type 0
-AreRecordable [] = Unit {0}
-AreRecordable (e ∷ es) = IsRecordable (Some e.1) × AreRecordable es
 
 -- a world fits each policy's condition
 abbrev pub FitPolicies : Functions → World → List Policy → Type 0
