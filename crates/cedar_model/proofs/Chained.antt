@@ -69,7 +69,7 @@ module _ (rs : List Row) where
   sorted_more i forbid (Responses.reported_residual t) =
       chaining (to_middle (row i forbid (Responses.reported_residual t)) (Chains.rows_by permit rs) (Chains.rows_by forbid rs)) (before (Chains.rows_by permit rs) (chaining (to_middle (row i forbid (Responses.reported_residual t)) (trues forbid) (falses forbid ++ residuals forbid)) (before (trues forbid) (to_middle (row i forbid (Responses.reported_residual t)) (falses forbid) (residuals forbid)))))
 
-sorted_is : (rows : List Row) → IsReordering Row rows (sorted rows)
+pub sorted_is : (rows : List Row) → IsReordering Row rows (sorted rows)
 unfolding Chains.rows_of
 sorted_is [] = nothing
 sorted_is (r ∷ rs) = chaining (keeping r (sorted_is rs)) (sorted_more rs r.id r.effect r.reported)

@@ -13,6 +13,9 @@ pub mod Total
 pub mod Computed
 pub mod Conjunction
 pub mod Functional
+pub mod Counting
+pub mod Bounds
+pub mod Concrete
 pub mod Recorded
 pub mod Standing
 pub mod Carried

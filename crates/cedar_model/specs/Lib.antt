@@ -31,3 +31,5 @@ pub mod Needs
 pub mod Steps
 pub mod Authorizations
 pub mod AuthorizationLaws
+pub mod Reports
+pub mod ReportLaws

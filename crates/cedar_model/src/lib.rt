@@ -6,5 +6,6 @@ pub mod examples;
 pub mod levels;
 pub mod meaning;
 pub mod policies;
+pub mod reports;
 pub mod responses;
 pub mod values;
