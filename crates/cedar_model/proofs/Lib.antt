@@ -24,3 +24,5 @@ pub mod Completions
 pub mod Chained
 pub mod Exactly
 pub mod Stability
+pub mod Limits
+pub mod Chaining

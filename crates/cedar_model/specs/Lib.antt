@@ -33,3 +33,5 @@ pub mod Authorizations
 pub mod AuthorizationLaws
 pub mod Reports
 pub mod ReportLaws
+pub mod ChainLaws
+pub mod Headline
