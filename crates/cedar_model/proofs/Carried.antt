@@ -86,14 +86,14 @@ module _ (X : Extensions) (ans : Functions) (w : World) where
 -- ---- clauses that are true or false
 
 -- the limit, or this bool
-abbrev IsBoolOrLimit : Bool → Answer → Type 0
+abbrev pub IsBoolOrLimit : Bool → Answer → Type 0
 IsBoolOrLimit b a = (a ≡ limit) ⊎ (a ≡ answers_bool b)
 
 module _ (s : Setting) (calls : Rules.StoredCalls) where
-  abbrev Always : Bool → Term → Type 0
+  abbrev pub Always : Bool → Term → Type 0
   Always b t = (n : ℕ) (a : Answer) → Rules.Runs s calls n t a → IsBoolOrLimit b a
 
-  literal_always : (b : Bool) → Always b (literal (bool_literal b))
+  pub literal_always : (b : Bool) → Always b (literal (bool_literal b))
   literal_always b zero a r = inl r
   literal_always b (suc n) a r = inr r
 
@@ -116,7 +116,7 @@ module _ (s : Setting) (calls : Rules.StoredCalls) where
   both_always b t u ht hu zero a r = inl r
   both_always b t u ht hu (suc n) a (x, g, r) = left_always n b u x a hu (ht n x g) r
 
-  clause_always : (b : Bool) (c : Term) → Always b c → Always b (both (both (both Responses.truth Responses.truth) Responses.truth) c)
+  pub clause_always : (b : Bool) (c : Term) → Always b c → Always b (both (both (both Responses.truth Responses.truth) Responses.truth) c)
   clause_always b c h =
       both_always b _ c (both_always true _ Responses.truth (both_always true Responses.truth Responses.truth (literal_always true) (literal_always true)) (literal_always true)) h
 

@@ -26,3 +26,5 @@ pub mod Exactly
 pub mod Stability
 pub mod Limits
 pub mod Chaining
+pub mod Refusing
+pub mod Keeping

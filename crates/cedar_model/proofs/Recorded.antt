@@ -37,7 +37,7 @@ kind_of_memory recursion_limit h = absurd (cc)
 kind_of_memory out_of_memory h = refl
 
 -- the error of an answer that is no want of memory, where it is not the limit
-unless_memory : (a : Answer) (id : Text) (later : List (Text × Failure)) → a ≢ fails out_of_memory → HaveNoLimit (Responses.with_error id (Responses.error_of a) later) → IsRecordable (Responses.error_of a) × HaveNoLimit later
+pub unless_memory : (a : Answer) (id : Text) (later : List (Text × Failure)) → a ≢ fails out_of_memory → HaveNoLimit (Responses.with_error id (Responses.error_of a) later) → IsRecordable (Responses.error_of a) × HaveNoLimit later
 unfolding Responses.with_error Responses.error_of Responses.bool_error failure_kind
 unless_memory (answers (value v)) id later m h = by (bool_of (abstract_value v)) h
   where

@@ -17,7 +17,7 @@ abbrev pub AreAlikeRefusals : Refusal → Refusal → Type 0
 AreAlikeRefusals e f =
     (e ≡ f) ⊎ ((d : Failure) × (g : Failure) × (e ≡ context_fails d) × (f ≡ context_fails g) × (failure_kind d ≡ failure_kind g))
 
--- responses to the same request up to its context, or refusals that are alike
+-- responses, or refusals that are alike
 abbrev pub AreAlikeSteps : Result Response Refusal → Result Response Refusal → Type 0
 AreAlikeSteps (Ok a) (Ok b) = Unit {0}
 AreAlikeSteps (Ok a) (Err f) = ⊥
