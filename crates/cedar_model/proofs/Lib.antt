@@ -28,3 +28,5 @@ pub mod Limits
 pub mod Chaining
 pub mod Refusing
 pub mod Keeping
+pub mod Answering
+pub mod Finishing

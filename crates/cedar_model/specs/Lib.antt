@@ -34,4 +34,5 @@ pub mod AuthorizationLaws
 pub mod Reports
 pub mod ReportLaws
 pub mod ChainLaws
+pub mod Progress
 pub mod Headline

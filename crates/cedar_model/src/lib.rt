@@ -7,6 +7,7 @@ pub mod examples;
 pub mod levels;
 pub mod meaning;
 pub mod policies;
+pub mod progress;
 pub mod reports;
 pub mod responses;
 pub mod values;
