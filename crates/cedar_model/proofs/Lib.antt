@@ -30,3 +30,4 @@ pub mod Refusing
 pub mod Keeping
 pub mod Answering
 pub mod Finishing
+pub mod Exemplified

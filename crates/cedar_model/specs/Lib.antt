@@ -35,4 +35,5 @@ pub mod Reports
 pub mod ReportLaws
 pub mod ChainLaws
 pub mod Progress
+pub mod ChainExamples
 pub mod Headline

@@ -2,6 +2,7 @@
 #![tactic(auto)]
 
 pub mod authorizations;
+pub mod chain_examples;
 pub mod chains;
 pub mod examples;
 pub mod levels;
