@@ -31,3 +31,4 @@ pub mod Keeping
 pub mod Answering
 pub mod Finishing
 pub mod Exemplified
+pub mod TwoSteps
