@@ -1,12 +1,12 @@
 -- Answers that are no residual: from parts whose answers are none to the whole.
 use Rattle.std.specs.Prelude.{◌≡◌, ◌≢◌, ℕ, zero, suc, ◌==◌, Bool, true, false, cond, ◌&&◌, List, [], ◌∷◌, length, map, Option, Some, None, Result, Ok, Err, is_some}
-use Rattle.std.proofs.Common.{refl, sym, ap, ◌∙◌, subst}
+use Rattle.std.proofs.Common.{refl, sym, ap, subst}
 use Rattle.cedar_model.specs.Terms.{Text, bool_literal, Variable, principal, action, resource, context, Slot, ValueType, BinaryOperator, Term, literal, variable, slot, unknown, if_then_else, both, either, unary, binary, call, get_attribute, has_attribute, extended_has, like, is_of_type, set_of, record_of, Terms, no_terms, one_term, Fields, no_fields, one_field}
 use Rattle.cedar_model.specs.Values.{AbstractValue, plain, Represented, abstract_value}
 use Rattle.cedar_model.specs.Shapes.{is_restricted, are_restricted, are_restricted_at}
 use Rattle.cedar_model.specs.Outcomes.{Outcome, bool_of, type_eq, value_type}
 use Rattle.cedar_model.specs.World.{World, FunctionAnswer, function_asks, Functions}
-use Rattle.cedar_model.specs.Failures.{Failure, PartialValue, value, residual, Answer, answers, fails, answers_value, answers_bool, wrong_type, limit}
+use Rattle.cedar_model.specs.Failures.{Failure, PartialValue, value, residual, Answer, answers, fails, answers_value, wrong_type, limit}
 use Rattle.cedar_model.specs.Settings.{Entry, known_entry, unknown_entry, ContextPart, absent_context, known_context, residual_context, StoredEntity, Setting, found_in, not_known, entry_part, context_value, variable_part}
 use Rattle.cedar_model.specs.Operators
 use Rattle.cedar_model.specs.Rules

@@ -1,11 +1,10 @@
 -- Wherever the rows stand, a given decision is that of the policies, and their reasons lie between the two bounds.
-use Rattle.std.specs.Prelude.{◌≡◌, ◌≢◌, ◌⊎◌, Bool, true, false, cond, not, ◌&&◌, ◌||◌, List, [], ◌∷◌, ◌++◌, map, Option, Some, None}
+use Rattle.std.specs.Prelude.{◌≡◌, ◌≢◌, ◌⊎◌, Bool, true, false, cond, not, ◌&&◌, ◌||◌, List, [], ◌∷◌, ◌++◌, Option, Some, None}
 use Rattle.std.proofs.Common.{refl, sym, ap, ◌∙◌, subst, inl, inr}
 use Rattle.cedar_model.specs.Terms.{Text}
 use Rattle.cedar_model.specs.Outcomes.{text_eq, has_text}
 use Rattle.cedar_model.specs.World.{World, Extensions, Functions}
 use Rattle.cedar_model.specs.Meaning.{meaning}
-use Rattle.cedar_model.specs.Policies
 use Rattle.cedar_model.specs.Policies.{Effect, permit, forbid, Policy, Verdict, satisfied, unsatisfied, erring, verdict, Judged, Decision, allow, deny, is_satisfied_by, some_satisfied, satisfied_ids, decision, reasons, judge_each}
 use Rattle.cedar_model.specs.Responses
 use Rattle.cedar_model.specs.Responses.{Reported, reported_true, reported_false, reported_residual, Row}

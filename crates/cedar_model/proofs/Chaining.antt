@@ -1,7 +1,6 @@
 -- The headline, by induction on the steps: each response's request is completed by the world, and what it reports stands.
 use Rattle.std.specs.Prelude.{◌≡◌, ℕ, List, [], ◌∷◌, Some, None, Result, Ok}
-use Rattle.std.proofs.Common.{refl, sym, ap, ◌∙◌, subst}
-use Rattle.cedar_model.specs.Terms.{Text}
+use Rattle.std.proofs.Common.{sym, subst}
 use Rattle.cedar_model.specs.Values.{Represented}
 use Rattle.cedar_model.specs.World.{World, Functions}
 use Rattle.cedar_model.specs.Settings.{RequestPart, Setting, Store}

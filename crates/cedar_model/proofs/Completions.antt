@@ -3,7 +3,7 @@ use Rattle.std.specs.Prelude.{◌≡◌, ℕ, Bool, true, false, cond, length, O
 use Rattle.std.specs.Str.{chars}
 use Rattle.std.proofs.Common.{refl, sym, ap, ◌∙◌, subst}
 use Rattle.cedar_model.specs.Terms.{Text, EntityName, entity_literal, ValueType, Term, literal, variable, slot, unknown, if_then_else, both, either, unary, binary, call, get_attribute, has_attribute, extended_has, like, is_of_type, set_of, record_of, Terms, no_terms, one_term, Fields, no_fields, one_field}
-use Rattle.cedar_model.specs.Values.{AbstractValue, plain, set_value, record_value, extension_value, AbstractFields, Represented, plain_represented, set_represented, record_represented, extension_represented, RepresentedFields, abstract_value, abstract_fields}
+use Rattle.cedar_model.specs.Values.{AbstractValue, plain, set_value, record_value, AbstractFields, Represented, plain_represented, set_represented, record_represented, extension_represented, RepresentedFields, abstract_value}
 use Rattle.cedar_model.specs.Sets.{abstract_set}
 use Rattle.cedar_model.specs.Outcomes
 use Rattle.cedar_model.specs.Outcomes.{Outcome, gives, errs, entity_of, text_eq, ErrorKind}
@@ -18,7 +18,6 @@ use Rattle.cedar_model.specs.Chains
 use Rattle.cedar_model.proofs.Written.{written_means, written_fits}
 use Rattle.cedar_model.proofs.Soundness.{sound_stands, runs_sound}
 use Rattle.cedar_model.proofs.Stepping
-use Rattle.std.specs.Cmp.Lexicographic.{bytes_decides}
 
 some_inj : {A : Type 0} {x y : A} → Some x ≡ Some y → x ≡ y
 some_inj e = cc

@@ -1,8 +1,8 @@
 -- What a response comes out as when it is made concrete.
-use Rattle.std.specs.Prelude.{◌≡◌, ◌⊎◌, ℕ, Bool, true, false, cond, not, ◌&&◌, ◌||◌, List, [], ◌∷◌, ◌++◌, map, Option, Some, None, Result, Ok, Err}
+use Rattle.std.specs.Prelude.{◌≡◌, ◌⊎◌, ℕ, Bool, true, false, cond, not, ◌&&◌, ◌||◌, List, [], ◌∷◌, ◌++◌, map, Option, Some, None}
 use Rattle.std.proofs.Common.{refl, sym, ap, ◌∙◌, subst, inl, inr}
 use Rattle.cedar_model.specs.Terms.{Text}
-use Rattle.cedar_model.specs.Values.{Represented, abstract_value}
+use Rattle.cedar_model.specs.Values.{abstract_value}
 use Rattle.cedar_model.specs.Outcomes.{bool_of, has_text}
 use Rattle.cedar_model.specs.World.{World, Extensions, Functions}
 use Rattle.cedar_model.specs.Failures.{Failure, value, residual, Answer, answers, fails}

@@ -1,12 +1,12 @@
 -- Rows by effect and report, as tests on lists: whether one of them has an id that passes a test.
-use Rattle.std.specs.Prelude.{◌≡◌, ◌≢◌, ◌⊎◌, Bool, true, false, cond, not, ◌&&◌, ◌||◌, List, [], ◌∷◌, ◌++◌, map}
-use Rattle.std.proofs.Common.{refl, sym, ap, ◌∙◌, subst, inl, inr}
+use Rattle.std.specs.Prelude.{◌≡◌, ◌⊎◌, Bool, true, false, cond, ◌&&◌, ◌||◌, List, [], ◌∷◌, ◌++◌}
+use Rattle.std.proofs.Common.{refl, sym, ap, ◌∙◌, inl, inr}
 use Rattle.cedar_model.specs.Terms.{Text}
 use Rattle.cedar_model.specs.Outcomes.{text_eq, has_text}
-use Rattle.cedar_model.specs.Policies.{Effect, permit, forbid, Judged, is_satisfied, some_satisfied, satisfied_ids}
+use Rattle.cedar_model.specs.Policies.{Effect, Judged, is_satisfied, some_satisfied, satisfied_ids}
 use Rattle.cedar_model.specs.Reordering.{IsReordering, nothing, keeping, swapping, chaining}
 use Rattle.cedar_model.specs.Responses.{Reported, reported_true, reported_false, reported_residual, Row}
-use Rattle.cedar_model.specs.Chains.{is_true, is_false, is_residual, has_effect, rows_of}
+use Rattle.cedar_model.specs.Chains.{is_true, is_residual, has_effect, rows_of}
 use Rattle.cedar_model.specs.Reports.{some_row, ids}
 use Rattle.cedar_model.proofs.Decisions.{or_swap}
 

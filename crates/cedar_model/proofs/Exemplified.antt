@@ -1,13 +1,10 @@
 -- Runs that compute, for the examples.
-use Rattle.std.specs.Prelude.{◌≡◌, ◌≢◌, ℕ, Bool, true, false, cond, ◌&&◌, List, [], ◌∷◌, Option, Some, None}
+use Rattle.std.specs.Prelude.{◌≡◌, ◌≢◌, ℕ, Bool, true, false, cond, List, [], ◌∷◌, Some, None}
 use Rattle.std.proofs.Common.{refl, sym, ap, ◌∙◌, subst}
 use Rattle.std.specs.Cmp.Lexicographic.{bytes_decides}
 use Rattle.cedar_model.specs.Terms.{Text, Term}
-use Rattle.cedar_model.specs.Values.{Represented}
 use Rattle.cedar_model.specs.Outcomes.{text_eq}
-use Rattle.cedar_model.specs.Failures
 use Rattle.cedar_model.specs.Failures.{Failure, FailureKind, of_meaning, of_residual, of_limit, of_memory, failure_kind, Answer, answers, fails, out_of_memory}
-use Rattle.cedar_model.specs.Settings
 use Rattle.cedar_model.specs.Settings.{Setting, part_at}
 use Rattle.cedar_model.specs.Rules
 use Rattle.cedar_model.specs.Policies
@@ -18,7 +15,7 @@ use Rattle.cedar_model.specs.Refusals
 use Rattle.cedar_model.specs.Chains
 use Rattle.cedar_model.specs.Reports
 use Rattle.cedar_model.specs.Examples.{some_calls}
-use Rattle.cedar_model.proofs.Computed.{opened, meaning_opened, some_answer}
+use Rattle.cedar_model.proofs.Computed.{meaning_opened, some_answer}
 use Rattle.cedar_model.proofs.Total.{total}
 
 -- all that chains compute with

@@ -1,16 +1,16 @@
 -- Progress: where the map names every unknown, the next request is known, and no policy leaves a residual.
 use Rattle.std.specs.Prelude.{◌≡◌, ℕ, Bool, true, false, cond, ◌&&◌, List, [], ◌∷◌, ◌++◌, map, Option, Some, None, Result, Ok, Err, is_some, codes}
-use Rattle.std.proofs.Common.{refl, sym, ap, ◌∙◌, subst}
-use Rattle.cedar_model.specs.Terms.{Text, EntityName, ValueType, bool_literal, Term, literal, variable, slot, unknown, if_then_else, both, either, unary, binary, call, get_attribute, has_attribute, extended_has, like, is_of_type, set_of, record_of, Terms, no_terms, one_term, Fields, no_fields, one_field}
-use Rattle.cedar_model.specs.Values.{Represented, plain_represented, set_represented, record_represented, extension_represented, RepresentedFields, abstract_value, expression_of}
+use Rattle.std.proofs.Common.{refl, sym, subst}
+use Rattle.cedar_model.specs.Terms.{Text, EntityName, ValueType, Term, literal, variable, slot, unknown, if_then_else, both, either, unary, binary, call, get_attribute, has_attribute, extended_has, like, is_of_type, set_of, record_of, Terms, no_terms, one_term, Fields, no_fields, one_field}
+use Rattle.cedar_model.specs.Values.{Represented, plain_represented, set_represented, record_represented, extension_represented, abstract_value, expression_of}
 use Rattle.cedar_model.specs.Shapes.{is_restricted, are_restricted, are_restricted_at}
 use Rattle.cedar_model.specs.Outcomes.{entity_of, bool_of, text_eq}
 use Rattle.cedar_model.specs.World.{Functions}
 use Rattle.cedar_model.specs.Failures.{Failure, value, residual, Answer, answers, fails}
 use Rattle.cedar_model.specs.Settings.{Entry, known_entry, unknown_entry, ContextPart, absent_context, known_context, residual_context, Setting, Store}
-use Rattle.cedar_model.specs.Rules.{StoredCalls, Runs}
+use Rattle.cedar_model.specs.Rules.{StoredCalls}
 use Rattle.cedar_model.specs.Agreement
-use Rattle.cedar_model.specs.Policies.{Effect, permit, forbid}
+use Rattle.cedar_model.specs.Policies.{permit, forbid}
 use Rattle.cedar_model.specs.Reordering.{IsReordering, nothing, keeping, swapping, chaining}
 use Rattle.cedar_model.specs.Responses
 use Rattle.cedar_model.specs.Responses.{Reported, reported_true, reported_false, reported_residual, Row}

@@ -1,9 +1,9 @@
 -- A step takes nothing back: a true row stays true, and a false one false, where no recursion limit is recorded.
-use Rattle.std.specs.Prelude.{◌≡◌, ◌≢◌, ◌⊎◌, ℕ, Bool, true, false, cond, not, ◌&&◌, ◌||◌, List, [], ◌∷◌, ◌++◌, map, Option, Some, None}
+use Rattle.std.specs.Prelude.{◌≡◌, ◌⊎◌, ℕ, Bool, true, false, cond, not, ◌&&◌, ◌||◌, List, [], ◌∷◌, ◌++◌, map, Option, Some, None}
 use Rattle.std.proofs.Common.{refl, sym, ap, ◌∙◌, subst, inl, inr}
 use Rattle.cedar_model.specs.Terms.{Text, Term, bool_literal, literal, both}
 use Rattle.cedar_model.specs.Outcomes.{bool_of, text_eq, has_text}
-use Rattle.cedar_model.specs.Failures.{Failure, failure_kind, fails, Answer, answers_bool, limit}
+use Rattle.cedar_model.specs.Failures.{Failure, failure_kind, Answer, answers_bool, limit}
 use Rattle.cedar_model.specs.Settings.{Setting, Store}
 use Rattle.cedar_model.specs.Rules
 use Rattle.cedar_model.specs.Policies.{Effect, permit, forbid, Decision, allow, deny}

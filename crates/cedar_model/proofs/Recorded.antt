@@ -1,8 +1,8 @@
 -- Errors that policies may have in what stands: neither the recursion limit nor want of memory.
 use Rattle.std.specs.Prelude.{◌≡◌, ◌≢◌, ℕ, List, [], ◌∷◌, Option, Some, None}
-use Rattle.std.proofs.Common.{refl, sym, ap, ◌∙◌, subst}
+use Rattle.std.proofs.Common.{refl, sym, ap, subst}
 use Rattle.cedar_model.specs.Terms.{Text}
-use Rattle.cedar_model.specs.Values.{Represented, abstract_value}
+use Rattle.cedar_model.specs.Values.{abstract_value}
 use Rattle.cedar_model.specs.Outcomes.{bool_of}
 use Rattle.cedar_model.specs.Failures.{Failure, entity_is_missing, entity_attribute_is_missing, record_attribute_is_missing, function_is_missing, type_is_wrong, arguments_are_miscounted, binary_overflow, unary_overflow, slot_is_unlinked, function_has_failed, residual_is_left, recursion_limit, out_of_memory, of_limit, of_memory, failure_kind, value, residual, Answer, answers, fails}
 use Rattle.cedar_model.specs.Settings.{Setting}

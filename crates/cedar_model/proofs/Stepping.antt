@@ -1,6 +1,6 @@
 -- A step that succeeds, in its parts.
-use Rattle.std.specs.Prelude.{◌≡◌, ℕ, List, map, Option, Some, None, Result, Ok, Err}
-use Rattle.std.proofs.Common.{refl, sym, ap}
+use Rattle.std.specs.Prelude.{◌≡◌, ℕ, map, Option, Some, None, Result, Ok, Err}
+use Rattle.std.proofs.Common.{refl, ap}
 use Rattle.cedar_model.specs.Settings.{ContextPart, RequestPart, Store, Setting}
 use Rattle.cedar_model.specs.Rules
 use Rattle.cedar_model.specs.Responses

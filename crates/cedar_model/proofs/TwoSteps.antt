@@ -1,24 +1,20 @@
 -- A chain of two steps, and a world that completes it.
-use Rattle.std.specs.Prelude.{◌≡◌, ℕ, pos, Bool, true, false, List, [], ◌∷◌, map, Option, Some, None, Ok, codes}
+use Rattle.std.specs.Prelude.{◌≡◌, true, [], ◌∷◌, Some, None, Ok, codes}
 use Rattle.std.proofs.Common.{refl, sym, ap, ◌∙◌, subst}
-use Rattle.cedar_model.specs.Terms.{Text, EntityName, long_literal, bool_literal, Term, unknown, record_of, Fields, fields_of}
-use Rattle.cedar_model.specs.Values.{Represented, plain_represented, RepresentedFields, one_represented_at, no_represented_at, abstract_value, expression_of}
+use Rattle.cedar_model.specs.Terms.{Text, bool_literal, unknown, record_of, Fields, fields_of}
+use Rattle.cedar_model.specs.Values.{Represented, plain_represented, one_represented_at, no_represented_at, abstract_value, expression_of}
 use Rattle.cedar_model.specs.Shapes.{is_restricted}
-use Rattle.cedar_model.specs.World.{World, FunctionAnswer, function_gives, function_asks}
-use Rattle.cedar_model.specs.Failures
 use Rattle.cedar_model.specs.Failures.{Answer, PartialValue, answers_bool, answers, value}
 use Rattle.cedar_model.specs.Settings
 use Rattle.cedar_model.specs.Examples
 use Rattle.cedar_model.specs.Settings.{known_context, RequestPart, Setting, StoredEntity, Store}
 use Rattle.cedar_model.specs.Agreement
-use Rattle.cedar_model.specs.Policies.{Policy}
-use Rattle.cedar_model.specs.Responses
 use Rattle.cedar_model.specs.Chains
 use Rattle.cedar_model.specs.Chains.{Mapping, Response}
 use Rattle.cedar_model.specs.Headline
 use Rattle.cedar_model.specs.Progress
 use Rattle.cedar_model.specs.Examples.{some_calls, some_functions, some_extensions}
-use Rattle.cedar_model.specs.ChainExamples.{an_entity, a_number, no_map, empty_store, setting_of, open_request, two_policies, two_steps, resource_map, context_map, chain_world, group}
+use Rattle.cedar_model.specs.ChainExamples.{an_entity, a_number, empty_store, setting_of, open_request, two_policies, two_steps, resource_map, context_map, chain_world}
 use Rattle.cedar_model.proofs.Exemplified
 
 abbrev pub s : Setting

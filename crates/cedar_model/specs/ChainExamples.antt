@@ -1,19 +1,19 @@
 -- Worked examples: what responses say, which steps are refused, and chains.
-use Rattle.std.specs.Prelude.{◌≡◌, ℕ, pos, Bool, true, false, List, [], ◌∷◌, map, Option, Some, None, Result, Ok, Err, unwrap_or, codes}
-use Rattle.cedar_model.specs.Terms.{Text, EntityName, entity_literal, long_literal, bool_literal, principal, resource, context, eq_operator, add_operator, Term, literal, variable, unknown, both, binary, call, get_attribute, record_of, terms_of, Fields, fields_of}
-use Rattle.cedar_model.specs.Values.{AbstractValue, plain, record_value, no_values_at, one_value_at, Represented, plain_represented, record_represented, RepresentedFields, no_represented_at, one_represented_at}
+use Rattle.std.specs.Prelude.{◌≡◌, ℕ, pos, true, false, List, [], ◌∷◌, map, Some, None, Ok, Err, unwrap_or, codes}
+use Rattle.cedar_model.specs.Terms.{Text, EntityName, entity_literal, long_literal, bool_literal, principal, resource, context, eq_operator, Term, variable, unknown, both, binary, call, get_attribute, terms_of, fields_of}
+use Rattle.cedar_model.specs.Values.{plain, no_values_at, one_value_at, Represented, plain_represented, record_represented, no_represented_at, one_represented_at}
 use Rattle.cedar_model.specs.World.{World}
-use Rattle.cedar_model.specs.Failures.{Failure, function_is_missing, residual_is_left, recursion_limit, value, residual}
+use Rattle.cedar_model.specs.Failures.{function_is_missing, residual_is_left, recursion_limit, value}
 use Rattle.cedar_model.specs.Settings.{Entry, known_entry, unknown_entry, ContextPart, absent_context, known_context, residual_context, RequestPart, Store, Setting, part_at}
 use Rattle.cedar_model.specs.Agreement.{no_slots}
-use Rattle.cedar_model.specs.Policies.{Effect, permit, forbid, Policy, Decision, allow, deny, decision, reasons, judge_each}
+use Rattle.cedar_model.specs.Policies.{Effect, permit, forbid, Policy, allow, deny, decision, reasons, judge_each}
 use Rattle.cedar_model.specs.Responses.{Reported, reported_true, reported_false, reported_residual, Row, truth, carried}
-use Rattle.cedar_model.specs.Refusals.{Refusal, id_comes_again, value_is_wrong, is_there_already, type_is_other, context_fails, concrete_request}
+use Rattle.cedar_model.specs.Refusals.{id_comes_again, value_is_wrong, is_there_already, type_is_other, context_fails, concrete_request}
 use Rattle.cedar_model.specs.Chains.{Mapping, Response, Steps, StepsTo, Begins, ChainAnswers, all_residuals}
 use Rattle.cedar_model.specs.Reports.{ids, given_decision, must_determine, may_determine, concrete_decision, concrete_errors, definitely_satisfied, definitely_errored, nontrivial_residual_ids, nontrivial_forbids, get}
 use Rattle.cedar_model.specs.Headline.{CompletesChain}
 use Rattle.cedar_model.specs.Progress.{NamesAll}
-use Rattle.cedar_model.specs.Examples.{entity_of_type, user, long, text, entity, bool, x, some_calls, some_functions, some_extensions}
+use Rattle.cedar_model.specs.Examples.{entity_of_type, user, long, entity, bool, x, some_calls, some_functions, some_extensions}
 
 -- ---- what responses say
 

@@ -1,5 +1,5 @@
 -- The laws of steps and chains, which the functions of `chains` have as their contracts.
-use Rattle.std.specs.Prelude.{◌≡◌, ◌↔◌, ◌⊎◌, ℕ, Bool, false, List, ◌++◌, Some, Result, Ok, Err}
+use Rattle.std.specs.Prelude.{◌≡◌, ◌↔◌, ◌⊎◌, ℕ, false, List, ◌++◌, Some, Result, Ok, Err}
 use Rattle.cedar_model.specs.Terms.{Text}
 use Rattle.cedar_model.specs.Failures.{Failure, failure_kind}
 use Rattle.cedar_model.specs.Settings.{Setting, Store}

@@ -1,7 +1,7 @@
 -- Why a step of a chain is refused, and the request that a map makes of the one before.
-use Rattle.std.specs.Prelude.{◌≡◌, Bool, true, false, cond, if◌then◌else◌, List, [], ◌∷◌, ◌++◌, Option, Some, None, Result, Ok, Err, codes}
+use Rattle.std.specs.Prelude.{◌≡◌, cond, if◌then◌else◌, List, [], ◌∷◌, ◌++◌, Option, Some, None, Result, Ok, Err, codes}
 use Rattle.std.specs.List.{list_any}
-use Rattle.cedar_model.specs.Terms.{Text, EntityName, Term, literal, variable, slot, unknown, if_then_else, both, either, unary, binary, call, get_attribute, has_attribute, extended_has, like, is_of_type, set_of, record_of}
+use Rattle.cedar_model.specs.Terms.{Text, EntityName, literal, variable, slot, unknown, if_then_else, both, either, unary, binary, call, get_attribute, has_attribute, extended_has, like, is_of_type, set_of, record_of}
 use Rattle.cedar_model.specs.Values.{Represented, plain_represented, set_represented, record_represented, extension_represented, RepresentedFields, abstract_value}
 use Rattle.cedar_model.specs.Outcomes.{entity_of, text_eq}
 use Rattle.cedar_model.specs.Failures.{Failure, PartialValue, value, residual, Answer, answers, fails}

@@ -1,4 +1,4 @@
-use Rattle.std.specs.Prelude.{List, [], ◌∷◌, Ok, Err, codes}
+use Rattle.std.specs.Prelude.{[], ◌∷◌, Err, codes}
 use Rattle.std.proofs.Common.{refl}
 use Rattle.cedar_model.specs.Chains.{without_map}
 use Rattle.cedar_model.specs.Policies.{permit}
