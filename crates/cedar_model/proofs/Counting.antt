@@ -76,29 +76,35 @@ unfoldable pub hit : (Text → Bool) → Effect → (Reported → Bool) → List
 hit f e such [] = false
 hit f e such (r ∷ rs) = ((has_effect e r.effect && such r.reported) && f r.id) || hit f e such rs
 
-pub hits_rows : (f : Text → Bool) (e : Effect) (such : Reported → Bool) (rows : List Row) → hits f (rows_of e such rows) ≡ hit f e such rows
+pub hits_rows : (f : Text → Bool) (e : Effect) (such : Reported → Bool) (rows : List Row)
+    → hits f (rows_of e such rows) ≡ hit f e such rows
 unfolding hits hit rows_of
 hits_rows f e such [] = refl
 hits_rows f e such (r ∷ rs) =
-    by (has_effect e r.effect) (such r.reported) ∙ ap (λ b. ((has_effect e r.effect && such r.reported) && f r.id) || b) (hits_rows f e such rs)
+    by (has_effect e r.effect) (such r.reported) ∙ ap
+    (λ b. ((has_effect e r.effect && such r.reported) && f r.id) || b) (hits_rows f e such rs)
   where
-    by : (a b : Bool) → hits f (cond a (cond b (r ∷ rows_of e such rs) (rows_of e such rs)) (rows_of e such rs)) ≡ (((a && b) && f r.id) || hits f (rows_of e such rs))
+    by : (a b : Bool) → hits f (cond a (cond b (r ∷ rows_of e such rs) (rows_of e such rs)) (rows_of e such rs))
+        ≡ (((a && b) && f r.id) || hits f (rows_of e such rs))
     by true true = refl
     by true false = refl
     by false true = refl
     by false false = refl
 
-pub hit_any : (f : Text → Bool) (e : Effect) (such : Reported → Bool) (rows : List Row) → hit f e such rows ≡ true → hit any e such rows ≡ true
+pub hit_any : (f : Text → Bool) (e : Effect) (such : Reported → Bool) (rows : List Row) → hit f e such rows ≡ true
+    → hit any e such rows ≡ true
 hit_any f e such rows h =
     sym (hits_rows any e such rows) ∙ hits_any f (rows_of e such rows) (hits_rows f e such rows ∙ h)
 
-pub hit_reordered : (f : Text → Bool) (e : Effect) (such : Reported → Bool) {xs ys : List Row} → IsReordering Row xs ys → hit f e such xs ≡ hit f e such ys
+pub hit_reordered : (f : Text → Bool) (e : Effect) (such : Reported → Bool) {xs ys : List Row}
+    → IsReordering Row xs ys → hit f e such xs ≡ hit f e such ys
 unfolding hit
 hit_reordered f e such nothing = refl
 hit_reordered f e such (keeping r h) =
     ap (λ b. ((has_effect e r.effect && such r.reported) && f r.id) || b) (hit_reordered f e such h)
 hit_reordered f e such (swapping {xs} r q) =
-    or_swap ((has_effect e r.effect && such r.reported) && f r.id) ((has_effect e q.effect && such q.reported) && f q.id) (hit f e such xs)
+    or_swap ((has_effect e r.effect && such r.reported) && f r.id)
+    ((has_effect e q.effect && such q.reported) && f q.id) (hit f e such xs)
 hit_reordered f e such (chaining h k) = hit_reordered f e such h ∙ hit_reordered f e such k
 
 -- true or residual
@@ -107,27 +113,34 @@ is_open reported_true = true
 is_open (reported_false e) = false
 is_open (reported_residual t) = true
 
-open_is : (o : Reported) (a b : Bool) → ((a && is_open o) && b) ≡ true → (((a && is_true o) && b) ≡ true) ⊎ (((a && is_residual o) && b) ≡ true)
+open_is : (o : Reported) (a b : Bool) → ((a && is_open o) && b) ≡ true
+    → (((a && is_true o) && b) ≡ true) ⊎ (((a && is_residual o) && b) ≡ true)
 unfolding is_open is_true is_residual
 open_is reported_true a b h = inl h
 open_is (reported_false e) a b h = inl h
 open_is (reported_residual t) a b h = inr h
 
-pub hit_open : (f : Text → Bool) (e : Effect) (rows : List Row) → hit f e is_open rows ≡ true → (hit f e is_true rows ≡ true) ⊎ (hit f e is_residual rows ≡ true)
+pub hit_open : (f : Text → Bool) (e : Effect) (rows : List Row) → hit f e is_open rows ≡ true
+    → (hit f e is_true rows ≡ true) ⊎ (hit f e is_residual rows ≡ true)
 unfolding hit
 hit_open f e [] h = inl h
 hit_open f e (r ∷ rs) h =
     first (hit_open f e rs) (or_split ((has_effect e r.effect && is_open r.reported) && f r.id) (hit f e is_open rs) h)
   where
-    here : (((has_effect e r.effect && is_true r.reported) && f r.id) ≡ true) ⊎ (((has_effect e r.effect && is_residual r.reported) && f r.id) ≡ true) → (hit f e is_true (r ∷ rs) ≡ true) ⊎ (hit f e is_residual (r ∷ rs) ≡ true)
+    here : (((has_effect e r.effect && is_true r.reported) && f r.id) ≡ true)
+        ⊎ (((has_effect e r.effect && is_residual r.reported) && f r.id) ≡ true)
+        → (hit f e is_true (r ∷ rs) ≡ true) ⊎ (hit f e is_residual (r ∷ rs) ≡ true)
     here (inl k) = inl (or_left _ (hit f e is_true rs) k)
     here (inr k) = inr (or_left _ (hit f e is_residual rs) k)
 
-    later : (hit f e is_true rs ≡ true) ⊎ (hit f e is_residual rs ≡ true) → (hit f e is_true (r ∷ rs) ≡ true) ⊎ (hit f e is_residual (r ∷ rs) ≡ true)
+    later : (hit f e is_true rs ≡ true) ⊎ (hit f e is_residual rs ≡ true)
+        → (hit f e is_true (r ∷ rs) ≡ true) ⊎ (hit f e is_residual (r ∷ rs) ≡ true)
     later (inl k) = inl (or_right ((has_effect e r.effect && is_true r.reported) && f r.id) _ k)
     later (inr k) = inr (or_right ((has_effect e r.effect && is_residual r.reported) && f r.id) _ k)
 
-    first : (hit f e is_open rs ≡ true → (hit f e is_true rs ≡ true) ⊎ (hit f e is_residual rs ≡ true)) → (((has_effect e r.effect && is_open r.reported) && f r.id) ≡ true) ⊎ (hit f e is_open rs ≡ true) → (hit f e is_true (r ∷ rs) ≡ true) ⊎ (hit f e is_residual (r ∷ rs) ≡ true)
+    first : (hit f e is_open rs ≡ true → (hit f e is_true rs ≡ true) ⊎ (hit f e is_residual rs ≡ true))
+        → (((has_effect e r.effect && is_open r.reported) && f r.id) ≡ true) ⊎ (hit f e is_open rs ≡ true)
+        → (hit f e is_true (r ∷ rs) ≡ true) ⊎ (hit f e is_residual (r ∷ rs) ≡ true)
     first ih (inl k) = here (open_is r.reported (has_effect e r.effect) (f r.id) k)
     first ih (inr k) = later (ih k)
 
@@ -147,13 +160,15 @@ unfolding some_satisfied meets
 some_satisfied_meets e [] = refl
 some_satisfied_meets e (j ∷ js) = λ i. (sym (and_true (is_satisfied e j)) i) || some_satisfied_meets e js i
 
-pub has_text_meets : (t : Text) (e : Effect) (js : List Judged) → has_text t (satisfied_ids e js) ≡ meets (text_eq t) e js
+pub has_text_meets : (t : Text) (e : Effect) (js : List Judged)
+    → has_text t (satisfied_ids e js) ≡ meets (text_eq t) e js
 unfolding has_text satisfied_ids meets
 has_text_meets t e [] = refl
 has_text_meets t e (j ∷ js) =
     by (is_satisfied e j) ∙ ap (λ b. (is_satisfied e j && text_eq t j.id) || b) (has_text_meets t e js)
   where
-    by : (b : Bool) → has_text t (cond b (j.id ∷ satisfied_ids e js) (satisfied_ids e js)) ≡ ((b && text_eq t j.id) || has_text t (satisfied_ids e js))
+    by : (b : Bool) → has_text t (cond b (j.id ∷ satisfied_ids e js) (satisfied_ids e js))
+        ≡ ((b && text_eq t j.id) || has_text t (satisfied_ids e js))
     by true = refl
     by false = refl
 
@@ -161,7 +176,8 @@ pub meets_any : (f : Text → Bool) (e : Effect) (js : List Judged) → meets f 
 unfolding meets
 meets_any f e [] h = h
 meets_any f e (j ∷ js) h =
-    or_map (is_satisfied e j && f j.id) (meets f e js) (is_satisfied e j && true) (meets any e js) (by (is_satisfied e j) (f j.id)) (meets_any f e js) h
+    or_map (is_satisfied e j && f j.id) (meets f e js) (is_satisfied e j && true) (meets any e js)
+    (by (is_satisfied e j) (f j.id)) (meets_any f e js) h
   where
     by : (a b : Bool) → (a && b) ≡ true → (a && true) ≡ true
     by true b k = refl

@@ -4,7 +4,8 @@ use Rattle.std.proofs.Common.{refl, sym, ap, ◌∙◌, subst}
 use Rattle.std.specs.Cmp.Lexicographic.{bytes_decides}
 use Rattle.cedar_model.specs.Terms.{Text, Term}
 use Rattle.cedar_model.specs.Outcomes.{text_eq}
-use Rattle.cedar_model.specs.Failures.{Failure, FailureKind, of_meaning, of_residual, of_limit, of_memory, failure_kind, Answer, answers, fails, out_of_memory}
+use Rattle.cedar_model.specs.Failures.{Failure, FailureKind, of_meaning, of_residual, of_limit, of_memory}
+use Rattle.cedar_model.specs.Failures.{failure_kind, Answer, answers, fails, out_of_memory}
 use Rattle.cedar_model.specs.Settings.{Setting, part_at}
 use Rattle.cedar_model.specs.Rules
 use Rattle.cedar_model.specs.Policies
@@ -65,10 +66,20 @@ FindMemory s n (p ∷ ps) = (finds_none (policy_answer s n p) ≡ false) × Find
 no_memory : (a : Answer) → finds_none a ≡ false → a ≢ fails out_of_memory
 no_memory a h e = let z = sym h ∙ ap finds_none e ∙ none_is_found in cc
 
-pub run_to : (s : Setting) (n : ℕ) (ps : List Policy) → FindMemory s n ps → Responses.RunOf s some_calls n ps (rows_to s n ps) (errors_to s n ps)
+pub run_to : (s : Setting) (n : ℕ) (ps : List Policy) → FindMemory s n ps
+    → Responses.RunOf s some_calls n ps (rows_to s n ps) (errors_to s n ps)
 run_to s n [] h = (refl, refl)
-run_to s n (p ∷ ps) h =
-    (policy_answer s n p, rows_to s n ps, errors_to s n ps, runs_to (Responses.with_slots s p.slots) n p.condition (policy_answer s n p) refl, no_memory (policy_answer s n p) h.0, run_to s n ps h.1, refl, refl)
+run_to s n (p ∷ ps) h = (
+  policy_answer s n p,
+  rows_to s n ps,
+  errors_to s n ps,
+  runs_to (Responses.with_slots s p.slots) n p.condition
+      (policy_answer s n p) refl,
+  no_memory (policy_answer s n p) h.0,
+  run_to s n ps h.1,
+  refl,
+  refl,
+)
 
 -- ---- a map by its list
 
@@ -82,12 +93,14 @@ some_inj e = cc
 none_isn't : {A : Type 0} {x : A} → None ≡ Some x → ⊥
 none_isn't e = cc
 
-pub at_each : {A : Type 0} (Such : Text → A → Type 0) (ps : List (Text × A)) → EachPair Such ps → (n : Text) (v : A) → part_at n ps ≡ Some v → Such n v
+pub at_each : {A : Type 0} (Such : Text → A → Type 0) (ps : List (Text × A)) → EachPair Such ps → (n : Text) (v : A)
+    → part_at n ps ≡ Some v → Such n v
 unfolding part_at
 at_each Such [] h n v e = absurd (none_isn't e)
 at_each Such (p ∷ ps) h n v e = by (text_eq n p.0) refl e (at_each Such ps h.1 n v)
   where
-    by : (b : Bool) → text_eq n p.0 ≡ b → cond b (Some p.1) (part_at n ps) ≡ Some v → (part_at n ps ≡ Some v → Such n v) → Such n v
+    by : (b : Bool) → text_eq n p.0 ≡ b → cond b (Some p.1) (part_at n ps) ≡ Some v
+        → (part_at n ps ≡ Some v → Such n v) → Such n v
     by true f g rest =
         subst (λ u. Such n u) (some_inj g) (subst (λ k. Such k p.1) (sym ((bytes_decides n p.0).0 f)) h.0)
     by false f g rest = rest g

@@ -15,7 +15,8 @@ use Rattle.cedar_model.specs.ReportLaws.{Within}
 -- the same refusal, or errors of one kind of the context
 abbrev pub AreAlikeRefusals : Refusal → Refusal → Type 0
 AreAlikeRefusals e f =
-    (e ≡ f) ⊎ ((d : Failure) × (g : Failure) × (e ≡ context_fails d) × (f ≡ context_fails g) × (failure_kind d ≡ failure_kind g))
+    (e ≡ f) ⊎ ((d : Failure) × (g : Failure) × (e ≡ context_fails d) × (f ≡ context_fails g)
+    × (failure_kind d ≡ failure_kind g))
 
 -- responses, or refusals that are alike
 abbrev pub AreAlikeSteps : Result Response Refusal → Result Response Refusal → Type 0

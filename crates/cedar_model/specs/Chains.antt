@@ -1,9 +1,14 @@
 -- Chains: which response follows from an earlier one by a step, a map of unknowns and a store.
-use Rattle.std.specs.Prelude.{◌≡◌, ℕ, Bool, true, false, cond, ◌||◌, List, [], ◌∷◌, ◌++◌, map, Option, Some, None, Result, Ok, Err, MatchBool, MatchResult}
-use Rattle.cedar_model.specs.Terms.{Text, Term, literal, variable, slot, unknown, if_then_else, both, either, unary, binary, call, get_attribute, has_attribute, extended_has, like, is_of_type, set_of, record_of, Terms, no_terms, one_term, Fields, no_fields, one_field}
+use Rattle.std.specs.Prelude.{◌≡◌, ℕ, Bool, true, false, cond, ◌||◌, List, [], ◌∷◌, ◌++◌, map, Option, Some, None}
+use Rattle.std.specs.Prelude.{Result, Ok, Err, MatchBool, MatchResult}
+use Rattle.cedar_model.specs.Terms.{Text, Term, literal, variable, slot, unknown, if_then_else, both, either, unary}
+use Rattle.cedar_model.specs.Terms.{binary, call, get_attribute, has_attribute, extended_has, like, is_of_type}
+use Rattle.cedar_model.specs.Terms.{set_of, record_of, Terms, no_terms, one_term, Fields, no_fields, one_field}
 use Rattle.cedar_model.specs.Values.{Represented, expression_of}
-use Rattle.cedar_model.specs.Failures.{Failure, FailureKind, of_meaning, of_residual, of_limit, of_memory, failure_kind, Answer}
-use Rattle.cedar_model.specs.Settings.{ContextPart, absent_context, known_context, residual_context, RequestPart, Store, Setting}
+use Rattle.cedar_model.specs.Failures.{Failure, FailureKind, of_meaning, of_residual, of_limit, of_memory}
+use Rattle.cedar_model.specs.Failures.{failure_kind, Answer}
+use Rattle.cedar_model.specs.Settings.{ContextPart, absent_context, known_context, residual_context, RequestPart}
+use Rattle.cedar_model.specs.Settings.{Store, Setting}
 use Rattle.cedar_model.specs.Rules.{StoredCalls, Runs}
 use Rattle.cedar_model.specs.Agreement.{no_slots}
 use Rattle.cedar_model.specs.Policies.{Effect, permit, forbid, Policy}
@@ -76,7 +81,8 @@ has_effect forbid permit = false
 unfoldable pub rows_of : Effect → (Reported → Bool) → List Row → List Row
 rows_of effect such [] = []
 rows_of effect such (r ∷ rs) =
-    cond (has_effect effect r.effect) (cond (such r.reported) (r ∷ rows_of effect such rs) (rows_of effect such rs)) (rows_of effect such rs)
+    cond (has_effect effect r.effect) (cond (such r.reported) (r ∷ rows_of effect such rs) (rows_of effect such rs))
+    (rows_of effect such rs)
 
 -- true, false and residual policies of an effect
 abbrev pub rows_by : Effect → List Row → List Row
@@ -103,7 +109,8 @@ abbrev pub at_step : Setting → RequestPart → Store → Mapping → Setting
 at_step s r store m =
     record { request = r; store = store; map = m; slots = no_slots; extensions = s.extensions }
 
--- a residual context is interpreted again, with the map's values in it: under the old response's request and the new store, without the map. Another context stays
+-- a residual context is interpreted again, with the map's values in it: under the old response's request and the new
+-- store, without the map. Another context stays
 abbrev pub SubstitutesTo : Setting → StoredCalls → ℕ → Mapping → ContextPart → Result ContextPart Refusal → Type 0
 SubstitutesTo s calls limit m absent_context r = r ≡ Ok absent_context
 SubstitutesTo s calls limit m (known_context fs) r = r ≡ Ok (known_context fs)
@@ -112,25 +119,34 @@ SubstitutesTo s calls limit m (residual_context fs) r =
 
 abbrev pub with_context : RequestPart → ContextPart → RequestPart
 with_context r c =
-    record { principal_entry = r.principal_entry; action_entry = r.action_entry; resource_entry = r.resource_entry; context_part = c }
+    record {
+      principal_entry = r.principal_entry;
+      action_entry = r.action_entry;
+      resource_entry = r.resource_entry;
+      context_part = c;
+    }
 
 module _ (s : Setting) (calls : StoredCalls) (limit : ℕ) (m : Mapping) (store : Store) (old : Response) where
   -- the rows before, carried on as policies, run under the new request with the map
   abbrev pub AfterContext : RequestPart → Result ContextPart Refusal → Result Response Refusal → Type 0
   AfterContext r (Err e) x = x ≡ Err e
   AfterContext r (Ok c) x =
-      (rows : List Row) × (errors : List (Text × Failure)) × RunOf (at_step s (with_context r c) store m) calls limit (all_residuals old.rows) rows errors × (x ≡ Ok record { request = with_context r c; rows = rows; errors = errors })
+      (rows : List Row) × (errors : List (Text × Failure))
+      × RunOf (at_step s (with_context r c) store m) calls limit (all_residuals old.rows) rows errors
+      × (x ≡ Ok record { request = with_context r c; rows = rows; errors = errors })
 
   abbrev pub AfterRequest : Result RequestPart Refusal → Result Response Refusal → Type 0
   AfterRequest (Err e) x = x ≡ Err e
   AfterRequest (Ok r) x =
-      (c : Result ContextPart Refusal) × SubstitutesTo (at_step s old.request store m) calls limit m r.context_part c × AfterContext r c x
+      (c : Result ContextPart Refusal) × SubstitutesTo (at_step s old.request store m) calls limit m r.context_part c
+      × AfterContext r c x
 
   abbrev pub AfterIds : Option Text → Result Response Refusal → Type 0
   AfterIds (Some id) x = x ≡ Err (id_comes_again id)
   AfterIds None x = AfterRequest (concrete_request m old.request) x
 
-  -- a step answers a response or a refusal: no id stands twice, the map makes the request concrete, then the context is substituted, then the policies run
+  -- a step answers a response or a refusal: no id stands twice, the map makes the request concrete, then the context
+  -- is substituted, then the policies run
   abbrev pub Steps : Result Response Refusal → Type 0
   Steps x = AfterIds (first_repeated (map (λ p. p.id) (all_residuals old.rows))) x
 
@@ -141,7 +157,8 @@ module _ (s : Setting) (calls : StoredCalls) (limit : ℕ) (m : Mapping) (store 
 -- ---- chains
 
 -- the first response, from a request without a map
-pub record Begins (s : Setting) (calls : StoredCalls) (limit : ℕ) (policies : List Policy) (first : Response) : Type 0 where
+pub record Begins (s : Setting) (calls : StoredCalls) (limit : ℕ) (policies : List Policy)
+    (first : Response) : Type 0 where
   pub request_is : first.request ≡ s.request
   pub runs : RunOf (without_map s) calls limit policies first.rows first.errors
 
@@ -156,11 +173,14 @@ unfoldable pub has_limit : List (Text × Failure) → Bool
 has_limit [] = false
 has_limit (e ∷ es) = is_limit (failure_kind e.1) || has_limit es
 
--- steps taken one after another from a response answer the response of the last one, or the first whose errors hold the recursion limit, or the first refusal
-abbrev pub ChainAnswers : Setting → StoredCalls → ℕ → Response → List (Mapping × Store) → Result Response Refusal → Type 0
+-- steps taken one after another from a response answer the response of the last one, or the first whose errors hold
+-- the recursion limit, or the first refusal
+abbrev pub ChainAnswers : Setting → StoredCalls → ℕ → Response → List (Mapping × Store) → Result Response Refusal
+    → Type 0
 ChainAnswers s calls limit r [] x = x ≡ Ok r
 ChainAnswers s calls limit r (step ∷ steps) x =
-    MatchBool (has_limit r.errors) (x ≡ Ok r) ((y : Result Response Refusal) × Steps s calls limit step.0 step.1 r y × MatchResult y (λ next. ChainAnswers s calls limit next steps x) (λ e. x ≡ Err e))
+    MatchBool (has_limit r.errors) (x ≡ Ok r) ((y : Result Response Refusal) × Steps s calls limit step.0 step.1 r y
+    × MatchResult y (λ next. ChainAnswers s calls limit next steps x) (λ e. x ≡ Err e))
 
 -- a chain from a response that succeeds with this one
 abbrev pub ChainOf : Setting → StoredCalls → ℕ → Response → List (Mapping × Store) → Response → Type 0

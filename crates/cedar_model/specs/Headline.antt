@@ -5,7 +5,9 @@ use Rattle.cedar_model.specs.Values.{Represented}
 use Rattle.cedar_model.specs.World.{World, Functions}
 use Rattle.cedar_model.specs.Settings.{Setting, Store}
 use Rattle.cedar_model.specs.Rules.{StoredCalls}
-use Rattle.cedar_model.specs.Agreement.{AgreesWithFunctions, AgreesWithRequest, AgreesWithStore, AgreesWithMap, IsFaithful, IsFaithfulPart, IsFaithfulContext, FitsPart, FitsContext, EachStored, AnswerFaithfully}
+use Rattle.cedar_model.specs.Agreement.{AgreesWithFunctions, AgreesWithRequest, AgreesWithStore, AgreesWithMap}
+use Rattle.cedar_model.specs.Agreement.{IsFaithful, IsFaithfulPart, IsFaithfulContext, FitsPart, FitsContext}
+use Rattle.cedar_model.specs.Agreement.{EachStored, AnswerFaithfully}
 use Rattle.cedar_model.specs.Policies.{Policy}
 use Rattle.cedar_model.specs.Responses.{Stand, FitPolicies, AreConditions}
 use Rattle.cedar_model.specs.Chains.{Mapping, Response, Begins, ChainOf}
@@ -29,8 +31,10 @@ CompletesSteps ans w s [] = Unit {0}
 CompletesSteps ans w s (step ∷ steps) =
     CompletesMap ans w s step.0 × CompletesStore ans w s step.1 × CompletesSteps ans w s steps
 
--- the premises, of a chain from the request and the store of `s` and the policies `ps` by the steps to the last response
-pub record CompletesChain (calls : StoredCalls) (ans : Functions) (w : World) (s : Setting) (limit : ℕ) (ps : List Policy) (steps : List (Mapping × Store)) (last : Response) : Type 0 where
+-- the premises, of a chain from the request and the store of `s` and the policies `ps` by the steps to the last
+-- response
+pub record CompletesChain (calls : StoredCalls) (ans : Functions) (w : World) (s : Setting) (limit : ℕ)
+    (ps : List Policy) (steps : List (Mapping × Store)) (last : Response) : Type 0 where
   -- the world agrees with the first request, each store and each map, and fits each condition, the context and each
   -- stored residual
   pub request_agrees : AgreesWithRequest s.extensions ans w s.request
@@ -53,8 +57,8 @@ pub record CompletesChain (calls : StoredCalls) (ans : Functions) (w : World) (s
   -- a policy's condition is a conjunction, as every policy's is
   pub conditions_are_conjunctions : AreConditions ps
 
--- what the last response reports stands; so a given decision is the completion's, and the policies that determine it lie
--- between the two bounds
+-- what the last response reports stands; so a given decision is the completion's, and the policies that determine it
+-- lie between the two bounds
 pub record Headline (ans : Functions) (w : World) (s : Setting) (ps : List Policy) (last : Response) : Type 0 where
   pub stands : Stand s.extensions ans w ps last.rows
   pub holds : ReportsHold s.extensions ans w ps last.rows

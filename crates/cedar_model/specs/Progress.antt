@@ -1,10 +1,13 @@
 -- Progress: a step whose map names every unknown leaves no residual.
 use Rattle.std.specs.Prelude.{◌≡◌, ℕ, true, false, List, [], ◌∷◌, Some, is_some, codes}
-use Rattle.cedar_model.specs.Terms.{Text, Term, literal, variable, slot, unknown, if_then_else, both, either, unary, binary, call, get_attribute, has_attribute, extended_has, like, is_of_type, set_of, record_of, Terms, no_terms, one_term, Fields, no_fields, one_field}
+use Rattle.cedar_model.specs.Terms.{Text, Term, literal, variable, slot, unknown, if_then_else, both, either, unary}
+use Rattle.cedar_model.specs.Terms.{binary, call, get_attribute, has_attribute, extended_has, like, is_of_type}
+use Rattle.cedar_model.specs.Terms.{set_of, record_of, Terms, no_terms, one_term, Fields, no_fields, one_field}
 use Rattle.cedar_model.specs.Values.{Represented, expression_of}
 use Rattle.cedar_model.specs.Shapes.{is_restricted, are_restricted_at}
 use Rattle.cedar_model.specs.World.{World, Functions}
-use Rattle.cedar_model.specs.Settings.{Entry, known_entry, unknown_entry, ContextPart, absent_context, known_context, residual_context, Store, Setting}
+use Rattle.cedar_model.specs.Settings.{Entry, known_entry, unknown_entry, ContextPart, absent_context, known_context}
+use Rattle.cedar_model.specs.Settings.{residual_context, Store, Setting}
 use Rattle.cedar_model.specs.Rules.{StoredCalls}
 use Rattle.cedar_model.specs.Agreement.{NeverAsks, IsKnown, AgreesWithFunctions, EachStored, IsValue}
 use Rattle.cedar_model.specs.Policies.{Policy, decision, reasons, judge_each}
@@ -70,10 +73,11 @@ module _ (ans : Functions) (m : Mapping) where
     pub resource_is_named : EntryIsNamed (codes "resource") r.request.resource_entry
     pub context_is_named : ContextIsNamed r.request.context_part
     pub rows_are_named : RowsAreNamed r.rows
-    pub values_are_known : (n : Text) (v : Represented) → m n ≡ Some v → IsKnown ans (expression_of v) × (is_restricted (expression_of v) ≡ true)
+    pub values_are_known : (n : Text) (v : Represented) → m n ≡ Some v → IsKnown ans (expression_of v)
+        × (is_restricted (expression_of v) ≡ true)
 
--- where a map names all, and the store is concrete and holds values alone, a step leaves no residual; and where its rows
--- stand, the concrete decision is that of the policies, and the reasons are theirs
+-- where a map names all, and the store is concrete and holds values alone, a step leaves no residual; and where its
+-- rows stand, the concrete decision is that of the policies, and the reasons are theirs
 abbrev pub StepsFinish : StoredCalls → Type 0
 StepsFinish calls =
     (ans : Functions) → AgreesWithFunctions ans calls
@@ -83,4 +87,5 @@ StepsFinish calls =
     → HaveNoResidual new.rows
     × ((w : World) (ps : List Policy) → Stand s.extensions ans w ps new.rows
     → (concrete_decision new.rows ≡ decision (judge_each s.extensions ans w ps))
-    × ((t : Text) → has_text t (ids (must_determine new.rows)) ≡ has_text t (reasons (judge_each s.extensions ans w ps))))
+    × ((t : Text) → has_text t (ids (must_determine new.rows))
+    ≡ has_text t (reasons (judge_each s.extensions ans w ps))))

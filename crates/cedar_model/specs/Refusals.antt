@@ -1,13 +1,19 @@
 -- Why a step of a chain is refused, and the request that a map makes of the one before.
 use Rattle.std.specs.Prelude.{◌≡◌, cond, if◌then◌else◌, List, [], ◌∷◌, ◌++◌, Option, Some, None, Result, Ok, Err, codes}
 use Rattle.std.specs.List.{list_any}
-use Rattle.cedar_model.specs.Terms.{Text, EntityName, literal, variable, slot, unknown, if_then_else, both, either, unary, binary, call, get_attribute, has_attribute, extended_has, like, is_of_type, set_of, record_of}
-use Rattle.cedar_model.specs.Values.{Represented, plain_represented, set_represented, record_represented, extension_represented, RepresentedFields, abstract_value}
+use Rattle.cedar_model.specs.Terms.{Text, EntityName, literal, variable, slot, unknown, if_then_else, both, either}
+use Rattle.cedar_model.specs.Terms.{unary, binary, call, get_attribute, has_attribute, extended_has, like, is_of_type}
+use Rattle.cedar_model.specs.Terms.{set_of, record_of}
+use Rattle.cedar_model.specs.Values.{Represented, plain_represented, set_represented, record_represented}
+use Rattle.cedar_model.specs.Values.{extension_represented, RepresentedFields, abstract_value}
 use Rattle.cedar_model.specs.Outcomes.{entity_of, text_eq}
 use Rattle.cedar_model.specs.Failures.{Failure, PartialValue, value, residual, Answer, answers, fails}
-use Rattle.cedar_model.specs.Settings.{Entry, known_entry, unknown_entry, ContextPart, absent_context, known_context, residual_context, RequestPart, entry_part, context_value}
+use Rattle.cedar_model.specs.Settings.{Entry, known_entry, unknown_entry, ContextPart, absent_context, known_context}
+use Rattle.cedar_model.specs.Settings.{residual_context, RequestPart, entry_part, context_value}
 
--- an id that comes again; a value where an entity or a record is expected, with the name that is mapped to it; what is there already, beside the value; the type of an unknown entry, beside an entity of another; or the error of the context with the map's values in it
+-- an id that comes again; a value where an entity or a record is expected, with the name that is mapped to it; what
+-- is there already, beside the value; the type of an unknown entry, beside an entity of another; or the error of the
+-- context with the map's values in it
 pub data Refusal : Type 0 where
   id_comes_again : Text → Refusal
   value_is_wrong : Text → Text → Represented → Refusal
@@ -81,7 +87,11 @@ unless_refused (Err e) next = Err e
 -- principal, action, resource and context in turn: the request that the map makes, or the first refusal
 abbrev pub concrete_request : (Text → Option Represented) → RequestPart → Result RequestPart Refusal
 concrete_request m r =
-    unless_refused (concrete_entry (codes "principal") (m (codes "principal")) r.principal_entry) (λ p. unless_refused (concrete_entry (codes "action") (m (codes "action")) r.action_entry) (λ a. unless_refused (concrete_entry (codes "resource") (m (codes "resource")) r.resource_entry) (λ e. unless_refused (concrete_context (m (codes "context")) r.context_part) (λ c. Ok record { principal_entry = p; action_entry = a; resource_entry = e; context_part = c }))))
+    unless_refused (concrete_entry (codes "principal") (m (codes "principal")) r.principal_entry)
+    (λ p. unless_refused (concrete_entry (codes "action") (m (codes "action")) r.action_entry)
+    (λ a. unless_refused (concrete_entry (codes "resource") (m (codes "resource")) r.resource_entry)
+    (λ e. unless_refused (concrete_context (m (codes "context")) r.context_part)
+    (λ c. Ok record { principal_entry = p; action_entry = a; resource_entry = e; context_part = c }))))
 
 -- ---- the context that an answer is
 

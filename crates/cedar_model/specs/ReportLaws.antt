@@ -12,14 +12,16 @@ use Rattle.cedar_model.specs.Responses.{Row, Stand, RunOf}
 use Rattle.cedar_model.specs.Chains.{rows_by}
 use Rattle.cedar_model.specs.Authorizations.{IsResponse}
 use Rattle.cedar_model.specs.AuthorizationLaws.{PolicyRuns}
-use Rattle.cedar_model.specs.Reports.{ids, given_decision, must_determine, may_determine, concrete_decision, concretized, HaveNoResidual, judged_row}
+use Rattle.cedar_model.specs.Reports.{ids, given_decision, must_determine, may_determine, concrete_decision}
+use Rattle.cedar_model.specs.Reports.{concretized, HaveNoResidual, judged_row}
 
 -- each text of the first list is in the second
 abbrev pub Within : List Text → List Text → Type 0
 Within ts us = (t : Text) → has_text t ts ≡ true → has_text t us ≡ true
 
 -- of policies in a world: a given decision is theirs, and their reasons lie between the two bounds
-pub record ReportsHold (X : Extensions) (ans : Functions) (w : World) (ps : List Policy) (rows : List Row) : Type 0 where
+pub record ReportsHold (X : Extensions) (ans : Functions) (w : World) (ps : List Policy)
+    (rows : List Row) : Type 0 where
   pub decision_holds : (d : Decision) → given_decision rows ≡ Some d → decision (judge_each X ans w ps) ≡ d
   pub must_are_reasons : Within (ids (must_determine rows)) (reasons (judge_each X ans w ps))
   pub reasons_may : Within (reasons (judge_each X ans w ps)) (ids (may_determine rows))

@@ -1,12 +1,15 @@
 -- What a response says: its decision, the policies that must and may determine it, what it comes out as when it is
 -- made concrete, and its other readers. All are functions of its rows, and the policies that they name are the rows as
 -- they are carried on.
-use Rattle.std.specs.Prelude.{◌≡◌, Bool, true, false, cond, not, ◌&&◌, ◌||◌, List, [], ◌∷◌, ◌++◌, map, Option, Some, None}
+use Rattle.std.specs.Prelude.{◌≡◌, Bool, true, false, cond, not, ◌&&◌, ◌||◌, List, [], ◌∷◌, ◌++◌, map, Option, Some}
+use Rattle.std.specs.Prelude.{None}
 use Rattle.cedar_model.specs.Terms.{Text}
 use Rattle.cedar_model.specs.Outcomes.{text_eq, has_text}
 use Rattle.cedar_model.specs.Failures.{Failure, residual_is_left}
-use Rattle.cedar_model.specs.Policies.{Effect, permit, forbid, Policy, Verdict, satisfied, unsatisfied, erring, Judged, Decision, allow, deny}
-use Rattle.cedar_model.specs.Responses.{Reported, reported_true, reported_false, reported_residual, Row, clause_of, carried}
+use Rattle.cedar_model.specs.Policies.{Effect, permit, forbid, Policy, Verdict, satisfied, unsatisfied, erring}
+use Rattle.cedar_model.specs.Policies.{Judged, Decision, allow, deny}
+use Rattle.cedar_model.specs.Responses.{Reported, reported_true, reported_false, reported_residual, Row, clause_of}
+use Rattle.cedar_model.specs.Responses.{carried}
 use Rattle.cedar_model.specs.Chains.{is_true, is_false, is_residual, rows_of}
 use Rattle.cedar_model.specs.Authorizations.{Authorized}
 
@@ -29,21 +32,25 @@ residuals effect rows = rows_of effect is_residual rows
 
 -- ---- decision
 
--- Deny with a true forbid, or where no permit is true or residual; else none beside a residual forbid; else Allow with a
--- true permit
+-- Deny with a true forbid, or where no permit is true or residual; else none beside a residual forbid; else Allow
+-- with a true permit
 abbrev pub given_decision : List Row → Option Decision
 given_decision rows =
-    cond (some_row (trues forbid rows)) (Some deny) (cond (not (some_row (trues permit rows) || some_row (residuals permit rows))) (Some deny) (cond (some_row (residuals forbid rows)) None (cond (some_row (trues permit rows)) (Some allow) None)))
+    cond (some_row (trues forbid rows)) (Some deny)
+    (cond (not (some_row (trues permit rows) || some_row (residuals permit rows))) (Some deny)
+    (cond (some_row (residuals forbid rows)) None (cond (some_row (trues permit rows)) (Some allow) None)))
 
 -- the true forbids or, where no forbid is true or residual, the true permits
 abbrev pub must_determine : List Row → List Row
 must_determine rows =
     cond (some_row (trues forbid rows) || some_row (residuals forbid rows)) (trues forbid rows) (trues permit rows)
 
--- with a true forbid the true and the residual forbids, else the true and the residual permits, and the residual forbids
+-- with a true forbid the true and the residual forbids, else the true and the residual permits, and the residual
+-- forbids
 abbrev pub may_determine : List Row → List Row
 may_determine rows =
-    cond (some_row (trues forbid rows)) (trues forbid rows ++ residuals forbid rows) (trues permit rows ++ (residuals permit rows ++ residuals forbid rows))
+    cond (some_row (trues forbid rows)) (trues forbid rows ++ residuals forbid rows)
+    (trues permit rows ++ (residuals permit rows ++ residuals forbid rows))
 
 -- ---- made concrete
 

@@ -15,14 +15,25 @@ use Rattle.cedar_model.specs.Authorizations.{HaveNoLimit}
 abbrev pub RunsStand : StoredCalls → Type 0
 RunsStand calls =
     (ans : Functions) → AgreesWithFunctions ans calls → (w : World) (s : Setting)
-    → IsCompletion ans w s → AnswerFaithfully s.extensions ans calls → (limit : ℕ) (ps : List Policy) (rows : List Row) (errors : List (Text × Failure)) → FitPolicies ans w ps → HaveNoLimit errors → RunOf s calls limit ps rows errors → Stand s.extensions ans w ps rows
+    → IsCompletion ans w s → AnswerFaithfully s.extensions ans calls
+    → (limit : ℕ) (ps : List Policy) (rows : List Row) (errors : List (Text × Failure)) → FitPolicies ans w ps
+    → HaveNoLimit errors → RunOf s calls limit ps rows errors → Stand s.extensions ans w ps rows
 
--- a step keeps completions: a world that completes the request before it, with the map and the store, completes the request after it
+-- a step keeps completions: a world that completes the request before it, with the map and the store, completes the
+-- request after it
 abbrev pub StepsKeepCompletions : StoredCalls → Type 0
 StepsKeepCompletions calls =
-    (ans : Functions) → AgreesWithFunctions ans calls → (w : World) (s : Setting) (limit : ℕ) (m : Mapping) (store : Store) (old new : Response) → IsCompletion ans w (at_step s old.request store m) → AnswerFaithfully s.extensions ans calls → StepsTo s calls limit m store old new → IsCompletion ans w (at_step s new.request store m)
+    (ans : Functions) → AgreesWithFunctions ans calls
+    → (w : World) (s : Setting) (limit : ℕ) (m : Mapping) (store : Store) (old new : Response)
+    → IsCompletion ans w (at_step s old.request store m) → AnswerFaithfully s.extensions ans calls
+    → StepsTo s calls limit m store old new → IsCompletion ans w (at_step s new.request store m)
 
--- a step keeps what stands, in every world that agrees with the request before it, the map and the store, if none of its errors is the recursion limit
+-- a step keeps what stands, in every world that agrees with the request before it, the map and the store, if none of
+-- its errors is the recursion limit
 abbrev pub StepsKeepWhatStands : StoredCalls → Type 0
 StepsKeepWhatStands calls =
-    (ans : Functions) → AgreesWithFunctions ans calls → (w : World) (s : Setting) (limit : ℕ) (m : Mapping) (store : Store) (old new : Response) → IsCompletion ans w (at_step s old.request store m) → AnswerFaithfully s.extensions ans calls → (ps : List Policy) → AreConditions ps → Stand s.extensions ans w ps old.rows → HaveNoLimit new.errors → StepsTo s calls limit m store old new → Stand s.extensions ans w ps new.rows
+    (ans : Functions) → AgreesWithFunctions ans calls
+    → (w : World) (s : Setting) (limit : ℕ) (m : Mapping) (store : Store) (old new : Response)
+    → IsCompletion ans w (at_step s old.request store m) → AnswerFaithfully s.extensions ans calls
+    → (ps : List Policy) → AreConditions ps → Stand s.extensions ans w ps old.rows → HaveNoLimit new.errors
+    → StepsTo s calls limit m store old new → Stand s.extensions ans w ps new.rows

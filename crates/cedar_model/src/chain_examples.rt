@@ -1,6 +1,13 @@
-//! Worked examples: what responses say, which steps are refused, and chains. Each function is a set of examples, and does
-//! nothing.
-ghost use Rattle.cedar_model.specs.ChainExamples.{ForbidDecides, AllAreCarried, CarriedByReport, ForbidErrorsFirst, OtherReaders, GetFindsThePermit, ResidualForbidHolds, ResidualPermitMay, EarlyDeny, KnownEntryIsRefused, NoEntityIsRefused, OtherTypeIsRefused, UnknownBecomesKnown, ContextIsARecord, ContextBesideIsRefused, RepeatedIdIsRefused, ContextErrorIsRefused, ContextLimitIsRefused, ContextIsReadUnderTheOldRequest, TwoSteps, SecondStepNamesAll, TwoStepsAreCompleted, EndsAtTheLimit, RefusalEndsAChain};
+//! Worked examples: what responses say, which steps are refused, and chains. Each function is a set of examples, and
+//! does nothing.
+ghost use Rattle.cedar_model.specs.ChainExamples.{ForbidDecides, AllAreCarried, CarriedByReport, ForbidErrorsFirst};
+ghost use Rattle.cedar_model.specs.ChainExamples.{OtherReaders, GetFindsThePermit, ResidualForbidHolds};
+ghost use Rattle.cedar_model.specs.ChainExamples.{ResidualPermitMay, EarlyDeny, KnownEntryIsRefused};
+ghost use Rattle.cedar_model.specs.ChainExamples.{NoEntityIsRefused, OtherTypeIsRefused, UnknownBecomesKnown};
+ghost use Rattle.cedar_model.specs.ChainExamples.{ContextIsARecord, ContextBesideIsRefused, RepeatedIdIsRefused};
+ghost use Rattle.cedar_model.specs.ChainExamples.{ContextErrorIsRefused, ContextLimitIsRefused};
+ghost use Rattle.cedar_model.specs.ChainExamples.{ContextIsReadUnderTheOldRequest, TwoSteps, SecondStepNamesAll};
+ghost use Rattle.cedar_model.specs.ChainExamples.{TwoStepsAreCompleted, EndsAtTheLimit, RefusalEndsAChain};
 
 /// Examples: what responses say.
 pub fn responses_say()

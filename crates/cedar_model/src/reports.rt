@@ -1,5 +1,6 @@
 //! What a response says. Each function is a law, and does nothing.
-ghost use Rattle.cedar_model.specs.ReportLaws.{BoundsHold, GivenIsConcrete, ConcreteIsDefined, ConcreteDecidesRows, RunsWithoutResidualsAreResponses, EachIsCarriedOnce};
+ghost use Rattle.cedar_model.specs.ReportLaws.{BoundsHold, GivenIsConcrete, ConcreteIsDefined, ConcreteDecidesRows};
+ghost use Rattle.cedar_model.specs.ReportLaws.{RunsWithoutResidualsAreResponses, EachIsCarriedOnce};
 
 use crate::levels::AnyFunctions;
 
@@ -8,8 +9,8 @@ pub fn reports_hold()
     ensures { BoundsHold }
 {}
 
-/// A given decision is the concrete one, which is that of the rows; and where rows without a residual stand, decision and
-/// reasons are those of the policies.
+/// A given decision is the concrete one, which is that of the rows; and where rows without a residual stand, decision
+/// and reasons are those of the policies.
 pub fn concrete_is_defined()
     ensures given { GivenIsConcrete }
     ensures rows { ConcreteDecidesRows }

@@ -22,8 +22,14 @@ returns-clause-completed c = (two.last, two.completed, refl, refl, refl)
 
 pub returns-clause-ends_at_limit : goal.returns-clause-ends_at_limit
 unfolding chain_opened finds_none is_memory
-returns-clause-ends_at_limit c =
-    (record { request_is = refl; runs = run_to (without_map (ChainExamples.setting_of ChainExamples.known_request)) 0 (ChainExamples.policy (codes "1") permit truth ∷ []) (refl, tt) }, refl)
+returns-clause-ends_at_limit c = (
+  record {
+    request_is = refl;
+    runs = run_to (without_map (ChainExamples.setting_of ChainExamples.known_request)) 0
+        (ChainExamples.policy (codes "1") permit truth ∷ []) (refl, tt);
+  },
+  refl,
+)
 
 pub returns-clause-ends_at_refusal : goal.returns-clause-ends_at_refusal
 unfolding chain_opened

@@ -10,4 +10,6 @@ returns g c =
     λ ans agree w s limit m store old new done faithful ps conditions stand none step.
     let t = taken s _ limit m store old new step in
     let d = step_completes ans _ agree w s limit m store old new done faithful step in
-    step_stands ans _ agree w (at_step s new.request store m) d faithful limit ps old.rows new.rows new.errors conditions stand (run_recordable (at_step s new.request store m) _ limit (all_residuals old.rows) new.rows new.errors none t.runs) t.runs
+    step_stands ans _ agree w (at_step s new.request store m) d faithful limit ps old.rows new.rows new.errors
+    conditions stand (run_recordable (at_step s new.request store m) _ limit
+    (all_residuals old.rows) new.rows new.errors none t.runs) t.runs
