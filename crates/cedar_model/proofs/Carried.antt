@@ -11,6 +11,7 @@ use Rattle.cedar_model.specs.Rules
 use Rattle.cedar_model.specs.Agreement.{outcome_value, HaveSameOutcome, Fits, no_slots, IsCompletion, AgreesWithFunctions, AnswerFaithfully}
 use Rattle.cedar_model.specs.Policies.{Policy, Verdict, satisfied, erring, verdict}
 use Rattle.cedar_model.specs.Responses
+use Rattle.cedar_model.proofs.Recorded
 use Rattle.cedar_model.proofs.Binds.{same_bool_bind}
 use Rattle.cedar_model.proofs.Conjunction.{step_is_bool}
 use Rattle.cedar_model.proofs.Standing.{answer_stands, recorded, with_slots_done}
@@ -85,14 +86,14 @@ module _ (X : Extensions) (ans : Functions) (w : World) where
 -- ---- clauses that are true or false
 
 -- the limit, or this bool
-abbrev IsBoolOrLimit : Bool → Answer → Type 0
+abbrev pub IsBoolOrLimit : Bool → Answer → Type 0
 IsBoolOrLimit b a = (a ≡ limit) ⊎ (a ≡ answers_bool b)
 
 module _ (s : Setting) (calls : Rules.StoredCalls) where
-  abbrev Always : Bool → Term → Type 0
+  abbrev pub Always : Bool → Term → Type 0
   Always b t = (n : ℕ) (a : Answer) → Rules.Runs s calls n t a → IsBoolOrLimit b a
 
-  literal_always : (b : Bool) → Always b (literal (bool_literal b))
+  pub literal_always : (b : Bool) → Always b (literal (bool_literal b))
   literal_always b zero a r = inl r
   literal_always b (suc n) a r = inr r
 
@@ -115,16 +116,16 @@ module _ (s : Setting) (calls : Rules.StoredCalls) where
   both_always b t u ht hu zero a r = inl r
   both_always b t u ht hu (suc n) a (x, g, r) = left_always n b u x a hu (ht n x g) r
 
-  clause_always : (b : Bool) (c : Term) → Always b c → Always b (both (both (both Responses.truth Responses.truth) Responses.truth) c)
+  pub clause_always : (b : Bool) (c : Term) → Always b c → Always b (both (both (both Responses.truth Responses.truth) Responses.truth) c)
   clause_always b c h =
       both_always b _ c (both_always true _ Responses.truth (both_always true Responses.truth Responses.truth (literal_always true) (literal_always true)) (literal_always true)) h
 
 -- ---- one row
 
 module _ (ans : Functions) (calls : Rules.StoredCalls) (agree : AgreesWithFunctions ans calls) (w : World) (s : Setting) (done : IsCompletion ans w s) (faithful : AnswerFaithfully s.extensions ans calls) (limit_of : ℕ) where
-  not_limit : (b : Bool) (a : Answer) → IsBoolOrLimit b a → Responses.IsRecordable (Responses.error_of a) → a ≡ answers_bool b
+  not_limit : (b : Bool) (a : Answer) → IsBoolOrLimit b a → Recorded.IsRecordable (Responses.error_of a) → a ≡ answers_bool b
   unfolding Responses.error_of failure_kind
-  not_limit b a (inl e) h = absurd ((subst (λ z. Responses.IsRecordable (Responses.error_of z)) e h).0 refl)
+  not_limit b a (inl e) h = absurd ((subst (λ z. Recorded.IsRecordable (Responses.error_of z)) e h).0 refl)
   not_limit b a (inr e) h = e
 
   reported_bool_is : (b : Bool) → Responses.reported_of (answers_bool b) ≡ Responses.reported_bool (Some b)
@@ -158,13 +159,13 @@ module _ (ans : Functions) (calls : Rules.StoredCalls) (agree : AgreesWithFuncti
   Carries p c a =
       Rules.Runs (Responses.with_slots s no_slots) calls limit_of (both (both (both Responses.truth Responses.truth) Responses.truth) c) a
 
-  bool_row : (p : Policy) (b : Bool) (c : Term) (a : Answer) (r' : Responses.Reported) → c ≡ literal (bool_literal b) → Carries p c a → Responses.IsRecordable (Responses.error_of a) → Responses.reported_bool (Some b) ≡ r' → Responses.StandsAs s.extensions ans w p r' → Responses.StandsAs s.extensions ans w p (Responses.reported_of a)
+  bool_row : (p : Policy) (b : Bool) (c : Term) (a : Answer) (r' : Responses.Reported) → c ≡ literal (bool_literal b) → Carries p c a → Recorded.IsRecordable (Responses.error_of a) → Responses.reported_bool (Some b) ≡ r' → Responses.StandsAs s.extensions ans w p r' → Responses.StandsAs s.extensions ans w p (Responses.reported_of a)
   bool_row p b c a r' e g h q k =
       let i : Rules.Runs (Responses.with_slots s no_slots) calls limit_of (both (both (both Responses.truth Responses.truth) Responses.truth) (literal (bool_literal b))) a = subst (λ z. Carries p z a) e g in
       let j : a ≡ answers_bool b = not_limit b a (clause_always (Responses.with_slots s no_slots) calls b (literal (bool_literal b)) (literal_always (Responses.with_slots s no_slots) calls b) limit_of a i) h in
       subst (Responses.StandsAs s.extensions ans w p) (sym (ap Responses.reported_of j ∙ reported_bool_is b ∙ q)) k
 
-  row_stands : (p : Policy) (r : Responses.Row) (o : Responses.Reported) (a : Answer) → r.reported ≡ o → Responses.IsCondition p.condition → Responses.StandsAs s.extensions ans w p o → Carries p (Responses.clause_of r.reported) a → Responses.IsRecordable (Responses.error_of a) → Responses.StandsAs s.extensions ans w p (Responses.reported_of a)
+  row_stands : (p : Policy) (r : Responses.Row) (o : Responses.Reported) (a : Answer) → r.reported ≡ o → Responses.IsCondition p.condition → Responses.StandsAs s.extensions ans w p o → Carries p (Responses.clause_of r.reported) a → Recorded.IsRecordable (Responses.error_of a) → Responses.StandsAs s.extensions ans w p (Responses.reported_of a)
   row_stands p r Responses.reported_true a e c k g h =
       bool_row p true (Responses.clause_of r.reported) a Responses.reported_true (ap Responses.clause_of e ∙ clause_true) g h true_is k
   row_stands p r (Responses.reported_false true) a e c k g h =
@@ -190,8 +191,8 @@ module _ (ans : Functions) (calls : Rules.StoredCalls) (agree : AgreesWithFuncti
   AllFollow (r ∷ rs) [] = ⊥
   AllFollow (r ∷ rs) (r' ∷ rs') = Follows r r' × AllFollow rs rs'
 
-  pub run_follows : (rs rows : List Responses.Row) (errors : List (Text × Failure)) → Responses.AreRecordable errors → Responses.RunOf s calls limit_of (map Responses.carried rs) rows errors → AllFollow rs rows
+  pub run_follows : (rs rows : List Responses.Row) (errors : List (Text × Failure)) → Recorded.AreRecordable errors → Responses.RunOf s calls limit_of (map Responses.carried rs) rows errors → AllFollow rs rows
   run_follows [] rows errors h r = subst (AllFollow []) (sym r.0) tt
-  run_follows (q ∷ qs) rows errors h (a, rest, later, g, j, e, k) =
-      let z = recorded q.id (Responses.error_of a) later (subst Responses.AreRecordable k h) in
+  run_follows (q ∷ qs) rows errors h (a, rest, later, g, m, j, e, k) =
+      let z = recorded q.id (Responses.error_of a) later (subst Recorded.AreRecordable k h) in
       subst (AllFollow (q ∷ qs)) (sym e) ((refl, refl, λ p c i. row_stands p q q.reported a refl c i g z.0), run_follows qs rest later z.1 j)

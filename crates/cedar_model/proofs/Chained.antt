@@ -10,6 +10,7 @@ use Rattle.cedar_model.specs.Agreement.{IsCompletion, AgreesWithFunctions, Answe
 use Rattle.cedar_model.specs.Policies.{Effect, permit, forbid, Policy}
 use Rattle.cedar_model.specs.Reordering.{IsReordering, nothing, keeping, swapping, chaining}
 use Rattle.cedar_model.specs.Responses
+use Rattle.cedar_model.proofs.Recorded
 use Rattle.cedar_model.specs.Chains
 use Rattle.cedar_model.proofs.Carried.{AllFollow, run_follows}
 
@@ -68,7 +69,7 @@ module _ (rs : List Row) where
   sorted_more i forbid (Responses.reported_residual t) =
       chaining (to_middle (row i forbid (Responses.reported_residual t)) (Chains.rows_by permit rs) (Chains.rows_by forbid rs)) (before (Chains.rows_by permit rs) (chaining (to_middle (row i forbid (Responses.reported_residual t)) (trues forbid) (falses forbid ++ residuals forbid)) (before (trues forbid) (to_middle (row i forbid (Responses.reported_residual t)) (falses forbid) (residuals forbid)))))
 
-sorted_is : (rows : List Row) → IsReordering Row rows (sorted rows)
+pub sorted_is : (rows : List Row) → IsReordering Row rows (sorted rows)
 unfolding Chains.rows_of
 sorted_is [] = nothing
 sorted_is (r ∷ rs) = chaining (keeping r (sorted_is rs)) (sorted_more rs r.id r.effect r.reported)
@@ -100,7 +101,7 @@ module _ (ans : Functions) (calls : Rules.StoredCalls) (agree : AgreesWithFuncti
   compose (p ∷ ps) (r ∷ rs) (u ∷ us) c h g =
       (g.0.0 ∙ h.0, g.0.1 ∙ h.1, g.0.2 p c.0 h.2, compose ps rs us c.1 h.3 g.1)
 
-  pub step_stands : (ps : List Policy) (old rows : List Row) (errors : List (Text × Failure)) → Responses.AreConditions ps → Responses.Stand s.extensions ans w ps old → Responses.AreRecordable errors → Responses.RunOf s calls limit (Chains.all_residuals old) rows errors → Responses.Stand s.extensions ans w ps rows
+  pub step_stands : (ps : List Policy) (old rows : List Row) (errors : List (Text × Failure)) → Responses.AreConditions ps → Responses.Stand s.extensions ans w ps old → Recorded.AreRecordable errors → Responses.RunOf s calls limit (Chains.all_residuals old) rows errors → Responses.Stand s.extensions ans w ps rows
   step_stands ps old rows errors c h r g =
       let f = run_follows ans calls agree w s done faithful limit (sorted old) rows errors r g in
       let k = follow_order (chaining h.1 (sorted_is old)) rows f in

@@ -14,7 +14,7 @@ use Rattle.cedar_model.specs.Agreement
 use Rattle.cedar_model.specs.Examples.{some_setting, some_calls}
 use Rattle.cedar_model.proofs.Total.{total}
 
-abbrev some_answer : (f : Text) (vs : List Represented) → (a : Failures.Answer) × some_calls f vs a
+abbrev pub some_answer : (f : Text) (vs : List Represented) → (a : Failures.Answer) × some_calls f vs a
 some_answer f vs = (Failures.answers_bool true, refl)
 
 -- all that the rules compute with

@@ -13,6 +13,7 @@ use Rattle.cedar_model.specs.Agreement.{outcome_value, IsCompletion, AgreesWithF
 use Rattle.cedar_model.specs.Policies.{Policy, satisfied, unsatisfied, erring, verdict}
 use Rattle.cedar_model.specs.Reordering.{IsReordering, nothing, keeping}
 use Rattle.cedar_model.specs.Responses
+use Rattle.cedar_model.proofs.Recorded
 use Rattle.cedar_model.proofs.Soundness.{sound_stands, runs_sound}
 
 bool_is : (a : AbstractValue) (b : Bool) → bool_of a ≡ Some b → a ≡ plain (bool_literal b)
@@ -69,7 +70,7 @@ module _ (ans : Functions) (w : World) (s : Setting) (p : Policy) where
   failure_stands of_limit nl nm h = absurd (nl refl)
   failure_stands of_memory nl nm h = absurd (nm refl)
 
-  pub answer_stands : (a : Answer) → Responses.IsRecordable (Responses.error_of a) → StandsFor s.extensions ans w a M → Responses.StandsAs s.extensions ans w p (Responses.reported_of a)
+  pub answer_stands : (a : Answer) → Recorded.IsRecordable (Responses.error_of a) → StandsFor s.extensions ans w a M → Responses.StandsAs s.extensions ans w p (Responses.reported_of a)
   unfolding Responses.reported_of Responses.error_of
   answer_stands (answers (value v)) r h = value_stands v (bool_of (abstract_value v)) refl h.1
   answer_stands (answers (residual t)) r h = h
@@ -88,16 +89,16 @@ with_slots_done ans w s slots d = record {
 }
 
 -- an error that is recorded, or none, and those after it
-pub recorded : (id : Text) (o : Option Failure) (later : List (Text × Failure)) → Responses.AreRecordable (Responses.with_error id o later) → Responses.IsRecordable o × Responses.AreRecordable later
+pub recorded : (id : Text) (o : Option Failure) (later : List (Text × Failure)) → Recorded.AreRecordable (Responses.with_error id o later) → Recorded.IsRecordable o × Recorded.AreRecordable later
 unfolding Responses.with_error
 recorded id None later h = (tt, h)
 recorded id (Some e) later h = (h.0, h.1)
 
 module _ (ans : Functions) (calls : StoredCalls) (agree : AgreesWithFunctions ans calls) (w : World) (s : Setting) (done : IsCompletion ans w s) (faithful : AnswerFaithfully s.extensions ans calls) (limit : ℕ) where
-  pub run_stands : (ps : List Policy) (rows : List Responses.Row) (errors : List (Text × Failure)) → Responses.FitPolicies ans w ps → Responses.AreRecordable errors → Responses.RunOf s calls limit ps rows errors → Responses.StandInOrder s.extensions ans w ps rows
+  pub run_stands : (ps : List Policy) (rows : List Responses.Row) (errors : List (Text × Failure)) → Responses.FitPolicies ans w ps → Recorded.AreRecordable errors → Responses.RunOf s calls limit ps rows errors → Responses.StandInOrder s.extensions ans w ps rows
   run_stands [] rows errors f r h = subst (Responses.StandInOrder s.extensions ans w []) (sym h.0) tt
-  run_stands (p ∷ ps) rows errors f r (a, rest, later, g, j, e, q) =
-      let z = recorded p.id (Responses.error_of a) later (subst Responses.AreRecordable q r) in
+  run_stands (p ∷ ps) rows errors f r (a, rest, later, g, m, j, e, q) =
+      let z = recorded p.id (Responses.error_of a) later (subst Recorded.AreRecordable q r) in
       let k = sound_stands ans calls agree w (Responses.with_slots s p.slots) (with_slots_done ans w s p.slots done) faithful p.condition a (runs_sound ans calls agree w (Responses.with_slots s p.slots) (with_slots_done ans w s p.slots done) faithful limit p.condition a f.0 g) in
       subst (Responses.StandInOrder s.extensions ans w (p ∷ ps)) (sym e) (refl, refl, answer_stands ans w s p a z.0 k, run_stands ps rest later f.1 z.1 j)
 

@@ -1,14 +1,19 @@
 -- Chains: which response follows from an earlier one by a step, a map of unknowns and a store.
-use Rattle.std.specs.Prelude.{◌≡◌, ℕ, Bool, true, false, cond, List, [], ◌∷◌, ◌++◌, map, Option, Some, None, codes}
-use Rattle.cedar_model.specs.Terms.{Text, EntityName, Term, literal, variable, slot, unknown, if_then_else, both, either, unary, binary, call, get_attribute, has_attribute, extended_has, like, is_of_type, set_of, record_of, Terms, no_terms, one_term, Fields, no_fields, one_field}
-use Rattle.cedar_model.specs.Values.{Represented, plain_represented, set_represented, record_represented, extension_represented, abstract_value, expression_of}
-use Rattle.cedar_model.specs.Outcomes.{entity_of, has_text}
-use Rattle.cedar_model.specs.Failures.{Failure, value, residual, Answer, answers, fails}
-use Rattle.cedar_model.specs.Settings.{Entry, known_entry, unknown_entry, ContextPart, absent_context, known_context, residual_context, RequestPart, Store, Setting}
+use Rattle.std.specs.Prelude.{◌≡◌, ℕ, Bool, true, false, cond, ◌||◌, List, [], ◌∷◌, ◌++◌, map, Option, Some, None}
+use Rattle.std.specs.Prelude.{Result, Ok, Err, MatchBool, MatchResult}
+use Rattle.cedar_model.specs.Terms.{Text, Term, literal, variable, slot, unknown, if_then_else, both, either, unary}
+use Rattle.cedar_model.specs.Terms.{binary, call, get_attribute, has_attribute, extended_has, like, is_of_type}
+use Rattle.cedar_model.specs.Terms.{set_of, record_of, Terms, no_terms, one_term, Fields, no_fields, one_field}
+use Rattle.cedar_model.specs.Values.{Represented, expression_of}
+use Rattle.cedar_model.specs.Failures.{Failure, FailureKind, of_meaning, of_residual, of_limit, of_memory}
+use Rattle.cedar_model.specs.Failures.{failure_kind, Answer}
+use Rattle.cedar_model.specs.Settings.{ContextPart, absent_context, known_context, residual_context, RequestPart}
+use Rattle.cedar_model.specs.Settings.{Store, Setting}
 use Rattle.cedar_model.specs.Rules.{StoredCalls, Runs}
-use Rattle.cedar_model.specs.Agreement.{no_slots, IsOfType}
+use Rattle.cedar_model.specs.Agreement.{no_slots}
 use Rattle.cedar_model.specs.Policies.{Effect, permit, forbid, Policy}
 use Rattle.cedar_model.specs.Responses.{Reported, reported_true, reported_false, reported_residual, Row, RunOf, carried}
+use Rattle.cedar_model.specs.Refusals.{Refusal, id_comes_again, first_repeated, concrete_request, IsContext}
 
 -- values for unknowns, by name
 abbrev pub Mapping : Type 0
@@ -49,58 +54,6 @@ module _ (m : Mapping) where
     substituted_at no_fields = no_fields
     substituted_at (one_field k t fs) = one_field k (substituted t) (substituted_at fs)
 
--- ---- the request of the next response
-
--- what is mapped is an entity of the entry's type, and the entry was unknown
-abbrev pub BecomesEntity : Option EntityName → Entry → Entry → Type 0
-BecomesEntity None e e' = ⊥
-BecomesEntity (Some d) (known_entry c) e' = ⊥
-BecomesEntity (Some d) (unknown_entry t) e' = IsOfType t d × (e' ≡ known_entry d)
-
-abbrev pub BecomesEntry : Option Represented → Entry → Entry → Type 0
-BecomesEntry None e e' = e' ≡ e
-BecomesEntry (Some v) e e' = BecomesEntity (entity_of (abstract_value v)) e e'
-
--- what is mapped is a record, and there was no context
-abbrev pub BecomesRecord : Represented → ContextPart → ContextPart → Type 0
-BecomesRecord (plain_represented l) c c' = ⊥
-BecomesRecord (set_represented vs) c c' = ⊥
-BecomesRecord (record_represented fs) absent_context c' = c' ≡ known_context fs
-BecomesRecord (record_represented fs) (known_context gs) c' = ⊥
-BecomesRecord (record_represented fs) (residual_context gs) c' = ⊥
-BecomesRecord (extension_represented t k f ts) c c' = ⊥
-
-abbrev pub BecomesContext : Option Represented → ContextPart → ContextPart → Type 0
-BecomesContext None c c' = c' ≡ c
-BecomesContext (Some v) c c' = BecomesRecord v c c'
-
--- a context that an answer is: a record
-abbrev pub IsContext : Answer → ContextPart → Type 0
-IsContext (answers (value v)) c = BecomesRecord v absent_context c
-IsContext (answers (residual (record_of fs))) c = c ≡ residual_context fs
-IsContext (answers (residual t)) c = ⊥
-IsContext (fails e) c = ⊥
-
--- interpretation without a map
-abbrev pub without_map : Setting → Setting
-without_map s =
-    record { request = s.request; store = s.store; map = λ n. None; slots = no_slots; extensions = s.extensions }
-
--- a residual context is substituted and interpreted again; another stays
-abbrev pub IsSubstituted : Setting → StoredCalls → ℕ → Mapping → ContextPart → ContextPart → Type 0
-IsSubstituted s calls limit m absent_context c' = c' ≡ absent_context
-IsSubstituted s calls limit m (known_context fs) c' = c' ≡ known_context fs
-IsSubstituted s calls limit m (residual_context fs) c' =
-    (a : Answer) × Runs (without_map s) calls limit (record_of (substituted_at m fs)) a × IsContext a c'
-
-pub record IsConcretized (s : Setting) (calls : StoredCalls) (limit : ℕ) (m : Mapping) (r r' : RequestPart) : Type 0 where
-  pub middle : ContextPart
-  pub principal_becomes : BecomesEntry (m (codes "principal")) r.principal_entry r'.principal_entry
-  pub action_becomes : BecomesEntry (m (codes "action")) r.action_entry r'.action_entry
-  pub resource_becomes : BecomesEntry (m (codes "resource")) r.resource_entry r'.resource_entry
-  pub context_becomes : BecomesContext (m (codes "context")) r.context_part middle
-  pub context_is_substituted : IsSubstituted s calls limit m middle r'.context_part
-
 -- ---- the policies of the next response
 
 unfoldable pub is_true : Reported → Bool
@@ -128,7 +81,8 @@ has_effect forbid permit = false
 unfoldable pub rows_of : Effect → (Reported → Bool) → List Row → List Row
 rows_of effect such [] = []
 rows_of effect such (r ∷ rs) =
-    cond (has_effect effect r.effect) (cond (such r.reported) (r ∷ rows_of effect such rs) (rows_of effect such rs)) (rows_of effect such rs)
+    cond (has_effect effect r.effect) (cond (such r.reported) (r ∷ rows_of effect such rs) (rows_of effect such rs))
+    (rows_of effect such rs)
 
 -- true, false and residual policies of an effect
 abbrev pub rows_by : Effect → List Row → List Row
@@ -139,10 +93,6 @@ rows_by effect rows =
 abbrev pub all_residuals : List Row → List Policy
 all_residuals rows = map carried (rows_by permit rows ++ rows_by forbid rows)
 
-abbrev pub EachOnce : List Text → Type 0
-EachOnce [] = Unit {0}
-EachOnce (t ∷ ts) = (has_text t ts ≡ false) × EachOnce ts
-
 -- ---- steps
 
 pub record Response : Type 0 where
@@ -150,23 +100,88 @@ pub record Response : Type 0 where
   pub rows : List Row
   pub errors : List (Text × Failure)
 
+-- interpretation without a map
+abbrev pub without_map : Setting → Setting
+without_map s =
+    record { request = s.request; store = s.store; map = λ n. None; slots = no_slots; extensions = s.extensions }
+
 abbrev pub at_step : Setting → RequestPart → Store → Mapping → Setting
 at_step s r store m =
     record { request = r; store = store; map = m; slots = no_slots; extensions = s.extensions }
 
--- a step succeeds with this response: no id stands twice, the map concretizes the request, and the policies run under it with the map
-pub record StepsTo (s : Setting) (calls : StoredCalls) (limit : ℕ) (m : Mapping) (store : Store) (old new : Response) : Type 0 where
-  pub each_once : EachOnce (map (λ p. p.id) (all_residuals old.rows))
-  pub concretized : IsConcretized s calls limit m old.request new.request
-  pub runs : RunOf (at_step s new.request store m) calls limit (all_residuals old.rows) new.rows new.errors
+-- a residual context is interpreted again, with the map's values in it: under the old response's request and the new
+-- store, without the map. Another context stays
+abbrev pub SubstitutesTo : Setting → StoredCalls → ℕ → Mapping → ContextPart → Result ContextPart Refusal → Type 0
+SubstitutesTo s calls limit m absent_context r = r ≡ Ok absent_context
+SubstitutesTo s calls limit m (known_context fs) r = r ≡ Ok (known_context fs)
+SubstitutesTo s calls limit m (residual_context fs) r =
+    (a : Answer) × Runs (without_map s) calls limit (record_of (substituted_at m fs)) a × IsContext a r
+
+abbrev pub with_context : RequestPart → ContextPart → RequestPart
+with_context r c =
+    record {
+      principal_entry = r.principal_entry;
+      action_entry = r.action_entry;
+      resource_entry = r.resource_entry;
+      context_part = c;
+    }
+
+module _ (s : Setting) (calls : StoredCalls) (limit : ℕ) (m : Mapping) (store : Store) (old : Response) where
+  -- the rows before, carried on as policies, run under the new request with the map
+  abbrev pub AfterContext : RequestPart → Result ContextPart Refusal → Result Response Refusal → Type 0
+  AfterContext r (Err e) x = x ≡ Err e
+  AfterContext r (Ok c) x =
+      (rows : List Row) × (errors : List (Text × Failure))
+      × RunOf (at_step s (with_context r c) store m) calls limit (all_residuals old.rows) rows errors
+      × (x ≡ Ok record { request = with_context r c; rows = rows; errors = errors })
+
+  abbrev pub AfterRequest : Result RequestPart Refusal → Result Response Refusal → Type 0
+  AfterRequest (Err e) x = x ≡ Err e
+  AfterRequest (Ok r) x =
+      (c : Result ContextPart Refusal) × SubstitutesTo (at_step s old.request store m) calls limit m r.context_part c
+      × AfterContext r c x
+
+  abbrev pub AfterIds : Option Text → Result Response Refusal → Type 0
+  AfterIds (Some id) x = x ≡ Err (id_comes_again id)
+  AfterIds None x = AfterRequest (concrete_request m old.request) x
+
+  -- a step answers a response or a refusal: no id stands twice, the map makes the request concrete, then the context
+  -- is substituted, then the policies run
+  abbrev pub Steps : Result Response Refusal → Type 0
+  Steps x = AfterIds (first_repeated (map (λ p. p.id) (all_residuals old.rows))) x
+
+  -- it succeeds with this response
+  abbrev pub StepsTo : Response → Type 0
+  StepsTo new = Steps (Ok new)
+
+-- ---- chains
 
 -- the first response, from a request without a map
-pub record Begins (s : Setting) (calls : StoredCalls) (limit : ℕ) (policies : List Policy) (first : Response) : Type 0 where
+pub record Begins (s : Setting) (calls : StoredCalls) (limit : ℕ) (policies : List Policy)
+    (first : Response) : Type 0 where
   pub request_is : first.request ≡ s.request
   pub runs : RunOf (without_map s) calls limit policies first.rows first.errors
 
--- a chain of steps from one response to the last
+unfoldable pub is_limit : FailureKind → Bool
+is_limit (of_meaning k) = false
+is_limit of_residual = false
+is_limit of_limit = true
+is_limit of_memory = false
+
+-- whether the recursion limit is among the errors
+unfoldable pub has_limit : List (Text × Failure) → Bool
+has_limit [] = false
+has_limit (e ∷ es) = is_limit (failure_kind e.1) || has_limit es
+
+-- steps taken one after another from a response answer the response of the last one, or the first whose errors hold
+-- the recursion limit, or the first refusal
+abbrev pub ChainAnswers : Setting → StoredCalls → ℕ → Response → List (Mapping × Store) → Result Response Refusal
+    → Type 0
+ChainAnswers s calls limit r [] x = x ≡ Ok r
+ChainAnswers s calls limit r (step ∷ steps) x =
+    MatchBool (has_limit r.errors) (x ≡ Ok r) ((y : Result Response Refusal) × Steps s calls limit step.0 step.1 r y
+    × MatchResult y (λ next. ChainAnswers s calls limit next steps x) (λ e. x ≡ Err e))
+
+-- a chain from a response that succeeds with this one
 abbrev pub ChainOf : Setting → StoredCalls → ℕ → Response → List (Mapping × Store) → Response → Type 0
-ChainOf s calls limit r [] last = last ≡ r
-ChainOf s calls limit r (step ∷ steps) last =
-    (next : Response) × StepsTo s calls limit step.0 step.1 r next × ChainOf s calls limit next steps last
+ChainOf s calls limit r steps last = ChainAnswers s calls limit r steps (Ok last)

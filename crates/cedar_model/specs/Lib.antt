@@ -24,9 +24,16 @@ pub mod Examples
 pub mod Rows
 pub mod Responses
 pub mod Meanings
+pub mod Refusals
 pub mod Chains
 pub mod ResponseLaws
 pub mod Needs
 pub mod Steps
 pub mod Authorizations
 pub mod AuthorizationLaws
+pub mod Reports
+pub mod ReportLaws
+pub mod ChainLaws
+pub mod Progress
+pub mod ChainExamples
+pub mod Headline

@@ -1,4 +1,5 @@
--- Policies, and what a set of policies decides. The reasons are the policies that determine the decision. In Cedar's documentation: the page on authorization (deny by default, a forbid overrides, an erring policy is skipped).
+-- Policies, and what a set of policies decides. The reasons are the policies that determine the decision. In Cedar's
+-- documentation: the page on authorization (deny by default, a forbid overrides, an erring policy is skipped).
 use Rattle.std.specs.Prelude.{Bool, true, false, cond, ◌||◌, List, [], ◌∷◌, map}
 use Rattle.cedar_model.specs.Terms.{Text, bool_literal, Term}
 use Rattle.cedar_model.specs.Values.{plain}

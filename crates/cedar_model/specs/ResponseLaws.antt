@@ -1,4 +1,4 @@
--- The laws of responses, which the functions of `responses` have as their contracts.
+-- The laws of runs and steps, which the functions of `responses` have as their contracts.
 use Rattle.std.specs.Prelude.{ℕ, List}
 use Rattle.cedar_model.specs.Terms.{Text}
 use Rattle.cedar_model.specs.World.{World, Functions}
@@ -7,15 +7,33 @@ use Rattle.cedar_model.specs.Settings.{Setting, Store}
 use Rattle.cedar_model.specs.Rules.{StoredCalls}
 use Rattle.cedar_model.specs.Agreement.{AgreesWithFunctions, IsCompletion, AnswerFaithfully}
 use Rattle.cedar_model.specs.Policies.{Policy}
-use Rattle.cedar_model.specs.Responses.{Row, Stand, RunOf, AreRecordable, FitPolicies, AreConditions}
+use Rattle.cedar_model.specs.Responses.{Row, Stand, RunOf, FitPolicies, AreConditions}
 use Rattle.cedar_model.specs.Chains.{Mapping, Response, at_step, StepsTo}
+use Rattle.cedar_model.specs.Authorizations.{HaveNoLimit}
 
--- in every completion that fits the conditions a run stands, if none of its errors is the recursion limit or want of memory
+-- in every completion that fits the conditions a run stands, if none of its errors is the recursion limit
 abbrev pub RunsStand : StoredCalls → Type 0
 RunsStand calls =
-    (ans : Functions) → AgreesWithFunctions ans calls → (w : World) (s : Setting) → IsCompletion ans w s → AnswerFaithfully s.extensions ans calls → (limit : ℕ) (ps : List Policy) (rows : List Row) (errors : List (Text × Failure)) → FitPolicies ans w ps → AreRecordable errors → RunOf s calls limit ps rows errors → Stand s.extensions ans w ps rows
+    (ans : Functions) → AgreesWithFunctions ans calls → (w : World) (s : Setting)
+    → IsCompletion ans w s → AnswerFaithfully s.extensions ans calls
+    → (limit : ℕ) (ps : List Policy) (rows : List Row) (errors : List (Text × Failure)) → FitPolicies ans w ps
+    → HaveNoLimit errors → RunOf s calls limit ps rows errors → Stand s.extensions ans w ps rows
 
--- a step keeps what stands, in every world that agrees with the new request, the map and the store, if none of its errors is the recursion limit or want of memory
+-- a step keeps completions: a world that completes the request before it, with the map and the store, completes the
+-- request after it
+abbrev pub StepsKeepCompletions : StoredCalls → Type 0
+StepsKeepCompletions calls =
+    (ans : Functions) → AgreesWithFunctions ans calls
+    → (w : World) (s : Setting) (limit : ℕ) (m : Mapping) (store : Store) (old new : Response)
+    → IsCompletion ans w (at_step s old.request store m) → AnswerFaithfully s.extensions ans calls
+    → StepsTo s calls limit m store old new → IsCompletion ans w (at_step s new.request store m)
+
+-- a step keeps what stands, in every world that agrees with the request before it, the map and the store, if none of
+-- its errors is the recursion limit
 abbrev pub StepsKeepWhatStands : StoredCalls → Type 0
 StepsKeepWhatStands calls =
-    (ans : Functions) → AgreesWithFunctions ans calls → (w : World) (s : Setting) (limit : ℕ) (m : Mapping) (store : Store) (old new : Response) → IsCompletion ans w (at_step s new.request store m) → AnswerFaithfully s.extensions ans calls → (ps : List Policy) → AreConditions ps → Stand s.extensions ans w ps old.rows → AreRecordable new.errors → StepsTo s calls limit m store old new → Stand s.extensions ans w ps new.rows
+    (ans : Functions) → AgreesWithFunctions ans calls
+    → (w : World) (s : Setting) (limit : ℕ) (m : Mapping) (store : Store) (old new : Response)
+    → IsCompletion ans w (at_step s old.request store m) → AnswerFaithfully s.extensions ans calls
+    → (ps : List Policy) → AreConditions ps → Stand s.extensions ans w ps old.rows → HaveNoLimit new.errors
+    → StepsTo s calls limit m store old new → Stand s.extensions ans w ps new.rows

@@ -1,11 +1,12 @@
--- Responses: what is reported of each policy, when that stands in a world, and which responses follow from a request, policies and a limit.
+-- Responses: what is reported of each policy, when that stands in a world, and which responses follow from a request,
+-- policies and a limit.
 use Rattle.std.specs.Prelude.{◌≡◌, ◌≢◌, ℕ, Bool, true, false, List, [], ◌∷◌, Option, Some, None}
 use Rattle.cedar_model.specs.Terms.{Text, bool_literal, bool_type, Term, literal, both}
 use Rattle.cedar_model.specs.Values.{Represented, abstract_value}
 use Rattle.cedar_model.specs.Outcomes.{bool_of}
 use Rattle.cedar_model.specs.World.{World, Slots, Extensions, Functions}
 use Rattle.cedar_model.specs.Meaning.{meaning}
-use Rattle.cedar_model.specs.Failures.{Failure, of_limit, of_memory, failure_kind, value, residual, Answer, answers, fails, wrong_type}
+use Rattle.cedar_model.specs.Failures.{Failure, out_of_memory, value, residual, Answer, answers, fails, wrong_type}
 use Rattle.cedar_model.specs.Settings.{Setting}
 use Rattle.cedar_model.specs.Rules.{StoredCalls, Runs}
 use Rattle.cedar_model.specs.Agreement.{Fits, HaveSameOutcome, no_slots}
@@ -25,7 +26,8 @@ pub record Row : Type 0 where
 
 -- ---- what stands
 
--- a true policy is satisfied; a false one isn't, and with an error it errs; a residual fits the world and has, without slots, the outcome of the condition
+-- a true policy is satisfied; a false one isn't, and with an error it errs; a residual fits the world and has,
+-- without slots, the outcome of the condition
 abbrev pub StandsAs : Extensions → Functions → World → Policy → Reported → Type 0
 StandsAs X ans w p reported_true = verdict (meaning X ans w p.slots p.condition) ≡ satisfied
 StandsAs X ans w p (reported_false true) = verdict (meaning X ans w p.slots p.condition) ≡ erring
@@ -74,11 +76,17 @@ unfoldable pub with_error : Text → Option Failure → List (Text × Failure) �
 with_error id None errors = errors
 with_error id (Some e) errors = (id, e) ∷ errors
 
--- each policy in order is reported by an answer of its condition within the limit, and its error, if any, is recorded in that order; a condition whose need is above the limit errs with the recursion limit
+-- each policy in order is reported by an answer of its condition within the limit, and its error, if any, is recorded
+-- in that order; a condition whose need is above the limit errs with the recursion limit. No answer is want of
+-- memory, which ends a run
 abbrev pub RunOf : Setting → StoredCalls → ℕ → List Policy → List Row → List (Text × Failure) → Type 0
 RunOf s calls limit [] rows errors = (rows ≡ []) × (errors ≡ [])
 RunOf s calls limit (p ∷ ps) rows errors =
-    (a : Answer) × (rest : List Row) × (later : List (Text × Failure)) × Runs (with_slots s p.slots) calls limit p.condition a × RunOf s calls limit ps rest later × (rows ≡ record { id = p.id; effect = p.effect; reported = reported_of a } ∷ rest) × (errors ≡ with_error p.id (error_of a) later)
+    (a : Answer) × (rest : List Row) × (later : List (Text × Failure))
+    × Runs (with_slots s p.slots) calls limit p.condition a × (a ≢ fails out_of_memory)
+    × RunOf s calls limit ps rest later × (rows
+    ≡ record { id = p.id; effect = p.effect; reported = reported_of a } ∷ rest)
+    × (errors ≡ with_error p.id (error_of a) later)
 
 -- ---- what a response carries on
 
@@ -94,18 +102,14 @@ clause_of (reported_residual t) = t
 -- the policy that a row is carried on as: scope constraints that are true, the clause, and no slots
 abbrev pub carried : Row → Policy
 carried r =
-    record { id = r.id; effect = r.effect; condition = both (both (both truth truth) truth) (clause_of r.reported); slots = no_slots }
+    record {
+      id = r.id;
+      effect = r.effect;
+      condition = both (both (both truth truth) truth) (clause_of r.reported);
+      slots = no_slots;
+    }
 
 -- ---- premises of what stands
-
--- an error of a policy: neither the recursion limit nor want of memory
-abbrev pub IsRecordable : Option Failure → Type 0
-IsRecordable None = Unit {0}
-IsRecordable (Some e) = (failure_kind e ≢ of_limit) × (failure_kind e ≢ of_memory)
-
-abbrev pub AreRecordable : List (Text × Failure) → Type 0
-AreRecordable [] = Unit {0}
-AreRecordable (e ∷ es) = IsRecordable (Some e.1) × AreRecordable es
 
 -- a world fits each policy's condition
 abbrev pub FitPolicies : Functions → World → List Policy → Type 0

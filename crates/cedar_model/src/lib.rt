@@ -2,9 +2,13 @@
 #![tactic(auto)]
 
 pub mod authorizations;
+pub mod chain_examples;
+pub mod chains;
 pub mod examples;
 pub mod levels;
 pub mod meaning;
 pub mod policies;
+pub mod progress;
+pub mod reports;
 pub mod responses;
 pub mod values;

@@ -1,7 +1,10 @@
 use Rattle.cedar_model.specs.Responses.{StandInOrder}
+use Rattle.cedar_model.proofs.Recorded.{run_recordable}
 use Rattle.cedar_model.proofs.Standing.{run_stands, in_order_stands}
 use Rattle.cedar_model.proofs.responses.runs_stand.Goals as goal
 
 pub returns : goal.returns
 returns g c =
-    λ ans agree w s done faithful limit ps rows errors f r h. in_order_stands rows (StandInOrder s.extensions ans w ps) (run_stands ans _ agree w s done faithful limit ps rows errors f r h)
+    λ ans agree w s done faithful limit ps rows errors f r h. in_order_stands rows
+    (StandInOrder s.extensions ans w ps) (run_stands ans _ agree w s done faithful limit ps rows errors f
+    (run_recordable s _ limit ps rows errors r h) h)

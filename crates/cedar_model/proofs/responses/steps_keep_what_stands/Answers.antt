@@ -1,7 +1,15 @@
-use Rattle.cedar_model.specs.Chains.{at_step}
+use Rattle.cedar_model.specs.Chains.{at_step, all_residuals}
+use Rattle.cedar_model.proofs.Recorded.{run_recordable}
+use Rattle.cedar_model.proofs.Stepping.{taken}
+use Rattle.cedar_model.proofs.Completions.{step_completes}
 use Rattle.cedar_model.proofs.Chained.{step_stands}
 use Rattle.cedar_model.proofs.responses.steps_keep_what_stands.Goals as goal
 
 pub returns : goal.returns
 returns g c =
-    λ ans agree w s limit m store old new done faithful ps conditions stand recordable step. step_stands ans _ agree w (at_step s new.request store m) done faithful limit ps old.rows new.rows new.errors conditions stand recordable step.runs
+    λ ans agree w s limit m store old new done faithful ps conditions stand none step.
+    let t = taken s _ limit m store old new step in
+    let d = step_completes ans _ agree w s limit m store old new done faithful step in
+    step_stands ans _ agree w (at_step s new.request store m) d faithful limit ps old.rows new.rows new.errors
+    conditions stand (run_recordable (at_step s new.request store m) _ limit
+    (all_residuals old.rows) new.rows new.errors none t.runs) t.runs

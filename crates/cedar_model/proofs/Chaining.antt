@@ -1,0 +1,100 @@
+-- The headline, by induction on the steps: each response's request is completed by the world, and what it reports
+-- stands.
+use Rattle.std.specs.Prelude.{◌≡◌, ℕ, List, [], ◌∷◌, Some, None, Result, Ok}
+use Rattle.std.proofs.Common.{sym, subst}
+use Rattle.cedar_model.specs.Values.{Represented}
+use Rattle.cedar_model.specs.World.{World, Functions}
+use Rattle.cedar_model.specs.Settings.{RequestPart, Setting, Store}
+use Rattle.cedar_model.specs.Rules.{StoredCalls}
+use Rattle.cedar_model.specs.Agreement
+use Rattle.cedar_model.specs.Policies.{Policy}
+use Rattle.cedar_model.specs.Responses
+use Rattle.cedar_model.specs.Chains
+use Rattle.cedar_model.specs.Chains.{Mapping, Response}
+use Rattle.cedar_model.specs.Authorizations.{HaveNoLimit}
+use Rattle.cedar_model.specs.Headline
+use Rattle.cedar_model.proofs.Recorded.{run_recordable}
+use Rattle.cedar_model.proofs.Standing.{run_stands, in_order_stands}
+use Rattle.cedar_model.proofs.Stepping.{taken}
+use Rattle.cedar_model.proofs.Completions.{step_completes}
+use Rattle.cedar_model.proofs.Chained.{step_stands}
+use Rattle.cedar_model.proofs.Limits.{goes_on, first_has_none}
+use Rattle.cedar_model.proofs.Bounds
+
+ok_inj : {A B : Type 0} {x y : A} → ◌≡◌ {A = Result A B} (Ok x) (Ok y) → x ≡ y
+ok_inj e = cc
+
+none_is : (v : Represented) → None ≡ Some v → ⊥
+none_is v e = cc
+
+module _ (calls : StoredCalls) (ans : Functions) (w : World) (s : Setting) (limit : ℕ)
+    (agree : Agreement.AgreesWithFunctions ans calls) (faithful : Agreement.AnswerFaithfully s.extensions ans calls)
+    (ps : List Policy) (conditions : Responses.AreConditions ps) where
+  -- the world completes a request
+  pub record CompletesRequest (r : RequestPart) : Type 0 where
+    pub agrees : Agreement.AgreesWithRequest s.extensions ans w r
+    pub context_is_faithful : Agreement.IsFaithfulContext s.extensions ans r.context_part
+    pub context_fits : Agreement.FitsContext s.extensions ans w r.context_part
+
+  with_step : (r : RequestPart) (m : Mapping) (store : Store) → CompletesRequest r → Headline.CompletesMap ans w s m
+      → Headline.CompletesStore ans w s store → Agreement.IsCompletion ans w (Chains.at_step s r store m)
+  with_step r m store q a b = record {
+    request_agrees = q.agrees;
+    store_agrees = b.store_agrees;
+    map_agrees = a.map_agrees;
+    context_faithful = q.context_is_faithful;
+    store_faithful = b.stored_values_are_faithful;
+    map_faithful = a.mapped_values_are_faithful;
+    context_fits = q.context_fits;
+    store_fits = b.stored_residuals_fit;
+  }
+
+  pub no_map_completes : Headline.CompletesMap ans w s (λ n. None)
+  no_map_completes = record {
+    map_agrees = λ n v e. absurd (none_is v e);
+    mapped_values_are_faithful = λ n v e. absurd (none_is v e);
+  }
+
+  pub chain_stands : (r last : Response) (steps : List (Mapping × Store)) → CompletesRequest r.request
+      → Headline.CompletesSteps ans w s steps → Responses.Stand s.extensions ans w ps r.rows
+      → Chains.ChainOf s calls limit r steps last → HaveNoLimit last.errors
+      → Responses.Stand s.extensions ans w ps last.rows
+  chain_stands r last [] q c h g none =
+      subst (λ x. Responses.Stand s.extensions ans w ps x.rows) (sym (ok_inj g)) h
+  chain_stands r last (step ∷ steps) q c h g none =
+      let on = goes_on s calls limit r last step steps g none in
+      let next = on.1.0 in
+      let k = first_has_none s calls limit next last steps on.1.2 none in
+      let before = with_step r.request step.0 step.1 q c.0 c.1 in
+      let t = taken s calls limit step.0 step.1 r next on.1.1 in
+      let z = step_completes ans calls agree w s limit step.0 step.1 r next before faithful on.1.1 in
+      let stand = step_stands ans calls agree w (Chains.at_step s next.request step.1 step.0) z faithful limit ps
+      r.rows next.rows next.errors conditions h
+      (run_recordable (Chains.at_step s next.request step.1 step.0) calls limit
+      (Chains.all_residuals r.rows) next.rows next.errors k t.runs) t.runs in
+      chain_stands next last steps record {
+        agrees = z.request_agrees;
+        context_is_faithful = z.context_faithful;
+        context_fits = z.context_fits;
+      } c.2 stand on.1.2 none
+
+pub headline : (calls : StoredCalls) (ans : Functions) (w : World) (s : Setting) (limit : ℕ) (ps : List Policy)
+    (steps : List (Mapping × Store)) (last : Response) → Headline.CompletesChain calls ans w s limit ps steps last
+    → Headline.Headline ans w s ps last
+headline calls ans w s limit ps steps last c =
+    let agree = c.functions_are_functional in
+    let faithful = c.functions_are_faithful in
+    let q : CompletesRequest calls ans w s limit agree faithful ps c.conditions_are_conjunctions s.request = record
+    { agrees = c.request_agrees; context_is_faithful = c.context_is_faithful; context_fits = c.context_fits } in
+    let z = with_step calls ans w s limit agree faithful ps c.conditions_are_conjunctions s.request
+    (λ n. None) s.store q (no_map_completes calls ans w s limit agree faithful ps c.conditions_are_conjunctions)
+    c.first_store_agrees in
+    let none = first_has_none s calls limit c.first last steps c.steps_are_answered c.no_limit_is_recorded in
+    let first_stands = in_order_stands c.first.rows (Responses.StandInOrder s.extensions ans w ps)
+    (run_stands ans calls agree w (Chains.without_map s) z faithful limit ps c.first.rows c.first.errors
+    c.conditions_fit (run_recordable (Chains.without_map s) calls limit ps c.first.rows c.first.errors none
+    c.first_is_answered.runs) c.first_is_answered.runs) in
+    let stand = chain_stands calls ans w s limit agree faithful ps c.conditions_are_conjunctions c.first last steps
+    (subst (CompletesRequest calls ans w s limit agree faithful ps c.conditions_are_conjunctions)
+    (sym c.first_is_answered.request_is) q) c.steps_agree first_stands c.steps_are_answered c.no_limit_is_recorded in
+    record { stands = stand; holds = Bounds.reports_hold s.extensions ans w ps last.rows stand }

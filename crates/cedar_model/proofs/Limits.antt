@@ -1,0 +1,122 @@
+-- The recursion limit in a chain: it ends at the first response that holds it.
+use Rattle.std.specs.Prelude.{◌≡◌, ℕ, Bool, true, false, ◌||◌, List, [], ◌∷◌, ◌++◌, Result, Ok, Err, MatchBool}
+use Rattle.std.specs.Prelude.{MatchResult}
+use Rattle.std.proofs.Common.{refl, sym, ap, ◌∙◌, subst}
+use Rattle.cedar_model.specs.Terms.{Text}
+use Rattle.cedar_model.specs.Failures.{Failure, recursion_limit, FailureKind, of_meaning, of_residual, of_limit}
+use Rattle.cedar_model.specs.Failures.{of_memory, failure_kind}
+use Rattle.cedar_model.specs.Settings.{Setting, Store}
+use Rattle.cedar_model.specs.Rules.{StoredCalls}
+use Rattle.cedar_model.specs.Refusals.{Refusal}
+use Rattle.cedar_model.specs.Chains
+use Rattle.cedar_model.specs.Chains.{Mapping, Response}
+use Rattle.cedar_model.specs.Authorizations.{HaveNoLimit}
+use Rattle.cedar_model.proofs.Determined.{kind_of_limit}
+
+-- ---- the test
+
+limit_kind : (k : FailureKind) → Chains.is_limit k ≡ true → k ≡ of_limit
+unfolding Chains.is_limit
+limit_kind (of_meaning j) h = absurd (cc)
+limit_kind of_residual h = absurd (cc)
+limit_kind of_limit h = refl
+limit_kind of_memory h = absurd (cc)
+
+limit_is : Chains.is_limit (failure_kind recursion_limit) ≡ true
+unfolding Chains.is_limit failure_kind
+limit_is = refl
+
+or_false : (a b : Bool) → a ≡ false → b ≡ false → (a || b) ≡ false
+or_false true b h k = absurd (cc)
+or_false false b h k = k
+
+first_false : (a b : Bool) → (a || b) ≡ false → a ≡ false
+first_false true b h = absurd (cc)
+first_false false b h = refl
+
+second_false : (a b : Bool) → (a || b) ≡ false → b ≡ false
+second_false true b h = absurd (cc)
+second_false false b h = h
+
+not_true : (b : Bool) → (b ≡ true → ⊥) → b ≡ false
+not_true true h = absurd (h refl)
+not_true false h = refl
+
+true_isn't : (b : Bool) → b ≡ false → b ≡ true → ⊥
+true_isn't b h k = let e = sym h ∙ k in cc
+
+pub has_none : (errors : List (Text × Failure)) → HaveNoLimit errors → Chains.has_limit errors ≡ false
+unfolding Chains.has_limit
+has_none [] h = refl
+has_none (e ∷ es) h =
+    or_false (Chains.is_limit (failure_kind e.1)) (Chains.has_limit es)
+    (not_true (Chains.is_limit (failure_kind e.1))
+    (λ k. h.0 (kind_of_limit e.1 (limit_kind (failure_kind e.1) k)))) (has_none es h.1)
+
+pub none_has : (errors : List (Text × Failure)) → Chains.has_limit errors ≡ false → HaveNoLimit errors
+unfolding Chains.has_limit
+none_has [] h = tt
+none_has (e ∷ es) h = (
+  λ k. true_isn't (Chains.is_limit (failure_kind e.1))
+      (first_false (Chains.is_limit (failure_kind e.1)) (Chains.has_limit es) h)
+      (ap (λ x. Chains.is_limit (failure_kind x)) k ∙ limit_is),
+  none_has es (second_false (Chains.is_limit (failure_kind e.1)) (Chains.has_limit es) h),
+)
+
+-- ---- a chain
+
+ok_inj : {A B : Type 0} {x y : A} → ◌≡◌ {A = Result A B} (Ok x) (Ok y) → x ≡ y
+ok_inj e = cc
+
+err_is_not_ok : {A B : Type 0} {x : A} {y : B} → ◌≡◌ {A = Result A B} (Ok x) (Err y) → ⊥
+err_is_not_ok e = cc
+
+module _ (s : Setting) (calls : StoredCalls) (limit : ℕ) where
+  abbrev Chain : Response → List (Mapping × Store) → Response → Type 0
+  Chain = Chains.ChainOf s calls limit
+
+  -- it ends here with the limit, or goes on with a response without one
+  abbrev GoesOn : Bool → Response → (Mapping × Store) → List (Mapping × Store) → Response → Type 0
+  GoesOn b r step steps last =
+      MatchBool b (◌≡◌ {A = Result Response Refusal} (Ok last) (Ok r)) ((y : Result Response Refusal)
+      × Chains.Steps s calls limit step.0 step.1 r y
+      × MatchResult y (λ next. Chain next steps last) (λ e. ◌≡◌ {A = Result Response Refusal} (Ok last) (Err e)))
+
+  -- a chain whose last response holds no limit goes on by the step
+  pub goes_on : (r last : Response) (step : Mapping × Store) (steps : List (Mapping × Store))
+      → Chain r (step ∷ steps) last → HaveNoLimit last.errors → HaveNoLimit r.errors
+      × ((next : Response) × Chains.StepsTo s calls limit step.0 step.1 r next × Chain next steps last)
+  goes_on r last step steps h none = by (Chains.has_limit r.errors) refl h
+    where
+      on : (y : Result Response Refusal) → Chains.Steps s calls limit step.0 step.1 r y
+          → MatchResult y (λ next. Chain next steps last) (λ e. ◌≡◌ {A = Result Response Refusal} (Ok last) (Err e))
+          → (next : Response) × Chains.StepsTo s calls limit step.0 step.1 r next × Chain next steps last
+      on (Ok next) g k = (next, g, k)
+      on (Err e) g k = absurd (err_is_not_ok k)
+
+      by : (b : Bool) → Chains.has_limit r.errors ≡ b → GoesOn b r step steps last → HaveNoLimit r.errors
+          × ((next : Response) × Chains.StepsTo s calls limit step.0 step.1 r next × Chain next steps last)
+      by true e k =
+          absurd (true_isn't (Chains.has_limit r.errors)
+          (has_none r.errors (subst (λ x. HaveNoLimit x.errors) (ok_inj k) none)) e)
+      by false e (y, g, k) = (none_has r.errors e, on y g k)
+
+  -- nor does the first
+  pub first_has_none : (r last : Response) (steps : List (Mapping × Store)) → Chain r steps last
+      → HaveNoLimit last.errors → HaveNoLimit r.errors
+  first_has_none r last [] h none = subst (λ x. HaveNoLimit x.errors) (ok_inj h) none
+  first_has_none r last (step ∷ steps) h none = (goes_on r last step steps h none).0
+
+  pub no_earlier : (first last : Response) (before after : List (Mapping × Store))
+      → Chain first (before ++ after) last → HaveNoLimit last.errors → (middle : Response) × Chain first before middle
+      × HaveNoLimit middle.errors × Chain middle after last
+  no_earlier first last [] after h none = (first, refl, first_has_none first last after h none, h)
+  no_earlier first last (step ∷ before) after h none =
+      let g = goes_on first last step (before ++ after) h none in
+      let k = no_earlier g.1.0 last before after g.1.2 none in (
+        k.0,
+        subst (λ b. GoesOn b first step before k.0) (sym (has_none first.errors g.0))
+            (Ok g.1.0, g.1.1, k.1),
+        k.2,
+        k.3,
+      )

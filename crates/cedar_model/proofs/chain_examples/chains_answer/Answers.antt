@@ -1,0 +1,36 @@
+use Rattle.std.specs.Prelude.{[], ◌∷◌, Err, codes}
+use Rattle.std.proofs.Common.{refl}
+use Rattle.cedar_model.specs.Chains.{without_map}
+use Rattle.cedar_model.specs.Policies.{permit}
+use Rattle.cedar_model.specs.Responses.{truth}
+use Rattle.cedar_model.specs.ChainExamples
+use Rattle.cedar_model.proofs.Exemplified.{chain_opened, finds_none, is_memory, run_to}
+use Rattle.cedar_model.proofs.TwoSteps as two
+use Rattle.cedar_model.proofs.chain_examples.chains_answer.Goals as goal
+
+pub returns-clause-two_steps : goal.returns-clause-two_steps
+unfolding chain_opened
+returns-clause-two_steps c =
+    (two.first, two.middle, two.last, two.begins, two.first_step, two.second_step, refl, refl, refl, refl, refl)
+
+pub returns-clause-names_all : goal.returns-clause-names_all
+returns-clause-names_all c = (two.first, two.middle, two.begins, two.first_step, two.names_all)
+
+pub returns-clause-completed : goal.returns-clause-completed
+unfolding chain_opened
+returns-clause-completed c = (two.last, two.completed, refl, refl, refl)
+
+pub returns-clause-ends_at_limit : goal.returns-clause-ends_at_limit
+unfolding chain_opened finds_none is_memory
+returns-clause-ends_at_limit c = (
+  record {
+    request_is = refl;
+    runs = run_to (without_map (ChainExamples.setting_of ChainExamples.known_request)) 0
+        (ChainExamples.policy (codes "1") permit truth ∷ []) (refl, tt);
+  },
+  refl,
+)
+
+pub returns-clause-ends_at_refusal : goal.returns-clause-ends_at_refusal
+unfolding chain_opened
+returns-clause-ends_at_refusal c = (Err _, refl, refl)

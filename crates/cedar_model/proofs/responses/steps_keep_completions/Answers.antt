@@ -1,0 +1,7 @@
+use Rattle.cedar_model.proofs.Completions.{step_completes}
+use Rattle.cedar_model.proofs.responses.steps_keep_completions.Goals as goal
+
+pub returns : goal.returns
+returns g c =
+    λ ans agree w s limit m store old new done faithful step. step_completes ans _ agree w s limit m store old new
+    done faithful step

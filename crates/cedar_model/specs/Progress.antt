@@ -1,0 +1,91 @@
+-- Progress: a step whose map names every unknown leaves no residual.
+use Rattle.std.specs.Prelude.{◌≡◌, ℕ, true, false, List, [], ◌∷◌, Some, is_some, codes}
+use Rattle.cedar_model.specs.Terms.{Text, Term, literal, variable, slot, unknown, if_then_else, both, either, unary}
+use Rattle.cedar_model.specs.Terms.{binary, call, get_attribute, has_attribute, extended_has, like, is_of_type}
+use Rattle.cedar_model.specs.Terms.{set_of, record_of, Terms, no_terms, one_term, Fields, no_fields, one_field}
+use Rattle.cedar_model.specs.Values.{Represented, expression_of}
+use Rattle.cedar_model.specs.Shapes.{is_restricted, are_restricted_at}
+use Rattle.cedar_model.specs.World.{World, Functions}
+use Rattle.cedar_model.specs.Settings.{Entry, known_entry, unknown_entry, ContextPart, absent_context, known_context}
+use Rattle.cedar_model.specs.Settings.{residual_context, Store, Setting}
+use Rattle.cedar_model.specs.Rules.{StoredCalls}
+use Rattle.cedar_model.specs.Agreement.{NeverAsks, IsKnown, AgreesWithFunctions, EachStored, IsValue}
+use Rattle.cedar_model.specs.Policies.{Policy, decision, reasons, judge_each}
+use Rattle.cedar_model.specs.Responses.{Reported, reported_true, reported_false, reported_residual, Row, Stand}
+use Rattle.cedar_model.specs.Chains.{Mapping, Response, StepsTo}
+use Rattle.cedar_model.specs.Outcomes.{has_text}
+use Rattle.cedar_model.specs.Reports.{ids, must_determine, concrete_decision, HaveNoResidual}
+
+module _ (ans : Functions) (m : Mapping) where
+  -- the map names each unknown of the expression, and no function that is called in it can answer one
+  abbrev mutual
+    pub IsNamed : Term → Type 0
+    IsNamed (literal l) = Unit {0}
+    IsNamed (variable v) = Unit {0}
+    IsNamed (slot i) = Unit {0}
+    IsNamed (unknown n t) = is_some (m n) ≡ true
+    IsNamed (if_then_else c a b) = IsNamed c × IsNamed a × IsNamed b
+    IsNamed (both a b) = IsNamed a × IsNamed b
+    IsNamed (either a b) = IsNamed a × IsNamed b
+    IsNamed (unary op a) = IsNamed a
+    IsNamed (binary op a b) = IsNamed a × IsNamed b
+    IsNamed (call f ts) = NeverAsks ans f × AreNamed ts
+    IsNamed (get_attribute a k) = IsNamed a
+    IsNamed (has_attribute a k) = IsNamed a
+    IsNamed (extended_has a k ks) = IsNamed a
+    IsNamed (like a p) = IsNamed a
+    IsNamed (is_of_type a t) = IsNamed a
+    IsNamed (set_of ts) = AreNamed ts
+    IsNamed (record_of fs) = AreNamedAt fs
+
+    pub AreNamed : Terms → Type 0
+    AreNamed no_terms = Unit {0}
+    AreNamed (one_term t ts) = IsNamed t × AreNamed ts
+
+    pub AreNamedAt : Fields → Type 0
+    AreNamedAt no_fields = Unit {0}
+    AreNamedAt (one_field k t fs) = IsNamed t × AreNamedAt fs
+
+  -- an unknown entry is named by its variable
+  abbrev pub EntryIsNamed : Text → Entry → Type 0
+  EntryIsNamed name (known_entry e) = Unit {0}
+  EntryIsNamed name (unknown_entry t) = is_some (m name) ≡ true
+
+  -- so is an absent context; a residual one, which is restricted, has its unknowns named
+  abbrev pub ContextIsNamed : ContextPart → Type 0
+  ContextIsNamed absent_context = is_some (m (codes "context")) ≡ true
+  ContextIsNamed (known_context fs) = Unit {0}
+  ContextIsNamed (residual_context fs) = AreNamedAt fs × (are_restricted_at fs ≡ true)
+
+  abbrev pub ReportIsNamed : Reported → Type 0
+  ReportIsNamed reported_true = Unit {0}
+  ReportIsNamed (reported_false e) = Unit {0}
+  ReportIsNamed (reported_residual t) = IsNamed t
+
+  abbrev pub RowsAreNamed : List Row → Type 0
+  RowsAreNamed [] = Unit {0}
+  RowsAreNamed (r ∷ rs) = ReportIsNamed r.reported × RowsAreNamed rs
+
+  -- the map names every unknown of a response's residuals and request, and its values are written without unknowns
+  pub record NamesAll (r : Response) : Type 0 where
+    pub principal_is_named : EntryIsNamed (codes "principal") r.request.principal_entry
+    pub action_is_named : EntryIsNamed (codes "action") r.request.action_entry
+    pub resource_is_named : EntryIsNamed (codes "resource") r.request.resource_entry
+    pub context_is_named : ContextIsNamed r.request.context_part
+    pub rows_are_named : RowsAreNamed r.rows
+    pub values_are_known : (n : Text) (v : Represented) → m n ≡ Some v → IsKnown ans (expression_of v)
+        × (is_restricted (expression_of v) ≡ true)
+
+-- where a map names all, and the store is concrete and holds values alone, a step leaves no residual; and where its
+-- rows stand, the concrete decision is that of the policies, and the reasons are theirs
+abbrev pub StepsFinish : StoredCalls → Type 0
+StepsFinish calls =
+    (ans : Functions) → AgreesWithFunctions ans calls
+    → (s : Setting) (limit : ℕ) (m : Mapping) (store : Store) (old new : Response)
+    → store.is_partial ≡ false → EachStored IsValue store → NamesAll ans m old
+    → StepsTo s calls limit m store old new
+    → HaveNoResidual new.rows
+    × ((w : World) (ps : List Policy) → Stand s.extensions ans w ps new.rows
+    → (concrete_decision new.rows ≡ decision (judge_each s.extensions ans w ps))
+    × ((t : Text) → has_text t (ids (must_determine new.rows))
+    ≡ has_text t (reasons (judge_each s.extensions ans w ps))))

@@ -1,0 +1,50 @@
+//! Worked examples: what responses say, which steps are refused, and chains. Each function is a set of examples, and
+//! does nothing.
+ghost use Rattle.cedar_model.specs.ChainExamples.{ForbidDecides, AllAreCarried, CarriedByReport, ForbidErrorsFirst};
+ghost use Rattle.cedar_model.specs.ChainExamples.{OtherReaders, GetFindsThePermit, ResidualForbidHolds};
+ghost use Rattle.cedar_model.specs.ChainExamples.{ResidualPermitMay, EarlyDeny, KnownEntryIsRefused};
+ghost use Rattle.cedar_model.specs.ChainExamples.{NoEntityIsRefused, OtherTypeIsRefused, UnknownBecomesKnown};
+ghost use Rattle.cedar_model.specs.ChainExamples.{ContextIsARecord, ContextBesideIsRefused, RepeatedIdIsRefused};
+ghost use Rattle.cedar_model.specs.ChainExamples.{ContextErrorIsRefused, ContextLimitIsRefused};
+ghost use Rattle.cedar_model.specs.ChainExamples.{ContextIsReadUnderTheOldRequest, TwoSteps, SecondStepNamesAll};
+ghost use Rattle.cedar_model.specs.ChainExamples.{TwoStepsAreCompleted, EndsAtTheLimit, RefusalEndsAChain};
+
+/// Examples: what responses say.
+pub fn responses_say()
+    ensures forbid_decides { ForbidDecides }
+    ensures all_are_carried { AllAreCarried }
+    ensures carried_by_report { CarriedByReport }
+    ensures forbid_errors_first { ForbidErrorsFirst }
+    ensures other_readers { OtherReaders }
+    ensures get_finds_the_permit { GetFindsThePermit }
+    ensures residual_forbid_holds { ResidualForbidHolds }
+    ensures residual_permit_may { ResidualPermitMay }
+    ensures early_deny { EarlyDeny }
+{}
+
+/// Examples: the request that a map makes, and what it refuses.
+pub fn maps_make_requests()
+    ensures known_entry { KnownEntryIsRefused }
+    ensures no_entity { NoEntityIsRefused }
+    ensures other_type { OtherTypeIsRefused }
+    ensures becomes_known { UnknownBecomesKnown }
+    ensures no_record { ContextIsARecord }
+    ensures context_beside { ContextBesideIsRefused }
+{}
+
+/// Examples: steps that are refused, and the request that a context is read under.
+pub fn steps_answer()
+    ensures repeated_id { RepeatedIdIsRefused }
+    ensures context_error { ContextErrorIsRefused }
+    ensures context_limit { ContextLimitIsRefused }
+    ensures old_request { ContextIsReadUnderTheOldRequest }
+{}
+
+/// Examples: a chain of two steps, a world that completes it, and chains that end before their last step.
+pub fn chains_answer()
+    ensures two_steps { TwoSteps }
+    ensures names_all { SecondStepNamesAll }
+    ensures completed { TwoStepsAreCompleted }
+    ensures ends_at_limit { EndsAtTheLimit }
+    ensures ends_at_refusal { RefusalEndsAChain }
+{}
