@@ -9,7 +9,12 @@ pub mod Binds
 pub mod Written
 pub mod Projection
 pub mod Soundness
+pub mod RecordParts
 pub mod Total
+pub mod FewerLevels
+pub mod Operands
+pub mod Limits
+pub mod Reached
 pub mod Computed
 pub mod Conjunction
 pub mod Functional
