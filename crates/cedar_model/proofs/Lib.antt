@@ -13,8 +13,11 @@ pub mod RecordParts
 pub mod Total
 pub mod FewerLevels
 pub mod Operands
-pub mod Limits
+pub mod PartLimits
 pub mod Reached
+pub mod Heights
+pub mod LowAnswers
+pub mod Needs
 pub mod Computed
 pub mod Conjunction
 pub mod Functional

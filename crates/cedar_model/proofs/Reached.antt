@@ -7,7 +7,7 @@ use Rattle.cedar_model.specs.Failures.{Answer, answers, limit}
 use Rattle.cedar_model.specs.Settings.{Setting}
 use Rattle.cedar_model.specs.Rules
 use Rattle.cedar_model.specs.LevelLaws.{FunctionsAnswer, FunctionsMeetNoLimit}
-use Rattle.cedar_model.proofs.Limits as limits
+use Rattle.cedar_model.proofs.PartLimits as limits
 use Rattle.cedar_model.proofs.MoreLevels.{rule_is_allowed}
 use Rattle.cedar_model.proofs.RecordParts.{both_first, both_second}
 use Rattle.cedar_model.proofs.Total

@@ -16,6 +16,7 @@ pub mod Agreement
 pub mod Policies
 pub mod Alike
 pub mod LevelLaws
+pub mod Restricted
 pub mod Layers
 pub mod MeaningLaws
 pub mod Reordering
@@ -25,6 +26,7 @@ pub mod Rows
 pub mod Responses
 pub mod Meanings
 pub mod Chains
+pub mod Depth
 pub mod ResponseLaws
 pub mod Needs
 pub mod Steps

@@ -2,6 +2,7 @@
 #![tactic(auto)]
 
 pub mod authorizations;
+pub mod depth;
 pub mod examples;
 pub mod levels;
 pub mod meaning;
