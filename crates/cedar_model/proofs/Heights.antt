@@ -201,12 +201,12 @@ module _ (m : Mapping) where
     not_lower_each : (ts : Terms) → are_restricted ts ≡ true → greatest_height ts ≤ greatest_height (substituted_each m ts)
     not_lower_each no_terms e = omega arith
     not_lower_each (one_term t ts) e =
-        let x = not_lower t (both_first _ _ e) in let y = not_lower_each ts (both_second _ _ e) in omega arith
+        let x = not_lower t (both_first _ _ e) in let y = not_lower_each ts (both_second (is_restricted t) (are_restricted ts) e) in omega arith
 
     not_lower_each_at : (fs : Fields) → are_restricted_at fs ≡ true → greatest_height_at fs ≤ greatest_height_at (substituted_at m fs)
     not_lower_each_at no_fields e = omega arith
     not_lower_each_at (one_field k t fs) e =
-        let x = not_lower t (both_first _ _ e) in let y = not_lower_each_at fs (both_second _ _ e) in omega arith
+        let x = not_lower t (both_first _ _ e) in let y = not_lower_each_at fs (both_second (is_restricted t) (are_restricted_at fs) e) in omega arith
 
 -- the greater of bounded numbers is bounded
 pub lower : (a b c : ℕ) → a ≤ b → b ≤ c → a ≤ c

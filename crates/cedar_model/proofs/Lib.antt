@@ -18,6 +18,9 @@ pub mod Reached
 pub mod Heights
 pub mod LowAnswers
 pub mod Needs
+pub mod RestrictedAnswers
+pub mod HeldUnknowns
+pub mod StepNeeds
 pub mod Computed
 pub mod Conjunction
 pub mod Functional

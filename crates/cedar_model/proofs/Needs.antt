@@ -28,13 +28,13 @@ module _ (s : Setting) (calls : Rules.StoredCalls) (answered : FunctionsMeetNoLi
       each_restricted : (ts : Terms) → limits.MeetsEach s calls answered (Rules.Runs s calls n) LevelsBelow ih ts → are_restricted ts ≡ true → n < greatest_height ts
       each_restricted no_terms h p = absurd h
       each_restricted (one_term t ts) (inl h) p = let x = h (both_first _ _ p) in omega arith
-      each_restricted (one_term t ts) (inr h) p = let x = each_restricted ts h (both_second _ _ p) in omega arith
+      each_restricted (one_term t ts) (inr h) p = let x = each_restricted ts h (both_second (is_restricted t) (are_restricted ts) p) in omega arith
 
       each_restricted_at : (fs : Fields) → limits.MeetsEachAt s calls answered (Rules.Runs s calls n) LevelsBelow ih fs → are_restricted_at fs ≡ true → n < greatest_height_at fs
       each_restricted_at no_fields h p = absurd h
       each_restricted_at (one_field k t fs) (inl h) p = let x = h (both_first _ _ p) in omega arith
       each_restricted_at (one_field k t fs) (inr h) p =
-          let x = each_restricted_at fs h (both_second _ _ p) in omega arith
+          let x = each_restricted_at fs h (both_second (is_restricted t) (are_restricted_at fs) p) in omega arith
 
       restricted_rule : (t : Term) → limits.PartMeets s calls answered (Rules.Runs s calls n) LevelsBelow ih t → is_restricted t ≡ true → suc n < height t
       restricted_rule (literal l) h p = absurd h

@@ -4,12 +4,12 @@ use Rattle.cedar_model.specs.Terms.{Text, Term, record_of, Fields}
 use Rattle.cedar_model.specs.Values.{Represented, expression_of, expressions_at}
 use Rattle.cedar_model.specs.Shapes.{is_restricted}
 use Rattle.cedar_model.specs.Failures.{PartialValue, answers, part_expression}
-use Rattle.cedar_model.specs.Settings.{ContextPart, absent_context, known_context, residual_context, Setting}
+use Rattle.cedar_model.specs.Settings.{ContextPart, absent_context, known_context, residual_context, context_value, RequestPart, Setting}
 use Rattle.cedar_model.specs.Rules.{StoredCalls, Allows, Exceeds}
 use Rattle.cedar_model.specs.Agreement.{height, EachStored}
-use Rattle.cedar_model.specs.Chains.{Mapping, substituted, substituted_at}
+use Rattle.cedar_model.specs.Chains.{Mapping, substituted, substituted_at, at_step}
 use Rattle.cedar_model.specs.LevelLaws.{FunctionsMeetNoLimit}
-use Rattle.cedar_model.specs.Restricted.{IsGivenSound}
+use Rattle.cedar_model.specs.Restricted.{IsSound, IsGivenSound}
 
 -- the height of a part, with the map's values in place of their unknowns
 abbrev pub substituted_height : Mapping → PartialValue → ℕ
@@ -50,3 +50,17 @@ SubstitutedContextsAreNoHigher calls =
 abbrev pub RestrictedNeedIsAtMostHeight : StoredCalls → Type 0
 RestrictedNeedIsAtMostHeight calls =
     FunctionsMeetNoLimit calls → (s : Setting) (n : ℕ) (t : Term) → is_restricted t ≡ true → Exceeds s calls t n → n < height t
+
+-- ---- a step of a chain: its context is substituted and interpreted again
+
+-- the context that follows: as it was, or what the substituted record answers
+abbrev pub ContextFollows : Setting → StoredCalls → Mapping → ContextPart → ContextPart → Type 0
+ContextFollows s calls m absent_context c = c ≡ absent_context
+ContextFollows s calls m (known_context fs) c = c ≡ known_context fs
+ContextFollows s calls m (residual_context fs) c =
+    Allows s calls (record_of (substituted_at m fs)) (answers (context_value c))
+
+-- the need in a step's run is at most the height and twice the bound
+abbrev pub StepNeedIsBounded : StoredCalls → Type 0
+StepNeedIsBounded calls =
+    FunctionsMeetNoLimit calls → (s : Setting) (m : Mapping) (b : ℕ) → IsWithin s.map m → IsGivenSound calls s → ((n : Text) (v : Represented) → m n ≡ Some v → IsSound v) → IsNoHigher calls s m b → (r : RequestPart) → ContextFollows s calls m s.request.context_part r.context_part → (n : ℕ) (t : Term) → Exceeds (at_step s r s.store m) calls t n → n < height t + (b + b)

@@ -17,6 +17,7 @@ pub mod Policies
 pub mod Alike
 pub mod LevelLaws
 pub mod Restricted
+pub mod RestrictedLaws
 pub mod Layers
 pub mod MeaningLaws
 pub mod Reordering

@@ -1,5 +1,5 @@
 //! The depth bound: how many levels an expression can need. Each function is a law, and does nothing.
-ghost use Rattle.cedar_model.specs.Depth.{NeedIsBounded, AnswersAreNoHigher, SubstitutedContextsAreNoHigher, RestrictedNeedIsAtMostHeight};
+ghost use Rattle.cedar_model.specs.Depth.{NeedIsBounded, AnswersAreNoHigher, SubstitutedContextsAreNoHigher, RestrictedNeedIsAtMostHeight, StepNeedIsBounded};
 
 use crate::levels::AnyFunctions;
 
@@ -18,4 +18,9 @@ pub fn answers_are_no_higher<F: AnyFunctions>(functions: &F)
 /// The need of a restricted expression is at most its height, whatever is given.
 pub fn restricted_need_is_at_most_height<F: AnyFunctions>(functions: &F)
     ensures { RestrictedNeedIsAtMostHeight (F.calls functions.now) }
+{}
+
+/// In the run of a step, whose context may have been substituted, the need is at most the height and twice the bound.
+pub fn step_need_is_bounded<F: AnyFunctions>(functions: &F)
+    ensures { StepNeedIsBounded (F.calls functions.now) }
 {}

@@ -8,4 +8,5 @@ pub mod levels;
 pub mod meaning;
 pub mod policies;
 pub mod responses;
+pub mod restricted;
 pub mod values;
