@@ -1,8 +1,7 @@
 -- An answer that computes is allowed.
-use Rattle.std.specs.Prelude.{◌≡◌, ◌≢◌, ℕ, Bool, true, List}
+use Rattle.std.specs.Prelude.{◌≡◌, ◌≢◌, ℕ, Bool, true}
 use Rattle.std.proofs.Common.{refl, subst}
-use Rattle.cedar_model.specs.Terms.{Text, Term}
-use Rattle.cedar_model.specs.Values.{Represented}
+use Rattle.cedar_model.specs.Terms.{Term}
 use Rattle.cedar_model.specs.Outcomes
 use Rattle.cedar_model.specs.World
 use Rattle.cedar_model.specs.Meaning
@@ -11,11 +10,12 @@ use Rattle.cedar_model.specs.Settings
 use Rattle.cedar_model.specs.Operators
 use Rattle.cedar_model.specs.Rules
 use Rattle.cedar_model.specs.Agreement
-use Rattle.cedar_model.specs.Examples.{some_setting, some_calls}
+use Rattle.cedar_model.specs.Examples.{some_setting, some_extensions, some_calls}
+use Rattle.cedar_model.specs.LevelLaws.{FunctionsAnswer}
 use Rattle.cedar_model.proofs.Total.{total}
 
-abbrev pub some_answer : (f : Text) (vs : List Represented) → (a : Failures.Answer) × some_calls f vs a
-some_answer f vs = (Failures.answers_bool true, refl)
+abbrev pub some_answer : FunctionsAnswer some_calls some_extensions.arity
+some_answer f vs e = (Failures.answers_bool true, refl)
 
 -- all that the rules compute with
 unfoldable pub opened : Unit {0}

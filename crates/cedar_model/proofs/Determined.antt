@@ -382,6 +382,7 @@ kind_of_limit (function_has_failed x m) h = absurd (cc)
 kind_of_limit (residual_is_left t) h = absurd (cc)
 kind_of_limit recursion_limit h = refl
 kind_of_limit out_of_memory h = absurd (cc)
+kind_of_limit memory_is_wrapped h = absurd (cc)
 
 module _ (s : Setting) (calls : Rules.StoredCalls) (functional : (f : Text) (vs ws : List Represented) (a b : Answer) → map abstract_value vs ≡ map abstract_value ws → calls f vs a → calls f ws b → AreAlike a b) where
   pub runs_determined : (n : ℕ) (t : Term) (a b : Answer) → Rules.Runs s calls n t a → Rules.Runs s calls n t b → AreAlike a b

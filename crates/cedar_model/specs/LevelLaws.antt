@@ -1,5 +1,5 @@
 -- The laws of the levels of the residual rules, which the functions of `levels` have as their contracts. They hold whatever the stored functions answer.
-use Rattle.std.specs.Prelude.{◌≡◌, ◌≢◌, ◌↔◌, ℕ, ◌<◌, ◌≤◌, ◌-◌, List}
+use Rattle.std.specs.Prelude.{◌≡◌, ◌≢◌, ◌↔◌, ℕ, ◌<◌, ◌≤◌, ◌-◌, List, length, Option, Some}
 use Rattle.cedar_model.specs.Terms.{Text, Term}
 use Rattle.cedar_model.specs.Values.{Represented}
 use Rattle.cedar_model.specs.Failures.{Answer, limit}
@@ -39,10 +39,29 @@ abbrev pub LayersAreLevels : StoredCalls → Type 0
 LayersAreLevels calls =
     (s : Setting) (n : ℕ) (t : Term) (a : Answer) → 0 < n → Rule s calls (Runs s calls (n - 1)) t a → Runs s calls n t a
 
--- at each level there is an answer, where the stored functions answer
+-- each function that exists answers to its own number of arguments
+abbrev pub FunctionsAnswer : StoredCalls → (Text → Option ℕ) → Type 0
+FunctionsAnswer calls arity =
+    (f : Text) (vs : List Represented) → arity f ≡ Some (length vs) → (a : Answer) × calls f vs a
+
+-- no function answers the recursion limit
+abbrev pub FunctionsMeetNoLimit : StoredCalls → Type 0
+FunctionsMeetNoLimit calls = (f : Text) (vs : List Represented) → calls f vs limit → ⊥
+
+-- at each level there is an answer, where the functions that exist answer
 abbrev pub LevelsHaveAnswers : StoredCalls → Type 0
 LevelsHaveAnswers calls =
-    ((f : Text) (vs : List Represented) → (a : Answer) × calls f vs a) → (s : Setting) (n : ℕ) (t : Term) → (a : Answer) × Runs s calls n t a
+    (s : Setting) → FunctionsAnswer calls s.extensions.arity → (n : ℕ) (t : Term) → (a : Answer) × Runs s calls n t a
+
+-- and each expression has an answer at some level
+abbrev pub ExpressionsHaveAnswers : StoredCalls → Type 0
+ExpressionsHaveAnswers calls =
+    (s : Setting) → FunctionsAnswer calls s.extensions.arity → FunctionsMeetNoLimit calls → (t : Term) → (a : Answer) × Allows s calls t a
+
+-- where the limit is met, it is met with fewer levels too: the need is one number
+abbrev pub NeedIsThreshold : StoredCalls → Type 0
+NeedIsThreshold calls =
+    (s : Setting) (m n : ℕ) (t : Term) → m ≤ n → Exceeds s calls t n → Exceeds s calls t m
 
 -- stored functions that agree with one answer to equal arguments answer alike
 abbrev pub AgreedFunctionsAreFunctional : StoredCalls → Type 0

@@ -16,6 +16,8 @@ pub mod Agreement
 pub mod Policies
 pub mod Alike
 pub mod LevelLaws
+pub mod Restricted
+pub mod RestrictedLaws
 pub mod Layers
 pub mod MeaningLaws
 pub mod Reordering
@@ -26,6 +28,7 @@ pub mod Responses
 pub mod Meanings
 pub mod Refusals
 pub mod Chains
+pub mod Depth
 pub mod ResponseLaws
 pub mod Needs
 pub mod Steps

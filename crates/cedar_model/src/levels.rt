@@ -3,7 +3,7 @@ ghost use Rattle.std.specs.Prelude.{List};
 ghost use Rattle.cedar_model.specs.Terms.{Text};
 ghost use Rattle.cedar_model.specs.Values.{Represented};
 ghost use Rattle.cedar_model.specs.Failures.{Answer};
-ghost use Rattle.cedar_model.specs.LevelLaws.{MoreLevelsKeepAnswers, LimitIsAlone, AllowedAnswersAreAlike, AnswersTakeMoreLevels, AllowedIsByTheRules, LayersAreLevels, LevelsHaveAnswers, AgreedFunctionsAreFunctional};
+ghost use Rattle.cedar_model.specs.LevelLaws.{MoreLevelsKeepAnswers, LimitIsAlone, AllowedAnswersAreAlike, AnswersTakeMoreLevels, AllowedIsByTheRules, LayersAreLevels, LevelsHaveAnswers, ExpressionsHaveAnswers, NeedIsThreshold, AgreedFunctionsAreFunctional};
 
 /// Any stored functions: what they may answer to arguments. The laws hold for each type that has this.
 pub trait AnyFunctions {
@@ -28,9 +28,19 @@ pub fn allowed_is_by_the_rules<F: AnyFunctions>(functions: &F)
     ensures { AllowedIsByTheRules (F.calls functions.now) }
 {}
 
-/// At each level there is an answer, where the stored functions answer.
+/// At each level there is an answer, where the functions that exist answer to their own number of arguments.
 pub fn levels_have_answers<F: AnyFunctions>(functions: &F)
     ensures { LevelsHaveAnswers (F.calls functions.now) }
+{}
+
+/// Each expression has an answer at some level, where these functions answer, and never by the recursion limit.
+pub fn expressions_have_answers<F: AnyFunctions>(functions: &F)
+    ensures { ExpressionsHaveAnswers (F.calls functions.now) }
+{}
+
+/// Where the recursion limit is met, it is met with fewer levels too.
+pub fn need_is_a_threshold<F: AnyFunctions>(functions: &F)
+    ensures { NeedIsThreshold (F.calls functions.now) }
 {}
 
 /// Stored functions that agree with one answer to equal arguments answer alike.

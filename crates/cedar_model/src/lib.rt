@@ -4,6 +4,7 @@
 pub mod authorizations;
 pub mod chain_examples;
 pub mod chains;
+pub mod depth;
 pub mod examples;
 pub mod levels;
 pub mod meaning;
@@ -11,4 +12,5 @@ pub mod policies;
 pub mod progress;
 pub mod reports;
 pub mod responses;
+pub mod restricted;
 pub mod values;

@@ -1,7 +1,7 @@
 -- The failure that an error stands for: its fields, without places.
 use Rattle.std.specs.Prelude.{map, string_bytes}
 use Rattle.std.specs.Rc.{rc_str_bytes}
-use Rattle.cedar_model.specs.Failures.{Failure, entity_is_missing, entity_attribute_is_missing, record_attribute_is_missing, function_is_missing, type_is_wrong, arguments_are_miscounted, binary_overflow, unary_overflow, slot_is_unlinked, function_has_failed, residual_is_left, recursion_limit, out_of_memory}
+use Rattle.cedar_model.specs.Failures.{Failure, entity_is_missing, entity_attribute_is_missing, record_attribute_is_missing, function_is_missing, type_is_wrong, arguments_are_miscounted, binary_overflow, unary_overflow, slot_is_unlinked, function_has_failed, residual_is_left, recursion_limit, out_of_memory, memory_is_wrapped}
 use Rattle.cedar_names.specs.Names.{name_text, uid_name}
 use Rattle.cedar_names.specs.Leaves.{slot_view, unary_view, binary_view, type_view, texts_view}
 use Rattle.cedar_expressions.specs.View.{view}
@@ -14,7 +14,7 @@ use Rattle.cedar_values.specs.declared.evaluator.err.EvaluationError.TheVariants
 
 abbrev pub lookup_failure : ExtensionFunctionLookupError → Failure
 lookup_failure (lookups.FuncDoesNotExist e) = function_is_missing (name_text e.name)
-lookup_failure (lookups.Memory e) = out_of_memory
+lookup_failure (lookups.Memory e) = memory_is_wrapped
 
 abbrev pub overflow_failure : IntegerOverflowError → Failure
 overflow_failure (overflows.BinaryOp e) = binary_overflow (binary_view e.op) e.arg1.what e.arg2.what

@@ -1,0 +1,213 @@
+-- How high an answer can be, and with it the need.
+use Rattle.std.specs.Prelude.{◌≡◌, ◌≢◌, ◌⊎◌, ℕ, zero, suc, ◌+◌, ◌<◌, ◌≤◌, ◌==◌, max, Bool, true, false, cond, ◌&&◌, ◌||◌, List, [], ◌∷◌, length, Option, Some, None, Result, Ok, Err}
+use Rattle.std.specs.declared.cmp.Ordering.{Ordering}
+use Rattle.std.specs.declared.cmp.Ordering.TheVariants.{Less, Equal, Greater}
+use Rattle.std.specs.Ordering.{match_ordering}
+use Rattle.std.proofs.Common.{refl, ap, subst, sym, ◌∙◌, arith, inl, inr}
+use Rattle.cedar_model.specs.Terms.{Text, EntityName, Literal, Variable, principal, action, resource, context, ValueType, BinaryOperator, in_operator, Term, literal, variable, slot, unknown, if_then_else, both, either, unary, binary, call, get_attribute, has_attribute, extended_has, like, is_of_type, set_of, record_of, Terms, no_terms, one_term, terms_of, Fields, no_fields, one_field, fields_of}
+use Rattle.cedar_model.specs.Values.{Represented, plain_represented, set_represented, record_represented, extension_represented, RepresentedValues, no_represented, one_represented, RepresentedFields, no_represented_at, one_represented_at, abstract_value, expression_of, expressions_of, expressions_at}
+use Rattle.cedar_model.specs.Keys.{value_cmp}
+use Rattle.cedar_model.specs.Sets.{canonical_set, insert_represented, insert_each, represented_fields_of}
+use Rattle.cedar_model.specs.Shapes.{is_projectable, are_projectable, are_projectable_at, is_restricted, are_restricted, are_restricted_at, has_unknown, have_unknown, have_unknown_at}
+use Rattle.cedar_model.specs.Outcomes.{bool_of, text_eq}
+use Rattle.cedar_model.specs.Failures.{Failure, FailureKind, of_meaning, of_residual, of_limit, of_memory, failure_kind, PartialValue, value, residual, Answer, answers, answers_bool, fails, limit, part_expression}
+use Rattle.cedar_model.specs.Settings.{Entry, known_entry, unknown_entry, ContextPart, absent_context, known_context, residual_context, Setting, StoredEntity, missing_entity, part_at, type_annotation, entry_part, context_value, variable_part}
+use Rattle.cedar_model.specs.Operators
+use Rattle.cedar_model.specs.Rules
+use Rattle.cedar_model.specs.Agreement.{height, greatest_height, greatest_height_at}
+use Rattle.cedar_model.specs.Chains.{Mapping, value_for, substituted, substituted_each, substituted_at}
+use Rattle.cedar_model.specs.Restricted.{IsSound, AreSound, AreSoundAt, IsGivenSound}
+use Rattle.cedar_model.specs.LevelLaws.{FunctionsMeetNoLimit}
+use Rattle.cedar_model.specs.Depth.{IsNoHigher, IsWithin, substituted_height}
+use Rattle.cedar_model.proofs.Operands as operands
+use Rattle.cedar_model.proofs.Operands.{Facts, AllAnswer, AllPart}
+use Rattle.cedar_model.proofs.Projection.{record_is}
+use Rattle.cedar_model.proofs.RecordParts.{both_first, both_second, some_inj, projectable_part, restricted_part, part_such}
+
+-- ---- values
+
+-- a sound value is written without unknowns
+neither : (b c : Bool) → b ≡ false → c ≡ false → (b || c) ≡ false
+neither b c e f = λ i. e i || f i
+
+first_none : (b c : Bool) → (b || c) ≡ false → b ≡ false
+first_none true c e = e
+first_none false c e = refl
+
+second_none : (b c : Bool) → (b || c) ≡ false → c ≡ false
+second_none true c e = absurd (cc)
+second_none false c e = e
+
+mutual
+  pub sound_known : (v : Represented) → IsSound v → has_unknown (expression_of v) ≡ false
+  sound_known (plain_represented l) h = refl
+  sound_known (set_represented vs) h = sound_each vs h.1
+  sound_known (record_represented fs) h = sound_each_at fs h
+  sound_known (extension_represented t k f ts) h = h.1
+
+  sound_each : (vs : RepresentedValues) → AreSound vs → have_unknown (expressions_of vs) ≡ false
+  sound_each no_represented h = refl
+  sound_each (one_represented v vs) h = neither _ _ (sound_known v h.0) (sound_each vs h.1)
+
+  sound_each_at : (fs : RepresentedFields) → AreSoundAt fs → have_unknown_at (expressions_at fs) ≡ false
+  sound_each_at no_represented_at h = refl
+  sound_each_at (one_represented_at k v fs) h = neither _ _ (sound_known v h.0) (sound_each_at fs h.1)
+
+-- a value whose expression is projectable is written without calls
+mutual
+  pub value_plain : (v : Represented) → is_projectable (expression_of v) ≡ true → is_restricted (expression_of v) ≡ true
+  value_plain (plain_represented l) h = refl
+  value_plain (set_represented vs) h = values_plain vs h
+  value_plain (record_represented fs) h = fields_plain fs h
+  value_plain (extension_represented t k f ts) h = absurd (cc)
+
+  values_plain : (vs : RepresentedValues) → are_projectable (expressions_of vs) ≡ true → are_restricted (expressions_of vs) ≡ true
+  values_plain no_represented h = refl
+  values_plain (one_represented v vs) h =
+      λ i. value_plain v (both_first _ _ h) i && values_plain vs (both_second _ _ h) i
+
+  fields_plain : (fs : RepresentedFields) → are_projectable_at (expressions_at fs) ≡ true → are_restricted_at (expressions_at fs) ≡ true
+  fields_plain no_represented_at h = refl
+  fields_plain (one_represented_at k v fs) h =
+      λ i. value_plain v (both_first _ _ h) i && fields_plain fs (both_second _ _ h) i
+
+-- ---- heights
+
+pub positive : (t : Term) → 0 < height t
+positive (literal l) = omega arith
+positive (variable v) = omega arith
+positive (slot i) = omega arith
+positive (unknown n t) = omega arith
+positive (if_then_else c t e) = omega arith
+positive (both t u) = omega arith
+positive (either t u) = omega arith
+positive (unary op t) = omega arith
+positive (binary op t u) = omega arith
+positive (call f ts) = omega arith
+positive (get_attribute t k) = omega arith
+positive (has_attribute t k) = omega arith
+positive (extended_has t k ks) = omega arith
+positive (like t p) = omega arith
+positive (is_of_type t n) = omega arith
+positive (set_of ts) = omega arith
+positive (record_of fs) = omega arith
+
+module _ (m : Mapping) where
+  -- the height with the map's values in place of their unknowns
+  abbrev pub h : Term → ℕ
+  h t = height (substituted m t)
+
+  -- without unknowns nothing is substituted
+  mutual
+    unfolding substituted
+
+    pub stays : (t : Term) → has_unknown t ≡ false → substituted m t ≡ t
+    stays (literal l) e = refl
+    stays (variable v) e = refl
+    stays (slot i) e = refl
+    stays (unknown n t) e = absurd (cc)
+    stays (if_then_else c t u) e =
+        λ i. if_then_else (stays c (first_none _ _ e) i) (stays t (first_none _ _ (second_none _ _ e)) i) (stays u (second_none _ _ (second_none _ _ e)) i)
+    stays (both t u) e = λ i. both (stays t (first_none _ _ e) i) (stays u (second_none _ _ e) i)
+    stays (either t u) e = λ i. either (stays t (first_none _ _ e) i) (stays u (second_none _ _ e) i)
+    stays (unary op t) e = ap (unary op) (stays t e)
+    stays (binary op t u) e = λ i. binary op (stays t (first_none _ _ e) i) (stays u (second_none _ _ e) i)
+    stays (call f ts) e = ap (call f) (stay ts e)
+    stays (get_attribute t k) e = ap (λ x. get_attribute x k) (stays t e)
+    stays (has_attribute t k) e = ap (λ x. has_attribute x k) (stays t e)
+    stays (extended_has t k ks) e = ap (λ x. extended_has x k ks) (stays t e)
+    stays (like t p) e = ap (λ x. like x p) (stays t e)
+    stays (is_of_type t n) e = ap (λ x. is_of_type x n) (stays t e)
+    stays (set_of ts) e = ap set_of (stay ts e)
+    stays (record_of fs) e = ap record_of (stay_at fs e)
+
+    stay : (ts : Terms) → have_unknown ts ≡ false → substituted_each m ts ≡ ts
+    stay no_terms e = refl
+    stay (one_term t ts) e = λ i. one_term (stays t (first_none _ _ e) i) (stay ts (second_none _ _ e) i)
+
+    stay_at : (fs : Fields) → have_unknown_at fs ≡ false → substituted_at m fs ≡ fs
+    stay_at no_fields e = refl
+    stay_at (one_field k t fs) e = λ i. one_field k (stays t (first_none _ _ e) i) (stay_at fs (second_none _ _ e) i)
+
+  module _ (b : ℕ) (mapped_low : (n : Text) (v : Represented) → m n ≡ Some v → height (expression_of v) ≤ b) where
+    unknown_by : (n : Text) (t : Option ValueType) (o : Option Represented) → m n ≡ o → height (value_for o (unknown n t)) ≤ suc b
+    unfolding value_for
+    unknown_by n t None e = omega arith
+    unknown_by n t (Some v) e = let k = mapped_low n v e in omega arith
+
+    pub unknown_low : (n : Text) (t : Option ValueType) → h (unknown n t) ≤ suc b
+    unfolding substituted
+    unknown_low n t = unknown_by n t (m n) refl
+
+    -- substitution adds no more than the bound
+    mutual
+      unfolding substituted
+
+      pub added : (t : Term) → h t ≤ height t + b
+      added (literal l) = omega arith
+      added (variable v) = omega arith
+      added (slot i) = omega arith
+      added (unknown n t) = let k = unknown_by n t (m n) refl in omega arith
+      added (if_then_else c t u) = let x = added c in let y = added t in let z = added u in omega arith
+      added (both t u) = let x = added t in let y = added u in omega arith
+      added (either t u) = let x = added t in let y = added u in omega arith
+      added (unary op t) = let x = added t in omega arith
+      added (binary op t u) = let x = added t in let y = added u in omega arith
+      added (call f ts) = let x = added_each ts in omega arith
+      added (get_attribute t k) = let x = added t in omega arith
+      added (has_attribute t k) = let x = added t in omega arith
+      added (extended_has t k ks) = let x = added t in omega arith
+      added (like t p) = let x = added t in omega arith
+      added (is_of_type t n) = let x = added t in omega arith
+      added (set_of ts) = let x = added_each ts in omega arith
+      added (record_of fs) = let x = added_each_at fs in omega arith
+
+      added_each : (ts : Terms) → greatest_height (substituted_each m ts) ≤ greatest_height ts + b
+      added_each no_terms = omega arith
+      added_each (one_term t ts) = let x = added t in let y = added_each ts in omega arith
+
+      added_each_at : (fs : Fields) → greatest_height_at (substituted_at m fs) ≤ greatest_height_at fs + b
+      added_each_at no_fields = omega arith
+      added_each_at (one_field k t fs) = let x = added t in let y = added_each_at fs in omega arith
+
+  unknown_high : (n : Text) (t : Option ValueType) (o : Option Represented) → 1 ≤ height (value_for o (unknown n t))
+  unfolding value_for
+  unknown_high n t None = omega arith
+  unknown_high n t (Some v) = let k = positive (expression_of v) in omega arith
+
+  -- substitution lowers no restricted expression
+  mutual
+    unfolding substituted
+
+    pub not_lower : (t : Term) → is_restricted t ≡ true → height t ≤ h t
+    not_lower (literal l) e = omega arith
+    not_lower (variable v) e = absurd (cc)
+    not_lower (slot i) e = absurd (cc)
+    not_lower (unknown n t) e = let k = unknown_high n t (m n) in omega arith
+    not_lower (if_then_else c t u) e = absurd (cc)
+    not_lower (both t u) e = absurd (cc)
+    not_lower (either t u) e = absurd (cc)
+    not_lower (unary op t) e = absurd (cc)
+    not_lower (binary op t u) e = absurd (cc)
+    not_lower (call f ts) e = let x = not_lower_each ts e in omega arith
+    not_lower (get_attribute t k) e = absurd (cc)
+    not_lower (has_attribute t k) e = absurd (cc)
+    not_lower (extended_has t k ks) e = absurd (cc)
+    not_lower (like t p) e = absurd (cc)
+    not_lower (is_of_type t n) e = absurd (cc)
+    not_lower (set_of ts) e = let x = not_lower_each ts e in omega arith
+    not_lower (record_of fs) e = let x = not_lower_each_at fs e in omega arith
+
+    not_lower_each : (ts : Terms) → are_restricted ts ≡ true → greatest_height ts ≤ greatest_height (substituted_each m ts)
+    not_lower_each no_terms e = omega arith
+    not_lower_each (one_term t ts) e =
+        let x = not_lower t (both_first _ _ e) in let y = not_lower_each ts (both_second (is_restricted t) (are_restricted ts) e) in omega arith
+
+    not_lower_each_at : (fs : Fields) → are_restricted_at fs ≡ true → greatest_height_at fs ≤ greatest_height_at (substituted_at m fs)
+    not_lower_each_at no_fields e = omega arith
+    not_lower_each_at (one_field k t fs) e =
+        let x = not_lower t (both_first _ _ e) in let y = not_lower_each_at fs (both_second (is_restricted t) (are_restricted_at fs) e) in omega arith
+
+-- the greater of bounded numbers is bounded
+pub lower : (a b c : ℕ) → a ≤ b → b ≤ c → a ≤ c
+lower a b c x y = omega arith

@@ -1,0 +1,116 @@
+-- The need is at most the height and the bound together.
+use Rattle.std.specs.Prelude.{◌≡◌, ◌⊎◌, ℕ, zero, suc, ◌+◌, ◌<◌, ◌≤◌, max, Bool, true, false, ◌&&◌}
+use Rattle.std.proofs.Common.{refl, subst, sym, arith, inl, inr}
+use Rattle.cedar_model.specs.Terms.{Term, literal, variable, slot, unknown, if_then_else, both, either, unary, binary, call, get_attribute, has_attribute, extended_has, like, is_of_type, set_of, record_of, Terms, no_terms, one_term, Fields, no_fields, one_field}
+use Rattle.cedar_model.specs.Shapes.{is_restricted, are_restricted, are_restricted_at}
+use Rattle.cedar_model.specs.Failures.{Answer, answers, residual, limit}
+use Rattle.cedar_model.specs.Settings.{Setting}
+use Rattle.cedar_model.specs.Rules
+use Rattle.cedar_model.specs.Agreement.{height, greatest_height, greatest_height_at}
+use Rattle.cedar_model.specs.Chains.{substituted}
+use Rattle.cedar_model.specs.Restricted.{IsGivenSound}
+use Rattle.cedar_model.specs.LevelLaws.{FunctionsMeetNoLimit}
+use Rattle.cedar_model.specs.Depth.{IsNoHigher}
+use Rattle.cedar_model.proofs.PartLimits as limits
+use Rattle.cedar_model.proofs.RecordParts.{both_first, both_second, restricted_part}
+use Rattle.cedar_model.proofs.Heights as heights
+use Rattle.cedar_model.proofs.Heights.{positive}
+use Rattle.cedar_model.proofs.LowAnswers.{part_of_record, runs_low}
+
+module _ (s : Setting) (calls : Rules.StoredCalls) (answered : FunctionsMeetNoLimit calls) where
+  -- ---- restricted expressions
+
+  module _ (n : ℕ) where
+    abbrev LevelsBelow : Term → Type 0
+    LevelsBelow t = is_restricted t ≡ true → n < height t
+
+    module _ (ih : (t : Term) (x : Answer) → Rules.Runs s calls n t x → x ≡ limit → LevelsBelow t) where
+      each_restricted : (ts : Terms) → limits.MeetsEach s calls answered (Rules.Runs s calls n) LevelsBelow ih ts → are_restricted ts ≡ true → n < greatest_height ts
+      each_restricted no_terms h p = absurd h
+      each_restricted (one_term t ts) (inl h) p = let x = h (both_first _ _ p) in omega arith
+      each_restricted (one_term t ts) (inr h) p = let x = each_restricted ts h (both_second (is_restricted t) (are_restricted ts) p) in omega arith
+
+      each_restricted_at : (fs : Fields) → limits.MeetsEachAt s calls answered (Rules.Runs s calls n) LevelsBelow ih fs → are_restricted_at fs ≡ true → n < greatest_height_at fs
+      each_restricted_at no_fields h p = absurd h
+      each_restricted_at (one_field k t fs) (inl h) p = let x = h (both_first _ _ p) in omega arith
+      each_restricted_at (one_field k t fs) (inr h) p =
+          let x = each_restricted_at fs h (both_second (is_restricted t) (are_restricted_at fs) p) in omega arith
+
+      restricted_rule : (t : Term) → limits.PartMeets s calls answered (Rules.Runs s calls n) LevelsBelow ih t → is_restricted t ≡ true → suc n < height t
+      restricted_rule (literal l) h p = absurd h
+      restricted_rule (variable v) h p = absurd h
+      restricted_rule (slot i) h p = absurd h
+      restricted_rule (unknown k t) h p = absurd h
+      restricted_rule (if_then_else c t e) h p = absurd (cc)
+      restricted_rule (both t u) h p = absurd (cc)
+      restricted_rule (either t u) h p = absurd (cc)
+      restricted_rule (unary op t) h p = absurd (cc)
+      restricted_rule (binary op t u) h p = absurd (cc)
+      restricted_rule (call f ts) h p = let x = each_restricted ts h p in omega arith
+      restricted_rule (get_attribute t k) h p = absurd (cc)
+      restricted_rule (has_attribute t k) h p = absurd (cc)
+      restricted_rule (extended_has t k ks) h p = absurd (cc)
+      restricted_rule (like t i) h p = absurd (cc)
+      restricted_rule (is_of_type t k) h p = absurd (cc)
+      restricted_rule (set_of ts) h p = let x = each_restricted ts h p in omega arith
+      restricted_rule (record_of fs) h p = let x = each_restricted_at fs h p in omega arith
+
+  pub restricted_need : (n : ℕ) (t : Term) → is_restricted t ≡ true → Rules.Exceeds s calls t n → n < height t
+  restricted_need zero t p r = positive t
+  restricted_need (suc n) t p r =
+      restricted_rule n (λ u x g q i. restricted_need n u i (subst (Rules.Runs s calls n u) q g)) t (limits.rule_met s calls answered (Rules.Runs s calls n) (LevelsBelow n) (λ u x g q i. restricted_need n u i (subst (Rules.Runs s calls n u) q g)) t limit r refl) p
+
+  -- ---- all expressions
+
+  module _ (b : ℕ) (sound : IsGivenSound calls s) (low : IsNoHigher calls s s.map b) where
+    module _ (n : ℕ) where
+      abbrev Below : Term → Type 0
+      Below t = (n < height t + b) × LevelsBelow n t
+
+      module _ (ih : (t : Term) (x : Answer) → Rules.Runs s calls n t x → x ≡ limit → Below t) where
+        each_below : (ts : Terms) → limits.MeetsEach s calls answered (Rules.Runs s calls n) Below ih ts → n < greatest_height ts + b
+        each_below no_terms h = absurd h
+        each_below (one_term t ts) (inl h) = let x = h.0 in omega arith
+        each_below (one_term t ts) (inr h) = let x = each_below ts h in omega arith
+
+        each_below_at : (fs : Fields) → limits.MeetsEachAt s calls answered (Rules.Runs s calls n) Below ih fs → n < greatest_height_at fs + b
+        each_below_at no_fields h = absurd h
+        each_below_at (one_field k t fs) (inl h) = let x = h.0 in omega arith
+        each_below_at (one_field k t fs) (inr h) = let x = each_below_at fs h in omega arith
+
+        rule_below : (t : Term) → limits.PartMeets s calls answered (Rules.Runs s calls n) Below ih t → suc n < height t + b
+        rule_below (literal l) h = absurd h
+        rule_below (variable v) h = absurd h
+        rule_below (slot i) h = absurd h
+        rule_below (unknown k t) h = absurd h
+        rule_below (if_then_else c t e) (inl h) = let x = h.0 in omega arith
+        rule_below (if_then_else c t e) (inr (inl h)) = let x = h.0 in omega arith
+        rule_below (if_then_else c t e) (inr (inr h)) = let x = h.0 in omega arith
+        rule_below (both t u) (inl h) = let x = h.0 in omega arith
+        rule_below (both t u) (inr h) = let x = h.0 in omega arith
+        rule_below (either t u) (inl h) = let x = h.0 in omega arith
+        rule_below (either t u) (inr h) = let x = h.0 in omega arith
+        rule_below (unary op t) h = let x = h.0 in omega arith
+        rule_below (binary op t u) (inl h) = let x = h.0 in omega arith
+        rule_below (binary op t u) (inr h) = let x = h.0 in omega arith
+        rule_below (call f ts) h = let x = each_below ts h in omega arith
+        rule_below (get_attribute t k) (inl h) = let x = h.0 in omega arith
+        rule_below (get_attribute t k) (inr h) =
+            let l = runs_low s.map s calls b (λ m v e. e) sound low n t (answers (residual h.whole)) h.answered_whole in
+            let p = restricted_part h.whole h.fields k h.part h.is_record h.is_part (l.1 h.projectable) in
+            let x : height (substituted s.map h.whole) ≤ height t + b = l.0 in
+            let y = part_of_record s.map h.whole k h.fields h.part h.is_record h.is_part in
+            let z = heights.not_lower s.map h.part p in
+            let i : n < height h.part = h.meets.1 p in
+            omega arith
+        rule_below (has_attribute t k) h = let x = h.0 in omega arith
+        rule_below (extended_has t k ks) h = let x = h.0 in omega arith
+        rule_below (like t i) h = let x = h.0 in omega arith
+        rule_below (is_of_type t k) h = let x = h.0 in omega arith
+        rule_below (set_of ts) h = let x = each_below ts h in omega arith
+        rule_below (record_of fs) h = let x = each_below_at fs h in omega arith
+
+    pub need_bounded : (n : ℕ) (t : Term) → Rules.Exceeds s calls t n → n < height t + b
+    need_bounded zero t r = let x = positive t in omega arith
+    need_bounded (suc n) t r =
+        rule_below n (λ u x g q. (need_bounded n u (subst (Rules.Runs s calls n u) q g), λ i. restricted_need n u i (subst (Rules.Runs s calls n u) q g))) t (limits.rule_met s calls answered (Rules.Runs s calls n) (Below n) (λ u x g q. (need_bounded n u (subst (Rules.Runs s calls n u) q g), λ i. restricted_need n u i (subst (Rules.Runs s calls n u) q g))) t limit r refl)

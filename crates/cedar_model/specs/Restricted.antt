@@ -1,0 +1,100 @@
+-- What is held in values and in residuals that are given: restricted expressions, and values that are written without unknowns.
+use Rattle.std.specs.Prelude.{◌≡◌, Bool, true, false, List, Option, Some, None}
+use Rattle.cedar_model.specs.Terms.{Text, UnaryOperator, BinaryOperator, Term, literal, variable, slot, unknown, if_then_else, both, either, unary, binary, call, get_attribute, has_attribute, extended_has, like, is_of_type, set_of, record_of, Terms, no_terms, one_term, Fields, no_fields, one_field}
+use Rattle.cedar_model.specs.Values.{Represented, plain_represented, set_represented, record_represented, extension_represented, RepresentedValues, no_represented, one_represented, RepresentedFields, no_represented_at, one_represented_at}
+use Rattle.cedar_model.specs.Shapes.{is_restricted, are_restricted, are_restricted_at, has_unknown, have_unknown}
+use Rattle.cedar_model.specs.Sets.{IsStrictlyInOrder}
+use Rattle.cedar_model.specs.Failures.{PartialValue, value, residual, answers}
+use Rattle.cedar_model.specs.Settings.{ContextPart, absent_context, known_context, residual_context, Setting}
+use Rattle.cedar_model.specs.Rules.{StoredCalls}
+use Rattle.cedar_model.specs.Agreement.{EachStored}
+
+-- each set is strictly in order, and the arguments of each representation are restricted and hold no unknown
+abbrev mutual
+  pub IsSound : Represented → Type 0
+  IsSound (plain_represented l) = Unit {0}
+  IsSound (set_represented vs) = IsStrictlyInOrder vs × AreSound vs
+  IsSound (record_represented fs) = AreSoundAt fs
+  IsSound (extension_represented t k f ts) = (are_restricted ts ≡ true) × (have_unknown ts ≡ false)
+
+  pub AreSound : RepresentedValues → Type 0
+  AreSound no_represented = Unit {0}
+  AreSound (one_represented v vs) = IsSound v × AreSound vs
+
+  pub AreSoundAt : RepresentedFields → Type 0
+  AreSoundAt no_represented_at = Unit {0}
+  AreSoundAt (one_represented_at k v fs) = IsSound v × AreSoundAt fs
+
+-- a sound value, or a restricted residual
+abbrev pub IsSoundPart : PartialValue → Type 0
+IsSoundPart (value v) = IsSound v
+IsSoundPart (residual r) = is_restricted r ≡ true
+
+abbrev pub IsSoundContext : ContextPart → Type 0
+IsSoundContext absent_context = Unit {0}
+IsSoundContext (known_context fs) = AreSoundAt fs
+IsSoundContext (residual_context fs) = are_restricted_at fs ≡ true
+
+-- all that is given is sound, and so is what functions answer: the types keep it
+pub record IsGivenSound (calls : StoredCalls) (s : Setting) : Type 0 where
+  pub context_sound : IsSoundContext s.request.context_part
+  pub stored_sound : EachStored IsSoundPart s.store
+  pub mapped_sound : (n : Text) (v : Represented) → s.map n ≡ Some v → IsSound v
+  pub answers_sound : (f : Text) (vs : List Represented) (p : PartialValue) → calls f vs (answers p) → IsSoundPart p
+
+-- ---- the first part that a restricted expression may not have
+
+-- what such a part uses; of an operator, the operator
+pub data Feature : Type 0 where
+  of_variable : Feature
+  of_slot : Feature
+  of_if : Feature
+  of_and : Feature
+  of_or : Feature
+  of_unary : UnaryOperator → Feature
+  of_binary : BinaryOperator → Feature
+  of_attribute : Feature
+  of_has : Feature
+  of_like : Feature
+  of_is : Feature
+
+-- a disallowed part with its feature
+pub record Disallowed : Type 0 where
+  pub feature : Feature
+  pub part : Term
+
+abbrev pub disallowed : Feature → Term → Option Disallowed
+disallowed f t = Some record { feature = f; part = t }
+
+unfoldable pub or_else : Option Disallowed → Option Disallowed → Option Disallowed
+or_else (Some d) rest = Some d
+or_else None rest = rest
+
+-- a disallowed node at once, else the first of its parts in order
+unfoldable mutual
+  pub first_disallowed : Term → Option Disallowed
+  first_disallowed (literal l) = None
+  first_disallowed (variable v) = disallowed of_variable (variable v)
+  first_disallowed (slot i) = disallowed of_slot (slot i)
+  first_disallowed (unknown n t) = None
+  first_disallowed (if_then_else c a b) = disallowed of_if (if_then_else c a b)
+  first_disallowed (both a b) = disallowed of_and (both a b)
+  first_disallowed (either a b) = disallowed of_or (either a b)
+  first_disallowed (unary op a) = disallowed (of_unary op) (unary op a)
+  first_disallowed (binary op a b) = disallowed (of_binary op) (binary op a b)
+  first_disallowed (call f ts) = first_disallowed_of ts
+  first_disallowed (get_attribute a k) = disallowed of_attribute (get_attribute a k)
+  first_disallowed (has_attribute a k) = disallowed of_has (has_attribute a k)
+  first_disallowed (extended_has a k ks) = disallowed of_has (extended_has a k ks)
+  first_disallowed (like a p) = disallowed of_like (like a p)
+  first_disallowed (is_of_type a t) = disallowed of_is (is_of_type a t)
+  first_disallowed (set_of ts) = first_disallowed_of ts
+  first_disallowed (record_of fs) = first_disallowed_at fs
+
+  pub first_disallowed_of : Terms → Option Disallowed
+  first_disallowed_of no_terms = None
+  first_disallowed_of (one_term t ts) = or_else (first_disallowed t) (first_disallowed_of ts)
+
+  pub first_disallowed_at : Fields → Option Disallowed
+  first_disallowed_at no_fields = None
+  first_disallowed_at (one_field k t fs) = or_else (first_disallowed t) (first_disallowed_at fs)
