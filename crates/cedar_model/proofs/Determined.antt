@@ -8,7 +8,7 @@ use Rattle.cedar_model.specs.Values.{AbstractFields, one_value_at, record_value,
 use Rattle.cedar_model.specs.Sets.{represented_fields_of}
 use Rattle.cedar_model.specs.Shapes.{is_projectable, are_projectable_at}
 use Rattle.cedar_model.specs.Outcomes.{bool_of, text_eq}
-use Rattle.cedar_model.specs.Failures.{Failure, failure_kind, FailureKind, of_meaning, of_residual, of_limit, of_memory, entity_is_missing, entity_attribute_is_missing, record_attribute_is_missing, function_is_missing, type_is_wrong, arguments_are_miscounted, binary_overflow, unary_overflow, slot_is_unlinked, function_has_failed, residual_is_left, recursion_limit, out_of_memory, PartialValue, value, residual, Answer, answers, fails, part_expression, limit}
+use Rattle.cedar_model.specs.Failures.{Failure, failure_kind, FailureKind, of_meaning, of_residual, of_limit, of_memory, entity_is_missing, entity_attribute_is_missing, record_attribute_is_missing, function_is_missing, type_is_wrong, arguments_are_miscounted, binary_overflow, unary_overflow, slot_is_unlinked, function_has_failed, residual_is_left, recursion_limit, out_of_memory, memory_is_wrapped, PartialValue, value, residual, Answer, answers, fails, part_expression, limit}
 use Rattle.cedar_model.specs.Settings.{Setting, variable_part}
 use Rattle.cedar_model.specs.Operators
 use Rattle.cedar_model.specs.Rules

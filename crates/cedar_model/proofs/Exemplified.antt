@@ -5,7 +5,7 @@ use Rattle.std.specs.Cmp.Lexicographic.{bytes_decides}
 use Rattle.cedar_model.specs.Terms.{Text, Term}
 use Rattle.cedar_model.specs.Outcomes.{text_eq}
 use Rattle.cedar_model.specs.Failures.{Failure, FailureKind, of_meaning, of_residual, of_limit, of_memory}
-use Rattle.cedar_model.specs.Failures.{failure_kind, Answer, answers, fails, out_of_memory}
+use Rattle.cedar_model.specs.Failures.{failure_kind, Answer, answers, answers_bool, fails, out_of_memory}
 use Rattle.cedar_model.specs.Settings.{Setting, part_at}
 use Rattle.cedar_model.specs.Rules
 use Rattle.cedar_model.specs.Policies
@@ -16,7 +16,8 @@ use Rattle.cedar_model.specs.Refusals
 use Rattle.cedar_model.specs.Chains
 use Rattle.cedar_model.specs.Reports
 use Rattle.cedar_model.specs.Examples.{some_calls}
-use Rattle.cedar_model.proofs.Computed.{meaning_opened, some_answer}
+use Rattle.cedar_model.specs.LevelLaws.{FunctionsAnswer}
+use Rattle.cedar_model.proofs.Computed.{meaning_opened}
 use Rattle.cedar_model.proofs.Total.{total}
 
 -- all that chains compute with
@@ -26,11 +27,14 @@ chain_opened = tt
 
 -- ---- a run
 
+abbrev some_answer : (s : Setting) → FunctionsAnswer some_calls s.extensions.arity
+some_answer s f vs e = (answers_bool true, refl)
+
 abbrev pub answer_to : Setting → ℕ → Term → Answer
-answer_to s n t = (total s some_calls some_answer n t).0
+answer_to s n t = (total s some_calls (some_answer s) n t).0
 
 pub runs_to : (s : Setting) (n : ℕ) (t : Term) (a : Answer) → answer_to s n t ≡ a → Rules.Runs s some_calls n t a
-runs_to s n t a e = subst (Rules.Runs s some_calls n t) e (total s some_calls some_answer n t).1
+runs_to s n t a e = subst (Rules.Runs s some_calls n t) e (total s some_calls (some_answer s) n t).1
 
 abbrev pub policy_answer : Setting → ℕ → Policy → Answer
 policy_answer s n p = answer_to (Responses.with_slots s p.slots) n p.condition

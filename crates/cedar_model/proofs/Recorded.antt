@@ -7,7 +7,7 @@ use Rattle.cedar_model.specs.Outcomes.{bool_of}
 use Rattle.cedar_model.specs.Failures.{Failure, entity_is_missing, entity_attribute_is_missing}
 use Rattle.cedar_model.specs.Failures.{record_attribute_is_missing, function_is_missing, type_is_wrong}
 use Rattle.cedar_model.specs.Failures.{arguments_are_miscounted, binary_overflow, unary_overflow, slot_is_unlinked}
-use Rattle.cedar_model.specs.Failures.{function_has_failed, residual_is_left, recursion_limit, out_of_memory}
+use Rattle.cedar_model.specs.Failures.{function_has_failed, residual_is_left, recursion_limit, out_of_memory, memory_is_wrapped}
 use Rattle.cedar_model.specs.Failures.{of_limit, of_memory, failure_kind, value, residual, Answer, answers, fails}
 use Rattle.cedar_model.specs.Settings.{Setting}
 use Rattle.cedar_model.specs.Rules.{StoredCalls}
@@ -39,6 +39,7 @@ kind_of_memory (function_has_failed x m) h = absurd (cc)
 kind_of_memory (residual_is_left t) h = absurd (cc)
 kind_of_memory recursion_limit h = absurd (cc)
 kind_of_memory out_of_memory h = refl
+kind_of_memory memory_is_wrapped h = absurd (cc)
 
 -- the error of an answer that is no want of memory, where it is not the limit
 pub unless_memory : (a : Answer) (id : Text) (later : List (Text × Failure)) → a ≢ fails out_of_memory

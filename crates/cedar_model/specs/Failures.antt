@@ -4,7 +4,7 @@ use Rattle.cedar_model.specs.Terms.{Text, EntityName, bool_literal, Slot, ValueT
 use Rattle.cedar_model.specs.Values.{AbstractValue, Represented, plain_represented, expression_of}
 use Rattle.cedar_model.specs.Outcomes.{ErrorKind, entity_does_not_exist, entity_attribute_does_not_exist, record_attribute_does_not_exist, function_does_not_exist, type_error, wrong_number_of_arguments, integer_overflow, unlinked_slot, function_failed, value_type}
 
--- an error with its fields. Of an attribute or tag that is missing: the entity, the name, whether it is an attribute, whether the entity has one of the other kind by that name, the first five names that are there, and how many there are. Want of memory inside another error is an error of its own, which no rule answers
+-- an error with its fields. Of an attribute or tag that is missing: the entity, the name, whether it is an attribute, whether the entity has one of the other kind by that name, the first five names that are there, and how many there are. Want of memory inside the error of a look-up is an error of its own, of the kind of the look-up, and no rule answers it
 pub data Failure : Type 0 where
   entity_is_missing : EntityName → Failure
   entity_attribute_is_missing : EntityName → Text → Bool → Bool → List Text → ℕ → Failure
@@ -42,7 +42,7 @@ failure_kind (function_has_failed extension message) = of_meaning function_faile
 failure_kind (residual_is_left t) = of_residual
 failure_kind recursion_limit = of_limit
 failure_kind out_of_memory = of_memory
-failure_kind memory_is_wrapped = of_memory
+failure_kind memory_is_wrapped = of_meaning function_does_not_exist
 
 -- a value, or the expression that is left
 pub data PartialValue : Type 0 where
