@@ -236,7 +236,7 @@ fn is_want_of_memory(error: &EvaluationError) -> bool
     match error {
         EvaluationError::Memory(_) => true,
         EvaluationError::FailedExtensionFunctionLookup(error) => match error {
-            ExtensionFunctionLookupError::Memory(_) => true,
+            ExtensionFunctionLookupError::Memory(_) => false,
             ExtensionFunctionLookupError::FuncDoesNotExist(_) => false,
         },
         EvaluationError::EntityDoesNotExist(_) => false,
