@@ -1,5 +1,5 @@
 -- How lists of values compare, part by part.
-use Rattle.std.specs.Prelude.{◌≡◌, Bool, true, false, List, [], ◌∷◌}
+use Rattle.std.specs.Prelude.{◌≡◌, Bool, true, false, List, [], ◌∷◌, Some}
 use Rattle.std.proofs.Common.{refl}
 use Rattle.std.specs.Rc.{rc_str_bytes}
 use Rattle.std.specs.declared.alloc.Global.{Global}
@@ -7,7 +7,7 @@ use Rattle.std.specs.declared.rc.RcStr.{RcStr}
 use Rattle.std.specs.declared.cmp.Ordering.{Ordering}
 use Rattle.std.specs.declared.cmp.Ordering.TheVariants.{Less, Equal, Greater}
 use Rattle.std.specs.Ordering.{ordering_then, nat_cmp, is_eq}
-use Rattle.std.specs.Cmp.{IsTotalOrder, IsEquivalence}
+use Rattle.std.specs.Cmp.{IsTotalOrder, IsEquivalence, IsPartialEquivalence, IsPartialOrder, partial_equiv_from_equiv, partial_order_from_agreeing_total}
 use Rattle.std.proofs.lemmas.Cmp.{on_total, on_equiv}
 use Rattle.std.specs.Cmp.Lexicographic.{slice_cmp}
 use Rattle.cedar_model.specs.Values.{Represented, abstract_value}
@@ -30,6 +30,27 @@ represented_cmp-total = on_total abstract_value value_cmp-total
 
 pub represented_eq-equivalence : IsEquivalence represented_eq
 represented_eq-equivalence = on_equiv abstract_value value_eq-equivalence
+
+-- the laws of what is ordered as the value that it is seen as
+module _ {X : Type 0} (seen : X → Represented) where
+  abbrev pub seen_cmp : X → X → Ordering
+  seen_cmp a b = represented_cmp (seen a) (seen b)
+
+  abbrev pub seen_eq : X → X → Bool
+  seen_eq a b = represented_eq (seen a) (seen b)
+
+  pub seen_equivalence : IsEquivalence seen_eq
+  seen_equivalence = on_equiv seen represented_eq-equivalence
+
+  pub seen_partial_equivalence : IsPartialEquivalence seen_eq
+  seen_partial_equivalence = partial_equiv_from_equiv seen_equivalence
+
+  pub seen_total : IsTotalOrder seen_cmp
+  seen_total = on_total seen represented_cmp-total
+
+  pub seen_partial_order : IsPartialOrder seen_eq (λ a b. Some (seen_cmp a b))
+  seen_partial_order =
+      partial_order_from_agreeing_total seen_cmp seen_total (λ a b. refl) (λ a b. refl)
 
 -- lists of values: the first two that differ decide
 abbrev pub listed_cmp : List Placed → List Placed → Ordering

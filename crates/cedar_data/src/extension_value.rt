@@ -136,13 +136,11 @@ impl ExtensionValue {
 
 impl PartialEq for ExtensionValue {
     ghost use Rattle.cedar_data.specs.Representations.{extension_what};
-    ghost use Rattle.std.specs.Cmp.{partial_equiv_from_equiv};
-    ghost use Rattle.std.proofs.lemmas.Cmp.{on_equiv};
-    ghost use Rattle.cedar_data.specs.Compared.{represented_eq, represented_eq-equivalence};
+    ghost use Rattle.cedar_data.specs.Compared.{represented_eq, seen_partial_equivalence};
 
     ghost eq = { λ a b. represented_eq (extension_what a) (extension_what b) };
 
-    ghost laws = { partial_equiv_from_equiv (on_equiv (extension_what) represented_eq-equivalence) };
+    ghost laws = { seen_partial_equivalence extension_what };
 
     fn eq(&self, other: &ExtensionValue) -> bool {
         self.compare(other).is_eq()
@@ -151,21 +149,19 @@ impl PartialEq for ExtensionValue {
 
 impl Eq for ExtensionValue {
     ghost use Rattle.cedar_data.specs.Representations.{extension_what};
-    ghost use Rattle.std.proofs.lemmas.Cmp.{on_equiv};
-    ghost use Rattle.cedar_data.specs.Compared.{represented_eq-equivalence};
+    ghost use Rattle.cedar_data.specs.Compared.{seen_equivalence};
 
-    ghost laws = { on_equiv (extension_what) represented_eq-equivalence };
+    ghost laws = { seen_equivalence extension_what };
 }
 
 impl Ord for ExtensionValue {
     ghost use Rattle.cedar_data.specs.Representations.{extension_what};
     ghost use Rattle.std.proofs.Common.{refl};
-    ghost use Rattle.std.proofs.lemmas.Cmp.{on_total};
-    ghost use Rattle.cedar_data.specs.Compared.{represented_cmp, represented_cmp-total};
+    ghost use Rattle.cedar_data.specs.Compared.{represented_cmp, seen_total};
 
     ghost cmp = { λ a b. represented_cmp (extension_what a) (extension_what b) };
 
-    ghost total = { on_total (extension_what) represented_cmp-total };
+    ghost total = { seen_total extension_what };
 
     ghost matches_partial_cmp = { λ a b. refl };
 
@@ -179,14 +175,11 @@ impl Ord for ExtensionValue {
 impl PartialOrd for ExtensionValue {
     ghost use Rattle.cedar_data.specs.Representations.{extension_what};
     ghost use Rattle.std.specs.Prelude.{Some};
-    ghost use Rattle.std.proofs.Common.{refl};
-    ghost use Rattle.std.specs.Cmp.{partial_order_from_agreeing_total};
-    ghost use Rattle.std.proofs.lemmas.Cmp.{on_total};
-    ghost use Rattle.cedar_data.specs.Compared.{represented_cmp, represented_cmp-total};
+    ghost use Rattle.cedar_data.specs.Compared.{represented_cmp, seen_partial_order};
 
     ghost partial_cmp = { λ a b. Some (represented_cmp (extension_what a) (extension_what b)) };
 
-    ghost laws = { partial_order_from_agreeing_total (λ a b. represented_cmp (extension_what a) (extension_what b)) (on_total (extension_what) represented_cmp-total) (λ a b. refl) (λ a b. refl) };
+    ghost laws = { seen_partial_order extension_what };
 
     fn partial_cmp(&self, other: &ExtensionValue) -> Option<Ordering> {
         Some(self.compare(other))

@@ -149,13 +149,11 @@ fn compare_uids(a: &EntityUID, b: &EntityUID) -> Ordering
 }
 
 impl PartialEq for Value {
-    ghost use Rattle.cedar_data.specs.Compared.{represented_eq, represented_eq-equivalence};
-    ghost use Rattle.std.specs.Cmp.{partial_equiv_from_equiv};
-    ghost use Rattle.std.proofs.lemmas.Cmp.{on_equiv};
+    ghost use Rattle.cedar_data.specs.Compared.{represented_eq, seen_partial_equivalence};
 
     ghost eq = { λ v w. represented_eq v.what w.what };
 
-    ghost laws = { partial_equiv_from_equiv (on_equiv (λ (v : Placed). v.what) represented_eq-equivalence) };
+    ghost laws = { seen_partial_equivalence (λ (v : Placed). v.what) };
 
     fn eq(&self, other: &Value) -> bool {
         compare(self, other).is_eq()
@@ -163,20 +161,18 @@ impl PartialEq for Value {
 }
 
 impl Eq for Value {
-    ghost use Rattle.cedar_data.specs.Compared.{represented_eq-equivalence};
-    ghost use Rattle.std.proofs.lemmas.Cmp.{on_equiv};
+    ghost use Rattle.cedar_data.specs.Compared.{seen_equivalence};
 
-    ghost laws = { on_equiv (λ (v : Placed). v.what) represented_eq-equivalence };
+    ghost laws = { seen_equivalence (λ (v : Placed). v.what) };
 }
 
 impl Ord for Value {
     ghost use Rattle.std.proofs.Common.{refl};
-    ghost use Rattle.cedar_data.specs.Compared.{represented_cmp, represented_cmp-total};
-    ghost use Rattle.std.proofs.lemmas.Cmp.{on_total};
+    ghost use Rattle.cedar_data.specs.Compared.{represented_cmp, seen_total};
 
     ghost cmp = { λ v w. represented_cmp v.what w.what };
 
-    ghost total = { on_total (λ (v : Placed). v.what) represented_cmp-total };
+    ghost total = { seen_total (λ (v : Placed). v.what) };
 
     ghost matches_partial_cmp = { λ v w. refl };
 
@@ -189,14 +185,11 @@ impl Ord for Value {
 
 impl PartialOrd for Value {
     ghost use Rattle.std.specs.Prelude.{Some};
-    ghost use Rattle.std.proofs.Common.{refl};
-    ghost use Rattle.std.specs.Cmp.{partial_order_from_agreeing_total};
-    ghost use Rattle.cedar_data.specs.Compared.{represented_cmp, represented_cmp-total};
-    ghost use Rattle.std.proofs.lemmas.Cmp.{on_total};
+    ghost use Rattle.cedar_data.specs.Compared.{represented_cmp, seen_partial_order};
 
     ghost partial_cmp = { λ v w. Some (represented_cmp v.what w.what) };
 
-    ghost laws = { partial_order_from_agreeing_total (λ v w. represented_cmp v.what w.what) (on_total (λ (v : Placed). v.what) represented_cmp-total) (λ v w. refl) (λ v w. refl) };
+    ghost laws = { seen_partial_order (λ (v : Placed). v.what) };
 
     fn partial_cmp(&self, other: &Value) -> Option<Ordering> {
         Some(compare(self, other))
@@ -205,13 +198,11 @@ impl PartialOrd for Value {
 
 impl PartialEq for ValueKind {
     ghost use Rattle.cedar_data.specs.Kinds.{kind_what};
-    ghost use Rattle.std.specs.Cmp.{partial_equiv_from_equiv};
-    ghost use Rattle.std.proofs.lemmas.Cmp.{on_equiv};
-    ghost use Rattle.cedar_data.specs.Compared.{represented_eq, represented_eq-equivalence};
+    ghost use Rattle.cedar_data.specs.Compared.{represented_eq, seen_partial_equivalence};
 
     ghost eq = { λ a b. represented_eq (kind_what a) (kind_what b) };
 
-    ghost laws = { partial_equiv_from_equiv (on_equiv (kind_what) represented_eq-equivalence) };
+    ghost laws = { seen_partial_equivalence kind_what };
 
     fn eq(&self, other: &ValueKind) -> bool {
         compare_kinds(self, other).is_eq()
@@ -220,21 +211,19 @@ impl PartialEq for ValueKind {
 
 impl Eq for ValueKind {
     ghost use Rattle.cedar_data.specs.Kinds.{kind_what};
-    ghost use Rattle.std.proofs.lemmas.Cmp.{on_equiv};
-    ghost use Rattle.cedar_data.specs.Compared.{represented_eq-equivalence};
+    ghost use Rattle.cedar_data.specs.Compared.{seen_equivalence};
 
-    ghost laws = { on_equiv (kind_what) represented_eq-equivalence };
+    ghost laws = { seen_equivalence kind_what };
 }
 
 impl Ord for ValueKind {
     ghost use Rattle.cedar_data.specs.Kinds.{kind_what};
     ghost use Rattle.std.proofs.Common.{refl};
-    ghost use Rattle.std.proofs.lemmas.Cmp.{on_total};
-    ghost use Rattle.cedar_data.specs.Compared.{represented_cmp, represented_cmp-total};
+    ghost use Rattle.cedar_data.specs.Compared.{represented_cmp, seen_total};
 
     ghost cmp = { λ a b. represented_cmp (kind_what a) (kind_what b) };
 
-    ghost total = { on_total (kind_what) represented_cmp-total };
+    ghost total = { seen_total kind_what };
 
     ghost matches_partial_cmp = { λ a b. refl };
 
@@ -248,14 +237,11 @@ impl Ord for ValueKind {
 impl PartialOrd for ValueKind {
     ghost use Rattle.cedar_data.specs.Kinds.{kind_what};
     ghost use Rattle.std.specs.Prelude.{Some};
-    ghost use Rattle.std.proofs.Common.{refl};
-    ghost use Rattle.std.specs.Cmp.{partial_order_from_agreeing_total};
-    ghost use Rattle.std.proofs.lemmas.Cmp.{on_total};
-    ghost use Rattle.cedar_data.specs.Compared.{represented_cmp, represented_cmp-total};
+    ghost use Rattle.cedar_data.specs.Compared.{represented_cmp, seen_partial_order};
 
     ghost partial_cmp = { λ a b. Some (represented_cmp (kind_what a) (kind_what b)) };
 
-    ghost laws = { partial_order_from_agreeing_total (λ a b. represented_cmp (kind_what a) (kind_what b)) (on_total (kind_what) represented_cmp-total) (λ a b. refl) (λ a b. refl) };
+    ghost laws = { seen_partial_order kind_what };
 
     fn partial_cmp(&self, other: &ValueKind) -> Option<Ordering> {
         Some(compare_kinds(self, other))
@@ -265,13 +251,11 @@ impl PartialOrd for ValueKind {
 impl PartialEq for Set {
     ghost use Rattle.cedar_model.specs.Values.{set_represented};
     ghost use Rattle.cedar_data.specs.Sound.{Elements};
-    ghost use Rattle.std.specs.Cmp.{partial_equiv_from_equiv};
-    ghost use Rattle.std.proofs.lemmas.Cmp.{on_equiv};
-    ghost use Rattle.cedar_data.specs.Compared.{represented_eq, represented_eq-equivalence};
+    ghost use Rattle.cedar_data.specs.Compared.{represented_eq, seen_partial_equivalence};
 
     ghost eq = { λ a b. represented_eq (set_represented a.all) (set_represented b.all) };
 
-    ghost laws = { partial_equiv_from_equiv (on_equiv (λ (s : Elements). set_represented s.all) represented_eq-equivalence) };
+    ghost laws = { seen_partial_equivalence (λ (s : Elements). set_represented s.all) };
 
     fn eq(&self, other: &Set) -> bool {
         compare_sets(self, other).is_eq()
@@ -281,22 +265,20 @@ impl PartialEq for Set {
 impl Eq for Set {
     ghost use Rattle.cedar_model.specs.Values.{set_represented};
     ghost use Rattle.cedar_data.specs.Sound.{Elements};
-    ghost use Rattle.std.proofs.lemmas.Cmp.{on_equiv};
-    ghost use Rattle.cedar_data.specs.Compared.{represented_eq-equivalence};
+    ghost use Rattle.cedar_data.specs.Compared.{seen_equivalence};
 
-    ghost laws = { on_equiv (λ (s : Elements). set_represented s.all) represented_eq-equivalence };
+    ghost laws = { seen_equivalence (λ (s : Elements). set_represented s.all) };
 }
 
 impl Ord for Set {
     ghost use Rattle.cedar_model.specs.Values.{set_represented};
     ghost use Rattle.cedar_data.specs.Sound.{Elements};
     ghost use Rattle.std.proofs.Common.{refl};
-    ghost use Rattle.std.proofs.lemmas.Cmp.{on_total};
-    ghost use Rattle.cedar_data.specs.Compared.{represented_cmp, represented_cmp-total};
+    ghost use Rattle.cedar_data.specs.Compared.{represented_cmp, seen_total};
 
     ghost cmp = { λ a b. represented_cmp (set_represented a.all) (set_represented b.all) };
 
-    ghost total = { on_total (λ (s : Elements). set_represented s.all) represented_cmp-total };
+    ghost total = { seen_total (λ (s : Elements). set_represented s.all) };
 
     ghost matches_partial_cmp = { λ a b. refl };
 
@@ -311,14 +293,11 @@ impl PartialOrd for Set {
     ghost use Rattle.cedar_model.specs.Values.{set_represented};
     ghost use Rattle.cedar_data.specs.Sound.{Elements};
     ghost use Rattle.std.specs.Prelude.{Some};
-    ghost use Rattle.std.proofs.Common.{refl};
-    ghost use Rattle.std.specs.Cmp.{partial_order_from_agreeing_total};
-    ghost use Rattle.std.proofs.lemmas.Cmp.{on_total};
-    ghost use Rattle.cedar_data.specs.Compared.{represented_cmp, represented_cmp-total};
+    ghost use Rattle.cedar_data.specs.Compared.{represented_cmp, seen_partial_order};
 
     ghost partial_cmp = { λ a b. Some (represented_cmp (set_represented a.all) (set_represented b.all)) };
 
-    ghost laws = { partial_order_from_agreeing_total (λ a b. represented_cmp (set_represented a.all) (set_represented b.all)) (on_total (λ (s : Elements). set_represented s.all) represented_cmp-total) (λ a b. refl) (λ a b. refl) };
+    ghost laws = { seen_partial_order (λ (s : Elements). set_represented s.all) };
 
     fn partial_cmp(&self, other: &Set) -> Option<Ordering> {
         Some(compare_sets(self, other))
