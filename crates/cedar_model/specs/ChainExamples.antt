@@ -25,8 +25,12 @@ use Rattle.cedar_model.specs.Examples.{some_extensions}
 
 -- ---- what responses say
 
+-- the annotation `note`, whose text is the policy's id
+abbrev pub noted : Text → List (Text × Text)
+noted id = (codes "note", id) ∷ []
+
 abbrev pub row : Text → Effect → Reported → Row
-row id effect o = record { id = id; effect = effect; reported = o }
+row id effect o = record { id = id; effect = effect; annotations = noted id; reported = o }
 
 -- permits a true, b erring, c false, d residual; forbids e true, f erring, g false, h residual, not in this order
 abbrev pub eight_rows : List Row
@@ -48,11 +52,17 @@ AllAreCarried =
     map (λ p. p.id) (all_residuals eight_rows) ≡ codes "a" ∷ codes "c" ∷ codes "b" ∷ codes "d" ∷ codes "e" ∷
     codes "g" ∷ codes "f" ∷ codes "h" ∷ []
 
--- a row is carried on as a policy with true scope constraints: a true one when true, a false one when false, a residual
--- one when its residual
+-- a row is carried on as a policy with its annotations and true scope constraints: a true one when true, a false one
+-- when false, a residual one when its residual
 abbrev pub clause_policy : Text → Effect → Term → Policy
 clause_policy id effect t =
-    record { id = id; effect = effect; condition = both (both (both truth truth) truth) t; slots = no_slots }
+    record {
+      id = id;
+      effect = effect;
+      annotations = noted id;
+      condition = both (both (both truth truth) truth) t;
+      slots = no_slots;
+    }
 
 abbrev pub CarriedByReport : Type 0
 CarriedByReport =
@@ -265,7 +275,7 @@ two_steps = (resource_map, empty_store) ∷ (context_map, empty_store) ∷ []
 
 -- first both are residual; the resource makes the permit true, which decides nothing beside the forbid; then the
 -- context, whose map names all that is unknown, makes the forbid true: no residual is left, and the decision is Deny
--- for the forbid. A further step without a map keeps it
+-- for the forbid. A further step without a map keeps it. The annotations stay
 abbrev pub TwoSteps : Type 0
 TwoSteps =
     (first : Response) × (middle : Response) × (last : Response) × (again : Response)
@@ -277,6 +287,7 @@ TwoSteps =
     × (must_determine middle.rows ≡ []) × NamesAll some_functions context_map middle × HaveNoResidual last.rows
     × (given_decision last.rows ≡ Some deny) × (ids (must_determine last.rows) ≡ codes "1" ∷ [])
     × (given_decision again.rows ≡ Some deny)
+    × (map (λ r. r.annotations) again.rows ≡ noted (codes "0") ∷ noted (codes "1") ∷ [])
 
 -- a world in which the resource is b, c is true and d is 10
 abbrev pub chain_world : World

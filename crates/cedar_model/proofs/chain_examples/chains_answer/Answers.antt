@@ -27,6 +27,7 @@ returns-clause-two_steps c = (
   refl,
   refl,
   refl,
+  refl,
 )
 
 pub returns-clause-completed : goal.returns-clause-completed
