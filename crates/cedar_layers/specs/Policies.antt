@@ -40,9 +40,10 @@ abbrev pub condition_term : PolicyView → Term
 condition_term p =
     both (both (both p.principal_constraint p.action_constraint) p.resource_constraint) p.when_clause
 
--- the policy, as far as it decides
+-- the policy with its condition
 abbrev pub decides_as : PolicyView → model.Policy
-decides_as p = record { id = p.id; effect = p.effect; condition = condition_term p; slots = p.slots }
+decides_as p =
+    record { id = p.id; effect = p.effect; annotations = p.annotations; condition = condition_term p; slots = p.slots }
 
 abbrev pub effect_view : Effect → model.Effect
 effect_view effects.Permit = model.permit

@@ -42,8 +42,8 @@ after zs (chaining r q) = chaining (after zs r) (after zs q)
 abbrev sorted : List Row → List Row
 sorted rows = Chains.rows_by permit rows ++ Chains.rows_by forbid rows
 
-abbrev row : Text → Effect → Responses.Reported → Row
-row i e o = record { id = i; effect = e; reported = o }
+abbrev row : Text → List (Text × Text) → Effect → Responses.Reported → Row
+row i n e o = record { id = i; effect = e; annotations = n; reported = o }
 
 module _ (rs : List Row) where
   abbrev trues : Effect → List Row
@@ -55,24 +55,24 @@ module _ (rs : List Row) where
   abbrev residuals : Effect → List Row
   residuals e = Chains.rows_of e Chains.is_residual rs
 
-  sorted_more : (i : Text) (e : Effect) (o : Responses.Reported) → IsReordering Row (row i e o ∷ sorted rs) (sorted (row i e o ∷ rs))
+  sorted_more : (i : Text) (n : List (Text × Text)) (e : Effect) (o : Responses.Reported) → IsReordering Row (row i n e o ∷ sorted rs) (sorted (row i n e o ∷ rs))
   unfolding Chains.rows_of Chains.has_effect Chains.is_true Chains.is_false Chains.is_residual
-  sorted_more i permit Responses.reported_true = reorder_refl _
-  sorted_more i permit (Responses.reported_false b) =
-      after (Chains.rows_by forbid rs) (to_middle (row i permit (Responses.reported_false b)) (trues permit) (falses permit ++ residuals permit))
-  sorted_more i permit (Responses.reported_residual t) =
-      after (Chains.rows_by forbid rs) (chaining (to_middle (row i permit (Responses.reported_residual t)) (trues permit) (falses permit ++ residuals permit)) (before (trues permit) (to_middle (row i permit (Responses.reported_residual t)) (falses permit) (residuals permit))))
-  sorted_more i forbid Responses.reported_true =
-      to_middle (row i forbid Responses.reported_true) (Chains.rows_by permit rs) (Chains.rows_by forbid rs)
-  sorted_more i forbid (Responses.reported_false b) =
-      chaining (to_middle (row i forbid (Responses.reported_false b)) (Chains.rows_by permit rs) (Chains.rows_by forbid rs)) (before (Chains.rows_by permit rs) (to_middle (row i forbid (Responses.reported_false b)) (trues forbid) (falses forbid ++ residuals forbid)))
-  sorted_more i forbid (Responses.reported_residual t) =
-      chaining (to_middle (row i forbid (Responses.reported_residual t)) (Chains.rows_by permit rs) (Chains.rows_by forbid rs)) (before (Chains.rows_by permit rs) (chaining (to_middle (row i forbid (Responses.reported_residual t)) (trues forbid) (falses forbid ++ residuals forbid)) (before (trues forbid) (to_middle (row i forbid (Responses.reported_residual t)) (falses forbid) (residuals forbid)))))
+  sorted_more i n permit Responses.reported_true = reorder_refl _
+  sorted_more i n permit (Responses.reported_false b) =
+      after (Chains.rows_by forbid rs) (to_middle (row i n permit (Responses.reported_false b)) (trues permit) (falses permit ++ residuals permit))
+  sorted_more i n permit (Responses.reported_residual t) =
+      after (Chains.rows_by forbid rs) (chaining (to_middle (row i n permit (Responses.reported_residual t)) (trues permit) (falses permit ++ residuals permit)) (before (trues permit) (to_middle (row i n permit (Responses.reported_residual t)) (falses permit) (residuals permit))))
+  sorted_more i n forbid Responses.reported_true =
+      to_middle (row i n forbid Responses.reported_true) (Chains.rows_by permit rs) (Chains.rows_by forbid rs)
+  sorted_more i n forbid (Responses.reported_false b) =
+      chaining (to_middle (row i n forbid (Responses.reported_false b)) (Chains.rows_by permit rs) (Chains.rows_by forbid rs)) (before (Chains.rows_by permit rs) (to_middle (row i n forbid (Responses.reported_false b)) (trues forbid) (falses forbid ++ residuals forbid)))
+  sorted_more i n forbid (Responses.reported_residual t) =
+      chaining (to_middle (row i n forbid (Responses.reported_residual t)) (Chains.rows_by permit rs) (Chains.rows_by forbid rs)) (before (Chains.rows_by permit rs) (chaining (to_middle (row i n forbid (Responses.reported_residual t)) (trues forbid) (falses forbid ++ residuals forbid)) (before (trues forbid) (to_middle (row i n forbid (Responses.reported_residual t)) (falses forbid) (residuals forbid)))))
 
 pub sorted_is : (rows : List Row) → IsReordering Row rows (sorted rows)
 unfolding Chains.rows_of
 sorted_is [] = nothing
-sorted_is (r ∷ rs) = chaining (keeping r (sorted_is rs)) (sorted_more rs r.id r.effect r.reported)
+sorted_is (r ∷ rs) = chaining (keeping r (sorted_is rs)) (sorted_more rs r.id r.annotations r.effect r.reported)
 
 module _ (ans : Functions) (calls : Rules.StoredCalls) (agree : AgreesWithFunctions ans calls) (w : World) (s : Setting) (done : IsCompletion ans w s) (faithful : AnswerFaithfully s.extensions ans calls) (limit : ℕ) where
   abbrev Follow : List Row → List Row → Type 0

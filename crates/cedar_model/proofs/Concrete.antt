@@ -231,7 +231,12 @@ module _ (calls : StoredCalls) (s : Setting) (limit : ℕ) where
       → Authorizations.JudgesEach (PolicyRuns s calls limit) ps (map judged_row rows) errors
   run_judges [] rows errors h none = (ap (map judged_row) h.0, h.1)
   run_judges (p ∷ ps) rows errors (a, rest, later, g, m, j, e, k) none =
-      let n = none_left record { id = p.id; effect = p.effect; reported = Responses.reported_of a } rest
+      let n = none_left record {
+        id = p.id;
+        effect = p.effect;
+        annotations = p.annotations;
+        reported = Responses.reported_of a;
+      } rest
       (subst Reports.HaveNoResidual e none) in (
         a,
         map judged_row rest,

@@ -42,7 +42,12 @@ policy_answer s n p = answer_to (Responses.with_slots s p.slots) n p.condition
 abbrev pub rows_to : Setting → ℕ → List Policy → List Row
 rows_to s n [] = []
 rows_to s n (p ∷ ps) =
-    record { id = p.id; effect = p.effect; reported = Responses.reported_of (policy_answer s n p) } ∷ rows_to s n ps
+    record {
+      id = p.id;
+      effect = p.effect;
+      annotations = p.annotations;
+      reported = Responses.reported_of (policy_answer s n p);
+    } ∷ rows_to s n ps
 
 abbrev pub errors_to : Setting → ℕ → List Policy → List (Text × Failure)
 errors_to s n [] = []

@@ -248,6 +248,7 @@ module _ (ans : Functions) (calls : StoredCalls) (agree : Agreement.AgreesWithFu
       subst Reports.HaveNoResidual (sym e) (more_none record {
         id = q.id;
         effect = q.effect;
+        annotations = q.annotations;
         reported = Responses.reported_of a;
       } rest (not_residual a i) (run_finishes s known limit qs rest later n.1 j))
 

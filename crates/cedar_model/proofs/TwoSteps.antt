@@ -15,7 +15,8 @@ use Rattle.cedar_model.specs.Chains.{Mapping, Response}
 use Rattle.cedar_model.specs.Headline
 use Rattle.cedar_model.specs.Progress
 use Rattle.cedar_model.specs.Examples.{some_calls, some_functions, some_extensions}
-use Rattle.cedar_model.specs.ChainExamples.{an_entity, a_number, empty_store, setting_of, open_request, two_policies}
+use Rattle.cedar_model.specs.ChainExamples.{no_map, an_entity, a_number, empty_store, setting_of, open_request}
+use Rattle.cedar_model.specs.ChainExamples.{two_policies}
 use Rattle.cedar_model.specs.ChainExamples.{two_steps, resource_map, context_map, chain_world}
 use Rattle.cedar_model.proofs.Exemplified
 
@@ -107,6 +108,23 @@ second_step = (
     last.errors,
     Exemplified.run_to (Chains.at_step s last_request empty_store context_map) 9
         (Chains.all_residuals middle.rows) (refl, (refl, tt)),
+    refl,
+  ),
+)
+
+abbrev pub again : Response
+again = stepped last last_request no_map
+
+pub third_step : Chains.StepsTo s some_calls 9 no_map empty_store last again
+unfolding Exemplified.chain_opened Exemplified.finds_none Exemplified.is_memory
+third_step = (
+  Ok last_request.context_part,
+  refl,
+  (
+    again.rows,
+    again.errors,
+    Exemplified.run_to (Chains.at_step s last_request empty_store no_map) 9
+        (Chains.all_residuals last.rows) (refl, (refl, tt)),
     refl,
   ),
 )

@@ -17,7 +17,7 @@ use Rattle.cedar_model.specs.Refusals.{concrete_request}
 use Rattle.cedar_model.specs.Chains.{Mapping, Response, Steps, StepsTo, Begins, ChainAnswers, all_residuals}
 use Rattle.cedar_model.specs.Reports.{ids, given_decision, must_determine, may_determine, concrete_decision}
 use Rattle.cedar_model.specs.Reports.{concrete_errors, definitely_satisfied, definitely_errored}
-use Rattle.cedar_model.specs.Reports.{nontrivial_residual_ids, nontrivial_forbids, get}
+use Rattle.cedar_model.specs.Reports.{nontrivial_residual_ids, nontrivial_forbids, get, HaveNoResidual}
 use Rattle.cedar_model.specs.Headline.{CompletesChain}
 use Rattle.cedar_model.specs.Progress.{NamesAll}
 use Rattle.cedar_model.specs.Examples.{entity_of_type, user, long, entity, bool, x, some_calls, some_functions}
@@ -25,8 +25,12 @@ use Rattle.cedar_model.specs.Examples.{some_extensions}
 
 -- ---- what responses say
 
+-- the annotation `note`, whose text is the policy's id
+abbrev pub noted : Text → List (Text × Text)
+noted id = (codes "note", id) ∷ []
+
 abbrev pub row : Text → Effect → Reported → Row
-row id effect o = record { id = id; effect = effect; reported = o }
+row id effect o = record { id = id; effect = effect; annotations = noted id; reported = o }
 
 -- permits a true, b erring, c false, d residual; forbids e true, f erring, g false, h residual, not in this order
 abbrev pub eight_rows : List Row
@@ -48,11 +52,17 @@ AllAreCarried =
     map (λ p. p.id) (all_residuals eight_rows) ≡ codes "a" ∷ codes "c" ∷ codes "b" ∷ codes "d" ∷ codes "e" ∷
     codes "g" ∷ codes "f" ∷ codes "h" ∷ []
 
--- a row is carried on as a policy with true scope constraints: a true one when true, a false one when false, a residual
--- one when its residual
+-- a row is carried on as a policy with its annotations and true scope constraints: a true one when true, a false one
+-- when false, a residual one when its residual
 abbrev pub clause_policy : Text → Effect → Term → Policy
 clause_policy id effect t =
-    record { id = id; effect = effect; condition = both (both (both truth truth) truth) t; slots = no_slots }
+    record {
+      id = id;
+      effect = effect;
+      annotations = noted id;
+      condition = both (both (both truth truth) truth) t;
+      slots = no_slots;
+    }
 
 abbrev pub CarriedByReport : Type 0
 CarriedByReport =
@@ -264,23 +274,20 @@ abbrev pub two_steps : List (Mapping × Store)
 two_steps = (resource_map, empty_store) ∷ (context_map, empty_store) ∷ []
 
 -- first both are residual; the resource makes the permit true, which decides nothing beside the forbid; then the
--- context makes the forbid true, and the decision is Deny for it
+-- context, whose map names all that is unknown, makes the forbid true: no residual is left, and the decision is Deny
+-- for the forbid. A further step without a map keeps it. The annotations stay
 abbrev pub TwoSteps : Type 0
 TwoSteps =
-    (first : Response) × (middle : Response) × (last : Response)
+    (first : Response) × (middle : Response) × (last : Response) × (again : Response)
     × Begins (setting_of open_request) some_calls 9 two_policies first
     × StepsTo (setting_of open_request) some_calls 9 resource_map empty_store first middle
     × StepsTo (setting_of open_request) some_calls 9 context_map empty_store middle last
+    × StepsTo (setting_of open_request) some_calls 9 no_map empty_store last again
     × (ids (may_determine first.rows) ≡ codes "0" ∷ codes "1" ∷ []) × (given_decision middle.rows ≡ None)
-    × (must_determine middle.rows ≡ []) × (given_decision last.rows ≡ Some deny)
-    × (ids (must_determine last.rows) ≡ codes "1" ∷ [])
-
--- the map of the second step names all that is unknown then
-abbrev pub SecondStepNamesAll : Type 0
-SecondStepNamesAll =
-    (first : Response) × (middle : Response) × Begins (setting_of open_request) some_calls 9 two_policies first
-    × StepsTo (setting_of open_request) some_calls 9 resource_map empty_store first middle
-    × NamesAll some_functions context_map middle
+    × (must_determine middle.rows ≡ []) × NamesAll some_functions context_map middle × HaveNoResidual last.rows
+    × (given_decision last.rows ≡ Some deny) × (ids (must_determine last.rows) ≡ codes "1" ∷ [])
+    × (given_decision again.rows ≡ Some deny)
+    × (map (λ r. r.annotations) again.rows ≡ noted (codes "0") ∷ noted (codes "1") ∷ [])
 
 -- a world in which the resource is b, c is true and d is 10
 abbrev pub chain_world : World

@@ -11,9 +11,11 @@ pub data Effect : Type 0 where
   permit : Effect
   forbid : Effect
 
+-- a policy: its annotations are texts under their keys, which decide nothing
 pub record Policy : Type 0 where
   pub id : Text
   pub effect : Effect
+  pub annotations : List (Text × Text)
   pub condition : Term
   pub slots : Slots
 

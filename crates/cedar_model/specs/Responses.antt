@@ -22,6 +22,7 @@ pub data Reported : Type 0 where
 pub record Row : Type 0 where
   pub id : Text
   pub effect : Effect
+  pub annotations : List (Text × Text)
   pub reported : Reported
 
 -- ---- what stands
@@ -85,7 +86,7 @@ RunOf s calls limit (p ∷ ps) rows errors =
     (a : Answer) × (rest : List Row) × (later : List (Text × Failure))
     × Runs (with_slots s p.slots) calls limit p.condition a × (a ≢ fails out_of_memory)
     × RunOf s calls limit ps rest later × (rows
-    ≡ record { id = p.id; effect = p.effect; reported = reported_of a } ∷ rest)
+    ≡ record { id = p.id; effect = p.effect; annotations = p.annotations; reported = reported_of a } ∷ rest)
     × (errors ≡ with_error p.id (error_of a) later)
 
 -- ---- what a response carries on
@@ -99,12 +100,13 @@ clause_of reported_true = truth
 clause_of (reported_false e) = literal (bool_literal false)
 clause_of (reported_residual t) = t
 
--- the policy that a row is carried on as: scope constraints that are true, the clause, and no slots
+-- the policy that a row is carried on as: its annotations, scope constraints that are true, the clause, and no slots
 abbrev pub carried : Row → Policy
 carried r =
     record {
       id = r.id;
       effect = r.effect;
+      annotations = r.annotations;
       condition = both (both (both truth truth) truth) (clause_of r.reported);
       slots = no_slots;
     }

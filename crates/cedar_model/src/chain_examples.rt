@@ -6,7 +6,7 @@ ghost use Rattle.cedar_model.specs.ChainExamples.{ResidualPermitMay, EarlyDeny, 
 ghost use Rattle.cedar_model.specs.ChainExamples.{NoEntityIsRefused, OtherTypeIsRefused, UnknownBecomesKnown};
 ghost use Rattle.cedar_model.specs.ChainExamples.{ContextIsARecord, ContextBesideIsRefused, RepeatedIdIsRefused};
 ghost use Rattle.cedar_model.specs.ChainExamples.{ContextErrorIsRefused, ContextLimitIsRefused};
-ghost use Rattle.cedar_model.specs.ChainExamples.{ContextIsReadUnderTheOldRequest, TwoSteps, SecondStepNamesAll};
+ghost use Rattle.cedar_model.specs.ChainExamples.{ContextIsReadUnderTheOldRequest, TwoSteps};
 ghost use Rattle.cedar_model.specs.ChainExamples.{TwoStepsAreCompleted, EndsAtTheLimit, RefusalEndsAChain};
 
 /// Examples: what responses say.
@@ -43,7 +43,6 @@ pub fn steps_answer()
 /// Examples: a chain of two steps, a world that completes it, and chains that end before their last step.
 pub fn chains_answer()
     ensures two_steps { TwoSteps }
-    ensures names_all { SecondStepNamesAll }
     ensures completed { TwoStepsAreCompleted }
     ensures ends_at_limit { EndsAtTheLimit }
     ensures ends_at_refusal { RefusalEndsAChain }

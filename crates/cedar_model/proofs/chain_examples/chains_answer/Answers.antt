@@ -10,11 +10,25 @@ use Rattle.cedar_model.proofs.chain_examples.chains_answer.Goals as goal
 
 pub returns-clause-two_steps : goal.returns-clause-two_steps
 unfolding chain_opened
-returns-clause-two_steps c =
-    (two.first, two.middle, two.last, two.begins, two.first_step, two.second_step, refl, refl, refl, refl, refl)
-
-pub returns-clause-names_all : goal.returns-clause-names_all
-returns-clause-names_all c = (two.first, two.middle, two.begins, two.first_step, two.names_all)
+returns-clause-two_steps c = (
+  two.first,
+  two.middle,
+  two.last,
+  two.again,
+  two.begins,
+  two.first_step,
+  two.second_step,
+  two.third_step,
+  refl,
+  refl,
+  refl,
+  two.names_all,
+  (refl, refl),
+  refl,
+  refl,
+  refl,
+  refl,
+)
 
 pub returns-clause-completed : goal.returns-clause-completed
 unfolding chain_opened
