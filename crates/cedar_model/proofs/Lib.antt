@@ -10,6 +10,7 @@ pub mod Written
 pub mod Projection
 pub mod Soundness
 pub mod RecordParts
+pub mod Printed
 pub mod Total
 pub mod FewerLevels
 pub mod Operands

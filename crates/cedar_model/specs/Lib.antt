@@ -10,6 +10,7 @@ pub mod World
 pub mod Meaning
 pub mod Failures
 pub mod Settings
+pub mod Printing
 pub mod Operators
 pub mod Rules
 pub mod Agreement

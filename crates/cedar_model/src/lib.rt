@@ -7,6 +7,7 @@ pub mod examples;
 pub mod levels;
 pub mod meaning;
 pub mod policies;
+pub mod printing;
 pub mod responses;
 pub mod restricted;
 pub mod values;
