@@ -14,7 +14,7 @@ use Rattle.cedar_model.specs.Examples.{some_setting, some_extensions, some_calls
 use Rattle.cedar_model.specs.LevelLaws.{FunctionsAnswer}
 use Rattle.cedar_model.proofs.Total.{total}
 
-abbrev some_answer : FunctionsAnswer some_calls some_extensions.arity
+abbrev pub some_answer : FunctionsAnswer some_calls some_extensions.arity
 some_answer f vs e = (Failures.answers_bool true, refl)
 
 -- all that the rules compute with

@@ -22,6 +22,7 @@ pub mod Needs
 pub mod RestrictedAnswers
 pub mod HeldUnknowns
 pub mod StepNeeds
+pub mod Instanced
 pub mod Computed
 pub mod Conjunction
 pub mod Functional

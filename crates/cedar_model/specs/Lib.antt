@@ -31,6 +31,7 @@ pub mod Chains
 pub mod Depth
 pub mod ResponseLaws
 pub mod Needs
+pub mod Instances
 pub mod Steps
 pub mod Authorizations
 pub mod AuthorizationLaws

@@ -4,6 +4,7 @@
 pub mod authorizations;
 pub mod depth;
 pub mod examples;
+pub mod instances;
 pub mod levels;
 pub mod meaning;
 pub mod policies;
