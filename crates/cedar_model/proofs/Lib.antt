@@ -11,6 +11,7 @@ pub mod Projection
 pub mod Soundness
 pub mod RecordParts
 pub mod Printed
+pub mod KindsInOrder
 pub mod Total
 pub mod FewerLevels
 pub mod Operands

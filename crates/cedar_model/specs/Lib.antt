@@ -4,6 +4,7 @@ pub mod Keys
 pub mod Codes
 pub mod Sets
 pub mod ValueLaws
+pub mod KindLaws
 pub mod Shapes
 pub mod Outcomes
 pub mod World

@@ -5,6 +5,7 @@ pub mod authorizations;
 pub mod depth;
 pub mod examples;
 pub mod instances;
+pub mod kinds;
 pub mod levels;
 pub mod meaning;
 pub mod policies;
