@@ -23,6 +23,7 @@ pub mod Needs
 pub mod RestrictedAnswers
 pub mod HeldUnknowns
 pub mod StepNeeds
+pub mod Tabled
 pub mod Instanced
 pub mod Computed
 pub mod Conjunction

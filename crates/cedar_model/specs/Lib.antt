@@ -32,6 +32,7 @@ pub mod Chains
 pub mod Depth
 pub mod ResponseLaws
 pub mod Needs
+pub mod Tables
 pub mod Instances
 pub mod Steps
 pub mod Authorizations

@@ -12,4 +12,5 @@ pub mod policies;
 pub mod printing;
 pub mod responses;
 pub mod restricted;
+pub mod tables;
 pub mod values;
