@@ -32,8 +32,8 @@ pub mod Chains
 pub mod Depth
 pub mod ResponseLaws
 pub mod Needs
-pub mod Tables
 pub mod Instances
 pub mod Steps
 pub mod Authorizations
 pub mod AuthorizationLaws
+pub mod Tables

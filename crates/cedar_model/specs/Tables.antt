@@ -1,5 +1,5 @@
 -- Worked examples: a row of the tables of type errors, of residuals and of operators' errors each, where `Rows` has none.
-use Rattle.std.specs.Prelude.{◌≡◌, pos, negsuc, Bool, true, false, cond, List, [], ◌∷◌, Option, Some, None, ℕ, codes}
+use Rattle.std.specs.Prelude.{◌≡◌, pos, negsuc, Bool, true, false, cond, List, [], ◌∷◌, Option, Some, None, ℕ, codes, Err}
 use Rattle.cedar_model.specs.Terms.{Text, EntityName, long_literal, bool_type, long_type, string_type, set_type, record_type, extension_type, not_operator, neg_operator, is_empty_operator, less_operator, less_eq_operator, add_operator, sub_operator, mul_operator, contains_operator, contains_any_operator, get_tag_operator, has_tag_operator, Term, literal, unknown, if_then_else, both, either, unary, binary, call, get_attribute, has_attribute, extended_has, is_of_type, set_of, record_of, no_terms, fields_of}
 use Rattle.cedar_model.specs.Values.{Represented, plain_represented, extension_represented}
 use Rattle.cedar_model.specs.Outcomes.{text_eq, entity_eq}
@@ -8,6 +8,7 @@ use Rattle.cedar_model.specs.Failures.{entity_is_missing, entity_attribute_is_mi
 use Rattle.cedar_model.specs.Settings.{StoredEntity, Store, Setting, missing_entity}
 use Rattle.cedar_model.specs.Rules.{StoredCalls, Allows}
 use Rattle.cedar_model.specs.Agreement.{no_slots}
+use Rattle.cedar_model.specs.Authorizations.{decided}
 use Rattle.cedar_model.specs.Examples.{entity_of_type, user, long, text, entity, bool, x, some_entity, some_facts, some_map, some_setting}
 
 -- ---- functions without arguments: `one` and `two` answer values of the overloaded type T, `other` one of V, `ask` an unknown that the map names, `fail` an error
@@ -170,6 +171,11 @@ AttributeOfLong = Shown false (get_attribute (long 1) (codes "a")) (fails (type_
 -- `has`
 abbrev pub HasOfLong : Type 0
 HasOfLong = Shown false (has_attribute (long 1) (codes "a")) (fails (type_is_wrong record_type (any_entity ∷ []) long_type))
+
+-- a policy's value
+abbrev pub PolicyExpectsBool : Type 0
+PolicyExpectsBool =
+    decided (answers_value (plain_represented (long_literal (pos 1)))) ≡ Err (type_is_wrong bool_type [] long_type)
 
 -- ---- residuals
 

@@ -1,6 +1,6 @@
 //! Worked examples for the tables of type errors, of residuals and of operators' errors. Each function is a set of examples, and
 //! does nothing.
-ghost use Rattle.cedar_model.specs.Tables.{GuardExpectsBool, NotExpectsBool, AndLeftExpectsBool, AndRightExpectsBool, OrLeftExpectsBool, OrRightExpectsBool, NegExpectsLong, AddExpectsLongLeft, SubExpectsLongRight, MulExpectsLongLeft, LessEqBesideLong, ExtensionBesideLong, OverloadedLeft, OverloadedRight, OtherExtensions, ContainsExpectsSet, ContainsAnyLeftFirst, ContainsAnyRight, IsEmptyExpectsSet, GetTagExpectsEntity, HasTagExpectsEntity, IsExpectsEntity, GetTagExpectsText, HasTagExpectsText, AttributeOfLong, HasOfLong, UnaryKept, FalseOrKept, ResidualBesideValue, ResidualBesideResidual, TagOfMissingPartial, HasTagOfMissingPartial, AttributeOfMissingPartial, HasOfMissingPartial, AttributeOfResidual, KeyNotInOtherRecord, PathOfResidual, RecordWithUnknown, FunctionAsks, TagOfMissing, FiveNamesShown, OtherKindShown, KeyMissing, SubOverflows, MulOverflows, FunctionFails, ExtensionsCompared, ExtensionsComparedBack};
+ghost use Rattle.cedar_model.specs.Tables.{GuardExpectsBool, NotExpectsBool, AndLeftExpectsBool, AndRightExpectsBool, OrLeftExpectsBool, OrRightExpectsBool, NegExpectsLong, AddExpectsLongLeft, SubExpectsLongRight, MulExpectsLongLeft, LessEqBesideLong, ExtensionBesideLong, OverloadedLeft, OverloadedRight, OtherExtensions, ContainsExpectsSet, ContainsAnyLeftFirst, ContainsAnyRight, IsEmptyExpectsSet, GetTagExpectsEntity, HasTagExpectsEntity, IsExpectsEntity, GetTagExpectsText, HasTagExpectsText, AttributeOfLong, HasOfLong, PolicyExpectsBool, UnaryKept, FalseOrKept, ResidualBesideValue, ResidualBesideResidual, TagOfMissingPartial, HasTagOfMissingPartial, AttributeOfMissingPartial, HasOfMissingPartial, AttributeOfResidual, KeyNotInOtherRecord, PathOfResidual, RecordWithUnknown, FunctionAsks, TagOfMissing, FiveNamesShown, OtherKindShown, KeyMissing, SubOverflows, MulOverflows, FunctionFails, ExtensionsCompared, ExtensionsComparedBack};
 
 /// Examples: the table of type errors.
 pub fn type_errors_are_shown()
@@ -30,6 +30,7 @@ pub fn type_errors_are_shown()
     ensures has_tag_expects_text { HasTagExpectsText }
     ensures attribute_of_long { AttributeOfLong }
     ensures has_of_long { HasOfLong }
+    ensures policy_expects_bool { PolicyExpectsBool }
 {}
 
 /// Examples: the table of residuals.

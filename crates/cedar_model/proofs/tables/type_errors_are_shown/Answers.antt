@@ -2,6 +2,7 @@ use Rattle.cedar_model.proofs.Tabled.{shown}
 use Rattle.cedar_model.proofs.Computed.{opened}
 use Rattle.std.proofs.Common.{refl}
 use Rattle.std.specs.Prelude.{true, false}
+use Rattle.cedar_model.specs.Authorizations.{bool_result, decided}
 use Rattle.cedar_model.proofs.tables.type_errors_are_shown.Goals as goal
 
 pub returns-clause-guard_expects_bool : goal.returns-clause-guard_expects_bool
@@ -107,3 +108,7 @@ returns-clause-attribute_of_long c = shown false 6 _ _ refl (λ e. cc)
 pub returns-clause-has_of_long : goal.returns-clause-has_of_long
 unfolding opened
 returns-clause-has_of_long c = shown false 6 _ _ refl (λ e. cc)
+
+pub returns-clause-policy_expects_bool : goal.returns-clause-policy_expects_bool
+unfolding opened decided bool_result
+returns-clause-policy_expects_bool g = refl
