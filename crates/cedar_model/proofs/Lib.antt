@@ -10,6 +10,8 @@ pub mod Written
 pub mod Projection
 pub mod Soundness
 pub mod RecordParts
+pub mod Printed
+pub mod KindsInOrder
 pub mod Total
 pub mod FewerLevels
 pub mod Operands
@@ -21,6 +23,8 @@ pub mod Needs
 pub mod RestrictedAnswers
 pub mod HeldUnknowns
 pub mod StepNeeds
+pub mod Tabled
+pub mod Instanced
 pub mod Computed
 pub mod Conjunction
 pub mod Functional

@@ -1,11 +1,11 @@
--- Answers that differ only in representations and in the fields of errors.
+-- Answers that are alike: equal values, the same expression but for its calls, or errors of one kind.
 use Rattle.std.specs.Prelude.{◌≡◌, List, [], map}
 use Rattle.cedar_model.specs.Terms.{Text, Term, literal, variable, slot, unknown, if_then_else, both, either, unary, binary, call, get_attribute, has_attribute, extended_has, like, is_of_type, set_of, record_of, Terms, no_terms, one_term, Fields, no_fields, one_field}
 use Rattle.cedar_model.specs.Values.{Represented, abstract_value}
 use Rattle.cedar_model.specs.Failures.{failure_kind, PartialValue, value, residual, Answer, answers, fails}
 use Rattle.cedar_model.specs.Rules.{StoredCalls}
 
--- the expression with its calls taken out: two representations of a value differ in nothing else
+-- the expression with each call taken out, its function and arguments alike. The representation of a value is a call, so two expressions with values of other representations have this in common; and so have any two calls
 abbrev mutual
   pub erased : Term → Term
   erased (literal l) = literal l
@@ -34,7 +34,7 @@ abbrev mutual
   erased_at no_fields = no_fields
   erased_at (one_field k t fs) = one_field k (erased t) (erased_at fs)
 
--- the same value, or the same expression but for calls
+-- the same value, or the same expression but for its calls
 abbrev pub AreAlikeParts : PartialValue → PartialValue → Type 0
 AreAlikeParts (value v) (value w) = abstract_value v ≡ abstract_value w
 AreAlikeParts (value v) (residual r) = ⊥

@@ -4,12 +4,14 @@ pub mod Keys
 pub mod Codes
 pub mod Sets
 pub mod ValueLaws
+pub mod KindLaws
 pub mod Shapes
 pub mod Outcomes
 pub mod World
 pub mod Meaning
 pub mod Failures
 pub mod Settings
+pub mod Printing
 pub mod Operators
 pub mod Rules
 pub mod Agreement
@@ -31,6 +33,7 @@ pub mod Chains
 pub mod Depth
 pub mod ResponseLaws
 pub mod Needs
+pub mod Instances
 pub mod Steps
 pub mod Authorizations
 pub mod AuthorizationLaws
@@ -40,3 +43,4 @@ pub mod ChainLaws
 pub mod Progress
 pub mod ChainExamples
 pub mod Headline
+pub mod Tables

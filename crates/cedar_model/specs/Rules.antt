@@ -13,7 +13,7 @@ use Rattle.cedar_model.specs.Operators.{slot_answer, unknown_answer, unary_answe
 abbrev pub MayAnswer : Type 1
 MayAnswer = Term → Answer → Type 0
 
--- what a stored function may answer to arguments
+-- what a stored function may answer to arguments, besides want of memory: that may come of any call, whatever its arguments are, and `Meets` allows it; among the answers it would be a second one to equal arguments, so that no function answered alike
 abbrev pub StoredCalls : Type 1
 StoredCalls = Text → List Represented → Answer → Type 0
 
