@@ -26,8 +26,8 @@ ghost use Rattle.cedar_evaluator.specs.Evaluations.{MeetsKind, GivesParts, Fails
 
 use crate::request::{EntityUIDEntry, Request};
 use cedar_layers::expressions::{
-    BinaryOp, EntityType, EntityUID, Expr, ExprKind, FirstRest, Literal, Loc, Name, Pattern, SlotEnv, SlotId,
-    UnaryOp, Value, ValueKind, Var,
+    BinaryOp, EntityType, EntityUID, Expr, ExprKind, FirstRest, Literal, Loc, Name, Pattern,
+    SlotEnv, SlotId, UnaryOp, Value, ValueKind, Var,
 };
 use cedar_layers::policies::{Entities, Policy};
 use cedar_operators::attributes::{attribute_of, has_attribute, has_path};
@@ -73,7 +73,10 @@ impl SharedEntity {
     fn value(&self) -> Result<Value, AllocError>
         ensures { IfOk result (λ v. v.what ≡ plain_represented (entity_literal (uid_name self.now.uid.value))) }
     {
-        Ok(Value::new(ValueKind::Lit(Literal::EntityUID(self.uid.clone()?)), self.loc))
+        Ok(Value::new(
+            ValueKind::Lit(Literal::EntityUID(self.uid.clone()?)),
+            self.loc,
+        ))
     }
 }
 
@@ -618,10 +621,7 @@ fn record_value(alloc: Global, fields: Vec<(RcStr, Value)>) -> Result<Value, Eva
 }
 
 // The map of values under their keys, which are in order.
-fn map_of(
-    alloc: Global,
-    fields: Vec<(RcStr, Value)>,
-) -> Result<BTreeMap<RcStr, Value>, AllocError>
+fn map_of(alloc: Global, fields: Vec<(RcStr, Value)>) -> Result<BTreeMap<RcStr, Value>, AllocError>
     ensures { IfOk result (λ m. IsFromIterResult key_order fields.items m) }
 {
     fields.into_iter().collect(alloc)
@@ -653,6 +653,7 @@ fn recursion_limit() -> EvaluationError
 }
 
 // The error, at this place if it has none.
+#[inline(always)]
 fn with_enclosing_loc(error: EvaluationError, loc: Option<Loc>) -> EvaluationError
     ensures { failure_of result ≡ failure_of error }
 {
@@ -665,6 +666,7 @@ fn with_enclosing_loc(error: EvaluationError, loc: Option<Loc>) -> EvaluationErr
 
 // The value, if it is a boolean, or a type error that expects one.
 #[tactic(auto, unfolding(cedar_model::specs::Rules::bool_or_failure))]
+#[inline(always)]
 fn as_bool_value(alloc: Global, value: &Value) -> Result<Value, EvaluationError>
     ensures { Answers result (bool_or_failure (bool_of (abstract_value value.now.what)) value.now.what) }
 {

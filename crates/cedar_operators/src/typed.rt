@@ -21,6 +21,7 @@ use std::alloc::Global;
 use std::rc::{Rc, RcStr};
 
 /// A boolean, at no known place.
+#[inline(always)]
 pub fn bool_value(b: bool) -> Value
     ensures { result.what ≡ plain_represented (Terms.bool_literal b) }
 {
@@ -36,6 +37,7 @@ pub(crate) fn long_value(n: i64) -> Value
 
 /// The boolean, or a type error that expects one.
 #[tactic(auto, unfolding(cedar_model::specs::Outcomes::bool_of))]
+#[inline(always)]
 pub fn get_as_bool(alloc: Global, value: &Value) -> Result<bool, EvaluationError>
     ensures ok { IfOk result (λ b. bool_of (abstract_value value.now.what) ≡ Some b) }
     ensures no_bool { IfErr result (λ e. failure_of e ≢ out_of_memory → bool_of (abstract_value value.now.what) ≡ None) }
@@ -48,6 +50,7 @@ pub fn get_as_bool(alloc: Global, value: &Value) -> Result<bool, EvaluationError
 }
 
 #[tactic(auto, unfolding(cedar_model::specs::Outcomes::bool_of))]
+#[inline(always)]
 fn bool_in(value: &Value) -> Option<bool>
     ensures { result ≡ bool_of (abstract_value value.now.what) }
 {
@@ -66,6 +69,7 @@ fn bool_in(value: &Value) -> Option<bool>
 
 // The long, or a type error that expects one.
 #[tactic(auto, unfolding(cedar_model::specs::Outcomes::long_of))]
+#[inline(always)]
 pub(crate) fn get_as_long(alloc: Global, value: &Value) -> Result<i64, EvaluationError>
     ensures ok { IfOk result (λ n. long_of (abstract_value value.now.what) ≡ Some n) }
     ensures no_long { IfErr result (λ e. failure_of e ≢ out_of_memory → long_of (abstract_value value.now.what) ≡ None) }
@@ -78,6 +82,7 @@ pub(crate) fn get_as_long(alloc: Global, value: &Value) -> Result<i64, Evaluatio
 }
 
 #[tactic(auto, unfolding(cedar_model::specs::Outcomes::long_of))]
+#[inline(always)]
 fn long_in(value: &Value) -> Option<i64>
     ensures { result ≡ long_of (abstract_value value.now.what) }
 {
@@ -96,6 +101,7 @@ fn long_in(value: &Value) -> Option<i64>
 
 // The text, or a type error that expects one.
 #[tactic(auto, unfolding(cedar_model::specs::Outcomes::text_of))]
+#[inline(always)]
 pub(crate) fn get_as_string(alloc: Global, value: &Value) -> Result<&RcStr, EvaluationError>
     ensures ok { IfOk result (λ t. text_of (abstract_value value.now.what) ≡ Some (rc_str_bytes t.now)) }
     ensures no_text { IfErr result (λ e. failure_of e ≢ out_of_memory → text_of (abstract_value value.now.what) ≡ None) }
@@ -108,6 +114,7 @@ pub(crate) fn get_as_string(alloc: Global, value: &Value) -> Result<&RcStr, Eval
 }
 
 #[tactic(auto, unfolding(cedar_model::specs::Outcomes::text_of))]
+#[inline(always)]
 fn text_in(value: &Value) -> Option<&RcStr>
     ensures { option_map rc_str_bytes (option_copied result) ≡ text_of (abstract_value value.now.what) }
 {
@@ -126,6 +133,7 @@ fn text_in(value: &Value) -> Option<&RcStr>
 
 // The entity, or a type error that expects one.
 #[tactic(auto, unfolding(cedar_model::specs::Outcomes::entity_of))]
+#[inline(always)]
 pub(crate) fn get_as_entity(alloc: Global, value: &Value) -> Result<&Rc<EntityUID>, EvaluationError>
     ensures ok { IfOk result (λ u. entity_of (abstract_value value.now.what) ≡ Some (uid_name u.now.value)) }
     ensures no_entity { IfErr result (λ e. failure_of e ≢ out_of_memory → entity_of (abstract_value value.now.what) ≡ None) }
@@ -138,6 +146,7 @@ pub(crate) fn get_as_entity(alloc: Global, value: &Value) -> Result<&Rc<EntityUI
 }
 
 #[tactic(auto, unfolding(cedar_model::specs::Outcomes::entity_of))]
+#[inline(always)]
 fn entity_in(value: &Value) -> Option<&Rc<EntityUID>>
     ensures { option_map (λ (u : Rc EntityUID Global). uid_name u.value) (option_copied result) ≡ entity_of (abstract_value value.now.what) }
 {
@@ -156,6 +165,7 @@ fn entity_in(value: &Value) -> Option<&Rc<EntityUID>>
 
 // The set, or a type error that expects one.
 #[tactic(auto, unfolding(cedar_model::specs::Outcomes::elements_of))]
+#[inline(always)]
 pub(crate) fn get_as_set(alloc: Global, value: &Value) -> Result<&Set, EvaluationError>
     ensures ok { IfOk result (λ s. elements_of (abstract_value value.now.what) ≡ Some (abstract_values s.now.all)) }
     ensures no_set { IfErr result (λ e. failure_of e ≢ out_of_memory → elements_of (abstract_value value.now.what) ≡ None) }
@@ -168,6 +178,7 @@ pub(crate) fn get_as_set(alloc: Global, value: &Value) -> Result<&Set, Evaluatio
 }
 
 #[tactic(auto, unfolding(cedar_model::specs::Outcomes::elements_of))]
+#[inline(always)]
 fn set_in(value: &Value) -> Option<&Set>
     ensures { option_map (λ (s : Elements). abstract_values s.all) (option_copied result) ≡ elements_of (abstract_value value.now.what) }
 {
