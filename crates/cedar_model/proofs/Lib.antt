@@ -32,3 +32,4 @@ pub mod Answering
 pub mod Finishing
 pub mod Exemplified
 pub mod TwoSteps
+pub mod Counted

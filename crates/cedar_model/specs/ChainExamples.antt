@@ -11,7 +11,7 @@ use Rattle.cedar_model.specs.Settings.{Entry, known_entry, unknown_entry, Contex
 use Rattle.cedar_model.specs.Settings.{residual_context, RequestPart, Store, Setting, part_at}
 use Rattle.cedar_model.specs.Agreement.{no_slots}
 use Rattle.cedar_model.specs.Policies.{Effect, permit, forbid, Policy, allow, deny, decision, reasons, judge_each}
-use Rattle.cedar_model.specs.Policies.{ErrorHandling, skip, forbid_on_error}
+use Rattle.cedar_model.specs.Policies.{skip, forbid_on_error}
 use Rattle.cedar_model.specs.Responses.{RunOf, Reported, reported_true, reported_false, reported_residual, Row, truth}
 use Rattle.cedar_model.specs.Responses.{carried}
 use Rattle.cedar_model.specs.Refusals.{mode_is_other, id_comes_again, value_is_wrong, is_there_already, type_is_other}
