@@ -213,7 +213,8 @@ concrete_is_defined mode X ans w ps rows stand none =
 
 verdict_same : (a : Answer) → reported_verdict (Responses.reported_of a)
     ≡ Authorizations.result_verdict (Authorizations.decided a)
-unfolding reported_verdict Responses.reported_of Responses.reported_bool Authorizations.result_verdict Authorizations.decided Authorizations.bool_result Authorizations.bool_verdict
+unfolding reported_verdict Responses.reported_of Responses.reported_bool Authorizations.result_verdict
+    Authorizations.decided Authorizations.bool_result Authorizations.bool_verdict
 verdict_same (answers (value v)) = by (bool_of (abstract_value v))
   where
     by : (o : Option Bool) → reported_verdict (Responses.reported_bool o)
@@ -227,7 +228,8 @@ verdict_same (fails e) = refl
 errors_same : (id : Text) (later : List (Text × Failure)) (a : Answer) → is_residual (Responses.reported_of a) ≡ false
     → Responses.with_error id (Responses.error_of a) later
     ≡ Authorizations.with_result id (Authorizations.decided a) later
-unfolding is_residual Responses.reported_of Responses.with_error Responses.error_of Responses.bool_error Authorizations.with_result Authorizations.decided Authorizations.bool_result
+unfolding is_residual Responses.reported_of Responses.with_error Responses.error_of Responses.bool_error
+    Authorizations.with_result Authorizations.decided Authorizations.bool_result
 errors_same id later (answers (value v)) h = by (bool_of (abstract_value v))
   where
     by : (o : Option Bool) → Responses.with_error id (Responses.bool_error o v) later
