@@ -3,6 +3,8 @@ use Rattle.std.specs.Prelude.{◌≡◌, ◌≢◌, ◌⊎◌, Bool, true, false
 use Rattle.std.specs.Prelude.{Some, None}
 use Rattle.std.proofs.Common.{refl, sym, ap, ◌∙◌, subst, inl, inr}
 use Rattle.cedar_model.specs.Terms.{Text}
+use Rattle.cedar_model.specs.Policies
+use Rattle.cedar_model.specs.Policies.{ErrorHandling}
 use Rattle.cedar_model.specs.Outcomes.{text_eq, has_text}
 use Rattle.cedar_model.specs.World.{World, Extensions, Functions}
 use Rattle.cedar_model.specs.Meaning.{meaning}
@@ -57,11 +59,11 @@ none_false : (a b : Bool) → ((a && false) && b) ≡ true → ⊥
 none_false true b h = cc
 none_false false b h = cc
 
-module _ (X : Extensions) (ans : Functions) (w : World) (f : Text → Bool) (e : Effect) where
+module _ (mode : ErrorHandling) (X : Extensions) (ans : Functions) (w : World) (f : Text → Bool) (e : Effect) where
   abbrev V : Policy → Verdict
-  V p = verdict (meaning X ans w p.slots p.condition)
+  V p = Policies.counted_verdict mode p.effect (verdict (meaning X ans w p.slots p.condition))
 
-  true_row : (p : Policy) (o : Reported) (b : Bool) → Responses.StandsAs X ans w p o
+  true_row : (p : Policy) (o : Reported) (b : Bool) → Responses.StandsAs mode X ans w p o
       → ((has_effect e p.effect && is_true o) && b) ≡ true → (is_satisfied_by e (V p) p.effect && b) ≡ true
   unfolding is_true
   true_row p reported_true b h k =
@@ -74,7 +76,7 @@ module _ (X : Extensions) (ans : Functions) (w : World) (f : Text → Bool) (e :
   true_row p (reported_false x) b h k = absurd (none_false (has_effect e p.effect) b k)
   true_row p (reported_residual t) b h k = absurd (none_false (has_effect e p.effect) b k)
 
-  open_row : (p : Policy) (o : Reported) (b : Bool) → Responses.StandsAs X ans w p o
+  open_row : (p : Policy) (o : Reported) (b : Bool) → Responses.StandsAs mode X ans w p o
       → (is_satisfied_by e (V p) p.effect && b) ≡ true → ((has_effect e p.effect && Counting.is_open o) && b) ≡ true
   unfolding Counting.is_open
   open_row p reported_true b h k = satisfied_has e p.effect (V p) b true k refl
@@ -90,8 +92,8 @@ module _ (X : Extensions) (ans : Functions) (w : World) (f : Text → Bool) (e :
       by unsatisfied n l = absurd (let z = ap (λ x. x && b) (sym (unsatisfied_is_not e p.effect)) ∙ l in cc)
       by erring n l = absurd (let z = ap (λ x. x && b) (sym (erring_is_not e p.effect)) ∙ l in cc)
 
-  true_rows : (ps : List Policy) (rows : List Row) → Responses.StandInOrder X ans w ps rows
-      → Counting.hit f e is_true rows ≡ true → Counting.meets f e (judge_each X ans w ps) ≡ true
+  true_rows : (ps : List Policy) (rows : List Row) → Responses.StandInOrder mode X ans w ps rows
+      → Counting.hit f e is_true rows ≡ true → Counting.meets f e (Policies.counted_each mode X ans w ps) ≡ true
   unfolding Counting.hit Counting.meets
   true_rows [] [] h k = k
   true_rows [] (r ∷ rs) h k = absurd h
@@ -102,14 +104,16 @@ module _ (X : Extensions) (ans : Functions) (w : World) (f : Text → Bool) (e :
       (λ g. ((has_effect e g && is_true r.reported) && f p.id) ≡ true) h.1
       (subst (λ i. ((has_effect e r.effect && is_true r.reported) && f i) ≡ true) h.0 z))) (true_rows ps rs h.3) k
 
-  open_rows : (ps : List Policy) (rows : List Row) → Responses.StandInOrder X ans w ps rows
-      → Counting.meets f e (judge_each X ans w ps) ≡ true → Counting.hit f e Counting.is_open rows ≡ true
+  open_rows : (ps : List Policy) (rows : List Row) → Responses.StandInOrder mode X ans w ps rows
+      → Counting.meets f e (Policies.counted_each mode X ans w ps) ≡ true
+      → Counting.hit f e Counting.is_open rows ≡ true
   unfolding Counting.hit Counting.meets
   open_rows [] [] h k = k
   open_rows [] (r ∷ rs) h k = absurd h
   open_rows (p ∷ ps) [] h k = absurd h
   open_rows (p ∷ ps) (r ∷ rs) h k =
-      Counting.or_map (is_satisfied_by e (V p) p.effect && f p.id) (Counting.meets f e (judge_each X ans w ps)) _ _
+      Counting.or_map (is_satisfied_by e (V p) p.effect && f p.id)
+      (Counting.meets f e (Policies.counted_each mode X ans w ps)) _ _
       (λ z. subst (λ i. ((has_effect e r.effect && Counting.is_open r.reported) && f i) ≡ true) (sym h.0)
       (subst (λ g. ((has_effect e g && Counting.is_open r.reported) && f p.id) ≡ true) (sym h.1)
       (open_row p r.reported (f p.id) h.2 z))) (open_rows ps rs h.3) k
@@ -166,20 +170,20 @@ given_decides false false false true sf sp a b c e d h = absurd (none_isn't h)
 
 -- ---- the law
 
-module _ (X : Extensions) (ans : Functions) (w : World) (ps : List Policy) (rows : List Row)
-    (stand : Responses.Stand X ans w ps rows) where
+module _ (mode : ErrorHandling) (X : Extensions) (ans : Functions) (w : World) (ps : List Policy) (rows : List Row)
+    (stand : Responses.Stand mode X ans w ps rows) where
   abbrev js : List Judged
-  js = judge_each X ans w ps
+  js = Policies.counted_each mode X ans w ps
 
   pub true_meets : (f : Text → Bool) (e : Effect) → Counting.hit f e is_true rows ≡ true → Counting.meets f e js ≡ true
   true_meets f e h =
-      true_rows X ans w f e ps stand.0 stand.2 (Counting.hit_reordered f e is_true stand.1 ∙ h)
+      true_rows mode X ans w f e ps stand.0 stand.2 (Counting.hit_reordered f e is_true stand.1 ∙ h)
 
   pub meets_open : (f : Text → Bool) (e : Effect) → Counting.meets f e js ≡ true
       → (Counting.hit f e is_true rows ≡ true) ⊎ (Counting.hit f e is_residual rows ≡ true)
   meets_open f e h =
       Counting.hit_open f e rows (sym (Counting.hit_reordered f e Counting.is_open stand.1)
-      ∙ open_rows X ans w f e ps stand.0 stand.2 h)
+      ∙ open_rows mode X ans w f e ps stand.0 stand.2 h)
 
   abbrev some_of : Effect → (Reported → Bool) → Bool
   some_of e such = some_row (rows_of e such rows)
@@ -290,7 +294,7 @@ module _ (X : Extensions) (ans : Functions) (w : World) (ps : List Policy) (rows
           may_permits t (some_of forbid is_true) (not_true (some_of forbid is_true)
           (λ z. Counting.truth_isn't (some_satisfied forbid js) e (true_satisfied forbid z))) (open_text t permit k)
 
-  pub reports_hold : ReportLaws.ReportsHold X ans w ps rows
+  pub reports_hold : ReportLaws.ReportsHold mode X ans w ps rows
   reports_hold = record {
     decision_holds = decision_holds;
     must_are_reasons = must_are_reasons;

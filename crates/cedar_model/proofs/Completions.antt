@@ -15,6 +15,7 @@ use Rattle.cedar_model.specs.Outcomes.{Outcome, gives, errs, entity_of, text_eq,
 use Rattle.cedar_model.specs.World.{World, Slots, Extensions, Functions}
 use Rattle.cedar_model.specs.Meaning
 use Rattle.cedar_model.specs.Failures.{value, residual, Answer, answers, fails}
+use Rattle.cedar_model.specs.Policies.{ErrorHandling}
 use Rattle.cedar_model.specs.Settings.{Entry, known_entry, unknown_entry, ContextPart, absent_context, known_context}
 use Rattle.cedar_model.specs.Settings.{residual_context, RequestPart, Store, Setting}
 use Rattle.cedar_model.specs.Rules
@@ -294,7 +295,8 @@ concrete_parts m r r' h =
 
 -- ---- the step
 
-module _ (ans : Functions) (calls : Rules.StoredCalls) (agree : Agreement.AgreesWithFunctions ans calls) (w : World)
+module _ (mode : ErrorHandling) (ans : Functions) (calls : Rules.StoredCalls)
+    (agree : Agreement.AgreesWithFunctions ans calls) (w : World)
     (s : Setting) (limit : ℕ) (m : Chains.Mapping) (store : Store) (old new : Chains.Response)
     (done : Agreement.IsCompletion ans w (Chains.at_step s old.request store m))
     (faithful : Agreement.AnswerFaithfully s.extensions ans calls) where
@@ -333,10 +335,10 @@ module _ (ans : Functions) (calls : Rules.StoredCalls) (agree : Agreement.Agrees
       (sound_stands ans calls agree w z without_map_done faithful t a
       (runs_sound ans calls agree w z without_map_done faithful limit t a f r))
 
-  pub step_completes : Chains.StepsTo s calls limit m store old new
+  pub step_completes : Chains.StepsTo mode s calls limit m store old new
       → Agreement.IsCompletion ans w (Chains.at_step s new.request store m)
   step_completes h =
-      let t = Stepping.taken s calls limit m store old new h in
+      let t = Stepping.taken mode s calls limit m store old new h in
       let p = concrete_parts m old.request t.request t.concrete in
       let q = done.request_agrees in
       let c = substituted_good t.request.context_part t.context

@@ -10,7 +10,8 @@ use Rattle.cedar_model.specs.Failures.{Failure, value, residual, Answer, answers
 use Rattle.cedar_model.specs.Settings.{Setting}
 use Rattle.cedar_model.specs.Rules.{StoredCalls}
 use Rattle.cedar_model.specs.Policies.{Effect, permit, forbid, Policy, Decision, allow, deny, is_satisfied_by}
-use Rattle.cedar_model.specs.Policies.{some_satisfied, satisfied_ids, decision, reasons, judge_each}
+use Rattle.cedar_model.specs.Policies.{some_satisfied, satisfied_ids, decision, reasons}
+use Rattle.cedar_model.specs.Policies.{ErrorHandling, skip, forbid_on_error, counted_each}
 use Rattle.cedar_model.specs.Responses
 use Rattle.cedar_model.specs.Responses.{Reported, reported_true, reported_false, reported_residual, Row}
 use Rattle.cedar_model.specs.Chains.{is_true, is_residual, has_effect, rows_of}
@@ -37,9 +38,23 @@ given_by false false true true d h = absurd (none_isn't h)
 given_by false false true false d h = absurd (none_isn't h)
 given_by false false false fr d h = cc
 
+given_beside : (ft pt pr fr : Bool) (d : Decision) → cond ft (Some deny)
+    (cond (not (pt || pr)) (Some deny) (cond fr None (cond pt (Some allow) None))) ≡ Some d
+    → cond (pt && not (ft || fr)) allow deny ≡ d
+given_beside true true pr fr d h = cc
+given_beside true false pr fr d h = cc
+given_beside false true pr true d h = absurd (none_isn't h)
+given_beside false true pr false d h = cc
+given_beside false false true true d h = absurd (none_isn't h)
+given_beside false false true false d h = absurd (none_isn't h)
+given_beside false false false fr d h = cc
+
 pub given_is_concrete : ReportLaws.GivenIsConcrete
-given_is_concrete rows d h =
+given_is_concrete skip rows d h =
     given_by (some_row (trues forbid rows)) (some_row (trues permit rows)) (some_row (residuals permit rows))
+    (some_row (residuals forbid rows)) d h
+given_is_concrete forbid_on_error rows d h =
+    given_beside (some_row (trues forbid rows)) (some_row (trues permit rows)) (some_row (residuals permit rows))
     (some_row (residuals forbid rows)) d h
 
 -- ---- rows as verdicts
@@ -143,39 +158,63 @@ module _ (rows : List Row) (none : Reports.HaveNoResidual rows) where
   unfolding some_row
   residual_isn't e h k = let z = sym (ap some_row h) ∙ k in cc
 
-  module _ (X : Extensions) (ans : Functions) (w : World) (ps : List Policy)
-      (stand : Responses.Stand X ans w ps rows) where
+  module _ (mode : ErrorHandling) (X : Extensions) (ans : Functions) (w : World) (ps : List Policy)
+      (stand : Responses.Stand mode X ans w ps rows) where
     satisfied_is : (e : Effect) → residuals e rows ≡ []
-        → some_satisfied e (judge_each X ans w ps) ≡ some_row (trues e rows)
+        → some_satisfied e (counted_each mode X ans w ps) ≡ some_row (trues e rows)
     satisfied_is e h =
-        equal_by (some_satisfied e (judge_each X ans w ps)) (some_row (trues e rows))
-        (λ k. by (Bounds.satisfied_open X ans w ps rows stand e k)) (Bounds.true_satisfied X ans w ps rows stand e)
+        equal_by (some_satisfied e (counted_each mode X ans w ps)) (some_row (trues e rows))
+        (λ k. by (Bounds.satisfied_open mode X ans w ps rows stand e k))
+        (Bounds.true_satisfied mode X ans w ps rows stand e)
       where
         by : (some_row (trues e rows) ≡ true) ⊎ (some_row (residuals e rows) ≡ true) → some_row (trues e rows) ≡ true
         by (inl z) = z
         by (inr z) = absurd (residual_isn't e h z)
 
-    pub decision_is : Reports.concrete_decision rows ≡ decision (judge_each X ans w ps)
+    concrete_chosen : (b : ErrorHandling) → Reports.concrete_decision b rows ≡ Reports.concrete_decision skip rows
+    unfolding some_row
+    concrete_chosen skip = refl
+    concrete_chosen forbid_on_error =
+        (λ i. cond (some_row (trues permit rows) && not (some_row (trues forbid rows) || some_row (none.1 i))) allow
+        deny)
+        ∙ ap (λ b. cond (some_row (trues permit rows) && not b) allow deny) (or_false (some_row (trues forbid rows)))
+
+    reasons_chosen : (b : ErrorHandling) → Reports.concrete_reasons b rows ≡ chosen
+    unfolding some_row
+    reasons_chosen skip = must_is
+    reasons_chosen forbid_on_error =
+        (λ i. cond (some_row (trues forbid rows) || some_row (none.1 i)) (trues forbid rows ++ none.1 i)
+        (trues permit rows))
+        ∙ (λ i. cond (or_false (some_row (trues forbid rows)) i) (append_nothing (trues forbid rows) i)
+        (trues permit rows))
+
+    pub decision_is : Reports.concrete_decision mode rows ≡ decision (counted_each mode X ans w ps)
     decision_is =
-        decide_alike (some_row (trues forbid rows)) (some_row (trues permit rows))
+        concrete_chosen mode
+        ∙ decide_alike (some_row (trues forbid rows)) (some_row (trues permit rows))
         ∙ sym (λ i. cond (satisfied_is forbid none.1 i) deny (cond (satisfied_is permit none.0 i) allow deny))
 
-    pub reasons_are : (t : Text) → has_text t (ids (Reports.must_determine rows))
-        ≡ has_text t (reasons (judge_each X ans w ps))
-    reasons_are t =
-        let h = Bounds.reports_hold X ans w ps rows stand in
-        equal_by (has_text t (ids (Reports.must_determine rows))) (has_text t (reasons (judge_each X ans w ps)))
+    must_reasons : (t : Text) → has_text t (ids (Reports.must_determine rows))
+        ≡ has_text t (reasons (counted_each mode X ans w ps))
+    must_reasons t =
+        let h = Bounds.reports_hold mode X ans w ps rows stand in
+        equal_by (has_text t (ids (Reports.must_determine rows))) (has_text t (reasons (counted_each mode X ans w ps)))
         (h.must_are_reasons t) (λ k. ap (λ xs. has_text t (ids xs)) (must_is ∙ sym may_is) ∙ h.reasons_may t k)
 
+    pub reasons_are : (t : Text) → has_text t (ids (Reports.concrete_reasons mode rows))
+        ≡ has_text t (reasons (counted_each mode X ans w ps))
+    reasons_are t = ap (λ xs. has_text t (ids xs)) (reasons_chosen mode ∙ sym must_is) ∙ must_reasons t
+
 pub concrete_is_defined : ReportLaws.ConcreteIsDefined
-concrete_is_defined X ans w ps rows stand none =
-    (decision_is rows none X ans w ps stand, reasons_are rows none X ans w ps stand)
+concrete_is_defined mode X ans w ps rows stand none =
+    (decision_is rows none mode X ans w ps stand, reasons_are rows none mode X ans w ps stand)
 
 -- ---- a run
 
 verdict_same : (a : Answer) → reported_verdict (Responses.reported_of a)
     ≡ Authorizations.result_verdict (Authorizations.decided a)
-unfolding reported_verdict Responses.reported_of Responses.reported_bool Authorizations.result_verdict Authorizations.decided Authorizations.bool_result Authorizations.bool_verdict
+unfolding reported_verdict Responses.reported_of Responses.reported_bool Authorizations.result_verdict
+    Authorizations.decided Authorizations.bool_result Authorizations.bool_verdict
 verdict_same (answers (value v)) = by (bool_of (abstract_value v))
   where
     by : (o : Option Bool) → reported_verdict (Responses.reported_bool o)
@@ -189,7 +228,8 @@ verdict_same (fails e) = refl
 errors_same : (id : Text) (later : List (Text × Failure)) (a : Answer) → is_residual (Responses.reported_of a) ≡ false
     → Responses.with_error id (Responses.error_of a) later
     ≡ Authorizations.with_result id (Authorizations.decided a) later
-unfolding is_residual Responses.reported_of Responses.with_error Responses.error_of Responses.bool_error Authorizations.with_result Authorizations.decided Authorizations.bool_result
+unfolding is_residual Responses.reported_of Responses.with_error Responses.error_of Responses.bool_error
+    Authorizations.with_result Authorizations.decided Authorizations.bool_result
 errors_same id later (answers (value v)) h = by (bool_of (abstract_value v))
   where
     by : (o : Option Bool) → Responses.with_error id (Responses.bool_error o v) later
@@ -227,16 +267,12 @@ none_left r rs h = (
 
 module _ (calls : StoredCalls) (s : Setting) (limit : ℕ) where
   run_judges : (ps : List Policy) (rows : List Row) (errors : List (Text × Failure))
-      → Responses.RunOf s calls limit ps rows errors → Reports.HaveNoResidual rows
+      → Responses.RunOf skip s calls limit ps rows errors → Reports.HaveNoResidual rows
       → Authorizations.JudgesEach (PolicyRuns s calls limit) ps (map judged_row rows) errors
+  unfolding Responses.counted_report
   run_judges [] rows errors h none = (ap (map judged_row) h.0, h.1)
   run_judges (p ∷ ps) rows errors (a, rest, later, g, m, j, e, k) none =
-      let n = none_left record {
-        id = p.id;
-        effect = p.effect;
-        annotations = p.annotations;
-        reported = Responses.reported_of a;
-      } rest
+      let n = none_left (Responses.row_of skip p a) rest
       (subst Reports.HaveNoResidual e none) in (
         a,
         map judged_row rest,
@@ -250,8 +286,8 @@ module _ (calls : StoredCalls) (s : Setting) (limit : ℕ) where
       )
 
   pub run_is_response : (ps : List Policy) (rows : List Row) (errors : List (Text × Failure))
-      → Responses.RunOf s calls limit ps rows errors → Reports.HaveNoResidual rows
-      → Authorizations.IsResponse (PolicyRuns s calls limit) ps (Reports.concretized rows errors)
+      → Responses.RunOf skip s calls limit ps rows errors → Reports.HaveNoResidual rows
+      → Authorizations.IsResponse (PolicyRuns s calls limit) ps (Reports.concretized skip rows errors)
   run_is_response ps rows errors h none = (
     map judged_row rows,
     subst (Authorizations.JudgesEach (PolicyRuns s calls limit) ps (map judged_row rows))

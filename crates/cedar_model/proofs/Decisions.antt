@@ -54,7 +54,7 @@ order_changes_nothing ps qs r =
 
 -- ---- one policy more
 
-some_with : (e : Effect) (before after : List Judged) (p : Judged) → some_satisfied e (before ++ (p ∷ after)) ≡ (is_satisfied e p || some_satisfied e (before ++ after))
+pub some_with : (e : Effect) (before after : List Judged) (p : Judged) → some_satisfied e (before ++ (p ∷ after)) ≡ (is_satisfied e p || some_satisfied e (before ++ after))
 unfolding some_satisfied
 some_with e [] after p = refl
 some_with e (q ∷ before) after p =

@@ -9,7 +9,7 @@ use Rattle.cedar_model.specs.Failures.{failure_kind, Answer, answers, answers_bo
 use Rattle.cedar_model.specs.Settings.{Setting, part_at}
 use Rattle.cedar_model.specs.Rules
 use Rattle.cedar_model.specs.Policies
-use Rattle.cedar_model.specs.Policies.{Policy}
+use Rattle.cedar_model.specs.Policies.{Policy, ErrorHandling}
 use Rattle.cedar_model.specs.Responses
 use Rattle.cedar_model.specs.Responses.{Row}
 use Rattle.cedar_model.specs.Refusals
@@ -22,7 +22,13 @@ use Rattle.cedar_model.proofs.Total.{total}
 
 -- all that chains compute with
 unfoldable pub chain_opened : Unit {0}
-unfolding meaning_opened Responses.reported_of Responses.reported_bool Responses.error_of Responses.bool_error Responses.with_error Responses.clause_of Chains.value_for Chains.substituted Chains.rows_of Chains.has_effect Chains.is_true Chains.is_false Chains.is_residual Chains.is_limit Chains.has_limit Refusals.first_repeated_after Refusals.typed_entry Refusals.entry_beside Refusals.entry_by Refusals.concrete_entry Refusals.context_beside Refusals.context_by Refusals.concrete_context Refusals.unless_refused Reports.some_row Reports.is_errored Reports.policy_with_id Policies.verdict Policies.is_satisfied_by Policies.some_satisfied Policies.satisfied_ids
+unfolding meaning_opened Responses.reported_of Responses.reported_bool Responses.error_of Responses.bool_error
+    Responses.with_error Responses.clause_of Chains.value_for Chains.substituted Chains.rows_of Chains.has_effect
+    Chains.is_true Chains.is_false Chains.is_residual Chains.is_limit Chains.has_limit Chains.is_same_mode
+    Responses.counted_report Policies.counted_verdict Refusals.first_repeated_after Refusals.typed_entry
+    Refusals.entry_beside Refusals.entry_by Refusals.concrete_entry Refusals.context_beside Refusals.context_by
+    Refusals.concrete_context Refusals.unless_refused Reports.some_row Reports.is_errored Reports.policy_with_id
+    Policies.verdict Policies.is_satisfied_by Policies.some_satisfied Policies.satisfied_ids
 chain_opened = tt
 
 -- ---- a run
@@ -39,15 +45,9 @@ runs_to s n t a e = subst (Rules.Runs s some_calls n t) e (total s some_calls (s
 abbrev pub policy_answer : Setting → ℕ → Policy → Answer
 policy_answer s n p = answer_to (Responses.with_slots s p.slots) n p.condition
 
-abbrev pub rows_to : Setting → ℕ → List Policy → List Row
-rows_to s n [] = []
-rows_to s n (p ∷ ps) =
-    record {
-      id = p.id;
-      effect = p.effect;
-      annotations = p.annotations;
-      reported = Responses.reported_of (policy_answer s n p);
-    } ∷ rows_to s n ps
+abbrev pub rows_to : ErrorHandling → Setting → ℕ → List Policy → List Row
+rows_to mode s n [] = []
+rows_to mode s n (p ∷ ps) = Responses.row_of mode p (policy_answer s n p) ∷ rows_to mode s n ps
 
 abbrev pub errors_to : Setting → ℕ → List Policy → List (Text × Failure)
 errors_to s n [] = []
@@ -75,17 +75,17 @@ FindMemory s n (p ∷ ps) = (finds_none (policy_answer s n p) ≡ false) × Find
 no_memory : (a : Answer) → finds_none a ≡ false → a ≢ fails out_of_memory
 no_memory a h e = let z = sym h ∙ ap finds_none e ∙ none_is_found in cc
 
-pub run_to : (s : Setting) (n : ℕ) (ps : List Policy) → FindMemory s n ps
-    → Responses.RunOf s some_calls n ps (rows_to s n ps) (errors_to s n ps)
-run_to s n [] h = (refl, refl)
-run_to s n (p ∷ ps) h = (
+pub run_to : (mode : ErrorHandling) (s : Setting) (n : ℕ) (ps : List Policy) → FindMemory s n ps
+    → Responses.RunOf mode s some_calls n ps (rows_to mode s n ps) (errors_to s n ps)
+run_to mode s n [] h = (refl, refl)
+run_to mode s n (p ∷ ps) h = (
   policy_answer s n p,
-  rows_to s n ps,
+  rows_to mode s n ps,
   errors_to s n ps,
   runs_to (Responses.with_slots s p.slots) n p.condition
       (policy_answer s n p) refl,
   no_memory (policy_answer s n p) h.0,
-  run_to s n ps h.1,
+  run_to mode s n ps h.1,
   refl,
   refl,
 )

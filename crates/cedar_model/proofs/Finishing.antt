@@ -1,7 +1,7 @@
 -- Progress: where the map names every unknown, the next request is known, and no policy leaves a residual.
 use Rattle.std.specs.Prelude.{◌≡◌, ℕ, Bool, true, false, cond, ◌&&◌, List, [], ◌∷◌, ◌++◌, map, Option, Some, None}
 use Rattle.std.specs.Prelude.{Result, Ok, Err, is_some, codes}
-use Rattle.std.proofs.Common.{refl, sym, subst}
+use Rattle.std.proofs.Common.{refl, sym, ◌∙◌, subst}
 use Rattle.cedar_model.specs.Terms.{Text, EntityName, ValueType, Term, literal, variable, slot, unknown, if_then_else}
 use Rattle.cedar_model.specs.Terms.{both, either, unary, binary, call, get_attribute, has_attribute, extended_has}
 use Rattle.cedar_model.specs.Terms.{like, is_of_type, set_of, record_of, Terms, no_terms, one_term, Fields, no_fields}
@@ -16,7 +16,7 @@ use Rattle.cedar_model.specs.Settings.{Entry, known_entry, unknown_entry, Contex
 use Rattle.cedar_model.specs.Settings.{residual_context, Setting, Store}
 use Rattle.cedar_model.specs.Rules.{StoredCalls}
 use Rattle.cedar_model.specs.Agreement
-use Rattle.cedar_model.specs.Policies.{permit, forbid}
+use Rattle.cedar_model.specs.Policies.{Effect, permit, forbid, ErrorHandling, skip, forbid_on_error}
 use Rattle.cedar_model.specs.Reordering.{IsReordering, nothing, keeping, swapping, chaining}
 use Rattle.cedar_model.specs.Responses
 use Rattle.cedar_model.specs.Responses.{Reported, reported_true, reported_false, reported_residual, Row}
@@ -217,6 +217,16 @@ not_residual (answers (value v)) h = by (bool_of (abstract_value v))
 not_residual (answers (residual t)) h = absurd h
 not_residual (fails e) h = refl
 
+counted_residual : (mode : ErrorHandling) (e : Effect) (o : Reported)
+    → is_residual (Responses.counted_report mode e o) ≡ is_residual o
+unfolding is_residual Responses.counted_report
+counted_residual skip e o = refl
+counted_residual forbid_on_error permit o = refl
+counted_residual forbid_on_error forbid reported_true = refl
+counted_residual forbid_on_error forbid (reported_false true) = refl
+counted_residual forbid_on_error forbid (reported_false false) = refl
+counted_residual forbid_on_error forbid (reported_residual t) = refl
+
 none_more : (a b : Bool) (r : Row) (xs : List Row) → b ≡ false → xs ≡ [] → cond a (cond b (r ∷ xs) xs) xs ≡ []
 none_more true true r xs h k = absurd (cc)
 none_more true false r xs h k = k
@@ -236,21 +246,19 @@ no_rows : Reports.HaveNoResidual []
 unfolding rows_of
 no_rows = (refl, refl)
 
-module _ (ans : Functions) (calls : StoredCalls) (agree : Agreement.AgreesWithFunctions ans calls) where
+module _ (mode : ErrorHandling) (ans : Functions) (calls : StoredCalls)
+    (agree : Agreement.AgreesWithFunctions ans calls) where
   run_finishes : (s : Setting) → Agreement.HasNothingUnknown s
       → (limit : ℕ) (qs rows : List Row) (errors : List (Text × Failure)) → Progress.RowsAreNamed ans s.map qs
-      → Responses.RunOf s calls limit (map Responses.carried qs) rows errors → Reports.HaveNoResidual rows
+      → Responses.RunOf mode s calls limit (map Responses.carried qs) rows errors → Reports.HaveNoResidual rows
   run_finishes s known limit [] rows errors n h = subst Reports.HaveNoResidual (sym h.0) no_rows
   run_finishes s known limit (q ∷ qs) rows errors n (a, rest, later, g, f, j, e, k) =
       let z = Responses.with_slots s Agreement.no_slots in
       let i = Answering.named_runs ans calls agree z (known_with_slots s Agreement.no_slots known) limit
       (Responses.carried q).condition a (((tt, tt), tt), clause_named ans s.map q.reported n.0) g in
-      subst Reports.HaveNoResidual (sym e) (more_none record {
-        id = q.id;
-        effect = q.effect;
-        annotations = q.annotations;
-        reported = Responses.reported_of a;
-      } rest (not_residual a i) (run_finishes s known limit qs rest later n.1 j))
+      subst Reports.HaveNoResidual (sym e) (more_none (Responses.row_of mode (Responses.carried q) a) rest
+      (counted_residual mode q.effect (Responses.reported_of a)
+      ∙ not_residual a i) (run_finishes s known limit qs rest later n.1 j))
 
   module _ (s : Setting) (limit : ℕ) (m : Mapping) (store : Store) (old new : Response)
       (concrete : store.is_partial ≡ false) (values : Agreement.EachStored Agreement.IsValue store)
@@ -266,9 +274,9 @@ module _ (ans : Functions) (calls : StoredCalls) (agree : Agreement.AgreesWithFu
         (Chains.without_map (Chains.at_step s old.request store m)) limit
         (record_of (Chains.substituted_at m fs)) a p g) h
 
-    pub step_finishes : Chains.StepsTo s calls limit m store old new → Reports.HaveNoResidual new.rows
+    pub step_finishes : Chains.StepsTo mode s calls limit m store old new → Reports.HaveNoResidual new.rows
     step_finishes h =
-        let t = taken s calls limit m store old new h in
+        let t = taken mode s calls limit m store old new h in
         let p = concrete_parts m old.request t.request t.concrete in
         let c = context_known t.request.context_part t.context
         (context_there ans m old.request.context_part t.request.context_part named.context_is_named p.context_is)
@@ -289,6 +297,6 @@ module _ (ans : Functions) (calls : StoredCalls) (agree : Agreement.AgreesWithFu
         (named_reordered ans m (sorted_is old.rows) named.rows_are_named) t.runs
 
 pub steps_finish : (calls : StoredCalls) → Progress.StepsFinish calls
-steps_finish calls ans agree s limit m store old new concrete values named h =
-    let none = step_finishes ans calls agree s limit m store old new concrete values named h in
-    (none, λ w ps stand. concrete_is_defined s.extensions ans w ps new.rows stand none)
+steps_finish calls ans agree mode s limit m store old new concrete values named h =
+    let none = step_finishes mode ans calls agree s limit m store old new concrete values named h in
+    (none, λ w ps stand. concrete_is_defined mode s.extensions ans w ps new.rows stand none)

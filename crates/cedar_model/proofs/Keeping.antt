@@ -7,7 +7,8 @@ use Rattle.cedar_model.specs.Outcomes.{bool_of, text_eq, has_text}
 use Rattle.cedar_model.specs.Failures.{Failure, failure_kind, Answer, answers_bool, limit}
 use Rattle.cedar_model.specs.Settings.{Setting, Store}
 use Rattle.cedar_model.specs.Rules
-use Rattle.cedar_model.specs.Policies.{Effect, permit, forbid, Decision, allow, deny}
+use Rattle.cedar_model.specs.Policies.{Effect, permit, forbid, Decision, allow, deny, ErrorHandling, skip}
+use Rattle.cedar_model.specs.Policies.{forbid_on_error}
 use Rattle.cedar_model.specs.Responses
 use Rattle.cedar_model.specs.Responses.{Reported, reported_true, reported_false, reported_residual, Row}
 use Rattle.cedar_model.specs.Agreement.{no_slots}
@@ -39,13 +40,19 @@ bool_of_answer b a (inl e) h = absurd (limit_is_recorded
     (subst (λ z. Recorded.IsRecordable (Responses.error_of z)) e h))
 bool_of_answer b a (inr e) h = e
 
-true_is_true : is_true (Responses.reported_of (answers_bool true)) ≡ true
-unfolding is_true Responses.reported_of Responses.reported_bool bool_of
-true_is_true = refl
+true_is_true : (mode : ErrorHandling) (e : Effect) → is_true
+    (Responses.counted_report mode e (Responses.reported_of (answers_bool true))) ≡ true
+unfolding is_true Responses.reported_of Responses.reported_bool Responses.counted_report bool_of
+true_is_true skip e = refl
+true_is_true forbid_on_error permit = refl
+true_is_true forbid_on_error forbid = refl
 
-false_is_false : is_false (Responses.reported_of (answers_bool false)) ≡ true
-unfolding is_false Responses.reported_of Responses.reported_bool bool_of
-false_is_false = refl
+false_is_false : (mode : ErrorHandling) (e : Effect)
+    → is_false (Responses.counted_report mode e (Responses.reported_of (answers_bool false))) ≡ true
+unfolding is_false Responses.reported_of Responses.reported_bool Responses.counted_report bool_of
+false_is_false skip e = refl
+false_is_false forbid_on_error permit = refl
+false_is_false forbid_on_error forbid = refl
 
 false_isn't : false ≡ true → ⊥
 false_isn't h = cc
@@ -61,17 +68,21 @@ module _ (calls : Rules.StoredCalls) (s : Setting) (levels : ℕ) where
       bool_of_answer b a (Carried.clause_always s calls b (literal (bool_literal b))
       (Carried.literal_always s calls b) levels a g) h
 
-  keeps_report : (o : Reported) (a : Answer) → Carries (Responses.clause_of o) a
-      → Recorded.IsRecordable (Responses.error_of a) → KeepsReport o (Responses.reported_of a)
+  keeps_report : (mode : ErrorHandling) (e : Effect) (o : Reported) (a : Answer) → Carries (Responses.clause_of o) a
+      → Recorded.IsRecordable (Responses.error_of a)
+      → KeepsReport o (Responses.counted_report mode e (Responses.reported_of a))
   unfolding Responses.clause_of is_true is_false
-  keeps_report reported_true a g h =
-      (λ k. ap (λ z. is_true (Responses.reported_of z)) (always true a g h) ∙ true_is_true, λ k. absurd (false_isn't k))
-  keeps_report (reported_false e) a g h = (
+  keeps_report mode e reported_true a g h = (
+    λ k. ap (λ z. is_true (Responses.counted_report mode e (Responses.reported_of z))) (always true a g h)
+        ∙ true_is_true mode e,
     λ k. absurd (false_isn't k),
-    λ k. ap (λ z. is_false (Responses.reported_of z)) (always false a g h)
-        ∙ false_is_false,
   )
-  keeps_report (reported_residual t) a g h = (λ k. absurd (false_isn't k), λ k. absurd (false_isn't k))
+  keeps_report mode e (reported_false x) a g h = (
+    λ k. absurd (false_isn't k),
+    λ k. ap (λ z. is_false
+        (Responses.counted_report mode e (Responses.reported_of z))) (always false a g h) ∙ false_is_false mode e,
+  )
+  keeps_report mode e (reported_residual t) a g h = (λ k. absurd (false_isn't k), λ k. absurd (false_isn't k))
 
 -- ---- rows in the order of the run
 
@@ -82,18 +93,17 @@ AllKeep (q ∷ qs) [] = ⊥
 AllKeep (q ∷ qs) (r ∷ rs) =
     (q.id ≡ r.id) × (q.effect ≡ r.effect) × KeepsReport q.reported r.reported × AllKeep qs rs
 
-run_keeps : (s : Setting) (calls : Rules.StoredCalls) (levels : ℕ) (qs rows : List Row)
+run_keeps : (mode : ErrorHandling) (s : Setting) (calls : Rules.StoredCalls) (levels : ℕ) (qs rows : List Row)
     (errors : List (Text × Failure)) → HaveNoLimit errors
-    → Responses.RunOf s calls levels (map Responses.carried qs) rows errors → AllKeep qs rows
-run_keeps s calls levels [] rows errors none h = subst (AllKeep []) (sym h.0) tt
-run_keeps s calls levels (q ∷ qs) rows errors none (a, rest, later, g, m, j, e, k) =
+    → Responses.RunOf mode s calls levels (map Responses.carried qs) rows errors → AllKeep qs rows
+run_keeps mode s calls levels [] rows errors none h = subst (AllKeep []) (sym h.0) tt
+run_keeps mode s calls levels (q ∷ qs) rows errors none (a, rest, later, g, m, j, e, k) =
     let z = Recorded.unless_memory a q.id later m (subst HaveNoLimit k none) in
     subst (AllKeep (q ∷ qs)) (sym e) (
       refl,
       refl,
-      keeps_report calls
-          (Responses.with_slots s no_slots) levels q.reported a g z.0,
-      run_keeps s calls levels qs rest later z.1 j,
+      keeps_report calls (Responses.with_slots s no_slots) levels mode q.effect q.reported a g z.0,
+      run_keeps mode s calls levels qs rest later z.1 j,
     )
 
 -- ---- tests on the rows
@@ -388,12 +398,13 @@ module _ (old new : List Row) (kept : AllKeep (Chains.rows_by permit old ++ Chai
       (some_true_stays permit) (some_true_was_open forbid) (some_true_was_open permit) (some_residual_was forbid)
       (some_residual_was permit) d h
 
-pub nothing_taken_back : (calls : Rules.StoredCalls) (s : Setting) (levels : ℕ) (m : Mapping) (store : Store)
-    (old new : Response) → Chains.StepsTo s calls levels m store old new → HaveNoLimit new.errors
+pub nothing_taken_back : (calls : Rules.StoredCalls) (mode : ErrorHandling) (s : Setting) (levels : ℕ) (m : Mapping)
+    (store : Store)
+    (old new : Response) → Chains.StepsTo mode s calls levels m store old new → HaveNoLimit new.errors
     → ChainLaws.KeepsWhatIsGiven old new
-nothing_taken_back calls s levels m store old new h none =
-    let t = taken s calls levels m store old new h in
-    let k = run_keeps (Chains.at_step s new.request store m) calls levels
+nothing_taken_back calls mode s levels m store old new h none =
+    let t = taken mode s calls levels m store old new h in
+    let k = run_keeps mode (Chains.at_step s new.request store m) calls levels
     (Chains.rows_by permit old.rows ++ Chains.rows_by forbid old.rows) new.rows new.errors none t.runs in
     record {
       decision_stays = decision_is_kept old.rows new.rows k;

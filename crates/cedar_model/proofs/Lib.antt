@@ -47,3 +47,4 @@ pub mod Answering
 pub mod Finishing
 pub mod Exemplified
 pub mod TwoSteps
+pub mod Counted

@@ -1,11 +1,12 @@
 -- A step answers responses alone, or one refusal, where stored functions answer alike to equal arguments.
-use Rattle.std.specs.Prelude.{◌≡◌, ℕ, map, Option, Some, None, Result, Ok, Err}
+use Rattle.std.specs.Prelude.{Bool, true, false, ◌≡◌, ℕ, map, Option, Some, None, Result, Ok, Err}
 use Rattle.std.proofs.Common.{refl, sym, subst, inl, inr}
 use Rattle.cedar_model.specs.Terms.{Text, literal, variable, slot, unknown, if_then_else, both, either, unary, binary}
 use Rattle.cedar_model.specs.Terms.{call, get_attribute, has_attribute, extended_has, like, is_of_type, set_of}
 use Rattle.cedar_model.specs.Terms.{record_of}
 use Rattle.cedar_model.specs.Values.{plain_represented, set_represented, record_represented, extension_represented}
 use Rattle.cedar_model.specs.Failures.{PartialValue, value, residual, Answer, answers, fails}
+use Rattle.cedar_model.specs.Policies.{ErrorHandling}
 use Rattle.cedar_model.specs.Settings.{ContextPart, absent_context, known_context, residual_context, RequestPart}
 use Rattle.cedar_model.specs.Settings.{Setting, Store}
 use Rattle.cedar_model.specs.Rules.{StoredCalls}
@@ -75,7 +76,8 @@ contexts_alike (fails e) (fails f) c d h i j =
     subst (λ z. AreAlikeContexts z d) (sym i) (subst (AreAlikeContexts (Err (context_fails e))) (sym j)
     (inr (e, f, refl, refl, h)))
 
-module _ (calls : StoredCalls) (functional : AreFunctional calls) (s : Setting) (limit : ℕ) (m : Mapping)
+module _ (calls : StoredCalls) (functional : AreFunctional calls) (mode : ErrorHandling) (s : Setting) (limit : ℕ)
+    (m : Mapping)
     (store : Store) (old : Response) (x y : Result Response Refusal) where
   substituted_alike : (z : Setting) (k : ContextPart) (c d : Result ContextPart Refusal)
       → Chains.SubstitutesTo z calls limit m k c → Chains.SubstitutesTo z calls limit m k d → AreAlikeContexts c d
@@ -90,7 +92,7 @@ module _ (calls : StoredCalls) (functional : AreFunctional calls) (s : Setting) 
       subst (λ z. ChainLaws.AreAlikeSteps z y) (sym e) (subst (ChainLaws.AreAlikeSteps (Ok u)) (sym f) tt)
 
   abbrev After : RequestPart → Result ContextPart Refusal → Result Response Refusal → Type 0
-  After = Chains.AfterContext s calls limit m store old
+  After = Chains.AfterContext mode s calls limit m store old
 
   after_alike : (r : RequestPart) (c d : Result ContextPart Refusal) → AreAlikeContexts c d → After r c x
       → After r d y → ChainLaws.AreAlikeSteps x y
@@ -101,17 +103,22 @@ module _ (calls : StoredCalls) (functional : AreFunctional calls) (s : Setting) 
   after_alike r (Err e) (Err f) a h i =
       subst (λ z. ChainLaws.AreAlikeSteps z y) (sym h) (subst (ChainLaws.AreAlikeSteps (Err e)) (sym i) a)
 
-  request_alike : (r : Result RequestPart Refusal) → Chains.AfterRequest s calls limit m store old r x
-      → Chains.AfterRequest s calls limit m store old r y → ChainLaws.AreAlikeSteps x y
+  request_alike : (r : Result RequestPart Refusal) → Chains.AfterRequest mode s calls limit m store old r x
+      → Chains.AfterRequest mode s calls limit m store old r y → ChainLaws.AreAlikeSteps x y
   request_alike (Ok r) (c, g, h) (d, j, i) =
       after_alike r c d (substituted_alike (Chains.at_step s old.request store m) r.context_part c d g j) h i
   request_alike (Err e) h i = same_steps x y (Err e) h i
 
-  ids_alike : (o : Option Text) → Chains.AfterIds s calls limit m store old o x
-      → Chains.AfterIds s calls limit m store old o y → ChainLaws.AreAlikeSteps x y
+  ids_alike : (o : Option Text) → Chains.AfterIds mode s calls limit m store old o x
+      → Chains.AfterIds mode s calls limit m store old o y → ChainLaws.AreAlikeSteps x y
   ids_alike (Some id) h i = same_steps x y (Err (Refusals.id_comes_again id)) h i
   ids_alike None h i = request_alike (Refusals.concrete_request m old.request) h i
 
-  pub steps_alike : Chains.Steps s calls limit m store old x → Chains.Steps s calls limit m store old y
+  mode_alike : (b : Bool) → Chains.AfterMode mode s calls limit m store old b x
+      → Chains.AfterMode mode s calls limit m store old b y → ChainLaws.AreAlikeSteps x y
+  mode_alike true h i = ids_alike (Refusals.first_repeated (map (λ p. p.id) (Chains.all_residuals old.rows))) h i
+  mode_alike false h i = same_steps x y (Err (Refusals.mode_is_other old.mode mode)) h i
+
+  pub steps_alike : Chains.Steps mode s calls limit m store old x → Chains.Steps mode s calls limit m store old y
       → ChainLaws.AreAlikeSteps x y
-  steps_alike h i = ids_alike (Refusals.first_repeated (map (λ p. p.id) (Chains.all_residuals old.rows))) h i
+  steps_alike h i = mode_alike (Chains.is_same_mode mode old.mode) h i

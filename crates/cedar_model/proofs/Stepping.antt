@@ -1,16 +1,19 @@
 -- A step that succeeds, in its parts.
-use Rattle.std.specs.Prelude.{◌≡◌, ℕ, map, Option, Some, None, Result, Ok, Err}
+use Rattle.std.specs.Prelude.{◌≡◌, ℕ, Bool, true, false, map, Option, Some, None, Result, Ok, Err}
 use Rattle.std.proofs.Common.{refl, ap}
 use Rattle.cedar_model.specs.Settings.{ContextPart, RequestPart, Store, Setting}
 use Rattle.cedar_model.specs.Rules
+use Rattle.cedar_model.specs.Policies.{ErrorHandling}
 use Rattle.cedar_model.specs.Responses
 use Rattle.cedar_model.specs.Refusals
 use Rattle.cedar_model.specs.Chains
 
-module _ (s : Setting) (calls : Rules.StoredCalls) (limit : ℕ) (m : Chains.Mapping) (store : Store)
+module _ (mode : ErrorHandling) (s : Setting) (calls : Rules.StoredCalls) (limit : ℕ) (m : Chains.Mapping)
+    (store : Store)
     (old new : Chains.Response) where
   -- no id stands twice, the request is made concrete and its context substituted, and the policies run
   pub record Taken : Type 0 where
+    pub mode_is : new.mode ≡ mode
     pub request : RequestPart
     pub context : ContextPart
     pub each_once : Refusals.first_repeated (map (λ p. p.id) (Chains.all_residuals old.rows)) ≡ None
@@ -18,22 +21,28 @@ module _ (s : Setting) (calls : Rules.StoredCalls) (limit : ℕ) (m : Chains.Map
     pub substitutes : Chains.SubstitutesTo (Chains.at_step s old.request store m) calls limit m request.context_part
         (Ok context)
     pub request_is : new.request ≡ Chains.with_context request context
-    pub runs : Responses.RunOf (Chains.at_step s new.request store m) calls limit
+    pub runs : Responses.RunOf mode (Chains.at_step s new.request store m) calls limit
         (Chains.all_residuals old.rows) new.rows new.errors
 
   ok_inj : {A B : Type 0} {x y : A} → ◌≡◌ {A = Result A B} (Ok x) (Ok y) → x ≡ y
   ok_inj e = cc
 
-  pub taken : Chains.StepsTo s calls limit m store old new → Taken
-  taken h = by_ids (Refusals.first_repeated (map (λ p. p.id) (Chains.all_residuals old.rows))) refl h
+  pub taken : Chains.StepsTo mode s calls limit m store old new → Taken
+  taken h = by_mode (Chains.is_same_mode mode old.mode) h
     where
       by_context : (r : RequestPart) → Refusals.first_repeated (map (λ p. p.id) (Chains.all_residuals old.rows))
           ≡ None → Refusals.concrete_request m old.request ≡ Ok r → (c : Result ContextPart Refusals.Refusal)
           → Chains.SubstitutesTo (Chains.at_step s old.request store m) calls limit m r.context_part c
-          → Chains.AfterContext s calls limit m store old r c (Ok new) → Taken
+          → Chains.AfterContext mode s calls limit m store old r c (Ok new) → Taken
       by_context r i e (Ok c) g (rows, errors, j, k) =
-          let n : new ≡ record { request = Chains.with_context r c; rows = rows; errors = errors } = ok_inj k in
+          let n : new ≡ record {
+            mode = mode;
+            request = Chains.with_context r c;
+            rows = rows;
+            errors = errors;
+          } = ok_inj k in
           record {
+            mode_is = ap (λ x. x.mode) n;
             request = r;
             context = c;
             each_once = i;
@@ -46,12 +55,16 @@ module _ (s : Setting) (calls : Rules.StoredCalls) (limit : ℕ) (m : Chains.Map
 
       by_request : (x : Result RequestPart Refusals.Refusal)
           → Refusals.first_repeated (map (λ p. p.id) (Chains.all_residuals old.rows)) ≡ None
-          → Refusals.concrete_request m old.request ≡ x → Chains.AfterRequest s calls limit m store old x (Ok new)
+          → Refusals.concrete_request m old.request ≡ x → Chains.AfterRequest mode s calls limit m store old x (Ok new)
           → Taken
       by_request (Ok r) i e (c, g, k) = by_context r i e c g k
       by_request (Err f) i e k = absurd (cc)
 
       by_ids : (x : Option _) → Refusals.first_repeated (map (λ p. p.id) (Chains.all_residuals old.rows)) ≡ x
-          → Chains.AfterIds s calls limit m store old x (Ok new) → Taken
+          → Chains.AfterIds mode s calls limit m store old x (Ok new) → Taken
       by_ids None i k = by_request (Refusals.concrete_request m old.request) i refl k
       by_ids (Some t) i k = absurd (cc)
+
+      by_mode : (b : Bool) → Chains.AfterMode mode s calls limit m store old b (Ok new) → Taken
+      by_mode true k = by_ids (Refusals.first_repeated (map (λ p. p.id) (Chains.all_residuals old.rows))) refl k
+      by_mode false k = absurd (cc)

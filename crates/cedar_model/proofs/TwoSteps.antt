@@ -6,6 +6,7 @@ use Rattle.cedar_model.specs.Values.{Represented, plain_represented, one_represe
 use Rattle.cedar_model.specs.Values.{abstract_value, expression_of}
 use Rattle.cedar_model.specs.Shapes.{is_restricted}
 use Rattle.cedar_model.specs.Failures.{Answer, PartialValue, answers_bool, answers, value}
+use Rattle.cedar_model.specs.Policies.{skip}
 use Rattle.cedar_model.specs.Settings
 use Rattle.cedar_model.specs.Examples
 use Rattle.cedar_model.specs.Settings.{known_context, RequestPart, Setting, StoredEntity, Store}
@@ -27,8 +28,9 @@ s = setting_of open_request
 
 abbrev pub first : Response
 first = record {
+  mode = skip;
   request = open_request;
-  rows = Exemplified.rows_to s 9 two_policies;
+  rows = Exemplified.rows_to skip s 9 two_policies;
   errors = Exemplified.errors_to s 9 two_policies;
 }
 
@@ -38,8 +40,9 @@ context_fields = fields_of ((codes "c", unknown (codes "c") None) ∷ (codes "d"
 abbrev stepped : Response → RequestPart → Mapping → Response
 stepped old r m =
     record {
+      mode = skip;
       request = r;
-      rows = Exemplified.rows_to (Chains.at_step s r empty_store m) 9
+      rows = Exemplified.rows_to skip (Chains.at_step s r empty_store m) 9
           (Chains.all_residuals old.rows);
       errors = Exemplified.errors_to (Chains.at_step s r empty_store m) 9
           (Chains.all_residuals old.rows);
@@ -65,15 +68,16 @@ last_request = Chains.with_context middle_request (known_context
 abbrev pub last : Response
 last = stepped middle last_request context_map
 
-pub begins : Chains.Begins s some_calls 9 two_policies first
+pub begins : Chains.Begins skip s some_calls 9 two_policies first
 unfolding Exemplified.chain_opened Exemplified.finds_none Exemplified.is_memory
 begins = record {
+  mode_is = refl;
   request_is = refl;
-  runs = Exemplified.run_to (Chains.without_map s) 9 two_policies
+  runs = Exemplified.run_to skip (Chains.without_map s) 9 two_policies
       (refl, (refl, tt));
 }
 
-pub first_step : Chains.StepsTo s some_calls 9 resource_map empty_store first middle
+pub first_step : Chains.StepsTo skip s some_calls 9 resource_map empty_store first middle
 unfolding Exemplified.chain_opened Exemplified.finds_none Exemplified.is_memory
 first_step = (
   Ok open_request.context_part,
@@ -86,13 +90,13 @@ first_step = (
   (
     middle.rows,
     middle.errors,
-    Exemplified.run_to (Chains.at_step s middle_request empty_store resource_map) 9
+    Exemplified.run_to skip (Chains.at_step s middle_request empty_store resource_map) 9
         (Chains.all_residuals first.rows) (refl, (refl, tt)),
     refl,
   ),
 )
 
-pub second_step : Chains.StepsTo s some_calls 9 context_map empty_store middle last
+pub second_step : Chains.StepsTo skip s some_calls 9 context_map empty_store middle last
 unfolding Exemplified.chain_opened Exemplified.finds_none Exemplified.is_memory
 second_step = (
   Ok last_request.context_part,
@@ -106,7 +110,7 @@ second_step = (
   (
     last.rows,
     last.errors,
-    Exemplified.run_to (Chains.at_step s last_request empty_store context_map) 9
+    Exemplified.run_to skip (Chains.at_step s last_request empty_store context_map) 9
         (Chains.all_residuals middle.rows) (refl, (refl, tt)),
     refl,
   ),
@@ -115,7 +119,7 @@ second_step = (
 abbrev pub again : Response
 again = stepped last last_request no_map
 
-pub third_step : Chains.StepsTo s some_calls 9 no_map empty_store last again
+pub third_step : Chains.StepsTo skip s some_calls 9 no_map empty_store last again
 unfolding Exemplified.chain_opened Exemplified.finds_none Exemplified.is_memory
 third_step = (
   Ok last_request.context_part,
@@ -123,7 +127,7 @@ third_step = (
   (
     again.rows,
     again.errors,
-    Exemplified.run_to (Chains.at_step s last_request empty_store no_map) 9
+    Exemplified.run_to skip (Chains.at_step s last_request empty_store no_map) 9
         (Chains.all_residuals last.rows) (refl, (refl, tt)),
     refl,
   ),
@@ -196,7 +200,7 @@ faithful : Agreement.AnswerFaithfully some_extensions some_functions some_calls
 faithful f vs v h e = subst (Agreement.IsFaithful some_extensions some_functions)
     (is_bool (answers (value v)) v e refl) tt
 
-pub completed : Headline.CompletesChain some_calls some_functions chain_world s 9 two_policies two_steps last
+pub completed : Headline.CompletesChain skip some_calls some_functions chain_world s 9 two_policies two_steps last
 unfolding Exemplified.chain_opened
 completed = record {
   request_agrees = record {

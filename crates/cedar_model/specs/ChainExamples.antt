@@ -6,16 +6,20 @@ use Rattle.cedar_model.specs.Terms.{terms_of, fields_of}
 use Rattle.cedar_model.specs.Values.{plain, no_values_at, one_value_at, Represented, plain_represented}
 use Rattle.cedar_model.specs.Values.{record_represented, no_represented_at, one_represented_at}
 use Rattle.cedar_model.specs.World.{World}
-use Rattle.cedar_model.specs.Failures.{function_is_missing, residual_is_left, recursion_limit, value}
+use Rattle.cedar_model.specs.Failures.{Failure, function_is_missing, residual_is_left, recursion_limit, value}
 use Rattle.cedar_model.specs.Settings.{Entry, known_entry, unknown_entry, ContextPart, absent_context, known_context}
 use Rattle.cedar_model.specs.Settings.{residual_context, RequestPart, Store, Setting, part_at}
 use Rattle.cedar_model.specs.Agreement.{no_slots}
 use Rattle.cedar_model.specs.Policies.{Effect, permit, forbid, Policy, allow, deny, decision, reasons, judge_each}
-use Rattle.cedar_model.specs.Responses.{Reported, reported_true, reported_false, reported_residual, Row, truth, carried}
-use Rattle.cedar_model.specs.Refusals.{id_comes_again, value_is_wrong, is_there_already, type_is_other, context_fails}
+use Rattle.cedar_model.specs.Policies.{skip, forbid_on_error}
+use Rattle.cedar_model.specs.Responses.{RunOf, Reported, reported_true, reported_false, reported_residual, Row, truth}
+use Rattle.cedar_model.specs.Responses.{carried}
+use Rattle.cedar_model.specs.Refusals.{mode_is_other, id_comes_again, value_is_wrong, is_there_already, type_is_other}
+use Rattle.cedar_model.specs.Refusals.{context_fails}
 use Rattle.cedar_model.specs.Refusals.{concrete_request}
 use Rattle.cedar_model.specs.Chains.{Mapping, Response, Steps, StepsTo, Begins, ChainAnswers, all_residuals}
 use Rattle.cedar_model.specs.Reports.{ids, given_decision, must_determine, may_determine, concrete_decision}
+use Rattle.cedar_model.specs.Reports.{concrete_reasons}
 use Rattle.cedar_model.specs.Reports.{concrete_errors, definitely_satisfied, definitely_errored}
 use Rattle.cedar_model.specs.Reports.{nontrivial_residual_ids, nontrivial_forbids, get, HaveNoResidual}
 use Rattle.cedar_model.specs.Headline.{CompletesChain}
@@ -94,12 +98,13 @@ GetFindsThePermit =
     (given_decision rows ≡ Some deny) × (get (codes "a") rows ≡ Some (clause_policy (codes "a") permit (bool true)))
 
 -- a true permit beside a residual forbid: no decision is given, nothing must determine it, both may; made concrete,
--- Allow without reasons
+-- Allow without reasons, or, where erring forbids count, Deny for the forbid
 abbrev pub ResidualForbidHolds : Type 0
 ResidualForbidHolds =
     let rows = row (codes "0") permit reported_true ∷ row (codes "1") forbid (reported_residual x) ∷ [] in
     (given_decision rows ≡ None) × (must_determine rows ≡ []) × (ids (may_determine rows) ≡ codes "0" ∷ codes "1" ∷ [])
-    × (concrete_decision rows ≡ allow)
+    × (concrete_decision skip rows ≡ allow) × (concrete_reasons skip rows ≡ [])
+    × (concrete_decision forbid_on_error rows ≡ deny) × (ids (concrete_reasons forbid_on_error rows) ≡ codes "1" ∷ [])
 
 -- a residual permit may determine the decision
 abbrev pub ResidualPermitMay : Type 0
@@ -197,7 +202,7 @@ setting_of r =
     record { request = r; store = empty_store; map = no_map; slots = no_slots; extensions = some_extensions }
 
 abbrev pub response_to : RequestPart → List Row → Response
-response_to r rows = record { request = r; rows = rows; errors = [] }
+response_to r rows = record { mode = skip; request = r; rows = rows; errors = [] }
 
 abbrev pub known_request : RequestPart
 known_request = requested (known_entry (user (codes "a"))) (known_entry (user (codes "r"))) empty_context
@@ -205,9 +210,17 @@ known_request = requested (known_entry (user (codes "a"))) (known_entry (user (c
 -- an id that comes again is refused before the map is looked at
 abbrev pub RepeatedIdIsRefused : Type 0
 RepeatedIdIsRefused =
-    Steps (setting_of known_request) some_calls 9 (map_of ((codes "principal", a_number 3) ∷ [])) empty_store
+    Steps skip (setting_of known_request) some_calls 9 (map_of ((codes "principal", a_number 3) ∷ [])) empty_store
     (response_to known_request (row (codes "a") permit reported_true ∷ row (codes "a") forbid reported_true ∷ []))
     (Err (id_comes_again (codes "a")))
+
+-- a step in another mode is refused before that
+abbrev pub OtherModeIsRefused : Type 0
+OtherModeIsRefused =
+    Steps forbid_on_error (setting_of known_request) some_calls 9
+    (map_of ((codes "principal", a_number 3) ∷ [])) empty_store
+    (response_to known_request (row (codes "a") permit reported_true ∷ row (codes "a") forbid reported_true ∷ []))
+    (Err (mode_is_other skip forbid_on_error))
 
 -- a context that errs with the map's values in it is refused, here a call of no function
 abbrev pub with_call : RequestPart
@@ -217,13 +230,13 @@ with_call =
 
 abbrev pub ContextErrorIsRefused : Type 0
 ContextErrorIsRefused =
-    Steps (setting_of with_call) some_calls 9 (map_of ((codes "x", a_number 4) ∷ [])) empty_store
+    Steps skip (setting_of with_call) some_calls 9 (map_of ((codes "x", a_number 4) ∷ [])) empty_store
     (response_to with_call []) (Err (context_fails (function_is_missing (codes "nosuch"))))
 
 -- and so is one that meets the recursion limit
 abbrev pub ContextLimitIsRefused : Type 0
 ContextLimitIsRefused =
-    Steps (setting_of with_call) some_calls 2 (map_of ((codes "x", a_number 4) ∷ [])) empty_store
+    Steps skip (setting_of with_call) some_calls 2 (map_of ((codes "x", a_number 4) ∷ [])) empty_store
     (response_to with_call []) (Err (context_fails recursion_limit))
 
 -- a context is read under the request of the response before, not of the chain
@@ -234,7 +247,7 @@ with_principal =
 
 abbrev pub ContextIsReadUnderTheOldRequest : Type 0
 ContextIsReadUnderTheOldRequest =
-    StepsTo (setting_of (requested (known_entry (user (codes "b")))
+    StepsTo skip (setting_of (requested (known_entry (user (codes "b")))
     (known_entry (user (codes "r"))) empty_context)) some_calls 9 no_map empty_store
     (response_to with_principal []) (response_to
     (requested (known_entry (user (codes "a"))) (known_entry (user (codes "r")))
@@ -279,10 +292,10 @@ two_steps = (resource_map, empty_store) ∷ (context_map, empty_store) ∷ []
 abbrev pub TwoSteps : Type 0
 TwoSteps =
     (first : Response) × (middle : Response) × (last : Response) × (again : Response)
-    × Begins (setting_of open_request) some_calls 9 two_policies first
-    × StepsTo (setting_of open_request) some_calls 9 resource_map empty_store first middle
-    × StepsTo (setting_of open_request) some_calls 9 context_map empty_store middle last
-    × StepsTo (setting_of open_request) some_calls 9 no_map empty_store last again
+    × Begins skip (setting_of open_request) some_calls 9 two_policies first
+    × StepsTo skip (setting_of open_request) some_calls 9 resource_map empty_store first middle
+    × StepsTo skip (setting_of open_request) some_calls 9 context_map empty_store middle last
+    × StepsTo skip (setting_of open_request) some_calls 9 no_map empty_store last again
     × (ids (may_determine first.rows) ≡ codes "0" ∷ codes "1" ∷ []) × (given_decision middle.rows ≡ None)
     × (must_determine middle.rows ≡ []) × NamesAll some_functions context_map middle × HaveNoResidual last.rows
     × (given_decision last.rows ≡ Some deny) × (ids (must_determine last.rows) ≡ codes "1" ∷ [])
@@ -305,7 +318,7 @@ chain_world = record {
 -- it completes the chain: the premises of the headline can be met; and there the policies decide as the chain says
 abbrev pub TwoStepsAreCompleted : Type 0
 TwoStepsAreCompleted =
-    (last : Response) × CompletesChain some_calls some_functions chain_world
+    (last : Response) × CompletesChain skip some_calls some_functions chain_world
     (setting_of open_request) 9 two_policies two_steps last
     × (given_decision last.rows ≡ Some deny)
     × (decision (judge_each some_extensions some_functions chain_world two_policies) ≡ deny)
@@ -316,6 +329,7 @@ TwoStepsAreCompleted =
 -- with no level a permit of all errs, and a step that would be refused isn't taken
 abbrev pub limited : Response
 limited = record {
+  mode = skip;
   request = known_request;
   rows = row (codes "1") permit (reported_false true) ∷ [];
   errors = (codes "1", recursion_limit) ∷ [];
@@ -323,13 +337,30 @@ limited = record {
 
 abbrev pub EndsAtTheLimit : Type 0
 EndsAtTheLimit =
-    Begins (setting_of known_request) some_calls 0 (policy (codes "1") permit truth ∷ []) limited
-    × ChainAnswers (setting_of known_request) some_calls 0 limited
+    Begins skip (setting_of known_request) some_calls 0 (policy (codes "1") permit truth ∷ []) limited
+    × ChainAnswers skip (setting_of known_request) some_calls 0 limited
     ((map_of ((codes "principal", a_number 3) ∷ []), empty_store) ∷ []) (Ok limited)
 
 -- where a response holds no limit, the refusal of a step is the chain's
 abbrev pub RefusalEndsAChain : Type 0
 RefusalEndsAChain =
-    ChainAnswers (setting_of known_request) some_calls 9 (response_to known_request [])
+    ChainAnswers skip (setting_of known_request) some_calls 9 (response_to known_request [])
     ((map_of ((codes "principal", a_number 3) ∷ []), empty_store) ∷ (no_map, empty_store) ∷ [])
     (Err (value_is_wrong (codes "principal") (codes "entity") (a_number 3)))
+
+-- ---- erring forbids
+
+-- a permit of all, and a forbid that errs
+abbrev pub erring_policies : List Policy
+erring_policies =
+    policy (codes "1") permit truth ∷ policy (codes "3") forbid
+    (binary eq_operator (attribute (codes "bad")) (long 2)) ∷ []
+
+-- skipped, the forbid is reported false, and the decision is Allow; where it counts, it is reported true, and the
+-- decision is Deny for it. Its error is recorded either way
+abbrev pub ErringForbid : Type 0
+ErringForbid =
+    (error : Failure) × RunOf skip (setting_of known_request) some_calls 9 erring_policies
+    (row (codes "1") permit reported_true ∷ row (codes "3") forbid (reported_false true) ∷ []) ((codes "3", error) ∷ [])
+    × RunOf forbid_on_error (setting_of known_request) some_calls 9 erring_policies
+    (row (codes "1") permit reported_true ∷ row (codes "3") forbid reported_true ∷ []) ((codes "3", error) ∷ [])

@@ -5,7 +5,7 @@ use Rattle.cedar_model.specs.Failures.{Failure, failure_kind}
 use Rattle.cedar_model.specs.Settings.{Setting, Store}
 use Rattle.cedar_model.specs.Rules.{StoredCalls}
 use Rattle.cedar_model.specs.Alike.{AreFunctional}
-use Rattle.cedar_model.specs.Policies.{Decision}
+use Rattle.cedar_model.specs.Policies.{Decision, ErrorHandling}
 use Rattle.cedar_model.specs.Refusals.{Refusal, context_fails}
 use Rattle.cedar_model.specs.Chains.{Mapping, Response, Steps, StepsTo, has_limit, ChainOf}
 use Rattle.cedar_model.specs.Authorizations.{HaveNoLimit}
@@ -28,8 +28,9 @@ AreAlikeSteps (Err e) (Err f) = AreAlikeRefusals e f
 -- from functional functions a step answers responses alone, or one refusal
 abbrev pub RefusalIsOne : StoredCalls → Type 0
 RefusalIsOne calls =
-    AreFunctional calls → (s : Setting) (limit : ℕ) (m : Mapping) (store : Store) (old : Response)
-    (x y : Result Response Refusal) → Steps s calls limit m store old x → Steps s calls limit m store old y
+    AreFunctional calls → (mode : ErrorHandling) (s : Setting) (limit : ℕ) (m : Mapping) (store : Store)
+    (old : Response)
+    (x y : Result Response Refusal) → Steps mode s calls limit m store old x → Steps mode s calls limit m store old y
     → AreAlikeSteps x y
 
 -- the test for the recursion limit says so
@@ -40,10 +41,10 @@ LimitsAreSeen = (errors : List (Text × Failure)) → HaveNoLimit errors ↔ (ha
 -- response without one, from which the others lead to the last
 abbrev pub NoEarlierLimit : StoredCalls → Type 0
 NoEarlierLimit calls =
-    (s : Setting) (limit : ℕ) (first last : Response) (before after : List (Mapping × Store))
-    → ChainOf s calls limit first (before ++ after) last → HaveNoLimit last.errors
-    → (middle : Response) × ChainOf s calls limit first before middle × HaveNoLimit middle.errors
-    × ChainOf s calls limit middle after last
+    (mode : ErrorHandling) (s : Setting) (limit : ℕ) (first last : Response) (before after : List (Mapping × Store))
+    → ChainOf mode s calls limit first (before ++ after) last → HaveNoLimit last.errors
+    → (middle : Response) × ChainOf mode s calls limit first before middle × HaveNoLimit middle.errors
+    × ChainOf mode s calls limit middle after last
 
 -- nothing is taken back: where a step succeeds without a recursion limit, a given decision stays, no id leaves those
 -- that must determine it, and none comes to those that may; whatever worlds and functions there are
@@ -54,5 +55,5 @@ pub record KeepsWhatIsGiven (old new : Response) : Type 0 where
 
 abbrev pub NothingIsTakenBack : StoredCalls → Type 0
 NothingIsTakenBack calls =
-    (s : Setting) (limit : ℕ) (m : Mapping) (store : Store) (old new : Response)
-    → StepsTo s calls limit m store old new → HaveNoLimit new.errors → KeepsWhatIsGiven old new
+    (mode : ErrorHandling) (s : Setting) (limit : ℕ) (m : Mapping) (store : Store) (old new : Response)
+    → StepsTo mode s calls limit m store old new → HaveNoLimit new.errors → KeepsWhatIsGiven old new

@@ -11,9 +11,10 @@ use Rattle.cedar_model.specs.Settings.{ContextPart, absent_context, known_contex
 use Rattle.cedar_model.specs.Settings.{Store, Setting}
 use Rattle.cedar_model.specs.Rules.{StoredCalls, Runs}
 use Rattle.cedar_model.specs.Agreement.{no_slots}
-use Rattle.cedar_model.specs.Policies.{Effect, permit, forbid, Policy}
+use Rattle.cedar_model.specs.Policies.{Effect, permit, forbid, Policy, ErrorHandling, skip, forbid_on_error}
 use Rattle.cedar_model.specs.Responses.{Reported, reported_true, reported_false, reported_residual, Row, RunOf, carried}
-use Rattle.cedar_model.specs.Refusals.{Refusal, id_comes_again, first_repeated, concrete_request, IsContext}
+use Rattle.cedar_model.specs.Refusals.{Refusal, mode_is_other, id_comes_again, first_repeated, concrete_request}
+use Rattle.cedar_model.specs.Refusals.{IsContext}
 
 -- values for unknowns, by name
 abbrev pub Mapping : Type 0
@@ -96,6 +97,7 @@ all_residuals rows = map carried (rows_by permit rows ++ rows_by forbid rows)
 -- ---- steps
 
 pub record Response : Type 0 where
+  pub mode : ErrorHandling
   pub request : RequestPart
   pub rows : List Row
   pub errors : List (Text × Failure)
@@ -126,14 +128,21 @@ with_context r c =
       context_part = c;
     }
 
-module _ (s : Setting) (calls : StoredCalls) (limit : ℕ) (m : Mapping) (store : Store) (old : Response) where
+unfoldable pub is_same_mode : ErrorHandling → ErrorHandling → Bool
+is_same_mode skip skip = true
+is_same_mode skip forbid_on_error = false
+is_same_mode forbid_on_error skip = false
+is_same_mode forbid_on_error forbid_on_error = true
+
+module _ (mode : ErrorHandling) (s : Setting) (calls : StoredCalls) (limit : ℕ) (m : Mapping) (store : Store)
+    (old : Response) where
   -- the rows before, carried on as policies, run under the new request with the map
   abbrev pub AfterContext : RequestPart → Result ContextPart Refusal → Result Response Refusal → Type 0
   AfterContext r (Err e) x = x ≡ Err e
   AfterContext r (Ok c) x =
       (rows : List Row) × (errors : List (Text × Failure))
-      × RunOf (at_step s (with_context r c) store m) calls limit (all_residuals old.rows) rows errors
-      × (x ≡ Ok record { request = with_context r c; rows = rows; errors = errors })
+      × RunOf mode (at_step s (with_context r c) store m) calls limit (all_residuals old.rows) rows errors
+      × (x ≡ Ok record { mode = mode; request = with_context r c; rows = rows; errors = errors })
 
   abbrev pub AfterRequest : Result RequestPart Refusal → Result Response Refusal → Type 0
   AfterRequest (Err e) x = x ≡ Err e
@@ -145,10 +154,14 @@ module _ (s : Setting) (calls : StoredCalls) (limit : ℕ) (m : Mapping) (store 
   AfterIds (Some id) x = x ≡ Err (id_comes_again id)
   AfterIds None x = AfterRequest (concrete_request m old.request) x
 
-  -- a step answers a response or a refusal: no id stands twice, the map makes the request concrete, then the context
-  -- is substituted, then the policies run
+  abbrev pub AfterMode : Bool → Result Response Refusal → Type 0
+  AfterMode true x = AfterIds (first_repeated (map (λ p. p.id) (all_residuals old.rows))) x
+  AfterMode false x = x ≡ Err (mode_is_other old.mode mode)
+
+  -- a step answers a response or a refusal: the mode is the response's, no id stands twice, the map makes the request
+  -- concrete, then the context is substituted, then the policies run
   abbrev pub Steps : Result Response Refusal → Type 0
-  Steps x = AfterIds (first_repeated (map (λ p. p.id) (all_residuals old.rows))) x
+  Steps x = AfterMode (is_same_mode mode old.mode) x
 
   -- it succeeds with this response
   abbrev pub StepsTo : Response → Type 0
@@ -157,10 +170,11 @@ module _ (s : Setting) (calls : StoredCalls) (limit : ℕ) (m : Mapping) (store 
 -- ---- chains
 
 -- the first response, from a request without a map
-pub record Begins (s : Setting) (calls : StoredCalls) (limit : ℕ) (policies : List Policy)
+pub record Begins (mode : ErrorHandling) (s : Setting) (calls : StoredCalls) (limit : ℕ) (policies : List Policy)
     (first : Response) : Type 0 where
+  pub mode_is : first.mode ≡ mode
   pub request_is : first.request ≡ s.request
-  pub runs : RunOf (without_map s) calls limit policies first.rows first.errors
+  pub runs : RunOf mode (without_map s) calls limit policies first.rows first.errors
 
 unfoldable pub is_limit : FailureKind → Bool
 is_limit (of_meaning k) = false
@@ -175,13 +189,15 @@ has_limit (e ∷ es) = is_limit (failure_kind e.1) || has_limit es
 
 -- steps taken one after another from a response answer the response of the last one, or the first whose errors hold
 -- the recursion limit, or the first refusal
-abbrev pub ChainAnswers : Setting → StoredCalls → ℕ → Response → List (Mapping × Store) → Result Response Refusal
+abbrev pub ChainAnswers : ErrorHandling → Setting → StoredCalls → ℕ → Response → List (Mapping × Store)
+    → Result Response Refusal
     → Type 0
-ChainAnswers s calls limit r [] x = x ≡ Ok r
-ChainAnswers s calls limit r (step ∷ steps) x =
-    MatchBool (has_limit r.errors) (x ≡ Ok r) ((y : Result Response Refusal) × Steps s calls limit step.0 step.1 r y
-    × MatchResult y (λ next. ChainAnswers s calls limit next steps x) (λ e. x ≡ Err e))
+ChainAnswers mode s calls limit r [] x = x ≡ Ok r
+ChainAnswers mode s calls limit r (step ∷ steps) x =
+    MatchBool (has_limit r.errors) (x ≡ Ok r) ((y : Result Response Refusal)
+    × Steps mode s calls limit step.0 step.1 r y
+    × MatchResult y (λ next. ChainAnswers mode s calls limit next steps x) (λ e. x ≡ Err e))
 
 -- a chain from a response that succeeds with this one
-abbrev pub ChainOf : Setting → StoredCalls → ℕ → Response → List (Mapping × Store) → Response → Type 0
-ChainOf s calls limit r steps last = ChainAnswers s calls limit r steps (Ok last)
+abbrev pub ChainOf : ErrorHandling → Setting → StoredCalls → ℕ → Response → List (Mapping × Store) → Response → Type 0
+ChainOf mode s calls limit r steps last = ChainAnswers mode s calls limit r steps (Ok last)

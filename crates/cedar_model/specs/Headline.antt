@@ -8,7 +8,7 @@ use Rattle.cedar_model.specs.Rules.{StoredCalls}
 use Rattle.cedar_model.specs.Agreement.{AgreesWithFunctions, AgreesWithRequest, AgreesWithStore, AgreesWithMap}
 use Rattle.cedar_model.specs.Agreement.{IsFaithful, IsFaithfulPart, IsFaithfulContext, FitsPart, FitsContext}
 use Rattle.cedar_model.specs.Agreement.{EachStored, AnswerFaithfully}
-use Rattle.cedar_model.specs.Policies.{Policy}
+use Rattle.cedar_model.specs.Policies.{Policy, ErrorHandling}
 use Rattle.cedar_model.specs.Responses.{Stand, FitPolicies, AreConditions}
 use Rattle.cedar_model.specs.Chains.{Mapping, Response, Begins, ChainOf}
 use Rattle.cedar_model.specs.Authorizations.{HaveNoLimit}
@@ -33,7 +33,8 @@ CompletesSteps ans w s (step ∷ steps) =
 
 -- the premises, of a chain from the request and the store of `s` and the policies `ps` by the steps to the last
 -- response
-pub record CompletesChain (calls : StoredCalls) (ans : Functions) (w : World) (s : Setting) (limit : ℕ)
+pub record CompletesChain (mode : ErrorHandling) (calls : StoredCalls) (ans : Functions) (w : World) (s : Setting)
+    (limit : ℕ)
     (ps : List Policy) (steps : List (Mapping × Store)) (last : Response) : Type 0 where
   -- the world agrees with the first request, each store and each map, and fits each condition, the context and each
   -- stored residual
@@ -44,8 +45,8 @@ pub record CompletesChain (calls : StoredCalls) (ans : Functions) (w : World) (s
   pub conditions_fit : FitPolicies ans w ps
   -- every call of the chain answered, from the same extensions
   pub first : Response
-  pub first_is_answered : Begins s calls limit ps first
-  pub steps_are_answered : ChainOf s calls limit first steps last
+  pub first_is_answered : Begins mode s calls limit ps first
+  pub steps_are_answered : ChainOf mode s calls limit first steps last
   -- stored functions are functional: each answers what `ans` says
   pub functions_are_functional : AgreesWithFunctions ans calls
   -- faithful values: those of the stores and the maps beside them, those of the context, and what functions answer to
@@ -59,11 +60,13 @@ pub record CompletesChain (calls : StoredCalls) (ans : Functions) (w : World) (s
 
 -- what the last response reports stands; so a given decision is the completion's, and the policies that determine it
 -- lie between the two bounds
-pub record Headline (ans : Functions) (w : World) (s : Setting) (ps : List Policy) (last : Response) : Type 0 where
-  pub stands : Stand s.extensions ans w ps last.rows
-  pub holds : ReportsHold s.extensions ans w ps last.rows
+pub record Headline (mode : ErrorHandling) (ans : Functions) (w : World) (s : Setting) (ps : List Policy)
+    (last : Response) : Type 0 where
+  pub stands : Stand mode s.extensions ans w ps last.rows
+  pub holds : ReportsHold mode s.extensions ans w ps last.rows
 
 abbrev pub ChainsStand : StoredCalls → Type 0
 ChainsStand calls =
-    (ans : Functions) (w : World) (s : Setting) (limit : ℕ) (ps : List Policy) (steps : List (Mapping × Store))
-    (last : Response) → CompletesChain calls ans w s limit ps steps last → Headline ans w s ps last
+    (mode : ErrorHandling) (ans : Functions) (w : World) (s : Setting) (limit : ℕ) (ps : List Policy)
+    (steps : List (Mapping × Store)) (last : Response) → CompletesChain mode calls ans w s limit ps steps last
+    → Headline mode ans w s ps last

@@ -79,3 +79,26 @@ reasons ps = cond (some_satisfied forbid ps) (satisfied_ids forbid ps) (satisfie
 -- of policies in a world
 abbrev pub judge_each : Extensions → Functions → World → List Policy → List Judged
 judge_each X ans w ps = map (judged X ans w) ps
+
+-- ---- modes
+
+-- how the errors of policies are handled: an erring policy is skipped, or an erring forbid counts as a satisfied one
+pub data ErrorHandling : Type 0 where
+  skip : ErrorHandling
+  forbid_on_error : ErrorHandling
+
+unfoldable pub counted_verdict : ErrorHandling → Effect → Verdict → Verdict
+counted_verdict skip effect v = v
+counted_verdict forbid_on_error permit v = v
+counted_verdict forbid_on_error forbid satisfied = satisfied
+counted_verdict forbid_on_error forbid unsatisfied = unsatisfied
+counted_verdict forbid_on_error forbid erring = satisfied
+
+-- the policy with the verdict that counts
+abbrev pub counted : ErrorHandling → Judged → Judged
+counted mode p =
+    record { id = p.id; effect = p.effect; verdict_of = counted_verdict mode p.effect p.verdict_of }
+
+-- of policies in a world and a mode
+abbrev pub counted_each : ErrorHandling → Extensions → Functions → World → List Policy → List Judged
+counted_each mode X ans w ps = map (counted mode) (judge_each X ans w ps)

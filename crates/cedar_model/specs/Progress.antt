@@ -10,11 +10,11 @@ use Rattle.cedar_model.specs.Settings.{Entry, known_entry, unknown_entry, Contex
 use Rattle.cedar_model.specs.Settings.{residual_context, Store, Setting}
 use Rattle.cedar_model.specs.Rules.{StoredCalls}
 use Rattle.cedar_model.specs.Agreement.{NeverAsks, IsKnown, AgreesWithFunctions, EachStored, IsValue}
-use Rattle.cedar_model.specs.Policies.{Policy, decision, reasons, judge_each}
+use Rattle.cedar_model.specs.Policies.{Policy, decision, reasons, ErrorHandling, counted_each}
 use Rattle.cedar_model.specs.Responses.{Reported, reported_true, reported_false, reported_residual, Row, Stand}
 use Rattle.cedar_model.specs.Chains.{Mapping, Response, StepsTo}
 use Rattle.cedar_model.specs.Outcomes.{has_text}
-use Rattle.cedar_model.specs.Reports.{ids, must_determine, concrete_decision, HaveNoResidual}
+use Rattle.cedar_model.specs.Reports.{ids, concrete_reasons, concrete_decision, HaveNoResidual}
 
 module _ (ans : Functions) (m : Mapping) where
   -- the map names each unknown of the expression, and no function that is called in it can answer one
@@ -81,11 +81,11 @@ module _ (ans : Functions) (m : Mapping) where
 abbrev pub StepsFinish : StoredCalls → Type 0
 StepsFinish calls =
     (ans : Functions) → AgreesWithFunctions ans calls
-    → (s : Setting) (limit : ℕ) (m : Mapping) (store : Store) (old new : Response)
+    → (mode : ErrorHandling) (s : Setting) (limit : ℕ) (m : Mapping) (store : Store) (old new : Response)
     → store.is_partial ≡ false → EachStored IsValue store → NamesAll ans m old
-    → StepsTo s calls limit m store old new
+    → StepsTo mode s calls limit m store old new
     → HaveNoResidual new.rows
-    × ((w : World) (ps : List Policy) → Stand s.extensions ans w ps new.rows
-    → (concrete_decision new.rows ≡ decision (judge_each s.extensions ans w ps))
-    × ((t : Text) → has_text t (ids (must_determine new.rows))
-    ≡ has_text t (reasons (judge_each s.extensions ans w ps))))
+    × ((w : World) (ps : List Policy) → Stand mode s.extensions ans w ps new.rows
+    → (concrete_decision mode new.rows ≡ decision (counted_each mode s.extensions ans w ps))
+    × ((t : Text) → has_text t (ids (concrete_reasons mode new.rows))
+    ≡ has_text t (reasons (counted_each mode s.extensions ans w ps))))

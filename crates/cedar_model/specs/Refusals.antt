@@ -7,14 +7,16 @@ use Rattle.cedar_model.specs.Terms.{set_of, record_of}
 use Rattle.cedar_model.specs.Values.{Represented, plain_represented, set_represented, record_represented}
 use Rattle.cedar_model.specs.Values.{extension_represented, RepresentedFields, abstract_value}
 use Rattle.cedar_model.specs.Outcomes.{entity_of, text_eq}
+use Rattle.cedar_model.specs.Policies.{ErrorHandling}
 use Rattle.cedar_model.specs.Failures.{Failure, PartialValue, value, residual, Answer, answers, fails}
 use Rattle.cedar_model.specs.Settings.{Entry, known_entry, unknown_entry, ContextPart, absent_context, known_context}
 use Rattle.cedar_model.specs.Settings.{residual_context, RequestPart, entry_part, context_value}
 
--- an id that comes again; a value where an entity or a record is expected, with the name that is mapped to it; what
--- is there already, beside the value; the type of an unknown entry, beside an entity of another; or the error of the
--- context with the map's values in it
+-- another mode, of the response and of the step; an id that comes again; a value where an entity or a record is
+-- expected, with the name that is mapped to it; what is there already, beside the value; the type of an unknown
+-- entry, beside an entity of another; or the error of the context with the map's values in it
 pub data Refusal : Type 0 where
+  mode_is_other : ErrorHandling → ErrorHandling → Refusal
   id_comes_again : Text → Refusal
   value_is_wrong : Text → Text → Represented → Refusal
   is_there_already : Text → PartialValue → Represented → Refusal

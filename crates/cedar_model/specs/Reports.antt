@@ -8,6 +8,7 @@ use Rattle.cedar_model.specs.Outcomes.{text_eq, has_text}
 use Rattle.cedar_model.specs.Failures.{Failure, residual_is_left}
 use Rattle.cedar_model.specs.Policies.{Effect, permit, forbid, Policy, Verdict, satisfied, unsatisfied, erring}
 use Rattle.cedar_model.specs.Policies.{Judged, Decision, allow, deny}
+use Rattle.cedar_model.specs.Policies.{ErrorHandling, skip, forbid_on_error}
 use Rattle.cedar_model.specs.Responses.{Reported, reported_true, reported_false, reported_residual, Row, clause_of}
 use Rattle.cedar_model.specs.Responses.{carried}
 use Rattle.cedar_model.specs.Chains.{is_true, is_false, is_residual, rows_of}
@@ -54,10 +55,20 @@ may_determine rows =
 
 -- ---- made concrete
 
--- Allow where a permit is true and no forbid is
-abbrev pub concrete_decision : List Row → Decision
-concrete_decision rows =
-    cond (some_row (trues permit rows) && not (some_row (trues forbid rows))) allow deny
+-- Allow where a permit is true and no forbid is; where erring forbids count, and no forbid is residual either
+abbrev pub concrete_decision : ErrorHandling → List Row → Decision
+concrete_decision skip rows = cond (some_row (trues permit rows) && not (some_row (trues forbid rows))) allow deny
+concrete_decision forbid_on_error rows =
+    cond (some_row (trues permit rows) && not (some_row (trues forbid rows) || some_row (residuals forbid rows)))
+    allow deny
+
+-- those that must determine the decision; where erring forbids count, the true and the residual forbids or, with none,
+-- the true permits
+abbrev pub concrete_reasons : ErrorHandling → List Row → List Row
+concrete_reasons skip rows = must_determine rows
+concrete_reasons forbid_on_error rows =
+    cond (some_row (trues forbid rows) || some_row (residuals forbid rows))
+    (trues forbid rows ++ residuals forbid rows) (trues permit rows)
 
 -- that its residual is left
 abbrev pub residual_error : Row → (Text × Failure)
@@ -68,11 +79,11 @@ abbrev pub concrete_errors : List Row → List (Text × Failure) → List (Text 
 concrete_errors rows errors =
     map residual_error (residuals forbid rows) ++ (map residual_error (residuals permit rows) ++ errors)
 
--- the decision, the ids that must determine it as reasons, and these errors
-abbrev pub concretized : List Row → List (Text × Failure) → Authorized
-concretized rows errors = record {
-  decided_as = concrete_decision rows;
-  is_reason = λ t. has_text t (ids (must_determine rows));
+-- the decision, the ids of the reasons, and these errors
+abbrev pub concretized : ErrorHandling → List Row → List (Text × Failure) → Authorized
+concretized mode rows errors = record {
+  decided_as = concrete_decision mode rows;
+  is_reason = λ t. has_text t (ids (concrete_reasons mode rows));
   errors = concrete_errors rows errors;
 }
 

@@ -6,7 +6,7 @@ use Rattle.cedar_model.specs.Failures.{Failure}
 use Rattle.cedar_model.specs.Settings.{Setting, Store}
 use Rattle.cedar_model.specs.Rules.{StoredCalls}
 use Rattle.cedar_model.specs.Agreement.{AgreesWithFunctions, IsCompletion, AnswerFaithfully}
-use Rattle.cedar_model.specs.Policies.{Policy}
+use Rattle.cedar_model.specs.Policies.{Policy, ErrorHandling}
 use Rattle.cedar_model.specs.Responses.{Row, Stand, RunOf, FitPolicies, AreConditions}
 use Rattle.cedar_model.specs.Chains.{Mapping, Response, at_step, StepsTo}
 use Rattle.cedar_model.specs.Authorizations.{HaveNoLimit}
@@ -14,26 +14,26 @@ use Rattle.cedar_model.specs.Authorizations.{HaveNoLimit}
 -- in every completion that fits the conditions a run stands, if none of its errors is the recursion limit
 abbrev pub RunsStand : StoredCalls → Type 0
 RunsStand calls =
-    (ans : Functions) → AgreesWithFunctions ans calls → (w : World) (s : Setting)
+    (mode : ErrorHandling) (ans : Functions) → AgreesWithFunctions ans calls → (w : World) (s : Setting)
     → IsCompletion ans w s → AnswerFaithfully s.extensions ans calls
     → (limit : ℕ) (ps : List Policy) (rows : List Row) (errors : List (Text × Failure)) → FitPolicies ans w ps
-    → HaveNoLimit errors → RunOf s calls limit ps rows errors → Stand s.extensions ans w ps rows
+    → HaveNoLimit errors → RunOf mode s calls limit ps rows errors → Stand mode s.extensions ans w ps rows
 
 -- a step keeps completions: a world that completes the request before it, with the map and the store, completes the
 -- request after it
 abbrev pub StepsKeepCompletions : StoredCalls → Type 0
 StepsKeepCompletions calls =
-    (ans : Functions) → AgreesWithFunctions ans calls
+    (mode : ErrorHandling) (ans : Functions) → AgreesWithFunctions ans calls
     → (w : World) (s : Setting) (limit : ℕ) (m : Mapping) (store : Store) (old new : Response)
     → IsCompletion ans w (at_step s old.request store m) → AnswerFaithfully s.extensions ans calls
-    → StepsTo s calls limit m store old new → IsCompletion ans w (at_step s new.request store m)
+    → StepsTo mode s calls limit m store old new → IsCompletion ans w (at_step s new.request store m)
 
 -- a step keeps what stands, in every world that agrees with the request before it, the map and the store, if none of
 -- its errors is the recursion limit
 abbrev pub StepsKeepWhatStands : StoredCalls → Type 0
 StepsKeepWhatStands calls =
-    (ans : Functions) → AgreesWithFunctions ans calls
+    (mode : ErrorHandling) (ans : Functions) → AgreesWithFunctions ans calls
     → (w : World) (s : Setting) (limit : ℕ) (m : Mapping) (store : Store) (old new : Response)
     → IsCompletion ans w (at_step s old.request store m) → AnswerFaithfully s.extensions ans calls
-    → (ps : List Policy) → AreConditions ps → Stand s.extensions ans w ps old.rows → HaveNoLimit new.errors
-    → StepsTo s calls limit m store old new → Stand s.extensions ans w ps new.rows
+    → (ps : List Policy) → AreConditions ps → Stand mode s.extensions ans w ps old.rows → HaveNoLimit new.errors
+    → StepsTo mode s calls limit m store old new → Stand mode s.extensions ans w ps new.rows

@@ -10,7 +10,8 @@ use Rattle.cedar_model.specs.Failures.{Failure, out_of_memory, value, residual, 
 use Rattle.cedar_model.specs.Settings.{Setting}
 use Rattle.cedar_model.specs.Rules.{StoredCalls, Runs}
 use Rattle.cedar_model.specs.Agreement.{Fits, HaveSameOutcome, no_slots}
-use Rattle.cedar_model.specs.Policies.{Effect, Policy, satisfied, erring, verdict}
+use Rattle.cedar_model.specs.Policies.{Effect, permit, forbid, Policy, satisfied, erring, verdict}
+use Rattle.cedar_model.specs.Policies.{ErrorHandling, skip, forbid_on_error, counted_verdict}
 use Rattle.cedar_model.specs.Reordering.{IsReordering}
 
 -- what a response reports of a policy: true; false, perhaps for an error; or the residual of its condition
@@ -27,25 +28,29 @@ pub record Row : Type 0 where
 
 -- ---- what stands
 
--- a true policy is satisfied; a false one isn't, and with an error it errs; a residual fits the world and has,
--- without slots, the outcome of the condition
-abbrev pub StandsAs : Extensions → Functions → World → Policy → Reported → Type 0
-StandsAs X ans w p reported_true = verdict (meaning X ans w p.slots p.condition) ≡ satisfied
-StandsAs X ans w p (reported_false true) = verdict (meaning X ans w p.slots p.condition) ≡ erring
-StandsAs X ans w p (reported_false false) = verdict (meaning X ans w p.slots p.condition) ≢ satisfied
-StandsAs X ans w p (reported_residual t) =
+-- a true policy is satisfied; a false one isn't, and with an error it errs; where an erring forbid counts, a true
+-- forbid is satisfied or errs, and a false one is unsatisfied. A residual fits the world and has, without slots, the
+-- outcome of the condition
+abbrev pub StandsAs : ErrorHandling → Extensions → Functions → World → Policy → Reported → Type 0
+StandsAs mode X ans w p reported_true =
+    counted_verdict mode p.effect (verdict (meaning X ans w p.slots p.condition)) ≡ satisfied
+StandsAs mode X ans w p (reported_false true) =
+    counted_verdict mode p.effect (verdict (meaning X ans w p.slots p.condition)) ≡ erring
+StandsAs mode X ans w p (reported_false false) =
+    counted_verdict mode p.effect (verdict (meaning X ans w p.slots p.condition)) ≢ satisfied
+StandsAs mode X ans w p (reported_residual t) =
     Fits ans w t × HaveSameOutcome (meaning X ans w no_slots t) (meaning X ans w p.slots p.condition)
 
-abbrev pub StandInOrder : Extensions → Functions → World → List Policy → List Row → Type 0
-StandInOrder X ans w [] [] = Unit {0}
-StandInOrder X ans w [] (r ∷ rs) = ⊥
-StandInOrder X ans w (p ∷ ps) [] = ⊥
-StandInOrder X ans w (p ∷ ps) (r ∷ rs) =
-    (r.id ≡ p.id) × (r.effect ≡ p.effect) × StandsAs X ans w p r.reported × StandInOrder X ans w ps rs
+abbrev pub StandInOrder : ErrorHandling → Extensions → Functions → World → List Policy → List Row → Type 0
+StandInOrder mode X ans w [] [] = Unit {0}
+StandInOrder mode X ans w [] (r ∷ rs) = ⊥
+StandInOrder mode X ans w (p ∷ ps) [] = ⊥
+StandInOrder mode X ans w (p ∷ ps) (r ∷ rs) =
+    (r.id ≡ p.id) × (r.effect ≡ p.effect) × StandsAs mode X ans w p r.reported × StandInOrder mode X ans w ps rs
 
 -- the rows of a response are the policies, each once, in whatever order, and each stands
-abbrev pub Stand : Extensions → Functions → World → List Policy → List Row → Type 0
-Stand X ans w ps rows = (ordered : List Row) × IsReordering Row ordered rows × StandInOrder X ans w ps ordered
+abbrev pub Stand : ErrorHandling → Extensions → Functions → World → List Policy → List Row → Type 0
+Stand mode X ans w ps rows = (ordered : List Row) × IsReordering Row ordered rows × StandInOrder mode X ans w ps ordered
 
 -- ---- what a response follows from
 
@@ -59,6 +64,15 @@ unfoldable pub reported_of : Answer → Reported
 reported_of (answers (value v)) = reported_bool (bool_of (abstract_value v))
 reported_of (answers (residual t)) = reported_residual t
 reported_of (fails e) = reported_false true
+
+-- where an erring forbid counts, it is reported true
+unfoldable pub counted_report : ErrorHandling → Effect → Reported → Reported
+counted_report skip effect o = o
+counted_report forbid_on_error permit o = o
+counted_report forbid_on_error forbid reported_true = reported_true
+counted_report forbid_on_error forbid (reported_false true) = reported_true
+counted_report forbid_on_error forbid (reported_false false) = reported_false false
+counted_report forbid_on_error forbid (reported_residual t) = reported_residual t
 
 unfoldable pub bool_error : Option Bool → Represented → Option Failure
 bool_error (Some b) v = None
@@ -77,16 +91,24 @@ unfoldable pub with_error : Text → Option Failure → List (Text × Failure) �
 with_error id None errors = errors
 with_error id (Some e) errors = (id, e) ∷ errors
 
+-- the row of a policy whose condition answers so
+abbrev pub row_of : ErrorHandling → Policy → Answer → Row
+row_of mode p a = record {
+  id = p.id;
+  effect = p.effect;
+  annotations = p.annotations;
+  reported = counted_report mode p.effect (reported_of a);
+}
+
 -- each policy in order is reported by an answer of its condition within the limit, and its error, if any, is recorded
 -- in that order; a condition whose need is above the limit errs with the recursion limit. No answer is want of
 -- memory, which ends a run
-abbrev pub RunOf : Setting → StoredCalls → ℕ → List Policy → List Row → List (Text × Failure) → Type 0
-RunOf s calls limit [] rows errors = (rows ≡ []) × (errors ≡ [])
-RunOf s calls limit (p ∷ ps) rows errors =
+abbrev pub RunOf : ErrorHandling → Setting → StoredCalls → ℕ → List Policy → List Row → List (Text × Failure) → Type 0
+RunOf mode s calls limit [] rows errors = (rows ≡ []) × (errors ≡ [])
+RunOf mode s calls limit (p ∷ ps) rows errors =
     (a : Answer) × (rest : List Row) × (later : List (Text × Failure))
     × Runs (with_slots s p.slots) calls limit p.condition a × (a ≢ fails out_of_memory)
-    × RunOf s calls limit ps rest later × (rows
-    ≡ record { id = p.id; effect = p.effect; annotations = p.annotations; reported = reported_of a } ∷ rest)
+    × RunOf mode s calls limit ps rest later × (rows ≡ row_of mode p a ∷ rest)
     × (errors ≡ with_error p.id (error_of a) later)
 
 -- ---- what a response carries on

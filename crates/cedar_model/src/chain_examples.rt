@@ -1,5 +1,6 @@
 //! Worked examples: what responses say, which steps are refused, and chains. Each function is a set of examples, and
 //! does nothing.
+ghost use Rattle.cedar_model.specs.ChainExamples.{OtherModeIsRefused, ErringForbid};
 ghost use Rattle.cedar_model.specs.ChainExamples.{ForbidDecides, AllAreCarried, CarriedByReport, ForbidErrorsFirst};
 ghost use Rattle.cedar_model.specs.ChainExamples.{OtherReaders, GetFindsThePermit, ResidualForbidHolds};
 ghost use Rattle.cedar_model.specs.ChainExamples.{ResidualPermitMay, EarlyDeny, KnownEntryIsRefused};
@@ -34,6 +35,7 @@ pub fn maps_make_requests()
 
 /// Examples: steps that are refused, and the request that a context is read under.
 pub fn steps_answer()
+    ensures other_mode { OtherModeIsRefused }
     ensures repeated_id { RepeatedIdIsRefused }
     ensures context_error { ContextErrorIsRefused }
     ensures context_limit { ContextLimitIsRefused }
@@ -46,4 +48,5 @@ pub fn chains_answer()
     ensures completed { TwoStepsAreCompleted }
     ensures ends_at_limit { EndsAtTheLimit }
     ensures ends_at_refusal { RefusalEndsAChain }
+    ensures erring_forbid { ErringForbid }
 {}

@@ -1,7 +1,7 @@
 use Rattle.std.specs.Prelude.{[], ◌∷◌, Err, codes}
 use Rattle.std.proofs.Common.{refl}
 use Rattle.cedar_model.specs.Chains.{without_map}
-use Rattle.cedar_model.specs.Policies.{permit}
+use Rattle.cedar_model.specs.Policies.{permit, skip, forbid_on_error}
 use Rattle.cedar_model.specs.Responses.{truth}
 use Rattle.cedar_model.specs.ChainExamples
 use Rattle.cedar_model.proofs.Exemplified.{chain_opened, finds_none, is_memory, run_to}
@@ -38,8 +38,9 @@ pub returns-clause-ends_at_limit : goal.returns-clause-ends_at_limit
 unfolding chain_opened finds_none is_memory
 returns-clause-ends_at_limit c = (
   record {
+    mode_is = refl;
     request_is = refl;
-    runs = run_to (without_map (ChainExamples.setting_of ChainExamples.known_request)) 0
+    runs = run_to skip (without_map (ChainExamples.setting_of ChainExamples.known_request)) 0
         (ChainExamples.policy (codes "1") permit truth ∷ []) (refl, tt);
   },
   refl,
@@ -48,3 +49,12 @@ returns-clause-ends_at_limit c = (
 pub returns-clause-ends_at_refusal : goal.returns-clause-ends_at_refusal
 unfolding chain_opened
 returns-clause-ends_at_refusal c = (Err _, refl, refl)
+
+pub returns-clause-erring_forbid : goal.returns-clause-erring_forbid
+unfolding chain_opened finds_none is_memory
+returns-clause-erring_forbid c = (
+  _,
+  run_to skip (ChainExamples.setting_of ChainExamples.known_request) 9 ChainExamples.erring_policies (refl, (refl, tt)),
+  run_to forbid_on_error (ChainExamples.setting_of ChainExamples.known_request) 9 ChainExamples.erring_policies
+      (refl, (refl, tt)),
+)

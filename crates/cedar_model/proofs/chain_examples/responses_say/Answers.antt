@@ -28,7 +28,7 @@ returns-clause-get_finds_the_permit c = (refl, refl)
 
 pub returns-clause-residual_forbid_holds : goal.returns-clause-residual_forbid_holds
 unfolding chain_opened
-returns-clause-residual_forbid_holds c = (refl, refl, refl, refl)
+returns-clause-residual_forbid_holds c = (refl, refl, refl, refl, refl, refl, refl)
 
 pub returns-clause-residual_permit_may : goal.returns-clause-residual_permit_may
 unfolding chain_opened

@@ -11,6 +11,10 @@ pub returns-clause-repeated_id : goal.returns-clause-repeated_id
 unfolding chain_opened
 returns-clause-repeated_id c = refl
 
+pub returns-clause-other_mode : goal.returns-clause-other_mode
+unfolding chain_opened
+returns-clause-other_mode c = refl
+
 pub returns-clause-context_error : goal.returns-clause-context_error
 unfolding chain_opened
 returns-clause-context_error c = (

@@ -7,9 +7,9 @@ use Rattle.cedar_model.proofs.responses.steps_keep_what_stands.Goals as goal
 
 pub returns : goal.returns
 returns g c =
-    λ ans agree w s limit m store old new done faithful ps conditions stand none step.
-    let t = taken s _ limit m store old new step in
-    let d = step_completes ans _ agree w s limit m store old new done faithful step in
-    step_stands ans _ agree w (at_step s new.request store m) d faithful limit ps old.rows new.rows new.errors
-    conditions stand (run_recordable (at_step s new.request store m) _ limit
-    (all_residuals old.rows) new.rows new.errors none t.runs) t.runs
+    λ mode ans agree w s limit m store old new done faithful ps conditions stand none step.
+    let t = taken mode s _ limit m store old new step in
+    let d = step_completes mode ans _ agree w s limit m store old new done faithful step in
+    let z = at_step s new.request store m in
+    let r = run_recordable mode z _ limit (all_residuals old.rows) new.rows new.errors none t.runs in
+    step_stands mode ans _ agree w z d faithful limit ps old.rows new.rows new.errors conditions stand r t.runs

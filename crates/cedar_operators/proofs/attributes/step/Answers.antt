@@ -5,4 +5,4 @@ use Rattle.cedar_operators.proofs.attributes.step.Goals as goal
 
 pub returns-in-Record-clause-ok : goal.returns-in-Record-clause-ok
 returns-in-Record-clause-ok c =
-    λ l ls. step_at_key _ _ _ _ _ l ls (sym (ap kind_what c.in-Record.is) ∙ c.value_kind.ensures) (at_key _ _ _ (rw c.deref-in-Record.ensures at c.get.ensures.value))
+    λ l ls. step_at_key _ _ _ _ _ l ls (sym (ap kind_what c.in-Record.is) ∙ c.value_kind.ensures.what) (at_key _ _ _ (rw c.deref-in-Record.ensures at c.get.ensures.value))

@@ -7,7 +7,7 @@ use Rattle.cedar_operators.proofs.store.in_set.Goals.{then-is_found, else-is_fou
 use Rattle.cedar_operators.proofs.store.in_set.Goals as goal
 
 pub elements-init : goal.elements-init
-elements-init c = rw c.as_slice-element-items.ensures refl
+elements-init c = rw c.as_slice-element-items.ensures.all refl
 
 pub elements-preserved : goal.elements-preserved
 elements-preserved c =
