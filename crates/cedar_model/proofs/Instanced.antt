@@ -2,7 +2,7 @@
 use Rattle.std.specs.Prelude.{◌≡◌, ◌≢◌, ℕ, pos, ◌≤◌, Bool, true, false, cond, List, [], ◌∷◌, map, length, Option, Some, None, Ok, codes}
 use Rattle.std.proofs.Common.{refl, subst, sym, ap, ◌∙◌, arith}
 use Rattle.std.proofs.lemmas.Slice.Eq.{bytes_eq-Decides}
-use Rattle.cedar_model.specs.Terms.{Text, EntityName, entity_literal, Term, unknown, Fields, bool_literal, long_literal, long_type}
+use Rattle.cedar_model.specs.Terms.{Text, EntityName, entity_literal, Term, unknown, record_of, Fields, bool_literal, long_literal, long_type}
 use Rattle.cedar_model.specs.Values.{AbstractValue, plain, Represented, expression_of, abstract_value, plain_represented}
 use Rattle.cedar_model.specs.Shapes.{have_unknown_at}
 use Rattle.cedar_model.specs.Outcomes.{text_eq, entity_eq, function_failed}
@@ -237,6 +237,31 @@ loop_needs_more = (
   },
   refl,
   computed_with Instances.looped some_calls some_answer 9 Instances.follows_loop limit refl,
+)
+
+abbrev nesting_answer : FunctionsAnswer Instances.nesting_calls some_extensions.arity
+nesting_answer f vs e = (answers (value Instances.nested_set), refl)
+
+nested_only : (f : Text) (vs : List Represented) (p : PartialValue) → Instances.nesting_calls f vs (answers p) → value Instances.nested_set ≡ p
+nested_only f vs p e = cc
+
+pub context_grows : Instances.ContextGrows
+unfolding opened substituted value_for
+context_grows = (
+  record {
+    context_sound = refl;
+    stored_sound = λ e x k p g. absurd (none_is x g);
+    mapped_sound = λ n v e. absurd (none_is v e);
+    answers_sound = λ f vs p e. subst IsSoundPart (nested_only f vs p e) ((tt, tt), (((tt, tt), (tt, tt)), tt));
+  },
+  record {
+    context_low = omega arith;
+    stored_low = λ e x k p g. absurd (none_is x g);
+    mapped_low = λ n v e. absurd (none_is v e);
+    answers_low = λ f vs p e. subst (λ q. substituted_height (λ n. None) q ≤ 3) (nested_only f vs p e) (omega arith);
+  },
+  (λ e. cc, 4, computed_with Instances.calling Instances.nesting_calls nesting_answer 4 (record_of Instances.calling_context) (answers (residual (record_of Instances.grown_context))) refl),
+  refl,
 )
 
 -- ---- disallowed parts

@@ -1,7 +1,7 @@
 -- Instances of the laws' premises: worlds that complete what is unknown, functions that answer, and what is no higher than a bound.
 use Rattle.std.specs.Prelude.{◌≡◌, ℕ, pos, Bool, true, false, cond, List, [], ◌∷◌, Option, Some, None, codes}
-use Rattle.cedar_model.specs.Terms.{Text, EntityName, bool_literal, long_literal, entity_literal, bool_type, long_type, context, Term, variable, unknown, if_then_else, both, get_attribute, set_of, record_of, terms_of, fields_of}
-use Rattle.cedar_model.specs.Values.{AbstractValue, plain, no_values_at, one_value_at, Represented, plain_represented, set_represented, no_represented, one_represented, no_represented_at}
+use Rattle.cedar_model.specs.Terms.{Text, EntityName, bool_literal, long_literal, entity_literal, bool_type, long_type, context, Term, variable, unknown, if_then_else, both, call, get_attribute, set_of, record_of, terms_of, Fields, fields_of}
+use Rattle.cedar_model.specs.Values.{AbstractValue, plain, no_values_at, one_value_at, Represented, plain_represented, set_represented, no_represented, one_represented, no_represented_at, expression_of}
 use Rattle.cedar_model.specs.Outcomes.{function_failed, text_eq, entity_eq}
 use Rattle.cedar_model.specs.World.{Extensions, Functions, function_gives, function_errs, function_asks, World, WorldEntity}
 use Rattle.cedar_model.specs.Failures.{value, residual, Answer, answers_bool, answers_value, answers_residual, fails, function_has_failed}
@@ -11,7 +11,7 @@ use Rattle.cedar_model.specs.Agreement.{height, no_slots, IsCompletion, AgreesWi
 use Rattle.cedar_model.specs.LevelLaws.{FunctionsAnswer, FunctionsMeetNoLimit}
 use Rattle.cedar_model.specs.Restricted.{IsGivenSound, first_disallowed, disallowed, of_variable, of_and}
 use Rattle.cedar_model.specs.RestrictedLaws.{ResidualsHoldUnknowns}
-use Rattle.cedar_model.specs.Depth.{IsNoHigher}
+use Rattle.cedar_model.specs.Depth.{IsNoHigher, ContextFollows}
 use Rattle.cedar_model.specs.Printing.{read_entity}
 use Rattle.cedar_model.specs.Examples.{entity_of_type, user, long, bool, x, some_calls, some_extensions}
 
@@ -135,6 +135,25 @@ follows_loop =
 abbrev pub VariablesInContextsNeedMore : Type 0
 VariablesInContextsNeedMore =
     IsNoHigher some_calls looped looped.map 4 × (height follows_loop ≡ 5) × Exceeds looped some_calls follows_loop 9
+
+-- why a step has twice the bound: a function `even` that answers `{{1}}`, of height 3, is called in a context of height 3, `{a: even(1), b: x}`
+abbrev pub nesting_calls : StoredCalls
+nesting_calls f vs a = a ≡ answers_value nested_set
+
+abbrev pub calling_context : Fields
+calling_context =
+    fields_of ((codes "a", call (codes "even") (terms_of (long 1 ∷ []))) ∷ (codes "b", x) ∷ [])
+
+abbrev pub calling : Setting
+calling = bare (λ n. None) (residual_context calling_context)
+
+-- once it is interpreted it is `{a: {{1}}, b: x}`, of height 4
+abbrev pub grown_context : Fields
+grown_context = fields_of ((codes "a", expression_of nested_set) ∷ (codes "b", x) ∷ [])
+
+abbrev pub ContextGrows : Type 0
+ContextGrows =
+    IsGivenSound nesting_calls calling × IsNoHigher nesting_calls calling calling.map 3 × ContextFollows calling nesting_calls calling.map (residual_context calling_context) (residual_context grown_context) × (height (record_of grown_context) ≡ 4)
 
 -- ---- disallowed parts
 
