@@ -1,11 +1,16 @@
 -- With one level less an expression has the same answer, or meets the limit.
-use Rattle.std.specs.Prelude.{◌≡◌, ◌⊎◌, ℕ, zero, suc, ◌+◌, ◌-◌, ◌≤◌, Bool, true, false, List, Option, Some, None, Result, Err}
+use Rattle.std.specs.Prelude.{◌≡◌, ◌⊎◌, ℕ, zero, suc, ◌+◌, ◌-◌, ◌≤◌, Bool, true, false, List, Option, Some, None}
+use Rattle.std.specs.Prelude.{Result, Err}
 use Rattle.std.proofs.Common.{refl, ap, subst, arith, inl, inr}
-use Rattle.cedar_model.specs.Terms.{Text, BinaryOperator, Term, literal, variable, slot, unknown, if_then_else, both, either, unary, binary, call, get_attribute, has_attribute, extended_has, like, is_of_type, set_of, record_of, Terms, no_terms, one_term, Fields, no_fields, one_field}
+use Rattle.cedar_model.specs.Terms.{Text, BinaryOperator, Term, literal, variable, slot, unknown, if_then_else, both}
+use Rattle.cedar_model.specs.Terms.{either, unary, binary, call, get_attribute, has_attribute, extended_has, like}
+use Rattle.cedar_model.specs.Terms.{is_of_type, set_of, record_of, Terms, no_terms, one_term, Fields, no_fields}
+use Rattle.cedar_model.specs.Terms.{one_field}
 use Rattle.cedar_model.specs.Values.{Represented, abstract_value}
 use Rattle.cedar_model.specs.Shapes.{is_projectable}
 use Rattle.cedar_model.specs.Outcomes.{bool_of}
-use Rattle.cedar_model.specs.Failures.{Failure, failure_kind, recursion_limit, PartialValue, value, residual, Answer, answers, fails, limit}
+use Rattle.cedar_model.specs.Failures.{Failure, failure_kind, recursion_limit, PartialValue, value, residual, Answer}
+use Rattle.cedar_model.specs.Failures.{answers, fails, limit}
 use Rattle.cedar_model.specs.Settings.{Setting}
 use Rattle.cedar_model.specs.Operators.{term_at}
 use Rattle.cedar_model.specs.Rules
@@ -21,9 +26,11 @@ or_map : {A B C D : Type 0} → (A → C) → (B → D) → A ⊎ B → C ⊎ D
 or_map f g (inl a) = inl (f a)
 or_map f g (inr b) = inr (g b)
 
-module _ (s : Setting) (calls : Rules.StoredCalls) (G H : Rules.MayAnswer) (less : (t : Term) (x : Answer) → G t x → OrLimit (H t) x) where
+module _ (s : Setting) (calls : Rules.StoredCalls) (G H : Rules.MayAnswer) (less : (t : Term) (x : Answer) → G t x →
+    OrLimit (H t) x) where
   -- a part, and what follows from it
-  through : (P : Answer → Answer → Type 0) (t : Term) (x a : Answer) → P limit limit → G t x → OrLimit (P x) a → OrLimit (λ b. (y : Answer) × H t y × P y b) a
+  through : (P : Answer → Answer → Type 0) (t : Term) (x a : Answer) → P limit limit → G t x → OrLimit (P x) a →
+      OrLimit (λ b. (y : Answer) × H t y × P y b) a
   through P t x a stop g h = by (less t x g) h
     where
       by : OrLimit (H t) x → OrLimit (P x) a → OrLimit (λ b. (y : Answer) × H t y × P y b) a
@@ -31,36 +38,51 @@ module _ (s : Setting) (calls : Rules.StoredCalls) (G H : Rules.MayAnswer) (less
       by (inl k) (inr j) = inr (x, k, j)
       by (inr k) j = inr (limit, k, stop)
 
-  less_takes : (b : Option Bool) (v : Represented) (t e : Term) (a : Answer) → Rules.TakesBranch G b v t e a → OrLimit (Rules.TakesBranch H b v t e) a
+  less_takes : (b : Option Bool) (v : Represented) (t e : Term) (a : Answer) → Rules.TakesBranch G b v t e a →
+      OrLimit (Rules.TakesBranch H b v t e) a
   less_takes None v t e a r = inl r
   less_takes (Some true) v t e a r = less t a r
   less_takes (Some false) v t e a r = less e a r
 
   -- the limit is handed up by best effort
-  less_best : (b : Rules.Best) (Next Next' : Term → Answer → Type 0) (a : Answer) → ((t : Term) → Next t a → OrLimit (Next' t) a) → Rules.AfterBest b Next a → OrLimit (Rules.AfterBest b Next') a
+  less_best : (b : Rules.Best) (Next Next' : Term → Answer → Type 0) (a : Answer) → ((t : Term) → Next t a →
+      OrLimit (Next' t) a) → Rules.AfterBest b Next a → OrLimit (Rules.AfterBest b Next') a
   less_best (Rules.kept t) Next Next' a f r = f t r
   less_best (Rules.handed_up e) Next Next' a f r = inl r
 
-  less_branches : (r t e : Term) (a : Answer) → Rules.KeepsBranches G r t e a → OrLimit (Rules.KeepsBranches H r t e) a
+  less_branches : (r t e : Term) (a : Answer) → Rules.KeepsBranches G r t e a →
+      OrLimit (Rules.KeepsBranches H r t e) a
   unfolding Rules.best Rules.best_of_kind failure_kind
   less_branches r t e a (x, g, h) =
-      through (λ y. Rules.AfterBest (Rules.best y t) (λ t' b. (z : Answer) × H e z × Rules.AfterBest (Rules.best z e) (λ e' c. c ≡ answers (residual (if_then_else r t' e'))) b)) t x a refl g (less_best (Rules.best x t) _ _ a (λ t' (y, k, l). through (λ z. Rules.AfterBest (Rules.best z e) (λ e' c. c ≡ answers (residual (if_then_else r t' e')))) e y a refl k (inl l)) h)
+      through (λ y. Rules.AfterBest (Rules.best y t) (λ t' b. (z : Answer) × H e z ×
+      Rules.AfterBest (Rules.best z e) (λ e' c. c ≡ answers (residual (if_then_else r t' e'))) b)) t x a refl g
+      (less_best (Rules.best x t) _ _ a (λ t' (
+        y,
+        k,
+        l,
+      ). through (λ z. Rules.AfterBest (Rules.best z e) (λ e' c. c ≡ answers (residual (if_then_else r t' e'))))
+      e y a refl k (inl l)) h)
 
-  less_guard : (x : Answer) (t e : Term) (a : Answer) → Rules.AfterGuard G x t e a → OrLimit (Rules.AfterGuard H x t e) a
+  less_guard : (x : Answer) (t e : Term) (a : Answer) → Rules.AfterGuard G x t e a →
+      OrLimit (Rules.AfterGuard H x t e) a
   less_guard (fails f) t e a r = inl r
   less_guard (answers (value v)) t e a r = less_takes (bool_of (abstract_value v)) v t e a r
   less_guard (answers (residual q)) t e a r = less_branches q t e a r
 
-  less_right : (with_left : Term → Term) (t : Term) (a : Answer) → Rules.ReadsRight G with_left t a → OrLimit (Rules.ReadsRight H with_left t) a
+  less_right : (with_left : Term → Term) (t : Term) (a : Answer) → Rules.ReadsRight G with_left t a →
+      OrLimit (Rules.ReadsRight H with_left t) a
   unfolding Rules.joined
   less_right with_left t a (x, g, e) = through (λ y b. b ≡ Rules.joined with_left y) t x a refl g (inl e)
 
-  less_kept : (with_left : Term → Term) (t : Term) (a : Answer) → Rules.KeepsRight G with_left t a → OrLimit (Rules.KeepsRight H with_left t) a
+  less_kept : (with_left : Term → Term) (t : Term) (a : Answer) → Rules.KeepsRight G with_left t a →
+      OrLimit (Rules.KeepsRight H with_left t) a
   unfolding Rules.best Rules.best_of_kind failure_kind
   less_kept with_left t a (x, g, h) =
-      through (λ y. Rules.AfterBest (Rules.best y t) (λ t' b. b ≡ answers (residual (with_left t')))) t x a refl g (inl h)
+      through (λ y. Rules.AfterBest (Rules.best y t) (λ t' b. b ≡ answers (residual (with_left t')))) t x a refl g
+      (inl h)
 
-  less_and_bool : (b : Option Bool) (v : Represented) (t : Term) (a : Answer) → Rules.AndLeft G b v t a → OrLimit (Rules.AndLeft H b v t) a
+  less_and_bool : (b : Option Bool) (v : Represented) (t : Term) (a : Answer) → Rules.AndLeft G b v t a →
+      OrLimit (Rules.AndLeft H b v t) a
   less_and_bool None v t a r = inl r
   less_and_bool (Some true) v t a r = less_right _ t a r
   less_and_bool (Some false) v t a r = inl r
@@ -70,7 +92,8 @@ module _ (s : Setting) (calls : Rules.StoredCalls) (G H : Rules.MayAnswer) (less
   less_and (answers (value v)) t a r = less_and_bool (bool_of (abstract_value v)) v t a r
   less_and (answers (residual q)) t a r = less_kept (both q) t a r
 
-  less_or_bool : (b : Option Bool) (v : Represented) (t : Term) (a : Answer) → Rules.OrLeft G b v t a → OrLimit (Rules.OrLeft H b v t) a
+  less_or_bool : (b : Option Bool) (v : Represented) (t : Term) (a : Answer) → Rules.OrLeft G b v t a →
+      OrLimit (Rules.OrLeft H b v t) a
   less_or_bool None v t a r = inl r
   less_or_bool (Some true) v t a r = inl r
   less_or_bool (Some false) v t a r = less_right _ t a r
@@ -80,30 +103,37 @@ module _ (s : Setting) (calls : Rules.StoredCalls) (G H : Rules.MayAnswer) (less
   less_or (answers (value v)) t a r = less_or_bool (bool_of (abstract_value v)) v t a r
   less_or (answers (residual q)) t a r = less_kept (either q) t a r
 
-  less_left : (op : BinaryOperator) (x : Answer) (t : Term) (a : Answer) → Rules.AfterLeft G s op x t a → OrLimit (Rules.AfterLeft H s op x t) a
+  less_left : (op : BinaryOperator) (x : Answer) (t : Term) (a : Answer) → Rules.AfterLeft G s op x t a →
+      OrLimit (Rules.AfterLeft H s op x t) a
   unfolding Rules.binary_beside
   less_left op (fails e) t a r = inl r
   less_left op (answers p) t a (y, g, e) = through (λ z b. b ≡ Rules.binary_beside s op p z) t y a refl g (inl e)
 
-  less_projects : (b : Bool) (r : Term) (k : Text) (part : Term) (a : Answer) → Rules.Projects G b r k part a → OrLimit (Rules.Projects H b r k part) a
+  less_projects : (b : Bool) (r : Term) (k : Text) (part : Term) (a : Answer) → Rules.Projects G b r k part a →
+      OrLimit (Rules.Projects H b r k part) a
   less_projects true r k part a h = less part a h
   less_projects false r k part a h = inl h
 
-  less_at_key : (o : Option Term) (fs : Fields) (r : Term) (k : Text) (a : Answer) → Rules.AtKey G o fs r k a → OrLimit (Rules.AtKey H o fs r k) a
+  less_at_key : (o : Option Term) (fs : Fields) (r : Term) (k : Text) (a : Answer) → Rules.AtKey G o fs r k a →
+      OrLimit (Rules.AtKey H o fs r k) a
   less_at_key None fs r k a h = inl h
   less_at_key (Some part) fs r k a h = less_projects (is_projectable r) r k part a h
 
-  less_at_fields : (o : Option Fields) (r : Term) (k : Text) (a : Answer) → Rules.AtFields G o r k a → OrLimit (Rules.AtFields H o r k) a
+  less_at_fields : (o : Option Fields) (r : Term) (k : Text) (a : Answer) → Rules.AtFields G o r k a →
+      OrLimit (Rules.AtFields H o r k) a
   less_at_fields None r k a h = inl h
   less_at_fields (Some fs) r k a h = less_at_key (term_at k fs) fs r k a h
 
-  less_attribute : (x : Answer) (k : Text) (a : Answer) → Rules.AtAttribute G s x k a → OrLimit (Rules.AtAttribute H s x k) a
+  less_attribute : (x : Answer) (k : Text) (a : Answer) → Rules.AtAttribute G s x k a →
+      OrLimit (Rules.AtAttribute H s x k) a
   less_attribute (fails e) k a r = inl r
   less_attribute (answers (value v)) k a r = inl r
   less_attribute (answers (residual q)) k a r = less_at_fields (Rules.fields_of_record q) q k a r
 
   -- parts in order: the same answers, or the limit
-  through_part : {A : Type 0} (P : Answer → Result A Failure → Type 0) (t : Term) (x : Answer) (r : Result A Failure) → P limit (Err recursion_limit) → G t x → OrStopped (P x) r → OrStopped (λ q. (y : Answer) × H t y × P y q) r
+  through_part : {A : Type 0} (P : Answer → Result A Failure →
+      Type 0) (t : Term) (x : Answer) (r : Result A Failure) → P limit (Err recursion_limit) → G t x →
+      OrStopped (P x) r → OrStopped (λ q. (y : Answer) × H t y × P y q) r
   through_part P t x r stop g h = by (less t x g) h
     where
       by : OrLimit (H t) x → OrStopped (P x) r → OrStopped (λ q. (y : Answer) × H t y × P y q) r
@@ -111,28 +141,40 @@ module _ (s : Setting) (calls : Rules.StoredCalls) (G H : Rules.MayAnswer) (less
       by (inl k) (inr j) = inr (x, k, j)
       by (inr k) j = inr (limit, k, stop)
 
-  less_after : (Rest Rest' : Result (List PartialValue) Failure → Type 0) → ((r : Result (List PartialValue) Failure) → Rest r → OrStopped Rest' r) → (x : Answer) (r : Result (List PartialValue) Failure) → Rules.AfterPart G x Rest r → OrStopped (Rules.AfterPart H x Rest') r
+  less_after : (Rest Rest' : Result (List PartialValue) Failure → Type 0) →
+      ((r : Result (List PartialValue) Failure) → Rest r → OrStopped Rest' r) →
+      (x : Answer) (r : Result (List PartialValue) Failure) → Rules.AfterPart G x Rest r →
+      OrStopped (Rules.AfterPart H x Rest') r
   unfolding Rules.part_then
   less_after Rest Rest' f (fails e) r h = inl h
-  less_after Rest Rest' f (answers p) r (q, h, e) = or_map (λ k. (q, k, e)) (λ k. (Err recursion_limit, k, refl)) (f q h)
+  less_after Rest Rest' f (answers p) r (q, h, e) =
+      or_map (λ k. (q, k, e)) (λ k. (Err recursion_limit, k, refl)) (f q h)
 
-  less_parts : (ts : Terms) (r : Result (List PartialValue) Failure) → Rules.Parts G ts r → OrStopped (Rules.Parts H ts) r
+  less_parts : (ts : Terms) (r : Result (List PartialValue) Failure) → Rules.Parts G ts r →
+      OrStopped (Rules.Parts H ts) r
   less_parts no_terms r h = inl h
   less_parts (one_term t ts) r (x, g, h) =
-      through_part (λ y. Rules.AfterPart H y (Rules.Parts H ts)) t x r refl g (less_after (Rules.Parts G ts) (Rules.Parts H ts) (less_parts ts) x r h)
+      through_part (λ y. Rules.AfterPart H y (Rules.Parts H ts)) t x r refl g (less_after (Rules.Parts G ts)
+      (Rules.Parts H ts) (less_parts ts) x r h)
 
-  less_after_at : (k : Text) (Rest Rest' : Result (List (Text × PartialValue)) Failure → Type 0) → ((r : Result (List (Text × PartialValue)) Failure) → Rest r → OrStopped Rest' r) → (x : Answer) (r : Result (List (Text × PartialValue)) Failure) → Rules.AfterFieldPart G k x Rest r → OrStopped (Rules.AfterFieldPart H k x Rest') r
+  less_after_at : (k : Text) (Rest Rest' : Result (List (Text × PartialValue)) Failure → Type 0) →
+      ((r : Result (List (Text × PartialValue)) Failure) → Rest r → OrStopped Rest' r) →
+      (x : Answer) (r : Result (List (Text × PartialValue)) Failure) → Rules.AfterFieldPart G k x Rest r →
+      OrStopped (Rules.AfterFieldPart H k x Rest') r
   unfolding Rules.field_part_then
   less_after_at k Rest Rest' f (fails e) r h = inl h
   less_after_at k Rest Rest' f (answers p) r (q, h, e) =
       or_map (λ j. (q, j, e)) (λ j. (Err recursion_limit, j, refl)) (f q h)
 
-  less_field_parts : (fs : Fields) (r : Result (List (Text × PartialValue)) Failure) → Rules.FieldParts G fs r → OrStopped (Rules.FieldParts H fs) r
+  less_field_parts : (fs : Fields) (r : Result (List (Text × PartialValue)) Failure) → Rules.FieldParts G fs r →
+      OrStopped (Rules.FieldParts H fs) r
   less_field_parts no_fields r h = inl h
   less_field_parts (one_field k t fs) r (x, g, h) =
-      through_part (λ y. Rules.AfterFieldPart H k y (Rules.FieldParts H fs)) t x r refl g (less_after_at k (Rules.FieldParts G fs) (Rules.FieldParts H fs) (less_field_parts fs) x r h)
+      through_part (λ y. Rules.AfterFieldPart H k y (Rules.FieldParts H fs)) t x r refl g
+      (less_after_at k (Rules.FieldParts G fs) (Rules.FieldParts H fs) (less_field_parts fs) x r h)
 
-  less_on_part : (f : Represented → Answer) (h : Term → Term) (t : Term) (x a : Answer) → G t x → a ≡ Rules.on_part f h x → OrLimit (λ b. (y : Answer) × H t y × (b ≡ Rules.on_part f h y)) a
+  less_on_part : (f : Represented → Answer) (h : Term → Term) (t : Term) (x a : Answer) → G t x →
+      a ≡ Rules.on_part f h x → OrLimit (λ b. (y : Answer) × H t y × (b ≡ Rules.on_part f h y)) a
   unfolding Rules.on_part
   less_on_part f h t x a g e = through (λ y b. b ≡ Rules.on_part f h y) t x a refl g (inl e)
 
@@ -147,16 +189,20 @@ module _ (s : Setting) (calls : Rules.StoredCalls) (G H : Rules.MayAnswer) (less
   less_rule (both t u) a (x, g, h) = through (λ y. Rules.AfterAndLeft H y u) t x a refl g (less_and x u a h)
   less_rule (either t u) a (x, g, h) = through (λ y. Rules.AfterOrLeft H y u) t x a refl g (less_or x u a h)
   less_rule (unary op t) a (x, g, e) = less_on_part _ _ t x a g e
-  less_rule (binary op t u) a (x, g, h) = through (λ y. Rules.AfterLeft H s op y u) t x a refl g (less_left op x u a h)
+  less_rule (binary op t u) a (x, g, h) =
+      through (λ y. Rules.AfterLeft H s op y u) t x a refl g (less_left op x u a h)
   less_rule (call f ts) a (r, g, h) =
       or_map (λ k. (r, k, h)) (λ k. (Err recursion_limit, k, refl)) (less_parts ts r g)
-  less_rule (get_attribute t k) a (x, g, h) = through (λ y. Rules.AtAttribute H s y k) t x a refl g (less_attribute x k a h)
+  less_rule (get_attribute t k) a (x, g, h) =
+      through (λ y. Rules.AtAttribute H s y k) t x a refl g (less_attribute x k a h)
   less_rule (has_attribute t k) a (x, g, e) = through (λ y b. b ≡ Rules.has_part s k y) t x a refl g (inl e)
   less_rule (extended_has t k ks) a (x, g, e) = less_on_part _ _ t x a g e
   less_rule (like t p) a (x, g, e) = less_on_part _ _ t x a g e
   less_rule (is_of_type t m) a (x, g, e) = through (λ y b. b ≡ Rules.is_part m y) t x a refl g (inl e)
-  less_rule (set_of ts) a (r, g, e) = or_map (λ k. (r, k, e)) (λ k. (Err recursion_limit, k, refl)) (less_parts ts r g)
-  less_rule (record_of fs) a (r, g, e) = or_map (λ k. (r, k, e)) (λ k. (Err recursion_limit, k, refl)) (less_field_parts fs r g)
+  less_rule (set_of ts) a (r, g, e) =
+      or_map (λ k. (r, k, e)) (λ k. (Err recursion_limit, k, refl)) (less_parts ts r g)
+  less_rule (record_of fs) a (r, g, e) =
+      or_map (λ k. (r, k, e)) (λ k. (Err recursion_limit, k, refl)) (less_field_parts fs r g)
 
 module _ (s : Setting) (calls : Rules.StoredCalls) where
   one_less : (n : ℕ) (t : Term) (a : Answer) → Rules.Runs s calls (suc n) t a → OrLimit (Rules.Runs s calls n t) a

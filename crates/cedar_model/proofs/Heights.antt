@@ -1,17 +1,30 @@
 -- How high an answer can be, and with it the need.
-use Rattle.std.specs.Prelude.{◌≡◌, ◌≢◌, ◌⊎◌, ℕ, zero, suc, ◌+◌, ◌<◌, ◌≤◌, ◌==◌, max, Bool, true, false, cond, ◌&&◌, ◌||◌, List, [], ◌∷◌, length, Option, Some, None, Result, Ok, Err}
+use Rattle.std.specs.Prelude.{◌≡◌, ◌≢◌, ◌⊎◌, ℕ, zero, suc, ◌+◌, ◌<◌, ◌≤◌, ◌==◌, max, Bool, true, false, cond, ◌&&◌}
+use Rattle.std.specs.Prelude.{◌||◌, List, [], ◌∷◌, length, Option, Some, None, Result, Ok, Err}
 use Rattle.std.specs.declared.cmp.Ordering.{Ordering}
 use Rattle.std.specs.declared.cmp.Ordering.TheVariants.{Less, Equal, Greater}
 use Rattle.std.specs.Ordering.{match_ordering}
 use Rattle.std.proofs.Common.{refl, ap, subst, sym, ◌∙◌, arith, inl, inr}
-use Rattle.cedar_model.specs.Terms.{Text, EntityName, Literal, Variable, principal, action, resource, context, ValueType, BinaryOperator, in_operator, Term, literal, variable, slot, unknown, if_then_else, both, either, unary, binary, call, get_attribute, has_attribute, extended_has, like, is_of_type, set_of, record_of, Terms, no_terms, one_term, terms_of, Fields, no_fields, one_field, fields_of}
-use Rattle.cedar_model.specs.Values.{Represented, plain_represented, set_represented, record_represented, extension_represented, RepresentedValues, no_represented, one_represented, RepresentedFields, no_represented_at, one_represented_at, abstract_value, expression_of, expressions_of, expressions_at}
+use Rattle.cedar_model.specs.Terms.{Text, EntityName, Literal, Variable, principal, action, resource, context}
+use Rattle.cedar_model.specs.Terms.{ValueType, BinaryOperator, in_operator, Term, literal, variable, slot, unknown}
+use Rattle.cedar_model.specs.Terms.{if_then_else, both, either, unary, binary, call, get_attribute, has_attribute}
+use Rattle.cedar_model.specs.Terms.{extended_has, like, is_of_type, set_of, record_of, Terms, no_terms, one_term}
+use Rattle.cedar_model.specs.Terms.{terms_of, Fields, no_fields, one_field, fields_of}
+use Rattle.cedar_model.specs.Values.{Represented, plain_represented, set_represented, record_represented}
+use Rattle.cedar_model.specs.Values.{extension_represented, RepresentedValues, no_represented, one_represented}
+use Rattle.cedar_model.specs.Values.{RepresentedFields, no_represented_at, one_represented_at, abstract_value}
+use Rattle.cedar_model.specs.Values.{expression_of, expressions_of, expressions_at}
 use Rattle.cedar_model.specs.Keys.{value_cmp}
 use Rattle.cedar_model.specs.Sets.{canonical_set, insert_represented, insert_each, represented_fields_of}
-use Rattle.cedar_model.specs.Shapes.{is_projectable, are_projectable, are_projectable_at, is_restricted, are_restricted, are_restricted_at, has_unknown, have_unknown, have_unknown_at}
+use Rattle.cedar_model.specs.Shapes.{is_projectable, are_projectable, are_projectable_at, is_restricted}
+use Rattle.cedar_model.specs.Shapes.{are_restricted, are_restricted_at, has_unknown, have_unknown, have_unknown_at}
 use Rattle.cedar_model.specs.Outcomes.{bool_of, text_eq}
-use Rattle.cedar_model.specs.Failures.{Failure, FailureKind, of_meaning, of_residual, of_limit, of_memory, failure_kind, PartialValue, value, residual, Answer, answers, answers_bool, fails, limit, part_expression}
-use Rattle.cedar_model.specs.Settings.{Entry, known_entry, unknown_entry, ContextPart, absent_context, known_context, residual_context, Setting, StoredEntity, missing_entity, part_at, type_annotation, entry_part, context_value, variable_part}
+use Rattle.cedar_model.specs.Failures.{Failure, FailureKind, of_meaning, of_residual, of_limit, of_memory}
+use Rattle.cedar_model.specs.Failures.{failure_kind, PartialValue, value, residual, Answer, answers, answers_bool}
+use Rattle.cedar_model.specs.Failures.{fails, limit, part_expression}
+use Rattle.cedar_model.specs.Settings.{Entry, known_entry, unknown_entry, ContextPart, absent_context, known_context}
+use Rattle.cedar_model.specs.Settings.{residual_context, Setting, StoredEntity, missing_entity, part_at}
+use Rattle.cedar_model.specs.Settings.{type_annotation, entry_part, context_value, variable_part}
 use Rattle.cedar_model.specs.Operators
 use Rattle.cedar_model.specs.Rules
 use Rattle.cedar_model.specs.Agreement.{height, greatest_height, greatest_height_at}
@@ -22,7 +35,8 @@ use Rattle.cedar_model.specs.Depth.{IsNoHigher, IsWithin, substituted_height}
 use Rattle.cedar_model.proofs.Operands as operands
 use Rattle.cedar_model.proofs.Operands.{Facts, AllAnswer, AllPart}
 use Rattle.cedar_model.proofs.Projection.{record_is}
-use Rattle.cedar_model.proofs.RecordParts.{both_first, both_second, some_inj, projectable_part, restricted_part, part_such}
+use Rattle.cedar_model.proofs.RecordParts.{both_first, both_second, some_inj, projectable_part, restricted_part}
+use Rattle.cedar_model.proofs.RecordParts.{part_such}
 
 -- ---- values
 
@@ -55,18 +69,21 @@ mutual
 
 -- a value whose expression is projectable is written without calls
 mutual
-  pub value_plain : (v : Represented) → is_projectable (expression_of v) ≡ true → is_restricted (expression_of v) ≡ true
+  pub value_plain : (v : Represented) → is_projectable (expression_of v) ≡ true →
+      is_restricted (expression_of v) ≡ true
   value_plain (plain_represented l) h = refl
   value_plain (set_represented vs) h = values_plain vs h
   value_plain (record_represented fs) h = fields_plain fs h
   value_plain (extension_represented t k f ts) h = absurd (cc)
 
-  values_plain : (vs : RepresentedValues) → are_projectable (expressions_of vs) ≡ true → are_restricted (expressions_of vs) ≡ true
+  values_plain : (vs : RepresentedValues) → are_projectable (expressions_of vs) ≡ true →
+      are_restricted (expressions_of vs) ≡ true
   values_plain no_represented h = refl
   values_plain (one_represented v vs) h =
       λ i. value_plain v (both_first _ _ h) i && values_plain vs (both_second _ _ h) i
 
-  fields_plain : (fs : RepresentedFields) → are_projectable_at (expressions_at fs) ≡ true → are_restricted_at (expressions_at fs) ≡ true
+  fields_plain : (fs : RepresentedFields) → are_projectable_at (expressions_at fs) ≡ true →
+      are_restricted_at (expressions_at fs) ≡ true
   fields_plain no_represented_at h = refl
   fields_plain (one_represented_at k v fs) h =
       λ i. value_plain v (both_first _ _ h) i && fields_plain fs (both_second _ _ h) i
@@ -107,7 +124,8 @@ module _ (m : Mapping) where
     stays (slot i) e = refl
     stays (unknown n t) e = absurd (cc)
     stays (if_then_else c t u) e =
-        λ i. if_then_else (stays c (first_none _ _ e) i) (stays t (first_none _ _ (second_none _ _ e)) i) (stays u (second_none _ _ (second_none _ _ e)) i)
+        λ i. if_then_else (stays c (first_none _ _ e) i) (stays t (first_none _ _ (second_none _ _ e)) i)
+        (stays u (second_none _ _ (second_none _ _ e)) i)
     stays (both t u) e = λ i. both (stays t (first_none _ _ e) i) (stays u (second_none _ _ e) i)
     stays (either t u) e = λ i. either (stays t (first_none _ _ e) i) (stays u (second_none _ _ e) i)
     stays (unary op t) e = ap (unary op) (stays t e)
@@ -130,7 +148,8 @@ module _ (m : Mapping) where
     stay_at (one_field k t fs) e = λ i. one_field k (stays t (first_none _ _ e) i) (stay_at fs (second_none _ _ e) i)
 
   module _ (b : ℕ) (mapped_low : (n : Text) (v : Represented) → m n ≡ Some v → height (expression_of v) ≤ b) where
-    unknown_by : (n : Text) (t : Option ValueType) (o : Option Represented) → m n ≡ o → height (value_for o (unknown n t)) ≤ suc b
+    unknown_by : (n : Text) (t : Option ValueType) (o : Option Represented) → m n ≡ o →
+        height (value_for o (unknown n t)) ≤ suc b
     unfolding value_for
     unknown_by n t None e = omega arith
     unknown_by n t (Some v) e = let k = mapped_low n v e in omega arith
@@ -198,15 +217,21 @@ module _ (m : Mapping) where
     not_lower (set_of ts) e = let x = not_lower_each ts e in omega arith
     not_lower (record_of fs) e = let x = not_lower_each_at fs e in omega arith
 
-    not_lower_each : (ts : Terms) → are_restricted ts ≡ true → greatest_height ts ≤ greatest_height (substituted_each m ts)
+    not_lower_each : (ts : Terms) → are_restricted ts ≡ true →
+        greatest_height ts ≤ greatest_height (substituted_each m ts)
     not_lower_each no_terms e = omega arith
     not_lower_each (one_term t ts) e =
-        let x = not_lower t (both_first _ _ e) in let y = not_lower_each ts (both_second (is_restricted t) (are_restricted ts) e) in omega arith
+        let x =
+        not_lower t (both_first _ _ e) in let y = not_lower_each ts (both_second (is_restricted t)
+        (are_restricted ts) e) in omega arith
 
-    not_lower_each_at : (fs : Fields) → are_restricted_at fs ≡ true → greatest_height_at fs ≤ greatest_height_at (substituted_at m fs)
+    not_lower_each_at : (fs : Fields) → are_restricted_at fs ≡ true →
+        greatest_height_at fs ≤ greatest_height_at (substituted_at m fs)
     not_lower_each_at no_fields e = omega arith
     not_lower_each_at (one_field k t fs) e =
-        let x = not_lower t (both_first _ _ e) in let y = not_lower_each_at fs (both_second (is_restricted t) (are_restricted_at fs) e) in omega arith
+        let x =
+        not_lower t (both_first _ _ e) in let y = not_lower_each_at fs (both_second (is_restricted t)
+        (are_restricted_at fs) e) in omega arith
 
 -- the greater of bounded numbers is bounded
 pub lower : (a b c : ℕ) → a ≤ b → b ≤ c → a ≤ c

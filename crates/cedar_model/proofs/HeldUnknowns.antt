@@ -1,12 +1,21 @@
 -- A residual that is answered holds an unknown.
-use Rattle.std.specs.Prelude.{◌≡◌, ℕ, zero, suc, ◌==◌, Bool, true, false, cond, ◌||◌, List, [], ◌∷◌, map, length, Option, Some, None, is_some, Result, Ok, Err}
+use Rattle.std.specs.Prelude.{◌≡◌, ℕ, zero, suc, ◌==◌, Bool, true, false, cond, ◌||◌, List, [], ◌∷◌, map, length}
+use Rattle.std.specs.Prelude.{Option, Some, None, is_some, Result, Ok, Err}
 use Rattle.std.proofs.Common.{refl, ap, subst, sym, ◌∙◌}
-use Rattle.cedar_model.specs.Terms.{Text, EntityName, bool_literal, Slot, Variable, principal, action, resource, context, BinaryOperator, Term, literal, variable, slot, unknown, if_then_else, both, either, unary, binary, call, get_attribute, has_attribute, extended_has, like, is_of_type, set_of, record_of, Terms, no_terms, one_term, Fields, no_fields, one_field}
+use Rattle.cedar_model.specs.Terms.{Text, EntityName, bool_literal, Slot, Variable, principal, action, resource}
+use Rattle.cedar_model.specs.Terms.{context, BinaryOperator, Term, literal, variable, slot, unknown, if_then_else}
+use Rattle.cedar_model.specs.Terms.{both, either, unary, binary, call, get_attribute, has_attribute, extended_has}
+use Rattle.cedar_model.specs.Terms.{like, is_of_type, set_of, record_of, Terms, no_terms, one_term, Fields, no_fields}
+use Rattle.cedar_model.specs.Terms.{one_field}
 use Rattle.cedar_model.specs.Values.{Represented, abstract_value}
 use Rattle.cedar_model.specs.Shapes.{has_unknown, have_unknown, have_unknown_at, is_projectable}
 use Rattle.cedar_model.specs.Outcomes.{bool_of, text_eq}
-use Rattle.cedar_model.specs.Failures.{Failure, FailureKind, of_meaning, of_residual, of_limit, of_memory, failure_kind, PartialValue, value, residual, Answer, answers, answers_bool, fails, limit, part_expression}
-use Rattle.cedar_model.specs.Settings.{Entry, known_entry, unknown_entry, ContextPart, absent_context, known_context, residual_context, Setting, StoredEntity, part_at, entry_part, context_value, variable_part}
+use Rattle.cedar_model.specs.Failures.{Failure, FailureKind, of_meaning, of_residual, of_limit, of_memory}
+use Rattle.cedar_model.specs.Failures.{failure_kind, PartialValue, value, residual, Answer, answers, answers_bool}
+use Rattle.cedar_model.specs.Failures.{fails, limit, part_expression}
+use Rattle.cedar_model.specs.Settings.{Entry, known_entry, unknown_entry, ContextPart, absent_context, known_context}
+use Rattle.cedar_model.specs.Settings.{residual_context, Setting, StoredEntity, part_at, entry_part, context_value}
+use Rattle.cedar_model.specs.Settings.{variable_part}
 use Rattle.cedar_model.specs.Operators
 use Rattle.cedar_model.specs.Rules
 use Rattle.cedar_model.specs.RestrictedLaws.{HoldsUnknown, ResidualsHoldUnknowns}
@@ -63,7 +72,8 @@ abbrev HeldResultAt : Result (List (Text × PartialValue)) Failure → Type 0
 HeldResultAt (Err e) = Unit {0}
 HeldResultAt (Ok ps) = HeldPartsAt ps
 
-held_terms : (ps : List PartialValue) → HeldParts ps → Rules.values_of_parts ps ≡ None → have_unknown (Rules.terms_of_parts ps) ≡ true
+held_terms : (ps : List PartialValue) → HeldParts ps → Rules.values_of_parts ps ≡ None →
+    have_unknown (Rules.terms_of_parts ps) ≡ true
 unfolding Rules.values_of_parts Rules.add_value part_expression
 held_terms [] e f = absurd (cc)
 held_terms (value v ∷ ps) (e, g) f = or_second _ _ (held_terms ps g (by (Rules.values_of_parts ps) f))
@@ -73,7 +83,8 @@ held_terms (value v ∷ ps) (e, g) f = or_second _ _ (held_terms ps g (by (Rules
     by (Some vs) h = absurd (cc)
 held_terms (residual r ∷ ps) (e, g) f = or_first _ _ e
 
-held_fields : (ps : List (Text × PartialValue)) → HeldPartsAt ps → Rules.values_of_field_parts ps ≡ None → have_unknown_at (Rules.fields_of_parts ps) ≡ true
+held_fields : (ps : List (Text × PartialValue)) → HeldPartsAt ps → Rules.values_of_field_parts ps ≡ None →
+    have_unknown_at (Rules.fields_of_parts ps) ≡ true
 unfolding Rules.values_of_field_parts Rules.add_value_at part_expression
 held_fields [] e f = absurd (cc)
 held_fields ((k, value v) ∷ ps) (e, g) f = or_second _ _ (held_fields ps g (by (Rules.values_of_field_parts ps) f))
@@ -97,7 +108,8 @@ unfolding Rules.record_answer Rules.record_of_parts
 held_record (Err e) f = tt
 held_record (Ok ps) f = by (Rules.values_of_field_parts ps) refl
   where
-    by : (o : Option (List (Text × Represented))) → Rules.values_of_field_parts ps ≡ o → Held (Rules.record_of_parts o ps)
+    by : (o : Option (List (Text × Represented))) → Rules.values_of_field_parts ps ≡ o →
+        Held (Rules.record_of_parts o ps)
     by (Some vs) e = tt
     by None e = held_fields ps f e
 
@@ -106,13 +118,15 @@ unfolding Rules.bool_or_failure
 held_bool_or None v = tt
 held_bool_or (Some b) v = tt
 
-held_joined : (f : Term → Term) → ((r : Term) → Holds r → Holds (f r)) → (x : Answer) → Held x → Held (Rules.joined f x)
+held_joined : (f : Term → Term) → ((r : Term) → Holds r → Holds (f r)) → (x : Answer) → Held x →
+    Held (Rules.joined f x)
 unfolding Rules.joined
 held_joined f g (fails e) h = tt
 held_joined f g (answers (value v)) h = held_bool_or (bool_of (abstract_value v)) v
 held_joined f g (answers (residual r)) h = g r h
 
-held_on_part : (f : Represented → Answer) (g : Term → Term) → ((v : Represented) → Held (f v)) → ((r : Term) → Holds r → Holds (g r)) → (x : Answer) → Held x → Held (Rules.on_part f g x)
+held_on_part : (f : Represented → Answer) (g : Term → Term) → ((v : Represented) → Held (f v)) →
+    ((r : Term) → Holds r → Holds (g r)) → (x : Answer) → Held x → Held (Rules.on_part f g x)
 unfolding Rules.on_part
 held_on_part f g j k (fails e) l = tt
 held_on_part f g j k (answers (value v)) l = j v
@@ -130,7 +144,11 @@ module _ (s : Setting) (calls : Rules.StoredCalls) (given : ResidualsHoldUnknown
     literals = λ l. tt;
     errs = λ e k h. tt;
     fields = λ fs k v h e. tt;
-    stored = λ e x k p f. (λ g. given_part p ((given.stored_holds e x k p f).0 g), λ g. given_part p ((given.stored_holds e x k p f).1 g));
+    stored =
+        λ e x k p f. (
+          λ g. given_part p ((given.stored_holds e x k p f).0 g),
+          λ g. given_part p ((given.stored_holds e x k p f).1 g),
+        );
     mapped = λ n v e. tt;
     in_missing = λ e w h. refl;
     tag_missing = λ e t. refl;
@@ -162,19 +180,22 @@ module _ (s : Setting) (calls : Rules.StoredCalls) (given : ResidualsHoldUnknown
   held_variable resource = held_entry s.request.resource_entry _
   held_variable context = held_context s.request.context_part refl
 
-  held_binary : (op : BinaryOperator) (p q : PartialValue) → HeldPart p → HeldPart q → Held (Rules.binary_of_parts s op p q)
+  held_binary : (op : BinaryOperator) (p q : PartialValue) → HeldPart p → HeldPart q →
+      Held (Rules.binary_of_parts s op p q)
   unfolding Rules.binary_of_parts part_expression
   held_binary op (value v) (value w) e f = operands.binary_all s AnyValue AnyValue Holds AnyFailure facts op v w tt
   held_binary op (value v) (residual r) e f = held_kept _ _ (or_second _ _ f)
   held_binary op (residual r) (value w) e f = held_kept _ _ (or_first _ _ e)
   held_binary op (residual r) (residual q) e f = held_kept _ _ (or_first _ _ e)
 
-  held_beside : (op : BinaryOperator) (p : PartialValue) (y : Answer) → HeldPart p → Held y → Held (Rules.binary_beside s op p y)
+  held_beside : (op : BinaryOperator) (p : PartialValue) (y : Answer) → HeldPart p → Held y →
+      Held (Rules.binary_beside s op p y)
   unfolding Rules.binary_beside
   held_beside op p (fails e) f g = tt
   held_beside op p (answers q) f g = held_binary op p q f g
 
-  held_has_fields : (o : Option Fields) (b : Bool) (r : Term) (k : Text) → Holds r → Held (Rules.has_in_fields o b r k)
+  held_has_fields : (o : Option Fields) (b : Bool) (r : Term) (k : Text) → Holds r →
+      Held (Rules.has_in_fields o b r k)
   unfolding Rules.has_in_fields
   held_has_fields None b r k e = e
   held_has_fields (Some fs) true r k e = tt
@@ -201,7 +222,8 @@ module _ (s : Setting) (calls : Rules.StoredCalls) (given : ResidualsHoldUnknown
   held_call f vs (answers p) c = given_part p (given.answers_hold f vs p c)
   held_call f vs (fails e) c = tt
 
-  held_counts : (b : Bool) (n : ℕ) (f : Text) (vs : List Represented) (a : Answer) → Rules.Counts calls b n f vs a → Held a
+  held_counts : (b : Bool) (n : ℕ) (f : Text) (vs : List Represented) (a : Answer) → Rules.Counts calls b n f vs a →
+      Held a
   held_counts true n f vs a r = held_call f vs a r
   held_counts false n f vs a r = held_by a _ r tt
 
@@ -209,20 +231,24 @@ module _ (s : Setting) (calls : Rules.StoredCalls) (given : ResidualsHoldUnknown
   held_looks None f vs a r = held_by a _ r tt
   held_looks (Some n) f vs a r = held_counts (length vs == n) n f vs a r
 
-  held_values : (o : Option (List Represented)) (f : Text) (ps : List PartialValue) (a : Answer) → HeldParts ps → Rules.values_of_parts ps ≡ o → Rules.AfterValues calls s.extensions.arity o f ps a → Held a
+  held_values : (o : Option (List Represented)) (f : Text) (ps : List PartialValue) (a : Answer) → HeldParts ps →
+      Rules.values_of_parts ps ≡ o → Rules.AfterValues calls s.extensions.arity o f ps a → Held a
   held_values None f ps a e g r = held_by a _ r (held_terms ps e g)
   held_values (Some vs) f ps a e g r = held_looks (s.extensions.arity f) f vs a r
 
-  held_arguments : (f : Text) (r : Result (List PartialValue) Failure) (a : Answer) → HeldResult r → Rules.AfterArguments calls s.extensions.arity f r a → Held a
+  held_arguments : (f : Text) (r : Result (List PartialValue) Failure) (a : Answer) → HeldResult r →
+      Rules.AfterArguments calls s.extensions.arity f r a → Held a
   held_arguments f (Err e) a g h = held_by a _ h tt
   held_arguments f (Ok ps) a g h = held_values (Rules.values_of_parts ps) f ps a g refl h
 
-  held_then : (p : PartialValue) (r : Result (List PartialValue) Failure) → HeldPart p → HeldResult r → HeldResult (Rules.part_then p r)
+  held_then : (p : PartialValue) (r : Result (List PartialValue) Failure) → HeldPart p → HeldResult r →
+      HeldResult (Rules.part_then p r)
   unfolding Rules.part_then
   held_then p (Err e) f g = tt
   held_then p (Ok ps) f g = (f, g)
 
-  held_then_at : (k : Text) (p : PartialValue) (r : Result (List (Text × PartialValue)) Failure) → HeldPart p → HeldResultAt r → HeldResultAt (Rules.field_part_then k p r)
+  held_then_at : (k : Text) (p : PartialValue) (r : Result (List (Text × PartialValue)) Failure) → HeldPart p →
+      HeldResultAt r → HeldResultAt (Rules.field_part_then k p r)
   unfolding Rules.field_part_then
   held_then_at k p (Err e) f g = tt
   held_then_at k p (Ok ps) f g = (f, g)
@@ -234,13 +260,15 @@ module _ (s : Setting) (calls : Rules.StoredCalls) (given : ResidualsHoldUnknown
     held_parts (one_term t ts) r (answers q, g, (k, h, e)) =
         subst HeldResult (sym e) (held_then q k (ih t (answers q) g) (held_parts ts k h))
 
-    held_field_parts : (fs : Fields) (r : Result (List (Text × PartialValue)) Failure) → Rules.FieldParts G fs r → HeldResultAt r
+    held_field_parts : (fs : Fields) (r : Result (List (Text × PartialValue)) Failure) → Rules.FieldParts G fs r →
+        HeldResultAt r
     held_field_parts no_fields r h = subst HeldResultAt (sym h) tt
     held_field_parts (one_field l t fs) r (fails e, g, h) = subst HeldResultAt (sym h) tt
     held_field_parts (one_field l t fs) r (answers q, g, (k, h, e)) =
         subst HeldResultAt (sym e) (held_then_at l q k (ih t (answers q) g) (held_field_parts fs k h))
 
-    held_best : (x : Answer) (t : Term) (Next : Term → Answer → Type 0) (a : Answer) → Rules.AfterBest (Rules.best x t) Next a → ((u : Term) → Next u a → Held a) → Held a
+    held_best : (x : Answer) (t : Term) (Next : Term → Answer → Type 0) (a : Answer) →
+        Rules.AfterBest (Rules.best x t) Next a → ((u : Term) → Next u a → Held a) → Held a
     unfolding Rules.best Rules.best_of_kind
     held_best (answers p) t Next a h f = f (part_expression p) h
     held_best (fails e) t Next a h f = by (failure_kind e) h
@@ -251,7 +279,8 @@ module _ (s : Setting) (calls : Rules.StoredCalls) (given : ResidualsHoldUnknown
         by of_limit j = held_by a (fails e) j tt
         by of_memory j = held_by a (fails e) j tt
 
-    held_takes : (b : Option Bool) (v : Represented) (t e : Term) (a : Answer) → Rules.TakesBranch G b v t e a → Held a
+    held_takes : (b : Option Bool) (v : Represented) (t e : Term) (a : Answer) → Rules.TakesBranch G b v t e a →
+        Held a
     held_takes None v t e a r = held_by a _ r tt
     held_takes (Some true) v t e a r = ih t a r
     held_takes (Some false) v t e a r = ih e a r
@@ -262,10 +291,12 @@ module _ (s : Setting) (calls : Rules.StoredCalls) (given : ResidualsHoldUnknown
     held_guard (answers (residual z)) t e a h (x, g, k) =
         held_best x t _ a k (λ t' (y, j, l). held_best y e _ a l (λ e' i. held_by a _ i (or_first _ _ h)))
 
-    held_right : (f : Term → Term) → ((r : Term) → Holds r → Holds (f r)) → (t : Term) (a : Answer) → Rules.ReadsRight G f t a → Held a
+    held_right : (f : Term → Term) → ((r : Term) → Holds r → Holds (f r)) → (t : Term) (a : Answer) →
+        Rules.ReadsRight G f t a → Held a
     held_right f k t a (x, g, e) = held_by a _ e (held_joined f k x (ih t x g))
 
-    held_beside_kept : (f : Term → Term) → ((u : Term) → Holds (f u)) → (t : Term) (a : Answer) → Rules.KeepsRight G f t a → Held a
+    held_beside_kept : (f : Term → Term) → ((u : Term) → Holds (f u)) → (t : Term) (a : Answer) →
+        Rules.KeepsRight G f t a → Held a
     held_beside_kept f k t a (x, g, l) = held_best x t _ a l (λ u i. held_by a _ i (k u))
 
     held_and_bool : (b : Option Bool) (v : Represented) (t : Term) (a : Answer) → Rules.AndLeft G b v t a → Held a
@@ -288,19 +319,23 @@ module _ (s : Setting) (calls : Rules.StoredCalls) (given : ResidualsHoldUnknown
     held_or (answers (value v)) t a h r = held_or_bool (bool_of (abstract_value v)) v t a r
     held_or (answers (residual z)) t a h r = held_beside_kept (either z) (λ u. or_first _ _ h) t a r
 
-    held_left : (op : BinaryOperator) (x : Answer) (t : Term) (a : Answer) → Held x → Rules.AfterLeft G s op x t a → Held a
+    held_left : (op : BinaryOperator) (x : Answer) (t : Term) (a : Answer) → Held x → Rules.AfterLeft G s op x t a →
+        Held a
     held_left op (fails e) t a h r = held_by a (fails e) r tt
     held_left op (answers p) t a h (y, g, e) = held_by a _ e (held_beside op p y h (ih t y g))
 
-    held_projects : (b : Bool) (r : Term) (k : Text) (part : Term) (a : Answer) → Holds r → Rules.Projects G b r k part a → Held a
+    held_projects : (b : Bool) (r : Term) (k : Text) (part : Term) (a : Answer) → Holds r →
+        Rules.Projects G b r k part a → Held a
     held_projects true r k part a h j = ih part a j
     held_projects false r k part a h j = held_by a _ j h
 
-    held_at_key : (o : Option Term) (fs : Fields) (r : Term) (k : Text) (a : Answer) → Holds r → Rules.AtKey G o fs r k a → Held a
+    held_at_key : (o : Option Term) (fs : Fields) (r : Term) (k : Text) (a : Answer) → Holds r →
+        Rules.AtKey G o fs r k a → Held a
     held_at_key None fs r k a h j = held_by a _ j tt
     held_at_key (Some part) fs r k a h j = held_projects (is_projectable r) r k part a h j
 
-    held_at_fields : (o : Option Fields) (r : Term) (k : Text) (a : Answer) → Holds r → Rules.AtFields G o r k a → Held a
+    held_at_fields : (o : Option Fields) (r : Term) (k : Text) (a : Answer) → Holds r → Rules.AtFields G o r k a →
+        Held a
     held_at_fields None r k a h j = held_by a _ j h
     held_at_fields (Some fs) r k a h j = held_at_key (Operators.term_at k fs) fs r k a h j
 
@@ -320,15 +355,18 @@ module _ (s : Setting) (calls : Rules.StoredCalls) (given : ResidualsHoldUnknown
     held_rule (both t u) a (x, g, k) = held_and x u a (ih t x g) k
     held_rule (either t u) a (x, g, k) = held_or x u a (ih t x g) k
     held_rule (unary op t) a (x, g, e) =
-        held_by a _ e (held_on_part _ _ (operands.unary_all s AnyValue AnyValue Holds AnyFailure facts op) (λ r h. h) x (ih t x g))
+        held_by a _ e (held_on_part _ _ (operands.unary_all s AnyValue AnyValue Holds AnyFailure facts op)
+        (λ r h. h) x (ih t x g))
     held_rule (binary op t u) a (x, g, k) = held_left op x u a (ih t x g) k
     held_rule (call f ts) a (r, g, k) = held_arguments f r a (held_parts ts r g) k
     held_rule (get_attribute t k) a (x, g, j) = held_attribute x k a (ih t x g) j
     held_rule (has_attribute t k) a (x, g, e) = held_by a _ e (held_has k x (ih t x g))
     held_rule (extended_has t k ks) a (x, g, e) =
-        held_by a _ e (held_on_part _ _ (λ v. operands.path_all s AnyValue AnyValue Holds AnyFailure facts ks v k) (λ r h. h) x (ih t x g))
+        held_by a _ e (held_on_part _ _ (λ v. operands.path_all s AnyValue AnyValue Holds AnyFailure facts ks v k)
+        (λ r h. h) x (ih t x g))
     held_rule (like t p) a (x, g, e) =
-        held_by a _ e (held_on_part _ _ (operands.like_all s AnyValue AnyValue Holds AnyFailure facts p) (λ r h. h) x (ih t x g))
+        held_by a _ e (held_on_part _ _ (operands.like_all s AnyValue AnyValue Holds AnyFailure facts p) (λ r h. h) x
+        (ih t x g))
     held_rule (is_of_type t k) a (x, g, e) = held_by a _ e (held_is k x (ih t x g))
     held_rule (set_of ts) a (r, g, e) = held_by a _ e (held_set r (held_parts ts r g))
     held_rule (record_of fs) a (r, g, e) = held_by a _ e (held_record r (held_field_parts fs r g))

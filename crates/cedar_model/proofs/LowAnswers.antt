@@ -1,17 +1,31 @@
 -- An answer is no higher than its expression and the bound; so the need isn't either.
-use Rattle.std.specs.Prelude.{◌≡◌, ◌≢◌, ◌⊎◌, ℕ, zero, suc, ◌+◌, ◌<◌, ◌≤◌, ◌==◌, max, Bool, true, false, cond, ◌&&◌, List, [], ◌∷◌, map, length, Option, Some, None, is_some, Result, Ok, Err}
+use Rattle.std.specs.Prelude.{◌≡◌, ◌≢◌, ◌⊎◌, ℕ, zero, suc, ◌+◌, ◌<◌, ◌≤◌, ◌==◌, max, Bool, true, false, cond, ◌&&◌}
+use Rattle.std.specs.Prelude.{List, [], ◌∷◌, map, length, Option, Some, None, is_some, Result, Ok, Err}
 use Rattle.std.specs.declared.cmp.Ordering.{Ordering}
 use Rattle.std.specs.declared.cmp.Ordering.TheVariants.{Less, Equal, Greater}
 use Rattle.std.specs.Ordering.{match_ordering}
 use Rattle.std.proofs.Common.{refl, ap, subst, sym, ◌∙◌, arith, inl, inr}
-use Rattle.cedar_model.specs.Terms.{Text, EntityName, Literal, bool_literal, entity_literal, Slot, Variable, principal, action, resource, context, ValueType, UnaryOperator, BinaryOperator, in_operator, PatternPart, Term, literal, variable, slot, unknown, if_then_else, both, either, unary, binary, call, get_attribute, has_attribute, extended_has, like, is_of_type, set_of, record_of, Terms, no_terms, one_term, terms_of, Fields, no_fields, one_field, fields_of}
-use Rattle.cedar_model.specs.Values.{Represented, plain_represented, set_represented, record_represented, RepresentedValues, no_represented, one_represented, RepresentedFields, no_represented_at, one_represented_at, abstract_value, expression_of, expressions_of, expressions_at}
+use Rattle.cedar_model.specs.Terms.{Text, EntityName, Literal, bool_literal, entity_literal, Slot, Variable}
+use Rattle.cedar_model.specs.Terms.{principal, action, resource, context, ValueType, UnaryOperator, BinaryOperator}
+use Rattle.cedar_model.specs.Terms.{in_operator, PatternPart, Term, literal, variable, slot, unknown, if_then_else}
+use Rattle.cedar_model.specs.Terms.{both, either, unary, binary, call, get_attribute, has_attribute, extended_has}
+use Rattle.cedar_model.specs.Terms.{like, is_of_type, set_of, record_of, Terms, no_terms, one_term, terms_of, Fields}
+use Rattle.cedar_model.specs.Terms.{no_fields, one_field, fields_of}
+use Rattle.cedar_model.specs.Values.{Represented, plain_represented, set_represented, record_represented}
+use Rattle.cedar_model.specs.Values.{RepresentedValues, no_represented, one_represented, RepresentedFields}
+use Rattle.cedar_model.specs.Values.{no_represented_at, one_represented_at, abstract_value, expression_of}
+use Rattle.cedar_model.specs.Values.{expressions_of, expressions_at}
 use Rattle.cedar_model.specs.Keys.{value_cmp}
 use Rattle.cedar_model.specs.Sets.{canonical_set, insert_represented, insert_each, represented_fields_of}
-use Rattle.cedar_model.specs.Shapes.{is_projectable, are_projectable, are_projectable_at, is_restricted, are_restricted, are_restricted_at}
+use Rattle.cedar_model.specs.Shapes.{is_projectable, are_projectable, are_projectable_at, is_restricted}
+use Rattle.cedar_model.specs.Shapes.{are_restricted, are_restricted_at}
 use Rattle.cedar_model.specs.Outcomes.{bool_of, text_eq, value_type, type_eq}
-use Rattle.cedar_model.specs.Failures.{Failure, FailureKind, of_meaning, of_residual, of_limit, of_memory, failure_kind, PartialValue, value, residual, Answer, answers, answers_bool, fails, wrong_type, limit, part_expression}
-use Rattle.cedar_model.specs.Settings.{Entry, known_entry, unknown_entry, ContextPart, absent_context, known_context, residual_context, Setting, StoredEntity, missing_entity, part_at, type_annotation, entry_part, context_value, variable_part}
+use Rattle.cedar_model.specs.Failures.{Failure, FailureKind, of_meaning, of_residual, of_limit, of_memory}
+use Rattle.cedar_model.specs.Failures.{failure_kind, PartialValue, value, residual, Answer, answers, answers_bool}
+use Rattle.cedar_model.specs.Failures.{fails, wrong_type, limit, part_expression}
+use Rattle.cedar_model.specs.Settings.{Entry, known_entry, unknown_entry, ContextPart, absent_context, known_context}
+use Rattle.cedar_model.specs.Settings.{residual_context, Setting, StoredEntity, missing_entity, part_at}
+use Rattle.cedar_model.specs.Settings.{type_annotation, entry_part, context_value, variable_part}
 use Rattle.cedar_model.specs.Operators
 use Rattle.cedar_model.specs.Rules
 use Rattle.cedar_model.specs.Agreement.{height, greatest_height, greatest_height_at}
@@ -23,7 +37,8 @@ use Rattle.cedar_model.proofs.Operands as operands
 use Rattle.cedar_model.proofs.Operands.{Facts, AllAnswer, AllPart}
 use Rattle.cedar_model.proofs.PartLimits as limits
 use Rattle.cedar_model.proofs.Projection.{record_is}
-use Rattle.cedar_model.proofs.RecordParts.{both_first, both_second, some_inj, projectable_part, restricted_part, part_such}
+use Rattle.cedar_model.proofs.RecordParts.{both_first, both_second, some_inj, projectable_part, restricted_part}
+use Rattle.cedar_model.proofs.RecordParts.{part_such}
 use Rattle.cedar_model.proofs.Heights as heights
 use Rattle.cedar_model.proofs.Heights.{sound_known, value_plain, positive, lower}
 
@@ -77,30 +92,36 @@ module _ (m : Mapping) where
   EachLow n no_represented = Unit {0}
   EachLow n (one_represented v vs) = LowValue n v × EachLow n vs
 
-  chosen_low : (n : ℕ) (o : Ordering) (x y z : RepresentedValues) → EachLow n x → EachLow n y → EachLow n z → EachLow n (match_ordering o x y z)
+  chosen_low : (n : ℕ) (o : Ordering) (x y z : RepresentedValues) → EachLow n x → EachLow n y → EachLow n z →
+      EachLow n (match_ordering o x y z)
   chosen_low n Less x y z e f g = e
   chosen_low n Equal x y z e f g = f
   chosen_low n Greater x y z e f g = g
 
-  insert_low : (n : ℕ) (v : Represented) (ws : RepresentedValues) → LowValue n v → EachLow n ws → EachLow n (insert_represented v ws)
+  insert_low : (n : ℕ) (v : Represented) (ws : RepresentedValues) → LowValue n v → EachLow n ws →
+      EachLow n (insert_represented v ws)
   insert_low n v no_represented e f = (e, tt)
   insert_low n v (one_represented w ws) e f =
-      chosen_low n (value_cmp (abstract_value v) (abstract_value w)) (one_represented v (one_represented w ws)) (one_represented w ws) (one_represented w (insert_represented v ws)) (e, f) f (f.0, insert_low n v ws e f.1)
+      chosen_low n (value_cmp (abstract_value v) (abstract_value w)) (one_represented v (one_represented w ws))
+      (one_represented w ws) (one_represented w (insert_represented v ws)) (e, f) f (f.0, insert_low n v ws e f.1)
 
   abbrev AllLow : ℕ → List Represented → Type 0
   AllLow n [] = Unit {0}
   AllLow n (v ∷ vs) = LowValue n v × AllLow n vs
 
-  insert_each_low : (n : ℕ) (vs : List Represented) (ws : RepresentedValues) → AllLow n vs → EachLow n ws → EachLow n (insert_each vs ws)
+  insert_each_low : (n : ℕ) (vs : List Represented) (ws : RepresentedValues) → AllLow n vs → EachLow n ws →
+      EachLow n (insert_each vs ws)
   insert_each_low n [] ws e f = f
   insert_each_low n (v ∷ vs) ws e f = insert_each_low n vs (insert_represented v ws) e.1 (insert_low n v ws e.0 f)
 
-  greatest_low : (n : ℕ) (vs : RepresentedValues) → EachLow n vs → greatest_height (substituted_each m (expressions_of vs)) ≤ n
+  greatest_low : (n : ℕ) (vs : RepresentedValues) → EachLow n vs →
+      greatest_height (substituted_each m (expressions_of vs)) ≤ n
   unfolding substituted
   greatest_low n no_represented e = omega arith
   greatest_low n (one_represented v vs) (e, f) = let x = e.0 in let y = greatest_low n vs f in omega arith
 
-  set_value_low : (n : ℕ) (vs : List Represented) → AllLow n vs → LowValue (suc n) (set_represented (canonical_set vs))
+  set_value_low : (n : ℕ) (vs : List Represented) → AllLow n vs →
+      LowValue (suc n) (set_represented (canonical_set vs))
   unfolding substituted
   set_value_low n vs e =
       let x = greatest_low n (canonical_set vs) (insert_each_low n vs no_represented e tt) in
@@ -110,12 +131,14 @@ module _ (m : Mapping) where
   AllLowAt n [] = Unit {0}
   AllLowAt n (v ∷ vs) = LowValue n v.1 × AllLowAt n vs
 
-  greatest_low_at : (n : ℕ) (vs : List (Text × Represented)) → AllLowAt n vs → greatest_height_at (substituted_at m (expressions_at (represented_fields_of vs))) ≤ n
+  greatest_low_at : (n : ℕ) (vs : List (Text × Represented)) → AllLowAt n vs →
+      greatest_height_at (substituted_at m (expressions_at (represented_fields_of vs))) ≤ n
   unfolding substituted
   greatest_low_at n [] e = omega arith
   greatest_low_at n (v ∷ vs) (e, f) = let x = e.0 in let y = greatest_low_at n vs f in omega arith
 
-  record_value_low : (n : ℕ) (vs : List (Text × Represented)) → AllLowAt n vs → LowValue (suc n) (record_represented (represented_fields_of vs))
+  record_value_low : (n : ℕ) (vs : List (Text × Represented)) → AllLowAt n vs →
+      LowValue (suc n) (record_represented (represented_fields_of vs))
   unfolding substituted
   record_value_low n vs e =
       let x = greatest_low_at n vs e in (omega arith, value_plain (record_represented (represented_fields_of vs)))
@@ -128,7 +151,9 @@ module _ (m : Mapping) where
   PartsLowAt n [] = Unit {0}
   PartsLowAt n (p ∷ ps) = LowPart n p.1 × PartsLowAt n ps
 
-  terms_low : (n : ℕ) (ps : List PartialValue) → PartsLow n ps → (greatest_height (substituted_each m (Rules.terms_of_parts ps)) ≤ n) × (are_projectable (Rules.terms_of_parts ps) ≡ true → are_restricted (Rules.terms_of_parts ps) ≡ true)
+  terms_low : (n : ℕ) (ps : List PartialValue) → PartsLow n ps →
+      (greatest_height (substituted_each m (Rules.terms_of_parts ps)) ≤ n) ×
+      (are_projectable (Rules.terms_of_parts ps) ≡ true → are_restricted (Rules.terms_of_parts ps) ≡ true)
   unfolding substituted
   terms_low n [] e = (omega arith, λ f. refl)
   terms_low n (p ∷ ps) (e, f) =
@@ -138,7 +163,9 @@ module _ (m : Mapping) where
       let y' = y.0 in
       (omega arith, λ g i. x.1 (both_first _ _ g) i && y.1 (both_second _ _ g) i)
 
-  fields_low : (n : ℕ) (ps : List (Text × PartialValue)) → PartsLowAt n ps → (greatest_height_at (substituted_at m (Rules.fields_of_parts ps)) ≤ n) × (are_projectable_at (Rules.fields_of_parts ps) ≡ true → are_restricted_at (Rules.fields_of_parts ps) ≡ true)
+  fields_low : (n : ℕ) (ps : List (Text × PartialValue)) → PartsLowAt n ps →
+      (greatest_height_at (substituted_at m (Rules.fields_of_parts ps)) ≤ n) ×
+      (are_projectable_at (Rules.fields_of_parts ps) ≡ true → are_restricted_at (Rules.fields_of_parts ps) ≡ true)
   unfolding substituted
   fields_low n [] e = (omega arith, λ f. refl)
   fields_low n (p ∷ ps) (e, f) =
@@ -157,7 +184,8 @@ module _ (m : Mapping) where
   LowAt? n None = Unit {0}
   LowAt? n (Some vs) = AllLowAt n vs
 
-  add_low : (n : ℕ) (p : PartialValue) (o : Option (List Represented)) → LowPart n p → Low? n o → Low? n (Rules.add_value p o)
+  add_low : (n : ℕ) (p : PartialValue) (o : Option (List Represented)) → LowPart n p → Low? n o →
+      Low? n (Rules.add_value p o)
   unfolding Rules.add_value
   add_low n (value v) None e f = tt
   add_low n (value v) (Some vs) e f = (e, f)
@@ -168,13 +196,15 @@ module _ (m : Mapping) where
   values_low n [] e = tt
   values_low n (p ∷ ps) (e, f) = add_low n p (Rules.values_of_parts ps) e (values_low n ps f)
 
-  add_low_at : (n : ℕ) (k : Text) (p : PartialValue) (o : Option (List (Text × Represented))) → LowPart n p → LowAt? n o → LowAt? n (Rules.add_value_at k p o)
+  add_low_at : (n : ℕ) (k : Text) (p : PartialValue) (o : Option (List (Text × Represented))) → LowPart n p →
+      LowAt? n o → LowAt? n (Rules.add_value_at k p o)
   unfolding Rules.add_value_at
   add_low_at n k (value v) None e f = tt
   add_low_at n k (value v) (Some vs) e f = (e, f)
   add_low_at n k (residual r) o e f = tt
 
-  values_low_at : (n : ℕ) (ps : List (Text × PartialValue)) → PartsLowAt n ps → LowAt? n (Rules.values_of_field_parts ps)
+  values_low_at : (n : ℕ) (ps : List (Text × PartialValue)) → PartsLowAt n ps →
+      LowAt? n (Rules.values_of_field_parts ps)
   unfolding Rules.values_of_field_parts
   values_low_at n [] e = tt
   values_low_at n (p ∷ ps) (e, f) = add_low_at n p.0 p.1 (Rules.values_of_field_parts ps) e (values_low_at n ps f)
@@ -196,7 +226,8 @@ module _ (m : Mapping) where
       by (Some vs) g = set_value_low n vs g
       by None g = let x = terms_low n ps f in let y = x.0 in (omega arith, x.1)
 
-  record_low : (n : ℕ) (r : Result (List (Text × PartialValue)) Failure) → ResultLowAt n r → LowAnswer (suc n) (Rules.record_answer r)
+  record_low : (n : ℕ) (r : Result (List (Text × PartialValue)) Failure) → ResultLowAt n r →
+      LowAnswer (suc n) (Rules.record_answer r)
   unfolding Rules.record_answer Rules.record_of_parts substituted
   record_low n (Err e) f = tt
   record_low n (Ok ps) f = by (Rules.values_of_field_parts ps) (values_low_at n ps f)
@@ -207,30 +238,41 @@ module _ (m : Mapping) where
 
   -- ---- a part of a record is lower than the record
 
-  field_low : (n : ℕ) (k : Text) (fs : RepresentedFields) (v : Represented) → greatest_height_at (substituted_at m (expressions_at fs)) ≤ n → Operators.represented_at k fs ≡ Some v → h (expression_of v) ≤ n
+  field_low : (n : ℕ) (k : Text) (fs : RepresentedFields) (v : Represented) →
+      greatest_height_at (substituted_at m (expressions_at fs)) ≤ n → Operators.represented_at k fs ≡ Some v →
+      h (expression_of v) ≤ n
   unfolding substituted Operators.represented_at
   field_low n k no_represented_at v e f = absurd (cc)
   field_low n k (one_represented_at l u fs) v e f = by (text_eq k l) f (λ g. field_low n k fs v (omega arith) g)
     where
-      by : (c : Bool) → cond c (Some u) (Operators.represented_at k fs) ≡ Some v → (Operators.represented_at k fs ≡ Some v → h (expression_of v) ≤ n) → h (expression_of v) ≤ n
-      by true g rest = let x : h (expression_of u) ≤ n = omega arith in subst (λ w. h (expression_of w) ≤ n) (some_inj g) x
+      by : (c : Bool) → cond c (Some u) (Operators.represented_at k fs) ≡ Some v →
+          (Operators.represented_at k fs ≡ Some v → h (expression_of v) ≤ n) → h (expression_of v) ≤ n
+      by true g rest =
+          let x : h (expression_of u) ≤ n = omega arith in subst (λ w. h (expression_of w) ≤ n) (some_inj g) x
       by false g rest = rest g
 
-  part_low : (n : ℕ) (k : Text) (fs : Fields) (part : Term) → greatest_height_at (substituted_at m fs) ≤ n → Operators.term_at k fs ≡ Some part → h part ≤ n
+  part_low : (n : ℕ) (k : Text) (fs : Fields) (part : Term) → greatest_height_at (substituted_at m fs) ≤ n →
+      Operators.term_at k fs ≡ Some part → h part ≤ n
   unfolding substituted
   part_low n k fs part e f =
-      part_such (λ t. h t ≤ n) (λ gs. greatest_height_at (substituted_at m gs) ≤ n) (λ l t gs g. (omega arith, omega arith)) k fs part e f
+      part_such (λ t. h t ≤ n) (λ gs. greatest_height_at (substituted_at m gs) ≤ n) (λ l t gs g. (
+        omega arith,
+        omega arith,
+      )) k fs part e f
 
-  pub part_of_record : (r : Term) (k : Text) (fs : Fields) (part : Term) → Rules.fields_of_record r ≡ Some fs → Operators.term_at k fs ≡ Some part → suc (h part) ≤ h r
+  pub part_of_record : (r : Term) (k : Text) (fs : Fields) (part : Term) → Rules.fields_of_record r ≡ Some fs →
+      Operators.term_at k fs ≡ Some part → suc (h part) ≤ h r
   unfolding substituted
   part_of_record r k fs part e f =
-      let x : h part ≤ greatest_height_at (substituted_at m fs) = part_low (greatest_height_at (substituted_at m fs)) k fs part (omega arith) f in
+      let x : h part ≤ greatest_height_at (substituted_at m fs) =
+      part_low (greatest_height_at (substituted_at m fs)) k fs part (omega arith) f in
       let y : suc (h part) ≤ h (record_of fs) = omega arith in
       subst (λ t. suc (h part) ≤ h t) (sym (record_is r fs e)) y
 
   -- ---- what is given
 
-  module _ (s : Setting) (calls : Rules.StoredCalls) (b : ℕ) (within : IsWithin s.map m) (sound : IsGivenSound calls s) (low : IsNoHigher calls s m b) where
+  module _ (s : Setting) (calls : Rules.StoredCalls) (b : ℕ) (within : IsWithin s.map m)
+      (sound : IsGivenSound calls s) (low : IsNoHigher calls s m b) where
     given_low : (n : ℕ) (p : PartialValue) → b ≤ n → IsSoundPart p → substituted_height m p ≤ b → LowPart n p
     unfolding part_expression
     given_low n (value v) e f g = (omega arith, value_plain v)
@@ -255,7 +297,13 @@ module _ (m : Mapping) where
       literals = λ l. (omega arith, λ p. refl);
       errs = λ f k g. tt;
       fields = λ fs k v f g. (let x = f.0 in field_low (suc n) k fs v (omega arith) g, value_plain v);
-      stored = λ d x k p f. (λ g. given_low (suc n) p (omega arith) ((sound.stored_sound d x k p f).0 g) ((low.stored_low d x k p f).0 g), λ g. given_low (suc n) p (omega arith) ((sound.stored_sound d x k p f).1 g) ((low.stored_low d x k p f).1 g));
+      stored =
+          λ d x k p f. (
+            λ g. given_low (suc n) p (omega arith) ((sound.stored_sound d x k p f).0 g)
+                ((low.stored_low d x k p f).0 g),
+            λ g. given_low (suc n) p (omega arith) ((sound.stored_sound d x k p f).1 g)
+                ((low.stored_low d x k p f).1 g),
+          );
       mapped = λ k v f. (let x = mapped_below k v f in omega arith, value_plain v);
       in_missing = λ d w f. (let x = f.0 in let y = missing_low d in omega arith, λ p. absurd (cc));
       tag_missing = λ d t. (let y = missing_low d in omega arith, λ p. absurd (cc));
@@ -263,12 +311,17 @@ module _ (m : Mapping) where
       attribute_missing = λ d k. (let y = missing_low d in omega arith, λ p. absurd (cc));
       has_missing = λ d k. (let y = missing_low d in omega arith, λ p. absurd (cc));
       path_missing = λ d k ks. (let y = missing_low d in omega arith, λ p. absurd (cc));
-      path_stored = λ d x k l ls r f g. (let y : h r ≤ b = (low.stored_low d x k (residual r) f).0 g in omega arith, λ p. absurd (cc));
+      path_stored =
+          λ d x k l ls r f g. (
+            let y : h r ≤ b = (low.stored_low d x k (residual r) f).0 g in omega arith,
+            λ p. absurd (cc),
+          );
     }
 
     -- ---- a leaf
 
-    typed_low : (n : ℕ) (t : Option ValueType) (v : Represented) → LowValue n v → LowAnswer n (Operators.typed_value t v)
+    typed_low : (n : ℕ) (t : Option ValueType) (v : Represented) → LowValue n v →
+        LowAnswer n (Operators.typed_value t v)
     unfolding Operators.typed_value
     typed_low n None v f = f
     typed_low n (Some t) v f = by (type_eq (value_type (abstract_value v)) t)
@@ -277,7 +330,8 @@ module _ (m : Mapping) where
         by true = f
         by false = tt
 
-    mapped_unknown : (n : ℕ) (k : Text) (t : Option ValueType) → ((v : Represented) → s.map k ≡ Some v → LowValue n v) → Low n (unknown k t) → LowAnswer n (Operators.unknown_answer s.map k t)
+    mapped_unknown : (n : ℕ) (k : Text) (t : Option ValueType) → ((v : Represented) → s.map k ≡ Some v →
+        LowValue n v) → Low n (unknown k t) → LowAnswer n (Operators.unknown_answer s.map k t)
     unfolding Operators.mapped
     mapped_unknown n k t f g = by (s.map k) refl
       where
@@ -311,7 +365,9 @@ module _ (m : Mapping) where
     -- ---- a layer
 
     -- goes on with the expression that is kept
-    best_low : (n : ℕ) (x : Answer) (t : Term) (Next : Term → Answer → Type 0) (a : Answer) (C : Type 0) → LowAnswer n x → h t ≤ n → Rules.AfterBest (Rules.best x t) Next a → ((u : Term) → h u ≤ n → Next u a → C) → ((e : Failure) → a ≡ fails e → C) → C
+    best_low : (n : ℕ) (x : Answer) (t : Term) (Next : Term → Answer → Type 0) (a : Answer) (C : Type 0) →
+        LowAnswer n x → h t ≤ n → Rules.AfterBest (Rules.best x t) Next a → ((u : Term) → h u ≤ n → Next u a → C) →
+        ((e : Failure) → a ≡ fails e → C) → C
     unfolding Rules.best Rules.best_of_kind
     best_low n (answers p) t Next a C f g k next stop = next (part_expression p) (low_expression n p f).0 k
     best_low n (fails e) t Next a C f g k next stop = by (failure_kind e) k
@@ -327,28 +383,34 @@ module _ (m : Mapping) where
     bool_or_low n None v e = tt
     bool_or_low n (Some c) v e = low_bool n c e
 
-    joined_low : (n : ℕ) (f : Term → Term) → ((r : Term) → h r ≤ n → Low (suc n) (f r)) → (x : Answer) → LowAnswer n x → LowAnswer (suc n) (Rules.joined f x)
+    joined_low : (n : ℕ) (f : Term → Term) → ((r : Term) → h r ≤ n → Low (suc n) (f r)) → (x : Answer) →
+        LowAnswer n x → LowAnswer (suc n) (Rules.joined f x)
     unfolding Rules.joined
     joined_low n f g (fails e) k = tt
     joined_low n f g (answers (value v)) k = bool_or_low (suc n) (bool_of (abstract_value v)) v (omega arith)
     joined_low n f g (answers (residual r)) k = g r k.0
 
-    on_part_low : (n : ℕ) (f : Represented → Answer) (g : Term → Term) → ((v : Represented) → LowAnswer (suc n) (f v)) → ((r : Term) → h r ≤ n → Low (suc n) (g r)) → (x : Answer) → LowAnswer n x → LowAnswer (suc n) (Rules.on_part f g x)
+    on_part_low : (n : ℕ) (f : Represented → Answer) (g : Term → Term) →
+        ((v : Represented) → LowAnswer (suc n) (f v)) → ((r : Term) → h r ≤ n → Low (suc n) (g r)) → (x : Answer) →
+        LowAnswer n x → LowAnswer (suc n) (Rules.on_part f g x)
     unfolding Rules.on_part
     on_part_low n f g j k (fails e) l = tt
     on_part_low n f g j k (answers (value v)) l = j v
     on_part_low n f g j k (answers (residual r)) l = k r l.0
 
-    kept_binary_low : (n : ℕ) (op : BinaryOperator) (p q : PartialValue) → LowPart n p → LowPart n q → LowAnswer (suc n) (Rules.kept_binary op p q)
+    kept_binary_low : (n : ℕ) (op : BinaryOperator) (p q : PartialValue) → LowPart n p → LowPart n q →
+        LowAnswer (suc n) (Rules.kept_binary op p q)
     unfolding substituted
     kept_binary_low n op p q e f = by (Rules.differ_by_type op p q)
       where
-        by : (c : Bool) → LowAnswer (suc n) (cond c (answers_bool false) (answers (residual (binary op (part_expression p) (part_expression q)))))
+        by : (c : Bool) → LowAnswer (suc n) (cond c (answers_bool false)
+            (answers (residual (binary op (part_expression p) (part_expression q)))))
         by true = low_bool (suc n) false (omega arith)
         by false =
             let x = (low_expression n p e).0 in let y = (low_expression n q f).0 in (omega arith, λ g. absurd (cc))
 
-    parts_binary_low : (n : ℕ) → suc b ≤ n → (op : BinaryOperator) (p q : PartialValue) → LowPart n p → LowPart n q → LowAnswer (suc n) (Rules.binary_of_parts s op p q)
+    parts_binary_low : (n : ℕ) → suc b ≤ n → (op : BinaryOperator) (p q : PartialValue) → LowPart n p → LowPart n q →
+        LowAnswer (suc n) (Rules.binary_of_parts s op p q)
     unfolding Rules.binary_of_parts
     parts_binary_low n e op (value v) (value w) f g =
         operands.binary_all s (LowValue n) (LowValue (suc n)) (Low (suc n)) AnyFailure (facts n e) op v w g
@@ -356,12 +418,14 @@ module _ (m : Mapping) where
     parts_binary_low n e op (residual r) (value w) f g = kept_binary_low n op _ _ f g
     parts_binary_low n e op (residual r) (residual q) f g = kept_binary_low n op _ _ f g
 
-    beside_low : (n : ℕ) → suc b ≤ n → (op : BinaryOperator) (p : PartialValue) (y : Answer) → LowPart n p → LowAnswer n y → LowAnswer (suc n) (Rules.binary_beside s op p y)
+    beside_low : (n : ℕ) → suc b ≤ n → (op : BinaryOperator) (p : PartialValue) (y : Answer) → LowPart n p →
+        LowAnswer n y → LowAnswer (suc n) (Rules.binary_beside s op p y)
     unfolding Rules.binary_beside
     beside_low n e op p (fails k) f g = tt
     beside_low n e op p (answers q) f g = parts_binary_low n e op p q f g
 
-    has_fields_low : (n : ℕ) (o : Option Fields) (c : Bool) (r : Term) (k : Text) → h r ≤ n → LowAnswer (suc n) (Rules.has_in_fields o c r k)
+    has_fields_low : (n : ℕ) (o : Option Fields) (c : Bool) (r : Term) (k : Text) → h r ≤ n →
+        LowAnswer (suc n) (Rules.has_in_fields o c r k)
     unfolding Rules.has_in_fields substituted
     has_fields_low n None c r k e = (omega arith, λ p. absurd (cc))
     has_fields_low n (Some fs) true r k e = low_bool (suc n) (is_some (Operators.term_at k fs)) (omega arith)
@@ -374,7 +438,8 @@ module _ (m : Mapping) where
         operands.has_all s (LowValue n) (LowValue (suc n)) (Low (suc n)) AnyFailure (facts n e) v k
     has_low n e k (answers (residual r)) g = has_fields_low n (Rules.fields_of_record r) (is_projectable r) r k g.0
 
-    annotated_low : (n : ℕ) (o : Option Text) (r : Term) (t : Text) → h r ≤ n → LowAnswer (suc n) (Rules.is_annotated o r t)
+    annotated_low : (n : ℕ) (o : Option Text) (r : Term) (t : Text) → h r ≤ n →
+        LowAnswer (suc n) (Rules.is_annotated o r t)
     unfolding Rules.is_annotated substituted
     annotated_low n None r t e = (omega arith, λ p. absurd (cc))
     annotated_low n (Some u) r t e = low_bool (suc n) (text_eq u t) (omega arith)
@@ -391,21 +456,26 @@ module _ (m : Mapping) where
         given_low n p e (sound.answers_sound f vs p c) (low.answers_low f vs p c)
     call_answer_low n e f vs (fails k) c = tt
 
-    counts_low : (n : ℕ) → b ≤ n → (c : Bool) (k : ℕ) (f : Text) (vs : List Represented) (a : Answer) → Rules.Counts calls c k f vs a → LowAnswer n a
+    counts_low : (n : ℕ) → b ≤ n → (c : Bool) (k : ℕ) (f : Text) (vs : List Represented) (a : Answer) →
+        Rules.Counts calls c k f vs a → LowAnswer n a
     counts_low n e true k f vs a r = call_answer_low n e f vs a r
     counts_low n e false k f vs a r = by_failure n a _ r
 
-    looks_low : (n : ℕ) → b ≤ n → (o : Option ℕ) (f : Text) (vs : List Represented) (a : Answer) → Rules.LooksUp calls o f vs a → LowAnswer n a
+    looks_low : (n : ℕ) → b ≤ n → (o : Option ℕ) (f : Text) (vs : List Represented) (a : Answer) →
+        Rules.LooksUp calls o f vs a → LowAnswer n a
     looks_low n e None f vs a r = by_failure n a _ r
     looks_low n e (Some k) f vs a r = counts_low n e (length vs == k) k f vs a r
 
-    values_call_low : (n : ℕ) → b ≤ suc n → (o : Option (List Represented)) (f : Text) (ps : List PartialValue) (a : Answer) → PartsLow n ps → Rules.AfterValues calls s.extensions.arity o f ps a → LowAnswer (suc n) a
+    values_call_low : (n : ℕ) → b ≤ suc n →
+        (o : Option (List Represented)) (f : Text) (ps : List PartialValue) (a : Answer) → PartsLow n ps →
+        Rules.AfterValues calls s.extensions.arity o f ps a → LowAnswer (suc n) a
     unfolding substituted
     values_call_low n e (Some vs) f ps a g r = looks_low (suc n) e (s.extensions.arity f) f vs a r
     values_call_low n e None f ps a g r =
         let x = (terms_low n ps g).0 in by_equal (suc n) a _ r (omega arith, λ p. absurd (cc))
 
-    arguments_low : (n : ℕ) → b ≤ suc n → (f : Text) (r : Result (List PartialValue) Failure) (a : Answer) → ResultLow n r → Rules.AfterArguments calls s.extensions.arity f r a → LowAnswer (suc n) a
+    arguments_low : (n : ℕ) → b ≤ suc n → (f : Text) (r : Result (List PartialValue) Failure) (a : Answer) →
+        ResultLow n r → Rules.AfterArguments calls s.extensions.arity f r a → LowAnswer (suc n) a
     arguments_low n e f (Err k) a g r = by_failure (suc n) a k r
     arguments_low n e f (Ok ps) a g r = values_call_low n e (Rules.values_of_parts ps) f ps a g r
 
@@ -422,36 +492,47 @@ module _ (m : Mapping) where
       EachAnswersLowAt n no_fields = Unit {0}
       EachAnswersLowAt n (one_field k t fs) = AnswersLow n t × EachAnswersLowAt n fs
 
-      then_low : (n : ℕ) (p : PartialValue) (r : Result (List PartialValue) Failure) → LowPart n p → ResultLow n r → ResultLow n (Rules.part_then p r)
+      then_low : (n : ℕ) (p : PartialValue) (r : Result (List PartialValue) Failure) → LowPart n p → ResultLow n r →
+          ResultLow n (Rules.part_then p r)
       unfolding Rules.part_then
       then_low n p (Err e) f g = tt
       then_low n p (Ok ps) f g = (f, g)
 
-      after_low : (n : ℕ) (Rest : Result (List PartialValue) Failure → Type 0) → ((r : Result (List PartialValue) Failure) → Rest r → ResultLow n r) → (x : Answer) (r : Result (List PartialValue) Failure) → LowAnswer n x → Rules.AfterPart G x Rest r → ResultLow n r
+      after_low : (n : ℕ) (Rest : Result (List PartialValue) Failure → Type 0) →
+          ((r : Result (List PartialValue) Failure) → Rest r → ResultLow n r) →
+          (x : Answer) (r : Result (List PartialValue) Failure) → LowAnswer n x → Rules.AfterPart G x Rest r →
+          ResultLow n r
       after_low n Rest f (fails e) r g k = subst (ResultLow n) (sym k) tt
       after_low n Rest f (answers p) r g (q, k, e) = subst (ResultLow n) (sym e) (then_low n p q g (f q k))
 
-      parts_low : (n : ℕ) (ts : Terms) (r : Result (List PartialValue) Failure) → EachAnswersLow n ts → Rules.Parts G ts r → ResultLow n r
+      parts_low : (n : ℕ) (ts : Terms) (r : Result (List PartialValue) Failure) → EachAnswersLow n ts →
+          Rules.Parts G ts r → ResultLow n r
       parts_low n no_terms r f g = subst (ResultLow n) (sym g) tt
       parts_low n (one_term t ts) r (f, fs) (x, g, k) =
           after_low n (Rules.Parts G ts) (λ q j. parts_low n ts q fs j) x r (f x g) k
 
-      field_then_low : (n : ℕ) (k : Text) (p : PartialValue) (r : Result (List (Text × PartialValue)) Failure) → LowPart n p → ResultLowAt n r → ResultLowAt n (Rules.field_part_then k p r)
+      field_then_low : (n : ℕ) (k : Text) (p : PartialValue) (r : Result (List (Text × PartialValue)) Failure) →
+          LowPart n p → ResultLowAt n r → ResultLowAt n (Rules.field_part_then k p r)
       unfolding Rules.field_part_then
       field_then_low n k p (Err e) f g = tt
       field_then_low n k p (Ok ps) f g = (f, g)
 
-      after_low_at : (n : ℕ) (l : Text) (Rest : Result (List (Text × PartialValue)) Failure → Type 0) → ((r : Result (List (Text × PartialValue)) Failure) → Rest r → ResultLowAt n r) → (x : Answer) (r : Result (List (Text × PartialValue)) Failure) → LowAnswer n x → Rules.AfterFieldPart G l x Rest r → ResultLowAt n r
+      after_low_at : (n : ℕ) (l : Text) (Rest : Result (List (Text × PartialValue)) Failure → Type 0) →
+          ((r : Result (List (Text × PartialValue)) Failure) → Rest r → ResultLowAt n r) →
+          (x : Answer) (r : Result (List (Text × PartialValue)) Failure) → LowAnswer n x →
+          Rules.AfterFieldPart G l x Rest r → ResultLowAt n r
       after_low_at n l Rest f (fails e) r g k = subst (ResultLowAt n) (sym k) tt
       after_low_at n l Rest f (answers p) r g (q, k, e) =
           subst (ResultLowAt n) (sym e) (field_then_low n l p q g (f q k))
 
-      field_parts_low : (n : ℕ) (fs : Fields) (r : Result (List (Text × PartialValue)) Failure) → EachAnswersLowAt n fs → Rules.FieldParts G fs r → ResultLowAt n r
+      field_parts_low : (n : ℕ) (fs : Fields) (r : Result (List (Text × PartialValue)) Failure) →
+          EachAnswersLowAt n fs → Rules.FieldParts G fs r → ResultLowAt n r
       field_parts_low n no_fields r f g = subst (ResultLowAt n) (sym g) tt
       field_parts_low n (one_field l t fs) r (f, gs) (x, g, k) =
           after_low_at n l (Rules.FieldParts G fs) (λ q j. field_parts_low n fs q gs j) x r (f x g) k
 
-      module _ (ih : (t : Term) → AnswersLow (height t + b) t) (plain : (t : Term) → is_projectable t ≡ true → is_restricted t ≡ true → AnswersLow (h t) t) where
+      module _ (ih : (t : Term) → AnswersLow (height t + b) t) (plain : (t : Term) → is_projectable t ≡ true →
+          is_restricted t ≡ true → AnswersLow (h t) t) where
         -- the part's answer, with a greater bound
         part : (n : ℕ) (t : Term) → height t + b ≤ n → AnswersLow n t
         part n t e x g = raise (height t + b) n e x (ih t x g)
@@ -467,27 +548,41 @@ module _ (m : Mapping) where
         each_part_at n no_fields e = tt
         each_part_at n (one_field k t fs) e = (part n t (omega arith), each_part_at n fs (omega arith))
 
-        takes_low : (n : ℕ) (c : Option Bool) (v : Represented) (t e : Term) (a : Answer) → height t + b ≤ n → height e + b ≤ n → Rules.TakesBranch G c v t e a → LowAnswer (suc n) a
+        takes_low : (n : ℕ) (c : Option Bool) (v : Represented) (t e : Term) (a : Answer) → height t + b ≤ n →
+            height e + b ≤ n → Rules.TakesBranch G c v t e a → LowAnswer (suc n) a
         takes_low n None v t e a p q r = by_failure (suc n) a _ r
         takes_low n (Some true) v t e a p q r = part (suc n) t (omega arith) a r
         takes_low n (Some false) v t e a p q r = part (suc n) e (omega arith) a r
 
-        branches_low : (n : ℕ) (r t e : Term) (a : Answer) → h r ≤ n → height t + b ≤ n → height e + b ≤ n → Rules.KeepsBranches G r t e a → LowAnswer (suc n) a
+        branches_low : (n : ℕ) (r t e : Term) (a : Answer) → h r ≤ n → height t + b ≤ n → height e + b ≤ n →
+            Rules.KeepsBranches G r t e a → LowAnswer (suc n) a
         unfolding substituted
         branches_low n r t e a f p q (x, g, k) =
-            best_low n x t _ a (LowAnswer (suc n) a) (part n t p x g) (kept_term n t p) k (λ t' ht (y, j, l). best_low n y e _ a (LowAnswer (suc n) a) (part n e q y j) (kept_term n e q) l (λ e' he i. by_equal (suc n) a _ i (omega arith, λ z. absurd (cc))) (λ i j'. by_failure (suc n) a i j')) (λ i j'. by_failure (suc n) a i j')
+            best_low n x t _ a (LowAnswer (suc n) a) (part n t p x g) (kept_term n t p) k (λ t' ht (
+              y,
+              j,
+              l,
+            ). best_low n y e _ a (LowAnswer (suc n) a) (part n e q y j) (kept_term n e q) l
+            (λ e' he i. by_equal (suc n) a _ i (
+              omega arith,
+              λ z. absurd (cc),
+            )) (λ i j'. by_failure (suc n) a i j')) (λ i j'. by_failure (suc n) a i j')
 
-        guard_low : (n : ℕ) (x : Answer) (t e : Term) (a : Answer) → LowAnswer n x → height t + b ≤ n → height e + b ≤ n → Rules.AfterGuard G x t e a → LowAnswer (suc n) a
+        guard_low : (n : ℕ) (x : Answer) (t e : Term) (a : Answer) → LowAnswer n x → height t + b ≤ n →
+            height e + b ≤ n → Rules.AfterGuard G x t e a → LowAnswer (suc n) a
         guard_low n (fails f) t e a g p q r = by_failure (suc n) a f r
         guard_low n (answers (value v)) t e a g p q r = takes_low n (bool_of (abstract_value v)) v t e a p q r
         guard_low n (answers (residual z)) t e a g p q r = branches_low n z t e a g.0 p q r
 
-        right_low : (n : ℕ) (f : Term → Term) → ((r : Term) → h r ≤ n → Low (suc n) (f r)) → (t : Term) (a : Answer) → height t + b ≤ n → Rules.ReadsRight G f t a → LowAnswer (suc n) a
+        right_low : (n : ℕ) (f : Term → Term) → ((r : Term) → h r ≤ n → Low (suc n) (f r)) → (t : Term) (a : Answer) →
+            height t + b ≤ n → Rules.ReadsRight G f t a → LowAnswer (suc n) a
         right_low n f k t a p (x, g, e) = by_equal (suc n) a _ e (joined_low n f k x (part n t p x g))
 
-        kept_low : (n : ℕ) (f : Term → Term) → ((r : Term) → h r ≤ n → Low (suc n) (f r)) → (t : Term) (a : Answer) → height t + b ≤ n → Rules.KeepsRight G f t a → LowAnswer (suc n) a
+        kept_low : (n : ℕ) (f : Term → Term) → ((r : Term) → h r ≤ n → Low (suc n) (f r)) → (t : Term) (a : Answer) →
+            height t + b ≤ n → Rules.KeepsRight G f t a → LowAnswer (suc n) a
         kept_low n f k t a p (x, g, l) =
-            best_low n x t _ a (LowAnswer (suc n) a) (part n t p x g) (kept_term n t p) l (λ u hu i. by_equal (suc n) a _ i (k u hu)) (λ i j. by_failure (suc n) a i j)
+            best_low n x t _ a (LowAnswer (suc n) a) (part n t p x g) (kept_term n t p) l
+            (λ u hu i. by_equal (suc n) a _ i (k u hu)) (λ i j. by_failure (suc n) a i j)
 
         both_beside : (n : ℕ) (q r : Term) → h q ≤ n → h r ≤ n → Low (suc n) (both q r)
         unfolding substituted
@@ -501,54 +596,68 @@ module _ (m : Mapping) where
         unfolding substituted
         literal_low n l e = e
 
-        and_bool_low : (n : ℕ) (c : Option Bool) (v : Represented) (t : Term) (a : Answer) → 1 ≤ n → height t + b ≤ n → Rules.AndLeft G c v t a → LowAnswer (suc n) a
+        and_bool_low : (n : ℕ) (c : Option Bool) (v : Represented) (t : Term) (a : Answer) → 1 ≤ n →
+            height t + b ≤ n → Rules.AndLeft G c v t a → LowAnswer (suc n) a
         and_bool_low n None v t a e p r = by_failure (suc n) a _ r
         and_bool_low n (Some true) v t a e p r =
             right_low n _ (λ q f. both_beside n (literal (bool_literal true)) q (literal_low n _ e) f) t a p r
         and_bool_low n (Some false) v t a e p r = by_equal (suc n) a _ r (low_bool (suc n) false (omega arith))
 
-        and_low : (n : ℕ) (x : Answer) (t : Term) (a : Answer) → 1 ≤ n → LowAnswer n x → height t + b ≤ n → Rules.AfterAndLeft G x t a → LowAnswer (suc n) a
+        and_low : (n : ℕ) (x : Answer) (t : Term) (a : Answer) → 1 ≤ n → LowAnswer n x → height t + b ≤ n →
+            Rules.AfterAndLeft G x t a → LowAnswer (suc n) a
         and_low n (fails f) t a e g p r = by_failure (suc n) a f r
         and_low n (answers (value v)) t a e g p r = and_bool_low n (bool_of (abstract_value v)) v t a e p r
         and_low n (answers (residual z)) t a e g p r = kept_low n (both z) (λ q f. both_beside n z q g.0 f) t a p r
 
-        or_bool_low : (n : ℕ) (c : Option Bool) (v : Represented) (t : Term) (a : Answer) → 1 ≤ n → height t + b ≤ n → Rules.OrLeft G c v t a → LowAnswer (suc n) a
+        or_bool_low : (n : ℕ) (c : Option Bool) (v : Represented) (t : Term) (a : Answer) → 1 ≤ n → height t + b ≤ n →
+            Rules.OrLeft G c v t a → LowAnswer (suc n) a
         or_bool_low n None v t a e p r = by_failure (suc n) a _ r
         or_bool_low n (Some true) v t a e p r = by_equal (suc n) a _ r (low_bool (suc n) true (omega arith))
         or_bool_low n (Some false) v t a e p r =
             right_low n _ (λ q f. either_beside n (literal (bool_literal false)) q (literal_low n _ e) f) t a p r
 
-        or_low : (n : ℕ) (x : Answer) (t : Term) (a : Answer) → 1 ≤ n → LowAnswer n x → height t + b ≤ n → Rules.AfterOrLeft G x t a → LowAnswer (suc n) a
+        or_low : (n : ℕ) (x : Answer) (t : Term) (a : Answer) → 1 ≤ n → LowAnswer n x → height t + b ≤ n →
+            Rules.AfterOrLeft G x t a → LowAnswer (suc n) a
         or_low n (fails f) t a e g p r = by_failure (suc n) a f r
         or_low n (answers (value v)) t a e g p r = or_bool_low n (bool_of (abstract_value v)) v t a e p r
         or_low n (answers (residual z)) t a e g p r =
             kept_low n (either z) (λ q f. either_beside n z q g.0 f) t a p r
 
-        left_low : (n : ℕ) (op : BinaryOperator) (x : Answer) (t : Term) (a : Answer) → suc b ≤ n → LowAnswer n x → height t + b ≤ n → Rules.AfterLeft G s op x t a → LowAnswer (suc n) a
+        left_low : (n : ℕ) (op : BinaryOperator) (x : Answer) (t : Term) (a : Answer) → suc b ≤ n → LowAnswer n x →
+            height t + b ≤ n → Rules.AfterLeft G s op x t a → LowAnswer (suc n) a
         left_low n op (fails f) t a e g p r = by_failure (suc n) a f r
         left_low n op (answers q) t a e g p (y, k, r) =
             by_equal (suc n) a _ r (beside_low n e op q y g (part n t p y k))
 
-        projects_low : (n : ℕ) (c : Bool) (r : Term) (k : Text) (u : Term) (a : Answer) → Low n r → h u ≤ n → (c ≡ true → (is_projectable u ≡ true) × (is_restricted u ≡ true)) → Rules.Projects G c r k u a → LowAnswer (suc n) a
+        projects_low : (n : ℕ) (c : Bool) (r : Term) (k : Text) (u : Term) (a : Answer) → Low n r → h u ≤ n →
+            (c ≡ true → (is_projectable u ≡ true) × (is_restricted u ≡ true)) → Rules.Projects G c r k u a →
+            LowAnswer (suc n) a
         unfolding substituted
         projects_low n true r k u a e f g j =
             let z = g refl in raise (h u) (suc n) (omega arith) a (plain u z.0 z.1 a j)
         projects_low n false r k u a (e, e') f g j = by_equal (suc n) a _ j (omega arith, λ p. absurd (cc))
 
-        at_key_low : (n : ℕ) (o : Option Term) (fs : Fields) (r : Term) (k : Text) (a : Answer) → Low n r → Rules.fields_of_record r ≡ Some fs → Operators.term_at k fs ≡ o → Rules.AtKey G o fs r k a → LowAnswer (suc n) a
+        at_key_low : (n : ℕ) (o : Option Term) (fs : Fields) (r : Term) (k : Text) (a : Answer) → Low n r →
+            Rules.fields_of_record r ≡ Some fs → Operators.term_at k fs ≡ o → Rules.AtKey G o fs r k a →
+            LowAnswer (suc n) a
         at_key_low n None fs r k a e f g j = by_failure (suc n) a _ j
         at_key_low n (Some u) fs r k a e f g j =
-            projects_low n (is_projectable r) r k u a e (let x = part_of_record r k fs u f g in let y = e.0 in omega arith) (λ p. (projectable_part r fs k u f g p, restricted_part r fs k u f g (e.1 p))) j
+            projects_low n (is_projectable r) r k u a e
+            (let x = part_of_record r k fs u f g in let y = e.0 in omega arith)
+            (λ p. (projectable_part r fs k u f g p, restricted_part r fs k u f g (e.1 p))) j
 
-        at_fields_low : (n : ℕ) (o : Option Fields) (r : Term) (k : Text) (a : Answer) → Low n r → Rules.fields_of_record r ≡ o → Rules.AtFields G o r k a → LowAnswer (suc n) a
+        at_fields_low : (n : ℕ) (o : Option Fields) (r : Term) (k : Text) (a : Answer) → Low n r →
+            Rules.fields_of_record r ≡ o → Rules.AtFields G o r k a → LowAnswer (suc n) a
         unfolding substituted
         at_fields_low n None r k a (e, e') f j = by_equal (suc n) a _ j (omega arith, λ p. absurd (cc))
         at_fields_low n (Some fs) r k a e f j = at_key_low n (Operators.term_at k fs) fs r k a e f refl j
 
-        attribute_low : (n : ℕ) (x : Answer) (k : Text) (a : Answer) → suc b ≤ n → LowAnswer n x → Rules.AtAttribute G s x k a → LowAnswer (suc n) a
+        attribute_low : (n : ℕ) (x : Answer) (k : Text) (a : Answer) → suc b ≤ n → LowAnswer n x →
+            Rules.AtAttribute G s x k a → LowAnswer (suc n) a
         attribute_low n (fails f) k a e g j = by_failure (suc n) a f j
         attribute_low n (answers (value v)) k a e g j =
-            by_equal (suc n) a _ j (operands.attribute_all s (LowValue n) (LowValue (suc n)) (Low (suc n)) AnyFailure (facts n e) v k g)
+            by_equal (suc n) a _ j (operands.attribute_all s (LowValue n) (LowValue (suc n)) (Low (suc n)) AnyFailure
+            (facts n e) v k g)
         attribute_low n (answers (residual r)) k a e g j = at_fields_low n (Rules.fields_of_record r) r k a g refl j
 
         -- one level above a part or parts of this height
@@ -571,10 +680,14 @@ module _ (m : Mapping) where
         unfolding substituted
         rule_low (literal l) a r = by_equal _ a _ r (omega arith, λ p. refl)
         rule_low (variable v) a r =
-            by_equal _ a _ r (raise (suc b) (1 + b) (omega arith) (answers (variable_part s.request v)) (variable_low v))
+            by_equal _ a _ r (raise (suc b) (1 + b) (omega arith) (answers (variable_part s.request v))
+            (variable_low v))
         rule_low (slot i) a r = by_equal _ a _ r (slot_low (1 + b) i (s.slots i) (omega arith))
         rule_low (unknown n t) a r =
-            by_equal _ a _ r (mapped_unknown (1 + b) n t (λ v e. (let x = mapped_below n v e in omega arith, value_plain v)) (let x = unknown_low n t in omega arith, λ p. refl))
+            by_equal _ a _ r (mapped_unknown (1 + b) n t (λ v e. (
+              let x = mapped_below n v e in omega arith,
+              value_plain v,
+            )) (let x = unknown_low n t in omega arith, λ p. refl))
         rule_low (if_then_else c t e) a (x, g, k) =
             let n = max (height c) (max (height t) (height e)) + b in
             above n _ a (guard_low n x t e a (part n c (omega arith) x g) (omega arith) (omega arith) k) (omega arith)
@@ -589,14 +702,17 @@ module _ (m : Mapping) where
         rule_low (unary op t) a (x, g, e) =
             let n = height t + b in
             let i = positive t in
-            above n _ a (by_equal (suc n) a _ e (on_part_low n _ _ (operands.unary_all s (LowValue n) (LowValue (suc n)) (Low (suc n)) AnyFailure (facts n (omega arith)) op) (unary_beside n op) x (ih t x g))) (omega arith)
+            above n _ a (by_equal (suc n) a _ e (on_part_low n _ _ (operands.unary_all s (LowValue n)
+            (LowValue (suc n)) (Low (suc n)) AnyFailure (facts n (omega arith)) op) (unary_beside n op) x
+            (ih t x g))) (omega arith)
         rule_low (binary op t u) a (x, g, k) =
             let n = max (height t) (height u) + b in
             let i = positive t in
             above n _ a (left_low n op x u a (omega arith) (part n t (omega arith) x g) (omega arith) k) (omega arith)
         rule_low (call f ts) a (r, g, k) =
             let n = greatest_height ts + b in
-            above n _ a (arguments_low n (omega arith) f r a (parts_low n ts r (each_part n ts (omega arith)) g) k) (omega arith)
+            above n _ a (arguments_low n (omega arith) f r a (parts_low n ts r (each_part n ts (omega arith)) g) k)
+            (omega arith)
         rule_low (get_attribute t k) a (x, g, j) =
             let n = height t + b in
             let i = positive t in
@@ -608,37 +724,51 @@ module _ (m : Mapping) where
         rule_low (extended_has t k ks) a (x, g, e) =
             let n = height t + b in
             let i = positive t in
-            above n _ a (by_equal (suc n) a _ e (on_part_low n _ _ (λ v. operands.path_all s (LowValue n) (LowValue (suc n)) (Low (suc n)) AnyFailure (facts n (omega arith)) ks v k) (path_beside n k ks) x (ih t x g))) (omega arith)
+            above n _ a (by_equal (suc n) a _ e (on_part_low n _ _ (λ v. operands.path_all s (LowValue n)
+            (LowValue (suc n)) (Low (suc n)) AnyFailure (facts n (omega arith)) ks v k) (path_beside n k ks) x
+            (ih t x g))) (omega arith)
         rule_low (like t p) a (x, g, e) =
             let n = height t + b in
             let i = positive t in
-            above n _ a (by_equal (suc n) a _ e (on_part_low n _ _ (operands.like_all s (LowValue n) (LowValue (suc n)) (Low (suc n)) AnyFailure (facts n (omega arith)) p) (like_beside n p) x (ih t x g))) (omega arith)
+            above n _ a (by_equal (suc n) a _ e (on_part_low n _ _ (operands.like_all s (LowValue n)
+            (LowValue (suc n)) (Low (suc n)) AnyFailure (facts n (omega arith)) p) (like_beside n p) x
+            (ih t x g))) (omega arith)
         rule_low (is_of_type t k) a (x, g, e) =
             let n = height t + b in
             let i = positive t in
             above n _ a (by_equal (suc n) a _ e (is_low n (omega arith) k x (ih t x g))) (omega arith)
         rule_low (set_of ts) a (r, g, e) =
             let n = greatest_height ts + b in
-            above n _ a (by_equal (suc n) a _ e (set_low n r (parts_low n ts r (each_part n ts (omega arith)) g))) (omega arith)
+            above n _ a (by_equal (suc n) a _ e (set_low n r (parts_low n ts r (each_part n ts (omega arith)) g)))
+            (omega arith)
         rule_low (record_of fs) a (r, g, e) =
             let n = greatest_height_at fs + b in
-            above n _ a (by_equal (suc n) a _ e (record_low n r (field_parts_low n fs r (each_part_at n fs (omega arith)) g))) (omega arith)
+            above n _ a (by_equal (suc n) a _ e
+            (record_low n r (field_parts_low n fs r (each_part_at n fs (omega arith)) g))) (omega arith)
 
     -- ---- levels
 
-    plain_unknown : (k : Text) (t : Option ValueType) → LowAnswer (h (unknown k t)) (Operators.unknown_answer s.map k t)
+    plain_unknown : (k : Text) (t : Option ValueType) →
+        LowAnswer (h (unknown k t)) (Operators.unknown_answer s.map k t)
     unfolding substituted value_for
-    plain_unknown k t = mapped_unknown (h (unknown k t)) k t (λ v e. (let x = mapped_low k v e in by v e x, value_plain v)) (omega arith, λ p. refl)
+    plain_unknown k t =
+        mapped_unknown (h (unknown k t)) k t (λ v e. (
+          let x = mapped_low k v e in by v e x,
+          value_plain v,
+        )) (omega arith, λ p. refl)
       where
-        by : (v : Represented) → s.map k ≡ Some v → h (expression_of v) ≡ height (expression_of v) → h (expression_of v) ≤ h (unknown k t)
+        by : (v : Represented) → s.map k ≡ Some v → h (expression_of v) ≡ height (expression_of v) →
+            h (expression_of v) ≤ h (unknown k t)
         by v e x =
-            let y : height (expression_of v) ≡ h (unknown k t) = ap (λ o. height (value_for o (unknown k t))) (sym (within k v e)) in
+            let y : height (expression_of v) ≡ h (unknown k t) =
+            ap (λ o. height (value_for o (unknown k t))) (sym (within k v e)) in
             omega arith
 
     mutual
       unfolding substituted
 
-      plain_low : (n : ℕ) (t : Term) → is_projectable t ≡ true → is_restricted t ≡ true → AnswersLow (Rules.Runs s calls n) (h t) t
+      plain_low : (n : ℕ) (t : Term) → is_projectable t ≡ true → is_restricted t ≡ true →
+          AnswersLow (Rules.Runs s calls n) (h t) t
       plain_low zero t p q x g = by_equal (h t) x limit g tt
       plain_low (suc n) (literal l) p q x g = by_equal _ x _ g (omega arith, λ i. refl)
       plain_low (suc n) (variable v) p q x g = absurd (cc)
@@ -656,30 +786,40 @@ module _ (m : Mapping) where
       plain_low (suc n) (like t i) p q x g = absurd (cc)
       plain_low (suc n) (is_of_type t k) p q x g = absurd (cc)
       plain_low (suc n) (set_of ts) p q x (r, g, e) =
-          by_equal _ x _ e (set_low _ r (parts_low (Rules.Runs s calls n) _ ts r (plain_each n (greatest_height (substituted_each m ts)) ts p q (omega arith)) g))
+          by_equal _ x _ e (set_low _ r (parts_low (Rules.Runs s calls n) _ ts r
+          (plain_each n (greatest_height (substituted_each m ts)) ts p q (omega arith)) g))
       plain_low (suc n) (record_of fs) p q x (r, g, e) =
-          by_equal _ x _ e (record_low _ r (field_parts_low (Rules.Runs s calls n) _ fs r (plain_each_at n (greatest_height_at (substituted_at m fs)) fs p q (omega arith)) g))
+          by_equal _ x _ e (record_low _ r (field_parts_low (Rules.Runs s calls n) _ fs r
+          (plain_each_at n (greatest_height_at (substituted_at m fs)) fs p q (omega arith)) g))
 
-      plain_each : (n k : ℕ) (ts : Terms) → are_projectable ts ≡ true → are_restricted ts ≡ true → greatest_height (substituted_each m ts) ≤ k → EachAnswersLow (Rules.Runs s calls n) k ts
+      plain_each : (n k : ℕ) (ts : Terms) → are_projectable ts ≡ true → are_restricted ts ≡ true →
+          greatest_height (substituted_each m ts) ≤ k → EachAnswersLow (Rules.Runs s calls n) k ts
       plain_each n k no_terms p q e = tt
-      plain_each n k (one_term t ts) p q e =
-          (λ x g. raise (h t) k (omega arith) x (plain_low n t (both_first _ _ p) (both_first _ _ q) x g), plain_each n k ts (both_second _ _ p) (both_second _ _ q) (omega arith))
+      plain_each n k (one_term t ts) p q e = (
+        λ x g. raise (h t) k (omega arith) x (plain_low n t (both_first _ _ p) (both_first _ _ q) x g),
+        plain_each n k ts (both_second _ _ p) (both_second _ _ q) (omega arith),
+      )
 
-      plain_each_at : (n k : ℕ) (fs : Fields) → are_projectable_at fs ≡ true → are_restricted_at fs ≡ true → greatest_height_at (substituted_at m fs) ≤ k → EachAnswersLowAt (Rules.Runs s calls n) k fs
+      plain_each_at : (n k : ℕ) (fs : Fields) → are_projectable_at fs ≡ true → are_restricted_at fs ≡ true →
+          greatest_height_at (substituted_at m fs) ≤ k → EachAnswersLowAt (Rules.Runs s calls n) k fs
       plain_each_at n k no_fields p q e = tt
-      plain_each_at n k (one_field l t fs) p q e =
-          (λ x g. raise (h t) k (omega arith) x (plain_low n t (both_first _ _ p) (both_first _ _ q) x g), plain_each_at n k fs (both_second _ _ p) (both_second _ _ q) (omega arith))
+      plain_each_at n k (one_field l t fs) p q e = (
+        λ x g. raise (h t) k (omega arith) x (plain_low n t (both_first _ _ p) (both_first _ _ q) x g),
+        plain_each_at n k fs (both_second _ _ p) (both_second _ _ q) (omega arith),
+      )
 
     -- an answer is no higher than its expression and the bound
     pub runs_low : (n : ℕ) (t : Term) (a : Answer) → Rules.Runs s calls n t a → LowAnswer (height t + b) a
     runs_low zero t a g = by_equal (height t + b) a limit g tt
     runs_low (suc n) t a g = rule_low (Rules.Runs s calls n) (runs_low n) (plain_low n) t a g
 
-    pub answers_low : (t : Term) (p : PartialValue) → Rules.Allows s calls t (answers p) → substituted_height m p ≤ height t + b
+    pub answers_low : (t : Term) (p : PartialValue) → Rules.Allows s calls t (answers p) →
+        substituted_height m p ≤ height t + b
     answers_low t p (ne, n, g) = (low_expression (height t + b) p (runs_low n t (answers p) g)).0
 
     -- a substituted context is no higher than the bound, and so at most twice as high when it is interpreted
-    pub contexts_low : (fs : Fields) (p : PartialValue) → s.request.context_part ≡ residual_context fs → Rules.Allows s calls (record_of (substituted_at m fs)) (answers p) → substituted_height m p ≤ b + b
+    pub contexts_low : (fs : Fields) (p : PartialValue) → s.request.context_part ≡ residual_context fs →
+        Rules.Allows s calls (record_of (substituted_at m fs)) (answers p) → substituted_height m p ≤ b + b
     unfolding substituted
     contexts_low fs p e g =
         let x : height (record_of (substituted_at m fs)) ≤ b = subst (IsContextNoHigher m b) e low.context_low in

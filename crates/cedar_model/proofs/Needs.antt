@@ -1,7 +1,9 @@
 -- The need is at most the height and the bound together.
 use Rattle.std.specs.Prelude.{◌≡◌, ◌⊎◌, ℕ, zero, suc, ◌+◌, ◌<◌, ◌≤◌, max, Bool, true, false, ◌&&◌}
 use Rattle.std.proofs.Common.{refl, subst, sym, arith, inl, inr}
-use Rattle.cedar_model.specs.Terms.{Term, literal, variable, slot, unknown, if_then_else, both, either, unary, binary, call, get_attribute, has_attribute, extended_has, like, is_of_type, set_of, record_of, Terms, no_terms, one_term, Fields, no_fields, one_field}
+use Rattle.cedar_model.specs.Terms.{Term, literal, variable, slot, unknown, if_then_else, both, either, unary, binary}
+use Rattle.cedar_model.specs.Terms.{call, get_attribute, has_attribute, extended_has, like, is_of_type, set_of}
+use Rattle.cedar_model.specs.Terms.{record_of, Terms, no_terms, one_term, Fields, no_fields, one_field}
 use Rattle.cedar_model.specs.Shapes.{is_restricted, are_restricted, are_restricted_at}
 use Rattle.cedar_model.specs.Failures.{Answer, answers, residual, limit}
 use Rattle.cedar_model.specs.Settings.{Setting}
@@ -25,18 +27,23 @@ module _ (s : Setting) (calls : Rules.StoredCalls) (answered : FunctionsMeetNoLi
     LevelsBelow t = is_restricted t ≡ true → n < height t
 
     module _ (ih : (t : Term) (x : Answer) → Rules.Runs s calls n t x → x ≡ limit → LevelsBelow t) where
-      each_restricted : (ts : Terms) → limits.MeetsEach s calls answered (Rules.Runs s calls n) LevelsBelow ih ts → are_restricted ts ≡ true → n < greatest_height ts
+      each_restricted : (ts : Terms) → limits.MeetsEach s calls answered (Rules.Runs s calls n) LevelsBelow ih ts →
+          are_restricted ts ≡ true → n < greatest_height ts
       each_restricted no_terms h p = absurd h
       each_restricted (one_term t ts) (inl h) p = let x = h (both_first _ _ p) in omega arith
-      each_restricted (one_term t ts) (inr h) p = let x = each_restricted ts h (both_second (is_restricted t) (are_restricted ts) p) in omega arith
+      each_restricted (one_term t ts) (inr h) p =
+          let x = each_restricted ts h (both_second (is_restricted t) (are_restricted ts) p) in omega arith
 
-      each_restricted_at : (fs : Fields) → limits.MeetsEachAt s calls answered (Rules.Runs s calls n) LevelsBelow ih fs → are_restricted_at fs ≡ true → n < greatest_height_at fs
+      each_restricted_at : (fs : Fields) →
+          limits.MeetsEachAt s calls answered (Rules.Runs s calls n) LevelsBelow ih fs → are_restricted_at fs ≡ true →
+          n < greatest_height_at fs
       each_restricted_at no_fields h p = absurd h
       each_restricted_at (one_field k t fs) (inl h) p = let x = h (both_first _ _ p) in omega arith
       each_restricted_at (one_field k t fs) (inr h) p =
           let x = each_restricted_at fs h (both_second (is_restricted t) (are_restricted_at fs) p) in omega arith
 
-      restricted_rule : (t : Term) → limits.PartMeets s calls answered (Rules.Runs s calls n) LevelsBelow ih t → is_restricted t ≡ true → suc n < height t
+      restricted_rule : (t : Term) → limits.PartMeets s calls answered (Rules.Runs s calls n) LevelsBelow ih t →
+          is_restricted t ≡ true → suc n < height t
       restricted_rule (literal l) h p = absurd h
       restricted_rule (variable v) h p = absurd h
       restricted_rule (slot i) h p = absurd h
@@ -58,7 +65,9 @@ module _ (s : Setting) (calls : Rules.StoredCalls) (answered : FunctionsMeetNoLi
   pub restricted_need : (n : ℕ) (t : Term) → is_restricted t ≡ true → Rules.Exceeds s calls t n → n < height t
   restricted_need zero t p r = positive t
   restricted_need (suc n) t p r =
-      restricted_rule n (λ u x g q i. restricted_need n u i (subst (Rules.Runs s calls n u) q g)) t (limits.rule_met s calls answered (Rules.Runs s calls n) (LevelsBelow n) (λ u x g q i. restricted_need n u i (subst (Rules.Runs s calls n u) q g)) t limit r refl) p
+      restricted_rule n (λ u x g q i. restricted_need n u i (subst (Rules.Runs s calls n u) q g)) t
+      (limits.rule_met s calls answered (Rules.Runs s calls n) (LevelsBelow n) (λ u x g q i. restricted_need n u i
+      (subst (Rules.Runs s calls n u) q g)) t limit r refl) p
 
   -- ---- all expressions
 
@@ -68,17 +77,20 @@ module _ (s : Setting) (calls : Rules.StoredCalls) (answered : FunctionsMeetNoLi
       Below t = (n < height t + b) × LevelsBelow n t
 
       module _ (ih : (t : Term) (x : Answer) → Rules.Runs s calls n t x → x ≡ limit → Below t) where
-        each_below : (ts : Terms) → limits.MeetsEach s calls answered (Rules.Runs s calls n) Below ih ts → n < greatest_height ts + b
+        each_below : (ts : Terms) → limits.MeetsEach s calls answered (Rules.Runs s calls n) Below ih ts →
+            n < greatest_height ts + b
         each_below no_terms h = absurd h
         each_below (one_term t ts) (inl h) = let x = h.0 in omega arith
         each_below (one_term t ts) (inr h) = let x = each_below ts h in omega arith
 
-        each_below_at : (fs : Fields) → limits.MeetsEachAt s calls answered (Rules.Runs s calls n) Below ih fs → n < greatest_height_at fs + b
+        each_below_at : (fs : Fields) → limits.MeetsEachAt s calls answered (Rules.Runs s calls n) Below ih fs →
+            n < greatest_height_at fs + b
         each_below_at no_fields h = absurd h
         each_below_at (one_field k t fs) (inl h) = let x = h.0 in omega arith
         each_below_at (one_field k t fs) (inr h) = let x = each_below_at fs h in omega arith
 
-        rule_below : (t : Term) → limits.PartMeets s calls answered (Rules.Runs s calls n) Below ih t → suc n < height t + b
+        rule_below : (t : Term) → limits.PartMeets s calls answered (Rules.Runs s calls n) Below ih t →
+            suc n < height t + b
         rule_below (literal l) h = absurd h
         rule_below (variable v) h = absurd h
         rule_below (slot i) h = absurd h
@@ -96,7 +108,8 @@ module _ (s : Setting) (calls : Rules.StoredCalls) (answered : FunctionsMeetNoLi
         rule_below (call f ts) h = let x = each_below ts h in omega arith
         rule_below (get_attribute t k) (inl h) = let x = h.0 in omega arith
         rule_below (get_attribute t k) (inr h) =
-            let l = runs_low s.map s calls b (λ m v e. e) sound low n t (answers (residual h.whole)) h.answered_whole in
+            let l =
+            runs_low s.map s calls b (λ m v e. e) sound low n t (answers (residual h.whole)) h.answered_whole in
             let p = restricted_part h.whole h.fields k h.part h.is_record h.is_part (l.1 h.projectable) in
             let x : height (substituted s.map h.whole) ≤ height t + b = l.0 in
             let y = part_of_record s.map h.whole k h.fields h.part h.is_record h.is_part in
@@ -113,4 +126,11 @@ module _ (s : Setting) (calls : Rules.StoredCalls) (answered : FunctionsMeetNoLi
     pub need_bounded : (n : ℕ) (t : Term) → Rules.Exceeds s calls t n → n < height t + b
     need_bounded zero t r = let x = positive t in omega arith
     need_bounded (suc n) t r =
-        rule_below n (λ u x g q. (need_bounded n u (subst (Rules.Runs s calls n u) q g), λ i. restricted_need n u i (subst (Rules.Runs s calls n u) q g))) t (limits.rule_met s calls answered (Rules.Runs s calls n) (Below n) (λ u x g q. (need_bounded n u (subst (Rules.Runs s calls n u) q g), λ i. restricted_need n u i (subst (Rules.Runs s calls n u) q g))) t limit r refl)
+        rule_below n (λ u x g q. (
+          need_bounded n u (subst (Rules.Runs s calls n u) q g),
+          λ i. restricted_need n u i (subst (Rules.Runs s calls n u) q g),
+        )) t (limits.rule_met s calls answered
+        (Rules.Runs s calls n) (Below n) (λ u x g q. (
+          need_bounded n u (subst (Rules.Runs s calls n u) q g),
+          λ i. restricted_need n u i (subst (Rules.Runs s calls n u) q g),
+        )) t limit r refl)

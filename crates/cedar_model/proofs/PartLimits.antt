@@ -1,11 +1,17 @@
 -- A layer meets the limit only where one of its parts does.
-use Rattle.std.specs.Prelude.{◌≡◌, ◌≢◌, ◌⊎◌, ℕ, ◌==◌, Bool, true, false, cond, List, [], ◌∷◌, length, Option, Some, None, Result, Ok, Err}
+use Rattle.std.specs.Prelude.{◌≡◌, ◌≢◌, ◌⊎◌, ℕ, ◌==◌, Bool, true, false, cond, List, [], ◌∷◌, length, Option, Some}
+use Rattle.std.specs.Prelude.{None, Result, Ok, Err}
 use Rattle.std.proofs.Common.{refl, ap, subst, sym, ◌∙◌, inl, inr}
-use Rattle.cedar_model.specs.Terms.{Text, EntityName, BinaryOperator, Literal, Variable, Slot, Term, literal, variable, slot, unknown, if_then_else, both, either, unary, binary, call, get_attribute, has_attribute, extended_has, like, is_of_type, set_of, record_of, Terms, no_terms, one_term, Fields, no_fields, one_field}
+use Rattle.cedar_model.specs.Terms.{Text, EntityName, BinaryOperator, Literal, Variable, Slot, Term, literal}
+use Rattle.cedar_model.specs.Terms.{variable, slot, unknown, if_then_else, both, either, unary, binary, call}
+use Rattle.cedar_model.specs.Terms.{get_attribute, has_attribute, extended_has, like, is_of_type, set_of, record_of}
+use Rattle.cedar_model.specs.Terms.{Terms, no_terms, one_term, Fields, no_fields, one_field}
 use Rattle.cedar_model.specs.Values.{Represented, abstract_value}
 use Rattle.cedar_model.specs.Shapes.{is_projectable}
 use Rattle.cedar_model.specs.Outcomes.{ErrorKind, bool_of}
-use Rattle.cedar_model.specs.Failures.{Failure, FailureKind, of_meaning, of_residual, of_limit, of_memory, failure_kind, recursion_limit, PartialValue, value, residual, Answer, answers, answers_bool, fails, limit, part_expression}
+use Rattle.cedar_model.specs.Failures.{Failure, FailureKind, of_meaning, of_residual, of_limit, of_memory}
+use Rattle.cedar_model.specs.Failures.{failure_kind, recursion_limit, PartialValue, value, residual, Answer, answers}
+use Rattle.cedar_model.specs.Failures.{answers_bool, fails, limit, part_expression}
 use Rattle.cedar_model.specs.Settings.{StoredEntity, Setting, part_at}
 use Rattle.cedar_model.specs.Operators
 use Rattle.cedar_model.specs.Rules
@@ -67,7 +73,8 @@ ok_isn't A x e r h q = cc
 
 -- ---- a layer
 
-module _ (s : Setting) (calls : Rules.StoredCalls) (answered : FunctionsMeetNoLimit calls) (G : Rules.MayAnswer) (L : Term → Type 0) (met : (t : Term) (x : Answer) → G t x → x ≡ limit → L t) where
+module _ (s : Setting) (calls : Rules.StoredCalls) (answered : FunctionsMeetNoLimit calls) (G : Rules.MayAnswer)
+    (L : Term → Type 0) (met : (t : Term) (x : Answer) → G t x → x ≡ limit → L t) where
   abbrev pub MeetsEach : Terms → Type 0
   MeetsEach no_terms = ⊥
   MeetsEach (one_term t ts) = L t ⊎ MeetsEach ts
@@ -108,12 +115,14 @@ module _ (s : Setting) (calls : Rules.StoredCalls) (answered : FunctionsMeetNoLi
   PartMeets (record_of fs) = MeetsEachAt fs
 
   -- what was handed up is the limit only if the part's answer was
-  best_met : (x : Answer) (t : Term) (Next : Term → Answer → Type 0) (a : Answer) → Rules.AfterBest (Rules.best x t) Next a → a ≡ limit → (x ≡ limit) ⊎ ((u : Term) × Next u a)
+  best_met : (x : Answer) (t : Term) (Next : Term → Answer → Type 0) (a : Answer) →
+      Rules.AfterBest (Rules.best x t) Next a → a ≡ limit → (x ≡ limit) ⊎ ((u : Term) × Next u a)
   unfolding Rules.best Rules.best_of_kind
   best_met (answers p) t Next a h q = inr (part_expression p, h)
   best_met (fails e) t Next a h q = by (failure_kind e) h
     where
-      by : (k : FailureKind) → Rules.AfterBest (Rules.best_of_kind k e t) Next a → (fails e ≡ limit) ⊎ ((u : Term) × Next u a)
+      by : (k : FailureKind) → Rules.AfterBest (Rules.best_of_kind k e t) Next a → (fails e ≡ limit) ⊎ ((u : Term) ×
+          Next u a)
       by (of_meaning k) j = inr (t, j)
       by of_residual j = inr (t, j)
       by of_limit j = inl (sym j ∙ q)
@@ -128,7 +137,8 @@ module _ (s : Setting) (calls : Rules.StoredCalls) (answered : FunctionsMeetNoLi
   part_met : (p : PartialValue) (a : Answer) → a ≡ answers p → a ≡ limit → ⊥
   part_met p a e q = answers≢limit p (sym e ∙ q)
 
-  takes_met : (b : Option Bool) (v : Represented) (t e : Term) (a : Answer) → Rules.TakesBranch G b v t e a → a ≡ limit → L t ⊎ L e
+  takes_met : (b : Option Bool) (v : Represented) (t e : Term) (a : Answer) → Rules.TakesBranch G b v t e a →
+      a ≡ limit → L t ⊎ L e
   takes_met None v t e a r q = absurd (bool_met v a r q)
   takes_met (Some true) v t e a r q = inl (met t a r q)
   takes_met (Some false) v t e a r q = inr (met e a r q)
@@ -136,7 +146,8 @@ module _ (s : Setting) (calls : Rules.StoredCalls) (answered : FunctionsMeetNoLi
   branches_met : (r t e : Term) (a : Answer) → Rules.KeepsBranches G r t e a → a ≡ limit → L t ⊎ L e
   branches_met r t e a (x, g, h) q = by (best_met x t _ a h q)
     where
-      by : (x ≡ limit) ⊎ ((u : Term) × ((y : Answer) × G e y × Rules.AfterBest (Rules.best y e) (λ e' c. c ≡ answers (residual (if_then_else r u e'))) a)) → L t ⊎ L e
+      by : (x ≡ limit) ⊎ ((u : Term) × ((y : Answer) × G e y ×
+          Rules.AfterBest (Rules.best y e) (λ e' c. c ≡ answers (residual (if_then_else r u e'))) a)) → L t ⊎ L e
       by (inl k) = inl (met t x g k)
       by (inr (u, (y, j, l))) = inr (met e y j (last (best_met y e _ a l q)))
         where
@@ -144,7 +155,8 @@ module _ (s : Setting) (calls : Rules.StoredCalls) (answered : FunctionsMeetNoLi
           last (inl k) = k
           last (inr (z, k)) = absurd (part_met _ a k q)
 
-  guard_met : (x : Answer) (t e : Term) (a : Answer) → Rules.AfterGuard G x t e a → a ≡ limit → (x ≡ limit) ⊎ (L t ⊎ L e)
+  guard_met : (x : Answer) (t e : Term) (a : Answer) → Rules.AfterGuard G x t e a → a ≡ limit →
+      (x ≡ limit) ⊎ (L t ⊎ L e)
   guard_met (fails f) t e a r q = inl (sym r ∙ q)
   guard_met (answers (value v)) t e a r q = inr (takes_met (bool_of (abstract_value v)) v t e a r q)
   guard_met (answers (residual r')) t e a r q = inr (branches_met r' t e a r q)
@@ -170,7 +182,8 @@ module _ (s : Setting) (calls : Rules.StoredCalls) (answered : FunctionsMeetNoLi
       by (inl j) = j
       by (inr (u, j)) = absurd (part_met _ a j q)
 
-  and_bool_met : (b : Option Bool) (v : Represented) (t : Term) (a : Answer) → Rules.AndLeft G b v t a → a ≡ limit → L t
+  and_bool_met : (b : Option Bool) (v : Represented) (t : Term) (a : Answer) → Rules.AndLeft G b v t a → a ≡ limit →
+      L t
   and_bool_met None v t a r q = absurd (bool_met v a r q)
   and_bool_met (Some true) v t a r q = right_met _ t a r q
   and_bool_met (Some false) v t a r q = absurd (part_met _ a r q)
@@ -190,7 +203,8 @@ module _ (s : Setting) (calls : Rules.StoredCalls) (answered : FunctionsMeetNoLi
   or_met (answers (value v)) t a r q = inr (or_bool_met (bool_of (abstract_value v)) v t a r q)
   or_met (answers (residual r')) t a r q = inr (kept_met _ t a r q)
 
-  on_part_met : (f : Represented → Answer) (h : Term → Term) → ((v : Represented) → f v ≢ limit) → (x : Answer) → Rules.on_part f h x ≡ limit → x ≡ limit
+  on_part_met : (f : Represented → Answer) (h : Term → Term) → ((v : Represented) → f v ≢ limit) → (x : Answer) →
+      Rules.on_part f h x ≡ limit → x ≡ limit
   unfolding Rules.on_part
   on_part_met f h n (fails e) q = q
   on_part_met f h n (answers (value v)) q = absurd (n v q)
@@ -202,12 +216,14 @@ module _ (s : Setting) (calls : Rules.StoredCalls) (answered : FunctionsMeetNoLi
 
   parts_met : (op : BinaryOperator) (p q : PartialValue) → Rules.binary_of_parts s op p q ≡ limit → ⊥
   unfolding Rules.binary_of_parts
-  parts_met op (value v) (value w) e = never _ (operands.binary_all s AnyValue AnyValue AnyTerm NotLimit (no_limits s) op v w tt) e
+  parts_met op (value v) (value w) e =
+      never _ (operands.binary_all s AnyValue AnyValue AnyTerm NotLimit (no_limits s) op v w tt) e
   parts_met op (value v) (residual r) e = kept_binary_met _ _ e
   parts_met op (residual r) (value w) e = kept_binary_met _ _ e
   parts_met op (residual r) (residual z) e = kept_binary_met _ _ e
 
-  left_met : (op : BinaryOperator) (x : Answer) (t : Term) (a : Answer) → Rules.AfterLeft G s op x t a → a ≡ limit → (x ≡ limit) ⊎ L t
+  left_met : (op : BinaryOperator) (x : Answer) (t : Term) (a : Answer) → Rules.AfterLeft G s op x t a → a ≡ limit →
+      (x ≡ limit) ⊎ L t
   unfolding Rules.binary_beside
   left_met op (fails e) t a r q = inl (sym r ∙ q)
   left_met op (answers p) t a (y, g, e) q = inr (met t y g (by y (sym e ∙ q)))
@@ -245,66 +261,93 @@ module _ (s : Setting) (calls : Rules.StoredCalls) (answered : FunctionsMeetNoLi
   key_met k ks a e q =
       operands.record_key_all s AnyValue AnyValue AnyTerm NotLimit (no_limits s) k ks (fails_inj _ _ (sym e ∙ q))
 
-  projects_met : (t r : Term) (fs : Fields) (k : Text) (part : Term) (a : Answer) → G t (answers (residual r)) → Rules.fields_of_record r ≡ Some fs → Operators.term_at k fs ≡ Some part → (b : Bool) → is_projectable r ≡ b → Rules.Projects G b r k part a → a ≡ limit → MeetsProjected t k
+  projects_met : (t r : Term) (fs : Fields) (k : Text) (part : Term) (a : Answer) → G t (answers (residual r)) →
+      Rules.fields_of_record r ≡ Some fs → Operators.term_at k fs ≡ Some part → (b : Bool) → is_projectable r ≡ b →
+      Rules.Projects G b r k part a → a ≡ limit → MeetsProjected t k
   projects_met t r fs k part a g e f true p h q =
-      record { whole = r; fields = fs; part = part; answered_whole = g; is_record = e; is_part = f; projectable = p; meets = met part a h q }
+      record {
+        whole = r;
+        fields = fs;
+        part = part;
+        answered_whole = g;
+        is_record = e;
+        is_part = f;
+        projectable = p;
+        meets = met part a h q;
+      }
   projects_met t r fs k part a g e f false p h q = absurd (part_met _ a h q)
 
-  at_key_met : (t r : Term) (fs : Fields) (k : Text) (a : Answer) → G t (answers (residual r)) → Rules.fields_of_record r ≡ Some fs → (o : Option Term) → Operators.term_at k fs ≡ o → Rules.AtKey G o fs r k a → a ≡ limit → MeetsProjected t k
+  at_key_met : (t r : Term) (fs : Fields) (k : Text) (a : Answer) → G t (answers (residual r)) →
+      Rules.fields_of_record r ≡ Some fs → (o : Option Term) → Operators.term_at k fs ≡ o → Rules.AtKey G o fs r k a →
+      a ≡ limit → MeetsProjected t k
   at_key_met t r fs k a g e None f h q = absurd (key_met k (Operators.field_names fs) a h q)
   at_key_met t r fs k a g e (Some part) f h q = projects_met t r fs k part a g e f (is_projectable r) refl h q
 
-  at_fields_met : (t r : Term) (k : Text) (a : Answer) → G t (answers (residual r)) → (o : Option Fields) → Rules.fields_of_record r ≡ o → Rules.AtFields G o r k a → a ≡ limit → MeetsProjected t k
+  at_fields_met : (t r : Term) (k : Text) (a : Answer) → G t (answers (residual r)) → (o : Option Fields) →
+      Rules.fields_of_record r ≡ o → Rules.AtFields G o r k a → a ≡ limit → MeetsProjected t k
   at_fields_met t r k a g None e h q = absurd (part_met _ a h q)
   at_fields_met t r k a g (Some fs) e h q = at_key_met t r fs k a g e (Operators.term_at k fs) refl h q
 
-  attribute_met : (t : Term) (x : Answer) (k : Text) (a : Answer) → G t x → Rules.AtAttribute G s x k a → a ≡ limit → (x ≡ limit) ⊎ MeetsProjected t k
+  attribute_met : (t : Term) (x : Answer) (k : Text) (a : Answer) → G t x → Rules.AtAttribute G s x k a → a ≡ limit →
+      (x ≡ limit) ⊎ MeetsProjected t k
   attribute_met t (fails e) k a g r q = inl (sym r ∙ q)
   attribute_met t (answers (value v)) k a g r q =
       absurd (never _ (operands.attribute_all s AnyValue AnyValue AnyTerm NotLimit (no_limits s) v k tt) (sym r ∙ q))
   attribute_met t (answers (residual z)) k a g r q = inr (at_fields_met t z k a g (Rules.fields_of_record z) refl r q)
 
-  then_met : (p : PartialValue) (r : Result (List PartialValue) Failure) → Rules.part_then p r ≡ Err recursion_limit → r ≡ Err recursion_limit
+  then_met : (p : PartialValue) (r : Result (List PartialValue) Failure) → Rules.part_then p r ≡ Err recursion_limit →
+      r ≡ Err recursion_limit
   unfolding Rules.part_then
   then_met p (Err e) q = q
   then_met p (Ok ps) q = absurd (ok_isn't _ (p ∷ ps) recursion_limit _ refl q)
 
-  each_met : (ts : Terms) (r : Result (List PartialValue) Failure) → Rules.Parts G ts r → r ≡ Err recursion_limit → MeetsEach ts
+  each_met : (ts : Terms) (r : Result (List PartialValue) Failure) → Rules.Parts G ts r → r ≡ Err recursion_limit →
+      MeetsEach ts
   each_met no_terms r h q = absurd (ok_isn't _ [] recursion_limit r h q)
   each_met (one_term t ts) r (x, g, h) q = by x g h (each_met ts)
     where
-      by : (y : Answer) → G t y → Rules.AfterPart G y (Rules.Parts G ts) r → ((z : Result (List PartialValue) Failure) → Rules.Parts G ts z → z ≡ Err recursion_limit → MeetsEach ts) → L t ⊎ MeetsEach ts
+      by : (y : Answer) → G t y → Rules.AfterPart G y (Rules.Parts G ts) r →
+          ((z : Result (List PartialValue) Failure) → Rules.Parts G ts z → z ≡ Err recursion_limit → MeetsEach ts) →
+          L t ⊎ MeetsEach ts
       by (fails e) j k rest = inl (met t (fails e) j (ap fails (err_inj _ e recursion_limit r k q)))
       by (answers p) j (z, k, l) rest = inr (rest z k (then_met p z (sym l ∙ q)))
 
-  field_then_met : (k : Text) (p : PartialValue) (r : Result (List (Text × PartialValue)) Failure) → Rules.field_part_then k p r ≡ Err recursion_limit → r ≡ Err recursion_limit
+  field_then_met : (k : Text) (p : PartialValue) (r : Result (List (Text × PartialValue)) Failure) →
+      Rules.field_part_then k p r ≡ Err recursion_limit → r ≡ Err recursion_limit
   unfolding Rules.field_part_then
   field_then_met k p (Err e) q = q
   field_then_met k p (Ok ps) q = absurd (ok_isn't _ ((k, p) ∷ ps) recursion_limit _ refl q)
 
-  each_at_met : (fs : Fields) (r : Result (List (Text × PartialValue)) Failure) → Rules.FieldParts G fs r → r ≡ Err recursion_limit → MeetsEachAt fs
+  each_at_met : (fs : Fields) (r : Result (List (Text × PartialValue)) Failure) → Rules.FieldParts G fs r →
+      r ≡ Err recursion_limit → MeetsEachAt fs
   each_at_met no_fields r h q = absurd (ok_isn't _ [] recursion_limit r h q)
   each_at_met (one_field k t fs) r (x, g, h) q = by x g h (each_at_met fs)
     where
-      by : (y : Answer) → G t y → Rules.AfterFieldPart G k y (Rules.FieldParts G fs) r → ((z : Result (List (Text × PartialValue)) Failure) → Rules.FieldParts G fs z → z ≡ Err recursion_limit → MeetsEachAt fs) → L t ⊎ MeetsEachAt fs
+      by : (y : Answer) → G t y → Rules.AfterFieldPart G k y (Rules.FieldParts G fs) r →
+          ((z : Result (List (Text × PartialValue)) Failure) → Rules.FieldParts G fs z → z ≡ Err recursion_limit →
+          MeetsEachAt fs) → L t ⊎ MeetsEachAt fs
       by (fails e) j l rest = inl (met t (fails e) j (ap fails (err_inj _ e recursion_limit r l q)))
       by (answers p) j (z, l, m) rest = inr (rest z l (field_then_met k p z (sym m ∙ q)))
 
-  counts_met : (b : Bool) (n : ℕ) (f : Text) (vs : List Represented) (a : Answer) → Rules.Counts calls b n f vs a → a ≡ limit → ⊥
+  counts_met : (b : Bool) (n : ℕ) (f : Text) (vs : List Represented) (a : Answer) → Rules.Counts calls b n f vs a →
+      a ≡ limit → ⊥
   unfolding failure_kind
   counts_met true n f vs a r q = answered f vs (subst (calls f vs) q r)
   counts_met false n f vs a r q = meaning_not_limit _ _ refl (fails_inj _ _ (sym r ∙ q))
 
-  looks_met : (o : Option ℕ) (f : Text) (vs : List Represented) (a : Answer) → Rules.LooksUp calls o f vs a → a ≡ limit → ⊥
+  looks_met : (o : Option ℕ) (f : Text) (vs : List Represented) (a : Answer) → Rules.LooksUp calls o f vs a →
+      a ≡ limit → ⊥
   unfolding failure_kind
   looks_met None f vs a r q = meaning_not_limit _ _ refl (fails_inj _ _ (sym r ∙ q))
   looks_met (Some n) f vs a r q = counts_met (length vs == n) n f vs a r q
 
-  values_met : (o : Option (List Represented)) (f : Text) (ps : List PartialValue) (a : Answer) → Rules.AfterValues calls s.extensions.arity o f ps a → a ≡ limit → ⊥
+  values_met : (o : Option (List Represented)) (f : Text) (ps : List PartialValue) (a : Answer) →
+      Rules.AfterValues calls s.extensions.arity o f ps a → a ≡ limit → ⊥
   values_met None f ps a r q = part_met _ a r q
   values_met (Some vs) f ps a r q = looks_met (s.extensions.arity f) f vs a r q
 
-  arguments_met : (f : Text) (r : Result (List PartialValue) Failure) (a : Answer) → Rules.AfterArguments calls s.extensions.arity f r a → a ≡ limit → r ≡ Err recursion_limit
+  arguments_met : (f : Text) (r : Result (List PartialValue) Failure) (a : Answer) →
+      Rules.AfterArguments calls s.extensions.arity f r a → a ≡ limit → r ≡ Err recursion_limit
   arguments_met f (Err e) a h q = ap Err (fails_inj e recursion_limit (sym h ∙ q))
   arguments_met f (Ok ps) a h q = absurd (values_met (Rules.values_of_parts ps) f ps a h q)
 
@@ -318,12 +361,14 @@ module _ (s : Setting) (calls : Rules.StoredCalls) (answered : FunctionsMeetNoLi
   set_met (Err e) q = ap Err (fails_inj e recursion_limit q)
   set_met (Ok ps) q = absurd (set_parts_met (Rules.values_of_parts ps) ps q)
 
-  record_parts_met : (o : Option (List (Text × Represented))) (ps : List (Text × PartialValue)) → Rules.record_of_parts o ps ≡ limit → ⊥
+  record_parts_met : (o : Option (List (Text × Represented))) (ps : List (Text × PartialValue)) →
+      Rules.record_of_parts o ps ≡ limit → ⊥
   unfolding Rules.record_of_parts
   record_parts_met None ps q = answers≢limit _ q
   record_parts_met (Some vs) ps q = answers≢limit _ q
 
-  record_met : (r : Result (List (Text × PartialValue)) Failure) → Rules.record_answer r ≡ limit → r ≡ Err recursion_limit
+  record_met : (r : Result (List (Text × PartialValue)) Failure) → Rules.record_answer r ≡ limit →
+      r ≡ Err recursion_limit
   unfolding Rules.record_answer
   record_met (Err e) q = ap Err (fails_inj e recursion_limit q)
   record_met (Ok ps) q = absurd (record_parts_met (Rules.values_of_field_parts ps) ps q)
@@ -346,15 +391,18 @@ module _ (s : Setting) (calls : Rules.StoredCalls) (answered : FunctionsMeetNoLi
   rule_met (both t u) a (x, g, h) q = left_then (met t x g) (and_met x u a h q)
   rule_met (either t u) a (x, g, h) q = left_then (met t x g) (or_met x u a h q)
   rule_met (unary op t) a (x, g, e) q =
-      met t x g (on_part_met (Operators.unary_answer op) (unary op) (λ v. never _ (operands.unary_all s AnyValue AnyValue AnyTerm NotLimit (no_limits s) op v)) x (sym e ∙ q))
+      met t x g (on_part_met (Operators.unary_answer op) (unary op)
+      (λ v. never _ (operands.unary_all s AnyValue AnyValue AnyTerm NotLimit (no_limits s) op v)) x (sym e ∙ q))
   rule_met (binary op t u) a (x, g, h) q = left_then (met t x g) (left_met op x u a h q)
   rule_met (call f ts) a (r, g, h) q = each_met ts r g (arguments_met f r a h q)
   rule_met (get_attribute t k) a (x, g, h) q = left_then (met t x g) (attribute_met t x k a g h q)
   rule_met (has_attribute t k) a (x, g, e) q = met t x g (has_met k x (sym e ∙ q))
   rule_met (extended_has t k ks) a (x, g, e) q =
-      met t x g (on_part_met (λ v. Operators.path_answer s.store v k ks) (λ r. extended_has r k ks) (λ v. never _ (operands.path_all s AnyValue AnyValue AnyTerm NotLimit (no_limits s) ks v k)) x (sym e ∙ q))
+      met t x g (on_part_met (λ v. Operators.path_answer s.store v k ks) (λ r. extended_has r k ks)
+      (λ v. never _ (operands.path_all s AnyValue AnyValue AnyTerm NotLimit (no_limits s) ks v k)) x (sym e ∙ q))
   rule_met (like t p) a (x, g, e) q =
-      met t x g (on_part_met (Operators.like_answer p) (λ r. like r p) (λ v. never _ (operands.like_all s AnyValue AnyValue AnyTerm NotLimit (no_limits s) p v)) x (sym e ∙ q))
+      met t x g (on_part_met (Operators.like_answer p) (λ r. like r p)
+      (λ v. never _ (operands.like_all s AnyValue AnyValue AnyTerm NotLimit (no_limits s) p v)) x (sym e ∙ q))
   rule_met (is_of_type t m) a (x, g, e) q = met t x g (is_met m x (sym e ∙ q))
   rule_met (set_of ts) a (r, g, e) q = each_met ts r g (set_met r (sym e ∙ q))
   rule_met (record_of fs) a (r, g, e) q = each_at_met fs r g (record_met r (sym e ∙ q))

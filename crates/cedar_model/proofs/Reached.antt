@@ -1,7 +1,10 @@
 -- Each expression has an answer at some level, where the functions that exist answer, and never by the limit.
-use Rattle.std.specs.Prelude.{◌≡◌, ◌≢◌, ◌⊎◌, ℕ, Bool, true, false, ◌&&◌, List, [], Option, Some, None, Result, Ok, Err}
+use Rattle.std.specs.Prelude.{◌≡◌, ◌≢◌, ◌⊎◌, ℕ, Bool, true, false, ◌&&◌, List, [], Option, Some, None, Result, Ok}
+use Rattle.std.specs.Prelude.{Err}
 use Rattle.std.proofs.Common.{refl, inl, inr}
-use Rattle.cedar_model.specs.Terms.{Text, Term, literal, variable, slot, unknown, if_then_else, both, either, unary, binary, call, get_attribute, has_attribute, extended_has, like, is_of_type, set_of, record_of, Terms, no_terms, one_term, Fields, no_fields, one_field}
+use Rattle.cedar_model.specs.Terms.{Text, Term, literal, variable, slot, unknown, if_then_else, both, either, unary}
+use Rattle.cedar_model.specs.Terms.{binary, call, get_attribute, has_attribute, extended_has, like, is_of_type}
+use Rattle.cedar_model.specs.Terms.{set_of, record_of, Terms, no_terms, one_term, Fields, no_fields, one_field}
 use Rattle.cedar_model.specs.Shapes.{is_projectable, are_projectable, are_projectable_at}
 use Rattle.cedar_model.specs.Failures.{Answer, answers, limit}
 use Rattle.cedar_model.specs.Settings.{Setting}
@@ -12,7 +15,8 @@ use Rattle.cedar_model.proofs.MoreLevels.{rule_is_allowed}
 use Rattle.cedar_model.proofs.RecordParts.{both_first, both_second}
 use Rattle.cedar_model.proofs.Total
 
-module _ (s : Setting) (calls : Rules.StoredCalls) (callable : FunctionsAnswer calls s.extensions.arity) (answered : FunctionsMeetNoLimit calls) where
+module _ (s : Setting) (calls : Rules.StoredCalls) (callable : FunctionsAnswer calls s.extensions.arity)
+    (answered : FunctionsMeetNoLimit calls) where
   abbrev Ever : Rules.MayAnswer
   Ever t a = Rules.Allows s calls t a
 
@@ -60,8 +64,11 @@ module _ (s : Setting) (calls : Rules.StoredCalls) (callable : FunctionsAnswer c
 
   -- an answer by the rules is allowed
   finish : (t : Term) → ((a : Answer) × Rules.Rule s calls Ever t a) → Found t
-  finish t (a, r) =
-      (a, rule_is_allowed s calls t a (λ q. none_meets t (limits.rule_met s calls answered Ever Never (λ u x g z. g.0 z) t a r q)) r)
+  finish t (a, r) = (
+    a,
+    rule_is_allowed s calls t a (λ q. none_meets t (limits.rule_met s calls answered Ever Never
+        (λ u x g z. g.0 z) t a r q)) r,
+  )
 
   -- a projectable expression has an answer
   mutual
@@ -92,7 +99,8 @@ module _ (s : Setting) (calls : Rules.StoredCalls) (callable : FunctionsAnswer c
     plain_each_at : (fs : Fields) → are_projectable_at fs ≡ true → Total.FoundEachAt s calls callable Ever fs
     plain_each_at no_fields h = (Ok [], refl)
     plain_each_at (one_field k t fs) h =
-        Total.one_at_total s calls callable Ever k t fs (plain t (both_first _ _ h)) (plain_each_at fs (both_second _ _ h))
+        Total.one_at_total s calls callable Ever k t fs (plain t (both_first _ _ h))
+        (plain_each_at fs (both_second _ _ h))
 
   mutual
     pub reached : (t : Term) → Found t
@@ -123,4 +131,5 @@ module _ (s : Setting) (calls : Rules.StoredCalls) (callable : FunctionsAnswer c
 
     reached_each_at : (fs : Fields) → Total.FoundEachAt s calls callable Ever fs
     reached_each_at no_fields = (Ok [], refl)
-    reached_each_at (one_field k t fs) = Total.one_at_total s calls callable Ever k t fs (reached t) (reached_each_at fs)
+    reached_each_at (one_field k t fs) =
+        Total.one_at_total s calls callable Ever k t fs (reached t) (reached_each_at fs)

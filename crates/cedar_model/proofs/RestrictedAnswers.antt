@@ -1,18 +1,30 @@
 -- What restricted expressions answer, and unknowns in residuals.
-use Rattle.std.specs.Prelude.{◌≡◌, ◌↔◌, ℕ, zero, suc, ◌==◌, Bool, true, false, cond, ◌&&◌, ◌||◌, List, [], ◌∷◌, map, length, Option, Some, None, Result, Ok, Err}
+use Rattle.std.specs.Prelude.{◌≡◌, ◌↔◌, ℕ, zero, suc, ◌==◌, Bool, true, false, cond, ◌&&◌, ◌||◌, List, [], ◌∷◌, map}
+use Rattle.std.specs.Prelude.{length, Option, Some, None, Result, Ok, Err}
 use Rattle.std.specs.declared.cmp.Ordering.{Ordering}
 use Rattle.std.specs.declared.cmp.Ordering.TheVariants.{Less, Equal, Greater}
 use Rattle.std.specs.Ordering.{match_ordering}
 use Rattle.std.proofs.Common.{refl, ap, subst, sym, ◌∙◌}
-use Rattle.cedar_model.specs.Terms.{Text, EntityName, ValueType, Slot, Variable, principal, action, resource, context, UnaryOperator, BinaryOperator, PatternPart, Term, literal, variable, slot, unknown, if_then_else, both, either, unary, binary, call, get_attribute, has_attribute, extended_has, like, is_of_type, set_of, record_of, Terms, no_terms, one_term, Fields, no_fields, one_field}
-use Rattle.cedar_model.specs.Values.{Represented, plain_represented, set_represented, record_represented, extension_represented, RepresentedValues, no_represented, one_represented, RepresentedFields, no_represented_at, one_represented_at, abstract_value, expression_of, expressions_of, expressions_at}
+use Rattle.cedar_model.specs.Terms.{Text, EntityName, ValueType, Slot, Variable, principal, action, resource, context}
+use Rattle.cedar_model.specs.Terms.{UnaryOperator, BinaryOperator, PatternPart, Term, literal, variable, slot}
+use Rattle.cedar_model.specs.Terms.{unknown, if_then_else, both, either, unary, binary, call, get_attribute}
+use Rattle.cedar_model.specs.Terms.{has_attribute, extended_has, like, is_of_type, set_of, record_of, Terms, no_terms}
+use Rattle.cedar_model.specs.Terms.{one_term, Fields, no_fields, one_field}
+use Rattle.cedar_model.specs.Values.{Represented, plain_represented, set_represented, record_represented}
+use Rattle.cedar_model.specs.Values.{extension_represented, RepresentedValues, no_represented, one_represented}
+use Rattle.cedar_model.specs.Values.{RepresentedFields, no_represented_at, one_represented_at, abstract_value}
+use Rattle.cedar_model.specs.Values.{expression_of, expressions_of, expressions_at}
 use Rattle.cedar_model.specs.Keys.{value_cmp}
-use Rattle.cedar_model.specs.Sets.{canonical_set, insert_represented, insert_each, represented_fields_of, IsStrictlyInOrder-canonical_set}
+use Rattle.cedar_model.specs.Sets.{canonical_set, insert_represented, insert_each, represented_fields_of}
+use Rattle.cedar_model.specs.Sets.{IsStrictlyInOrder-canonical_set}
 use Rattle.cedar_model.specs.Outcomes.{value_type, type_eq}
 use Rattle.cedar_model.specs.Chains.{Mapping, value_for, substituted, substituted_each, substituted_at}
-use Rattle.cedar_model.specs.Shapes.{is_restricted, are_restricted, are_restricted_at, has_unknown, have_unknown, have_unknown_at}
-use Rattle.cedar_model.specs.Failures.{Failure, PartialValue, value, residual, Answer, answers, fails, wrong_type, limit, part_expression}
-use Rattle.cedar_model.specs.Settings.{ContextPart, absent_context, known_context, residual_context, context_value, Setting}
+use Rattle.cedar_model.specs.Shapes.{is_restricted, are_restricted, are_restricted_at, has_unknown, have_unknown}
+use Rattle.cedar_model.specs.Shapes.{have_unknown_at}
+use Rattle.cedar_model.specs.Failures.{Failure, PartialValue, value, residual, Answer, answers, fails, wrong_type}
+use Rattle.cedar_model.specs.Failures.{limit, part_expression}
+use Rattle.cedar_model.specs.Settings.{ContextPart, absent_context, known_context, residual_context, context_value}
+use Rattle.cedar_model.specs.Settings.{Setting}
 use Rattle.cedar_model.specs.Operators
 use Rattle.cedar_model.specs.Rules
 use Rattle.cedar_model.specs.Restricted
@@ -23,9 +35,11 @@ use Rattle.cedar_model.proofs.RecordParts.{both_first, both_second}
 
 -- ---- nothing of request, store and slots is read
 
-module _ (s z : Setting) (calls : Rules.StoredCalls) (maps : s.map ≡ z.map) (extensions : s.extensions ≡ z.extensions) where
+module _ (s z : Setting) (calls : Rules.StoredCalls) (maps : s.map ≡ z.map)
+    (extensions : s.extensions ≡ z.extensions) where
   mutual
-    pub reads_nothing : (n : ℕ) (t : Term) (a : Answer) → is_restricted t ≡ true → Rules.Runs s calls n t a → Rules.Runs z calls n t a
+    pub reads_nothing : (n : ℕ) (t : Term) (a : Answer) → is_restricted t ≡ true → Rules.Runs s calls n t a →
+        Rules.Runs z calls n t a
     reads_nothing zero t a p r = r
     reads_nothing (suc n) (literal l) a p r = r
     reads_nothing (suc n) (variable v) a p r = absurd (cc)
@@ -46,19 +60,28 @@ module _ (s z : Setting) (calls : Rules.StoredCalls) (maps : s.map ≡ z.map) (e
     reads_nothing (suc n) (set_of ts) a p (r, g, h) = (r, each_reads_nothing n ts r p g, h)
     reads_nothing (suc n) (record_of fs) a p (r, g, h) = (r, each_at_reads_nothing n fs r p g, h)
 
-    each_reads_nothing : (n : ℕ) (ts : Terms) (r : Result (List PartialValue) Failure) → are_restricted ts ≡ true → Rules.Parts (Rules.Runs s calls n) ts r → Rules.Parts (Rules.Runs z calls n) ts r
+    each_reads_nothing : (n : ℕ) (ts : Terms) (r : Result (List PartialValue) Failure) → are_restricted ts ≡ true →
+        Rules.Parts (Rules.Runs s calls n) ts r → Rules.Parts (Rules.Runs z calls n) ts r
     each_reads_nothing n no_terms r p h = h
     each_reads_nothing n (one_term t ts) r p (fails e, g, h) =
         (fails e, reads_nothing n t (fails e) (both_first _ _ p) g, h)
-    each_reads_nothing n (one_term t ts) r p (answers q, g, (k, h, e)) =
-        (answers q, reads_nothing n t (answers q) (both_first _ _ p) g, (k, each_reads_nothing n ts k (both_second _ _ p) h, e))
+    each_reads_nothing n (one_term t ts) r p (answers q, g, (k, h, e)) = (
+      answers q,
+      reads_nothing n t (answers q) (both_first _ _ p) g,
+      (k, each_reads_nothing n ts k (both_second _ _ p) h, e),
+    )
 
-    each_at_reads_nothing : (n : ℕ) (fs : Fields) (r : Result (List (Text × PartialValue)) Failure) → are_restricted_at fs ≡ true → Rules.FieldParts (Rules.Runs s calls n) fs r → Rules.FieldParts (Rules.Runs z calls n) fs r
+    each_at_reads_nothing : (n : ℕ) (fs : Fields) (r : Result (List (Text × PartialValue)) Failure) →
+        are_restricted_at fs ≡ true → Rules.FieldParts (Rules.Runs s calls n) fs r →
+        Rules.FieldParts (Rules.Runs z calls n) fs r
     each_at_reads_nothing n no_fields r p h = h
     each_at_reads_nothing n (one_field l t fs) r p (fails e, g, h) =
         (fails e, reads_nothing n t (fails e) (both_first _ _ p) g, h)
-    each_at_reads_nothing n (one_field l t fs) r p (answers q, g, (k, h, e)) =
-        (answers q, reads_nothing n t (answers q) (both_first _ _ p) g, (k, each_at_reads_nothing n fs k (both_second _ _ p) h, e))
+    each_at_reads_nothing n (one_field l t fs) r p (answers q, g, (k, h, e)) = (
+      answers q,
+      reads_nothing n t (answers q) (both_first _ _ p) g,
+      (k, each_at_reads_nothing n fs k (both_second _ _ p) h, e),
+    )
 
 -- ---- the expression of a sound value is restricted
 
@@ -89,7 +112,8 @@ module _ (P : Represented → Type 0) where
   AllSuch [] = Unit {0}
   AllSuch (v ∷ vs) = P v × AllSuch vs
 
-  chosen_such : (o : Ordering) (x y z : RepresentedValues) → EachSuch x → EachSuch y → EachSuch z → EachSuch (match_ordering o x y z)
+  chosen_such : (o : Ordering) (x y z : RepresentedValues) → EachSuch x → EachSuch y → EachSuch z →
+      EachSuch (match_ordering o x y z)
   chosen_such Less x y z e f g = e
   chosen_such Equal x y z e f g = f
   chosen_such Greater x y z e f g = g
@@ -97,9 +121,11 @@ module _ (P : Represented → Type 0) where
   insert_such : (v : Represented) (ws : RepresentedValues) → P v → EachSuch ws → EachSuch (insert_represented v ws)
   insert_such v no_represented e f = (e, tt)
   insert_such v (one_represented w ws) e f =
-      chosen_such (value_cmp (abstract_value v) (abstract_value w)) (one_represented v (one_represented w ws)) (one_represented w ws) (one_represented w (insert_represented v ws)) (e, f) f (f.0, insert_such v ws e f.1)
+      chosen_such (value_cmp (abstract_value v) (abstract_value w)) (one_represented v (one_represented w ws))
+      (one_represented w ws) (one_represented w (insert_represented v ws)) (e, f) f (f.0, insert_such v ws e f.1)
 
-  insert_each_such : (vs : List Represented) (ws : RepresentedValues) → AllSuch vs → EachSuch ws → EachSuch (insert_each vs ws)
+  insert_each_such : (vs : List Represented) (ws : RepresentedValues) → AllSuch vs → EachSuch ws →
+      EachSuch (insert_each vs ws)
   insert_each_such [] ws e f = f
   insert_each_such (v ∷ vs) ws e f = insert_each_such vs (insert_represented v ws) e.1 (insert_such v ws e.0 f)
 
@@ -144,7 +170,8 @@ written_terms : (ps : List PartialValue) → WrittenParts ps → are_restricted 
 written_terms [] e = refl
 written_terms (p ∷ ps) (e, f) = λ i. written_expression p e i && written_terms ps f i
 
-written_fields : (ps : List (Text × PartialValue)) → WrittenPartsAt ps → are_restricted_at (Rules.fields_of_parts ps) ≡ true
+written_fields : (ps : List (Text × PartialValue)) → WrittenPartsAt ps →
+    are_restricted_at (Rules.fields_of_parts ps) ≡ true
 written_fields [] e = refl
 written_fields (p ∷ ps) (e, f) = λ i. written_expression p.1 e i && written_fields ps f i
 
@@ -156,7 +183,8 @@ abbrev WrittenValuesAt : Option (List (Text × Represented)) → Type 0
 WrittenValuesAt None = Unit {0}
 WrittenValuesAt (Some vs) = AreSoundAt (represented_fields_of vs)
 
-add_written : (p : PartialValue) (o : Option (List Represented)) → WrittenPart p → WrittenValues o → WrittenValues (Rules.add_value p o)
+add_written : (p : PartialValue) (o : Option (List Represented)) → WrittenPart p → WrittenValues o →
+    WrittenValues (Rules.add_value p o)
 unfolding Rules.add_value
 add_written (value v) None e f = tt
 add_written (value v) (Some vs) e f = (e, f)
@@ -167,13 +195,15 @@ unfolding Rules.values_of_parts
 written_values [] e = tt
 written_values (p ∷ ps) (e, f) = add_written p (Rules.values_of_parts ps) e (written_values ps f)
 
-add_written_at : (k : Text) (p : PartialValue) (o : Option (List (Text × Represented))) → WrittenPart p → WrittenValuesAt o → WrittenValuesAt (Rules.add_value_at k p o)
+add_written_at : (k : Text) (p : PartialValue) (o : Option (List (Text × Represented))) → WrittenPart p →
+    WrittenValuesAt o → WrittenValuesAt (Rules.add_value_at k p o)
 unfolding Rules.add_value_at
 add_written_at k (value v) None e f = tt
 add_written_at k (value v) (Some vs) e f = (e, f)
 add_written_at k (residual r) o e f = tt
 
-written_values_at : (ps : List (Text × PartialValue)) → WrittenPartsAt ps → WrittenValuesAt (Rules.values_of_field_parts ps)
+written_values_at : (ps : List (Text × PartialValue)) → WrittenPartsAt ps →
+    WrittenValuesAt (Rules.values_of_field_parts ps)
 unfolding Rules.values_of_field_parts
 written_values_at [] e = tt
 written_values_at (p ∷ ps) (e, f) = add_written_at p.0 p.1 (Rules.values_of_field_parts ps) e (written_values_at ps f)
@@ -187,7 +217,8 @@ written_set (Ok ps) f = by (Rules.values_of_parts ps) (written_values ps f)
     by (Some vs) g = (IsStrictlyInOrder-canonical_set vs, each_sound (canonical_set vs) (set_such IsSound vs g))
     by None g = written_terms ps f
 
-written_record : (r : Result (List (Text × PartialValue)) Failure) → WrittenResultAt r → Written (Rules.record_answer r)
+written_record : (r : Result (List (Text × PartialValue)) Failure) → WrittenResultAt r →
+    Written (Rules.record_answer r)
 unfolding Rules.record_answer Rules.record_of_parts
 written_record (Err e) f = tt
 written_record (Ok ps) f = by (Rules.values_of_field_parts ps) (written_values_at ps f)
@@ -221,28 +252,34 @@ module _ (s : Setting) (calls : Rules.StoredCalls) (sound : AnswersSound calls s
   written_call f vs (answers p) c = sound.answers_sound f vs p c
   written_call f vs (fails e) c = tt
 
-  written_counts : (c : Bool) (n : ℕ) (f : Text) (vs : List Represented) (a : Answer) → Rules.Counts calls c n f vs a → Written a
+  written_counts : (c : Bool) (n : ℕ) (f : Text) (vs : List Represented) (a : Answer) →
+      Rules.Counts calls c n f vs a → Written a
   written_counts true n f vs a r = written_call f vs a r
   written_counts false n f vs a r = written_by a _ r tt
 
-  written_looks : (o : Option ℕ) (f : Text) (vs : List Represented) (a : Answer) → Rules.LooksUp calls o f vs a → Written a
+  written_looks : (o : Option ℕ) (f : Text) (vs : List Represented) (a : Answer) → Rules.LooksUp calls o f vs a →
+      Written a
   written_looks None f vs a r = written_by a _ r tt
   written_looks (Some n) f vs a r = written_counts (length vs == n) n f vs a r
 
-  written_found : (o : Option (List Represented)) (f : Text) (ps : List PartialValue) (a : Answer) → WrittenParts ps → Rules.AfterValues calls s.extensions.arity o f ps a → Written a
+  written_found : (o : Option (List Represented)) (f : Text) (ps : List PartialValue) (a : Answer) → WrittenParts ps →
+      Rules.AfterValues calls s.extensions.arity o f ps a → Written a
   written_found None f ps a e r = written_by a _ r (written_terms ps e)
   written_found (Some vs) f ps a e r = written_looks (s.extensions.arity f) f vs a r
 
-  written_arguments : (f : Text) (r : Result (List PartialValue) Failure) (a : Answer) → WrittenResult r → Rules.AfterArguments calls s.extensions.arity f r a → Written a
+  written_arguments : (f : Text) (r : Result (List PartialValue) Failure) (a : Answer) → WrittenResult r →
+      Rules.AfterArguments calls s.extensions.arity f r a → Written a
   written_arguments f (Err e) a g h = written_by a _ h tt
   written_arguments f (Ok ps) a g h = written_found (Rules.values_of_parts ps) f ps a g h
 
-  written_then : (p : PartialValue) (r : Result (List PartialValue) Failure) → WrittenPart p → WrittenResult r → WrittenResult (Rules.part_then p r)
+  written_then : (p : PartialValue) (r : Result (List PartialValue) Failure) → WrittenPart p → WrittenResult r →
+      WrittenResult (Rules.part_then p r)
   unfolding Rules.part_then
   written_then p (Err e) f g = tt
   written_then p (Ok ps) f g = (f, g)
 
-  written_then_at : (k : Text) (p : PartialValue) (r : Result (List (Text × PartialValue)) Failure) → WrittenPart p → WrittenResultAt r → WrittenResultAt (Rules.field_part_then k p r)
+  written_then_at : (k : Text) (p : PartialValue) (r : Result (List (Text × PartialValue)) Failure) → WrittenPart p →
+      WrittenResultAt r → WrittenResultAt (Rules.field_part_then k p r)
   unfolding Rules.field_part_then
   written_then_at k p (Err e) f g = tt
   written_then_at k p (Ok ps) f g = (f, g)
@@ -269,20 +306,25 @@ module _ (s : Setting) (calls : Rules.StoredCalls) (sound : AnswersSound calls s
     runs_written (suc n) (record_of fs) a p (r, g, h) =
         written_by a _ h (written_record r (each_at_runs_written n fs r p g))
 
-    each_runs_written : (n : ℕ) (ts : Terms) (r : Result (List PartialValue) Failure) → are_restricted ts ≡ true → Rules.Parts (Rules.Runs s calls n) ts r → WrittenResult r
+    each_runs_written : (n : ℕ) (ts : Terms) (r : Result (List PartialValue) Failure) → are_restricted ts ≡ true →
+        Rules.Parts (Rules.Runs s calls n) ts r → WrittenResult r
     each_runs_written n no_terms r p h = subst WrittenResult (sym h) tt
     each_runs_written n (one_term t ts) r p (fails e, g, h) = subst WrittenResult (sym h) tt
     each_runs_written n (one_term t ts) r p (answers q, g, (k, h, e)) =
-        subst WrittenResult (sym e) (written_then q k (runs_written n t (answers q) (both_first _ _ p) g) (each_runs_written n ts k (both_second _ _ p) h))
+        subst WrittenResult (sym e) (written_then q k (runs_written n t (answers q) (both_first _ _ p) g)
+        (each_runs_written n ts k (both_second _ _ p) h))
 
-    each_at_runs_written : (n : ℕ) (fs : Fields) (r : Result (List (Text × PartialValue)) Failure) → are_restricted_at fs ≡ true → Rules.FieldParts (Rules.Runs s calls n) fs r → WrittenResultAt r
+    each_at_runs_written : (n : ℕ) (fs : Fields) (r : Result (List (Text × PartialValue)) Failure) →
+        are_restricted_at fs ≡ true → Rules.FieldParts (Rules.Runs s calls n) fs r → WrittenResultAt r
     each_at_runs_written n no_fields r p h = subst WrittenResultAt (sym h) tt
     each_at_runs_written n (one_field l t fs) r p (fails e, g, h) = subst WrittenResultAt (sym h) tt
     each_at_runs_written n (one_field l t fs) r p (answers q, g, (k, h, e)) =
-        subst WrittenResultAt (sym e) (written_then_at l q k (runs_written n t (answers q) (both_first _ _ p) g) (each_at_runs_written n fs k (both_second _ _ p) h))
+        subst WrittenResultAt (sym e) (written_then_at l q k (runs_written n t (answers q) (both_first _ _ p) g)
+        (each_at_runs_written n fs k (both_second _ _ p) h))
 
   -- a restricted expression answers a sound value or a restricted residual
-  pub stays_restricted : (t : Term) (q : PartialValue) → is_restricted t ≡ true → Rules.Allows s calls t (answers q) → IsSoundPart q
+  pub stays_restricted : (t : Term) (q : PartialValue) → is_restricted t ≡ true → Rules.Allows s calls t (answers q) →
+      IsSoundPart q
   stays_restricted t q p (ne, n, g) = runs_written n t (answers q) p g
 
 -- ---- disallowed parts
@@ -372,7 +414,8 @@ none_disallowed t = (none_is_restricted t, restricted_has_none t)
 -- ---- a restricted expression stays so under substitution, and so does a context
 
 module _ (m : Mapping) (mapped_sound : (n : Text) (v : Represented) → m n ≡ Some v → IsSound v) where
-  value_restricted : (n : Text) (t : Option ValueType) (o : Option Represented) → m n ≡ o → is_restricted (value_for o (unknown n t)) ≡ true
+  value_restricted : (n : Text) (t : Option ValueType) (o : Option Represented) → m n ≡ o →
+      is_restricted (value_for o (unknown n t)) ≡ true
   unfolding value_for
   value_restricted n t None e = refl
   value_restricted n t (Some v) e = sound_restricted v (mapped_sound n v e)
@@ -399,17 +442,20 @@ module _ (m : Mapping) (mapped_sound : (n : Text) (v : Represented) → m n ≡ 
     substituted_restricted (set_of ts) e = substituted_each_restricted ts e
     substituted_restricted (record_of fs) e = substituted_at_restricted fs e
 
-    substituted_each_restricted : (ts : Terms) → are_restricted ts ≡ true → are_restricted (substituted_each m ts) ≡ true
+    substituted_each_restricted : (ts : Terms) → are_restricted ts ≡ true →
+        are_restricted (substituted_each m ts) ≡ true
     substituted_each_restricted no_terms e = refl
     substituted_each_restricted (one_term t ts) e =
         λ i. substituted_restricted t (both_first _ _ e) i && substituted_each_restricted ts (both_second _ _ e) i
 
-    substituted_at_restricted : (fs : Fields) → are_restricted_at fs ≡ true → are_restricted_at (substituted_at m fs) ≡ true
+    substituted_at_restricted : (fs : Fields) → are_restricted_at fs ≡ true →
+        are_restricted_at (substituted_at m fs) ≡ true
     substituted_at_restricted no_fields e = refl
     substituted_at_restricted (one_field k t fs) e =
         λ i. substituted_restricted t (both_first _ _ e) i && substituted_at_restricted fs (both_second _ _ e) i
 
-module _ (s : Setting) (calls : Rules.StoredCalls) (m : Mapping) (sound : IsGivenSound calls s) (mapped_sound : (n : Text) (v : Represented) → m n ≡ Some v → IsSound v) where
+module _ (s : Setting) (calls : Rules.StoredCalls) (m : Mapping) (sound : IsGivenSound calls s)
+    (mapped_sound : (n : Text) (v : Represented) → m n ≡ Some v → IsSound v) where
   -- the context of an answer is as sound as the answer
   as_part : (c : ContextPart) → IsSoundPart (context_value c) → IsSoundContext c
   unfolding context_value
@@ -417,9 +463,15 @@ module _ (s : Setting) (calls : Rules.StoredCalls) (m : Mapping) (sound : IsGive
   as_part (known_context fs) h = h
   as_part (residual_context fs) h = h
 
-  pub sound_follows : (old c : ContextPart) → s.request.context_part ≡ old → ContextFollows s calls m old c → IsSoundContext c
+  pub sound_follows : (old c : ContextPart) → s.request.context_part ≡ old → ContextFollows s calls m old c →
+      IsSoundContext c
   unfolding substituted
   sound_follows absent_context c e f = subst IsSoundContext (sym f) tt
   sound_follows (known_context fs) c e f = subst IsSoundContext (e ∙ sym f) sound.context_sound
   sound_follows (residual_context fs) c e f =
-      as_part c (stays_restricted s calls record { mapped_sound = sound.mapped_sound; answers_sound = sound.answers_sound } (record_of (substituted_at m fs)) (context_value c) (substituted_at_restricted m mapped_sound fs (subst IsSoundContext e sound.context_sound)) f)
+      as_part c (stays_restricted s calls record {
+        mapped_sound = sound.mapped_sound;
+        answers_sound =
+            sound.answers_sound;
+      } (record_of (substituted_at m fs)) (context_value c)
+      (substituted_at_restricted m mapped_sound fs (subst IsSoundContext e sound.context_sound)) f)

@@ -11,6 +11,11 @@ use Rattle.cedar_model.proofs.Total.{total}
 abbrev pub table_answer : FunctionsAnswer table_calls table_extensions.arity
 table_answer f vs e = (table f, refl)
 
-pub shown : (is_partial : Bool) (n : ℕ) (t : Term) (a : Answer) → (total (table_setting is_partial) table_calls table_answer n t).0 ≡ a → a ≢ limit → Shown is_partial t a
-shown is_partial n t a e ne =
-    (ne, n, subst (Runs (table_setting is_partial) table_calls n t) e (total (table_setting is_partial) table_calls table_answer n t).1)
+pub shown : (is_partial : Bool) (n : ℕ) (t : Term) (a : Answer) →
+    (total (table_setting is_partial) table_calls table_answer n t).0 ≡ a → a ≢ limit → Shown is_partial t a
+shown is_partial n t a e ne = (
+  ne,
+  n,
+  subst (Runs (table_setting is_partial) table_calls n t) e
+      (total (table_setting is_partial) table_calls table_answer n t).1,
+)

@@ -1,12 +1,18 @@
--- At each level there is an answer, where the functions that exist answer. Written so that it computes, for the examples.
-use Rattle.std.specs.Prelude.{◌≡◌, ℕ, zero, suc, ◌==◌, Bool, true, false, List, [], length, Option, Some, None, Result, Ok, Err}
+-- At each level there is an answer, where the functions that exist answer. Written so that it computes, for the
+-- examples.
+use Rattle.std.specs.Prelude.{◌≡◌, ℕ, zero, suc, ◌==◌, Bool, true, false, List, [], length, Option, Some, None}
+use Rattle.std.specs.Prelude.{Result, Ok, Err}
 use Rattle.std.proofs.Common.{refl, ap, ◌∙◌, sym}
 use Rattle.std.proofs.lemmas.Bool.{eqb-true}
-use Rattle.cedar_model.specs.Terms.{Text, bool_literal, BinaryOperator, Term, literal, variable, slot, unknown, if_then_else, both, either, unary, binary, call, get_attribute, has_attribute, extended_has, like, is_of_type, set_of, record_of, Terms, no_terms, one_term, Fields, no_fields, one_field}
+use Rattle.cedar_model.specs.Terms.{Text, bool_literal, BinaryOperator, Term, literal, variable, slot, unknown}
+use Rattle.cedar_model.specs.Terms.{if_then_else, both, either, unary, binary, call, get_attribute, has_attribute}
+use Rattle.cedar_model.specs.Terms.{extended_has, like, is_of_type, set_of, record_of, Terms, no_terms, one_term}
+use Rattle.cedar_model.specs.Terms.{Fields, no_fields, one_field}
 use Rattle.cedar_model.specs.Values.{Represented, abstract_value}
 use Rattle.cedar_model.specs.Shapes.{is_projectable}
 use Rattle.cedar_model.specs.Outcomes.{bool_of}
-use Rattle.cedar_model.specs.Failures.{Failure, PartialValue, value, residual, Answer, answers, answers_bool, fails, function_is_missing, arguments_are_miscounted, limit}
+use Rattle.cedar_model.specs.Failures.{Failure, PartialValue, value, residual, Answer, answers, answers_bool, fails}
+use Rattle.cedar_model.specs.Failures.{function_is_missing, arguments_are_miscounted, limit}
 use Rattle.cedar_model.specs.Settings.{Setting}
 use Rattle.cedar_model.specs.Operators.{term_at, key_is_missing, field_names, attribute_answer}
 use Rattle.cedar_model.specs.Rules
@@ -36,11 +42,13 @@ module _ (s : Setting) (calls : Rules.StoredCalls) (callable : FunctionsAnswer c
     abbrev pub FoundBy : Term → Type 0
     FoundBy t = (a : Answer) × Rules.Rule s calls G t a
 
-    abbrev best_total : (b : Rules.Best) (Next : Term → Answer → Type 0) → ((t : Term) → (a : Answer) × Next t a) → (a : Answer) × Rules.AfterBest b Next a
+    abbrev best_total : (b : Rules.Best) (Next : Term → Answer → Type 0) → ((t : Term) → (a : Answer) × Next t a) →
+        (a : Answer) × Rules.AfterBest b Next a
     best_total (Rules.kept t) Next f = f t
     best_total (Rules.handed_up e) Next f = (fails e, refl)
 
-    abbrev takes_total : (b : Option Bool) (v : Represented) (t e : Term) → Found t → Found e → (a : Answer) × Rules.TakesBranch G b v t e a
+    abbrev takes_total : (b : Option Bool) (v : Represented) (t e : Term) → Found t → Found e → (a : Answer) ×
+        Rules.TakesBranch G b v t e a
     takes_total None v t e x y = (Rules.bool_expected v, refl)
     takes_total (Some true) v t e x y = x
     takes_total (Some false) v t e x y = y
@@ -48,14 +56,20 @@ module _ (s : Setting) (calls : Rules.StoredCalls) (callable : FunctionsAnswer c
     abbrev right_total : (h : Term → Term) (t : Term) → Found t → (a : Answer) × Rules.ReadsRight G h t a
     right_total h t x = (Rules.joined h x.0, (x.0, x.1, refl))
 
-    abbrev second_branch : (r t' e : Term) → Found e → (a : Answer) × ((y : Answer) × G e y × Rules.AfterBest (Rules.best y e) (λ e' c. c ≡ answers (residual (if_then_else r t' e'))) a)
+    abbrev second_branch : (r t' e : Term) → Found e → (a : Answer) × ((y : Answer) × G e y ×
+        Rules.AfterBest (Rules.best y e) (λ e' c. c ≡ answers (residual (if_then_else r t' e'))) a)
     second_branch r t' e y =
-        let k = best_total (Rules.best y.0 e) (λ e' c. c ≡ answers (residual (if_then_else r t' e'))) (λ e'. (answers (residual (if_then_else r t' e')), refl)) in
+        let k =
+        best_total (Rules.best y.0 e) (λ e' c. c ≡ answers (residual (if_then_else r t' e')))
+        (λ e'. (answers (residual (if_then_else r t' e')), refl)) in
         (k.0, (y.0, y.1, k.1))
 
     abbrev branches_total : (r t e : Term) → Found t → Found e → (a : Answer) × Rules.KeepsBranches G r t e a
     branches_total r t e x y =
-        let k = best_total (Rules.best x.0 t) (λ t' b. (y : Answer) × G e y × Rules.AfterBest (Rules.best y e) (λ e' c. c ≡ answers (residual (if_then_else r t' e'))) b) (λ t'. second_branch r t' e y) in
+        let k =
+        best_total (Rules.best x.0 t) (λ t' b. (y : Answer) × G e y ×
+        Rules.AfterBest (Rules.best y e) (λ e' c. c ≡ answers (residual (if_then_else r t' e'))) b)
+        (λ t'. second_branch r t' e y) in
         (k.0, (x.0, x.1, k.1))
 
     abbrev guard_total : (c : Answer) (t e : Term) → Found t → Found e → (a : Answer) × Rules.AfterGuard G c t e a
@@ -65,10 +79,15 @@ module _ (s : Setting) (calls : Rules.StoredCalls) (callable : FunctionsAnswer c
 
     abbrev kept_total : (h : Term → Term) (t : Term) → Found t → (a : Answer) × Rules.KeepsRight G h t a
     kept_total h t x =
-        let k = best_total (Rules.best x.0 t) (λ t' b. b ≡ answers (residual (h t'))) (λ t'. (answers (residual (h t')), refl)) in
+        let k =
+        best_total (Rules.best x.0 t) (λ t' b. b ≡ answers (residual (h t'))) (λ t'. (
+          answers (residual (h t')),
+          refl,
+        )) in
         (k.0, (x.0, x.1, k.1))
 
-    abbrev and_bool_total : (b : Option Bool) (v : Represented) (t : Term) → Found t → (a : Answer) × Rules.AndLeft G b v t a
+    abbrev and_bool_total : (b : Option Bool) (v : Represented) (t : Term) → Found t → (a : Answer) ×
+        Rules.AndLeft G b v t a
     and_bool_total None v t x = (Rules.bool_expected v, refl)
     and_bool_total (Some true) v t x = right_total (both (literal (bool_literal true))) t x
     and_bool_total (Some false) v t x = (answers_bool false, refl)
@@ -78,7 +97,8 @@ module _ (s : Setting) (calls : Rules.StoredCalls) (callable : FunctionsAnswer c
     and_total (answers (value v)) t x = and_bool_total (bool_of (abstract_value v)) v t x
     and_total (answers (residual r)) t x = kept_total (both r) t x
 
-    abbrev or_bool_total : (b : Option Bool) (v : Represented) (t : Term) → Found t → (a : Answer) × Rules.OrLeft G b v t a
+    abbrev or_bool_total : (b : Option Bool) (v : Represented) (t : Term) → Found t → (a : Answer) ×
+        Rules.OrLeft G b v t a
     or_bool_total None v t x = (Rules.bool_expected v, refl)
     or_bool_total (Some true) v t x = (answers_bool true, refl)
     or_bool_total (Some false) v t x = right_total (either (literal (bool_literal false))) t x
@@ -88,19 +108,24 @@ module _ (s : Setting) (calls : Rules.StoredCalls) (callable : FunctionsAnswer c
     or_total (answers (value v)) t x = or_bool_total (bool_of (abstract_value v)) v t x
     or_total (answers (residual r)) t x = kept_total (either r) t x
 
-    abbrev left_total : (op : BinaryOperator) (c : Answer) (t : Term) → Found t → (a : Answer) × Rules.AfterLeft G s op c t a
+    abbrev left_total : (op : BinaryOperator) (c : Answer) (t : Term) → Found t → (a : Answer) ×
+        Rules.AfterLeft G s op c t a
     left_total op (fails e) t x = (fails e, refl)
     left_total op (answers p) t x = (Rules.binary_beside s op p x.0, (x.0, x.1, refl))
 
-    abbrev projects_total : FoundProjected → (b : Bool) (r : Term) (k : Text) (part : Term) → (b ≡ true → is_projectable part ≡ true) → (a : Answer) × Rules.Projects G b r k part a
+    abbrev projects_total : FoundProjected → (b : Bool) (r : Term) (k : Text) (part : Term) →
+        (b ≡ true → is_projectable part ≡ true) → (a : Answer) × Rules.Projects G b r k part a
     projects_total pr true r k part h = pr part (h refl)
     projects_total pr false r k part h = (answers (residual (get_attribute r k)), refl)
 
-    abbrev at_key_total : FoundProjected → (o : Option Term) (fs : Fields) (r : Term) (k : Text) → ((part : Term) → o ≡ Some part → is_projectable r ≡ true → is_projectable part ≡ true) → (a : Answer) × Rules.AtKey G o fs r k a
+    abbrev at_key_total : FoundProjected → (o : Option Term) (fs : Fields) (r : Term) (k : Text) →
+        ((part : Term) → o ≡ Some part → is_projectable r ≡ true → is_projectable part ≡ true) → (a : Answer) ×
+        Rules.AtKey G o fs r k a
     at_key_total pr None fs r k h = (fails (key_is_missing k (field_names fs)), refl)
     at_key_total pr (Some part) fs r k h = projects_total pr (is_projectable r) r k part (h part refl)
 
-    abbrev at_fields_total : FoundProjected → (o : Option Fields) (r : Term) (k : Text) → Rules.fields_of_record r ≡ o → (a : Answer) × Rules.AtFields G o r k a
+    abbrev at_fields_total : FoundProjected → (o : Option Fields) (r : Term) (k : Text) →
+        Rules.fields_of_record r ≡ o → (a : Answer) × Rules.AtFields G o r k a
     at_fields_total pr None r k h = (answers (residual (get_attribute r k)), refl)
     at_fields_total pr (Some fs) r k h =
         at_key_total pr (term_at k fs) fs r k (λ part e. projectable_part r fs k part h e)
@@ -110,34 +135,43 @@ module _ (s : Setting) (calls : Rules.StoredCalls) (callable : FunctionsAnswer c
     attribute_total pr (answers (value v)) k = (attribute_answer s v k, refl)
     attribute_total pr (answers (residual r)) k = at_fields_total pr (Rules.fields_of_record r) r k refl
 
-    abbrev part_total : (Rest : Result (List PartialValue) Failure → Type 0) → ((r : Result (List PartialValue) Failure) × Rest r) → (x : Answer) → (r : Result (List PartialValue) Failure) × Rules.AfterPart G x Rest r
+    abbrev part_total : (Rest : Result (List PartialValue) Failure → Type 0) →
+        ((r : Result (List PartialValue) Failure) × Rest r) → (x : Answer) →
+        (r : Result (List PartialValue) Failure) × Rules.AfterPart G x Rest r
     part_total Rest k (fails e) = (Err e, refl)
     part_total Rest k (answers p) = (Rules.part_then p k.0, (k.0, k.1, refl))
 
     abbrev pub one_total : (t : Term) (ts : Terms) → Found t → FoundEach ts → FoundEach (one_term t ts)
     one_total t ts x xs = let k = part_total (Rules.Parts G ts) xs x.0 in (k.0, (x.0, x.1, k.1))
 
-    abbrev field_part_total : (l : Text) (Rest : Result (List (Text × PartialValue)) Failure → Type 0) → ((r : Result (List (Text × PartialValue)) Failure) × Rest r) → (x : Answer) → (r : Result (List (Text × PartialValue)) Failure) × Rules.AfterFieldPart G l x Rest r
+    abbrev field_part_total : (l : Text) (Rest : Result (List (Text × PartialValue)) Failure → Type 0) →
+        ((r : Result (List (Text × PartialValue)) Failure) × Rest r) → (x : Answer) →
+        (r : Result (List (Text × PartialValue)) Failure) × Rules.AfterFieldPart G l x Rest r
     field_part_total l Rest k (fails e) = (Err e, refl)
     field_part_total l Rest k (answers p) = (Rules.field_part_then l p k.0, (k.0, k.1, refl))
 
-    abbrev pub one_at_total : (l : Text) (t : Term) (fs : Fields) → Found t → FoundEachAt fs → FoundEachAt (one_field l t fs)
+    abbrev pub one_at_total : (l : Text) (t : Term) (fs : Fields) → Found t → FoundEachAt fs →
+        FoundEachAt (one_field l t fs)
     one_at_total l t fs x xs =
         let k = field_part_total l (Rules.FieldParts G fs) xs x.0 in (k.0, (x.0, x.1, k.1))
 
-    abbrev counts_total : (b : Bool) (n : ℕ) (f : Text) (vs : List Represented) → s.extensions.arity f ≡ Some n → (length vs == n) ≡ b → (a : Answer) × Rules.Counts calls b n f vs a
+    abbrev counts_total : (b : Bool) (n : ℕ) (f : Text) (vs : List Represented) → s.extensions.arity f ≡ Some n →
+        (length vs == n) ≡ b → (a : Answer) × Rules.Counts calls b n f vs a
     counts_total true n f vs e h = callable f vs (counted (s.extensions.arity f) (length vs) n e h)
     counts_total false n f vs e h = (fails (arguments_are_miscounted f n (length vs)), refl)
 
-    abbrev looks_total : (o : Option ℕ) (f : Text) (vs : List Represented) → s.extensions.arity f ≡ o → (a : Answer) × Rules.LooksUp calls o f vs a
+    abbrev looks_total : (o : Option ℕ) (f : Text) (vs : List Represented) → s.extensions.arity f ≡ o → (a : Answer) ×
+        Rules.LooksUp calls o f vs a
     looks_total None f vs e = (fails (function_is_missing f), refl)
     looks_total (Some n) f vs e = counts_total (length vs == n) n f vs e refl
 
-    abbrev values_total : (o : Option (List Represented)) (f : Text) (ps : List PartialValue) → (a : Answer) × Rules.AfterValues calls s.extensions.arity o f ps a
+    abbrev values_total : (o : Option (List Represented)) (f : Text) (ps : List PartialValue) → (a : Answer) ×
+        Rules.AfterValues calls s.extensions.arity o f ps a
     values_total (Some vs) f ps = looks_total (s.extensions.arity f) f vs refl
     values_total None f ps = (answers (residual (call f (Rules.terms_of_parts ps))), refl)
 
-    abbrev arguments_total : (r : Result (List PartialValue) Failure) (f : Text) → (a : Answer) × Rules.AfterArguments calls s.extensions.arity f r a
+    abbrev arguments_total : (r : Result (List PartialValue) Failure) (f : Text) → (a : Answer) ×
+        Rules.AfterArguments calls s.extensions.arity f r a
     arguments_total (Err e) f = (fails e, refl)
     arguments_total (Ok ps) f = values_total (Rules.values_of_parts ps) f ps
 

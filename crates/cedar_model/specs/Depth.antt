@@ -4,7 +4,8 @@ use Rattle.cedar_model.specs.Terms.{Text, Term, record_of, Fields}
 use Rattle.cedar_model.specs.Values.{Represented, expression_of, expressions_at}
 use Rattle.cedar_model.specs.Shapes.{is_restricted}
 use Rattle.cedar_model.specs.Failures.{PartialValue, answers, part_expression}
-use Rattle.cedar_model.specs.Settings.{ContextPart, absent_context, known_context, residual_context, context_value, RequestPart, Setting}
+use Rattle.cedar_model.specs.Settings.{ContextPart, absent_context, known_context, residual_context, context_value}
+use Rattle.cedar_model.specs.Settings.{RequestPart, Setting}
 use Rattle.cedar_model.specs.Rules.{StoredCalls, Allows, Exceeds}
 use Rattle.cedar_model.specs.Agreement.{height, EachStored}
 use Rattle.cedar_model.specs.Chains.{Mapping, substituted, substituted_at, at_step}
@@ -20,12 +21,14 @@ IsContextNoHigher m b absent_context = Unit {0}
 IsContextNoHigher m b (known_context fs) = height (substituted m (record_of (expressions_at fs))) ≤ b
 IsContextNoHigher m b (residual_context fs) = height (substituted m (record_of fs)) ≤ b
 
--- the context, each stored part, each mapped value and each answer of a function are no higher than b, with the map's values in place of their unknowns
+-- the context, each stored part, each mapped value and each answer of a function are no higher than b, with the map's
+-- values in place of their unknowns
 pub record IsNoHigher (calls : StoredCalls) (s : Setting) (m : Mapping) (b : ℕ) : Type 0 where
   pub context_low : IsContextNoHigher m b s.request.context_part
   pub stored_low : EachStored (λ p. substituted_height m p ≤ b) s.store
   pub mapped_low : (n : Text) (v : Represented) → m n ≡ Some v → height (expression_of v) ≤ b
-  pub answers_low : (f : Text) (vs : List Represented) (p : PartialValue) → calls f vs (answers p) → substituted_height m p ≤ b
+  pub answers_low : (f : Text) (vs : List Represented) (p : PartialValue) → calls f vs (answers p) →
+      substituted_height m p ≤ b
 
 -- the map that is given is part of another
 abbrev pub IsWithin : Mapping → Mapping → Type 0
@@ -34,22 +37,27 @@ IsWithin m l = (n : Text) (v : Represented) → m n ≡ Some v → l n ≡ Some 
 -- the need is at most the height and the bound together
 abbrev pub NeedIsBounded : StoredCalls → Type 0
 NeedIsBounded calls =
-    FunctionsMeetNoLimit calls → (s : Setting) (b : ℕ) → IsGivenSound calls s → IsNoHigher calls s s.map b → (n : ℕ) (t : Term) → Exceeds s calls t n → n < height t + b
+    FunctionsMeetNoLimit calls → (s : Setting) (b : ℕ) → IsGivenSound calls s →
+    IsNoHigher calls s s.map b → (n : ℕ) (t : Term) → Exceeds s calls t n → n < height t + b
 
 -- and so is the height of what is answered, also with more values in place of unknowns
 abbrev pub AnswersAreNoHigher : StoredCalls → Type 0
 AnswersAreNoHigher calls =
-    (s : Setting) (m : Mapping) (b : ℕ) → IsWithin s.map m → IsGivenSound calls s → IsNoHigher calls s m b → (t : Term) (p : PartialValue) → Allows s calls t (answers p) → substituted_height m p ≤ height t + b
+    (s : Setting) (m : Mapping) (b : ℕ) → IsWithin s.map m → IsGivenSound calls s → IsNoHigher calls s m b →
+    (t : Term) (p : PartialValue) → Allows s calls t (answers p) → substituted_height m p ≤ height t + b
 
 -- so a context that is substituted and interpreted again is at most twice as high
 abbrev pub SubstitutedContextsAreNoHigher : StoredCalls → Type 0
 SubstitutedContextsAreNoHigher calls =
-    (s : Setting) (m : Mapping) (b : ℕ) → IsWithin s.map m → IsGivenSound calls s → IsNoHigher calls s m b → (fs : Fields) (p : PartialValue) → s.request.context_part ≡ residual_context fs → Allows s calls (record_of (substituted_at m fs)) (answers p) → substituted_height m p ≤ b + b
+    (s : Setting) (m : Mapping) (b : ℕ) → IsWithin s.map m → IsGivenSound calls s → IsNoHigher calls s m b →
+    (fs : Fields) (p : PartialValue) → s.request.context_part ≡ residual_context fs →
+    Allows s calls (record_of (substituted_at m fs)) (answers p) → substituted_height m p ≤ b + b
 
 -- the need of a restricted expression is at most its height, whatever is given
 abbrev pub RestrictedNeedIsAtMostHeight : StoredCalls → Type 0
 RestrictedNeedIsAtMostHeight calls =
-    FunctionsMeetNoLimit calls → (s : Setting) (n : ℕ) (t : Term) → is_restricted t ≡ true → Exceeds s calls t n → n < height t
+    FunctionsMeetNoLimit calls → (s : Setting) (n : ℕ) (t : Term) → is_restricted t ≡ true → Exceeds s calls t n →
+    n < height t
 
 -- ---- a step of a chain: its context is substituted and interpreted again
 
@@ -63,4 +71,7 @@ ContextFollows s calls m (residual_context fs) c =
 -- the need in a step's run is at most the height and twice the bound
 abbrev pub StepNeedIsBounded : StoredCalls → Type 0
 StepNeedIsBounded calls =
-    FunctionsMeetNoLimit calls → (s : Setting) (m : Mapping) (b : ℕ) → IsWithin s.map m → IsGivenSound calls s → ((n : Text) (v : Represented) → m n ≡ Some v → IsSound v) → IsNoHigher calls s m b → (r : RequestPart) → ContextFollows s calls m s.request.context_part r.context_part → (n : ℕ) (t : Term) → Exceeds (at_step s r s.store m) calls t n → n < height t + (b + b)
+    FunctionsMeetNoLimit calls → (s : Setting) (m : Mapping) (b : ℕ) → IsWithin s.map m → IsGivenSound calls s →
+    ((n : Text) (v : Represented) → m n ≡ Some v → IsSound v) → IsNoHigher calls s m b → (r : RequestPart) →
+    ContextFollows s calls m s.request.context_part r.context_part → (n : ℕ) (t : Term) →
+    Exceeds (at_step s r s.store m) calls t n → n < height t + (b + b)

@@ -1,17 +1,25 @@
--- Instances of the laws' premises: worlds that complete what is unknown, functions that answer, and what is no higher than a bound.
+-- Instances of the laws' premises: worlds that complete what is unknown, functions that answer, and what is no higher
+-- than a bound.
 use Rattle.std.specs.Prelude.{◌≡◌, ℕ, pos, Bool, true, false, cond, List, [], ◌∷◌, Option, Some, None, codes}
-use Rattle.cedar_model.specs.Terms.{Text, EntityName, bool_literal, long_literal, entity_literal, bool_type, long_type, context, Term, variable, unknown, if_then_else, both, get_attribute, set_of, record_of, terms_of, fields_of}
-use Rattle.cedar_model.specs.Values.{AbstractValue, plain, no_values_at, one_value_at, Represented, plain_represented, set_represented, no_represented, one_represented, no_represented_at}
+use Rattle.cedar_model.specs.Terms.{Text, EntityName, bool_literal, long_literal, entity_literal, bool_type}
+use Rattle.cedar_model.specs.Terms.{long_type, context, Term, variable, unknown, if_then_else, both, call}
+use Rattle.cedar_model.specs.Terms.{get_attribute, set_of, record_of, terms_of, Fields, fields_of}
+use Rattle.cedar_model.specs.Values.{AbstractValue, plain, no_values_at, one_value_at, Represented, plain_represented}
+use Rattle.cedar_model.specs.Values.{set_represented, no_represented, one_represented, no_represented_at}
+use Rattle.cedar_model.specs.Values.{expression_of}
 use Rattle.cedar_model.specs.Outcomes.{function_failed, text_eq, entity_eq}
-use Rattle.cedar_model.specs.World.{Extensions, Functions, function_gives, function_errs, function_asks, World, WorldEntity}
-use Rattle.cedar_model.specs.Failures.{value, residual, Answer, answers_bool, answers_value, answers_residual, fails, function_has_failed}
-use Rattle.cedar_model.specs.Settings.{known_entry, unknown_entry, ContextPart, known_context, residual_context, StoredEntity, Store, Setting}
+use Rattle.cedar_model.specs.World.{Extensions, Functions, function_gives, function_errs, function_asks, World}
+use Rattle.cedar_model.specs.World.{WorldEntity}
+use Rattle.cedar_model.specs.Failures.{value, residual, Answer, answers_bool, answers_value, answers_residual, fails}
+use Rattle.cedar_model.specs.Failures.{function_has_failed}
+use Rattle.cedar_model.specs.Settings.{known_entry, unknown_entry, ContextPart, known_context, residual_context}
+use Rattle.cedar_model.specs.Settings.{StoredEntity, Store, Setting}
 use Rattle.cedar_model.specs.Rules.{StoredCalls, Runs, Exceeds}
 use Rattle.cedar_model.specs.Agreement.{height, no_slots, IsCompletion, AgreesWithFunctions, AnswerFaithfully}
 use Rattle.cedar_model.specs.LevelLaws.{FunctionsAnswer, FunctionsMeetNoLimit}
 use Rattle.cedar_model.specs.Restricted.{IsGivenSound, first_disallowed, disallowed, of_variable, of_and}
 use Rattle.cedar_model.specs.RestrictedLaws.{ResidualsHoldUnknowns}
-use Rattle.cedar_model.specs.Depth.{IsNoHigher}
+use Rattle.cedar_model.specs.Depth.{IsNoHigher, ContextFollows}
 use Rattle.cedar_model.specs.Printing.{read_entity}
 use Rattle.cedar_model.specs.Examples.{entity_of_type, user, long, bool, x, some_calls, some_extensions}
 
@@ -21,7 +29,8 @@ abbrev pub stored_entity : EntityName
 stored_entity = entity_of_type (codes "E") (codes "e")
 
 abbrev pub waiting_facts : StoredEntity
-waiting_facts = record { attributes = (codes "f", residual (unknown (codes "u") None)) ∷ []; tags = []; ancestors = [] }
+waiting_facts =
+    record { attributes = (codes "f", residual (unknown (codes "u") None)) ∷ []; tags = []; ancestors = [] }
 
 abbrev pub seven : Represented
 seven = plain_represented (long_literal (pos 7))
@@ -29,8 +38,17 @@ seven = plain_represented (long_literal (pos 7))
 -- the store is concrete or partial
 abbrev pub waiting : Bool → Setting
 waiting is_partial = record {
-  request = record { principal_entry = unknown_entry (Some (codes "User")); action_entry = known_entry (user (codes "act")); resource_entry = known_entry (user (codes "r")); context_part = residual_context (fields_of ((codes "test", unknown (codes "name") (Some bool_type)) ∷ [])) };
-  store = record { entity = λ e. cond (entity_eq e stored_entity) (Some waiting_facts) None; is_partial = is_partial };
+  request =
+      record {
+        principal_entry = unknown_entry (Some (codes "User"));
+        action_entry = known_entry
+            (user (codes "act"));
+        resource_entry = known_entry (user (codes "r"));
+        context_part = residual_context
+            (fields_of ((codes "test", unknown (codes "name") (Some bool_type)) ∷ []));
+      };
+  store =
+      record { entity = λ e. cond (entity_eq e stored_entity) (Some waiting_facts) None; is_partial = is_partial };
   map = λ n. cond (text_eq n (codes "u")) (Some seven) None;
   slots = no_slots;
   extensions = some_extensions;
@@ -41,7 +59,8 @@ waiting is_partial = record {
 unfoldable pub value_of_unknown : Option EntityName → Text → AbstractValue
 value_of_unknown (Some e) n = plain (entity_literal e)
 value_of_unknown None n =
-    cond (text_eq n (codes "principal")) (plain (entity_literal (user (codes "a")))) (cond (text_eq n (codes "name")) (plain (bool_literal true)) (plain (long_literal (pos 7))))
+    cond (text_eq n (codes "principal")) (plain (entity_literal (user (codes "a")))) (cond (text_eq n (codes "name"))
+    (plain (bool_literal true)) (plain (long_literal (pos 7))))
 
 abbrev pub known_facts : WorldEntity
 known_facts = record {
@@ -65,14 +84,16 @@ completing = record {
 
 abbrev pub asking : Text → Answer
 asking f =
-    cond (text_eq f (codes "ask")) (answers_residual (unknown (codes "q") (Some long_type))) (cond (text_eq f (codes "fail")) (fails (function_has_failed (codes "ext") (codes "no"))) (answers_bool true))
+    cond (text_eq f (codes "ask")) (answers_residual (unknown (codes "q") (Some long_type)))
+    (cond (text_eq f (codes "fail")) (fails (function_has_failed (codes "ext") (codes "no"))) (answers_bool true))
 
 abbrev pub asking_calls : StoredCalls
 asking_calls f vs a = a ≡ asking f
 
 abbrev pub asked : Functions
 asked f vs =
-    cond (text_eq f (codes "ask")) (function_asks (codes "q") (Some long_type)) (cond (text_eq f (codes "fail")) (function_errs function_failed) (function_gives (plain (bool_literal true))))
+    cond (text_eq f (codes "ask")) (function_asks (codes "q") (Some long_type)) (cond (text_eq f (codes "fail"))
+    (function_errs function_failed) (function_gives (plain (bool_literal true))))
 
 -- the world completes what is given, with a concrete store and with a partial one
 abbrev pub UnknownsAreCompleted : Type 0
@@ -81,7 +102,8 @@ UnknownsAreCompleted = (is_partial : Bool) → IsCompletion asked completing (wa
 -- the functions answer to any arguments, agree with one answer, answer faithfully and never by the limit
 abbrev pub FunctionsCanAnswer : Type 0
 FunctionsCanAnswer =
-    ((arity : Text → Option ℕ) → FunctionsAnswer asking_calls arity) × AgreesWithFunctions asked asking_calls × ((X : Extensions) → AnswerFaithfully X asked asking_calls) × FunctionsMeetNoLimit asking_calls
+    ((arity : Text → Option ℕ) → FunctionsAnswer asking_calls arity) × AgreesWithFunctions asked asking_calls ×
+    ((X : Extensions) → AnswerFaithfully X asked asking_calls) × FunctionsMeetNoLimit asking_calls
 
 -- where no function exists, none has to answer
 abbrev pub no_calls : StoredCalls
@@ -93,14 +115,23 @@ NoFunctionMustAnswer = FunctionsAnswer no_calls (λ f. None) × FunctionsMeetNoL
 -- what is given here is sound, its residuals hold unknowns, and with its map it is no higher than 2
 abbrev pub WaitingIsSound : Type 0
 WaitingIsSound =
-    (is_partial : Bool) → IsGivenSound asking_calls (waiting is_partial) × ResidualsHoldUnknowns asking_calls (waiting is_partial) × IsNoHigher asking_calls (waiting is_partial) (waiting is_partial).map 2
+    (is_partial : Bool) → IsGivenSound asking_calls (waiting is_partial) ×
+    ResidualsHoldUnknowns asking_calls (waiting is_partial) ×
+    IsNoHigher asking_calls (waiting is_partial) (waiting is_partial).map 2
 
 -- ---- depth
 
 -- nothing is stored
 abbrev pub bare : (Text → Option Represented) → ContextPart → Setting
 bare m c = record {
-  request = record { principal_entry = known_entry (user (codes "p")); action_entry = known_entry (user (codes "act")); resource_entry = known_entry (user (codes "r")); context_part = c };
+  request =
+      record {
+        principal_entry = known_entry (user (codes "p"));
+        action_entry = known_entry
+            (user (codes "act"));
+        resource_entry = known_entry (user (codes "r"));
+        context_part = c;
+      };
   store = record { entity = λ e. None; is_partial = false };
   map = m;
   slots = no_slots;
@@ -110,7 +141,8 @@ bare m c = record {
 -- `{{1}}`, of height 3
 abbrev pub nested_set : Represented
 nested_set =
-    set_represented (one_represented (set_represented (one_represented (plain_represented (long_literal (pos 1))) no_represented)) no_represented)
+    set_represented (one_represented (set_represented
+    (one_represented (plain_represented (long_literal (pos 1))) no_represented)) no_represented)
 
 abbrev pub mapped_high : Setting
 mapped_high = bare (λ n. cond (text_eq n (codes "x")) (Some nested_set) None) (known_context no_represented_at)
@@ -122,28 +154,60 @@ projects_mapped =
 
 abbrev pub ProjectedValueNeedsFour : Type 0
 ProjectedValueNeedsFour =
-    IsGivenSound some_calls mapped_high × IsNoHigher some_calls mapped_high mapped_high.map 3 × Exceeds mapped_high some_calls projects_mapped 3 × Runs mapped_high some_calls 4 projects_mapped (answers_value nested_set)
+    IsGivenSound some_calls mapped_high × IsNoHigher some_calls mapped_high mapped_high.map 3 ×
+    Exceeds mapped_high some_calls projects_mapped 3 ×
+    Runs mapped_high some_calls 4 projects_mapped (answers_value nested_set)
 
--- why residuals are restricted: in a context `{a: {q: {r: context}}}`, of height 4, `context.a.q.r.a`, of height 5, needs more than 9
+-- why residuals are restricted: in a context `{a: {q: {r: context}}}`, of height 4, `context.a.q.r.a`, of height 5,
+-- needs more than 9
 abbrev pub looped : Setting
-looped = bare (λ n. None) (residual_context (fields_of ((codes "a", record_of (fields_of ((codes "q", record_of (fields_of ((codes "r", variable context) ∷ []))) ∷ []))) ∷ [])))
+looped =
+    bare (λ n. None) (residual_context (fields_of ((
+      codes "a",
+      record_of (fields_of ((codes "q", record_of (fields_of ((codes "r", variable context) ∷ []))) ∷ [])),
+    ) ∷ [])))
 
 abbrev pub follows_loop : Term
 follows_loop =
-    get_attribute (get_attribute (get_attribute (get_attribute (variable context) (codes "a")) (codes "q")) (codes "r")) (codes "a")
+    get_attribute (get_attribute (get_attribute (get_attribute (variable context) (codes "a")) (codes "q"))
+    (codes "r")) (codes "a")
 
 abbrev pub VariablesInContextsNeedMore : Type 0
 VariablesInContextsNeedMore =
     IsNoHigher some_calls looped looped.map 4 × (height follows_loop ≡ 5) × Exceeds looped some_calls follows_loop 9
+
+-- why a step has twice the bound: a function `even` that answers `{{1}}`, of height 3, is called in a context of
+-- height 3, `{a: even(1), b: x}`
+abbrev pub nesting_calls : StoredCalls
+nesting_calls f vs a = a ≡ answers_value nested_set
+
+abbrev pub calling_context : Fields
+calling_context =
+    fields_of ((codes "a", call (codes "even") (terms_of (long 1 ∷ []))) ∷ (codes "b", x) ∷ [])
+
+abbrev pub calling : Setting
+calling = bare (λ n. None) (residual_context calling_context)
+
+-- once it is interpreted it is `{a: {{1}}, b: x}`, of height 4
+abbrev pub grown_context : Fields
+grown_context = fields_of ((codes "a", expression_of nested_set) ∷ (codes "b", x) ∷ [])
+
+abbrev pub ContextGrows : Type 0
+ContextGrows =
+    IsGivenSound nesting_calls calling × IsNoHigher nesting_calls calling calling.map 3 ×
+    ContextFollows calling nesting_calls calling.map (residual_context calling_context)
+    (residual_context grown_context) × (height (record_of grown_context) ≡ 4)
 
 -- ---- disallowed parts
 
 -- of `[1, {a: principal}]` the variable
 abbrev pub VariableIsDisallowed : Type 0
 VariableIsDisallowed =
-    first_disallowed (set_of (terms_of (long 1 ∷ record_of (fields_of ((codes "a", variable context) ∷ [])) ∷ []))) ≡ disallowed of_variable (variable context)
+    first_disallowed (set_of (terms_of (long 1 ∷ record_of (fields_of ((codes "a", variable context) ∷ [])) ∷
+    []))) ≡ disallowed of_variable (variable context)
 
 -- of `{b: if x then 1 else 2, a: x && x}` the part at the first key
 abbrev pub FirstKeyIsDisallowed : Type 0
 FirstKeyIsDisallowed =
-    first_disallowed (record_of (fields_of ((codes "a", both x x) ∷ (codes "b", if_then_else x (long 1) (long 2)) ∷ []))) ≡ disallowed of_and (both x x)
+    first_disallowed (record_of (fields_of ((codes "a", both x x) ∷ (codes "b", if_then_else x (long 1) (long 2)) ∷
+    []))) ≡ disallowed of_and (both x x)

@@ -1,4 +1,5 @@
--- The laws of restricted expressions and of unknowns in residuals, which the functions of `restricted` have as their contracts.
+-- The laws of restricted expressions and of unknowns in residuals, which the functions of `restricted` have as their
+-- contracts.
 use Rattle.std.specs.Prelude.{◌≡◌, ◌↔◌, ℕ, true, List, Option, Some, None}
 use Rattle.cedar_model.specs.Terms.{Text, Term, Fields}
 use Rattle.cedar_model.specs.Values.{Represented}
@@ -12,7 +13,8 @@ use Rattle.cedar_model.specs.Restricted.{IsSound, IsSoundPart, first_disallowed}
 -- what a restricted expression may answer depends on neither request, store nor slots
 abbrev pub RestrictedReadsNothing : StoredCalls → Type 0
 RestrictedReadsNothing calls =
-    (s z : Setting) → s.map ≡ z.map → s.extensions ≡ z.extensions → (n : ℕ) (t : Term) (a : Answer) → is_restricted t ≡ true → Runs s calls n t a → Runs z calls n t a
+    (s z : Setting) → s.map ≡ z.map → s.extensions ≡ z.extensions → (n : ℕ) (t : Term) (a : Answer) →
+    is_restricted t ≡ true → Runs s calls n t a → Runs z calls n t a
 
 -- mapped values and functions' answers are sound, whatever else is given
 pub record AnswersSound (calls : StoredCalls) (s : Setting) : Type 0 where
@@ -22,7 +24,8 @@ pub record AnswersSound (calls : StoredCalls) (s : Setting) : Type 0 where
 -- a restricted expression answers a sound value or a residual that is restricted
 abbrev pub RestrictedStays : StoredCalls → Type 0
 RestrictedStays calls =
-    (s : Setting) → AnswersSound calls s → (t : Term) (p : PartialValue) → is_restricted t ≡ true → Allows s calls t (answers p) → IsSoundPart p
+    (s : Setting) → AnswersSound calls s → (t : Term) (p : PartialValue) → is_restricted t ≡ true →
+    Allows s calls t (answers p) → IsSoundPart p
 
 -- a residual that is given, or that a function answers, holds an unknown
 abbrev pub HoldsUnknown : PartialValue → Type 0
@@ -37,7 +40,8 @@ pub record ResidualsHoldUnknowns (calls : StoredCalls) (s : Setting) : Type 0 wh
 -- then so does each residual that is answered
 abbrev pub AnsweredResidualsHoldUnknowns : StoredCalls → Type 0
 AnsweredResidualsHoldUnknowns calls =
-    (s : Setting) → ResidualsHoldUnknowns calls s → (t r : Term) → Allows s calls t (answers_residual r) → has_unknown r ≡ true
+    (s : Setting) → ResidualsHoldUnknowns calls s → (t r : Term) → Allows s calls t (answers_residual r) →
+    has_unknown r ≡ true
 
 -- no part is disallowed exactly where the expression is restricted
 abbrev pub NoneIsDisallowed : Type 0

@@ -1,15 +1,17 @@
 //! The depth bound: how many levels an expression can need. Each function is a law, and does nothing.
-ghost use Rattle.cedar_model.specs.Depth.{NeedIsBounded, AnswersAreNoHigher, SubstitutedContextsAreNoHigher, RestrictedNeedIsAtMostHeight, StepNeedIsBounded};
+ghost use Rattle.cedar_model.specs.Depth.{NeedIsBounded, AnswersAreNoHigher, SubstitutedContextsAreNoHigher};
+ghost use Rattle.cedar_model.specs.Depth.{RestrictedNeedIsAtMostHeight, StepNeedIsBounded};
 
 use crate::levels::AnyFunctions;
 
-/// With a bound on the heights of the context, stored parts, mapped values and functions' answers, the need is at most the
-/// expression's height and that bound together.
+/// With a bound on the heights of the context, stored parts, mapped values and functions' answers, the need is
+/// at most the expression's height and that bound together.
 pub fn need_is_bounded<F: AnyFunctions>(functions: &F)
     ensures { NeedIsBounded (F.calls functions.now) }
 {}
 
-/// With the same bound, so is the height of what is answered; and a context that is substituted is at most twice as high.
+/// With the same bound, so is the height of what is answered; and a context that is substituted is at most twice
+/// as high.
 pub fn answers_are_no_higher<F: AnyFunctions>(functions: &F)
     ensures answers { AnswersAreNoHigher (F.calls functions.now) }
     ensures contexts { SubstitutedContextsAreNoHigher (F.calls functions.now) }

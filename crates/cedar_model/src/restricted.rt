@@ -1,5 +1,6 @@
 //! Restricted expressions, and unknowns in residuals. Each function is a law, and does nothing.
-ghost use Rattle.cedar_model.specs.RestrictedLaws.{RestrictedReadsNothing, RestrictedStays, AnsweredResidualsHoldUnknowns, NoneIsDisallowed};
+ghost use Rattle.cedar_model.specs.RestrictedLaws.{RestrictedReadsNothing, RestrictedStays};
+ghost use Rattle.cedar_model.specs.RestrictedLaws.{AnsweredResidualsHoldUnknowns, NoneIsDisallowed};
 
 use crate::levels::AnyFunctions;
 
