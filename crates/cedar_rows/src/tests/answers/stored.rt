@@ -3,7 +3,7 @@ use super::place_text;
 use crate::tests::reader::leaves::uid;
 use crate::tests::reader::settings::{request, stored};
 use cedar_evaluator::request::{EntityUIDEntry, Request};
-use cedar_layers::expressions::EntityUID;
+use cedar_layers::expressions::{EntityUID, Unknown};
 use cedar_layers::policies::{Dereference, Entity};
 use std::alloc::{AllocError, Global};
 use std::rc::RcStr;
@@ -50,13 +50,15 @@ fn found(alloc: Global, setting: &str, uid: &EntityUID) -> Result<String, Fail> 
     let store = stored(alloc, setting)?;
     match store.entity(alloc, uid)? {
         Dereference::NoSuchEntity => Ok(String::from_str(alloc, "no such entity")?),
-        Dereference::Residual(unknown) => {
-            match unknown.type_annotation {
-                Some(ty) => Ok(format!(in alloc; "unknown {} of type {ty}", unknown.name)?),
-                None => Ok(format!(in alloc; "unknown {}", unknown.name)?),
-            }
-        }
+        Dereference::Residual(unknown) => Ok(unknown_text(alloc, &unknown)?),
         Dereference::Data(entity) => Ok(entity_text(alloc, entity)?),
+    }
+}
+
+fn unknown_text(alloc: Global, unknown: &Unknown) -> Result<String, AllocError> {
+    match &unknown.type_annotation {
+        Some(ty) => format!(in alloc; "unknown {} of type {ty}", unknown.name),
+        None => format!(in alloc; "unknown {}", unknown.name),
     }
 }
 
