@@ -20,6 +20,22 @@ use super::reader::fact;
 use std::alloc::Global;
 use std::test::Fail;
 
+/// Whether all rows of these tables hold.
+fn tables_hold(
+    rt: &impl Print,
+    alloc: Global,
+    setting: &str,
+    tables: &[&str],
+) -> Result<bool, Fail> {
+    let mut all_hold = true;
+    for rows in tables {
+        if !rows_hold(rt, alloc, setting, *rows)? {
+            all_hold = false;
+        }
+    }
+    Ok(all_hold)
+}
+
 /// Whether the answers to these rows are those that are wanted. Prints each row that has another answer.
 fn rows_hold(rt: &impl Print, alloc: Global, setting: &str, rows: &str) -> Result<bool, Fail> {
     let mut question = "value";
@@ -56,72 +72,50 @@ fn line_holds(
 
 #[test]
 fn rows_on_operands(rt: HostRuntime) -> Result<(), Fail> {
-    assert!(rt; rows_hold(&rt, rt.alloc(), everyday::setting(), operands::rows())?);
+    assert!(rt; rows_hold(&rt, rt.alloc(), everyday::SETTING, operands::ROWS)?);
     Ok(())
 }
 
 #[test]
 fn rows_on_operators(rt: HostRuntime) -> Result<(), Fail> {
-    assert!(rt; rows_hold(&rt, rt.alloc(), everyday::setting(), operators::rows())?);
+    assert!(rt; rows_hold(&rt, rt.alloc(), everyday::SETTING, operators::ROWS)?);
     Ok(())
 }
 
 #[test]
 fn rows_on_logic(rt: HostRuntime) -> Result<(), Fail> {
-    assert!(rt; rows_hold(&rt, rt.alloc(), everyday::setting(), logic::rows())?);
+    assert!(rt; rows_hold(&rt, rt.alloc(), everyday::SETTING, logic::ROWS)?);
     Ok(())
 }
 
 #[test]
 fn rows_on_parts(rt: HostRuntime) -> Result<(), Fail> {
-    assert!(rt; rows_hold(&rt, rt.alloc(), everyday::setting(), parts::rows())?);
+    assert!(rt; rows_hold(&rt, rt.alloc(), everyday::SETTING, parts::ROWS)?);
     Ok(())
 }
 
 #[test]
 fn rows_on_store(rt: HostRuntime) -> Result<(), Fail> {
-    assert!(rt; rows_hold(&rt, rt.alloc(), everyday::setting(), store::rows())?);
+    assert!(rt; rows_hold(&rt, rt.alloc(), everyday::SETTING, store::ROWS)?);
     Ok(())
 }
 
 #[test]
-fn rows_on_depth(rt: HostRuntime) -> Result<(), Fail> {
-    assert!(rt; rows_hold(&rt, rt.alloc(), everyday::setting(), depth::rows())?);
+fn rows_on_places_and_texts(rt: HostRuntime) -> Result<(), Fail> {
+    let tables = [
+        depth::ROWS,
+        places::ROWS,
+        errors::ROWS,
+        texts::ROWS,
+        written::ROWS,
+    ];
+    assert!(rt; tables_hold(&rt, rt.alloc(), everyday::SETTING, &tables)?);
     Ok(())
 }
 
 #[test]
-fn rows_on_places(rt: HostRuntime) -> Result<(), Fail> {
-    assert!(rt; rows_hold(&rt, rt.alloc(), everyday::setting(), places::rows())?);
-    Ok(())
-}
-
-#[test]
-fn rows_on_errors(rt: HostRuntime) -> Result<(), Fail> {
-    assert!(rt; rows_hold(&rt, rt.alloc(), everyday::setting(), errors::rows())?);
-    Ok(())
-}
-
-#[test]
-fn rows_on_texts(rt: HostRuntime) -> Result<(), Fail> {
-    assert!(rt; rows_hold(&rt, rt.alloc(), everyday::setting(), texts::rows())?);
-    Ok(())
-}
-
-#[test]
-fn rows_on_written(rt: HostRuntime) -> Result<(), Fail> {
-    assert!(rt; rows_hold(&rt, rt.alloc(), everyday::setting(), written::rows())?);
-    Ok(())
-}
-
-#[test]
-fn rows_on_unknowns(rt: HostRuntime) -> Result<(), Fail> {
-    assert!(rt; rows_hold(&rt, rt.alloc(), unknowns::setting(), unknowns::rows())?);
-    Ok(())
-}
-
-#[test]
-fn rows_on_policies(rt: HostRuntime) -> Result<(), Fail> {
-    assert!(rt; rows_hold(&rt, rt.alloc(), policies::setting(), policies::rows())?);
+fn rows_in_other_settings(rt: HostRuntime) -> Result<(), Fail> {
+    assert!(rt; rows_hold(&rt, rt.alloc(), unknowns::SETTING, unknowns::ROWS)?);
+    assert!(rt; rows_hold(&rt, rt.alloc(), policies::SETTING, policies::ROWS)?);
     Ok(())
 }

@@ -1,7 +1,7 @@
 //! Rows on how many levels an evaluation takes.
 
-// At as many levels as it takes, and at fewer. Each row has the words of an expression and its answer.
-static ROWS: &str = r#"
+/// At as many levels as it takes, and at fewer. Each row has the words of an expression and its answer.
+pub static ROWS: &str = r#"
 # a comparison of the principal takes two levels
 ask value 2
 V:principal E:User:a eq => true
@@ -71,8 +71,3 @@ B:true B:true not not and => RecursionLimit
 ask value 4
 B:true B:true not not and => true
 "#;
-
-/// The rows.
-pub fn rows() -> &'static str {
-    ROWS
-}

@@ -1,7 +1,7 @@
 //! Rows on the texts of errors.
 
-// The text of the error of each kind. Each row has the words of an expression and the text.
-static ROWS: &str = r#"
+/// The text of the error of each kind. Each row has the words of an expression and the text.
+pub static ROWS: &str = r#"
 ask error
 B:true => no error
 # an entity, an attribute or a tag that is not there
@@ -54,8 +54,3 @@ TypeError Bool Long,String => type error: expected one of [long, string], got bo
 WrongNumArguments f 2 1 => wrong number of arguments provided to extension function `f`: expected 2, got 1, at 3-5, copied true
 FailedExtensionFunctionExecution ip no␣address => error while evaluating `ip` extension function: no address, at 3-5, copied true
 "#;
-
-/// The rows.
-pub fn rows() -> &'static str {
-    ROWS
-}

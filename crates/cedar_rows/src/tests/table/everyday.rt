@@ -1,7 +1,7 @@
 //! The setting of most tables: a request, a slot that is linked, and a concrete store.
 
-// Each line states a fact.
-static SETTING: &str = r#"
+/// Each line states a fact.
+pub static SETTING: &str = r#"
 principal User:a
 action Action:view
 resource Photo:p
@@ -54,8 +54,3 @@ ancestor E:e E:root
 ancestor E:p E:root
 ancestor E:step E:e
 "#;
-
-/// The setting.
-pub fn setting() -> &'static str {
-    SETTING
-}

@@ -1,7 +1,7 @@
 //! Rows on `&&`, `||` and `if`: which sides are read, and what they must be.
 
-// What `&&`, `||` and `if` read and answer. Each row has the words of an expression and its answer; a line that begins with `#` is a title.
-static ROWS: &str = r#"
+/// What `&&`, `||` and `if` read and answer. Each row has the words of an expression and its answer; a line that begins with `#` is a title.
+pub static ROWS: &str = r#"
 # `&&`
 B:true B:true and => true
 L:3 B:true and => TypeError expected Bool actual Long
@@ -104,8 +104,3 @@ L:9223372036854775807 L:1 add L:1 T:a add L:1 T:a add if => IntegerOverflow _+_ 
 B:true L:1 T:a if L:1 add => 2
 B:false L:1 T:a if L:1 add => TypeError expected Long actual String
 "#;
-
-/// The rows.
-pub fn rows() -> &'static str {
-    ROWS
-}

@@ -1,7 +1,7 @@
 //! Rows on operators of two operands: each type of operand on each side, and errors within either side.
 
-// Each type of operand on the left and on the right; then errors in the left, in the right and in both. Each row has the words of an expression and its answer; a line that begins with `#` is a title.
-static ROWS: &str = r#"
+/// Each type of operand on the left and on the right; then errors in the left, in the right and in both. Each row has the words of an expression and its answer; a line that begins with `#` is a title.
+pub static ROWS: &str = r#"
 # `==`, its operands by type
 L:3 L:3 eq => true
 B:true L:3 eq => false
@@ -250,8 +250,3 @@ L:1 T:a add L:9223372036854775807 L:1 add hasTag => TypeError expected Long actu
 L:9223372036854775807 L:1 add L:1 T:a add hasTag => IntegerOverflow _+_ 9223372036854775807 1
 L:3 L:9223372036854775807 L:1 add hasTag => IntegerOverflow _+_ 9223372036854775807 1
 "#;
-
-/// The rows.
-pub fn rows() -> &'static str {
-    ROWS
-}

@@ -1,7 +1,7 @@
 //! Rows on what operators answer.
 
-// What operators answer. Each row has the words of an expression and its answer; a line that begins with `#` is a title.
-static ROWS: &str = r#"
+/// What operators answer. Each row has the words of an expression and its answer; a line that begins with `#` is a title.
+pub static ROWS: &str = r#"
 # `==`
 L:1 L:1 eq => true
 L:1 L:2 eq => false
@@ -209,8 +209,3 @@ V:principal not => TypeError expected Bool actual Entity User
 V:context neg => TypeError expected Long actual Record
 S:principal isEmpty => UnlinkedSlot ?principal
 "#;
-
-/// The rows.
-pub fn rows() -> &'static str {
-    ROWS
-}

@@ -1,7 +1,7 @@
 //! Rows on literals, variables, slots, sets, records, calls, `like` and `is`.
 
-// The kinds that are no operators. Each row has the words of an expression and its answer; a line that begins with `#` is a title.
-static ROWS: &str = r#"
+/// The kinds that are no operators. Each row has the words of an expression and its answer; a line that begins with `#` is a title.
+pub static ROWS: &str = r#"
 # literals and variables
 B:true => true
 B:false => false
@@ -160,8 +160,3 @@ E:User:a get:manager is:User => true
 E:User:a get:name is:User => TypeError expected Entity any_entity_type actual String
 E:User:a set:1 is:User => TypeError expected Entity any_entity_type actual Set
 "#;
-
-/// The rows.
-pub fn rows() -> &'static str {
-    ROWS
-}

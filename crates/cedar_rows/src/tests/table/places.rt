@@ -1,8 +1,8 @@
 //! Rows on places: a value stands at its expression, an error at the value of the wrong type, at the entity that is not there, at the name of a
 //! function, or at the whole expression. A part that has no place takes that of the nearest expression around it that has one.
 
-// Where answers stand. Each row has the words of an expression and the place of its value or of its error.
-static ROWS: &str = r#"
+/// Where answers stand. Each row has the words of an expression and the place of its value or of its error.
+pub static ROWS: &str = r#"
 ask place
 # a value stands at its expression
 V:principal E:User:a eq @3-9 => value at 3-9
@@ -122,8 +122,3 @@ L:1 @1-2 not @3-4 set:1 @0-9 => error at 1-2
 L:1 @1-2 not @3-4 record:k @0-9 => error at 1-2
 L:1 @1-2 not @3-4 call:f@5-6:1 @0-9 => error at 1-2
 "#;
-
-/// The rows.
-pub fn rows() -> &'static str {
-    ROWS
-}

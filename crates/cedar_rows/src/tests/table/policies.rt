@@ -1,7 +1,7 @@
 //! Rows on policies, requests and stores: what is decided, for which reasons and with which errors, and what each holds.
 
-// Policies and a store, of which each line states a fact.
-static SETTING: &str = r#"
+/// Policies and a store, of which each line states a fact.
+pub static SETTING: &str = r#"
 principal User:a 0-1
 action User:b
 resource User:c 2-3
@@ -40,8 +40,8 @@ clause unplaced permit - B:true
 annotation placed id second
 "#;
 
-// Each row has the ids of policies, the name of a part of the request, or that of an entity.
-static ROWS: &str = r#"
+/// Each row has the ids of policies, the name of a part of the request, or that of an entity.
+pub static ROWS: &str = r#"
 # which policies decide, and which err
 ask decide
 yes => Allow [yes] []
@@ -144,13 +144,3 @@ E:User:a E:User:b in => false
 V:principal E:User:b eq V:context get:bad L:2 eq and => false
 V:principal E:User:a eq V:context get:bad L:2 eq and => RecordAttrDoesNotExist bad [] 0
 "#;
-
-/// The setting.
-pub fn setting() -> &'static str {
-    SETTING
-}
-
-/// The rows.
-pub fn rows() -> &'static str {
-    ROWS
-}

@@ -1,7 +1,7 @@
 //! Rows that read attributes and tags, of records and of entities of the store.
 
-// Attributes and tags. Each row has the words of an expression and its answer; a line that begins with `#` is a title.
-static ROWS: &str = r#"
+/// Attributes and tags. Each row has the words of an expression and its answer; a line that begins with `#` is a title.
+pub static ROWS: &str = r#"
 # attributes
 B:true get:a => TypeError expected Record, Entity any_entity_type actual Bool
 L:3 get:a => TypeError expected Record, Entity any_entity_type actual Long
@@ -213,8 +213,3 @@ E:E:e get:c L:1 L:2 if => 1
 E:E:e get:a E:E:e get:z set:2 => EntityAttrDoesNotExist E::"e" z was_attr=true other=false [a, b, c, d, e] 7
 E:E:none get:a E:E:e get:z record:k,j => EntityAttrDoesNotExist E::"e" z was_attr=true other=false [a, b, c, d, e] 7
 "#;
-
-/// The rows.
-pub fn rows() -> &'static str {
-    ROWS
-}

@@ -1,7 +1,7 @@
 //! Rows on printed texts: each form once, then nested and cut.
 
-// What is printed. Each row has words and their text.
-static ROWS: &str = r#"
+/// What is printed. Each row has words and their text.
+pub static ROWS: &str = r#"
 ask leaf
 # operators by themselves
 unary:not => !_
@@ -118,8 +118,3 @@ ask part-cut 0
 L:-3 => -3
 U:x => unknown("x")
 "#;
-
-/// The rows.
-pub fn rows() -> &'static str {
-    ROWS
-}

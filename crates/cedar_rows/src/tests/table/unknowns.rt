@@ -1,8 +1,8 @@
 //! Rows on what is not known: an unknown, an entity that a partial store lacks, and a stored residual. For now each is the error `NonValue` with that
 //! unknown or residual.
 
-// A partial store, of which each line states a fact.
-static SETTING: &str = r#"
+/// A partial store, of which each line states a fact.
+pub static SETTING: &str = r#"
 principal User:a
 action Action:view
 resource Photo:p
@@ -14,8 +14,8 @@ tag E:e t U:v:Long
 tag E:e known L:2
 "#;
 
-// Each row has the words of an expression and its answer.
-static ROWS: &str = r#"
+/// Each row has the words of an expression and its answer.
+pub static ROWS: &str = r#"
 # an unknown that is met, and one that is not
 U:x => NonValue unknown("x")
 U:x:Long => NonValue unknown("x")
@@ -55,13 +55,3 @@ ask entity
 E:e => 2 attributes [f unknown("u"), known 1], 2 tags [known 2, t unknown("v")]
 User:e"v => unknown User::"e\"v" of type (entity of type `User`)
 "#;
-
-/// The setting.
-pub fn setting() -> &'static str {
-    SETTING
-}
-
-/// The rows.
-pub fn rows() -> &'static str {
-    ROWS
-}

@@ -1,7 +1,7 @@
 //! Rows on what is copied, changed and written anew: expressions, values and partial values; and on the operators that users call by themselves.
 
-// Each row has words and what becomes of them.
-static ROWS: &str = r#"
+/// Each row has words and what becomes of them.
+pub static ROWS: &str = r#"
 # a value in the place of each unknown of its name; annotations are not looked at
 ask substitute x L:4
 U:x U:x L:1 set:2 U:y record:a,b,c => L:4 L:4 L:1 set:2 U:y record:a,b,c
@@ -169,8 +169,3 @@ T:a @1-2 L:1 less => TypeError expected Long actual String, error at 1-2
 L:1 @1-2 T:a @3-4 less => TypeError expected Long actual String, error at 3-4
 T:a @1-2 T:b @3-4 lessEq => TypeError expected Long actual String, error at 1-2
 "#;
-
-/// The rows.
-pub fn rows() -> &'static str {
-    ROWS
-}
