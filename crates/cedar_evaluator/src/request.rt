@@ -198,6 +198,3 @@ impl From<EntityUID> for EntityUIDEntry {
         EntityUIDEntry::known(euid, loc)
     }
 }
-
-#[cfg(test)]
-mod tests;

@@ -3,8 +3,6 @@
 mod entities;
 mod policy;
 mod policy_set;
-#[cfg(test)]
-mod tests;
 
 pub use entities::{Dereference, Entities, Entity};
 pub use policy::{Annotations, Effect, Policy, PolicyID};

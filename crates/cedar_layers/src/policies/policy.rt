@@ -176,7 +176,8 @@ impl Policy {
     {
         let pair = self.conjunction(self.principal.clone()?, &self.action)?;
         let scope = self.conjunction(Rc::new(alloc, pair)?, &self.resource)?;
-        self.conjunction(Rc::new(alloc, scope)?, &self.when)
+        let condition = self.conjunction(Rc::new(alloc, scope)?, &self.when)?;
+        Ok(condition)
     }
 
     // `left && right`, at the policy's location.
