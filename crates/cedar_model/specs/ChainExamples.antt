@@ -11,7 +11,7 @@ use Rattle.cedar_model.specs.Settings.{Entry, known_entry, unknown_entry, Contex
 use Rattle.cedar_model.specs.Settings.{residual_context, RequestPart, Store, Setting, part_at}
 use Rattle.cedar_model.specs.Agreement.{no_slots}
 use Rattle.cedar_model.specs.Policies.{Effect, permit, forbid, Policy, allow, deny, decision, reasons, judge_each}
-use Rattle.cedar_model.specs.Policies.{skip, forbid_on_error}
+use Rattle.cedar_model.specs.Policies.{ErrorHandling, skip, forbid_on_error}
 use Rattle.cedar_model.specs.Responses.{RunOf, Reported, reported_true, reported_false, reported_residual, Row, truth}
 use Rattle.cedar_model.specs.Responses.{carried}
 use Rattle.cedar_model.specs.Refusals.{mode_is_other, id_comes_again, value_is_wrong, is_there_already, type_is_other}
@@ -214,13 +214,21 @@ RepeatedIdIsRefused =
     (response_to known_request (row (codes "a") permit reported_true ∷ row (codes "a") forbid reported_true ∷ []))
     (Err (id_comes_again (codes "a")))
 
--- a step in another mode is refused before that
+-- a step in another mode is refused before that, either way
+abbrev pub in_mode : ErrorHandling → Response
+in_mode mode = record {
+  mode = mode;
+  request = known_request;
+  rows = row (codes "a") permit reported_true ∷ row (codes "a") forbid reported_true ∷ [];
+  errors = [];
+}
+
 abbrev pub OtherModeIsRefused : Type 0
 OtherModeIsRefused =
-    Steps forbid_on_error (setting_of known_request) some_calls 9
-    (map_of ((codes "principal", a_number 3) ∷ [])) empty_store
-    (response_to known_request (row (codes "a") permit reported_true ∷ row (codes "a") forbid reported_true ∷ []))
-    (Err (mode_is_other skip forbid_on_error))
+    Steps forbid_on_error (setting_of known_request) some_calls 9 (map_of ((codes "principal", a_number 3) ∷ []))
+    empty_store (in_mode skip) (Err (mode_is_other skip forbid_on_error))
+    × Steps skip (setting_of known_request) some_calls 9 (map_of ((codes "principal", a_number 3) ∷ [])) empty_store
+    (in_mode forbid_on_error) (Err (mode_is_other forbid_on_error skip))
 
 -- a context that errs with the map's values in it is refused, here a call of no function
 abbrev pub with_call : RequestPart

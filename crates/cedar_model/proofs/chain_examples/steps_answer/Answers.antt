@@ -13,7 +13,7 @@ returns-clause-repeated_id c = refl
 
 pub returns-clause-other_mode : goal.returns-clause-other_mode
 unfolding chain_opened
-returns-clause-other_mode c = refl
+returns-clause-other_mode c = (refl, refl)
 
 pub returns-clause-context_error : goal.returns-clause-context_error
 unfolding chain_opened
