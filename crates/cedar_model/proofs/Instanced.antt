@@ -3,7 +3,8 @@ use Rattle.std.specs.Prelude.{◌≡◌, ◌≢◌, ℕ, pos, ◌≤◌, Bool, t
 use Rattle.std.specs.Prelude.{Some, None, Ok, codes}
 use Rattle.std.proofs.Common.{refl, subst, sym, ap, ◌∙◌, arith}
 use Rattle.std.proofs.lemmas.Slice.Eq.{bytes_eq-Decides}
-use Rattle.cedar_model.specs.Terms.{Text, EntityName, entity_literal, context, Term, variable, unknown, get_attribute, record_of, Fields, bool_literal}
+use Rattle.cedar_model.specs.Terms.{Text, EntityName, entity_literal, context, Term, variable, unknown, get_attribute}
+use Rattle.cedar_model.specs.Terms.{record_of, Fields, bool_literal}
 use Rattle.cedar_model.specs.Terms.{long_literal, long_type}
 use Rattle.cedar_model.specs.Values.{AbstractValue, plain, Represented, expression_of, abstract_value}
 use Rattle.cedar_model.specs.Values.{plain_represented}

@@ -12,7 +12,8 @@ use Rattle.cedar_model.specs.World.{Extensions, Functions, function_gives, funct
 use Rattle.cedar_model.specs.World.{WorldEntity}
 use Rattle.cedar_model.specs.Failures.{value, residual, Answer, answers_bool, answers_value, answers_residual, fails}
 use Rattle.cedar_model.specs.Failures.{function_has_failed}
-use Rattle.cedar_model.specs.Settings.{RequestPart, known_entry, unknown_entry, ContextPart, known_context, residual_context}
+use Rattle.cedar_model.specs.Settings.{RequestPart, known_entry, unknown_entry, ContextPart, known_context}
+use Rattle.cedar_model.specs.Settings.{residual_context}
 use Rattle.cedar_model.specs.Settings.{StoredEntity, Store, Setting}
 use Rattle.cedar_model.specs.Rules.{StoredCalls, Runs, Exceeds}
 use Rattle.cedar_model.specs.Agreement.{height, no_slots, IsCompletion, AgreesWithFunctions, AnswerFaithfully}
@@ -177,7 +178,8 @@ abbrev pub VariablesInContextsNeedMore : Type 0
 VariablesInContextsNeedMore =
     IsNoHigher some_calls looped looped.map 4 × (height follows_loop ≡ 5) × Exceeds looped some_calls follows_loop 9
 
--- why a step has twice the bound: a function without arguments answers `{{{1}}}`, of height 4, and is called in a context
+-- why a step has twice the bound: a function without arguments answers `{{{1}}}`, of height 4, and is called in a
+-- context
 -- of height 4, `{a: {b: {c: f(), d: x}}}`
 abbrev pub deeper_set : Represented
 deeper_set = set_represented (one_represented nested_set no_represented)
