@@ -275,8 +275,10 @@ projected_four = (
         λ f vs p e. subst (λ q. substituted_height Instances.mapped_high.map q ≤ 3) (bool_low (λ n. None) f vs p e)
         (omega arith);
   },
-  computed_with Instances.mapped_high some_calls some_answer 3 Instances.projects_mapped limit refl,
-  computed_with Instances.mapped_high some_calls some_answer 4 Instances.projects_mapped _ refl,
+  computed_with Instances.mapped_high some_calls
+      (some_answer some_extensions.arity) 3 Instances.projects_mapped limit refl,
+  computed_with Instances.mapped_high some_calls
+      (some_answer some_extensions.arity) 4 Instances.projects_mapped _ refl,
 )
 
 pub loop_needs_more : Instances.VariablesInContextsNeedMore
@@ -290,7 +292,7 @@ loop_needs_more = (
         λ f vs p e. subst (λ q. substituted_height (λ n. None) q ≤ 4) (bool_low (λ n. None) f vs p e) (omega arith);
   },
   refl,
-  computed_with Instances.looped some_calls some_answer 9 Instances.follows_loop limit refl,
+  computed_with Instances.looped some_calls (some_answer some_extensions.arity) 9 Instances.follows_loop limit refl,
 )
 
 abbrev nesting_answer : FunctionsAnswer Instances.nesting_calls Instances.nesting_extensions.arity
