@@ -1,7 +1,7 @@
 -- An answer that computes is allowed.
-use Rattle.std.specs.Prelude.{◌≡◌, ◌≢◌, ℕ, Bool, true}
+use Rattle.std.specs.Prelude.{◌≡◌, ◌≢◌, ℕ, Bool, true, Option}
 use Rattle.std.proofs.Common.{refl, subst}
-use Rattle.cedar_model.specs.Terms.{Term}
+use Rattle.cedar_model.specs.Terms.{Text, Term}
 use Rattle.cedar_model.specs.Outcomes
 use Rattle.cedar_model.specs.World
 use Rattle.cedar_model.specs.Meaning
@@ -14,8 +14,8 @@ use Rattle.cedar_model.specs.Examples.{some_setting, some_extensions, some_calls
 use Rattle.cedar_model.specs.LevelLaws.{FunctionsAnswer}
 use Rattle.cedar_model.proofs.Total.{total}
 
-abbrev pub some_answer : FunctionsAnswer some_calls some_extensions.arity
-some_answer f vs e = (Failures.answers_bool true, refl)
+abbrev pub some_answer : (arity : Text → Option ℕ) → FunctionsAnswer some_calls arity
+some_answer arity f vs e = (Failures.answers_bool true, refl)
 
 -- all that the rules compute with
 unfoldable pub opened : Unit {0}
@@ -23,15 +23,15 @@ unfolding Outcomes.and_then Outcomes.needing Outcomes.bool_of Outcomes.long_of O
 opened = tt
 
 abbrev pub answer_at : Bool → ℕ → Term → Failures.Answer
-answer_at is_partial n t = (total (some_setting is_partial) some_calls some_answer n t).0
+answer_at is_partial n t = (total (some_setting is_partial) some_calls (some_answer some_extensions.arity) n t).0
 
 pub computed_at : (is_partial : Bool) (n : ℕ) (t : Term) (a : Failures.Answer) → answer_at is_partial n t ≡ a → Rules.Runs (some_setting is_partial) some_calls n t a
 computed_at is_partial n t a e =
-    subst (Rules.Runs (some_setting is_partial) some_calls n t) e (total (some_setting is_partial) some_calls some_answer n t).1
+    subst (Rules.Runs (some_setting is_partial) some_calls n t) e (total (some_setting is_partial) some_calls (some_answer some_extensions.arity) n t).1
 
 pub computed : (is_partial : Bool) (n : ℕ) (t : Term) (a : Failures.Answer) → answer_at is_partial n t ≡ a → a ≢ Failures.limit → Rules.Allows (some_setting is_partial) some_calls t a
 computed is_partial n t a e ne =
-    (ne, n, subst (Rules.Runs (some_setting is_partial) some_calls n t) e (total (some_setting is_partial) some_calls some_answer n t).1)
+    (ne, n, subst (Rules.Runs (some_setting is_partial) some_calls n t) e (total (some_setting is_partial) some_calls (some_answer some_extensions.arity) n t).1)
 
 -- all that the meaning computes with
 unfoldable pub meaning_opened : Unit {0}

@@ -3,7 +3,8 @@ use Rattle.std.specs.Prelude.{◌≡◌, ◌≢◌, ℕ, pos, ◌≤◌, Bool, t
 use Rattle.std.specs.Prelude.{Some, None, Ok, codes}
 use Rattle.std.proofs.Common.{refl, subst, sym, ap, ◌∙◌, arith}
 use Rattle.std.proofs.lemmas.Slice.Eq.{bytes_eq-Decides}
-use Rattle.cedar_model.specs.Terms.{Text, EntityName, entity_literal, Term, unknown, record_of, Fields, bool_literal}
+use Rattle.cedar_model.specs.Terms.{Text, EntityName, entity_literal, context, Term, variable, unknown, get_attribute}
+use Rattle.cedar_model.specs.Terms.{record_of, Fields, bool_literal}
 use Rattle.cedar_model.specs.Terms.{long_literal, long_type}
 use Rattle.cedar_model.specs.Values.{AbstractValue, plain, Represented, expression_of, abstract_value}
 use Rattle.cedar_model.specs.Values.{plain_represented}
@@ -14,7 +15,7 @@ use Rattle.cedar_model.specs.Failures.{PartialValue, value, residual, Answer, an
 use Rattle.cedar_model.specs.Failures.{answers_residual, fails, function_has_failed, part_expression}
 use Rattle.cedar_model.specs.Settings.{ContextPart, absent_context, known_context, residual_context, StoredEntity}
 use Rattle.cedar_model.specs.Settings.{Setting, found_in, part_at, printed_entity}
-use Rattle.cedar_model.specs.Chains.{substituted, value_for}
+use Rattle.cedar_model.specs.Chains.{substituted, value_for, at_step}
 use Rattle.cedar_model.specs.Rules
 use Rattle.cedar_model.specs.Agreement
 use Rattle.cedar_model.specs.Agreement.{IsCompletion, AgreesAt, height}
@@ -274,8 +275,10 @@ projected_four = (
         λ f vs p e. subst (λ q. substituted_height Instances.mapped_high.map q ≤ 3) (bool_low (λ n. None) f vs p e)
         (omega arith);
   },
-  computed_with Instances.mapped_high some_calls some_answer 3 Instances.projects_mapped limit refl,
-  computed_with Instances.mapped_high some_calls some_answer 4 Instances.projects_mapped _ refl,
+  computed_with Instances.mapped_high some_calls
+      (some_answer some_extensions.arity) 3 Instances.projects_mapped limit refl,
+  computed_with Instances.mapped_high some_calls
+      (some_answer some_extensions.arity) 4 Instances.projects_mapped _ refl,
 )
 
 pub loop_needs_more : Instances.VariablesInContextsNeedMore
@@ -289,14 +292,14 @@ loop_needs_more = (
         λ f vs p e. subst (λ q. substituted_height (λ n. None) q ≤ 4) (bool_low (λ n. None) f vs p e) (omega arith);
   },
   refl,
-  computed_with Instances.looped some_calls some_answer 9 Instances.follows_loop limit refl,
+  computed_with Instances.looped some_calls (some_answer some_extensions.arity) 9 Instances.follows_loop limit refl,
 )
 
-abbrev nesting_answer : FunctionsAnswer Instances.nesting_calls some_extensions.arity
-nesting_answer f vs e = (answers (value Instances.nested_set), refl)
+abbrev nesting_answer : FunctionsAnswer Instances.nesting_calls Instances.nesting_extensions.arity
+nesting_answer f vs e = (answers (value Instances.deeper_set), refl)
 
 nested_only : (f : Text) (vs : List Represented) (p : PartialValue) → Instances.nesting_calls f vs (answers p) →
-    value Instances.nested_set ≡ p
+    value Instances.deeper_set ≡ p
 nested_only f vs p e = cc
 
 pub context_grows : Instances.ContextGrows
@@ -306,21 +309,24 @@ context_grows = (
     context_sound = refl;
     stored_sound = λ e x k p g. absurd (none_is x g);
     mapped_sound = λ n v e. absurd (none_is v e);
-    answers_sound = λ f vs p e. subst IsSoundPart (nested_only f vs p e) ((tt, tt), (((tt, tt), (tt, tt)), tt));
+    answers_sound = λ f vs p e. subst IsSoundPart (nested_only f vs p e)
+        ((tt, tt), (((tt, tt), (((tt, tt), (tt, tt)), tt)), tt));
   },
   record {
     context_low = omega arith;
     stored_low = λ e x k p g. absurd (none_is x g);
     mapped_low = λ n v e. absurd (none_is v e);
-    answers_low = λ f vs p e. subst (λ q. substituted_height (λ n. None) q ≤ 3) (nested_only f vs p e) (omega arith);
+    answers_low = λ f vs p e. subst (λ q. substituted_height (λ n. None) q ≤ 4) (nested_only f vs p e) (omega arith);
   },
   (
     λ e. cc,
-    4,
-    computed_with Instances.calling Instances.nesting_calls nesting_answer 4
+    5,
+    computed_with Instances.calling Instances.nesting_calls nesting_answer 5
         (record_of Instances.calling_context) (answers (residual (record_of Instances.grown_context))) refl,
   ),
-  refl,
+  computed_with (at_step Instances.calling (Instances.request_with (residual_context Instances.grown_context))
+      Instances.calling.store Instances.calling.map) Instances.nesting_calls nesting_answer 6
+      (get_attribute (variable context) (codes "a")) limit refl,
 )
 
 -- ---- disallowed parts

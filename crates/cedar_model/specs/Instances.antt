@@ -3,7 +3,7 @@
 use Rattle.std.specs.Prelude.{◌≡◌, ℕ, pos, Bool, true, false, cond, List, [], ◌∷◌, Option, Some, None, codes}
 use Rattle.cedar_model.specs.Terms.{Text, EntityName, bool_literal, long_literal, entity_literal, bool_type}
 use Rattle.cedar_model.specs.Terms.{long_type, context, Term, variable, unknown, if_then_else, both, call}
-use Rattle.cedar_model.specs.Terms.{get_attribute, set_of, record_of, terms_of, Fields, fields_of}
+use Rattle.cedar_model.specs.Terms.{get_attribute, set_of, record_of, no_terms, terms_of, Fields, fields_of}
 use Rattle.cedar_model.specs.Values.{AbstractValue, plain, no_values_at, one_value_at, Represented, plain_represented}
 use Rattle.cedar_model.specs.Values.{set_represented, no_represented, one_represented, no_represented_at}
 use Rattle.cedar_model.specs.Values.{expression_of}
@@ -12,11 +12,13 @@ use Rattle.cedar_model.specs.World.{Extensions, Functions, function_gives, funct
 use Rattle.cedar_model.specs.World.{WorldEntity}
 use Rattle.cedar_model.specs.Failures.{value, residual, Answer, answers_bool, answers_value, answers_residual, fails}
 use Rattle.cedar_model.specs.Failures.{function_has_failed}
-use Rattle.cedar_model.specs.Settings.{known_entry, unknown_entry, ContextPart, known_context, residual_context}
+use Rattle.cedar_model.specs.Settings.{RequestPart, known_entry, unknown_entry, ContextPart, known_context}
+use Rattle.cedar_model.specs.Settings.{residual_context}
 use Rattle.cedar_model.specs.Settings.{StoredEntity, Store, Setting}
 use Rattle.cedar_model.specs.Rules.{StoredCalls, Runs, Exceeds}
 use Rattle.cedar_model.specs.Agreement.{height, no_slots, IsCompletion, AgreesWithFunctions, AnswerFaithfully}
 use Rattle.cedar_model.specs.LevelLaws.{FunctionsAnswer, FunctionsMeetNoLimit}
+use Rattle.cedar_model.specs.Chains.{at_step}
 use Rattle.cedar_model.specs.Restricted.{IsGivenSound, first_disallowed, disallowed, of_variable, of_and}
 use Rattle.cedar_model.specs.RestrictedLaws.{ResidualsHoldUnknowns}
 use Rattle.cedar_model.specs.Depth.{IsNoHigher, ContextFollows}
@@ -176,27 +178,61 @@ abbrev pub VariablesInContextsNeedMore : Type 0
 VariablesInContextsNeedMore =
     IsNoHigher some_calls looped looped.map 4 × (height follows_loop ≡ 5) × Exceeds looped some_calls follows_loop 9
 
--- why a step has twice the bound: a function `even` that answers `{{1}}`, of height 3, is called in a context of
--- height 3, `{a: even(1), b: x}`
-abbrev pub nesting_calls : StoredCalls
-nesting_calls f vs a = a ≡ answers_value nested_set
+-- why a step has twice the bound: a function without arguments answers `{{{1}}}`, of height 4, and is called in a
+-- context
+-- of height 4, `{a: {b: {c: f(), d: x}}}`
+abbrev pub deeper_set : Represented
+deeper_set = set_represented (one_represented nested_set no_represented)
 
+abbrev pub nesting_calls : StoredCalls
+nesting_calls f vs a = a ≡ answers_value deeper_set
+
+abbrev pub nesting_extensions : Extensions
+nesting_extensions = record { arity = λ f. Some 0; overloaded = [] }
+
+abbrev pub context_around : Term → Fields
+context_around t =
+    fields_of ((
+      codes "a",
+      record_of (fields_of ((
+        codes "b",
+        record_of (fields_of ((codes "c", t) ∷ (codes "d", x) ∷
+            [])),
+      ) ∷ [])),
+    ) ∷ [])
+
+-- the function is called, and once it has answered
 abbrev pub calling_context : Fields
-calling_context =
-    fields_of ((codes "a", call (codes "even") (terms_of (long 1 ∷ []))) ∷ (codes "b", x) ∷ [])
+calling_context = context_around (call (codes "f") no_terms)
+
+abbrev pub grown_context : Fields
+grown_context = context_around (expression_of deeper_set)
+
+abbrev pub request_with : ContextPart → RequestPart
+request_with c = record {
+  principal_entry = known_entry (user (codes "p"));
+  action_entry = known_entry (user (codes "act"));
+  resource_entry = known_entry (user (codes "r"));
+  context_part = c;
+}
 
 abbrev pub calling : Setting
-calling = bare (λ n. None) (residual_context calling_context)
+calling = record {
+  request = request_with (residual_context calling_context);
+  store = record { entity = λ e. None; is_partial = false };
+  map = λ n. None;
+  slots = no_slots;
+  extensions = nesting_extensions;
+}
 
--- once it is interpreted it is `{a: {{1}}, b: x}`, of height 4
-abbrev pub grown_context : Fields
-grown_context = fields_of ((codes "a", expression_of nested_set) ∷ (codes "b", x) ∷ [])
-
+-- then `context.a`, of height 2, needs more than 2 + 4
 abbrev pub ContextGrows : Type 0
 ContextGrows =
-    IsGivenSound nesting_calls calling × IsNoHigher nesting_calls calling calling.map 3 ×
+    IsGivenSound nesting_calls calling × IsNoHigher nesting_calls calling calling.map 4 ×
     ContextFollows calling nesting_calls calling.map (residual_context calling_context)
-    (residual_context grown_context) × (height (record_of grown_context) ≡ 4)
+    (residual_context grown_context) ×
+    Exceeds (at_step calling (request_with (residual_context grown_context)) calling.store calling.map) nesting_calls
+    (get_attribute (variable context) (codes "a")) 6
 
 -- ---- disallowed parts
 

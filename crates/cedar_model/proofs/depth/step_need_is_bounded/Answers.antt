@@ -2,4 +2,5 @@ use Rattle.cedar_model.proofs.StepNeeds.{step_need_bounded}
 use Rattle.cedar_model.proofs.depth.step_need_is_bounded.Goals as goal
 
 pub returns : goal.returns
-returns g c = λ answered s m b within sound mapped low r f. step_need_bounded s _ m b within sound mapped low answered r f
+returns g c =
+    λ answered s m b within sound mapped low r f. step_need_bounded s _ m b within sound mapped low answered r f
