@@ -50,7 +50,7 @@ pub struct Response {
 }
 
 /// The policies that determined a decision, and the errors met. Equality compares the reasons as a set, and the errors in order,
-/// with the places that they hold.
+/// with the locations that they hold.
 #[derive(Debug, PartialEq, Eq, Drop)]
 pub struct Diagnostics {
     /// The satisfied forbids or, with none, the satisfied permits.

@@ -149,7 +149,7 @@ impl<'e, 'x, 'f> Evaluator<'e, 'x, 'f> {
         }
     }
 
-    /// The value of the expression under these slots, at the expression's place. Fails with the first error in the order of
+    /// The value of the expression under these slots, at the expression's location. Fails with the first error in the order of
     /// evaluation; with `RecursionLimit` where the evaluation goes more levels deep than the limit; and with `NonValue` where it
     /// meets what is not known: an unknown, a stored residual, or an entity that a partial store lacks.
     pub fn interpret(
@@ -627,7 +627,7 @@ fn map_of(alloc: Global, fields: Vec<(RcStr, Value)>) -> Result<BTreeMap<RcStr, 
     fields.into_iter().collect(alloc)
 }
 
-// The error that no extension has the function, at the place of its name.
+// The error that no extension has the function, at the location of its name.
 #[cold]
 #[inline(never)]
 fn no_such_function(fn_name: &Name) -> EvaluationError
@@ -652,7 +652,7 @@ fn recursion_limit() -> EvaluationError
     EvaluationError::RecursionLimit(RecursionLimitError { source_loc: None })
 }
 
-// The error, at this place if it has none.
+// The error, at this location if it has none.
 #[inline(always)]
 fn with_enclosing_loc(error: EvaluationError, loc: Option<Loc>) -> EvaluationError
     ensures { failure_of result ≡ failure_of error }

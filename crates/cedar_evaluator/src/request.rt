@@ -23,7 +23,7 @@ impl EntityUIDEntry {
     ghost use Rattle.cedar_evaluator.specs.declared.request.EntityUIDEntry.TheVariants.{Known};
     ghost use Rattle.cedar_evaluator.specs.Requests.{entry_uid, entry_loc};
 
-    /// A known entity, named at this place.
+    /// A known entity, named at this location.
     pub fn known(euid: EntityUID, loc: Option<Loc>) -> EntityUIDEntry
         ensures { result ≡ Known euid loc }
     {
@@ -39,7 +39,7 @@ impl EntityUIDEntry {
         }
     }
 
-    /// The entity as a value, at the entry's place. Refuses only for want of memory.
+    /// The entity as a value, at the entry's location. Refuses only for want of memory.
     pub fn evaluate(&self, alloc: Global) -> Result<Value, AllocError>
         ensures what { IfOk result (λ v. v.what ≡ plain_represented (entity_literal (uid_name (entry_uid self.now)))) }
         ensures place { IfOk result (λ v. v.loc ≡ entry_loc self.now) }
@@ -120,7 +120,7 @@ impl Request {
     ghost use Rattle.cedar_evaluator.specs.declared.request.EntityUIDEntry.TheVariants.{Known};
     ghost use Rattle.cedar_evaluator.specs.Requests.{context_fields, entry_view, request_view, request_parts};
 
-    /// The request of these entities, each named at its place, in this context.
+    /// The request of these entities, each named at its location, in this context.
     pub fn new(
         principal: (EntityUID, Option<Loc>),
         action: (EntityUID, Option<Loc>),

@@ -28,8 +28,8 @@ use std::alloc::Global;
 use std::collections::BTreeMap;
 use std::rc::{Rc, RcStr};
 
-/// `value.attr`: the attribute of a record or an entity. `EntityDoesNotExist`, at the place of the entity, where a concrete store
-/// lacks it; `EntityAttrDoesNotExist` or `RecordAttrDoesNotExist`, at this place, where it has no such attribute; a type error for
+/// `value.attr`: the attribute of a record or an entity. `EntityDoesNotExist`, at the location of the entity, where a concrete store
+/// lacks it; `EntityAttrDoesNotExist` or `RecordAttrDoesNotExist`, at this location, where it has no such attribute; a type error for
 /// any other value.
 #[tactic(auto, unfolding(crate::specs::Stopping::stopped, cedar_model::specs::Operators::attribute_in, cedar_model::specs::Operators::container_of, cedar_model::specs::Operators::value_or_failure))]
 pub fn attribute_of(
@@ -56,7 +56,7 @@ pub fn attribute_of(
     }
 }
 
-// The attribute of the entity, which is named at a place.
+// The attribute of the entity, which is named at a location.
 #[tactic(auto, unfolding(crate::specs::Stopping::stopped, crate::specs::Stopping::not_known_in, cedar_model::specs::Operators::attribute_found))]
 fn attribute_of_entity(
     alloc: Global,
@@ -91,7 +91,7 @@ fn stored_attribute(
     }
 }
 
-// The value at the key, or an error at this place.
+// The value at the key, or an error at this location.
 #[tactic(auto, unfolding(cedar_model::specs::Operators::value_or_failure))]
 fn attribute_of_record(
     alloc: Global,

@@ -24,7 +24,7 @@ pub(crate) fn any_entity_type(alloc: Global) -> Result<Type, AllocError>
     })
 }
 
-// The error that the value is not of this type, at the value's place.
+// The error that the value is not of this type, at the value's location.
 #[cold]
 #[inline(never)]
 pub(crate) fn type_error(alloc: Global, expected: Type, value: &Value) -> EvaluationError
@@ -43,7 +43,7 @@ pub(crate) fn type_error(alloc: Global, expected: Type, value: &Value) -> Evalua
     }
 }
 
-// The error that the value is no entity, at the value's place.
+// The error that the value is no entity, at the value's location.
 #[cold]
 #[inline(never)]
 pub(crate) fn entity_expected(alloc: Global, value: &Value) -> EvaluationError
@@ -55,7 +55,7 @@ pub(crate) fn entity_expected(alloc: Global, value: &Value) -> EvaluationError
     }
 }
 
-// The error that the value is neither of this type nor an entity, at the value's place.
+// The error that the value is neither of this type nor an entity, at the value's location.
 #[cold]
 #[inline(never)]
 pub(crate) fn or_entity_expected(alloc: Global, expected: Type, value: &Value) -> EvaluationError
@@ -88,7 +88,7 @@ fn or_entity_error(
     }))
 }
 
-/// The error that this expression is left, at the expression's place.
+/// The error that this expression is left, at the expression's location.
 #[cold]
 #[inline(never)]
 pub fn non_value(e: &Expr) -> EvaluationError
@@ -100,7 +100,7 @@ pub fn non_value(e: &Expr) -> EvaluationError
     }
 }
 
-// The error that this expression is left, at the expression's place.
+// The error that this expression is left, at the expression's location.
 #[cold]
 #[inline(never)]
 pub(crate) fn expression_left(expr: Expr) -> EvaluationError

@@ -21,7 +21,7 @@ use std::rc::{Rc, RcStr};
 // How many names an error about a missing attribute or tag shows at most.
 const TOO_MANY_ATTRS: usize = 5;
 
-// The error that the entity has no such attribute, at this place.
+// The error that the entity has no such attribute, at this location.
 #[cold]
 #[inline(never)]
 pub(crate) fn no_such_attribute(
@@ -62,7 +62,7 @@ fn missing_attribute(
     }))
 }
 
-// The error that the entity has no such tag, at this place.
+// The error that the entity has no such tag, at this location.
 #[cold]
 #[inline(never)]
 pub(crate) fn no_such_tag(
@@ -103,7 +103,7 @@ fn missing_tag(
     }))
 }
 
-// The error that the record has no such key, at this place.
+// The error that the record has no such key, at this location.
 #[cold]
 #[inline(never)]
 pub(crate) fn no_such_key(

@@ -16,8 +16,8 @@ use cedar_values::extensions::Extensions;
 use std::alloc::Global;
 
 /// An operator on one value: `!` of a boolean, `-` of a long, `isEmpty` of a set. A value of another type is a `TypeError` at the
-/// value's place; a negated long that needs more than 64 bits is an `IntegerOverflow` with its operand, at the place handed in.
-/// The result is at no known place.
+/// value's location; a negated long that needs more than 64 bits is an `IntegerOverflow` with its operand, at the location handed in.
+/// The result is at no known location.
 pub fn unary_app(
     alloc: Global,
     op: UnaryOp,
@@ -35,7 +35,7 @@ pub fn unary_app(
 
 /// A relation of two values, as its caller hands `Eq`, `Less` or `LessEq`: `==` of any two, `<` and `<=` of two longs. Where one
 /// side is a long and the other is not, that other is a `TypeError` that expects a long; else the left is.
-/// The result is at no known place.
+/// The result is at no known location.
 #[tactic(auto, unfolding(cedar_model::specs::Operators::binary_answer, cedar_model::specs::Operators::expecting))]
 pub fn binary_relation(
     alloc: Global,
@@ -64,8 +64,8 @@ pub fn binary_relation(
 }
 
 /// Arithmetic of two values, as its caller hands `Add`, `Sub` or `Mul`. An operand, the left first, that is no long is a
-/// `TypeError` at the operand's place; a result that needs more than 64 bits is an `IntegerOverflow` with both operands, at the
-/// place handed in. The result is at no known place.
+/// `TypeError` at the operand's location; a result that needs more than 64 bits is an `IntegerOverflow` with both operands, at the
+/// location handed in. The result is at no known location.
 #[tactic(auto, using(crate::proofs::Longs::arithmetic_is_operation))]
 pub fn binary_arith(
     alloc: Global,

@@ -114,7 +114,7 @@ fn is_in_one(uid: &EntityUID, entity: Option<&Entity>, other: &EntityUID) -> boo
 }
 
 /// `a.getTag(b)`: the entity's tag. A type error where the left is no entity or then the right no text;
-/// `EntityDoesNotExist`, at the place of the entity, where a concrete store lacks it; `EntityAttrDoesNotExist` at this place where
+/// `EntityDoesNotExist`, at the location of the entity, where a concrete store lacks it; `EntityAttrDoesNotExist` at this location where
 /// the entity lacks the tag.
 #[tactic(auto, unfolding(crate::specs::Stopping::stopped, cedar_model::specs::Operators::binary_answer, cedar_model::specs::Operators::expecting))]
 pub fn tag_of(
@@ -131,7 +131,7 @@ pub fn tag_of(
     tag_of_entity(alloc, entities, (uid, a.source_loc()), tag, loc)
 }
 
-// The tag of the entity, which is named at a place.
+// The tag of the entity, which is named at a location.
 #[tactic(auto, unfolding(crate::specs::Stopping::stopped, crate::specs::Stopping::not_known_in, cedar_model::specs::Operators::tag_found))]
 fn tag_of_entity(
     alloc: Global,
@@ -211,7 +211,7 @@ pub(crate) fn stored_part(part: &PartialValue) -> Result<Value, EvaluationError>
     }
 }
 
-// The error that there is no such entity, at this place.
+// The error that there is no such entity, at this location.
 #[cold]
 #[inline(never)]
 pub(crate) fn no_such_entity(uid: &Rc<EntityUID>, loc: Option<&Loc>) -> EvaluationError

@@ -20,7 +20,7 @@ use cedar_values::evaluator::err::EvaluationError;
 use std::alloc::Global;
 use std::rc::{Rc, RcStr};
 
-/// A boolean, at no known place.
+/// A boolean, at no known location.
 #[inline(always)]
 pub fn bool_value(b: bool) -> Value
     ensures { result.what ≡ plain_represented (Terms.bool_literal b) }
@@ -28,7 +28,7 @@ pub fn bool_value(b: bool) -> Value
     Value::new(ValueKind::Lit(Literal::Bool(b)), None)
 }
 
-// A long, at no known place.
+// A long, at no known location.
 pub(crate) fn long_value(n: i64) -> Value
     ensures { result.what ≡ plain_represented (Terms.long_literal n) }
 {

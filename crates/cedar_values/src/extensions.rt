@@ -51,7 +51,7 @@ impl ExtensionFunctionLookupError {
     ghost use Rattle.std.specs.Prelude.{◌≡◌, option_copied};
     ghost use Rattle.cedar_values.specs.Errors.{lookup_loc, lookup_at};
 
-    /// Where the function was called, if that is known. Want of memory has no place.
+    /// Where the function was called, if that is known. Want of memory has no location.
     pub fn source_loc(&self) -> Option<&Loc>
         ensures { option_copied result ≡ lookup_loc self.now }
     {
@@ -61,7 +61,7 @@ impl ExtensionFunctionLookupError {
         }
     }
 
-    /// The same error at this place, or at no known place.
+    /// The same error at this location, or at no known location.
     pub fn with_maybe_source_loc(self, source_loc: Option<Loc>) -> ExtensionFunctionLookupError
         ensures { result ≡ lookup_at self source_loc }
     {

@@ -1,4 +1,4 @@
-//! Equality of contexts: the same names, and equal values under them. Places change nothing.
+//! Equality of contexts: the same names, and equal values under them. Locations change nothing.
 ghost use Rattle.std.specs.Cmp.{on_equiv, on_per, partial_equiv_from_equiv};
 ghost use Rattle.cedar_evaluator.specs.Pairs.{pairs_eq, pairs_eq-equivalence};
 

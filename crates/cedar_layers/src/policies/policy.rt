@@ -82,7 +82,7 @@ impl Policy {
     ghost use Rattle.cedar_expressions.specs.View.{view, expr_loc};
     ghost use Rattle.cedar_layers.specs.Policies.{effect_view, policy_id_text, annotations_view, slots_view, policy_view, policy_parts, condition_term, policy_location, IsConjunction, IsCondition};
 
-    /// The policy of these parts, at no known place. Refuses only for want of memory.
+    /// The policy of these parts, at no known location. Refuses only for want of memory.
     pub fn new(
         alloc: Global,
         effect: Effect,
@@ -111,7 +111,7 @@ impl Policy {
         })
     }
 
-    /// The policy with this when clause, at this place: its constraints are all `true`, and no slot has a value. Refuses only
+    /// The policy with this when clause, at this location: its constraints are all `true`, and no slot has a value. Refuses only
     /// for want of memory.
     pub fn from_when_clause_annos(
         alloc: Global,

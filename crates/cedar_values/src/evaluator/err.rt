@@ -57,7 +57,7 @@ impl EvaluationError {
     ghost use Rattle.std.specs.Prelude.{◌≡◌, option_copied};
     ghost use Rattle.cedar_values.specs.Errors.{error_loc, error_at};
 
-    /// Where the error arose, if that is known. Want of memory has no place.
+    /// Where the error arose, if that is known. Want of memory has no location.
     pub fn source_loc(&self) -> Option<&Loc>
         ensures { option_copied result ≡ error_loc self.now }
     {
@@ -77,7 +77,7 @@ impl EvaluationError {
         }
     }
 
-    /// The same error at this place, or at no known place.
+    /// The same error at this location, or at no known location.
     pub fn with_maybe_source_loc(self, source_loc: Option<Loc>) -> EvaluationError
         ensures { result ≡ error_at self source_loc }
     {

@@ -278,7 +278,7 @@ impl IntegerOverflowError {
         }
     }
 
-    /// The same error at this place, or at no known place.
+    /// The same error at this location, or at no known location.
     pub fn with_maybe_source_loc(self, source_loc: Option<Loc>) -> IntegerOverflowError
         ensures { result ≡ overflow_at self source_loc }
     {
