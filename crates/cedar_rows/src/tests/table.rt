@@ -18,6 +18,7 @@ mod written;
 use super::answers::answer;
 use super::reader::fact;
 use std::alloc::Global;
+use std::rc::RcStr;
 use std::test::Fail;
 
 /// Whether all rows of these tables hold.
@@ -38,12 +39,12 @@ fn tables_hold(
 
 /// Whether the answers to these rows are those that are wanted. Prints each row that has another answer.
 fn rows_hold(rt: &impl Print, alloc: Global, setting: &str, rows: &str) -> Result<bool, Fail> {
-    let mut question = "value";
+    let mut question = RcStr::from_str(alloc, "value")?;
     let mut all_hold = true;
     for line in rows.lines() {
         if let Some(asked) = fact(line, "ask") {
-            question = asked;
-        } else if !line_holds(rt, alloc, setting, question, line)? {
+            question = RcStr::from_str(alloc, asked)?;
+        } else if !line_holds(rt, alloc, setting, question.as_str(), line)? {
             all_hold = false;
         }
     }
