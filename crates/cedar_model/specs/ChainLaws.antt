@@ -4,13 +4,35 @@ use Rattle.cedar_model.specs.Terms.{Text}
 use Rattle.cedar_model.specs.Failures.{Failure, failure_kind}
 use Rattle.cedar_model.specs.Settings.{Setting, Store}
 use Rattle.cedar_model.specs.Rules.{StoredCalls}
+use Rattle.cedar_model.specs.LevelLaws.{FunctionsAnswer, FunctionsFindMemory}
 use Rattle.cedar_model.specs.Alike.{AreFunctional}
-use Rattle.cedar_model.specs.Policies.{Decision, ErrorHandling}
+use Rattle.cedar_model.specs.Policies.{Policy, Decision, ErrorHandling}
 use Rattle.cedar_model.specs.Refusals.{Refusal, context_fails}
-use Rattle.cedar_model.specs.Chains.{Mapping, Response, Steps, StepsTo, has_limit, ChainOf}
+use Rattle.cedar_model.specs.Chains.{Mapping, Response, Begins, Steps, StepsTo, has_limit, ChainAnswers, ChainOf}
 use Rattle.cedar_model.specs.Authorizations.{HaveNoLimit}
 use Rattle.cedar_model.specs.Reports.{ids, given_decision, must_determine, may_determine}
 use Rattle.cedar_model.specs.ReportLaws.{Within}
+
+-- where the functions that exist answer, and never want of memory, there is a first response to policies
+abbrev pub ChainsBegin : StoredCalls → Type 0
+ChainsBegin calls =
+    FunctionsFindMemory calls → (mode : ErrorHandling) (s : Setting) (limit : ℕ)
+    → FunctionsAnswer calls s.extensions.arity → (ps : List Policy)
+    → (first : Response) × Begins mode s calls limit ps first
+
+-- each step answers a response or a refusal
+abbrev pub StepsAnswer : StoredCalls → Type 0
+StepsAnswer calls =
+    FunctionsFindMemory calls → (mode : ErrorHandling) (s : Setting) (limit : ℕ)
+    → FunctionsAnswer calls s.extensions.arity → (m : Mapping) (store : Store) (old : Response)
+    → (x : Result Response Refusal) × Steps mode s calls limit m store old x
+
+-- and so does each chain
+abbrev pub ChainsAnswer : StoredCalls → Type 0
+ChainsAnswer calls =
+    FunctionsFindMemory calls → (mode : ErrorHandling) (s : Setting) (limit : ℕ)
+    → FunctionsAnswer calls s.extensions.arity → (first : Response) (steps : List (Mapping × Store))
+    → (x : Result Response Refusal) × ChainAnswers mode s calls limit first steps x
 
 -- the same refusal, or errors of one kind of the context
 abbrev pub AreAlikeRefusals : Refusal → Refusal → Type 0

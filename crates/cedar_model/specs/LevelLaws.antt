@@ -2,7 +2,7 @@
 use Rattle.std.specs.Prelude.{◌≡◌, ◌≢◌, ◌↔◌, ℕ, ◌<◌, ◌≤◌, ◌-◌, List, length, Option, Some}
 use Rattle.cedar_model.specs.Terms.{Text, Term}
 use Rattle.cedar_model.specs.Values.{Represented}
-use Rattle.cedar_model.specs.Failures.{Answer, limit}
+use Rattle.cedar_model.specs.Failures.{out_of_memory, Answer, fails, limit}
 use Rattle.cedar_model.specs.Settings.{Setting}
 use Rattle.cedar_model.specs.Rules.{StoredCalls, Rule, Runs, Allows, Exceeds}
 use Rattle.cedar_model.specs.World.{Functions}
@@ -47,6 +47,16 @@ FunctionsAnswer calls arity =
 -- no function answers the recursion limit
 abbrev pub FunctionsMeetNoLimit : StoredCalls → Type 0
 FunctionsMeetNoLimit calls = (f : Text) (vs : List Represented) → calls f vs limit → ⊥
+
+-- nor want of memory
+abbrev pub FunctionsFindMemory : StoredCalls → Type 0
+FunctionsFindMemory calls = (f : Text) (vs : List Represented) → calls f vs (fails out_of_memory) → ⊥
+
+-- then no expression does
+abbrev pub AnswersFindMemory : StoredCalls → Type 0
+AnswersFindMemory calls =
+    FunctionsFindMemory calls → (s : Setting) (n : ℕ) (t : Term) (a : Answer) → Runs s calls n t a
+    → a ≢ fails out_of_memory
 
 -- at each level there is an answer, where the functions that exist answer
 abbrev pub LevelsHaveAnswers : StoredCalls → Type 0

@@ -6,7 +6,7 @@ ghost use Rattle.cedar_model.specs.Failures.{Answer};
 ghost use Rattle.cedar_model.specs.LevelLaws.{MoreLevelsKeepAnswers, LimitIsAlone, AllowedAnswersAreAlike};
 ghost use Rattle.cedar_model.specs.LevelLaws.{AnswersTakeMoreLevels, AllowedIsByTheRules, LayersAreLevels};
 ghost use Rattle.cedar_model.specs.LevelLaws.{LevelsHaveAnswers, ExpressionsHaveAnswers, NeedIsThreshold};
-ghost use Rattle.cedar_model.specs.LevelLaws.{AgreedFunctionsAreFunctional};
+ghost use Rattle.cedar_model.specs.LevelLaws.{AgreedFunctionsAreFunctional, AnswersFindMemory};
 
 /// Any stored functions: what they may answer to arguments. The laws hold for each type that has this.
 pub trait AnyFunctions {
@@ -39,6 +39,11 @@ pub fn levels_have_answers<F: AnyFunctions>(functions: &F)
 /// Each expression has an answer at some level, where these functions answer, and never by the recursion limit.
 pub fn expressions_have_answers<F: AnyFunctions>(functions: &F)
     ensures { ExpressionsHaveAnswers (F.calls functions.now) }
+{}
+
+/// No expression answers want of memory, where no function does.
+pub fn answers_find_memory<F: AnyFunctions>(functions: &F)
+    ensures { AnswersFindMemory (F.calls functions.now) }
 {}
 
 /// Where the recursion limit is met, it is met with fewer levels too.
