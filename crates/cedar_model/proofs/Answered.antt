@@ -10,7 +10,7 @@ use Rattle.cedar_model.specs.Settings.{Setting, Store}
 use Rattle.cedar_model.specs.Rules
 use Rattle.cedar_model.specs.LevelLaws.{FunctionsAnswer, FunctionsFindMemory}
 use Rattle.cedar_model.specs.Policies.{Policy, ErrorHandling}
-use Rattle.cedar_model.specs.Responses.{Row, RunOf, row_of, error_of, with_error, with_slots}
+use Rattle.cedar_model.specs.Responses.{Row, RunOf, row_of, decided, error_of, with_error, with_slots}
 use Rattle.cedar_model.specs.Refusals
 use Rattle.cedar_model.specs.Refusals.{Refusal, context_fails}
 use Rattle.cedar_model.specs.Chains
@@ -46,7 +46,7 @@ module _ (calls : Rules.StoredCalls) (finding : FunctionsFindMemory calls) where
       let a = total (with_slots s p.slots) calls callable n p.condition in
       let k = run_answers mode s n callable ps in (
         row_of mode p a.0 ∷ k.0,
-        with_error p.id (error_of a.0) k.1,
+        with_error p.id (error_of (decided a.0)) k.1,
         (
           a.0,
           k.0,

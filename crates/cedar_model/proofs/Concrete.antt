@@ -211,29 +211,30 @@ concrete_is_defined mode X ans w ps rows stand none =
 
 -- ---- a run
 
-verdict_same : (a : Answer) → reported_verdict (Responses.reported_of a)
-    ≡ Authorizations.result_verdict (Authorizations.decided a)
-unfolding reported_verdict Responses.reported_of Responses.reported_bool Authorizations.result_verdict
-    Authorizations.decided Authorizations.bool_result Authorizations.bool_verdict
+verdict_same : (a : Answer) → reported_verdict (Responses.reported_of (Responses.decided a))
+    ≡ Authorizations.result_verdict (Authorizations.evaluated a)
+unfolding reported_verdict Responses.reported_of Responses.decided Responses.decided_bool Responses.result_of
+    Authorizations.result_verdict Authorizations.bool_verdict
 verdict_same (answers (value v)) = by (bool_of (abstract_value v))
   where
-    by : (o : Option Bool) → reported_verdict (Responses.reported_bool o)
-        ≡ Authorizations.result_verdict (Authorizations.bool_result o v)
+    by : (o : Option Bool) → reported_verdict (Responses.reported_of (Responses.decided_bool o v))
+        ≡ Authorizations.result_verdict (Responses.result_of (Responses.decided_bool o v))
     by (Some true) = refl
     by (Some false) = refl
     by None = refl
 verdict_same (answers (residual t)) = refl
 verdict_same (fails e) = refl
 
-errors_same : (id : Text) (later : List (Text × Failure)) (a : Answer) → is_residual (Responses.reported_of a) ≡ false
-    → Responses.with_error id (Responses.error_of a) later
-    ≡ Authorizations.with_result id (Authorizations.decided a) later
-unfolding is_residual Responses.reported_of Responses.with_error Responses.error_of Responses.bool_error
-    Authorizations.with_result Authorizations.decided Authorizations.bool_result
+errors_same : (id : Text) (later : List (Text × Failure)) (a : Answer) → is_residual (Responses.reported_of (Responses.decided a)) ≡ false
+    → Responses.with_error id (Responses.error_of (Responses.decided a)) later
+    ≡ Responses.with_error id (Authorizations.error_in (Authorizations.evaluated a)) later
+unfolding is_residual Responses.reported_of Responses.with_error Responses.error_of Responses.decided
+    Responses.decided_bool Responses.result_of Authorizations.error_in
 errors_same id later (answers (value v)) h = by (bool_of (abstract_value v))
   where
-    by : (o : Option Bool) → Responses.with_error id (Responses.bool_error o v) later
-        ≡ Authorizations.with_result id (Authorizations.bool_result o v) later
+    by : (o : Option Bool) → Responses.with_error id (Responses.error_of (Responses.decided_bool o v)) later
+        ≡ Responses.with_error id
+        (Authorizations.error_in (Responses.result_of (Responses.decided_bool o v))) later
     by (Some b) = refl
     by None = refl
 errors_same id later (answers (residual t)) h = absurd (cc)

@@ -206,11 +206,11 @@ known_answer (answers (value (extension_represented t j f ts))) c k h = absurd h
 known_answer (answers (residual t)) c k h = absurd k
 known_answer (fails e) c k h = absurd (err_is_not_ok (sym h))
 
-not_residual : (a : Answer) → Answering.IsNoResidual a → is_residual (Responses.reported_of a) ≡ false
-unfolding is_residual Responses.reported_of Responses.reported_bool
+not_residual : (a : Answer) → Answering.IsNoResidual a → is_residual (Responses.reported_of (Responses.decided a)) ≡ false
+unfolding is_residual Responses.reported_of Responses.decided Responses.decided_bool
 not_residual (answers (value v)) h = by (bool_of (abstract_value v))
   where
-    by : (o : Option Bool) → is_residual (Responses.reported_bool o) ≡ false
+    by : (o : Option Bool) → is_residual (Responses.reported_of (Responses.decided_bool o v)) ≡ false
     by (Some true) = refl
     by (Some false) = refl
     by None = refl
@@ -257,7 +257,7 @@ module _ (mode : ErrorHandling) (ans : Functions) (calls : StoredCalls)
       let i = Answering.named_runs ans calls agree z (known_with_slots s Agreement.no_slots known) limit
       (Responses.carried q).condition a (((tt, tt), tt), clause_named ans s.map q.reported n.0) g in
       subst Reports.HaveNoResidual (sym e) (more_none (Responses.row_of mode (Responses.carried q) a) rest
-      (counted_residual mode q.effect (Responses.reported_of a)
+      (counted_residual mode q.effect (Responses.reported_of (Responses.decided a))
       ∙ not_residual a i) (run_finishes s known limit qs rest later n.1 j))
 
   module _ (s : Setting) (limit : ℕ) (m : Mapping) (store : Store) (old new : Response)

@@ -43,13 +43,13 @@ kind_of_memory memory_is_wrapped h = absurd (cc)
 
 -- the error of an answer that is no want of memory, where it is not the limit
 pub unless_memory : (a : Answer) (id : Text) (later : List (Text × Failure)) → a ≢ fails out_of_memory
-    → HaveNoLimit (Responses.with_error id (Responses.error_of a) later) → IsRecordable (Responses.error_of a)
+    → HaveNoLimit (Responses.with_error id (Responses.error_of (Responses.decided a)) later) → IsRecordable (Responses.error_of (Responses.decided a))
     × HaveNoLimit later
-unfolding Responses.with_error Responses.error_of Responses.bool_error failure_kind
+unfolding Responses.with_error Responses.error_of Responses.decided Responses.decided_bool failure_kind
 unless_memory (answers (value v)) id later m h = by (bool_of (abstract_value v)) h
   where
-    by : (o : Option _) → HaveNoLimit (Responses.with_error id (Responses.bool_error o v) later)
-        → IsRecordable (Responses.bool_error o v) × HaveNoLimit later
+    by : (o : Option _) → HaveNoLimit (Responses.with_error id (Responses.error_of (Responses.decided_bool o v)) later)
+        → IsRecordable (Responses.error_of (Responses.decided_bool o v)) × HaveNoLimit later
     by (Some b) g = (tt, g)
     by None g = ((λ e. cc, λ e. cc), g.1)
 unless_memory (answers (residual t)) id later m h = (tt, h)
@@ -64,7 +64,7 @@ unfolding Responses.with_error Responses.error_of
 run_recordable mode s calls limit [] rows errors h r = subst AreRecordable (sym r.1) tt
 run_recordable mode s calls limit (p ∷ ps) rows errors h (a, rest, later, g, m, j, e, k) =
     let z = unless_memory a p.id later m (subst HaveNoLimit k h) in
-    subst AreRecordable (sym k) (with_recorded p.id (Responses.error_of a) later z.0
+    subst AreRecordable (sym k) (with_recorded p.id (Responses.error_of (Responses.decided a)) later z.0
     (run_recordable mode s calls limit ps rest later z.1 j))
   where
     with_recorded : (id : Text) (o : Option Failure) (es : List (Text × Failure)) → IsRecordable o → AreRecordable es

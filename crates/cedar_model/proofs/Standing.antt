@@ -124,8 +124,8 @@ module _ (mode : ErrorHandling) (ans : Functions) (w : World) (s : Setting) (p :
       (λ e. ap (counted_verdict mode p.effect) h ∙ e) (λ e. ap (counted_verdict mode p.effect) h ∙ e)
 
   value_stands : (v : Represented) (o : Option Bool) → bool_of (abstract_value v) ≡ o → M ≡ gives (abstract_value v)
-      → Counts (Responses.reported_bool o)
-  unfolding Responses.reported_bool
+      → Counts (Responses.reported_of (Responses.decided_bool o v))
+  unfolding Responses.reported_of Responses.decided_bool
   value_stands v (Some true) e h = true_stands (ap verdict (h ∙ ap gives (bool_is (abstract_value v) true e))
       ∙ verdict_true)
   value_stands v (Some false) e h = false_stands (ap verdict (h ∙ ap gives (bool_is (abstract_value v) false e))
@@ -138,9 +138,9 @@ module _ (mode : ErrorHandling) (ans : Functions) (w : World) (s : Setting) (p :
   failure_stands of_limit nl nm h = absurd (nl refl)
   failure_stands of_memory nl nm h = absurd (nm refl)
 
-  pub answer_stands : (a : Answer) → Recorded.IsRecordable (Responses.error_of a) → StandsFor s.extensions ans w a M
-      → Counts (Responses.reported_of a)
-  unfolding Responses.reported_of Responses.error_of
+  pub answer_stands : (a : Answer) → Recorded.IsRecordable (Responses.error_of (Responses.decided a)) → StandsFor s.extensions ans w a M
+      → Counts (Responses.reported_of (Responses.decided a))
+  unfolding Responses.reported_of Responses.error_of Responses.decided
   answer_stands (answers (value v)) r h = value_stands v (bool_of (abstract_value v)) refl h.1
   answer_stands (answers (residual t)) r h =
       subst (Responses.StandsAs mode s.extensions ans w p) (sym (counted_residual mode p.effect t)) h
@@ -174,7 +174,7 @@ module _ (mode : ErrorHandling) (ans : Functions) (calls : StoredCalls) (agree :
       → Responses.RunOf mode s calls limit ps rows errors → Responses.StandInOrder mode s.extensions ans w ps rows
   run_stands [] rows errors f r h = subst (Responses.StandInOrder mode s.extensions ans w []) (sym h.0) tt
   run_stands (p ∷ ps) rows errors f r (a, rest, later, g, m, j, e, q) =
-      let z = recorded p.id (Responses.error_of a) later (subst Recorded.AreRecordable q r) in
+      let z = recorded p.id (Responses.error_of (Responses.decided a)) later (subst Recorded.AreRecordable q r) in
       let k = sound_stands ans calls agree w (Responses.with_slots s p.slots)
       (with_slots_done ans w s p.slots done) faithful p.condition a
       (runs_sound ans calls agree w (Responses.with_slots s p.slots)

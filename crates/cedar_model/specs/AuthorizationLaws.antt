@@ -11,7 +11,7 @@ use Rattle.cedar_model.specs.Agreement.{IsKnown, AgreesWithFunctions, HasNothing
 use Rattle.cedar_model.specs.Policies.{Policy, permit, forbid, erring, verdict, allow, deny}
 use Rattle.cedar_model.specs.Responses.{with_slots}
 use Rattle.cedar_model.specs.Reordering.{IsReordering}
-use Rattle.cedar_model.specs.Authorizations.{decided, Authorized, IsResponse, IsExact, IsExactDecision, IsExactResponse, HaveNoLimit, HaveKnownConditions, AreNoHigher, Completes}
+use Rattle.cedar_model.specs.Authorizations.{evaluated, Authorized, IsResponse, IsExact, IsExactDecision, IsExactResponse, HaveNoLimit, HaveKnownConditions, AreNoHigher, Completes}
 
 -- an answer is exact in the own world
 abbrev pub KnownAnswersAreExact : StoredCalls → Type 0
@@ -21,7 +21,7 @@ KnownAnswersAreExact calls =
 -- so is what it decides, as a condition's
 abbrev pub KnownConditionsAreExact : StoredCalls → Type 0
 KnownConditionsAreExact calls =
-    (ans : Functions) → AgreesWithFunctions ans calls → (s : Setting) → HasNothingUnknown s → (sigma : Text → AbstractValue) (levels : ℕ) (t : Term) (a : Answer) → IsKnown ans t → Runs s calls levels t a → IsExactDecision calls ans (own_world s sigma) s levels t (decided a)
+    (ans : Functions) → AgreesWithFunctions ans calls → (s : Setting) → HasNothingUnknown s → (sigma : Text → AbstractValue) (levels : ℕ) (t : Term) (a : Answer) → IsKnown ans t → Runs s calls levels t a → IsExactDecision calls ans (own_world s sigma) s levels t (evaluated a)
 
 -- what policies may answer within so many levels
 abbrev pub PolicyRuns : Setting → StoredCalls → ℕ → Policy → Answer → Type 0

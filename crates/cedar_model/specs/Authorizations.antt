@@ -1,28 +1,22 @@
 -- What a set of policies comes out as, judged by what an evaluator answers to their conditions; and when an answer, a decided condition or a response is exact where nothing is unknown. In Cedar's documentation: the page on authorization.
 use Rattle.std.specs.Prelude.{◌≡◌, ◌≢◌, ◌↔◌, ℕ, ◌≤◌, Bool, true, false, List, [], ◌∷◌, map, Option, Some, None, Result, Ok, Err}
-use Rattle.cedar_model.specs.Terms.{Text, bool_type, Term}
-use Rattle.cedar_model.specs.Values.{Represented, abstract_value}
+use Rattle.cedar_model.specs.Terms.{Text, Term}
 use Rattle.cedar_model.specs.Outcomes.{ErrorKind, type_error, Outcome, gives, errs, bool_of, has_text}
 use Rattle.cedar_model.specs.World.{World, Extensions, Functions}
 use Rattle.cedar_model.specs.Meaning.{meaning}
-use Rattle.cedar_model.specs.Failures.{Failure, recursion_limit, residual_is_left, FailureKind, of_meaning, failure_kind, value, residual, Answer, answers, fails, limit, wrong_type}
+use Rattle.cedar_model.specs.Failures.{Failure, recursion_limit, FailureKind, of_meaning, failure_kind, Answer, limit}
 use Rattle.cedar_model.specs.Settings.{Setting}
 use Rattle.cedar_model.specs.Rules.{StoredCalls, Exceeds}
 use Rattle.cedar_model.specs.Agreement.{Answers, height, IsKnown, AgreesWithRequest, AgreesWithStore, AgreesWithMap, FitsContext, FitsPart, EachStored}
 use Rattle.cedar_model.specs.Policies.{Policy, Verdict, satisfied, unsatisfied, erring, Judged, Decision, decision, reasons, judge_each}
-use Rattle.cedar_model.specs.Responses.{FitPolicies}
+use Rattle.cedar_model.specs.Responses.{FitPolicies, decided, result_of, with_error}
 
 -- ---- what conditions come out as
 
-unfoldable pub bool_result : Option Bool → Represented → Result Bool Failure
-bool_result (Some b) v = Ok b
-bool_result None v = Err (wrong_type bool_type [] (abstract_value v))
-
--- what a condition's answer decides: a bool; another value is a type error that expects one, and a residual is left
-unfoldable pub decided : Answer → Result Bool Failure
-decided (fails e) = Err e
-decided (answers (value v)) = bool_result (bool_of (abstract_value v)) v
-decided (answers (residual t)) = Err (residual_is_left t)
+-- the bool that a condition's answer decides, or an error: another value is a type error that expects a bool, and a
+-- residual is left
+abbrev pub evaluated : Answer → Result Bool Failure
+evaluated a = result_of (decided a)
 
 unfoldable pub bool_meaning : Option Bool → Result Bool ErrorKind
 bool_meaning (Some b) = Ok b
@@ -42,10 +36,10 @@ unfoldable pub result_verdict : {E : Type 0} → Result Bool E → Verdict
 result_verdict (Ok b) = bool_verdict b
 result_verdict (Err e) = erring
 
--- the errors with that of one policy more, if it erred, in front
-unfoldable pub with_result : {E : Type 0} → Text → Result Bool E → List (Text × E) → List (Text × E)
-with_result id (Ok b) errors = errors
-with_result id (Err e) errors = (id, e) ∷ errors
+-- the error, if there is one
+unfoldable pub error_in : {E : Type 0} → Result Bool E → Option E
+error_in (Ok b) = None
+error_in (Err e) = Some e
 
 -- ---- responses
 
@@ -56,7 +50,8 @@ judged_by p r = record { id = p.id; effect = p.effect; verdict_of = result_verdi
 abbrev pub JudgesEach : (Policy → Answer → Type 0) → List Policy → List Judged → List (Text × Failure) → Type 0
 JudgesEach May [] js errors = (js ≡ []) × (errors ≡ [])
 JudgesEach May (p ∷ ps) js errors =
-    (a : Answer) × (rest : List Judged) × (later : List (Text × Failure)) × May p a × JudgesEach May ps rest later × (js ≡ judged_by p (decided a) ∷ rest) × (errors ≡ with_result p.id (decided a) later)
+    (a : Answer) × (rest : List Judged) × (later : List (Text × Failure)) × May p a × JudgesEach May ps rest later
+    × (js ≡ judged_by p (evaluated a) ∷ rest) × (errors ≡ with_error p.id (error_in (evaluated a)) later)
 
 -- a decision, which ids are reasons for it, and the errors under the ids of the policies that erred
 pub record Authorized : Type 0 where
@@ -94,7 +89,7 @@ pub record IsExactDecision (calls : StoredCalls) (ans : Functions) (w : World) (
 unfoldable pub policy_errors : Extensions → Functions → World → List Policy → List (Text × ErrorKind)
 policy_errors X ans w [] = []
 policy_errors X ans w (p ∷ ps) =
-    with_result p.id (condition_meaning (meaning X ans w p.slots p.condition)) (policy_errors X ans w ps)
+    with_error p.id (error_in (condition_meaning (meaning X ans w p.slots p.condition))) (policy_errors X ans w ps)
 
 -- errors by their kinds
 abbrev pub failure_kinds : List (Text × Failure) → List (Text × FailureKind)

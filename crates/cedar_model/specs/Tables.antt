@@ -18,7 +18,7 @@ use Rattle.cedar_model.specs.Failures.{any_entity, Answer, fails, answers_value,
 use Rattle.cedar_model.specs.Settings.{StoredEntity, Store, Setting, missing_entity}
 use Rattle.cedar_model.specs.Rules.{StoredCalls, Allows}
 use Rattle.cedar_model.specs.Agreement.{no_slots}
-use Rattle.cedar_model.specs.Authorizations.{decided}
+use Rattle.cedar_model.specs.Authorizations.{evaluated}
 use Rattle.cedar_model.specs.Examples.{entity_of_type, user, long, text, entity, bool, x, some_entity, some_facts}
 use Rattle.cedar_model.specs.Examples.{some_map, some_setting}
 
@@ -225,7 +225,7 @@ HasOfLong =
 -- a policy's value
 abbrev pub PolicyExpectsBool : Type 0
 PolicyExpectsBool =
-    decided (answers_value (plain_represented (long_literal (pos 1)))) ≡ Err (type_is_wrong bool_type [] long_type)
+    evaluated (answers_value (plain_represented (long_literal (pos 1)))) ≡ Err (type_is_wrong bool_type [] long_type)
 
 -- ---- residuals
 
