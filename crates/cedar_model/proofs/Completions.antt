@@ -297,7 +297,7 @@ concrete_parts m r r' h =
 
 module _ (mode : ErrorHandling) (ans : Functions) (calls : Rules.StoredCalls)
     (agree : Agreement.AgreesWithFunctions ans calls) (w : World)
-    (s : Setting) (limit : ℕ) (m : Chains.Mapping) (store : Store) (old new : Chains.Response)
+    (s : Setting) (levels : ℕ) (m : Chains.Mapping) (store : Store) (old new : Chains.Response)
     (done : Agreement.IsCompletion ans w (Chains.at_step s old.request store m))
     (faithful : Agreement.AnswerFaithfully s.extensions ans calls) where
   -- the world completes what the context is read under
@@ -320,7 +320,7 @@ module _ (mode : ErrorHandling) (ans : Functions) (calls : Rules.StoredCalls)
   GoodContext c = Good s.extensions ans w m done.map_agrees done.map_faithful c
 
   substituted_good : (c c' : ContextPart) → GoodContext c
-      → Chains.SubstitutesTo (Chains.at_step s old.request store m) calls limit m c (Ok c') → GoodContext c'
+      → Chains.SubstitutesTo (Chains.at_step s old.request store m) calls levels m c (Ok c') → GoodContext c'
   unfolding Meaning.meaning Meaning.and_then_all
   substituted_good absent_context c' h k = subst GoodContext (sym (ok_inj k)) h
   substituted_good (known_context fs) c' h k = subst GoodContext (sym (ok_inj k)) h
@@ -333,12 +333,12 @@ module _ (mode : ErrorHandling) (ans : Functions) (calls : Rules.StoredCalls)
       (Meaning.meaning s.extensions ans w Agreement.no_slots t)
       (ap (λ x. Meaning.and_then_all x (λ gs. gives (record_value gs))) e) a c' i
       (sound_stands ans calls agree w z without_map_done faithful t a
-      (runs_sound ans calls agree w z without_map_done faithful limit t a f r))
+      (runs_sound ans calls agree w z without_map_done faithful levels t a f r))
 
-  pub step_completes : Chains.StepsTo mode s calls limit m store old new
+  pub step_completes : Chains.StepsTo mode s calls levels m store old new
       → Agreement.IsCompletion ans w (Chains.at_step s new.request store m)
   step_completes h =
-      let t = Stepping.taken mode s calls limit m store old new h in
+      let t = Stepping.taken mode s calls levels m store old new h in
       let p = concrete_parts m old.request t.request t.concrete in
       let q = done.request_agrees in
       let c = substituted_good t.request.context_part t.context

@@ -266,10 +266,10 @@ none_left r rs h = (
   ),
 )
 
-module _ (calls : StoredCalls) (s : Setting) (limit : ℕ) where
+module _ (calls : StoredCalls) (s : Setting) (levels : ℕ) where
   run_judges : (ps : List Policy) (rows : List Row) (errors : List (Text × Failure))
-      → Responses.RunOf skip s calls limit ps rows errors → Reports.HaveNoResidual rows
-      → Authorizations.JudgesEach (PolicyRuns s calls limit) ps (map judged_row rows) errors
+      → Responses.RunOf skip s calls levels ps rows errors → Reports.HaveNoResidual rows
+      → Authorizations.JudgesEach (PolicyRuns s calls levels) ps (map judged_row rows) errors
   unfolding Responses.counted_report
   run_judges [] rows errors h none = (ap (map judged_row) h.0, h.1)
   run_judges (p ∷ ps) rows errors (a, rest, later, g, m, j, e, k) none =
@@ -287,11 +287,11 @@ module _ (calls : StoredCalls) (s : Setting) (limit : ℕ) where
       )
 
   pub run_is_response : (ps : List Policy) (rows : List Row) (errors : List (Text × Failure))
-      → Responses.RunOf skip s calls limit ps rows errors → Reports.HaveNoResidual rows
-      → Authorizations.IsResponse (PolicyRuns s calls limit) ps (Reports.concretized skip rows errors)
+      → Responses.RunOf skip s calls levels ps rows errors → Reports.HaveNoResidual rows
+      → Authorizations.IsResponse (PolicyRuns s calls levels) ps (Reports.concretized skip rows errors)
   run_is_response ps rows errors h none = (
     map judged_row rows,
-    subst (Authorizations.JudgesEach (PolicyRuns s calls limit) ps (map judged_row rows))
+    subst (Authorizations.JudgesEach (PolicyRuns s calls levels) ps (map judged_row rows))
         (sym (no_error rows none errors)) (run_judges ps rows errors h none),
     concrete_decides_rows rows,
     λ t. ap (has_text t) (reason_ids t),

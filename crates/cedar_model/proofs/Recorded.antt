@@ -56,16 +56,16 @@ unless_memory (answers (residual t)) id later m h = (tt, h)
 unless_memory (fails e) id later m h =
     ((λ k. h.0 (kind_of_limit e k), λ k. m (ap fails (kind_of_memory e k))), h.1)
 
-pub run_recordable : (mode : ErrorHandling) (s : Setting) (calls : StoredCalls) (limit : ℕ) (ps : List Policy)
+pub run_recordable : (mode : ErrorHandling) (s : Setting) (calls : StoredCalls) (levels : ℕ) (ps : List Policy)
     (rows : List Responses.Row)
-    (errors : List (Text × Failure)) → HaveNoLimit errors → Responses.RunOf mode s calls limit ps rows errors
+    (errors : List (Text × Failure)) → HaveNoLimit errors → Responses.RunOf mode s calls levels ps rows errors
     → AreRecordable errors
 unfolding Responses.with_error Responses.error_of
-run_recordable mode s calls limit [] rows errors h r = subst AreRecordable (sym r.1) tt
-run_recordable mode s calls limit (p ∷ ps) rows errors h (a, rest, later, g, m, j, e, k) =
+run_recordable mode s calls levels [] rows errors h r = subst AreRecordable (sym r.1) tt
+run_recordable mode s calls levels (p ∷ ps) rows errors h (a, rest, later, g, m, j, e, k) =
     let z = unless_memory a p.id later m (subst HaveNoLimit k h) in
     subst AreRecordable (sym k) (with_recorded p.id (Responses.error_of (Responses.decided a)) later z.0
-    (run_recordable mode s calls limit ps rest later z.1 j))
+    (run_recordable mode s calls levels ps rest later z.1 j))
   where
     with_recorded : (id : Text) (o : Option Failure) (es : List (Text × Failure)) → IsRecordable o → AreRecordable es
         → AreRecordable (Responses.with_error id o es)

@@ -168,17 +168,17 @@ recorded id (Some e) later h = (h.0, h.1)
 
 module _ (mode : ErrorHandling) (ans : Functions) (calls : StoredCalls) (agree : AgreesWithFunctions ans calls)
     (w : World) (s : Setting) (done : IsCompletion ans w s) (faithful : AnswerFaithfully s.extensions ans calls)
-    (limit : ℕ) where
+    (levels : ℕ) where
   pub run_stands : (ps : List Policy) (rows : List Responses.Row) (errors : List (Text × Failure))
       → Responses.FitPolicies ans w ps → Recorded.AreRecordable errors
-      → Responses.RunOf mode s calls limit ps rows errors → Responses.StandInOrder mode s.extensions ans w ps rows
+      → Responses.RunOf mode s calls levels ps rows errors → Responses.StandInOrder mode s.extensions ans w ps rows
   run_stands [] rows errors f r h = subst (Responses.StandInOrder mode s.extensions ans w []) (sym h.0) tt
   run_stands (p ∷ ps) rows errors f r (a, rest, later, g, m, j, e, q) =
       let z = recorded p.id (Responses.error_of (Responses.decided a)) later (subst Recorded.AreRecordable q r) in
       let k = sound_stands ans calls agree w (Responses.with_slots s p.slots)
       (with_slots_done ans w s p.slots done) faithful p.condition a
       (runs_sound ans calls agree w (Responses.with_slots s p.slots)
-      (with_slots_done ans w s p.slots done) faithful limit p.condition a f.0 g) in
+      (with_slots_done ans w s p.slots done) faithful levels p.condition a f.0 g) in
       subst (Responses.StandInOrder mode s.extensions ans w (p ∷ ps)) (sym e)
       (refl, refl, answer_stands mode ans w s p a z.0 k, run_stands ps rest later f.1 z.1 j)
 

@@ -121,11 +121,11 @@ row_of mode p a = record {
 -- in that order; a condition whose need is above the limit errs with the recursion limit. No answer is want of
 -- memory, which ends a run
 abbrev pub RunOf : ErrorHandling → Setting → StoredCalls → ℕ → List Policy → List Row → List (Text × Failure) → Type 0
-RunOf mode s calls limit [] rows errors = (rows ≡ []) × (errors ≡ [])
-RunOf mode s calls limit (p ∷ ps) rows errors =
+RunOf mode s calls levels [] rows errors = (rows ≡ []) × (errors ≡ [])
+RunOf mode s calls levels (p ∷ ps) rows errors =
     (a : Answer) × (rest : List Row) × (later : List (Text × Failure))
-    × Runs (with_slots s p.slots) calls limit p.condition a × (a ≢ fails out_of_memory)
-    × RunOf mode s calls limit ps rest later × (rows ≡ row_of mode p a ∷ rest)
+    × Runs (with_slots s p.slots) calls levels p.condition a × (a ≢ fails out_of_memory)
+    × RunOf mode s calls levels ps rest later × (rows ≡ row_of mode p a ∷ rest)
     × (errors ≡ with_error p.id (error_of (decided a)) later)
 
 -- ---- what a response carries on
