@@ -85,7 +85,14 @@ error_of (fails e) = Some e
 
 abbrev pub with_slots : Setting → Slots → Setting
 with_slots s slots =
-    record { request = s.request; store = s.store; map = s.map; slots = slots; extensions = s.extensions }
+    record {
+      request = s.request;
+      store = s.store;
+      map = s.map;
+      slots = slots;
+      extensions = s.extensions;
+      resolution = s.resolution;
+    }
 
 unfoldable pub with_error : Text → Option Failure → List (Text × Failure) → List (Text × Failure)
 with_error id None errors = errors
