@@ -386,7 +386,7 @@ last_in_alike s Operators.no_container (Operators.a_record gs) e f k h a = absur
 last_in_alike s Operators.no_container (Operators.an_entity d) e f k h a = absurd a
 last_in_alike s Operators.no_container Operators.no_container e f k h a = h
 
-abbrev AreAlikeSteps : Operators.Step → Operators.Step → Type 0
+abbrev pub AreAlikeSteps : Operators.Step → Operators.Step → Type 0
 AreAlikeSteps (Operators.walks_on v) (Operators.walks_on w) = abstract_value v ≡ abstract_value w
 AreAlikeSteps (Operators.walks_on v) (Operators.stops a) = ⊥
 AreAlikeSteps (Operators.stops a) (Operators.walks_on v) = ⊥
@@ -416,6 +416,12 @@ step_in_alike s (Operators.an_entity d) Operators.no_container e f k l ls h a = 
 step_in_alike s Operators.no_container (Operators.a_record gs) e f k l ls h a = absurd a
 step_in_alike s Operators.no_container (Operators.an_entity d) e f k l ls h a = absurd a
 step_in_alike s Operators.no_container Operators.no_container e f k l ls h a = h
+
+-- a step from values that are alike
+pub step_alike : (s : Store) (k l : Text) (ls : List Text) (v w : Represented) → abstract_value v ≡ abstract_value w → AreAlikeSteps (Operators.step_in s (Operators.container_of v) (Operators.container_expected v) k l ls) (Operators.step_in s (Operators.container_of w) (Operators.container_expected w) k l ls)
+unfolding failure_kind
+step_alike s k l ls v w h =
+    step_in_alike s (Operators.container_of v) (Operators.container_of w) (Operators.container_expected v) (Operators.container_expected w) k l ls refl (alike_containers v w h)
 
 after_step_alike : (x y : Operators.Step) (next : Represented → Answer) → AreAlikeSteps x y → ((v w : Represented) → abstract_value v ≡ abstract_value w → AreAlike (next v) (next w)) → AreAlike (Operators.after_step x next) (Operators.after_step y next)
 unfolding Operators.after_step

@@ -3,7 +3,10 @@ use Rattle.std.specs.Prelude.{◌≡◌, ◌≢◌, ℕ, zero, suc, ◌==◌, Bo
 use Rattle.std.specs.Prelude.{Option, Some, None, Result, Ok, Err, is_some}
 use Rattle.std.proofs.Common.{refl, sym, ap, subst}
 use Rattle.cedar_model.specs.Terms.{Text, bool_literal, Variable, principal, action, resource, context, Slot}
-use Rattle.cedar_model.specs.Terms.{ValueType, BinaryOperator, Term, literal, variable, slot, unknown, if_then_else}
+use Rattle.cedar_model.specs.Terms.{ValueType, BinaryOperator, eq_operator, less_operator, less_eq_operator}
+use Rattle.cedar_model.specs.Terms.{add_operator, sub_operator, mul_operator, in_operator, contains_operator}
+use Rattle.cedar_model.specs.Terms.{contains_all_operator, contains_any_operator, get_tag_operator, has_tag_operator}
+use Rattle.cedar_model.specs.Terms.{Term, literal, variable, slot, unknown, if_then_else}
 use Rattle.cedar_model.specs.Terms.{both, either, unary, binary, call, get_attribute, has_attribute, extended_has}
 use Rattle.cedar_model.specs.Terms.{like, is_of_type, set_of, record_of, Terms, no_terms, one_term, Fields, no_fields}
 use Rattle.cedar_model.specs.Terms.{one_field}
@@ -14,19 +17,21 @@ use Rattle.cedar_model.specs.World.{World, FunctionAnswer, function_asks, Functi
 use Rattle.cedar_model.specs.Failures.{Failure, PartialValue, value, residual, Answer, answers, fails, answers_value}
 use Rattle.cedar_model.specs.Failures.{wrong_type, limit}
 use Rattle.cedar_model.specs.Settings.{Entry, known_entry, unknown_entry, ContextPart, absent_context, known_context}
-use Rattle.cedar_model.specs.Settings.{residual_context, StoredEntity, Setting, found_in, not_known, entry_part}
+use Rattle.cedar_model.specs.Settings.{residual_context, StoredEntity, Resolution, shallow, deep, Setting}
+use Rattle.cedar_model.specs.Settings.{found_in, not_known, entry_part}
 use Rattle.cedar_model.specs.Settings.{context_value, variable_part}
 use Rattle.cedar_model.specs.Operators
 use Rattle.cedar_model.specs.Rules
 use Rattle.cedar_model.specs.Agreement
+use Rattle.cedar_model.specs.Meaning
 use Rattle.cedar_model.specs.Progress
 use Rattle.cedar_model.proofs.Means
 use Rattle.cedar_model.proofs.OwnWorld
-
-abbrev pub IsNoResidual : Answer → Type 0
-IsNoResidual (answers (value v)) = Unit {0}
-IsNoResidual (answers (residual t)) = ⊥
-IsNoResidual (fails e) = Unit {0}
+use Rattle.cedar_model.proofs.Resolving as resolving
+use Rattle.cedar_model.proofs.Resolving.{IsStored, none_is_stored, none_read, each_stored, attribute_is_stored}
+use Rattle.cedar_model.proofs.Resolving.{beside_is_stored}
+use Rattle.cedar_model.proofs.Unread as unread
+use Rattle.cedar_model.proofs.Unread.{IsNoResidual}
 
 by_equal : (a b : Answer) → a ≡ b → IsNoResidual b → IsNoResidual a
 by_equal a b e h = subst IsNoResidual (sym e) h
@@ -202,12 +207,57 @@ module _ (ans : Functions) (calls : Rules.StoredCalls) (agree : Agreement.Agrees
 
   -- ---- expressions whose unknowns the map names, where nothing else is unknown
 
-  module _ (s : Setting) (known : Agreement.HasNothingUnknown s) where
+  -- the entries and the context are known, the store is concrete, and no residual is answered from it
+  pub record IsReady (s : Setting) : Type 0 where
+    pub principal_known : Agreement.IsKnownEntry s.request.principal_entry
+    pub action_known : Agreement.IsKnownEntry s.request.action_entry
+    pub resource_known : Agreement.IsKnownEntry s.request.resource_entry
+    pub context_known : Agreement.IsKnownContext s.request.context_part
+    pub store_concrete : s.store.is_partial ≡ false
+    pub store_ready : Agreement.EachStored (Progress.LeavesNoResidual ans s.map s.resolution) s.store
+
+  module _ (s : Setting) (ready : IsReady s) where
+    -- with shallow resolution nothing that is stored is a residual
+    shallow_none : s.resolution ≡ shallow → (t : Term) → IsStored s.store t → ⊥
+    shallow_none d t i =
+        subst (λ r. Progress.LeavesNoResidual ans s.map r (residual t)) d
+        (each_stored (Progress.LeavesNoResidual ans s.map s.resolution) s.store ready.store_ready t i)
+
+    -- with deep resolution the map names its unknowns
+    deep_named : s.resolution ≡ deep → (t : Term) → IsStored s.store t → Progress.IsNamed ans s.map t
+    deep_named d t i =
+        subst (λ r. Progress.LeavesNoResidual ans s.map r (residual t)) d
+        (each_stored (Progress.LeavesNoResidual ans s.map s.resolution) s.store ready.store_ready t i)
+
+    -- the same, where nothing is stored
+    abbrev bare : Setting
+    bare = record {
+      request = s.request;
+      store = record { entity = λ e. None; is_partial = false };
+      map = s.map;
+      slots = s.slots;
+      extensions = s.extensions;
+      resolution = s.resolution;
+    }
+
+    nothing_stored : (x : StoredEntity) → None ≡ Some x → ⊥
+    nothing_stored x e = cc
+
+    known : Agreement.HasNothingUnknown bare
+    known = record {
+      principal_known = ready.principal_known;
+      action_known = ready.action_known;
+      resource_known = ready.resource_known;
+      context_known = ready.context_known;
+      store_concrete = refl;
+      store_known = λ e x k p f. absurd (nothing_stored x f);
+    }
+
     abbrev sigma : Text → AbstractValue
     sigma n = plain (bool_literal false)
 
     abbrev w : World
-    w = Agreement.own_world s sigma
+    w = Agreement.own_world bare sigma
 
     abbrev Any : Represented → Type 0
     Any v = Unit {0}
@@ -224,22 +274,22 @@ module _ (ans : Functions) (calls : Rules.StoredCalls) (agree : Agreement.Agrees
     concrete None false e h = cc
     concrete (Some x) b e h = cc
 
-    stored : (p : PartialValue) → Agreement.IsValue p → Means.StoredWell ans w s Any NoTerm AnyError p
+    stored : (p : PartialValue) → Agreement.IsValue p → Means.StoredWell ans w bare Any NoTerm AnyError p
     stored (value v) h = tt
     stored (residual t) h = absurd h
 
-    well : Means.ValuesWell ans w s Any NoTerm AnyError
+    well : Means.ValuesWell ans w bare Any NoTerm AnyError
     well = record {
       plain_well = λ l. tt;
       part_well = λ fs k v f e. tt;
       errs_well = λ e k h. tt;
-      store_agrees = OwnWorld.own_store ans s sigma known;
+      store_agrees = OwnWorld.own_store ans bare sigma known;
       stored_well = λ d x k p e. (
         λ h. stored p ((known.store_known d x k p e).0 h),
         λ h. stored p
             ((known.store_known d x k p e).1 h),
       );
-      missing_well = λ d h. absurd (concrete (s.store.entity d) s.store.is_partial known.store_concrete h);
+      missing_well = λ d h. absurd (concrete None false refl h);
       unknown_well = λ n t h. absurd (h.1 (unknown n t) _ (λ g. g) refl);
     }
 
@@ -350,36 +400,82 @@ module _ (ans : Functions) (calls : Rules.StoredCalls) (agree : Agreement.Agrees
       after_or (answers (value v)) t a k i r = or_values (bool_of (abstract_value v)) v t a k r
       after_or (answers (residual q)) t a k i r = absurd i
 
+      bare_values : (op : BinaryOperator) (v u : Represented) → IsNoResidual (Operators.binary_answer bare op v u)
+      bare_values op v u =
+          no_residual (Operators.binary_answer bare op v u)
+          (Meaning.binary_meaning s.extensions w op (abstract_value v) (abstract_value u))
+          (Means.binary_means ans w bare Any NoTerm AnyError well op v u tt)
+
+      -- two values that read no stored residual
+      binary_values : (op : BinaryOperator) (v u : Represented) → Operators.binary_residual s.store op v u ≡ None
+          → IsNoResidual (Operators.binary_answer s op v u)
+      unfolding Operators.binary_answer Operators.binary_residual
+      binary_values eq_operator v u h = bare_values eq_operator v u
+      binary_values less_operator v u h = bare_values less_operator v u
+      binary_values less_eq_operator v u h = bare_values less_eq_operator v u
+      binary_values add_operator v u h = bare_values add_operator v u
+      binary_values sub_operator v u h = bare_values sub_operator v u
+      binary_values mul_operator v u h = bare_values mul_operator v u
+      binary_values in_operator v u h = unread.in_values s ready.store_concrete v u
+      binary_values contains_operator v u h = bare_values contains_operator v u
+      binary_values contains_all_operator v u h = bare_values contains_all_operator v u
+      binary_values contains_any_operator v u h = bare_values contains_any_operator v u
+      binary_values get_tag_operator v u h =
+          unread.tag_values s ready.store_concrete (abstract_value v) (abstract_value u) h
+      binary_values has_tag_operator v u h =
+          unread.has_tag_values s ready.store_concrete (abstract_value v) (abstract_value u)
+
       beside_values : (op : BinaryOperator) (v : Represented) (y : Answer) → IsNoResidual y
+          → Rules.beside_residual s.store op (value v) y ≡ None
           → IsNoResidual (Rules.binary_beside s op (value v) y)
-      unfolding Rules.binary_beside Rules.binary_of_parts
-      beside_values op v (answers (value u)) i =
-          no_residual _ _ (Means.binary_means ans w s Any NoTerm AnyError well op v u tt)
-      beside_values op v (answers (residual q)) i = absurd i
-      beside_values op v (fails e) i = tt
+      unfolding Rules.binary_beside Rules.binary_of_parts Rules.beside_residual
+      beside_values op v (answers (value u)) i h = binary_values op v u h
+      beside_values op v (answers (residual q)) i h = absurd i
+      beside_values op v (fails e) i h = tt
+
+      -- what a look-up answers, where what is read has its unknowns named
+      look_up_values : (o : Option Term) (x a : Answer) → ((t : Term) → o ≡ Some t → IsStored s.store t)
+          → (o ≡ None → IsNoResidual x) → Rules.Resolves G s.resolution o x a → IsNoResidual a
+      look_up_values o x a i f h =
+          resolving.resolved_by G IsNoResidual s.resolution o x a
+          (λ d. f (none_read o (λ t e. shallow_none d t (i t e)))) f
+          (λ t d e g. ih t a (deep_named d t (i t e)) g) h
 
       after_left : (op : BinaryOperator) (x : Answer) (t : Term) (a : Answer) → IsNamed t → IsNoResidual x
           → Rules.AfterLeft G s op x t a → IsNoResidual a
       after_left op (fails e) t a k i r = by_equal a _ r tt
-      after_left op (answers (value v)) t a k i (y, g, e) = by_equal a _ e (beside_values op v y (ih t y k g))
+      after_left op (answers (value v)) t a k i (y, g, e) =
+          look_up_values (Rules.beside_residual s.store op (value v) y) _ a (beside_is_stored s.store op (value v) y)
+          (beside_values op v y (ih t y k g)) e
       after_left op (answers (residual q)) t a k i r = absurd i
 
       after_attribute : (x : Answer) (l : Text) (a : Answer) → IsNoResidual x → Rules.AtAttribute G s x l a
           → IsNoResidual a
       after_attribute (fails e) l a i r = by_equal a _ r tt
       after_attribute (answers (value v)) l a i r =
-          by_equal a _ r (no_residual _ _ (Means.attribute_means ans w s Any NoTerm AnyError well v l tt))
+          look_up_values (Operators.attribute_residual s.store v l) _ a (attribute_is_stored s.store v l)
+          (unread.attribute_values s ready.store_concrete v l) r
       after_attribute (answers (residual q)) l a i r = absurd i
+
+      after_path : (d : Resolution) → s.resolution ≡ d → (x : Answer) (l : Text) (ls : List Text) (a : Answer)
+          → IsNoResidual x → Rules.AtPath G d s.store x l ls a → IsNoResidual a
+      after_path shallow d x l ls a i e =
+          by_equal a _ e (on_part_values _ _ x
+          (λ v. unread.path_values s ready.store_concrete (shallow_none d) ls v l) i)
+      after_path deep d (fails f) l ls a i e = by_equal a _ e tt
+      after_path deep d (answers (value v)) l ls a i e =
+          unread.walks_values s ready.store_concrete G (λ t j x. ih t x (deep_named d t j)) ls v l a e
+      after_path deep d (answers (residual q)) l ls a i e = absurd i
 
       has_values : (l : Text) (x : Answer) → IsNoResidual x → IsNoResidual (Rules.has_part s l x)
       unfolding Rules.has_part
-      has_values l (answers (value v)) i = no_residual _ _ (Means.has_means ans w s Any NoTerm AnyError well v l)
+      has_values l (answers (value v)) i = unread.has_values s ready.store_concrete v l
       has_values l (answers (residual q)) i = absurd i
       has_values l (fails e) i = tt
 
       is_values : (l : Text) (x : Answer) → IsNoResidual x → IsNoResidual (Rules.is_part l x)
       unfolding Rules.is_part
-      is_values l (answers (value v)) i = no_residual _ _ (Means.is_means ans w s Any NoTerm AnyError well l v)
+      is_values l (answers (value v)) i = no_residual _ _ (Means.is_means ans w bare Any NoTerm AnyError well l v)
       is_values l (answers (residual q)) i = absurd i
       is_values l (fails e) i = tt
 
@@ -393,18 +489,17 @@ module _ (ans : Functions) (calls : Rules.StoredCalls) (agree : Agreement.Agrees
       named_rule (either t u) a k (x, g, r) = after_or x u a k.1 (ih t x k.0 g) r
       named_rule (unary op t) a k (x, g, e) =
           by_equal a _ e (on_part_values _ _ x (λ v. no_residual _ _
-          (Means.unary_means ans w s Any NoTerm AnyError well op v)) (ih t x k g))
+          (Means.unary_means ans w bare Any NoTerm AnyError well op v)) (ih t x k g))
       named_rule (binary op t u) a k (x, g, r) = after_left op x u a k.1 (ih t x k.0 g) r
       named_rule (call f ts) a k (r, g, h) =
           call_values s.extensions.arity f r a k.0 (parts_values G IsNamed ih ts r (named_each ts k.1) g) h
       named_rule (get_attribute t l) a k (x, g, r) = after_attribute x l a (ih t x k g) r
       named_rule (has_attribute t l) a k (x, g, e) = by_equal a _ e (has_values l x (ih t x k g))
       named_rule (extended_has t l ls) a k (x, g, e) =
-          by_equal a _ e (on_part_values _ _ x (λ v. no_residual _ _
-          (Means.path_means ans w s Any NoTerm AnyError well l ls v tt)) (ih t x k g))
+          after_path s.resolution refl x l ls a (ih t x k g) e
       named_rule (like t p) a k (x, g, e) =
           by_equal a _ e (on_part_values _ _ x (λ v. no_residual _ _
-          (Means.like_means ans w s Any NoTerm AnyError well p v)) (ih t x k g))
+          (Means.like_means ans w bare Any NoTerm AnyError well p v)) (ih t x k g))
       named_rule (is_of_type t l) a k (x, g, e) = by_equal a _ e (is_values l x (ih t x k g))
       named_rule (set_of ts) a k (r, g, e) =
           by_equal a _ e (set_values r (parts_values G IsNamed ih ts r (named_each ts k) g))

@@ -48,6 +48,7 @@ module _ (mode : ErrorHandling) (calls : StoredCalls) (ans : Functions) (w : Wor
     map_faithful = a.mapped_values_are_faithful;
     context_fits = q.context_fits;
     store_fits = b.stored_residuals_fit;
+    store_restricted = b.stored_residuals_are_restricted;
   }
 
   pub no_map_completes : Headline.CompletesMap ans w s (λ n. None)

@@ -311,6 +311,7 @@ module _ (mode : ErrorHandling) (ans : Functions) (calls : Rules.StoredCalls)
     map_faithful = λ n v e. absurd (none_is v e);
     context_fits = done.context_fits;
     store_fits = done.store_fits;
+    store_restricted = done.store_restricted;
   }
     where
       none_is : (v : Represented) → None ≡ Some v → ⊥
@@ -362,4 +363,5 @@ module _ (mode : ErrorHandling) (ans : Functions) (calls : Rules.StoredCalls)
         map_faithful = done.map_faithful;
         context_fits = c.2;
         store_fits = done.store_fits;
+        store_restricted = done.store_restricted;
       }

@@ -1,7 +1,7 @@
 -- With one level less an expression has the same answer, or meets the limit.
-use Rattle.std.specs.Prelude.{◌≡◌, ◌⊎◌, ℕ, zero, suc, ◌+◌, ◌-◌, ◌≤◌, Bool, true, false, List, Option, Some, None}
+use Rattle.std.specs.Prelude.{◌≡◌, ◌⊎◌, ℕ, zero, suc, ◌+◌, ◌-◌, ◌≤◌, Bool, true, false, List, [], ◌∷◌, Option, Some, None}
 use Rattle.std.specs.Prelude.{Result, Err}
-use Rattle.std.proofs.Common.{refl, ap, subst, arith, inl, inr}
+use Rattle.std.proofs.Common.{refl, subst, arith, inl, inr}
 use Rattle.cedar_model.specs.Terms.{Text, BinaryOperator, Term, literal, variable, slot, unknown, if_then_else, both}
 use Rattle.cedar_model.specs.Terms.{either, unary, binary, call, get_attribute, has_attribute, extended_has, like}
 use Rattle.cedar_model.specs.Terms.{is_of_type, set_of, record_of, Terms, no_terms, one_term, Fields, no_fields}
@@ -11,8 +11,10 @@ use Rattle.cedar_model.specs.Shapes.{is_projectable}
 use Rattle.cedar_model.specs.Outcomes.{bool_of}
 use Rattle.cedar_model.specs.Failures.{Failure, failure_kind, recursion_limit, PartialValue, value, residual, Answer}
 use Rattle.cedar_model.specs.Failures.{answers, fails, limit}
-use Rattle.cedar_model.specs.Settings.{Setting}
-use Rattle.cedar_model.specs.Operators.{term_at}
+use Rattle.cedar_model.specs.Settings.{Store, Resolution, shallow, deep, Setting}
+use Rattle.cedar_model.specs.Operators.{term_at, Step, walks_on, stops, step_in, container_of, container_expected}
+use Rattle.cedar_model.specs.Operators.{attribute_answer, attribute_residual}
+use Rattle.cedar_model.proofs.Resolving.{unread}
 use Rattle.cedar_model.specs.Rules
 
 -- the same answer, or the limit
@@ -103,11 +105,59 @@ module _ (s : Setting) (calls : Rules.StoredCalls) (G H : Rules.MayAnswer) (less
   less_or (answers (value v)) t a r = less_or_bool (bool_of (abstract_value v)) v t a r
   less_or (answers (residual q)) t a r = less_kept (either q) t a r
 
+  less_resolves : (r : Resolution) (o : Option Term) (x a : Answer) → Rules.Resolves G r o x a →
+      OrLimit (Rules.Resolves H r o x) a
+  less_resolves shallow o x a h = inl h
+  less_resolves deep None x a h = inl h
+  less_resolves deep (Some t) x a h = less t a h
+
   less_left : (op : BinaryOperator) (x : Answer) (t : Term) (a : Answer) → Rules.AfterLeft G s op x t a →
       OrLimit (Rules.AfterLeft H s op x t) a
-  unfolding Rules.binary_beside
+  unfolding Rules.binary_beside Rules.beside_residual
   less_left op (fails e) t a r = inl r
-  less_left op (answers p) t a (y, g, e) = through (λ z b. b ≡ Rules.binary_beside s op p z) t y a refl g (inl e)
+  less_left op (answers p) t a (y, g, h) =
+      through (λ z. Rules.Resolves H s.resolution (Rules.beside_residual s.store op p z) (Rules.binary_beside s op p z))
+      t y a (unread H s.resolution limit) g (less_resolves s.resolution (Rules.beside_residual s.store op p y)
+      (Rules.binary_beside s op p y) a h)
+
+  -- an extended `has`
+  less_step : (z : Step) (Next Next' : Represented → Answer → Type 0) (a : Answer) → ((v : Represented) → Next v a →
+      OrLimit (Next' v) a) → Rules.AfterStep G z Next a → OrLimit (Rules.AfterStep H z Next') a
+  less_step (walks_on v) Next Next' a f h = f v h
+  less_step (stops b) Next Next' a f h = inl h
+
+  less_stored : (x : Answer) (l : Text) (ls : List Text) (Next Next' : Represented → Answer → Type 0) (a : Answer) →
+      ((v : Represented) → Next v a → OrLimit (Next' v) a) → Rules.AfterStored G x l ls Next a →
+      OrLimit (Rules.AfterStored H x l ls Next') a
+  less_stored (fails e) l ls Next Next' a f h = inl h
+  less_stored (answers (value v)) l ls Next Next' a f h = f v h
+  less_stored (answers (residual r)) l ls Next Next' a f h = inl h
+
+  less_steps : (o : Option Term) (z : Step) (l : Text) (ls : List Text) (Next Next' : Represented → Answer →
+      Type 0) (a : Answer) → ((v : Represented) → Next v a → OrLimit (Next' v) a) → Rules.StepsOn G o z l ls Next a →
+      OrLimit (Rules.StepsOn H o z l ls Next') a
+  less_steps None z l ls Next Next' a f h = less_step z Next Next' a f h
+  less_steps (Some t) z l ls Next Next' a f (x, g, h) =
+      through (λ y. Rules.AfterStored H y l ls Next') t x a refl g (less_stored x l ls Next Next' a f h)
+
+  less_walks : (store : Store) (ks : List Text) (v : Represented) (k : Text) (a : Answer) →
+      Rules.Walks G store v k ks a → OrLimit (Rules.Walks H store v k ks) a
+  less_walks store [] v k a h = inl h
+  less_walks store (l ∷ ls) v k a h =
+      less_steps (attribute_residual store v k) (step_in store (container_of v) (container_expected v) k l ls) l ls
+      (λ u. Rules.Walks G store u l ls) (λ u. Rules.Walks H store u l ls) a (λ u. less_walks store ls u l a) h
+
+  less_path : (r : Resolution) (x : Answer) (k : Text) (ks : List Text) (a : Answer) →
+      Rules.AtPath G r s.store x k ks a → OrLimit (Rules.AtPath H r s.store x k ks) a
+  less_path shallow x k ks a h = inl h
+  less_path deep (fails e) k ks a h = inl h
+  less_path deep (answers (value v)) k ks a h = less_walks s.store ks v k a h
+  less_path deep (answers (residual r)) k ks a h = inl h
+
+  path_stops : (r : Resolution) (k : Text) (ks : List Text) → Rules.AtPath H r s.store limit k ks limit
+  unfolding Rules.on_part
+  path_stops shallow k ks = refl
+  path_stops deep k ks = refl
 
   less_projects : (b : Bool) (r : Term) (k : Text) (part : Term) (a : Answer) → Rules.Projects G b r k part a →
       OrLimit (Rules.Projects H b r k part) a
@@ -127,7 +177,8 @@ module _ (s : Setting) (calls : Rules.StoredCalls) (G H : Rules.MayAnswer) (less
   less_attribute : (x : Answer) (k : Text) (a : Answer) → Rules.AtAttribute G s x k a →
       OrLimit (Rules.AtAttribute H s x k) a
   less_attribute (fails e) k a r = inl r
-  less_attribute (answers (value v)) k a r = inl r
+  less_attribute (answers (value v)) k a r =
+      less_resolves s.resolution (attribute_residual s.store v k) (attribute_answer s v k) a r
   less_attribute (answers (residual q)) k a r = less_at_fields (Rules.fields_of_record q) q k a r
 
   -- parts in order: the same answers, or the limit
@@ -196,7 +247,9 @@ module _ (s : Setting) (calls : Rules.StoredCalls) (G H : Rules.MayAnswer) (less
   less_rule (get_attribute t k) a (x, g, h) =
       through (λ y. Rules.AtAttribute H s y k) t x a refl g (less_attribute x k a h)
   less_rule (has_attribute t k) a (x, g, e) = through (λ y b. b ≡ Rules.has_part s k y) t x a refl g (inl e)
-  less_rule (extended_has t k ks) a (x, g, e) = less_on_part _ _ t x a g e
+  less_rule (extended_has t k ks) a (x, g, h) =
+      through (λ y. Rules.AtPath H s.resolution s.store y k ks) t x a (path_stops s.resolution k ks) g
+      (less_path s.resolution x k ks a h)
   less_rule (like t p) a (x, g, e) = less_on_part _ _ t x a g e
   less_rule (is_of_type t m) a (x, g, e) = through (λ y b. b ≡ Rules.is_part m y) t x a refl g (inl e)
   less_rule (set_of ts) a (r, g, e) =

@@ -10,7 +10,7 @@ use Rattle.cedar_model.specs.Values.{Represented, plain_represented, set_represe
 use Rattle.cedar_model.specs.Values.{extension_represented, abstract_value, expression_of}
 use Rattle.cedar_model.specs.Shapes.{is_restricted, are_restricted, are_restricted_at}
 use Rattle.cedar_model.specs.Outcomes.{entity_of, bool_of, text_eq}
-use Rattle.cedar_model.specs.World.{Functions}
+use Rattle.cedar_model.specs.World.{Slots, Functions}
 use Rattle.cedar_model.specs.Failures.{Failure, value, residual, Answer, answers, fails}
 use Rattle.cedar_model.specs.Settings.{Entry, known_entry, unknown_entry, ContextPart, absent_context, known_context}
 use Rattle.cedar_model.specs.Settings.{residual_context, Setting, Store}
@@ -26,10 +26,10 @@ use Rattle.cedar_model.specs.Chains.{Mapping, Response, is_residual, has_effect,
 use Rattle.cedar_model.specs.Reports
 use Rattle.cedar_model.specs.Progress
 use Rattle.cedar_model.proofs.Answering
+use Rattle.cedar_model.proofs.Unread.{IsNoResidual}
 use Rattle.cedar_model.proofs.Chained.{sorted_is}
 use Rattle.cedar_model.proofs.Completions.{concrete_parts}
 use Rattle.cedar_model.proofs.Concrete.{concrete_is_defined}
-use Rattle.cedar_model.proofs.Exactly.{known_with_slots}
 use Rattle.cedar_model.proofs.Stepping.{taken}
 
 ok_inj : {A B : Type 0} {x y : A} → ◌≡◌ {A = Result A B} (Ok x) (Ok y) → x ≡ y
@@ -197,7 +197,7 @@ module _ (ans : Functions) (m : Mapping) where
   clause_named (reported_false e) h = tt
   clause_named (reported_residual t) h = h
 
-known_answer : (a : Answer) (c : ContextPart) → Answering.IsNoResidual a → Refusals.IsContext a (Ok c)
+known_answer : (a : Answer) (c : ContextPart) → IsNoResidual a → Refusals.IsContext a (Ok c)
     → Agreement.IsKnownContext c
 known_answer (answers (value (plain_represented l))) c k h = absurd h
 known_answer (answers (value (set_represented vs))) c k h = absurd h
@@ -206,7 +206,7 @@ known_answer (answers (value (extension_represented t j f ts))) c k h = absurd h
 known_answer (answers (residual t)) c k h = absurd k
 known_answer (fails e) c k h = absurd (err_is_not_ok (sym h))
 
-not_residual : (a : Answer) → Answering.IsNoResidual a → is_residual (Responses.reported_of (Responses.decided a)) ≡ false
+not_residual : (a : Answer) → IsNoResidual a → is_residual (Responses.reported_of (Responses.decided a)) ≡ false
 unfolding is_residual Responses.reported_of Responses.decided Responses.decided_bool
 not_residual (answers (value v)) h = by (bool_of (abstract_value v))
   where
@@ -248,20 +248,31 @@ no_rows = (refl, refl)
 
 module _ (mode : ErrorHandling) (ans : Functions) (calls : StoredCalls)
     (agree : Agreement.AgreesWithFunctions ans calls) where
-  run_finishes : (s : Setting) → Agreement.HasNothingUnknown s
+  ready_with_slots : (s : Setting) (slots : Slots) → Answering.IsReady ans calls agree s
+      → Answering.IsReady ans calls agree (Responses.with_slots s slots)
+  ready_with_slots s slots r = record {
+    principal_known = r.principal_known;
+    action_known = r.action_known;
+    resource_known = r.resource_known;
+    context_known = r.context_known;
+    store_concrete = r.store_concrete;
+    store_ready = r.store_ready;
+  }
+
+  run_finishes : (s : Setting) → Answering.IsReady ans calls agree s
       → (levels : ℕ) (qs rows : List Row) (errors : List (Text × Failure)) → Progress.RowsAreNamed ans s.map qs
       → Responses.RunOf mode s calls levels (map Responses.carried qs) rows errors → Reports.HaveNoResidual rows
   run_finishes s known levels [] rows errors n h = subst Reports.HaveNoResidual (sym h.0) no_rows
   run_finishes s known levels (q ∷ qs) rows errors n (a, rest, later, g, f, j, e, k) =
       let z = Responses.with_slots s Agreement.no_slots in
-      let i = Answering.named_runs ans calls agree z (known_with_slots s Agreement.no_slots known) levels
+      let i = Answering.named_runs ans calls agree z (ready_with_slots s Agreement.no_slots known) levels
       (Responses.carried q).condition a (((tt, tt), tt), clause_named ans s.map q.reported n.0) g in
       subst Reports.HaveNoResidual (sym e) (more_none (Responses.row_of mode (Responses.carried q) a) rest
       (counted_residual mode q.effect (Responses.reported_of (Responses.decided a))
       ∙ not_residual a i) (run_finishes s known levels qs rest later n.1 j))
 
   module _ (s : Setting) (levels : ℕ) (m : Mapping) (store : Store) (old new : Response)
-      (concrete : store.is_partial ≡ false) (values : Agreement.EachStored Agreement.IsValue store)
+      (concrete : store.is_partial ≡ false) (values : Agreement.EachStored (Progress.LeavesNoResidual ans m s.resolution) store)
       (named : Progress.NamesAll ans m old) where
     context_known : (c c' : ContextPart) → IsThere ans m c
         → Chains.SubstitutesTo (Chains.at_step s old.request store m) calls levels m c (Ok c')
@@ -281,17 +292,17 @@ module _ (mode : ErrorHandling) (ans : Functions) (calls : StoredCalls)
         let c = context_known t.request.context_part t.context
         (context_there ans m old.request.context_part t.request.context_part named.context_is_named p.context_is)
         t.substitutes in
-        let r : Agreement.HasNothingUnknown (Chains.at_step s
+        let r : Answering.IsReady ans calls agree (Chains.at_step s
         (Chains.with_context t.request t.context) store m) = record {
           principal_known = entry_known ans m _ _ _ named.principal_is_named p.principal_is;
           action_known = entry_known ans m _ _ _ named.action_is_named p.action_is;
           resource_known = entry_known ans m _ _ _ named.resource_is_named p.resource_is;
           context_known = c;
           store_concrete = concrete;
-          store_known = values;
+          store_ready = values;
         } in
-        let k : Agreement.HasNothingUnknown (Chains.at_step s new.request store m) = subst
-        (λ x. Agreement.HasNothingUnknown (Chains.at_step s x store m)) (sym t.request_is) r in
+        let k : Answering.IsReady ans calls agree (Chains.at_step s new.request store m) = subst
+        (λ x. Answering.IsReady ans calls agree (Chains.at_step s x store m)) (sym t.request_is) r in
         run_finishes (Chains.at_step s new.request store m) k levels
         (Chains.rows_by permit old.rows ++ Chains.rows_by forbid old.rows) new.rows new.errors
         (named_reordered ans m (sorted_is old.rows) named.rows_are_named) t.runs

@@ -1,24 +1,25 @@
 -- A residual that is answered holds an unknown.
-use Rattle.std.specs.Prelude.{◌≡◌, ℕ, zero, suc, ◌==◌, Bool, true, false, cond, ◌||◌, List, [], ◌∷◌, map, length}
-use Rattle.std.specs.Prelude.{Option, Some, None, is_some, Result, Ok, Err}
-use Rattle.std.proofs.Common.{refl, ap, subst, sym, ◌∙◌}
-use Rattle.cedar_model.specs.Terms.{Text, EntityName, bool_literal, Slot, Variable, principal, action, resource}
+use Rattle.std.specs.Prelude.{◌≡◌, ℕ, zero, suc, ◌==◌, Bool, true, false, cond, ◌||◌, List, [], ◌∷◌, length}
+use Rattle.std.specs.Prelude.{Option, Some, None, Result, Ok, Err}
+use Rattle.std.proofs.Common.{refl, subst, sym}
+use Rattle.cedar_model.specs.Terms.{Text, EntityName, Slot, Variable, principal, action, resource}
 use Rattle.cedar_model.specs.Terms.{context, BinaryOperator, Term, literal, variable, slot, unknown, if_then_else}
 use Rattle.cedar_model.specs.Terms.{both, either, unary, binary, call, get_attribute, has_attribute, extended_has}
 use Rattle.cedar_model.specs.Terms.{like, is_of_type, set_of, record_of, Terms, no_terms, one_term, Fields, no_fields}
 use Rattle.cedar_model.specs.Terms.{one_field}
 use Rattle.cedar_model.specs.Values.{Represented, abstract_value}
 use Rattle.cedar_model.specs.Shapes.{has_unknown, have_unknown, have_unknown_at, is_projectable}
-use Rattle.cedar_model.specs.Outcomes.{bool_of, text_eq}
+use Rattle.cedar_model.specs.Outcomes.{bool_of}
 use Rattle.cedar_model.specs.Failures.{Failure, FailureKind, of_meaning, of_residual, of_limit, of_memory}
 use Rattle.cedar_model.specs.Failures.{failure_kind, PartialValue, value, residual, Answer, answers, answers_bool}
 use Rattle.cedar_model.specs.Failures.{fails, limit, part_expression}
 use Rattle.cedar_model.specs.Settings.{Entry, known_entry, unknown_entry, ContextPart, absent_context, known_context}
-use Rattle.cedar_model.specs.Settings.{residual_context, Setting, StoredEntity, part_at, entry_part, context_value}
-use Rattle.cedar_model.specs.Settings.{variable_part}
+use Rattle.cedar_model.specs.Settings.{residual_context, Setting, entry_part, context_value}
+use Rattle.cedar_model.specs.Settings.{Resolution, shallow, deep, variable_part}
 use Rattle.cedar_model.specs.Operators
 use Rattle.cedar_model.specs.Rules
 use Rattle.cedar_model.specs.RestrictedLaws.{HoldsUnknown, ResidualsHoldUnknowns}
+use Rattle.cedar_model.proofs.Resolving as resolving
 use Rattle.cedar_model.proofs.Operands as operands
 use Rattle.cedar_model.proofs.Operands.{Facts, AllAnswer, AllPart}
 
@@ -322,7 +323,31 @@ module _ (s : Setting) (calls : Rules.StoredCalls) (given : ResidualsHoldUnknown
     held_left : (op : BinaryOperator) (x : Answer) (t : Term) (a : Answer) → Held x → Rules.AfterLeft G s op x t a →
         Held a
     held_left op (fails e) t a h r = held_by a (fails e) r tt
-    held_left op (answers p) t a h (y, g, e) = held_by a _ e (held_beside op p y h (ih t y g))
+    held_left op (answers p) t a h (y, g, e) =
+        resolving.resolved G Held s.resolution (Rules.beside_residual s.store op p y) _ a
+        (held_beside op p y h (ih t y g)) (λ u d i. ih u a) e
+
+    held_step : (z : Operators.Step) → operands.AllStep s AnyValue AnyValue Holds AnyFailure facts z →
+        resolving.StopsWith G Held z
+    held_step (Operators.walks_on v) h = tt
+    held_step (Operators.stops a) h = h
+
+    held_goes : (x : Answer) (l : Text) (ls : List Text) → Held x → resolving.GoesOn G Held x l ls
+    held_goes (fails e) l ls h = tt
+    held_goes (answers (value v)) l ls h = tt
+    held_goes (answers (residual r)) l ls h = h
+
+    held_path : (d : Resolution) (x : Answer) (k : Text) (ks : List Text) (a : Answer) → Held x →
+        Rules.AtPath G d s.store x k ks a → Held a
+    held_path shallow x k ks a h e =
+        held_by a _ e (held_on_part _ _ (λ v. operands.path_all s AnyValue AnyValue Holds AnyFailure facts ks v k)
+        (λ r h. h) x h)
+    held_path deep (fails e) k ks a h g = held_by a (fails e) g tt
+    held_path deep (answers (value v)) k ks a h g =
+        resolving.walks G Held s.store (operands.last_all s AnyValue AnyValue Holds AnyFailure facts)
+        (λ u l m ls e. held_step _ (operands.step_in_all s AnyValue AnyValue Holds AnyFailure facts u l m ls))
+        (λ t i x j l ls. held_goes x l ls (ih t x j)) ks v k a g
+    held_path deep (answers (residual r)) k ks a h g = held_by a _ g h
 
     held_projects : (b : Bool) (r : Term) (k : Text) (part : Term) (a : Answer) → Holds r →
         Rules.Projects G b r k part a → Held a
@@ -342,7 +367,8 @@ module _ (s : Setting) (calls : Rules.StoredCalls) (given : ResidualsHoldUnknown
     held_attribute : (x : Answer) (k : Text) (a : Answer) → Held x → Rules.AtAttribute G s x k a → Held a
     held_attribute (fails e) k a h j = held_by a (fails e) j tt
     held_attribute (answers (value v)) k a h j =
-        held_by a _ j (operands.attribute_all s AnyValue AnyValue Holds AnyFailure facts v k tt)
+        resolving.resolved G Held s.resolution (Operators.attribute_residual s.store v k) _ a
+        (operands.attribute_all s AnyValue AnyValue Holds AnyFailure facts v k tt) (λ u d i. ih u a) j
     held_attribute (answers (residual r)) k a h j = held_at_fields (Rules.fields_of_record r) r k a h j
 
     held_rule : (t : Term) (a : Answer) → Rules.Rule s calls G t a → Held a
@@ -362,8 +388,7 @@ module _ (s : Setting) (calls : Rules.StoredCalls) (given : ResidualsHoldUnknown
     held_rule (get_attribute t k) a (x, g, j) = held_attribute x k a (ih t x g) j
     held_rule (has_attribute t k) a (x, g, e) = held_by a _ e (held_has k x (ih t x g))
     held_rule (extended_has t k ks) a (x, g, e) =
-        held_by a _ e (held_on_part _ _ (λ v. operands.path_all s AnyValue AnyValue Holds AnyFailure facts ks v k)
-        (λ r h. h) x (ih t x g))
+        held_path s.resolution x k ks a (ih t x g) e
     held_rule (like t p) a (x, g, e) =
         held_by a _ e (held_on_part _ _ (operands.like_all s AnyValue AnyValue Holds AnyFailure facts p) (λ r h. h) x
         (ih t x g))

@@ -148,6 +148,7 @@ completes is_partial = record {
       λ n v e. subst (Agreement.IsFaithful some_extensions Instances.asked) (is_seven (text_eq n (codes "u")) v e) tt;
   context_fits = (refl, tt);
   store_fits = stored_such is_partial (Agreement.FitsPart some_extensions Instances.asked Instances.completing) tt;
+  store_restricted = stored_such is_partial Agreement.IsRestrictedPart refl;
 }
 
 -- ---- functions

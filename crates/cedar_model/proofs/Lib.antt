@@ -1,7 +1,9 @@
+pub mod Resolving
 pub mod MoreLevels
 pub mod Alike
 pub mod Determined
 pub mod Means
+pub mod StoredMeans
 pub mod Known
 pub mod OwnWorld
 pub mod Decisions
@@ -46,6 +48,7 @@ pub mod Wanting
 pub mod Answered
 pub mod Refusing
 pub mod Keeping
+pub mod Unread
 pub mod Answering
 pub mod Finishing
 pub mod Exemplified

@@ -1,17 +1,17 @@
 -- An answer is no higher than its expression and the bound; so the need isn't either.
-use Rattle.std.specs.Prelude.{◌≡◌, ◌≢◌, ◌⊎◌, ℕ, zero, suc, ◌+◌, ◌<◌, ◌≤◌, ◌==◌, max, Bool, true, false, cond, ◌&&◌}
-use Rattle.std.specs.Prelude.{List, [], ◌∷◌, map, length, Option, Some, None, is_some, Result, Ok, Err}
+use Rattle.std.specs.Prelude.{◌≡◌, ℕ, zero, suc, ◌+◌, ◌≤◌, ◌==◌, max, Bool, true, false, cond, ◌&&◌}
+use Rattle.std.specs.Prelude.{List, [], ◌∷◌, length, Option, Some, None, is_some, Result, Ok, Err}
 use Rattle.std.specs.declared.cmp.Ordering.{Ordering}
 use Rattle.std.specs.declared.cmp.Ordering.TheVariants.{Less, Equal, Greater}
 use Rattle.std.specs.Ordering.{match_ordering}
-use Rattle.std.proofs.Common.{refl, ap, subst, sym, ◌∙◌, arith, inl, inr}
-use Rattle.cedar_model.specs.Terms.{Text, EntityName, Literal, bool_literal, entity_literal, Slot, Variable}
+use Rattle.std.proofs.Common.{refl, ap, subst, sym, ◌∙◌, arith}
+use Rattle.cedar_model.specs.Terms.{Text, EntityName, Literal, bool_literal, Slot, Variable}
 use Rattle.cedar_model.specs.Terms.{principal, action, resource, context, ValueType, UnaryOperator, BinaryOperator}
-use Rattle.cedar_model.specs.Terms.{in_operator, PatternPart, Term, literal, variable, slot, unknown, if_then_else}
+use Rattle.cedar_model.specs.Terms.{PatternPart, Term, literal, variable, slot, unknown, if_then_else}
 use Rattle.cedar_model.specs.Terms.{both, either, unary, binary, call, get_attribute, has_attribute, extended_has}
-use Rattle.cedar_model.specs.Terms.{like, is_of_type, set_of, record_of, Terms, no_terms, one_term, terms_of, Fields}
-use Rattle.cedar_model.specs.Terms.{no_fields, one_field, fields_of}
-use Rattle.cedar_model.specs.Values.{Represented, plain_represented, set_represented, record_represented}
+use Rattle.cedar_model.specs.Terms.{like, is_of_type, set_of, record_of, Terms, no_terms, one_term, Fields}
+use Rattle.cedar_model.specs.Terms.{no_fields, one_field}
+use Rattle.cedar_model.specs.Values.{Represented, set_represented, record_represented}
 use Rattle.cedar_model.specs.Values.{RepresentedValues, no_represented, one_represented, RepresentedFields}
 use Rattle.cedar_model.specs.Values.{no_represented_at, one_represented_at, abstract_value, expression_of}
 use Rattle.cedar_model.specs.Values.{expressions_of, expressions_at}
@@ -24,21 +24,23 @@ use Rattle.cedar_model.specs.Failures.{Failure, FailureKind, of_meaning, of_resi
 use Rattle.cedar_model.specs.Failures.{failure_kind, PartialValue, value, residual, Answer, answers, answers_bool}
 use Rattle.cedar_model.specs.Failures.{fails, wrong_type, limit, part_expression}
 use Rattle.cedar_model.specs.Settings.{Entry, known_entry, unknown_entry, ContextPart, absent_context, known_context}
-use Rattle.cedar_model.specs.Settings.{residual_context, Setting, StoredEntity, missing_entity, part_at}
+use Rattle.cedar_model.specs.Settings.{residual_context, Resolution, shallow, deep, Setting, StoredEntity}
+use Rattle.cedar_model.specs.Settings.{missing_entity}
 use Rattle.cedar_model.specs.Settings.{type_annotation, entry_part, context_value, variable_part}
 use Rattle.cedar_model.specs.Operators
 use Rattle.cedar_model.specs.Rules
-use Rattle.cedar_model.specs.Agreement.{height, greatest_height, greatest_height_at}
-use Rattle.cedar_model.specs.Chains.{Mapping, value_for, substituted, substituted_each, substituted_at}
-use Rattle.cedar_model.specs.Restricted.{IsSoundPart, IsSoundContext, IsGivenSound}
-use Rattle.cedar_model.specs.LevelLaws.{FunctionsMeetNoLimit}
-use Rattle.cedar_model.specs.Depth.{IsNoHigher, IsContextNoHigher, IsWithin, substituted_height}
+use Rattle.cedar_model.specs.Agreement.{height, greatest_height, greatest_height_at, no_slots}
+use Rattle.cedar_model.specs.Chains.{Mapping, value_for, substituted, substituted_each, substituted_at, with_context}
+use Rattle.cedar_model.specs.Restricted.{IsSound, IsSoundPart, IsSoundContext, IsGivenSound}
+use Rattle.cedar_model.specs.Depth.{IsNoHigher, IsContextNoHigher, IsWithin, substituted_height, bound_of}
 use Rattle.cedar_model.proofs.Operands as operands
 use Rattle.cedar_model.proofs.Operands.{Facts, AllAnswer, AllPart}
-use Rattle.cedar_model.proofs.PartLimits as limits
 use Rattle.cedar_model.proofs.Projection.{record_is}
 use Rattle.cedar_model.proofs.RecordParts.{both_first, both_second, some_inj, projectable_part, restricted_part}
 use Rattle.cedar_model.proofs.RecordParts.{part_such}
+use Rattle.cedar_model.proofs.RestrictedAnswers.{reads_nothing, substituted_at_restricted}
+use Rattle.cedar_model.proofs.Resolving as resolving
+use Rattle.cedar_model.proofs.Resolving.{IsStored, each_stored, attribute_is_stored, beside_is_stored}
 use Rattle.cedar_model.proofs.Heights as heights
 use Rattle.cedar_model.proofs.Heights.{sound_known, value_plain, positive, lower}
 
@@ -532,7 +534,15 @@ module _ (m : Mapping) where
           after_low_at n l (Rules.FieldParts G fs) (λ q j. field_parts_low n fs q gs j) x r (f x g) k
 
       module _ (ih : (t : Term) → AnswersLow (height t + b) t) (plain : (t : Term) → is_projectable t ≡ true →
-          is_restricted t ≡ true → AnswersLow (h t) t) where
+          is_restricted t ≡ true → AnswersLow (h t) t) (read : s.resolution ≡ deep → (t : Term) → IsStored s.store t →
+          AnswersLow b t) where
+        -- a stored residual that is read, with a greater bound
+        read_low : (n : ℕ) (o : Option Term) (x a : Answer) → b ≤ n → ((t : Term) → o ≡ Some t →
+            IsStored s.store t) → LowAnswer n x → Rules.Resolves G s.resolution o x a → LowAnswer n a
+        read_low n o x a e i f k =
+            resolving.resolved G (LowAnswer n) s.resolution o x a f
+            (λ t d j g. raise b n e a (read d t (i t j) a g)) k
+
         -- the part's answer, with a greater bound
         part : (n : ℕ) (t : Term) → height t + b ≤ n → AnswersLow n t
         part n t e x g = raise (height t + b) n e x (ih t x g)
@@ -627,7 +637,8 @@ module _ (m : Mapping) where
             height t + b ≤ n → Rules.AfterLeft G s op x t a → LowAnswer (suc n) a
         left_low n op (fails f) t a e g p r = by_failure (suc n) a f r
         left_low n op (answers q) t a e g p (y, k, r) =
-            by_equal (suc n) a _ r (beside_low n e op q y g (part n t p y k))
+            read_low (suc n) (Rules.beside_residual s.store op q y) _ a (omega arith)
+            (λ u j. beside_is_stored s.store op q y u j) (beside_low n e op q y g (part n t p y k)) r
 
         projects_low : (n : ℕ) (c : Bool) (r : Term) (k : Text) (u : Term) (a : Answer) → Low n r → h u ≤ n →
             (c ≡ true → (is_projectable u ≡ true) × (is_restricted u ≡ true)) → Rules.Projects G c r k u a →
@@ -656,8 +667,9 @@ module _ (m : Mapping) where
             Rules.AtAttribute G s x k a → LowAnswer (suc n) a
         attribute_low n (fails f) k a e g j = by_failure (suc n) a f j
         attribute_low n (answers (value v)) k a e g j =
-            by_equal (suc n) a _ j (operands.attribute_all s (LowValue n) (LowValue (suc n)) (Low (suc n)) AnyFailure
-            (facts n e) v k g)
+            read_low (suc n) (Operators.attribute_residual s.store v k) _ a (omega arith)
+            (λ u i. attribute_is_stored s.store v k u i) (operands.attribute_all s (LowValue n) (LowValue (suc n))
+            (Low (suc n)) AnyFailure (facts n e) v k g) j
         attribute_low n (answers (residual r)) k a e g j = at_fields_low n (Rules.fields_of_record r) r k a g refl j
 
         -- one level above a part or parts of this height
@@ -671,6 +683,31 @@ module _ (m : Mapping) where
         path_beside : (n : ℕ) (k : Text) (ks : List Text) (r : Term) → h r ≤ n → Low (suc n) (extended_has r k ks)
         unfolding substituted
         path_beside n k ks r e = (omega arith, λ p. absurd (cc))
+
+        step_low : (n : ℕ) (e : suc b ≤ n) (z : Operators.Step) → operands.AllStep s (LowValue n) (LowValue (suc n))
+            (Low (suc n)) AnyFailure (facts n e) z → resolving.StopsWith G (LowAnswer (suc n)) z
+        step_low n e (Operators.walks_on v) f = tt
+        step_low n e (Operators.stops a) f = f
+
+        goes_low : (n : ℕ) → suc b ≤ n → (x : Answer) (l : Text) (ls : List Text) → LowAnswer b x →
+            resolving.GoesOn G (LowAnswer (suc n)) x l ls
+        goes_low n e (fails f) l ls k = tt
+        goes_low n e (answers (value v)) l ls k = tt
+        goes_low n e (answers (residual r)) l ls k = let y = k.0 in path_beside n l ls r (omega arith)
+
+        path_low : (n : ℕ) → suc b ≤ n → (d : Resolution) → s.resolution ≡ d →
+            (x : Answer) (k : Text) (ks : List Text) (a : Answer) → LowAnswer n x →
+            Rules.AtPath G d s.store x k ks a → LowAnswer (suc n) a
+        path_low n e shallow d x k ks a f g =
+            by_equal (suc n) a _ g (on_part_low n _ _ (λ v. operands.path_all s (LowValue n)
+            (LowValue (suc n)) (Low (suc n)) AnyFailure (facts n e) ks v k) (path_beside n k ks) x f)
+        path_low n e deep d (fails j) k ks a f g = by_failure (suc n) a j g
+        path_low n e deep d (answers (value v)) k ks a f g =
+            resolving.walks G (LowAnswer (suc n)) s.store (operands.last_all s (LowValue n) (LowValue (suc n))
+            (Low (suc n)) AnyFailure (facts n e)) (λ u i l ls j. step_low n e _ (operands.step_in_all s (LowValue n)
+            (LowValue (suc n)) (Low (suc n)) AnyFailure (facts n e) u i l ls))
+            (λ t i x j l ls. goes_low n e x l ls (read d t i x j)) ks v k a g
+        path_low n e deep d (answers (residual r)) k ks a f g = by_equal (suc n) a _ g (path_beside n k ks r f.0)
 
         like_beside : (n : ℕ) (p : List PatternPart) (r : Term) → h r ≤ n → Low (suc n) (like r p)
         unfolding substituted
@@ -724,9 +761,7 @@ module _ (m : Mapping) where
         rule_low (extended_has t k ks) a (x, g, e) =
             let n = height t + b in
             let i = positive t in
-            above n _ a (by_equal (suc n) a _ e (on_part_low n _ _ (λ v. operands.path_all s (LowValue n)
-            (LowValue (suc n)) (Low (suc n)) AnyFailure (facts n (omega arith)) ks v k) (path_beside n k ks) x
-            (ih t x g))) (omega arith)
+            above n _ a (path_low n (omega arith) s.resolution refl x k ks a (ih t x g) e) (omega arith)
         rule_low (like t p) a (x, g, e) =
             let n = height t + b in
             let i = positive t in
@@ -808,20 +843,134 @@ module _ (m : Mapping) where
         plain_each_at n k fs (both_second _ _ p) (both_second _ _ q) (omega arith),
       )
 
-    -- an answer is no higher than its expression and the bound
-    pub runs_low : (n : ℕ) (t : Term) (a : Answer) → Rules.Runs s calls n t a → LowAnswer (height t + b) a
-    runs_low zero t a g = by_equal (height t + b) a limit g tt
-    runs_low (suc n) t a g = rule_low (Rules.Runs s calls n) (runs_low n) (plain_low n) t a g
+    -- an answer is no higher than its expression and the bound, where no stored residual that is read answers more
+    pub runs_low : (s.resolution ≡ deep → (n : ℕ) (t : Term) → IsStored s.store t →
+        AnswersLow (Rules.Runs s calls n) b t) →
+        (n : ℕ) (t : Term) (a : Answer) → Rules.Runs s calls n t a → LowAnswer (height t + b) a
+    runs_low read zero t a g = by_equal (height t + b) a limit g tt
+    runs_low read (suc n) t a g =
+        rule_low (Rules.Runs s calls n) (runs_low read n) (plain_low n) (λ d. read d n) t a g
+
+  -- ---- restricted expressions: they read nothing
+
+  module _ (s : Setting) (calls : Rules.StoredCalls) (b : ℕ) (within : IsWithin s.map m)
+      (mapped_sound : (n : Text) (v : Represented) → s.map n ≡ Some v → IsSound v)
+      (answers_sound : (f : Text) (vs : List Represented) (p : PartialValue) → calls f vs (answers p) → IsSoundPart p)
+      (mapped_low : (n : Text) (v : Represented) → m n ≡ Some v → height (expression_of v) ≤ b)
+      (answers_low : (f : Text) (vs : List Represented) (p : PartialValue) → calls f vs (answers p) →
+      substituted_height m p ≤ b) where
+    abbrev bare : Setting
+    bare = record {
+      request = with_context s.request absent_context;
+      store = record { entity = λ e. None; is_partial = false };
+      map = s.map;
+      slots = no_slots;
+      extensions = s.extensions;
+      resolution = shallow;
+    }
+
+    pub restricted_low : (n : ℕ) (t : Term) (a : Answer) → is_restricted t ≡ true → Rules.Runs s calls n t a →
+        LowAnswer (height t + b) a
+    restricted_low n t a p g =
+        runs_low bare calls b within record {
+          context_sound = tt;
+          stored_sound = λ e x k q f. absurd (none_is x f);
+          mapped_sound = mapped_sound;
+          answers_sound = answers_sound;
+        } record {
+          context_low = tt;
+          stored_low = λ e x k q f. absurd (none_is x f);
+          mapped_low = mapped_low;
+          answers_low = answers_low;
+        } (λ d. absurd (isn't_deep d)) n t a (reads_nothing s bare calls refl refl n t a p g)
+      where
+        none_is : (x : StoredEntity) → None ≡ Some x → ⊥
+        none_is x e = cc
+
+        isn't_deep : shallow ≡ deep → ⊥
+        isn't_deep e = cc
+
+    -- of a bounded height, at most twice the bound
+    pub restricted_twice : (n : ℕ) (t : Term) (a : Answer) → is_restricted t ≡ true → height t ≤ b →
+        Rules.Runs s calls n t a → LowAnswer (b + b) a
+    restricted_twice n t a p e g = raise (height t + b) (b + b) (omega arith) a (restricted_low n t a p g)
+
+  -- ---- both resolutions
+
+  module _ (s : Setting) (calls : Rules.StoredCalls) (b : ℕ) (within : IsWithin s.map m)
+      (sound : IsGivenSound calls s) (low : IsNoHigher calls s m b) where
+    -- a stored residual is restricted, and no higher than the bound
+    pub stored_restricted : (t : Term) → IsStored s.store t → is_restricted t ≡ true
+    stored_restricted t i = each_stored IsSoundPart s.store sound.stored_sound t i
+
+    pub stored_height : (t : Term) → IsStored s.store t → height t ≤ b
+    unfolding part_expression
+    stored_height t i =
+        let x : h t ≤ b = each_stored (λ p. substituted_height m p ≤ b) s.store low.stored_low t i in
+        let y = heights.not_lower m t (stored_restricted t i) in
+        omega arith
+
+    pub stored_twice : (n : ℕ) (t : Term) → IsStored s.store t → (a : Answer) → Rules.Runs s calls n t a →
+        LowAnswer (b + b) a
+    stored_twice n t i a g =
+        restricted_twice s calls b within sound.mapped_sound sound.answers_sound low.mapped_low low.answers_low n t a
+        (stored_restricted t i) (stored_height t i) g
+
+    twice_low : (c : ContextPart) → IsContextNoHigher m b c → IsContextNoHigher m (b + b) c
+    twice_low absent_context f = tt
+    twice_low (known_context fs) f = omega arith
+    twice_low (residual_context fs) f = omega arith
+
+    pub twice : IsNoHigher calls s m (b + b)
+    twice = record {
+      context_low = twice_low s.request.context_part low.context_low;
+      stored_low =
+          λ e x k p f. (
+            λ g. let y = (low.stored_low e x k p f).0 g in omega arith,
+            λ g. let y = (low.stored_low e x k p f).1 g in omega arith,
+          );
+      mapped_low = λ n v f. let y = low.mapped_low n v f in omega arith;
+      answers_low = λ f vs p g. let y = low.answers_low f vs p g in omega arith;
+    }
+
+    pub low_by : (r : Resolution) → IsNoHigher calls s m (bound_of r b)
+    unfolding bound_of
+    low_by shallow = low
+    low_by deep = twice
+
+    pub read_by : (r : Resolution) → r ≡ deep → (n : ℕ) (t : Term) → IsStored s.store t → (a : Answer) →
+        Rules.Runs s calls n t a → LowAnswer (bound_of r b) a
+    unfolding bound_of
+    read_by shallow d n t i = absurd (cc)
+    read_by deep d n t i = stored_twice n t i
 
     pub answers_low : (t : Term) (p : PartialValue) → Rules.Allows s calls t (answers p) →
-        substituted_height m p ≤ height t + b
-    answers_low t p (ne, n, g) = (low_expression (height t + b) p (runs_low n t (answers p) g)).0
+        substituted_height m p ≤ height t + bound_of s.resolution b
+    answers_low t p (ne, n, g) =
+        (low_expression (height t + bound_of s.resolution b) p (runs_low s calls (bound_of s.resolution b) within sound
+        (low_by s.resolution) (read_by s.resolution) n t (answers p) g)).0
 
     -- a substituted context is no higher than the bound, and so at most twice as high when it is interpreted
-    pub contexts_low : (fs : Fields) (p : PartialValue) → s.request.context_part ≡ residual_context fs →
+    pub contexts_low : (s.resolution ≡ deep → (n : Text) (v : Represented) → m n ≡ Some v → IsSound v) →
+        (fs : Fields) (p : PartialValue) → s.request.context_part ≡ residual_context fs →
         Rules.Allows s calls (record_of (substituted_at m fs)) (answers p) → substituted_height m p ≤ b + b
     unfolding substituted
-    contexts_low fs p e g =
-        let x : height (record_of (substituted_at m fs)) ≤ b = subst (IsContextNoHigher m b) e low.context_low in
-        let y = answers_low (record_of (substituted_at m fs)) p g in
-        omega arith
+    contexts_low sounds fs p e (ne, n, g) = by s.resolution refl
+      where
+        x : height (record_of (substituted_at m fs)) ≤ b
+        x = subst (IsContextNoHigher m b) e low.context_low
+
+        by : (r : Resolution) → s.resolution ≡ r → substituted_height m p ≤ b + b
+        by shallow d =
+            let y =
+            (low_expression (height (record_of (substituted_at m fs)) + b) p (runs_low s calls b within sound low
+            (λ i. absurd (isn't_deep (sym d ∙ i))) n (record_of (substituted_at m fs)) (answers p) g)).0 in
+            let z = x in
+            omega arith
+          where
+            isn't_deep : shallow ≡ deep → ⊥
+            isn't_deep i = cc
+        by deep d =
+            (low_expression (b + b) p (restricted_twice s calls b within sound.mapped_sound sound.answers_sound
+            low.mapped_low low.answers_low n (record_of (substituted_at m fs)) (answers p)
+            (substituted_at_restricted m (sounds d) fs (subst IsSoundContext e sound.context_sound)) x g)).0

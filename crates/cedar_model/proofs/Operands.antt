@@ -1,6 +1,6 @@
 -- A fact of what operators answer to values, from the fact of literals, of stored and mapped parts, and of errors.
 use Rattle.std.specs.Prelude.{◌≡◌, ℕ, ℤ, Bool, true, false, cond, List, [], ◌∷◌, Option, Some, None}
-use Rattle.std.proofs.Common.{refl, subst, sym}
+use Rattle.std.proofs.Common.{refl}
 use Rattle.cedar_model.specs.Terms.{Text, EntityName, Literal, bool_literal, long_literal, text_literal}
 use Rattle.cedar_model.specs.Terms.{entity_literal, Slot, ValueType, UnaryOperator, not_operator, neg_operator}
 use Rattle.cedar_model.specs.Terms.{is_empty_operator, BinaryOperator, eq_operator, less_operator, less_eq_operator}
@@ -18,7 +18,7 @@ use Rattle.cedar_model.specs.Meaning.{comparison, entities_of}
 use Rattle.cedar_model.specs.Failures.{Failure, entity_is_missing, entity_attribute_is_missing, binary_overflow}
 use Rattle.cedar_model.specs.Failures.{unary_overflow, wrong_type, any_entity, failure_kind, of_meaning, PartialValue}
 use Rattle.cedar_model.specs.Failures.{value, residual, Answer, answers, fails}
-use Rattle.cedar_model.specs.Settings.{StoredEntity, Store, Setting, missing_entity, part_at, Found, found, not_there}
+use Rattle.cedar_model.specs.Settings.{StoredEntity, Setting, missing_entity, part_at, Found, found, not_there}
 use Rattle.cedar_model.specs.Settings.{not_known, found_in, look_up}
 use Rattle.cedar_model.specs.Agreement.{EachStored}
 use Rattle.cedar_model.specs.Operators
@@ -315,7 +315,7 @@ module _ (s : Setting) (V0 V : Represented → Type 0) (R : Term → Type 0) (E 
   last_found_all e k not_there = bool_all false
   last_found_all e k (found x) = bool_all _
 
-  last_all : (v : Represented) (k : Text) →
+  pub last_all : (v : Represented) (k : Text) →
       All (Operators.last_in s.store (Operators.container_of v) (Operators.container_expected v) k)
   unfolding Operators.container_of Operators.last_in
   last_all (plain_represented (bool_literal x)) k = wrong_all _ _ _
@@ -327,7 +327,7 @@ module _ (s : Setting) (V0 V : Represented → Type 0) (R : Term → Type 0) (E 
   last_all (extension_represented t x f ts) k = wrong_all _ _ _
 
   -- what a step answers, where it stops
-  abbrev AllStep : Operators.Step → Type 0
+  abbrev pub AllStep : Operators.Step → Type 0
   AllStep (Operators.walks_on v) = Unit {0}
   AllStep (Operators.stops a) = All a
 
@@ -350,7 +350,7 @@ module _ (s : Setting) (V0 V : Represented → Type 0) (R : Term → Type 0) (E 
   step_found_all e k l ls not_there g = bool_all false
   step_found_all e k l ls (found x) g = step_stored_all e x k l ls (found_is e x g) (part_at k x.attributes) refl
 
-  step_in_all : (v : Represented) (k l : Text) (ls : List Text) →
+  pub step_in_all : (v : Represented) (k l : Text) (ls : List Text) →
       AllStep (Operators.step_in s.store (Operators.container_of v) (Operators.container_expected v) k l ls)
   unfolding Operators.container_of Operators.step_in
   step_in_all (plain_represented (bool_literal x)) k l ls = wrong_all _ _ _

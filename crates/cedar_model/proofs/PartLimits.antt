@@ -2,7 +2,7 @@
 use Rattle.std.specs.Prelude.{◌≡◌, ◌≢◌, ◌⊎◌, ℕ, ◌==◌, Bool, true, false, cond, List, [], ◌∷◌, length, Option, Some}
 use Rattle.std.specs.Prelude.{None, Result, Ok, Err}
 use Rattle.std.proofs.Common.{refl, ap, subst, sym, ◌∙◌, inl, inr}
-use Rattle.cedar_model.specs.Terms.{Text, EntityName, BinaryOperator, Literal, Variable, Slot, Term, literal}
+use Rattle.cedar_model.specs.Terms.{Text, EntityName, BinaryOperator, Slot, Term, literal}
 use Rattle.cedar_model.specs.Terms.{variable, slot, unknown, if_then_else, both, either, unary, binary, call}
 use Rattle.cedar_model.specs.Terms.{get_attribute, has_attribute, extended_has, like, is_of_type, set_of, record_of}
 use Rattle.cedar_model.specs.Terms.{Terms, no_terms, one_term, Fields, no_fields, one_field}
@@ -12,13 +12,15 @@ use Rattle.cedar_model.specs.Outcomes.{ErrorKind, bool_of}
 use Rattle.cedar_model.specs.Failures.{Failure, FailureKind, of_meaning, of_residual, of_limit, of_memory}
 use Rattle.cedar_model.specs.Failures.{failure_kind, recursion_limit, PartialValue, value, residual, Answer, answers}
 use Rattle.cedar_model.specs.Failures.{answers_bool, fails, limit, part_expression}
-use Rattle.cedar_model.specs.Settings.{StoredEntity, Setting, part_at}
+use Rattle.cedar_model.specs.Settings.{Resolution, shallow, deep, Setting}
 use Rattle.cedar_model.specs.Operators
 use Rattle.cedar_model.specs.Rules
 use Rattle.cedar_model.specs.LevelLaws.{FunctionsMeetNoLimit}
 use Rattle.cedar_model.proofs.Operands as operands
 use Rattle.cedar_model.proofs.Operands.{Facts, AllAnswer, AllPart}
 use Rattle.cedar_model.proofs.MoreLevels.{answers≢limit}
+use Rattle.cedar_model.proofs.Resolving as resolving
+use Rattle.cedar_model.proofs.Resolving.{IsStored, attribute_is_stored, beside_is_stored}
 
 -- ---- operators on values meet no limit
 
@@ -94,6 +96,10 @@ module _ (s : Setting) (calls : Rules.StoredCalls) (answered : FunctionsMeetNoLi
     pub projectable : is_projectable whole ≡ true
     pub meets : L part
 
+  -- a stored residual that is read
+  abbrev pub MeetsStored : Type 0
+  MeetsStored = (r : Term) × (s.resolution ≡ deep) × IsStored s.store r × L r
+
   -- one of the parts meets the limit
   abbrev pub PartMeets : Term → Type 0
   PartMeets (literal l) = ⊥
@@ -104,11 +110,11 @@ module _ (s : Setting) (calls : Rules.StoredCalls) (answered : FunctionsMeetNoLi
   PartMeets (both t u) = L t ⊎ L u
   PartMeets (either t u) = L t ⊎ L u
   PartMeets (unary op t) = L t
-  PartMeets (binary op t u) = L t ⊎ L u
+  PartMeets (binary op t u) = L t ⊎ (L u ⊎ MeetsStored)
   PartMeets (call f ts) = MeetsEach ts
-  PartMeets (get_attribute t k) = L t ⊎ MeetsProjected t k
+  PartMeets (get_attribute t k) = L t ⊎ (MeetsProjected t k ⊎ MeetsStored)
   PartMeets (has_attribute t k) = L t
-  PartMeets (extended_has t k ks) = L t
+  PartMeets (extended_has t k ks) = L t ⊎ MeetsStored
   PartMeets (like t p) = L t
   PartMeets (is_of_type t n) = L t
   PartMeets (set_of ts) = MeetsEach ts
@@ -222,15 +228,59 @@ module _ (s : Setting) (calls : Rules.StoredCalls) (answered : FunctionsMeetNoLi
   parts_met op (residual r) (value w) e = kept_binary_met _ _ e
   parts_met op (residual r) (residual z) e = kept_binary_met _ _ e
 
+  -- what is stored is no limit, so it is the stored residual that meets it
+  resolves_met : (x a : Answer) (o : Option Term) → x ≢ limit → ((r : Term) → o ≡ Some r → IsStored s.store r) →
+      Rules.Resolves G s.resolution o x a → a ≡ limit → MeetsStored
+  resolves_met x a o n i h =
+      resolving.resolved G (λ b. b ≡ limit → MeetsStored) s.resolution o x a (λ q. absurd (n q))
+      (λ r d e g q. (r, d, i r e, met r a g q)) h
+
+  beside_met : (op : BinaryOperator) (p : PartialValue) (t : Term) (y a : Answer) → G t y →
+      Rules.Resolves G s.resolution (Rules.beside_residual s.store op p y) (Rules.binary_beside s op p y) a →
+      a ≡ limit → L t ⊎ MeetsStored
+  unfolding Rules.binary_beside Rules.beside_residual
+  beside_met op p t (fails e) a g h q =
+      inl (met t (fails e) g (sym (resolving.nothing_read G s.resolution (fails e) a h) ∙ q))
+  beside_met op p t (answers z) a g h q =
+      inr (resolves_met (Rules.binary_of_parts s op p z) a (Rules.beside_residual s.store op p (answers z))
+      (parts_met op p z) (λ r e. beside_is_stored s.store op p (answers z) r e) h q)
+
   left_met : (op : BinaryOperator) (x : Answer) (t : Term) (a : Answer) → Rules.AfterLeft G s op x t a → a ≡ limit →
-      (x ≡ limit) ⊎ L t
-  unfolding Rules.binary_beside
+      (x ≡ limit) ⊎ (L t ⊎ MeetsStored)
   left_met op (fails e) t a r q = inl (sym r ∙ q)
-  left_met op (answers p) t a (y, g, e) q = inr (met t y g (by y (sym e ∙ q)))
-    where
-      by : (z : Answer) → Rules.binary_beside s op p z ≡ limit → z ≡ limit
-      by (fails f) k = k
-      by (answers z) k = absurd (parts_met op p z k)
+  left_met op (answers p) t a (y, g, h) q = inr (beside_met op p t y a g h q)
+
+  -- an extended `has`
+  abbrev LimitStored : Answer → Type 0
+  LimitStored b = b ≡ limit → MeetsStored
+
+  step_met : (z : Operators.Step) → operands.AllStep s AnyValue AnyValue AnyTerm NotLimit (no_limits s) z →
+      resolving.StopsWith G LimitStored z
+  step_met (Operators.walks_on v) h = tt
+  step_met (Operators.stops b) h = λ q. absurd (never b h q)
+
+  read_met : s.resolution ≡ deep → (r : Term) → IsStored s.store r → (x : Answer) → G r x → (l : Text) (ls : List Text) →
+      resolving.GoesOn G LimitStored x l ls
+  read_met d r i (fails e) g l ls = λ q. (r, d, i, met r (fails e) g q)
+  read_met d r i (answers (value v)) g l ls = tt
+  read_met d r i (answers (residual z)) g l ls = λ q. absurd (answers≢limit _ q)
+
+  walks_met : s.resolution ≡ deep → (v : Represented) (k : Text) (ks : List Text) (a : Answer) →
+      Rules.Walks G s.store v k ks a → LimitStored a
+  walks_met d v k ks a h =
+      resolving.walks G LimitStored s.store
+      (λ u l q. absurd (never _ (operands.last_all s AnyValue AnyValue AnyTerm NotLimit (no_limits s) u l) q))
+      (λ u l m ls e. step_met _ (operands.step_in_all s AnyValue AnyValue AnyTerm NotLimit (no_limits s) u l m ls))
+      (read_met d) ks v k a h
+
+  path_met : (r : Resolution) → s.resolution ≡ r → (x : Answer) (k : Text) (ks : List Text) (a : Answer) →
+      Rules.AtPath G r s.store x k ks a → a ≡ limit → (x ≡ limit) ⊎ MeetsStored
+  path_met shallow d x k ks a e q =
+      inl (on_part_met (λ v. Operators.path_answer s.store v k ks) (λ r. extended_has r k ks)
+      (λ v. never _ (operands.path_all s AnyValue AnyValue AnyTerm NotLimit (no_limits s) ks v k)) x (sym e ∙ q))
+  path_met deep d (fails e) k ks a h q = inl (sym h ∙ q)
+  path_met deep d (answers (value v)) k ks a h q = inr (walks_met d v k ks a h q)
+  path_met deep d (answers (residual r)) k ks a h q = absurd (part_met _ a h q)
 
   has_fields_met : (o : Option Fields) (b : Bool) (r : Term) (k : Text) → Rules.has_in_fields o b r k ≡ limit → ⊥
   unfolding Rules.has_in_fields
@@ -289,11 +339,14 @@ module _ (s : Setting) (calls : Rules.StoredCalls) (answered : FunctionsMeetNoLi
   at_fields_met t r k a g (Some fs) e h q = at_key_met t r fs k a g e (Operators.term_at k fs) refl h q
 
   attribute_met : (t : Term) (x : Answer) (k : Text) (a : Answer) → G t x → Rules.AtAttribute G s x k a → a ≡ limit →
-      (x ≡ limit) ⊎ MeetsProjected t k
+      (x ≡ limit) ⊎ (MeetsProjected t k ⊎ MeetsStored)
   attribute_met t (fails e) k a g r q = inl (sym r ∙ q)
   attribute_met t (answers (value v)) k a g r q =
-      absurd (never _ (operands.attribute_all s AnyValue AnyValue AnyTerm NotLimit (no_limits s) v k tt) (sym r ∙ q))
-  attribute_met t (answers (residual z)) k a g r q = inr (at_fields_met t z k a g (Rules.fields_of_record z) refl r q)
+      inr (inr (resolves_met (Operators.attribute_answer s v k) a (Operators.attribute_residual s.store v k)
+      (never _ (operands.attribute_all s AnyValue AnyValue AnyTerm NotLimit (no_limits s) v k tt))
+      (λ z e. attribute_is_stored s.store v k z e) r q))
+  attribute_met t (answers (residual z)) k a g r q =
+      inr (inl (at_fields_met t z k a g (Rules.fields_of_record z) refl r q))
 
   then_met : (p : PartialValue) (r : Result (List PartialValue) Failure) → Rules.part_then p r ≡ Err recursion_limit →
       r ≡ Err recursion_limit
@@ -397,9 +450,7 @@ module _ (s : Setting) (calls : Rules.StoredCalls) (answered : FunctionsMeetNoLi
   rule_met (call f ts) a (r, g, h) q = each_met ts r g (arguments_met f r a h q)
   rule_met (get_attribute t k) a (x, g, h) q = left_then (met t x g) (attribute_met t x k a g h q)
   rule_met (has_attribute t k) a (x, g, e) q = met t x g (has_met k x (sym e ∙ q))
-  rule_met (extended_has t k ks) a (x, g, e) q =
-      met t x g (on_part_met (λ v. Operators.path_answer s.store v k ks) (λ r. extended_has r k ks)
-      (λ v. never _ (operands.path_all s AnyValue AnyValue AnyTerm NotLimit (no_limits s) ks v k)) x (sym e ∙ q))
+  rule_met (extended_has t k ks) a (x, g, h) q = left_then (met t x g) (path_met s.resolution refl x k ks a h q)
   rule_met (like t p) a (x, g, e) q =
       met t x g (on_part_met (Operators.like_answer p) (λ r. like r p)
       (λ v. never _ (operands.like_all s AnyValue AnyValue AnyTerm NotLimit (no_limits s) p v)) x (sym e ∙ q))

@@ -1,22 +1,24 @@
 -- Each expression has an answer at some level, where the functions that exist answer, and never by the limit.
-use Rattle.std.specs.Prelude.{◌≡◌, ◌≢◌, ◌⊎◌, ℕ, Bool, true, false, ◌&&◌, List, [], Option, Some, None, Result, Ok}
-use Rattle.std.specs.Prelude.{Err}
+use Rattle.std.specs.Prelude.{◌≡◌, true, [], Ok}
 use Rattle.std.proofs.Common.{refl, inl, inr}
-use Rattle.cedar_model.specs.Terms.{Text, Term, literal, variable, slot, unknown, if_then_else, both, either, unary}
+use Rattle.cedar_model.specs.Terms.{Term, literal, variable, slot, unknown, if_then_else, both, either, unary}
 use Rattle.cedar_model.specs.Terms.{binary, call, get_attribute, has_attribute, extended_has, like, is_of_type}
 use Rattle.cedar_model.specs.Terms.{set_of, record_of, Terms, no_terms, one_term, Fields, no_fields, one_field}
-use Rattle.cedar_model.specs.Shapes.{is_projectable, are_projectable, are_projectable_at}
-use Rattle.cedar_model.specs.Failures.{Answer, answers, limit}
-use Rattle.cedar_model.specs.Settings.{Setting}
+use Rattle.cedar_model.specs.Shapes.{is_projectable, are_projectable, are_projectable_at, is_restricted}
+use Rattle.cedar_model.specs.Shapes.{are_restricted, are_restricted_at}
+use Rattle.cedar_model.specs.Failures.{Answer}
+use Rattle.cedar_model.specs.Settings.{deep, Setting}
+use Rattle.cedar_model.specs.Agreement.{EachStored, IsRestrictedPart}
 use Rattle.cedar_model.specs.Rules
 use Rattle.cedar_model.specs.LevelLaws.{FunctionsAnswer, FunctionsMeetNoLimit}
 use Rattle.cedar_model.proofs.PartLimits as limits
 use Rattle.cedar_model.proofs.MoreLevels.{rule_is_allowed}
 use Rattle.cedar_model.proofs.RecordParts.{both_first, both_second}
+use Rattle.cedar_model.proofs.Resolving.{IsStored, each_stored}
 use Rattle.cedar_model.proofs.Total
 
 module _ (s : Setting) (calls : Rules.StoredCalls) (callable : FunctionsAnswer calls s.extensions.arity)
-    (answered : FunctionsMeetNoLimit calls) where
+    (answered : FunctionsMeetNoLimit calls) (restricted : s.resolution ≡ deep → EachStored IsRestrictedPart s.store) where
   abbrev Ever : Rules.MayAnswer
   Ever t a = Rules.Allows s calls t a
 
@@ -36,6 +38,9 @@ module _ (s : Setting) (calls : Rules.StoredCalls) (callable : FunctionsAnswer c
   each_at_none (one_field k t fs) (inl h) = h
   each_at_none (one_field k t fs) (inr h) = each_at_none fs h
 
+  stored_none : limits.MeetsStored s calls answered Ever Never (λ t x g q. g.0 q) → ⊥
+  stored_none (r, d, i, h) = h
+
   -- no part meets the limit
   none_meets : (t : Term) → limits.PartMeets s calls answered Ever Never (λ u x g q. g.0 q) t → ⊥
   none_meets (literal l) h = h
@@ -51,12 +56,15 @@ module _ (s : Setting) (calls : Rules.StoredCalls) (callable : FunctionsAnswer c
   none_meets (either t u) (inr h) = h
   none_meets (unary op t) h = h
   none_meets (binary op t u) (inl h) = h
-  none_meets (binary op t u) (inr h) = h
+  none_meets (binary op t u) (inr (inl h)) = h
+  none_meets (binary op t u) (inr (inr h)) = stored_none h
   none_meets (call f ts) h = each_none ts h
   none_meets (get_attribute t k) (inl h) = h
-  none_meets (get_attribute t k) (inr h) = h.meets
+  none_meets (get_attribute t k) (inr (inl h)) = h.meets
+  none_meets (get_attribute t k) (inr (inr h)) = stored_none h
   none_meets (has_attribute t k) h = h
-  none_meets (extended_has t k ks) h = h
+  none_meets (extended_has t k ks) (inl h) = h
+  none_meets (extended_has t k ks) (inr h) = stored_none h
   none_meets (like t p) h = h
   none_meets (is_of_type t n) h = h
   none_meets (set_of ts) h = each_none ts h
@@ -102,6 +110,42 @@ module _ (s : Setting) (calls : Rules.StoredCalls) (callable : FunctionsAnswer c
         Total.one_at_total s calls callable Ever k t fs (plain t (both_first _ _ h))
         (plain_each_at fs (both_second _ _ h))
 
+  -- and so has a restricted one
+  mutual
+    held : (t : Term) → is_restricted t ≡ true → Found t
+    held (literal l) h = finish (literal l) (_, refl)
+    held (variable v) h = absurd (cc)
+    held (slot i) h = absurd (cc)
+    held (unknown n t) h = finish (unknown n t) (_, refl)
+    held (if_then_else c t e) h = absurd (cc)
+    held (both t u) h = absurd (cc)
+    held (either t u) h = absurd (cc)
+    held (unary op t) h = absurd (cc)
+    held (binary op t u) h = absurd (cc)
+    held (call f ts) h = finish (call f ts) (Total.call_total s calls callable Ever f ts (held_each ts h))
+    held (get_attribute t k) h = absurd (cc)
+    held (has_attribute t k) h = absurd (cc)
+    held (extended_has t k ks) h = absurd (cc)
+    held (like t p) h = absurd (cc)
+    held (is_of_type t k) h = absurd (cc)
+    held (set_of ts) h = let r = held_each ts h in finish (set_of ts) (_, (r.0, r.1, refl))
+    held (record_of fs) h = let r = held_each_at fs h in finish (record_of fs) (_, (r.0, r.1, refl))
+
+    held_each : (ts : Terms) → are_restricted ts ≡ true → Total.FoundEach s calls callable Ever ts
+    held_each no_terms h = (Ok [], refl)
+    held_each (one_term t ts) h =
+        Total.one_total s calls callable Ever t ts (held t (both_first _ _ h))
+        (held_each ts (both_second (is_restricted t) (are_restricted ts) h))
+
+    held_each_at : (fs : Fields) → are_restricted_at fs ≡ true → Total.FoundEachAt s calls callable Ever fs
+    held_each_at no_fields h = (Ok [], refl)
+    held_each_at (one_field k t fs) h =
+        Total.one_at_total s calls callable Ever k t fs (held t (both_first _ _ h))
+        (held_each_at fs (both_second (is_restricted t) (are_restricted_at fs) h))
+
+  stored : (t : Term) → s.resolution ≡ deep → IsStored s.store t → Found t
+  stored t d i = held t (each_stored IsRestrictedPart s.store (restricted d) t i)
+
   mutual
     pub reached : (t : Term) → Found t
     reached (literal l) = finish (literal l) (_, refl)
@@ -114,12 +158,13 @@ module _ (s : Setting) (calls : Rules.StoredCalls) (callable : FunctionsAnswer c
     reached (either t u) = finish (either t u) (Total.either_total s calls callable Ever t u (reached t) (reached u))
     reached (unary op t) = let x = reached t in finish (unary op t) (_, (x.0, x.1, refl))
     reached (binary op t u) =
-        finish (binary op t u) (Total.binary_total s calls callable Ever op t u (reached t) (reached u))
+        finish (binary op t u) (Total.binary_total s calls callable Ever stored op t u (reached t) (reached u))
     reached (call f ts) = finish (call f ts) (Total.call_total s calls callable Ever f ts (reached_each ts))
     reached (get_attribute t k) =
-        finish (get_attribute t k) (Total.get_total s calls callable Ever plain t k (reached t))
+        finish (get_attribute t k) (Total.get_total s calls callable Ever stored plain t k (reached t))
     reached (has_attribute t k) = let x = reached t in finish (has_attribute t k) (_, (x.0, x.1, refl))
-    reached (extended_has t k ks) = let x = reached t in finish (extended_has t k ks) (_, (x.0, x.1, refl))
+    reached (extended_has t k ks) =
+        finish (extended_has t k ks) (Total.extended_total s calls callable Ever stored t k ks (reached t))
     reached (like t p) = let x = reached t in finish (like t p) (_, (x.0, x.1, refl))
     reached (is_of_type t n) = let x = reached t in finish (is_of_type t n) (_, (x.0, x.1, refl))
     reached (set_of ts) = let r = reached_each ts in finish (set_of ts) (_, (r.0, r.1, refl))

@@ -448,7 +448,7 @@ module _ (m : Mapping) (mapped_sound : (n : Text) (v : Represented) → m n ≡ 
     substituted_each_restricted (one_term t ts) e =
         λ i. substituted_restricted t (both_first _ _ e) i && substituted_each_restricted ts (both_second _ _ e) i
 
-    substituted_at_restricted : (fs : Fields) → are_restricted_at fs ≡ true →
+    pub substituted_at_restricted : (fs : Fields) → are_restricted_at fs ≡ true →
         are_restricted_at (substituted_at m fs) ≡ true
     substituted_at_restricted no_fields e = refl
     substituted_at_restricted (one_field k t fs) e =

@@ -157,6 +157,7 @@ with_slots_done ans w s slots d = record {
   map_faithful = d.map_faithful;
   context_fits = d.context_fits;
   store_fits = d.store_fits;
+  store_restricted = d.store_restricted;
 }
 
 -- an error that is recorded, or none, and those after it

@@ -1,20 +1,19 @@
 -- The need in the run of a step: the context that follows is at most twice as high.
-use Rattle.std.specs.Prelude.{◌≡◌, ℕ, ◌+◌, ◌<◌, ◌≤◌, true, List, Option, Some}
-use Rattle.std.proofs.Common.{refl, ap, subst, sym, ◌∙◌, arith}
-use Rattle.cedar_model.specs.Terms.{Text, Term, record_of, Fields}
-use Rattle.cedar_model.specs.Values.{Represented, record_represented, expression_of, expressions_at}
-use Rattle.cedar_model.specs.Shapes.{is_restricted, are_restricted_at}
-use Rattle.cedar_model.specs.Failures.{PartialValue, value, residual, answers, part_expression}
+use Rattle.std.specs.Prelude.{◌≡◌, ℕ, ◌+◌, ◌<◌, ◌≤◌, Some}
+use Rattle.std.proofs.Common.{refl, subst, sym, ◌∙◌, arith}
+use Rattle.cedar_model.specs.Terms.{Text, Term}
+use Rattle.cedar_model.specs.Values.{Represented}
+use Rattle.cedar_model.specs.Failures.{part_expression}
 use Rattle.cedar_model.specs.Settings.{ContextPart, absent_context, known_context, residual_context, context_value}
 use Rattle.cedar_model.specs.Settings.{RequestPart, Setting}
-use Rattle.cedar_model.specs.Rules.{StoredCalls, Allows, Exceeds}
-use Rattle.cedar_model.specs.Agreement.{height, EachStored}
-use Rattle.cedar_model.specs.Chains.{Mapping, substituted, substituted_at, at_step}
+use Rattle.cedar_model.specs.Rules.{StoredCalls, Exceeds}
+use Rattle.cedar_model.specs.Agreement.{height}
+use Rattle.cedar_model.specs.Chains.{Mapping, at_step}
 use Rattle.cedar_model.specs.LevelLaws.{FunctionsMeetNoLimit}
-use Rattle.cedar_model.specs.Restricted.{IsSound, IsSoundPart, IsSoundContext, IsGivenSound}
+use Rattle.cedar_model.specs.Restricted.{IsSound, IsGivenSound}
 use Rattle.cedar_model.specs.Depth.{ContextFollows, IsWithin, IsNoHigher, IsContextNoHigher, substituted_height}
-use Rattle.cedar_model.proofs.Needs.{need_bounded}
-use Rattle.cedar_model.proofs.LowAnswers.{contexts_low}
+use Rattle.cedar_model.proofs.Needs.{need_below}
+use Rattle.cedar_model.proofs.LowAnswers.{contexts_low, restricted_twice, stored_restricted, stored_height}
 use Rattle.cedar_model.proofs.RestrictedAnswers.{sound_follows}
 
 module _ (s : Setting) (calls : StoredCalls) (m : Mapping) (b : ℕ) (within : IsWithin s.map m)
@@ -38,7 +37,7 @@ module _ (s : Setting) (calls : StoredCalls) (m : Mapping) (b : ℕ) (within : I
   follows_low (known_context fs) c e f =
       subst (IsContextNoHigher m (b + b)) (e ∙ sym f) (doubled s.request.context_part low.context_low)
   follows_low (residual_context fs) c e f =
-      as_part c (contexts_low m s calls b within sound low fs (context_value c) e f)
+      as_part c (contexts_low m s calls b within sound low (λ d. mapped_sound) fs (context_value c) e f)
 
   step_low : (r : RequestPart) → ContextFollows s calls m s.request.context_part r.context_part →
       IsNoHigher calls (at_step s r s.store m) m (b + b)
@@ -66,4 +65,7 @@ module _ (s : Setting) (calls : StoredCalls) (m : Mapping) (b : ℕ) (within : I
       ContextFollows s calls m s.request.context_part r.context_part → (n : ℕ) (t : Term) →
       Exceeds (at_step s r s.store m) calls t n → n < height t + (b + b)
   step_need_bounded answered r f n t g =
-      need_bounded (at_step s r s.store m) calls answered (b + b) (step_sound r f) (step_low r f) n t g
+      need_below (at_step s r s.store m) calls answered (b + b) (step_sound r f) (step_low r f)
+      (λ d k u i x j. restricted_twice m (at_step s r s.store m) calls b (λ l v e. e) mapped_sound sound.answers_sound
+      low.mapped_low low.answers_low k u x (stored_restricted m s calls b within sound low u i)
+      (stored_height m s calls b within sound low u i) j) n t g

@@ -1,6 +1,6 @@
 -- At each level there is an answer, where the functions that exist answer. Written so that it computes, for the
 -- examples.
-use Rattle.std.specs.Prelude.{◌≡◌, ℕ, zero, suc, ◌==◌, Bool, true, false, List, [], length, Option, Some, None}
+use Rattle.std.specs.Prelude.{◌≡◌, ℕ, zero, suc, ◌==◌, Bool, true, false, List, [], ◌∷◌, length, Option, Some, None}
 use Rattle.std.specs.Prelude.{Result, Ok, Err}
 use Rattle.std.proofs.Common.{refl, ap, ◌∙◌, sym}
 use Rattle.std.proofs.lemmas.Bool.{eqb-true}
@@ -13,11 +13,14 @@ use Rattle.cedar_model.specs.Shapes.{is_projectable}
 use Rattle.cedar_model.specs.Outcomes.{bool_of}
 use Rattle.cedar_model.specs.Failures.{Failure, PartialValue, value, residual, Answer, answers, answers_bool, fails}
 use Rattle.cedar_model.specs.Failures.{function_is_missing, arguments_are_miscounted, limit}
-use Rattle.cedar_model.specs.Settings.{Setting}
-use Rattle.cedar_model.specs.Operators.{term_at, key_is_missing, field_names, attribute_answer}
+use Rattle.cedar_model.specs.Settings.{Resolution, shallow, deep, Setting}
+use Rattle.cedar_model.specs.Operators.{term_at, key_is_missing, field_names, attribute_answer, Step}
+use Rattle.cedar_model.specs.Operators.{walks_on, stops, step_in, last_in, container_of, container_expected}
+use Rattle.cedar_model.specs.Operators.{attribute_residual}
 use Rattle.cedar_model.specs.Rules
 use Rattle.cedar_model.specs.LevelLaws.{FunctionsAnswer}
 use Rattle.cedar_model.proofs.RecordParts.{projectable_part}
+use Rattle.cedar_model.proofs.Resolving.{IsStored, attribute_is_stored, beside_is_stored}
 
 -- a right count is the function's number of arguments
 pub counted : (o : Option ℕ) (m n : ℕ) → o ≡ Some n → (m == n) ≡ true → o ≡ Some m
@@ -108,10 +111,24 @@ module _ (s : Setting) (calls : Rules.StoredCalls) (callable : FunctionsAnswer c
     or_total (answers (value v)) t x = or_bool_total (bool_of (abstract_value v)) v t x
     or_total (answers (residual r)) t x = kept_total (either r) t x
 
-    abbrev left_total : (op : BinaryOperator) (c : Answer) (t : Term) → Found t → (a : Answer) ×
+    -- a stored residual that is read has an answer
+    abbrev pub FoundStored : Type 0
+    FoundStored = (t : Term) → s.resolution ≡ deep → IsStored s.store t → Found t
+
+    abbrev resolves_total : (r : Resolution) (o : Option Term) (b : Answer) → ((t : Term) → r ≡ deep → o ≡ Some t →
+        Found t) → (a : Answer) × Rules.Resolves G r o b a
+    resolves_total shallow o b f = (b, refl)
+    resolves_total deep None b f = (b, refl)
+    resolves_total deep (Some t) b f = f t refl refl
+
+    abbrev left_total : FoundStored → (op : BinaryOperator) (c : Answer) (t : Term) → Found t → (a : Answer) ×
         Rules.AfterLeft G s op c t a
-    left_total op (fails e) t x = (fails e, refl)
-    left_total op (answers p) t x = (Rules.binary_beside s op p x.0, (x.0, x.1, refl))
+    left_total st op (fails e) t x = (fails e, refl)
+    left_total st op (answers p) t x =
+        let k =
+        resolves_total s.resolution (Rules.beside_residual s.store op p x.0) (Rules.binary_beside s op p x.0)
+        (λ r h e. st r h (beside_is_stored s.store op p x.0 r e)) in
+        (k.0, (x.0, x.1, k.1))
 
     abbrev projects_total : FoundProjected → (b : Bool) (r : Term) (k : Text) (part : Term) →
         (b ≡ true → is_projectable part ≡ true) → (a : Answer) × Rules.Projects G b r k part a
@@ -130,10 +147,49 @@ module _ (s : Setting) (calls : Rules.StoredCalls) (callable : FunctionsAnswer c
     at_fields_total pr (Some fs) r k h =
         at_key_total pr (term_at k fs) fs r k (λ part e. projectable_part r fs k part h e)
 
-    abbrev attribute_total : FoundProjected → (c : Answer) (k : Text) → (a : Answer) × Rules.AtAttribute G s c k a
-    attribute_total pr (fails e) k = (fails e, refl)
-    attribute_total pr (answers (value v)) k = (attribute_answer s v k, refl)
-    attribute_total pr (answers (residual r)) k = at_fields_total pr (Rules.fields_of_record r) r k refl
+    abbrev step_total : (z : Step) (Next : Represented → Answer → Type 0) → ((v : Represented) → (a : Answer) ×
+        Next v a) → (a : Answer) × Rules.AfterStep G z Next a
+    step_total (walks_on v) Next f = f v
+    step_total (stops b) Next f = (b, refl)
+
+    abbrev stored_total : (x : Answer) (l : Text) (ls : List Text) (Next : Represented → Answer → Type 0) →
+        ((v : Represented) → (a : Answer) × Next v a) → (a : Answer) × Rules.AfterStored G x l ls Next a
+    stored_total (fails e) l ls Next f = (fails e, refl)
+    stored_total (answers (value v)) l ls Next f = f v
+    stored_total (answers (residual r)) l ls Next f = (answers (residual (extended_has r l ls)), refl)
+
+    abbrev read_total : (t : Term) (l : Text) (ls : List Text) (Next : Represented → Answer → Type 0) → Found t →
+        ((v : Represented) → (a : Answer) × Next v a) →
+        (a : Answer) × ((x : Answer) × G t x × Rules.AfterStored G x l ls Next a)
+    read_total t l ls Next x f = let k = stored_total x.0 l ls Next f in (k.0, (x.0, x.1, k.1))
+
+    abbrev steps_total : (o : Option Term) (z : Step) (l : Text) (ls : List Text) (Next : Represented → Answer →
+        Type 0) → ((t : Term) → o ≡ Some t → Found t) → ((v : Represented) → (a : Answer) × Next v a) →
+        (a : Answer) × Rules.StepsOn G o z l ls Next a
+    steps_total None z l ls Next g f = step_total z Next f
+    steps_total (Some t) z l ls Next g f = read_total t l ls Next (g t refl) f
+
+    abbrev walks_total : ((t : Term) → IsStored s.store t → Found t) → (ks : List Text) (v : Represented) (k : Text) →
+        (a : Answer) × Rules.Walks G s.store v k ks a
+    walks_total st [] v k = (last_in s.store (container_of v) (container_expected v) k, refl)
+    walks_total st (l ∷ ls) v k =
+        steps_total (attribute_residual s.store v k) (step_in s.store (container_of v) (container_expected v) k l ls) l
+        ls (λ u. Rules.Walks G s.store u l ls) (λ t e. st t (attribute_is_stored s.store v k t e))
+        (λ u. walks_total st ls u l)
+
+    abbrev path_total : (r : Resolution) → (r ≡ deep → (t : Term) → IsStored s.store t → Found t) →
+        (c : Answer) (k : Text) (ks : List Text) → (a : Answer) × Rules.AtPath G r s.store c k ks a
+    path_total shallow st c k ks = (_, refl)
+    path_total deep st (fails e) k ks = (fails e, refl)
+    path_total deep st (answers (value v)) k ks = walks_total (st refl) ks v k
+    path_total deep st (answers (residual r)) k ks = (answers (residual (extended_has r k ks)), refl)
+
+    abbrev attribute_total : FoundStored → FoundProjected → (c : Answer) (k : Text) → (a : Answer) × Rules.AtAttribute G s c k a
+    attribute_total st pr (fails e) k = (fails e, refl)
+    attribute_total st pr (answers (value v)) k =
+        resolves_total s.resolution (attribute_residual s.store v k) (attribute_answer s v k)
+        (λ r h e. st r h (attribute_is_stored s.store v k r e))
+    attribute_total st pr (answers (residual r)) k = at_fields_total pr (Rules.fields_of_record r) r k refl
 
     abbrev part_total : (Rest : Result (List PartialValue) Failure → Type 0) →
         ((r : Result (List PartialValue) Failure) × Rest r) → (x : Answer) →
@@ -186,16 +242,22 @@ module _ (s : Setting) (calls : Rules.StoredCalls) (callable : FunctionsAnswer c
     abbrev pub either_total : (t u : Term) → Found t → Found u → FoundBy (either t u)
     either_total t u x y = let k = or_total x.0 u y in (k.0, (x.0, x.1, k.1))
 
-    abbrev pub binary_total : (op : BinaryOperator) (t u : Term) → Found t → Found u → FoundBy (binary op t u)
-    binary_total op t u x y = let k = left_total op x.0 u y in (k.0, (x.0, x.1, k.1))
+    abbrev pub binary_total : FoundStored → (op : BinaryOperator) (t u : Term) → Found t → Found u →
+        FoundBy (binary op t u)
+    binary_total st op t u x y = let k = left_total st op x.0 u y in (k.0, (x.0, x.1, k.1))
 
     abbrev pub call_total : (f : Text) (ts : Terms) → FoundEach ts → FoundBy (call f ts)
     call_total f ts r = let k = arguments_total r.0 f in (k.0, (r.0, r.1, k.1))
 
-    abbrev pub get_total : FoundProjected → (t : Term) (k : Text) → Found t → FoundBy (get_attribute t k)
-    get_total pr t k x = let a = attribute_total pr x.0 k in (a.0, (x.0, x.1, a.1))
+    abbrev pub get_total : FoundStored → FoundProjected → (t : Term) (k : Text) → Found t → FoundBy (get_attribute t k)
+    get_total st pr t k x = let a = attribute_total st pr x.0 k in (a.0, (x.0, x.1, a.1))
 
-    module _ (pr : FoundProjected) (go : (t : Term) → Found t) where
+    abbrev pub extended_total : FoundStored → (t : Term) (k : Text) (ks : List Text) → Found t →
+        FoundBy (extended_has t k ks)
+    extended_total st t k ks x =
+        let a = path_total s.resolution (λ e r. st r e) x.0 k ks in (a.0, (x.0, x.1, a.1))
+
+    module _ (st : FoundStored) (pr : FoundProjected) (go : (t : Term) → Found t) where
       abbrev parts_total : (ts : Terms) → FoundEach ts
       parts_total no_terms = (Ok [], refl)
       parts_total (one_term t ts) = one_total t ts (go t) (parts_total ts)
@@ -213,11 +275,11 @@ module _ (s : Setting) (calls : Rules.StoredCalls) (callable : FunctionsAnswer c
       rule_total (both t u) = both_total t u (go t) (go u)
       rule_total (either t u) = either_total t u (go t) (go u)
       rule_total (unary op t) = let x = go t in (_, (x.0, x.1, refl))
-      rule_total (binary op t u) = binary_total op t u (go t) (go u)
+      rule_total (binary op t u) = binary_total st op t u (go t) (go u)
       rule_total (call f ts) = call_total f ts (parts_total ts)
-      rule_total (get_attribute t l) = get_total pr t l (go t)
+      rule_total (get_attribute t l) = get_total st pr t l (go t)
       rule_total (has_attribute t l) = let x = go t in (_, (x.0, x.1, refl))
-      rule_total (extended_has t l ls) = let x = go t in (_, (x.0, x.1, refl))
+      rule_total (extended_has t l ls) = extended_total st t l ls (go t)
       rule_total (like t p) = let x = go t in (_, (x.0, x.1, refl))
       rule_total (is_of_type t n) = let x = go t in (_, (x.0, x.1, refl))
       rule_total (set_of ts) = let r = parts_total ts in (_, (r.0, r.1, refl))
@@ -225,4 +287,4 @@ module _ (s : Setting) (calls : Rules.StoredCalls) (callable : FunctionsAnswer c
 
   abbrev pub total : (n : ℕ) (t : Term) → (a : Answer) × Rules.Runs s calls n t a
   total zero t = (limit, refl)
-  total (suc n) t = rule_total (Rules.Runs s calls n) (λ r h. total n r) (total n) t
+  total (suc n) t = rule_total (Rules.Runs s calls n) (λ r h i. total n r) (λ r h. total n r) (total n) t

@@ -13,10 +13,11 @@ use Rattle.cedar_model.specs.Failures.{Failure, FailureKind, of_meaning, of_resi
 use Rattle.cedar_model.specs.Failures.{failure_kind, out_of_memory, recursion_limit, PartialValue, value, residual}
 use Rattle.cedar_model.specs.Failures.{function_is_missing, arguments_are_miscounted, type_is_wrong}
 use Rattle.cedar_model.specs.Failures.{Answer, answers, answers_bool, fails, limit, part_expression}
-use Rattle.cedar_model.specs.Settings.{Setting}
+use Rattle.cedar_model.specs.Settings.{Resolution, shallow, deep, Setting}
 use Rattle.cedar_model.specs.Operators
 use Rattle.cedar_model.specs.Rules
 use Rattle.cedar_model.specs.LevelLaws.{FunctionsFindMemory}
+use Rattle.cedar_model.proofs.Resolving as resolving
 use Rattle.cedar_model.proofs.Operands as operands
 use Rattle.cedar_model.proofs.Operands.{Facts, AllAnswer}
 
@@ -259,7 +260,30 @@ module _ (s : Setting) (calls : Rules.StoredCalls) (finding : FunctionsFindMemor
     found_left : (op : BinaryOperator) (x : Answer) (t : Term) (a : Answer) → Found x → Rules.AfterLeft G s op x t a
         → Found a
     found_left op (fails e) t a h r = found_by a (fails e) r h
-    found_left op (answers p) t a h (y, g, e) = found_by a _ e (found_beside op p y (ih t y g))
+    found_left op (answers p) t a h (y, g, e) =
+        resolving.resolved G Found s.resolution (Rules.beside_residual s.store op p y) _ a
+        (found_beside op p y (ih t y g)) (λ u d i. ih u a) e
+
+    found_step : (z : Operators.Step) → operands.AllStep s AnyValue AnyValue AnyTerm IsOther facts z
+        → resolving.StopsWith G Found z
+    found_step (Operators.walks_on v) h = tt
+    found_step (Operators.stops a) h = h
+
+    found_goes : (x : Answer) (l : Text) (ls : List Text) → Found x → resolving.GoesOn G Found x l ls
+    found_goes (fails e) l ls h = h
+    found_goes (answers (value v)) l ls h = tt
+    found_goes (answers (residual r)) l ls h = tt
+
+    found_path : (d : Resolution) (x : Answer) (k : Text) (ks : List Text) (a : Answer) → Found x
+        → Rules.AtPath G d s.store x k ks a → Found a
+    found_path shallow x k ks a h e =
+        found_by a _ e (found_on_part _ _ (λ v. operands.path_all s AnyValue AnyValue AnyTerm IsOther facts ks v k) x h)
+    found_path deep (fails e) k ks a h g = found_by a (fails e) g h
+    found_path deep (answers (value v)) k ks a h g =
+        resolving.walks G Found s.store (operands.last_all s AnyValue AnyValue AnyTerm IsOther facts)
+        (λ u l m ls e. found_step _ (operands.step_in_all s AnyValue AnyValue AnyTerm IsOther facts u l m ls))
+        (λ t i x j l ls. found_goes x l ls (ih t x j)) ks v k a g
+    found_path deep (answers (residual r)) k ks a h g = found_by a _ g tt
 
     found_projects : (b : Bool) (r : Term) (k : Text) (part : Term) (a : Answer) → Rules.Projects G b r k part a
         → Found a
@@ -279,7 +303,8 @@ module _ (s : Setting) (calls : Rules.StoredCalls) (finding : FunctionsFindMemor
     found_attribute : (x : Answer) (k : Text) (a : Answer) → Found x → Rules.AtAttribute G s x k a → Found a
     found_attribute (fails e) k a h j = found_by a (fails e) j h
     found_attribute (answers (value v)) k a h j =
-        found_by a _ j (operands.attribute_all s AnyValue AnyValue AnyTerm IsOther facts v k tt)
+        resolving.resolved G Found s.resolution (Operators.attribute_residual s.store v k) _ a
+        (operands.attribute_all s AnyValue AnyValue AnyTerm IsOther facts v k tt) (λ u d i. ih u a) j
     found_attribute (answers (residual r)) k a h j = found_at_fields (Rules.fields_of_record r) r k a j
 
     found_rule : (t : Term) (a : Answer) → Rules.Rule s calls G t a → Found a
@@ -299,9 +324,7 @@ module _ (s : Setting) (calls : Rules.StoredCalls) (finding : FunctionsFindMemor
     found_rule (call f ts) a (r, g, k) = found_arguments f r a (found_parts ts r g) k
     found_rule (get_attribute t k) a (x, g, j) = found_attribute x k a (ih t x g) j
     found_rule (has_attribute t k) a (x, g, e) = found_by a _ e (found_has k x (ih t x g))
-    found_rule (extended_has t k ks) a (x, g, e) =
-        found_by a _ e (found_on_part _ _ (λ v. operands.path_all s AnyValue AnyValue AnyTerm IsOther facts ks v k) x
-        (ih t x g))
+    found_rule (extended_has t k ks) a (x, g, e) = found_path s.resolution x k ks a (ih t x g) e
     found_rule (like t p) a (x, g, e) =
         found_by a _ e (found_on_part _ _ (operands.like_all s AnyValue AnyValue AnyTerm IsOther facts p) x (ih t x g))
     found_rule (is_of_type t k) a (x, g, e) = found_by a _ e (found_is k x (ih t x g))

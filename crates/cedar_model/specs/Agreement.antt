@@ -1,8 +1,9 @@
 -- When a world fits an expression and agrees with what an evaluator is given; faithful values; where nothing is unknown.
-use Rattle.std.specs.Prelude.{◌≡◌, ◌≢◌, ℕ, suc, max, false, List, [], ◌∷◌, map, Option, Some, None, Ok, codes}
+use Rattle.std.specs.Prelude.{◌≡◌, ◌≢◌, ℕ, suc, max, true, false, List, [], ◌∷◌, map, Option, Some, None, Ok, codes}
 use Rattle.cedar_model.specs.Terms.{Text, EntityName, entity_literal, ValueType, Term, literal, variable, slot, unknown, if_then_else, both, either, unary, binary, call, get_attribute, has_attribute, extended_has, like, is_of_type, set_of, record_of, Terms, no_terms, one_term, Fields, no_fields, one_field}
 use Rattle.cedar_model.specs.Values.{AbstractValue, plain, record_value, extension_value, AbstractFields, no_values_at, Represented, plain_represented, set_represented, record_represented, extension_represented, RepresentedValues, no_represented, one_represented, RepresentedFields, no_represented_at, one_represented_at, abstract_value, abstract_fields}
 use Rattle.cedar_model.specs.Sets.{IsStrictlyInOrder}
+use Rattle.cedar_model.specs.Shapes.{is_restricted}
 use Rattle.cedar_model.specs.Outcomes.{Outcome, gives, errs, value_type}
 use Rattle.cedar_model.specs.World.{WorldEntity, World, Slots, FunctionAnswer, function_gives, function_errs, function_asks, Extensions, Functions}
 use Rattle.cedar_model.specs.Meaning.{meaning, field_meanings}
@@ -261,7 +262,13 @@ abbrev pub EachStored : (PartialValue → Type 0) → Store → Type 0
 EachStored Such s =
     (e : EntityName) (x : StoredEntity) (k : Text) (p : PartialValue) → s.entity e ≡ Some x → ((part_at k x.attributes ≡ Some p → Such p) × (part_at k x.tags ≡ Some p → Such p))
 
--- a world agrees with all that the evaluator is given, its values are faithful, and the world fits its residuals
+-- a residual is restricted
+abbrev pub IsRestrictedPart : PartialValue → Type 0
+IsRestrictedPart (value v) = Unit {0}
+IsRestrictedPart (residual t) = is_restricted t ≡ true
+
+-- a world agrees with all that the evaluator is given, its values are faithful, and the world fits its residuals, of
+-- which the stored ones are restricted
 pub record IsCompletion (ans : Functions) (w : World) (s : Setting) : Type 0 where
   pub request_agrees : AgreesWithRequest s.extensions ans w s.request
   pub store_agrees : AgreesWithStore s.extensions ans w s.store
@@ -271,6 +278,7 @@ pub record IsCompletion (ans : Functions) (w : World) (s : Setting) : Type 0 whe
   pub map_faithful : (n : Text) (v : Represented) → s.map n ≡ Some v → IsFaithful s.extensions ans v
   pub context_fits : FitsContext s.extensions ans w s.request.context_part
   pub store_fits : EachStored (FitsPart s.extensions ans w) s.store
+  pub store_restricted : EachStored IsRestrictedPart s.store
 
 -- ---- where nothing is unknown
 

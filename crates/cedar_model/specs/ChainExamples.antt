@@ -8,7 +8,7 @@ use Rattle.cedar_model.specs.Values.{record_represented, no_represented_at, one_
 use Rattle.cedar_model.specs.World.{World}
 use Rattle.cedar_model.specs.Failures.{Failure, function_is_missing, residual_is_left, recursion_limit, value}
 use Rattle.cedar_model.specs.Settings.{Entry, known_entry, unknown_entry, ContextPart, absent_context, known_context}
-use Rattle.cedar_model.specs.Settings.{residual_context, RequestPart, Store, Setting, part_at}
+use Rattle.cedar_model.specs.Settings.{residual_context, RequestPart, Store, shallow, Setting, part_at}
 use Rattle.cedar_model.specs.Agreement.{no_slots}
 use Rattle.cedar_model.specs.Policies.{Effect, permit, forbid, Policy, allow, deny, decision, reasons, judge_each}
 use Rattle.cedar_model.specs.Policies.{ErrorHandling, skip, forbid_on_error}
@@ -199,7 +199,14 @@ no_map n = None
 
 abbrev pub setting_of : RequestPart → Setting
 setting_of r =
-    record { request = r; store = empty_store; map = no_map; slots = no_slots; extensions = some_extensions }
+    record {
+      request = r;
+      store = empty_store;
+      map = no_map;
+      slots = no_slots;
+      extensions = some_extensions;
+      resolution = shallow;
+    }
 
 abbrev pub response_to : RequestPart → List Row → Response
 response_to r rows = record { mode = skip; request = r; rows = rows; errors = [] }

@@ -105,11 +105,25 @@ pub record Response : Type 0 where
 -- interpretation without a map
 abbrev pub without_map : Setting → Setting
 without_map s =
-    record { request = s.request; store = s.store; map = λ n. None; slots = no_slots; extensions = s.extensions }
+    record {
+      request = s.request;
+      store = s.store;
+      map = λ n. None;
+      slots = no_slots;
+      extensions = s.extensions;
+      resolution = s.resolution;
+    }
 
 abbrev pub at_step : Setting → RequestPart → Store → Mapping → Setting
 at_step s r store m =
-    record { request = r; store = store; map = m; slots = no_slots; extensions = s.extensions }
+    record {
+      request = r;
+      store = store;
+      map = m;
+      slots = no_slots;
+      extensions = s.extensions;
+      resolution = s.resolution;
+    }
 
 -- a residual context is interpreted again, with the map's values in it: under the old response's request and the new
 -- store, without the map. Another context stays

@@ -1,11 +1,11 @@
 -- The depth bound: how many levels an expression can need, and how high what it answers can be.
-use Rattle.std.specs.Prelude.{◌≡◌, ℕ, ◌+◌, ◌<◌, ◌≤◌, List, Option, Some, None, true}
+use Rattle.std.specs.Prelude.{◌≡◌, ℕ, ◌+◌, ◌<◌, ◌≤◌, List, Some, true}
 use Rattle.cedar_model.specs.Terms.{Text, Term, record_of, Fields}
 use Rattle.cedar_model.specs.Values.{Represented, expression_of, expressions_at}
 use Rattle.cedar_model.specs.Shapes.{is_restricted}
 use Rattle.cedar_model.specs.Failures.{PartialValue, answers, part_expression}
 use Rattle.cedar_model.specs.Settings.{ContextPart, absent_context, known_context, residual_context, context_value}
-use Rattle.cedar_model.specs.Settings.{RequestPart, Setting}
+use Rattle.cedar_model.specs.Settings.{RequestPart, Resolution, shallow, deep, Setting}
 use Rattle.cedar_model.specs.Rules.{StoredCalls, Allows, Exceeds}
 use Rattle.cedar_model.specs.Agreement.{height, EachStored}
 use Rattle.cedar_model.specs.Chains.{Mapping, substituted, substituted_at, at_step}
@@ -34,22 +34,29 @@ pub record IsNoHigher (calls : StoredCalls) (s : Setting) (m : Mapping) (b : ℕ
 abbrev pub IsWithin : Mapping → Mapping → Type 0
 IsWithin m l = (n : Text) (v : Represented) → m n ≡ Some v → l n ≡ Some v
 
--- the need is at most the height and the bound together
+-- with deep resolution a stored residual can answer what is twice as high
+unfoldable pub bound_of : Resolution → ℕ → ℕ
+bound_of shallow b = b
+bound_of deep b = b + b
+
+-- the need is at most the height and the bound together; with deep resolution the height and twice the bound
 abbrev pub NeedIsBounded : StoredCalls → Type 0
 NeedIsBounded calls =
     FunctionsMeetNoLimit calls → (s : Setting) (b : ℕ) → IsGivenSound calls s →
-    IsNoHigher calls s s.map b → (n : ℕ) (t : Term) → Exceeds s calls t n → n < height t + b
+    IsNoHigher calls s s.map b → (n : ℕ) (t : Term) → Exceeds s calls t n → n < height t + bound_of s.resolution b
 
 -- and so is the height of what is answered, also with more values in place of unknowns
 abbrev pub AnswersAreNoHigher : StoredCalls → Type 0
 AnswersAreNoHigher calls =
     (s : Setting) (m : Mapping) (b : ℕ) → IsWithin s.map m → IsGivenSound calls s → IsNoHigher calls s m b →
-    (t : Term) (p : PartialValue) → Allows s calls t (answers p) → substituted_height m p ≤ height t + b
+    (t : Term) (p : PartialValue) → Allows s calls t (answers p) → substituted_height m p ≤ height t + bound_of s.resolution b
 
--- so a context that is substituted and interpreted again is at most twice as high
+-- so a context that is substituted and interpreted again is at most twice as high: with deep resolution where the
+-- values that are put in are sound, so that the context stays restricted and reads nothing stored
 abbrev pub SubstitutedContextsAreNoHigher : StoredCalls → Type 0
 SubstitutedContextsAreNoHigher calls =
     (s : Setting) (m : Mapping) (b : ℕ) → IsWithin s.map m → IsGivenSound calls s → IsNoHigher calls s m b →
+    (s.resolution ≡ deep → (n : Text) (v : Represented) → m n ≡ Some v → IsSound v) →
     (fs : Fields) (p : PartialValue) → s.request.context_part ≡ residual_context fs →
     Allows s calls (record_of (substituted_at m fs)) (answers p) → substituted_height m p ≤ b + b
 

@@ -5,7 +5,7 @@ use Rattle.cedar_model.specs.Values.{plain, Represented, plain_represented, no_r
 use Rattle.cedar_model.specs.Outcomes.{text_eq, entity_eq}
 use Rattle.cedar_model.specs.World.{Extensions, Functions, function_gives}
 use Rattle.cedar_model.specs.Failures.{PartialValue, value, residual, answers_bool}
-use Rattle.cedar_model.specs.Settings.{known_entry, known_context, StoredEntity, Store, Setting}
+use Rattle.cedar_model.specs.Settings.{known_entry, known_context, StoredEntity, Store, shallow, Setting}
 use Rattle.cedar_model.specs.Rules.{StoredCalls}
 use Rattle.cedar_model.specs.Agreement.{no_slots}
 
@@ -81,4 +81,5 @@ some_setting is_partial = record {
   map = some_map;
   slots = no_slots;
   extensions = some_extensions;
+  resolution = shallow;
 }

@@ -14,7 +14,7 @@ use Rattle.cedar_model.specs.Failures.{value, residual, Answer, answers_bool, an
 use Rattle.cedar_model.specs.Failures.{function_has_failed}
 use Rattle.cedar_model.specs.Settings.{RequestPart, known_entry, unknown_entry, ContextPart, known_context}
 use Rattle.cedar_model.specs.Settings.{residual_context}
-use Rattle.cedar_model.specs.Settings.{StoredEntity, Store, Setting}
+use Rattle.cedar_model.specs.Settings.{StoredEntity, Store, shallow, Setting}
 use Rattle.cedar_model.specs.Rules.{StoredCalls, Runs, Exceeds}
 use Rattle.cedar_model.specs.Agreement.{height, no_slots, IsCompletion, AgreesWithFunctions, AnswerFaithfully}
 use Rattle.cedar_model.specs.LevelLaws.{FunctionsAnswer, FunctionsMeetNoLimit}
@@ -54,6 +54,7 @@ waiting is_partial = record {
   map = λ n. cond (text_eq n (codes "u")) (Some seven) None;
   slots = no_slots;
   extensions = some_extensions;
+  resolution = shallow;
 }
 
 -- ---- a world that completes it
@@ -138,6 +139,7 @@ bare m c = record {
   map = m;
   slots = no_slots;
   extensions = some_extensions;
+  resolution = shallow;
 }
 
 -- `{{1}}`, of height 3
@@ -223,6 +225,7 @@ calling = record {
   map = λ n. None;
   slots = no_slots;
   extensions = nesting_extensions;
+  resolution = shallow;
 }
 
 -- then `context.a`, of height 2, needs more than 2 + 4

@@ -3,10 +3,10 @@ use Rattle.std.specs.Prelude.{◌≡◌, ◌≢◌, ◌↔◌, ℕ, ◌<◌, ◌
 use Rattle.cedar_model.specs.Terms.{Text, Term}
 use Rattle.cedar_model.specs.Values.{Represented}
 use Rattle.cedar_model.specs.Failures.{out_of_memory, Answer, fails, limit}
-use Rattle.cedar_model.specs.Settings.{Setting}
+use Rattle.cedar_model.specs.Settings.{deep, Setting}
 use Rattle.cedar_model.specs.Rules.{StoredCalls, Rule, Runs, Allows, Exceeds}
 use Rattle.cedar_model.specs.World.{Functions}
-use Rattle.cedar_model.specs.Agreement.{AgreesWithFunctions}
+use Rattle.cedar_model.specs.Agreement.{AgreesWithFunctions, EachStored, IsRestrictedPart}
 use Rattle.cedar_model.specs.Alike.{AreAlike, AreFunctional}
 
 -- more levels keep an answer
@@ -63,10 +63,12 @@ abbrev pub LevelsHaveAnswers : StoredCalls → Type 0
 LevelsHaveAnswers calls =
     (s : Setting) → FunctionsAnswer calls s.extensions.arity → (n : ℕ) (t : Term) → (a : Answer) × Runs s calls n t a
 
--- and each expression has an answer at some level
+-- and each expression has an answer at some level: with deep resolution where stored residuals are restricted, so that
+-- none reads the store again
 abbrev pub ExpressionsHaveAnswers : StoredCalls → Type 0
 ExpressionsHaveAnswers calls =
-    (s : Setting) → FunctionsAnswer calls s.extensions.arity → FunctionsMeetNoLimit calls → (t : Term) → (a : Answer) × Allows s calls t a
+    (s : Setting) → FunctionsAnswer calls s.extensions.arity → FunctionsMeetNoLimit calls →
+    (s.resolution ≡ deep → EachStored IsRestrictedPart s.store) → (t : Term) → (a : Answer) × Allows s calls t a
 
 -- where the limit is met, it is met with fewer levels too: the need is one number
 abbrev pub NeedIsThreshold : StoredCalls → Type 0

@@ -310,3 +310,49 @@ unfoldable pub path_answer : Store → Represented → Text → List Text → An
 path_answer store v k [] = last_in store (container_of v) (container_expected v) k
 path_answer store v k (l ∷ ls) =
     after_step (step_in store (container_of v) (container_expected v) k l ls) (λ u. path_answer store u l ls)
+
+-- ---- the stored residual that a look-up reads
+
+unfoldable pub residual_in : Option PartialValue → Option Term
+residual_in None = None
+residual_in (Some (value v)) = None
+residual_in (Some (residual t)) = Some t
+
+unfoldable pub attribute_residual_found : Found → Text → Option Term
+attribute_residual_found not_known k = None
+attribute_residual_found not_there k = None
+attribute_residual_found (found x) k = residual_in (part_at k x.attributes)
+
+unfoldable pub tag_residual_found : Found → Text → Option Term
+tag_residual_found not_known t = None
+tag_residual_found not_there t = None
+tag_residual_found (found x) t = residual_in (part_at t x.tags)
+
+unfoldable pub attribute_residual_of : Store → Option EntityName → Text → Option Term
+attribute_residual_of store None k = None
+attribute_residual_of store (Some e) k = attribute_residual_found (look_up store e) k
+
+unfoldable pub tag_residual_of : Store → Option EntityName → Option Text → Option Term
+tag_residual_of store None t = None
+tag_residual_of store (Some e) None = None
+tag_residual_of store (Some e) (Some t) = tag_residual_found (look_up store e) t
+
+-- an attribute of a value: that of an entity that is there, where it is a residual
+abbrev pub attribute_residual : Store → Represented → Text → Option Term
+attribute_residual store v k = attribute_residual_of store (entity_of (abstract_value v)) k
+
+-- of two operands, which read a stored part only as a tag
+unfoldable pub binary_residual : Store → BinaryOperator → Represented → Represented → Option Term
+binary_residual store eq_operator v w = None
+binary_residual store less_operator v w = None
+binary_residual store less_eq_operator v w = None
+binary_residual store add_operator v w = None
+binary_residual store sub_operator v w = None
+binary_residual store mul_operator v w = None
+binary_residual store in_operator v w = None
+binary_residual store contains_operator v w = None
+binary_residual store contains_all_operator v w = None
+binary_residual store contains_any_operator v w = None
+binary_residual store get_tag_operator v w =
+    tag_residual_of store (entity_of (abstract_value v)) (text_of (abstract_value w))
+binary_residual store has_tag_operator v w = None

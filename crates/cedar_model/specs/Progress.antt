@@ -7,7 +7,8 @@ use Rattle.cedar_model.specs.Values.{Represented, expression_of}
 use Rattle.cedar_model.specs.Shapes.{is_restricted, are_restricted_at}
 use Rattle.cedar_model.specs.World.{World, Functions}
 use Rattle.cedar_model.specs.Settings.{Entry, known_entry, unknown_entry, ContextPart, absent_context, known_context}
-use Rattle.cedar_model.specs.Settings.{residual_context, Store, Setting}
+use Rattle.cedar_model.specs.Settings.{residual_context, Store, Resolution, shallow, deep, Setting}
+use Rattle.cedar_model.specs.Failures.{PartialValue, value, residual}
 use Rattle.cedar_model.specs.Rules.{StoredCalls}
 use Rattle.cedar_model.specs.Agreement.{NeverAsks, IsKnown, AgreesWithFunctions, EachStored, IsValue}
 use Rattle.cedar_model.specs.Policies.{Policy, decision, reasons, ErrorHandling, counted_each}
@@ -46,6 +47,13 @@ module _ (ans : Functions) (m : Mapping) where
     AreNamedAt no_fields = Unit {0}
     AreNamedAt (one_field k t fs) = IsNamed t × AreNamedAt fs
 
+  -- a stored part from which no residual is answered: a value; with deep resolution also a residual whose unknowns the
+  -- map names, and that calls no function that can answer one
+  abbrev pub LeavesNoResidual : Resolution → PartialValue → Type 0
+  LeavesNoResidual shallow p = IsValue p
+  LeavesNoResidual deep (value v) = Unit {0}
+  LeavesNoResidual deep (residual t) = IsNamed t
+
   -- an unknown entry is named by its variable
   abbrev pub EntryIsNamed : Text → Entry → Type 0
   EntryIsNamed name (known_entry e) = Unit {0}
@@ -76,13 +84,13 @@ module _ (ans : Functions) (m : Mapping) where
     pub values_are_known : (n : Text) (v : Represented) → m n ≡ Some v → IsKnown ans (expression_of v)
         × (is_restricted (expression_of v) ≡ true)
 
--- where a map names all, and the store is concrete and holds values alone, a step leaves no residual; and where its
--- rows stand, the concrete decision is that of the policies, and the reasons are theirs
+-- where a map names all, and the store is concrete and no residual is answered from it, a step leaves no residual; and
+-- where its rows stand, the concrete decision is that of the policies, and the reasons are theirs
 abbrev pub StepsFinish : StoredCalls → Type 0
 StepsFinish calls =
     (ans : Functions) → AgreesWithFunctions ans calls
     → (mode : ErrorHandling) (s : Setting) (levels : ℕ) (m : Mapping) (store : Store) (old new : Response)
-    → store.is_partial ≡ false → EachStored IsValue store → NamesAll ans m old
+    → store.is_partial ≡ false → EachStored (LeavesNoResidual ans m s.resolution) store → NamesAll ans m old
     → StepsTo mode s calls levels m store old new
     → HaveNoResidual new.rows
     × ((w : World) (ps : List Policy) → Stand mode s.extensions ans w ps new.rows

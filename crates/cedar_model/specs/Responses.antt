@@ -101,7 +101,14 @@ counted_report forbid_on_error forbid (reported_residual t) = reported_residual 
 
 abbrev pub with_slots : Setting → Slots → Setting
 with_slots s slots =
-    record { request = s.request; store = s.store; map = s.map; slots = slots; extensions = s.extensions }
+    record {
+      request = s.request;
+      store = s.store;
+      map = s.map;
+      slots = slots;
+      extensions = s.extensions;
+      resolution = s.resolution;
+    }
 
 -- the errors with that of one policy more, if it has one, in front
 unfoldable pub with_error : {E : Type 0} → Text → Option E → List (Text × E) → List (Text × E)

@@ -6,8 +6,10 @@ use Rattle.cedar_model.specs.Sets.{canonical_set, represented_fields_of}
 use Rattle.cedar_model.specs.Shapes.{is_projectable}
 use Rattle.cedar_model.specs.Outcomes.{bool_of, entity_of, text_eq}
 use Rattle.cedar_model.specs.Failures.{FailureKind, of_meaning, of_residual, of_limit, of_memory, failure_kind, Failure, function_is_missing, arguments_are_miscounted, out_of_memory, PartialValue, value, residual, Answer, answers, fails, answers_value, answers_residual, answers_bool, limit, part_expression, wrong_type}
-use Rattle.cedar_model.specs.Settings.{Setting, variable_part}
+use Rattle.cedar_model.specs.Settings.{Store, Resolution, shallow, deep, Setting, variable_part}
 use Rattle.cedar_model.specs.Operators.{slot_answer, unknown_answer, unary_answer, like_answer, is_answer, binary_answer, attribute_answer, has_answer, path_answer, term_at, field_names, key_is_missing}
+use Rattle.cedar_model.specs.Operators.{Step, walks_on, stops, step_in, last_in, container_of, container_expected}
+use Rattle.cedar_model.specs.Operators.{attribute_residual, binary_residual}
 
 -- what expressions may answer
 abbrev pub MayAnswer : Type 1
@@ -42,6 +44,44 @@ best (fails e) t = best_of_kind (failure_kind e) e t
 abbrev pub AfterBest : Best → (Term → Answer → Type 0) → Answer → Type 0
 AfterBest (kept t) Next a = Next t a
 AfterBest (handed_up e) Next a = a ≡ fails e
+
+-- ---- stored residuals
+
+module _ (May : MayAnswer) where
+  -- what a look-up answers: with shallow resolution what is stored, with deep resolution what the stored residual that
+  -- is read answers, one level below
+  abbrev pub Resolves : Resolution → Option Term → Answer → Answer → Type 0
+  Resolves shallow o stored a = a ≡ stored
+  Resolves deep None stored a = a ≡ stored
+  Resolves deep (Some t) stored a = May t a
+
+  -- after a stored residual that an extended `has` reads: an error is answered, a value is walked on, and a residual
+  -- keeps the attributes after it
+  abbrev pub AfterStored : Answer → Text → List Text → (Represented → Answer → Type 0) → Answer → Type 0
+  AfterStored (fails e) l ls Next a = a ≡ fails e
+  AfterStored (answers (value v)) l ls Next a = Next v a
+  AfterStored (answers (residual r)) l ls Next a = a ≡ answers_residual (extended_has r l ls)
+
+  abbrev pub AfterStep : Step → (Represented → Answer → Type 0) → Answer → Type 0
+  AfterStep (walks_on v) Next a = Next v a
+  AfterStep (stops b) Next a = a ≡ b
+
+  -- a step that reads no stored residual, or one
+  abbrev pub StepsOn : Option Term → Step → Text → List Text → (Represented → Answer → Type 0) → Answer → Type 0
+  StepsOn None step l ls Next a = AfterStep step Next a
+  StepsOn (Some t) step l ls Next a = (x : Answer) × May t x × AfterStored x l ls Next a
+
+  -- an extended `has` on a value, with deep resolution: the last attribute is a presence check
+  abbrev pub Walks : Store → Represented → Text → List Text → Answer → Type 0
+  Walks store v k [] a = a ≡ last_in store (container_of v) (container_expected v) k
+  Walks store v k (l ∷ ls) a =
+      StepsOn (attribute_residual store v k) (step_in store (container_of v) (container_expected v) k l ls) l ls
+      (λ u. Walks store u l ls) a
+
+  abbrev pub WalksFrom : Store → Answer → Text → List Text → Answer → Type 0
+  WalksFrom store (fails e) k ks a = a ≡ fails e
+  WalksFrom store (answers (value v)) k ks a = Walks store v k ks a
+  WalksFrom store (answers (residual r)) k ks a = a ≡ answers_residual (extended_has r k ks)
 
 -- ---- guards and connectives
 
@@ -162,11 +202,20 @@ unfoldable pub binary_beside : Setting → BinaryOperator → PartialValue → A
 binary_beside s op p (fails e) = fails e
 binary_beside s op p (answers q) = binary_of_parts s op p q
 
+-- the stored residual that two operands read
+unfoldable pub beside_residual : Store → BinaryOperator → PartialValue → Answer → Option Term
+beside_residual store op p (fails e) = None
+beside_residual store op (value v) (answers (value w)) = binary_residual store op v w
+beside_residual store op (value v) (answers (residual r)) = None
+beside_residual store op (residual r) (answers q) = None
+
 module _ (May : MayAnswer) where
   -- the right side is read unless the left one errs
   abbrev pub AfterLeft : Setting → BinaryOperator → Answer → Term → Answer → Type 0
   AfterLeft s op (fails e) t a = a ≡ fails e
-  AfterLeft s op (answers p) t a = (y : Answer) × May t y × (a ≡ binary_beside s op p y)
+  AfterLeft s op (answers p) t a =
+      (y : Answer) × May t y
+      × Resolves May s.resolution (beside_residual s.store op p y) (binary_beside s op p y) a
 
 -- `is` on an unknown annotated with an entity type
 unfoldable pub is_annotated : Option Text → Term → Text → Answer
@@ -211,8 +260,16 @@ module _ (May : MayAnswer) where
 
   abbrev pub AtAttribute : Setting → Answer → Text → Answer → Type 0
   AtAttribute s (fails e) k a = a ≡ fails e
-  AtAttribute s (answers (value v)) k a = a ≡ attribute_answer s v k
+  AtAttribute s (answers (value v)) k a =
+      Resolves May s.resolution (attribute_residual s.store v k) (attribute_answer s v k) a
   AtAttribute s (answers (residual r)) k a = AtFields (fields_of_record r) r k a
+
+-- ---- extended `has`
+
+module _ (May : MayAnswer) where
+  abbrev pub AtPath : Resolution → Store → Answer → Text → List Text → Answer → Type 0
+  AtPath shallow store x k ks a = a ≡ on_part (λ v. path_answer store v k ks) (λ r. extended_has r k ks) x
+  AtPath deep store x k ks a = WalksFrom May store x k ks a
 
 -- ---- parts in order: all their answers, or the first error
 
@@ -323,7 +380,7 @@ Rule s Calls May (call f ts) a =
 Rule s Calls May (get_attribute t k) a = (x : Answer) × May t x × AtAttribute May s x k a
 Rule s Calls May (has_attribute t k) a = (x : Answer) × May t x × (a ≡ has_part s k x)
 Rule s Calls May (extended_has t k ks) a =
-    (x : Answer) × May t x × (a ≡ on_part (λ v. path_answer s.store v k ks) (λ r. extended_has r k ks) x)
+    (x : Answer) × May t x × AtPath May s.resolution s.store x k ks a
 Rule s Calls May (like t p) a = (x : Answer) × May t x × (a ≡ on_part (like_answer p) (λ r. like r p) x)
 Rule s Calls May (is_of_type t n) a = (x : Answer) × May t x × (a ≡ is_part n x)
 Rule s Calls May (set_of ts) a = (r : Result (List PartialValue) Failure) × Parts May ts r × (a ≡ set_answer r)

@@ -33,12 +33,19 @@ pub record Store : Type 0 where
   pub entity : EntityName → Option StoredEntity
   pub is_partial : Bool
 
+-- what a stored residual answers where an attribute, a tag or an extended `has` reads it: itself, or what it is
+-- evaluated to
+pub data Resolution : Type 0 where
+  shallow : Resolution
+  deep : Resolution
+
 pub record Setting : Type 0 where
   pub request : RequestPart
   pub store : Store
   pub map : Text → Option Represented
   pub slots : Slots
   pub extensions : Extensions
+  pub resolution : Resolution
 
 -- ---- what a variable answers
 

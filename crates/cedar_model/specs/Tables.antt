@@ -15,7 +15,7 @@ use Rattle.cedar_model.specs.World.{Extensions}
 use Rattle.cedar_model.specs.Failures.{entity_is_missing, entity_attribute_is_missing, record_attribute_is_missing}
 use Rattle.cedar_model.specs.Failures.{type_is_wrong, binary_overflow, function_has_failed, PartialValue, value}
 use Rattle.cedar_model.specs.Failures.{any_entity, Answer, fails, answers_value, answers_residual, answers_bool}
-use Rattle.cedar_model.specs.Settings.{StoredEntity, Store, Setting, missing_entity}
+use Rattle.cedar_model.specs.Settings.{StoredEntity, Store, shallow, Setting, missing_entity}
 use Rattle.cedar_model.specs.Rules.{StoredCalls, Allows}
 use Rattle.cedar_model.specs.Agreement.{no_slots}
 use Rattle.cedar_model.specs.Authorizations.{evaluated}
@@ -85,6 +85,7 @@ table_setting is_partial = record {
   map = λ n. cond (text_eq n (codes "q")) (Some (plain_represented (long_literal (pos 3)))) (some_map n);
   slots = no_slots;
   extensions = table_extensions;
+  resolution = shallow;
 }
 
 -- what is allowed, with a concrete or a partial store
