@@ -40,15 +40,19 @@ module _ (mode : ErrorHandling) (calls : StoredCalls) (ans : Functions) (w : Wor
   with_step : (r : RequestPart) (m : Mapping) (store : Store) → CompletesRequest r → Headline.CompletesMap ans w s m
       → Headline.CompletesStore ans w s store → Agreement.IsCompletion ans w (Chains.at_step s r store m)
   with_step r m store q a b = record {
-    request_agrees = q.agrees;
-    store_agrees = b.store_agrees;
-    map_agrees = a.map_agrees;
-    context_faithful = q.context_is_faithful;
-    store_faithful = b.stored_values_are_faithful;
-    map_faithful = a.mapped_values_are_faithful;
-    context_fits = q.context_fits;
-    store_fits = b.stored_residuals_fit;
-    store_restricted = b.stored_residuals_are_restricted;
+    agreement = record {
+      request_agrees = q.agrees;
+      store_agrees = b.store_agrees;
+      map_agrees = a.map_agrees;
+      context_fits = q.context_fits;
+      store_fits = b.stored_residuals_fit;
+      store_restricted = b.stored_residuals_are_restricted;
+    };
+    values = record {
+      context_faithful = q.context_is_faithful;
+      store_faithful = b.stored_values_are_faithful;
+      map_faithful = a.mapped_values_are_faithful;
+    };
   }
 
   pub no_map_completes : Headline.CompletesMap ans w s (λ n. None)
@@ -75,9 +79,9 @@ module _ (mode : ErrorHandling) (calls : StoredCalls) (ans : Functions) (w : Wor
       (run_recordable mode (Chains.at_step s next.request step.1 step.0) calls levels
       (Chains.all_residuals r.rows) next.rows next.errors k t.runs) t.runs in
       chain_stands next last steps record {
-        agrees = z.request_agrees;
-        context_is_faithful = z.context_faithful;
-        context_fits = z.context_fits;
+        agrees = z.agreement.request_agrees;
+        context_is_faithful = z.values.context_faithful;
+        context_fits = z.agreement.context_fits;
       } c.2 stand on.1.2 none
 
 pub headline : (mode : ErrorHandling) (calls : StoredCalls) (ans : Functions) (w : World) (s : Setting) (levels : ℕ)

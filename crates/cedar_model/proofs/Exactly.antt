@@ -226,12 +226,26 @@ module _ (X : Extensions) (ans : Functions) (w : World) where
   part_fits (value v) k = tt
   part_fits (residual t) k = absurd k
 
+part_restricted : (p : PartialValue) → Agreement.IsValue p → Agreement.IsRestrictedPart p
+part_restricted (value v) k = tt
+part_restricted (residual t) k = absurd k
+
 pub own_world_completes : (ans : Functions) (s : Setting) (sigma : Text → AbstractValue) (ps : List Policy) → Agreement.HasNothingUnknown s → ((n : Text) → s.map n ≡ None) → Authorizations.HaveKnownConditions ans ps → Authorizations.Completes ans (Agreement.own_world s sigma) s ps
 own_world_completes ans s sigma ps known none k = record {
-  request_agrees = own_request ans s sigma known;
-  store_agrees = own_store ans s sigma known;
-  map_agrees = λ n v e. let f : None ≡ Some v = sym (none n) ∙ e in absurd (cc);
+  agreement = record {
+    request_agrees = own_request ans s sigma known;
+    store_agrees = own_store ans s sigma known;
+    map_agrees = λ n v e. let f : None ≡ Some v = sym (none n) ∙ e in absurd (cc);
+    context_fits =
+        context_fits s.extensions ans (Agreement.own_world s sigma) s.request.context_part known.context_known;
+    store_fits = λ e x l p h. (
+      λ q. part_fits s.extensions ans (Agreement.own_world s sigma) p ((known.store_known e x l p h).0 q),
+      λ q. part_fits s.extensions ans (Agreement.own_world s sigma) p ((known.store_known e x l p h).1 q),
+    );
+    store_restricted = λ e x l p h. (
+      λ q. part_restricted p ((known.store_known e x l p h).0 q),
+      λ q. part_restricted p ((known.store_known e x l p h).1 q),
+    );
+  };
   conditions_fit = policies_fit s.extensions ans (Agreement.own_world s sigma) ps k;
-  context_fits = context_fits s.extensions ans (Agreement.own_world s sigma) s.request.context_part known.context_known;
-  store_fits = λ e x l p h. (λ q. part_fits s.extensions ans (Agreement.own_world s sigma) p ((known.store_known e x l p h).0 q), λ q. part_fits s.extensions ans (Agreement.own_world s sigma) p ((known.store_known e x l p h).1 q));
 }

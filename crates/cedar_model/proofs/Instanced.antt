@@ -130,25 +130,29 @@ named_u n false e v f = absurd (none_is v f)
 pub completes : (is_partial : Bool) → IsCompletion Instances.asked Instances.completing (Instances.waiting is_partial)
 unfolding meaning_opened Instances.value_of_unknown unquoted id_here with_byte read_entity
 completes is_partial = record {
-  request_agrees =
-      record {
-        principal_agrees = (
-          principal_ok,
-          refl,
-        );
-        action_agrees = refl;
-        resource_agrees = refl;
-        context_agrees = context_ok is_partial;
-      };
-  store_agrees = λ e. store_by is_partial e (entity_eq e Instances.stored_entity);
-  map_agrees = λ n v e. named_u n (text_eq n (codes "u")) refl v e;
-  context_faithful = tt;
-  store_faithful = stored_such is_partial (Agreement.IsFaithfulPart some_extensions Instances.asked) tt;
-  map_faithful =
-      λ n v e. subst (Agreement.IsFaithful some_extensions Instances.asked) (is_seven (text_eq n (codes "u")) v e) tt;
-  context_fits = (refl, tt);
-  store_fits = stored_such is_partial (Agreement.FitsPart some_extensions Instances.asked Instances.completing) tt;
-  store_restricted = stored_such is_partial Agreement.IsRestrictedPart refl;
+  agreement = record {
+    request_agrees =
+        record {
+          principal_agrees = (
+            principal_ok,
+            refl,
+          );
+          action_agrees = refl;
+          resource_agrees = refl;
+          context_agrees = context_ok is_partial;
+        };
+    store_agrees = λ e. store_by is_partial e (entity_eq e Instances.stored_entity);
+    map_agrees = λ n v e. named_u n (text_eq n (codes "u")) refl v e;
+    context_fits = (refl, tt);
+    store_fits = stored_such is_partial (Agreement.FitsPart some_extensions Instances.asked Instances.completing) tt;
+    store_restricted = stored_such is_partial Agreement.IsRestrictedPart refl;
+  };
+  values = record {
+    context_faithful = tt;
+    store_faithful = stored_such is_partial (Agreement.IsFaithfulPart some_extensions Instances.asked) tt;
+    map_faithful =
+        λ n v e. subst (Agreement.IsFaithful some_extensions Instances.asked) (is_seven (text_eq n (codes "u")) v e) tt;
+  };
 }
 
 -- ---- functions

@@ -174,7 +174,7 @@ module _ (ans : Functions) (calls : Rules.StoredCalls) (agree : Agreement.Agrees
   Sound a o = Means.Sound F R E a o
 
   map_well : (n : Text) (v : Represented) → s.map n ≡ Some v → F v × (w.sigma n ≡ abstract_value v)
-  map_well n v e = (done.map_faithful n v e, done.map_agrees n v e)
+  map_well n v e = (done.values.map_faithful n v e, done.agreement.map_agrees n v e)
 
   stored : (p : PartialValue) → Agreement.IsFaithfulPart s.extensions ans p → Agreement.FitsPart s.extensions ans w p → Means.StoredWell ans w s F R E p
   stored (value v) f g = f
@@ -190,8 +190,8 @@ module _ (ans : Functions) (calls : Rules.StoredCalls) (agree : Agreement.Agrees
     plain_well = λ l. tt;
     part_well = λ fs k v f e. Written.part_faithful s.extensions ans fs k v f e;
     errs_well = λ e k h. subst (λ x. Loose x (Agreement.outcome_value (errs k))) (sym h) (errs_loose k);
-    store_agrees = done.store_agrees;
-    stored_well = λ d x k p e. (λ h. stored p ((done.store_faithful d x k p e).0 h) ((done.store_fits d x k p e).0 h), λ h. stored p ((done.store_faithful d x k p e).1 h) ((done.store_fits d x k p e).1 h));
+    store_agrees = done.agreement.store_agrees;
+    stored_well = λ d x k p e. (λ h. stored p ((done.values.store_faithful d x k p e).0 h) ((done.agreement.store_fits d x k p e).0 h), λ h. stored p ((done.values.store_faithful d x k p e).1 h) ((done.agreement.store_fits d x k p e).1 h));
     missing_well = λ d h. record {
       written_fits = λ v f. Written.written_fits s.extensions ans w v f;
       written_means = λ v f. Written.written_means s.extensions ans w Agreement.no_slots v f;
@@ -388,7 +388,7 @@ module _ (ans : Functions) (calls : Rules.StoredCalls) (agree : Agreement.Agrees
     -- a stored residual that is read stands for what it means
     read_sound : (r : Term) (u : AbstractValue) (x : Answer) → IsStored s.store r → N r ≡ gives u → G r x → Sound x (gives u)
     read_sound r u x i e g =
-        let fr : Agreement.Fits ans w r = each_stored (Agreement.FitsPart s.extensions ans w) s.store done.store_fits r i in
+        let fr : Agreement.Fits ans w r = each_stored (Agreement.FitsPart s.extensions ans w) s.store done.agreement.store_fits r i in
         let m : M r ≡ gives u = Binds.less_gives (N r) (M r) u (Binds.fewer_slots s.extensions ans w s.slots r) e in
         subst (Sound x) m (ih r x fr g)
 
@@ -396,7 +396,7 @@ module _ (ans : Functions) (calls : Rules.StoredCalls) (agree : Agreement.Agrees
     unfolding Rules.beside_residual
     beside_read op p (fails e) o m r a hp hq i g = absurd (cc)
     beside_read op (value v) (answers (value v')) o m r a (fv, ev) (fu, eu) i g =
-        let z = StoredMeans.binary_stored ans w s done.store_agrees op v v' r i in
+        let z = StoredMeans.binary_stored ans w s done.agreement.store_agrees op v v' r i in
         let h : Sound a (gives z.0) = read_sound r z.0 a (beside_is_stored s.store op (value v) (answers (value v')) r i) z.1 g in
         value_bind a (abstract_value v) o _ ev (value_bind a (abstract_value v') m _ eu (subst (Sound a) (sym z.2) h))
     beside_read op (value v) (answers (residual q)) o m r a hp hq i g = absurd (cc)
@@ -513,7 +513,7 @@ module _ (ans : Functions) (calls : Rules.StoredCalls) (agree : Agreement.Agrees
     attribute_sound : (k : Text) (x : Answer) (o : Outcome) (a : Answer) → Sound x o → Rules.AtAttribute G s x k a → Sound a (and_then o (λ v. Meaning.attribute_meaning w v k))
     attribute_sound k (fails f) o a z r = by_equal a (fails f) _ r (error_bind f o _ z)
     attribute_sound k (answers (value v)) o a (f, e) r =
-        value_bind a (abstract_value v) o _ e (resolving.resolved G (λ b. Sound b (Meaning.attribute_meaning w (abstract_value v) k)) s.resolution (Operators.attribute_residual s.store v k) _ a (Means.attribute_means ans w s F R E well v k f) (λ q d i g. let z = StoredMeans.attribute_stored ans w s done.store_agrees v k q i in subst (Sound a) (sym z.2) (read_sound q z.0 a (attribute_is_stored s.store v k q i) z.1 g)) r)
+        value_bind a (abstract_value v) o _ e (resolving.resolved G (λ b. Sound b (Meaning.attribute_meaning w (abstract_value v) k)) s.resolution (Operators.attribute_residual s.store v k) _ a (Means.attribute_means ans w s F R E well v k f) (λ q d i g. let z = StoredMeans.attribute_stored ans w s done.agreement.store_agrees v k q i in subst (Sound a) (sym z.2) (read_sound q z.0 a (attribute_is_stored s.store v k q i) z.1 g)) r)
     attribute_sound k (answers (residual q)) o a z r =
         at_fields_sound (Rules.fields_of_record q) q k a o refl z r
 
@@ -542,7 +542,7 @@ module _ (ans : Functions) (calls : Rules.StoredCalls) (agree : Agreement.Agrees
     steps_sound None v k l ls a e f rest h =
         step_sound (Operators.step_in s.store (Operators.container_of v) (Operators.container_expected v) k l ls) v k l ls a refl f rest h
     steps_sound (Some t) v k l ls a e f rest (x, g, h) =
-        let z = StoredMeans.attribute_stored ans w s done.store_agrees v k t e in
+        let z = StoredMeans.attribute_stored ans w s done.agreement.store_agrees v k t e in
         subst (Sound a) (sym (StoredMeans.path_goes_on w (abstract_value v) z.0 k l ls z.3 z.2)) (stored_sound x z.0 l ls a (read_sound t z.0 x (attribute_is_stored s.store v k t e) z.1 g) rest h)
 
     walks_sound : (ks : List Text) (v : Represented) (k : Text) (a : Answer) → F v → Rules.Walks G s.store v k ks a → Sound a (Meaning.has_path w (abstract_value v) k ks)
@@ -809,10 +809,10 @@ module _ (ans : Functions) (calls : Rules.StoredCalls) (agree : Agreement.Agrees
 
     variable_sound : (v : Variable) → Sound (answers (variable_part s.request v)) (gives (variable_value w v))
     unfolding variable_part variable_value
-    variable_sound principal = entry_sound s.request.principal_entry _ w.principal_entity done.request_agrees.principal_agrees
-    variable_sound action = entry_sound s.request.action_entry _ w.action_entity done.request_agrees.action_agrees
-    variable_sound resource = entry_sound s.request.resource_entry _ w.resource_entity done.request_agrees.resource_agrees
-    variable_sound context = context_sound s.request.context_part done.request_agrees.context_agrees done.context_faithful done.context_fits
+    variable_sound principal = entry_sound s.request.principal_entry _ w.principal_entity done.agreement.request_agrees.principal_agrees
+    variable_sound action = entry_sound s.request.action_entry _ w.action_entity done.agreement.request_agrees.action_agrees
+    variable_sound resource = entry_sound s.request.resource_entry _ w.resource_entity done.agreement.request_agrees.resource_agrees
+    variable_sound context = context_sound s.request.context_part done.agreement.request_agrees.context_agrees done.values.context_faithful done.agreement.context_fits
 
     rule_sound : (t : Term) (a : Answer) → Agreement.Fits ans w t → Rules.Rule s calls G t a → Sound a (M t)
     unfolding Meaning.meaning

@@ -149,15 +149,19 @@ module _ (mode : ErrorHandling) (ans : Functions) (w : World) (s : Setting) (p :
 pub with_slots_done : (ans : Functions) (w : World) (s : Setting) (slots : Slots) → IsCompletion ans w s
     → IsCompletion ans w (Responses.with_slots s slots)
 with_slots_done ans w s slots d = record {
-  request_agrees = d.request_agrees;
-  store_agrees = d.store_agrees;
-  map_agrees = d.map_agrees;
-  context_faithful = d.context_faithful;
-  store_faithful = d.store_faithful;
-  map_faithful = d.map_faithful;
-  context_fits = d.context_fits;
-  store_fits = d.store_fits;
-  store_restricted = d.store_restricted;
+  agreement = record {
+    request_agrees = d.agreement.request_agrees;
+    store_agrees = d.agreement.store_agrees;
+    map_agrees = d.agreement.map_agrees;
+    context_fits = d.agreement.context_fits;
+    store_fits = d.agreement.store_fits;
+    store_restricted = d.agreement.store_restricted;
+  };
+  values = record {
+    context_faithful = d.values.context_faithful;
+    store_faithful = d.values.store_faithful;
+    map_faithful = d.values.map_faithful;
+  };
 }
 
 -- an error that is recorded, or none, and those after it

@@ -267,18 +267,28 @@ abbrev pub IsRestrictedPart : PartialValue → Type 0
 IsRestrictedPart (value v) = Unit {0}
 IsRestrictedPart (residual t) = is_restricted t ≡ true
 
--- a world agrees with all that the evaluator is given, its values are faithful, and the world fits its residuals, of
--- which the stored ones are restricted
-pub record IsCompletion (ans : Functions) (w : World) (s : Setting) : Type 0 where
+-- ---- completion: a world agrees and fits, the values that are given are faithful, and (of policies, `FitPolicies`)
+-- the world fits the conditions
+
+-- a world agrees with all that the evaluator is given, and fits its residuals, of which the stored ones are restricted
+pub record AgreesAndFits (ans : Functions) (w : World) (s : Setting) : Type 0 where
   pub request_agrees : AgreesWithRequest s.extensions ans w s.request
   pub store_agrees : AgreesWithStore s.extensions ans w s.store
   pub map_agrees : AgreesWithMap w s.map
-  pub context_faithful : IsFaithfulContext s.extensions ans s.request.context_part
-  pub store_faithful : EachStored (IsFaithfulPart s.extensions ans) s.store
-  pub map_faithful : (n : Text) (v : Represented) → s.map n ≡ Some v → IsFaithful s.extensions ans v
   pub context_fits : FitsContext s.extensions ans w s.request.context_part
   pub store_fits : EachStored (FitsPart s.extensions ans w) s.store
   pub store_restricted : EachStored IsRestrictedPart s.store
+
+-- the values of the context, the store and the map are faithful
+pub record HasFaithfulValues (ans : Functions) (s : Setting) : Type 0 where
+  pub context_faithful : IsFaithfulContext s.extensions ans s.request.context_part
+  pub store_faithful : EachStored (IsFaithfulPart s.extensions ans) s.store
+  pub map_faithful : (n : Text) (v : Represented) → s.map n ≡ Some v → IsFaithful s.extensions ans v
+
+-- both
+pub record IsCompletion (ans : Functions) (w : World) (s : Setting) : Type 0 where
+  pub agreement : AgreesAndFits ans w s
+  pub values : HasFaithfulValues ans s
 
 -- ---- where nothing is unknown
 

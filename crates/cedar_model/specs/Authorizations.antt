@@ -7,7 +7,7 @@ use Rattle.cedar_model.specs.Meaning.{meaning}
 use Rattle.cedar_model.specs.Failures.{Failure, recursion_limit, FailureKind, of_meaning, failure_kind, Answer, limit}
 use Rattle.cedar_model.specs.Settings.{Setting}
 use Rattle.cedar_model.specs.Rules.{StoredCalls, Exceeds}
-use Rattle.cedar_model.specs.Agreement.{Answers, height, IsKnown, AgreesWithRequest, AgreesWithStore, AgreesWithMap, FitsContext, FitsPart, EachStored}
+use Rattle.cedar_model.specs.Agreement.{Answers, height, IsKnown, AgreesAndFits}
 use Rattle.cedar_model.specs.Policies.{Policy, Verdict, satisfied, unsatisfied, erring, Judged, Decision, decision, reasons, judge_each}
 use Rattle.cedar_model.specs.Responses.{FitPolicies, decided, result_of, with_error}
 
@@ -119,11 +119,7 @@ abbrev pub AreNoHigher : List Policy → ℕ → Type 0
 AreNoHigher [] n = Unit {0}
 AreNoHigher (p ∷ ps) n = (height p.condition ≤ n) × AreNoHigher ps n
 
--- a world agrees with all that an authorization is given, and fits each condition, the context and what is stored
+-- a world agrees with all that an authorization is given and fits it, each condition too
 pub record Completes (ans : Functions) (w : World) (s : Setting) (ps : List Policy) : Type 0 where
-  pub request_agrees : AgreesWithRequest s.extensions ans w s.request
-  pub store_agrees : AgreesWithStore s.extensions ans w s.store
-  pub map_agrees : AgreesWithMap w s.map
+  pub agreement : AgreesAndFits ans w s
   pub conditions_fit : FitPolicies ans w ps
-  pub context_fits : FitsContext s.extensions ans w s.request.context_part
-  pub store_fits : EachStored (FitsPart s.extensions ans w) s.store
