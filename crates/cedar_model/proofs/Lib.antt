@@ -28,6 +28,7 @@ pub mod HeldUnknowns
 pub mod StepNeeds
 pub mod Tabled
 pub mod Instanced
+pub mod Resolved
 pub mod Computed
 pub mod Conjunction
 pub mod Functional

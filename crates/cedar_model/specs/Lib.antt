@@ -34,6 +34,7 @@ pub mod Depth
 pub mod ResponseLaws
 pub mod Needs
 pub mod Instances
+pub mod Resolutions
 pub mod Steps
 pub mod Authorizations
 pub mod AuthorizationLaws

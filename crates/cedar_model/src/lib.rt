@@ -14,6 +14,7 @@ pub mod policies;
 pub mod printing;
 pub mod progress;
 pub mod reports;
+pub mod resolutions;
 pub mod responses;
 pub mod restricted;
 pub mod tables;

@@ -1,0 +1,224 @@
+-- Worked examples: what stored residuals answer with each resolution, and how many levels that takes.
+use Rattle.std.specs.Prelude.{◌≡◌, ℕ, pos, Bool, true, false, cond, [], ◌∷◌, Option, Some, None, codes}
+use Rattle.cedar_model.specs.Terms.{Text, EntityName, text_literal, long_literal, entity_literal, string_type, long_type}
+use Rattle.cedar_model.specs.Terms.{get_tag_operator, has_tag_operator, Term, literal, unknown, binary, call}
+use Rattle.cedar_model.specs.Terms.{get_attribute, has_attribute, extended_has, set_of, record_of, no_terms, terms_of}
+use Rattle.cedar_model.specs.Terms.{fields_of}
+use Rattle.cedar_model.specs.Values.{Represented, plain_represented, set_represented}
+use Rattle.cedar_model.specs.Values.{no_represented, one_represented, no_represented_at}
+use Rattle.cedar_model.specs.Outcomes.{text_eq, entity_eq}
+use Rattle.cedar_model.specs.Failures.{type_is_wrong, residual, Answer, answers_value}
+use Rattle.cedar_model.specs.Failures.{answers_residual, answers_bool, fails}
+use Rattle.cedar_model.specs.Settings.{known_entry, known_context, StoredEntity, Resolution, shallow, deep}
+use Rattle.cedar_model.specs.Settings.{Setting, missing_entity, printed_entity}
+use Rattle.cedar_model.specs.Rules.{StoredCalls, Runs, Allows, Exceeds}
+use Rattle.cedar_model.specs.Agreement.{height, no_slots}
+use Rattle.cedar_model.specs.Restricted.{IsGivenSound}
+use Rattle.cedar_model.specs.Depth.{IsNoHigher}
+use Rattle.cedar_model.specs.Examples.{user, entity, x, some_entity, some_calls, some_extensions}
+use Rattle.cedar_model.specs.Instances.{deeper_set, nesting_extensions}
+
+abbrev u : Term
+u = unknown (codes "u") None
+
+abbrev one : Represented
+one = plain_represented (long_literal (pos 1))
+
+-- the set of u, a record of it, an unknown c, and u where a text is expected; and a tag
+abbrev pub stored_facts : StoredEntity
+stored_facts = record {
+  attributes = (codes "child", residual (unknown (codes "c") None)) ∷ (
+    codes "parts",
+    residual
+        (record_of (fields_of ((codes "l", u) ∷ []))),
+  ) ∷ (codes "set", residual (set_of (terms_of (u ∷ []))))
+      ∷ (codes "text", residual (unknown (codes "u") (Some string_type))) ∷ [];
+  tags = (codes "t", residual (set_of (terms_of (u ∷ [])))) ∷ [];
+  ancestors = [];
+}
+
+abbrev missing : EntityName
+missing = user (codes "m")
+
+-- u is 1, c is the entity itself, and the unknown of a missing entity is named too
+abbrev pub all_named : Text → Option Represented
+all_named n =
+    cond (text_eq n (codes "u")) (Some one) (cond (text_eq n (codes "c")) (Some (plain_represented
+    (entity_literal some_entity))) (cond (text_eq n (printed_entity missing)) (Some one) None))
+
+abbrev pub none_named : Text → Option Represented
+none_named n = None
+
+abbrev pub resolving : Resolution → Bool → (Text → Option Represented) → Setting
+resolving r is_partial m = record {
+  request = record {
+    principal_entry = known_entry (user (codes "p"));
+    action_entry = known_entry (user (codes "act"));
+    resource_entry = known_entry (user (codes "r"));
+    context_part = known_context no_represented_at;
+  };
+  store = record { entity = λ e. cond (entity_eq e some_entity) (Some stored_facts) None; is_partial = is_partial };
+  map = m;
+  slots = no_slots;
+  extensions = some_extensions;
+  resolution = r;
+}
+
+-- of a concrete store
+abbrev Answers : Resolution → (Text → Option Represented) → Term → Answer → Type 0
+Answers r m t a = Allows (resolving r false m) some_calls t a
+
+abbrev pub attribute : Text → Term
+attribute k = get_attribute (entity some_entity) k
+
+abbrev pub tag : Term
+tag = binary get_tag_operator (entity some_entity) (literal (text_literal (codes "t")))
+
+abbrev pub path : Text → Text → Term
+path k l = extended_has (entity some_entity) k (l ∷ [])
+
+abbrev pub the_set : Term
+the_set = set_of (terms_of (u ∷ []))
+
+abbrev pub the_value : Represented
+the_value = set_represented (one_represented one no_represented)
+
+-- ---- an attribute and a tag
+
+abbrev pub AttributeResolves : Type 0
+AttributeResolves =
+    Answers shallow all_named (attribute (codes "set")) (answers_residual the_set)
+    × Answers deep all_named (attribute (codes "set")) (answers_value the_value)
+
+-- what the map doesn't name stays
+abbrev pub AttributeStays : Type 0
+AttributeStays = Answers deep none_named (attribute (codes "set")) (answers_residual the_set)
+
+-- an error is answered
+abbrev pub AttributeErrs : Type 0
+AttributeErrs = Answers deep all_named (attribute (codes "text")) (fails (type_is_wrong string_type [] long_type))
+
+abbrev pub TagResolves : Type 0
+TagResolves =
+    Answers shallow all_named tag (answers_residual the_set) × Answers deep all_named tag (answers_value the_value)
+
+-- whether there is an attribute or a tag reads none
+abbrev pub PresenceReadsNone : Type 0
+PresenceReadsNone =
+    Answers deep all_named (has_attribute (entity some_entity) (codes "text")) (answers_bool true)
+    × Answers deep none_named (binary has_tag_operator (entity some_entity) (literal (text_literal (codes "t"))))
+    (answers_bool true)
+
+-- ---- extended `has`
+
+-- a value is walked on
+abbrev pub PathWalksOn : Type 0
+PathWalksOn =
+    Answers shallow all_named (path (codes "parts") (codes "l")) (answers_residual (extended_has
+    (record_of (fields_of ((codes "l", u) ∷ []))) (codes "l") []))
+    × Answers deep all_named (path (codes "parts") (codes "l")) (answers_bool true)
+    × Answers deep all_named (path (codes "parts") (codes "m")) (answers_bool false)
+
+-- a residual keeps the attributes after it
+abbrev pub PathKeeps : Type 0
+PathKeeps =
+    Answers deep none_named (path (codes "parts") (codes "l")) (answers_residual (extended_has
+    (record_of (fields_of ((codes "l", u) ∷ []))) (codes "l") []))
+
+-- an error is answered
+abbrev pub PathErrs : Type 0
+PathErrs =
+    Answers deep all_named (path (codes "text") (codes "l")) (fails (type_is_wrong string_type [] long_type))
+
+-- the last attribute is a presence check, also after a stored residual that is walked on
+abbrev pub LastIsPresence : Type 0
+LastIsPresence =
+    Answers deep all_named (extended_has (entity some_entity) (codes "text") []) (answers_bool true)
+    × Answers deep all_named (path (codes "child") (codes "text")) (answers_bool true)
+
+-- ---- an entity that a partial store lacks: its unknown stays, though the map names it
+
+abbrev pub MissingStays : Type 0
+MissingStays =
+    Allows (resolving deep true all_named) some_calls (get_attribute (entity missing) (codes "k"))
+    (answers_residual (get_attribute (missing_entity missing) (codes "k")))
+    × Allows (resolving deep true all_named) some_calls (extended_has (entity missing) (codes "k")
+    (codes "l" ∷ [])) (answers_residual (extended_has (missing_entity missing) (codes "k") (codes "l" ∷ [])))
+
+-- ---- levels
+
+-- a stored residual is evaluated one level below what reads it: at three levels an answer, at two the limit
+abbrev NeedsThree : Term → Answer → Type 0
+NeedsThree t a =
+    Runs (resolving deep false all_named) some_calls 3 t a × Exceeds (resolving deep false all_named) some_calls t 2
+
+abbrev pub StoredNeedThree : Type 0
+StoredNeedThree =
+    NeedsThree (attribute (codes "set")) (answers_value the_value)
+    × NeedsThree tag (answers_value the_value)
+    × NeedsThree (path (codes "parts") (codes "l")) (answers_bool true)
+
+-- with shallow resolution two are enough
+abbrev pub ShallowNeedsTwo : Type 0
+ShallowNeedsTwo =
+    Runs (resolving shallow false all_named) some_calls 2 (attribute (codes "set")) (answers_residual the_set)
+
+-- why stored residuals are restricted: one that reads itself has no answer, at whatever level
+abbrev pub looping : Setting
+looping = record {
+  request = (resolving deep false none_named).request;
+  store = record {
+    entity = λ e. Some record {
+      attributes = (codes "k", residual (attribute (codes "k"))) ∷ [];
+      tags = [];
+      ancestors = [];
+    };
+    is_partial = false;
+  };
+  map = none_named;
+  slots = no_slots;
+  extensions = some_extensions;
+  resolution = deep;
+}
+
+abbrev pub SelfReadingNeverAnswers : Type 0
+SelfReadingNeverAnswers = (n : ℕ) → Exceeds looping some_calls (attribute (codes "k")) n
+
+-- why the depth bound has twice the bound: a function answers `{{{{1}}}}`, of height 5, and is called in a stored
+-- residual of height 5, `{a: {b: {c: {d: f(), e: x}}}}`; then `e.r.a`, of height 3, needs more than 3 + 5
+abbrev pub deepest_set : Represented
+deepest_set = set_represented (one_represented deeper_set no_represented)
+
+abbrev pub deepest_calls : StoredCalls
+deepest_calls f vs a = a ≡ answers_value deepest_set
+
+abbrev pub around : Text → Term → Term
+around k t = record_of (fields_of ((k, t) ∷ []))
+
+abbrev pub nested_residual : Term
+nested_residual =
+    around (codes "a") (around (codes "b") (around (codes "c") (record_of (fields_of ((
+      codes "d",
+      call (codes "f") no_terms,
+    ) ∷ (codes "e", x) ∷ [])))))
+
+abbrev pub nesting_facts : StoredEntity
+nesting_facts = record { attributes = (codes "r", residual nested_residual) ∷ []; tags = []; ancestors = [] }
+
+abbrev pub nesting : Setting
+nesting = record {
+  request = (resolving deep false none_named).request;
+  store = record { entity = λ e. Some nesting_facts; is_partial = false };
+  map = none_named;
+  slots = no_slots;
+  extensions = nesting_extensions;
+  resolution = deep;
+}
+
+abbrev pub projects_nested : Term
+projects_nested = get_attribute (attribute (codes "r")) (codes "a")
+
+abbrev pub StoredResidualsGrow : Type 0
+StoredResidualsGrow =
+    IsGivenSound deepest_calls nesting × IsNoHigher deepest_calls nesting nesting.map 5
+    × (height projects_nested ≡ 3) × Exceeds nesting deepest_calls projects_nested 8

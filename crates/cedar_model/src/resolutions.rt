@@ -1,0 +1,34 @@
+//! Worked examples: stored residuals. Each function is a set of examples, and does nothing.
+ghost use Rattle.cedar_model.specs.Resolutions.{AttributeResolves, AttributeStays, AttributeErrs, TagResolves};
+ghost use Rattle.cedar_model.specs.Resolutions.{PresenceReadsNone, PathWalksOn, PathKeeps, PathErrs, LastIsPresence};
+ghost use Rattle.cedar_model.specs.Resolutions.{MissingStays, StoredNeedThree, ShallowNeedsTwo};
+ghost use Rattle.cedar_model.specs.Resolutions.{SelfReadingNeverAnswers, StoredResidualsGrow};
+
+/// Examples: a stored residual that an attribute or a tag reads answers itself, or with deep resolution what it is
+/// evaluated to: a value, a residual or an error.
+pub fn attributes_resolve()
+    ensures attribute { AttributeResolves }
+    ensures attribute_stays { AttributeStays }
+    ensures attribute_errs { AttributeErrs }
+    ensures tag { TagResolves }
+    ensures presence { PresenceReadsNone }
+    ensures missing { MissingStays }
+{}
+
+/// Examples: of a stored residual that an extended `has` reads a value is walked on, a residual keeps the attributes
+/// after it, and an error is answered; the last attribute is a presence check.
+pub fn paths_resolve()
+    ensures walks_on { PathWalksOn }
+    ensures keeps { PathKeeps }
+    ensures errs { PathErrs }
+    ensures last { LastIsPresence }
+{}
+
+/// Examples: the levels that stored residuals need, why they are restricted, and why the depth bound has twice the
+/// bound with deep resolution.
+pub fn resolutions_need_levels()
+    ensures three { StoredNeedThree }
+    ensures two { ShallowNeedsTwo }
+    ensures looping { SelfReadingNeverAnswers }
+    ensures grown { StoredResidualsGrow }
+{}
