@@ -290,6 +290,12 @@ pub record IsCompletion (ans : Functions) (w : World) (s : Setting) : Type 0 whe
   pub agreement : AgreesAndFits ans w s
   pub values : HasFaithfulValues ans s
 
+-- a completion, with stored functions that each answer what `ans` says, and faithful values to faithful ones
+pub record CompletesWith (calls : StoredCalls) (ans : Functions) (w : World) (s : Setting) : Type 0 where
+  pub completion : IsCompletion ans w s
+  pub functions_agree : AgreesWithFunctions ans calls
+  pub functions_are_faithful : AnswerFaithfully s.extensions ans calls
+
 -- ---- where nothing is unknown
 
 abbrev pub IsKnownEntry : Entry → Type 0
@@ -313,6 +319,17 @@ pub record HasNothingUnknown (s : Setting) : Type 0 where
   pub context_known : IsKnownContext s.request.context_part
   pub store_concrete : s.store.is_partial ≡ false
   pub store_known : EachStored IsValue s.store
+
+-- nothing is unknown, and stored functions each answer what `ans` says
+pub record IsAllKnown (calls : StoredCalls) (ans : Functions) (s : Setting) : Type 0 where
+  pub nothing_unknown : HasNothingUnknown s
+  pub functions_agree : AgreesWithFunctions ans calls
+
+-- and a world agrees with the request and the store
+pub record IsAllKnownIn (calls : StoredCalls) (ans : Functions) (w : World) (s : Setting) : Type 0 where
+  pub all_known : IsAllKnown calls ans s
+  pub request_agrees : AgreesWithRequest s.extensions ans w s.request
+  pub store_agrees : AgreesWithStore s.extensions ans w s.store
 
 -- the answer is the outcome: its value, or an error of its kind
 abbrev pub FailsAs : FailureKind → Outcome → Type 0

@@ -7,7 +7,7 @@ use Rattle.cedar_model.specs.Meaning.{meaning}
 use Rattle.cedar_model.specs.Failures.{Answer}
 use Rattle.cedar_model.specs.Settings.{Setting}
 use Rattle.cedar_model.specs.Rules.{StoredCalls, Runs}
-use Rattle.cedar_model.specs.Agreement.{IsKnown, AgreesWithFunctions, HasNothingUnknown, own_world}
+use Rattle.cedar_model.specs.Agreement.{IsKnown, HasNothingUnknown, IsAllKnown, own_world}
 use Rattle.cedar_model.specs.Policies.{Policy, permit, forbid, erring, verdict, allow, deny}
 use Rattle.cedar_model.specs.Responses.{with_slots}
 use Rattle.cedar_model.specs.Reordering.{IsReordering}
@@ -16,12 +16,12 @@ use Rattle.cedar_model.specs.Authorizations.{evaluated, Authorized, IsResponse, 
 -- an answer is exact in the own world
 abbrev pub KnownAnswersAreExact : StoredCalls → Type 0
 KnownAnswersAreExact calls =
-    (ans : Functions) → AgreesWithFunctions ans calls → (s : Setting) → HasNothingUnknown s → (sigma : Text → AbstractValue) (levels : ℕ) (t : Term) (a : Answer) → IsKnown ans t → Runs s calls levels t a → IsExact calls ans (own_world s sigma) s levels t a
+    (ans : Functions) (s : Setting) → IsAllKnown calls ans s → (sigma : Text → AbstractValue) (levels : ℕ) (t : Term) (a : Answer) → IsKnown ans t → Runs s calls levels t a → IsExact calls ans (own_world s sigma) s levels t a
 
 -- so is what it decides, as a condition's
 abbrev pub KnownConditionsAreExact : StoredCalls → Type 0
 KnownConditionsAreExact calls =
-    (ans : Functions) → AgreesWithFunctions ans calls → (s : Setting) → HasNothingUnknown s → (sigma : Text → AbstractValue) (levels : ℕ) (t : Term) (a : Answer) → IsKnown ans t → Runs s calls levels t a → IsExactDecision calls ans (own_world s sigma) s levels t (evaluated a)
+    (ans : Functions) (s : Setting) → IsAllKnown calls ans s → (sigma : Text → AbstractValue) (levels : ℕ) (t : Term) (a : Answer) → IsKnown ans t → Runs s calls levels t a → IsExactDecision calls ans (own_world s sigma) s levels t (evaluated a)
 
 -- what policies may answer within so many levels
 abbrev pub PolicyRuns : Setting → StoredCalls → ℕ → Policy → Answer → Type 0
@@ -30,12 +30,12 @@ PolicyRuns s calls levels p a = Runs (with_slots s p.slots) calls levels p.condi
 -- a response without the recursion limit is exact in the own world
 abbrev pub KnownResponsesAreExact : StoredCalls → Type 0
 KnownResponsesAreExact calls =
-    (ans : Functions) → AgreesWithFunctions ans calls → (s : Setting) → HasNothingUnknown s → (sigma : Text → AbstractValue) (levels : ℕ) (ps : List Policy) (r : Authorized) → HaveKnownConditions ans ps → IsResponse (PolicyRuns s calls levels) ps r → HaveNoLimit r.errors → IsExactResponse s.extensions ans (own_world s sigma) ps r
+    (ans : Functions) (s : Setting) → IsAllKnown calls ans s → (sigma : Text → AbstractValue) (levels : ℕ) (ps : List Policy) (r : Authorized) → HaveKnownConditions ans ps → IsResponse (PolicyRuns s calls levels) ps r → HaveNoLimit r.errors → IsExactResponse s.extensions ans (own_world s sigma) ps r
 
 -- where no condition is higher than the limit, none meets it
 abbrev pub LowConditionsMeetNoLimit : StoredCalls → Type 0
 LowConditionsMeetNoLimit calls =
-    (ans : Functions) → AgreesWithFunctions ans calls → (s : Setting) → HasNothingUnknown s → (levels : ℕ) (ps : List Policy) (r : Authorized) → HaveKnownConditions ans ps → IsResponse (PolicyRuns s calls levels) ps r → AreNoHigher ps levels → HaveNoLimit r.errors
+    (ans : Functions) (s : Setting) → IsAllKnown calls ans s → (levels : ℕ) (ps : List Policy) (r : Authorized) → HaveKnownConditions ans ps → IsResponse (PolicyRuns s calls levels) ps r → AreNoHigher ps levels → HaveNoLimit r.errors
 
 -- the own world completes a call in which nothing is unknown, whatever its unknowns are
 abbrev pub OwnWorldCompletes : Type 0
