@@ -5,11 +5,16 @@ use Rattle.cedar_model.specs.Values.{Represented, plain_represented, set_represe
 use Rattle.cedar_model.specs.Sets.{canonical_set, represented_fields_of}
 use Rattle.cedar_model.specs.Outcomes.{bool_of}
 use Rattle.cedar_model.specs.Failures.{function_is_missing, out_of_memory, residual_is_left, value, residual, Answer, answers, fails, answers_value, answers_bool, limit, wrong_type}
-use Rattle.cedar_model.specs.Settings.{Setting, variable_part}
-use Rattle.cedar_model.specs.Operators.{slot_answer, unary_answer, binary_answer, attribute_answer, has_answer, path_answer, like_answer, is_answer, mapped}
+use Rattle.cedar_model.specs.Settings.{shallow, Setting, variable_part}
+use Rattle.cedar_model.specs.Operators.{slot_answer, unary_answer, binary_answer, attribute_answer, has_answer, path_answer, like_answer, is_answer, mapped, attribute_residual}
 use Rattle.cedar_model.specs.Rules
+<<<<<<< HEAD
 use Rattle.cedar_model.specs.Rules.{MayAnswer, Meets, bool_expected, joined, bool_or_failure, on_part, binary_beside, binary_of_parts, has_part, is_part, Parts, FieldParts, add_value, values_of_parts, add_value_at, values_of_field_parts, set_answer, set_of_parts, record_answer, record_of_parts, TakesBranch, AndLeft, OrLeft, AfterValues}
 use Rattle.cedar_model.specs.Responses.{decided_bool, decided, result_of}
+=======
+use Rattle.cedar_model.specs.Rules.{MayAnswer, Meets, bool_expected, joined, bool_or_failure, on_part, binary_beside, binary_of_parts, beside_residual, Resolves, AtPath, has_part, is_part, Parts, FieldParts, add_value, values_of_parts, add_value_at, values_of_field_parts, set_answer, set_of_parts, record_answer, record_of_parts, TakesBranch, AndLeft, OrLeft, AfterValues}
+use Rattle.cedar_model.specs.Authorizations.{bool_result, decided}
+>>>>>>> h-deep
 use Rattle.cedar_data.specs.Sound.{Placed}
 use Rattle.cedar_values.specs.declared.evaluator.err.EvaluationError.{EvaluationError}
 use Rattle.cedar_values.specs.Failures.{failure_of}
@@ -155,6 +160,10 @@ module _ (s : Setting) (May : MayAnswer) where
 
   -- ---- operators
 
+  -- with shallow resolution what is stored is answered
+  stored_stays : s.resolution ≡ shallow → (o : Option Term) (a : Answer) → Resolves May s.resolution o a a
+  stored_stays kept o a = subst (λ r. Resolves May r o a a) (sym kept) refl
+
   pub unary_reads : (op : UnaryOperator) (t : Term) (v : Represented) (r : Result Placed EvaluationError) → Reads t v → Answers r (unary_answer op v) → Gives (unary op t) r
   unfolding on_part
   unary_reads op t v r reads is ok =
@@ -164,15 +173,15 @@ module _ (s : Setting) (May : MayAnswer) where
   unfolding stopped on_part
   unary_fails op t e errs ok = (fails (failure_of e), (fails (failure_of e), errs ok, refl), refl)
 
-  pub binary_reads : (op : BinaryOperator) (t u : Term) (v w : Represented) (r : Result Placed EvaluationError) → Reads t v → Reads u w → Answers r (stopped (binary_answer s op v w)) → Gives (binary op t u) r
+  pub binary_reads : s.resolution ≡ shallow → (op : BinaryOperator) (t u : Term) (v w : Represented) (r : Result Placed EvaluationError) → Reads t v → Reads u w → Answers r (stopped (binary_answer s op v w)) → Gives (binary op t u) r
   unfolding binary_beside binary_of_parts
-  binary_reads op t u v w r first second is ok =
-      (binary_answer s op v w, (answers_value v, first (value_is_no_want v), (answers_value w, second (value_is_no_want w), refl)), is ok)
+  binary_reads kept op t u v w r first second is ok =
+      (binary_answer s op v w, (answers_value v, first (value_is_no_want v), (answers_value w, second (value_is_no_want w), stored_stays kept (beside_residual s.store op (value v) (answers_value w)) (binary_answer s op v w))), is ok)
 
-  pub binary_right_fails : (op : BinaryOperator) (t u : Term) (v : Represented) (e : EvaluationError) → Reads t v → Errs u e → Gives (binary op t u) (Err e)
+  pub binary_right_fails : s.resolution ≡ shallow → (op : BinaryOperator) (t u : Term) (v : Represented) (e : EvaluationError) → Reads t v → Errs u e → Gives (binary op t u) (Err e)
   unfolding stopped binary_beside
-  binary_right_fails op t u v e first errs ok =
-      (fails (failure_of e), (answers_value v, first (value_is_no_want v), (fails (failure_of e), errs ok, refl)), refl)
+  binary_right_fails kept op t u v e first errs ok =
+      (fails (failure_of e), (answers_value v, first (value_is_no_want v), (fails (failure_of e), errs ok, stored_stays kept (beside_residual s.store op (value v) (fails (failure_of e))) (fails (failure_of e)))), refl)
 
   pub binary_fails : (op : BinaryOperator) (t u : Term) (e : EvaluationError) → Errs t e → Gives (binary op t u) (Err e)
   unfolding stopped
@@ -198,9 +207,9 @@ module _ (s : Setting) (May : MayAnswer) where
 
   -- ---- attributes
 
-  pub attribute_reads : (t : Term) (k : Text) (v : Represented) (r : Result Placed EvaluationError) → Reads t v → Answers r (stopped (attribute_answer s v k)) → Gives (get_attribute t k) r
-  attribute_reads t k v r reads is ok =
-      (attribute_answer s v k, (answers_value v, reads (value_is_no_want v), refl), is ok)
+  pub attribute_reads : s.resolution ≡ shallow → (t : Term) (k : Text) (v : Represented) (r : Result Placed EvaluationError) → Reads t v → Answers r (stopped (attribute_answer s v k)) → Gives (get_attribute t k) r
+  attribute_reads kept t k v r reads is ok =
+      (attribute_answer s v k, (answers_value v, reads (value_is_no_want v), stored_stays kept (attribute_residual s.store v k) (attribute_answer s v k)), is ok)
 
   pub attribute_fails : (t : Term) (k : Text) (e : EvaluationError) → Errs t e → Gives (get_attribute t k) (Err e)
   unfolding stopped
@@ -215,14 +224,15 @@ module _ (s : Setting) (May : MayAnswer) where
   unfolding stopped has_part
   has_fails t k e errs ok = (fails (failure_of e), (fails (failure_of e), errs ok, refl), refl)
 
-  pub path_reads : (t : Term) (k : Text) (ks : List Text) (v : Represented) (r : Result Placed EvaluationError) → Reads t v → Answers r (stopped (path_answer s.store v k ks)) → Gives (extended_has t k ks) r
+  pub path_reads : s.resolution ≡ shallow → (t : Term) (k : Text) (ks : List Text) (v : Represented) (r : Result Placed EvaluationError) → Reads t v → Answers r (stopped (path_answer s.store v k ks)) → Gives (extended_has t k ks) r
   unfolding on_part
-  path_reads t k ks v r reads is ok =
-      (path_answer s.store v k ks, (answers_value v, reads (value_is_no_want v), refl), is ok)
+  path_reads kept t k ks v r reads is ok =
+      (path_answer s.store v k ks, (answers_value v, reads (value_is_no_want v), subst (λ z. AtPath May z s.store (answers_value v) k ks (path_answer s.store v k ks)) (sym kept) refl), is ok)
 
-  pub path_fails : (t : Term) (k : Text) (ks : List Text) (e : EvaluationError) → Errs t e → Gives (extended_has t k ks) (Err e)
+  pub path_fails : s.resolution ≡ shallow → (t : Term) (k : Text) (ks : List Text) (e : EvaluationError) → Errs t e → Gives (extended_has t k ks) (Err e)
   unfolding stopped on_part
-  path_fails t k ks e errs ok = (fails (failure_of e), (fails (failure_of e), errs ok, refl), refl)
+  path_fails kept t k ks e errs ok =
+      (fails (failure_of e), (fails (failure_of e), errs ok, subst (λ z. AtPath May z s.store (fails (failure_of e)) k ks (fails (failure_of e))) (sym kept) refl), refl)
 
   -- ---- sets, records and calls
 

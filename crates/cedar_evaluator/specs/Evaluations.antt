@@ -12,7 +12,7 @@ use Rattle.cedar_model.specs.Terms.{Text, Term}
 use Rattle.cedar_model.specs.Values.{Represented}
 use Rattle.cedar_model.specs.World.{Slots}
 use Rattle.cedar_model.specs.Failures.{Failure, PartialValue, value}
-use Rattle.cedar_model.specs.Settings.{Entry, known_entry, RequestPart, Store, Setting, known_context}
+use Rattle.cedar_model.specs.Settings.{Entry, known_entry, RequestPart, Store, shallow, Setting, known_context}
 use Rattle.cedar_model.specs.Rules.{Meets, Parts, FieldParts}
 use Rattle.cedar_expressions.specs.declared.expr.Expr.{Expr}
 use Rattle.cedar_expressions.specs.View.{terms_view, fields_view}
@@ -30,7 +30,14 @@ use Rattle.cedar_evaluator.specs.Stops.{StoppingRule, StoppingRuns}
 -- what an evaluator of this request over this store is given, for an expression with these slots
 abbrev pub setting_for : RequestPart → Store → Slots → Setting
 setting_for r s slots =
-    record { request = r; store = s; map = λ n. None; slots = slots; extensions = no_extensions }
+    record {
+      request = r;
+      store = s;
+      map = λ n. None;
+      slots = slots;
+      extensions = no_extensions;
+      resolution = shallow;
+    }
 
 -- the entry of a shared entity
 abbrev pub shared_entry : SharedEntity → Entry

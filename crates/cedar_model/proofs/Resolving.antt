@@ -210,3 +210,49 @@ module _ (G : Rules.MayAnswer) where
       walks (l ∷ ls) v k a h =
           steps_on (Operators.attribute_residual store v k) v k l ls (λ u. Rules.Walks G store u l ls) a refl
           (λ u j. walks ls u l a j) h
+
+-- ---- from what parts may answer to what others may
+
+module _ (G H : Rules.MayAnswer) (store : Store) (more : (t : Term) → IsStored store t → (x : Answer) → G t x
+    → H t x) where
+  pub resolves_map : (r : Resolution) (o : Option Term) (x a : Answer) → ((t : Term) → o ≡ Some t
+      → IsStored store t) → Rules.Resolves G r o x a → Rules.Resolves H r o x a
+  resolves_map shallow o x a i h = h
+  resolves_map deep None x a i h = h
+  resolves_map deep (Some t) x a i h = more t (i t refl) a h
+
+  step_map : (z : Operators.Step) (Next Next' : Represented → Answer → Type 0) (a : Answer) → ((v : Represented)
+      → Next v a → Next' v a) → Rules.AfterStep G z Next a → Rules.AfterStep H z Next' a
+  step_map (Operators.walks_on v) Next Next' a f h = f v h
+  step_map (Operators.stops b) Next Next' a f h = h
+
+  stored_map : (x : Answer) (l : Text) (ls : List Text) (Next Next' : Represented → Answer → Type 0) (a : Answer)
+      → ((v : Represented) → Next v a → Next' v a) → Rules.AfterStored G x l ls Next a
+      → Rules.AfterStored H x l ls Next' a
+  stored_map (fails e) l ls Next Next' a f h = h
+  stored_map (answers (value v)) l ls Next Next' a f h = f v h
+  stored_map (answers (residual r)) l ls Next Next' a f h = h
+
+  steps_map : (o : Option Term) (z : Operators.Step) (l : Text) (ls : List Text)
+      (Next Next' : Represented → Answer → Type 0) (a : Answer) → ((t : Term) → o ≡ Some t → IsStored store t)
+      → ((v : Represented) → Next v a → Next' v a) → Rules.StepsOn G o z l ls Next a
+      → Rules.StepsOn H o z l ls Next' a
+  steps_map None z l ls Next Next' a i f h = step_map z Next Next' a f h
+  steps_map (Some t) z l ls Next Next' a i f (x, g, h) =
+      (x, more t (i t refl) x g, stored_map x l ls Next Next' a f h)
+
+  walks_map : (ks : List Text) (v : Represented) (k : Text) (a : Answer) → Rules.Walks G store v k ks a
+      → Rules.Walks H store v k ks a
+  walks_map [] v k a h = h
+  walks_map (l ∷ ls) v k a h =
+      steps_map (Operators.attribute_residual store v k)
+      (Operators.step_in store (Operators.container_of v) (Operators.container_expected v) k l ls) l ls
+      (λ u. Rules.Walks G store u l ls) (λ u. Rules.Walks H store u l ls) a
+      (λ t e. attribute_is_stored store v k t e) (λ u j. walks_map ls u l a j) h
+
+  pub path_map : (r : Resolution) (x : Answer) (k : Text) (ks : List Text) (a : Answer)
+      → Rules.AtPath G r store x k ks a → Rules.AtPath H r store x k ks a
+  path_map shallow x k ks a h = h
+  path_map deep (fails e) k ks a h = h
+  path_map deep (answers (value v)) k ks a h = walks_map ks v k a h
+  path_map deep (answers (residual r)) k ks a h = h

@@ -20,12 +20,27 @@ extensions_view x = no_extensions
 
 -- the setting, but with these extensions
 abbrev pub with_extensions : Setting → model.Extensions → Setting
-with_extensions s x = record { request = s.request; store = s.store; map = s.map; slots = s.slots; extensions = x }
+with_extensions s x =
+    record {
+      request = s.request;
+      store = s.store;
+      map = s.map;
+      slots = s.slots;
+      extensions = x;
+      resolution = s.resolution;
+    }
 
 -- the setting, but over this store, and without a map of unknowns
 abbrev pub over : Setting → Store → Setting
 over s store =
-    record { request = s.request; store = store; map = λ n. None; slots = s.slots; extensions = s.extensions }
+    record {
+      request = s.request;
+      store = store;
+      map = λ n. None;
+      slots = s.slots;
+      extensions = s.extensions;
+      resolution = s.resolution;
+    }
 
 -- `==`, `<` and `<=`
 abbrev pub is_relation : BinaryOperator → Bool

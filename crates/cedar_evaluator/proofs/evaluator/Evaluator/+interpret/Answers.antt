@@ -150,13 +150,13 @@ pub binary-returns-in-Ok-interpret_within : goal.binary-returns-in-Ok-interpret_
 binary-returns-in-Ok-interpret_within t c =
     let s = setting_of c.args.self.now (slots_view c.args.slots.now) in
     let May = StoppingRuns s c.args.left in
-    step.binary_reads s May _ _ _ _ _ _ c.in-Ok.ensures.answer c.in-Ok-interpret_within.ensures.answer (c.operate.ensures (slots_view c.args.slots.now))
+    step.binary_reads s May refl _ _ _ _ _ _ c.in-Ok.ensures.answer c.in-Ok-interpret_within.ensures.answer (c.operate.ensures (slots_view c.args.slots.now))
 
 pub binary-returns-in-Err-interpret_within : goal.binary-returns-in-Err-interpret_within
 binary-returns-in-Err-interpret_within t c =
     let s = setting_of c.args.self.now (slots_view c.args.slots.now) in
     let May = StoppingRuns s c.args.left in
-    step.binary_right_fails s May _ _ _ _ c.in-Err-interpret_within.error c.in-Ok.ensures.answer c.in-Err-interpret_within.ensures.answer
+    step.binary_right_fails s May refl _ _ _ _ c.in-Err-interpret_within.error c.in-Ok.ensures.answer c.in-Err-interpret_within.ensures.answer
 
 pub binary-returns-in-Err : goal.binary-returns-in-Err
 binary-returns-in-Err t c =
@@ -180,7 +180,7 @@ pub attribute-returns-in-Ok : goal.attribute-returns-in-Ok
 attribute-returns-in-Ok t c =
     let s = setting_of c.args.self.now (slots_view c.args.slots.now) in
     let May = StoppingRuns s c.args.left in
-    step.attribute_reads s May _ _ _ _ c.in-Ok.ensures.answer (c.attribute_of.ensures s)
+    step.attribute_reads s May refl _ _ _ _ c.in-Ok.ensures.answer (c.attribute_of.ensures s)
 
 pub attribute-returns-in-Err : goal.attribute-returns-in-Err
 attribute-returns-in-Err t c =
@@ -204,13 +204,13 @@ pub extended_has-returns-in-Ok : goal.extended_has-returns-in-Ok
 extended_has-returns-in-Ok t c =
     let s = setting_of c.args.self.now (slots_view c.args.slots.now) in
     let May = StoppingRuns s c.args.left in
-    step.path_reads s May _ _ _ _ _ c.in-Ok.ensures.answer c.has_path.ensures
+    step.path_reads s May refl _ _ _ _ _ c.in-Ok.ensures.answer c.has_path.ensures
 
 pub extended_has-returns-in-Err : goal.extended_has-returns-in-Err
 extended_has-returns-in-Err t c =
     let s = setting_of c.args.self.now (slots_view c.args.slots.now) in
     let May = StoppingRuns s c.args.left in
-    step.path_fails s May _ _ _ c.in-Err.error c.in-Err.ensures.answer
+    step.path_fails s May refl _ _ _ c.in-Err.error c.in-Err.ensures.answer
 
 pub like-returns-in-Ok : goal.like-returns-in-Ok
 like-returns-in-Ok t c =
