@@ -9,12 +9,8 @@ use Rattle.cedar_model.specs.Failures.{Failure, out_of_memory, PartialValue, val
 use Rattle.cedar_model.specs.Settings.{Setting}
 use Rattle.cedar_model.specs.Rules.{MayAnswer, Meets, Rule, Runs, TakesBranch, AfterGuard, AndLeft, AfterAndLeft, OrLeft, AfterOrLeft, AfterLeft, AtAttribute, beside_residual, binary_beside, Parts, AfterPart, FieldParts, AfterFieldPart}
 use Rattle.cedar_model.specs.Agreement.{AgreesWithFunctions, HasNothingUnknown, IsKnown, AreKnown, AreKnownAt, own_world}
-<<<<<<< HEAD
 use Rattle.cedar_model.specs.Authorizations.{IsExact, IsExactDecision, evaluated}
-=======
-use Rattle.cedar_model.specs.Authorizations.{IsExact, IsExactDecision, decided}
 use Rattle.cedar_model.specs.Operators.{attribute_answer, attribute_residual}
->>>>>>> h-deep
 use Rattle.cedar_model.proofs.Exactly.{answer_exact, decision_exact}
 use Rattle.cedar_model.proofs.Resolving.{IsStored, none_is_stored, attribute_is_stored, beside_is_stored, resolves_map, path_map}
 use Rattle.cedar_operators.specs.Stopping.{stopped}

@@ -8,13 +8,8 @@ use Rattle.cedar_model.specs.Failures.{function_is_missing, out_of_memory, resid
 use Rattle.cedar_model.specs.Settings.{shallow, Setting, variable_part}
 use Rattle.cedar_model.specs.Operators.{slot_answer, unary_answer, binary_answer, attribute_answer, has_answer, path_answer, like_answer, is_answer, mapped, attribute_residual}
 use Rattle.cedar_model.specs.Rules
-<<<<<<< HEAD
-use Rattle.cedar_model.specs.Rules.{MayAnswer, Meets, bool_expected, joined, bool_or_failure, on_part, binary_beside, binary_of_parts, has_part, is_part, Parts, FieldParts, add_value, values_of_parts, add_value_at, values_of_field_parts, set_answer, set_of_parts, record_answer, record_of_parts, TakesBranch, AndLeft, OrLeft, AfterValues}
-use Rattle.cedar_model.specs.Responses.{decided_bool, decided, result_of}
-=======
 use Rattle.cedar_model.specs.Rules.{MayAnswer, Meets, bool_expected, joined, bool_or_failure, on_part, binary_beside, binary_of_parts, beside_residual, Resolves, AtPath, has_part, is_part, Parts, FieldParts, add_value, values_of_parts, add_value_at, values_of_field_parts, set_answer, set_of_parts, record_answer, record_of_parts, TakesBranch, AndLeft, OrLeft, AfterValues}
-use Rattle.cedar_model.specs.Authorizations.{bool_result, decided}
->>>>>>> h-deep
+use Rattle.cedar_model.specs.Responses.{decided_bool, decided, result_of}
 use Rattle.cedar_data.specs.Sound.{Placed}
 use Rattle.cedar_values.specs.declared.evaluator.err.EvaluationError.{EvaluationError}
 use Rattle.cedar_values.specs.Failures.{failure_of}
