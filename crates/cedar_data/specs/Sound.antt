@@ -11,8 +11,9 @@ use Rattle.cedar_model.specs.Terms.{Terms, no_terms}
 use Rattle.cedar_model.specs.Values.{AbstractValue, Represented, plain_represented, set_represented, record_represented, extension_represented, RepresentedValues, no_represented, one_represented, RepresentedFields, no_represented_at, one_represented_at, abstract_value, expression_of, expressions_of, expressions_at}
 use Rattle.cedar_model.specs.Shapes.{is_restricted, are_restricted, are_restricted_at, has_unknown, have_unknown, have_unknown_at}
 use Rattle.cedar_model.specs.Keys.{value_cmp, value_eq}
-use Rattle.cedar_model.specs.Codes.{represented_code, represented_values_code}
-use Rattle.cedar_model.specs.Sets.{represented_values_of, list_of_represented, insert_represented, insert_each, canonical_set, canonical_set-in_order, IsStrictlyInOrder, IsStrictlyInOrder-prop, IsStrictlyInOrder-canonical_set, IsCanonical, AreCanonical, AreCanonicalAt}
+use Rattle.cedar_model.specs.lemmas.Codes.{represented_code, represented_values_code}
+use Rattle.cedar_model.specs.Sets.{represented_values_of, list_of_represented, insert_represented, insert_each, canonical_set, IsStrictlyInOrder, IsCanonical, AreCanonical, AreCanonicalAt}
+use Rattle.cedar_model.specs.lemmas.Sets.{canonical_set-in_order, IsStrictlyInOrder-prop, IsStrictlyInOrder-canonical_set}
 pub use Rattle.cedar_model.specs.Restricted.{IsSound, AreSound, AreSoundAt}
 use Rattle.std.specs.Rc.{rc_str_bytes}
 use Rattle.std.specs.declared.alloc.Global.{Global}

@@ -3,7 +3,8 @@ use Rattle.std.specs.Prelude.{◌≡◌, ℤ, Bool, true, false, cond, ◌&&◌,
 use Rattle.std.proofs.Common.{refl, sym, ap, ◌∙◌, subst}
 use Rattle.cedar_model.specs.Terms.{Text, EntityName, bool_literal, long_literal, text_literal, entity_literal, UnaryOperator, not_operator, neg_operator, is_empty_operator, BinaryOperator, eq_operator, less_operator, less_eq_operator, add_operator, sub_operator, mul_operator, in_operator, contains_operator, contains_all_operator, contains_any_operator, get_tag_operator, has_tag_operator, PatternPart, Term, literal, variable, slot, unknown, if_then_else, both, either, unary, binary, call, get_attribute, has_attribute, extended_has, like, is_of_type, set_of, record_of, Terms, no_terms, one_term, Fields, no_fields, one_field}
 use Rattle.cedar_model.specs.Values.{AbstractValue, plain, set_value, record_value, extension_value, AbstractValues, no_values, one_value, AbstractFields, no_values_at, one_value_at, Represented, plain_represented, set_represented, record_represented, extension_represented, RepresentedValues, no_represented, one_represented, RepresentedFields, no_represented_at, one_represented_at, abstract_value, abstract_values, abstract_fields, expression_of, expressions_of, expressions_at}
-use Rattle.cedar_model.specs.Sets.{abstract_set, abstract_values-canonical_set}
+use Rattle.cedar_model.specs.Sets.{abstract_set}
+use Rattle.cedar_model.specs.lemmas.Sets.{abstract_values-canonical_set}
 use Rattle.cedar_model.specs.Shapes.{is_projectable, are_projectable, are_projectable_at}
 use Rattle.cedar_model.specs.Outcomes.{bool_of, long_of, entity_of, fields_of_value, text_eq, is_long, value_at}
 use Rattle.cedar_model.specs.Failures.{Failure, failure_kind, PartialValue, value, residual, Answer, answers, fails, answers_bool, answers_value, answers_residual, part_expression}

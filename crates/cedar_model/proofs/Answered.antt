@@ -4,7 +4,7 @@ use Rattle.std.specs.Prelude.{Ok, Err, MatchBool, MatchResult}
 use Rattle.std.proofs.Common.{refl, subst, sym}
 use Rattle.cedar_model.specs.Terms.{Text, record_of, Fields}
 use Rattle.cedar_model.specs.Values.{Represented}
-use Rattle.cedar_model.specs.Failures.{Failure, PartialValue, Answer, answers, fails}
+use Rattle.cedar_model.specs.Failures.{Failure, PartialValue, Answer}
 use Rattle.cedar_model.specs.Settings.{ContextPart, absent_context, known_context, residual_context, RequestPart}
 use Rattle.cedar_model.specs.Settings.{Setting, Store}
 use Rattle.cedar_model.specs.Rules

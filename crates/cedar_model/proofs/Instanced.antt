@@ -1,16 +1,16 @@
 -- The instances of the laws' premises.
-use Rattle.std.specs.Prelude.{◌≡◌, ◌≢◌, ℕ, pos, ◌≤◌, Bool, true, false, cond, List, [], ◌∷◌, map, length, Option}
-use Rattle.std.specs.Prelude.{Some, None, Ok, codes}
-use Rattle.std.proofs.Common.{refl, subst, sym, ap, ◌∙◌, arith}
+use Rattle.std.specs.Prelude.{◌≡◌, ℕ, pos, ◌≤◌, Bool, true, false, cond, List, map, length, Option}
+use Rattle.std.specs.Prelude.{Some, None, codes}
+use Rattle.std.proofs.Common.{refl, subst, sym, ap, arith}
 use Rattle.std.proofs.lemmas.Slice.Eq.{bytes_eq-Decides}
 use Rattle.cedar_model.specs.Terms.{Text, EntityName, entity_literal, context, Term, variable, unknown, get_attribute}
-use Rattle.cedar_model.specs.Terms.{record_of, Fields, bool_literal}
+use Rattle.cedar_model.specs.Terms.{record_of, bool_literal}
 use Rattle.cedar_model.specs.Terms.{long_literal, long_type}
-use Rattle.cedar_model.specs.Values.{AbstractValue, plain, Represented, expression_of, abstract_value}
+use Rattle.cedar_model.specs.Values.{plain, Represented, expression_of, abstract_value}
 use Rattle.cedar_model.specs.Values.{plain_represented}
 use Rattle.cedar_model.specs.Shapes.{have_unknown_at}
 use Rattle.cedar_model.specs.Outcomes.{text_eq, entity_eq, function_failed}
-use Rattle.cedar_model.specs.World.{Extensions, Functions, function_asks, function_errs, function_gives}
+use Rattle.cedar_model.specs.World.{Extensions, function_asks, function_errs, function_gives}
 use Rattle.cedar_model.specs.Failures.{PartialValue, value, residual, Answer, answers, limit, answers_bool}
 use Rattle.cedar_model.specs.Failures.{answers_residual, fails, function_has_failed, part_expression}
 use Rattle.cedar_model.specs.Settings.{ContextPart, absent_context, known_context, residual_context, StoredEntity}
@@ -20,9 +20,9 @@ use Rattle.cedar_model.specs.Rules
 use Rattle.cedar_model.specs.Agreement
 use Rattle.cedar_model.specs.Agreement.{IsCompletion, AgreesAt, height}
 use Rattle.cedar_model.specs.LevelLaws.{FunctionsAnswer}
-use Rattle.cedar_model.specs.Restricted.{IsSound, IsSoundPart, IsGivenSound, first_disallowed, or_else}
-use Rattle.cedar_model.specs.RestrictedLaws.{HoldsUnknown, ResidualsHoldUnknowns}
-use Rattle.cedar_model.specs.Depth.{IsNoHigher, substituted_height}
+use Rattle.cedar_model.specs.Restricted.{IsSound, IsSoundPart, first_disallowed, or_else}
+use Rattle.cedar_model.specs.RestrictedLaws.{HoldsUnknown}
+use Rattle.cedar_model.specs.Depth.{substituted_height}
 use Rattle.cedar_model.specs.Printing.{unquoted, id_here, with_byte, read_entity}
 use Rattle.cedar_model.specs.Instances
 use Rattle.cedar_model.specs.Examples.{some_calls, some_extensions, user}

@@ -3,7 +3,8 @@ use Rattle.std.specs.Prelude.{◌≡◌, ◌≢◌, ℕ, zero, suc, ◌<◌, ◌
 use Rattle.std.proofs.Common.{refl, sym, ap, ◌∙◌, subst, arith}
 use Rattle.cedar_model.specs.Terms.{Text, EntityName, entity_literal, Variable, principal, action, resource, context, Slot, ValueType, BinaryOperator, Term, literal, variable, slot, unknown, if_then_else, both, either, unary, binary, call, get_attribute, has_attribute, extended_has, like, is_of_type, set_of, record_of, Terms, no_terms, one_term, Fields, no_fields, one_field}
 use Rattle.cedar_model.specs.Values.{AbstractValue, plain, set_value, record_value, AbstractFields, no_values_at, Represented, abstract_value, abstract_fields}
-use Rattle.cedar_model.specs.Sets.{abstract_set, abstract_values-canonical_set, represented_fields_of}
+use Rattle.cedar_model.specs.Sets.{abstract_set, represented_fields_of}
+use Rattle.cedar_model.specs.lemmas.Sets.{abstract_values-canonical_set}
 use Rattle.cedar_model.specs.Outcomes.{ErrorKind, type_error, wrong_number_of_arguments, Outcome, gives, errs, gives_bool, and_then, needing, bool_of, entity_of, text_eq}
 use Rattle.cedar_model.specs.World.{World, FunctionAnswer, function_gives, function_errs, function_asks, Functions, variable_value}
 use Rattle.cedar_model.specs.Meaning

@@ -4,8 +4,10 @@ use Rattle.std.proofs.Common.{refl, sym, ap, ◌∙◌, subst}
 use Rattle.std.specs.Cmp.Lexicographic.{bytes_decides}
 use Rattle.cedar_model.specs.Terms.{Text, EntityName, bool_literal, long_literal, text_literal, entity_literal, Variable, principal, action, resource, context, Slot, ValueType, bool_type, long_type, string_type, set_type, record_type, entity_type, extension_type, BinaryOperator, eq_operator, less_operator, less_eq_operator, add_operator, sub_operator, mul_operator, in_operator, contains_operator, contains_all_operator, contains_any_operator, get_tag_operator, has_tag_operator, Term, literal, variable, slot, unknown, if_then_else, both, either, unary, binary, call, get_attribute, has_attribute, extended_has, like, is_of_type, set_of, record_of, Terms, no_terms, one_term, Fields, no_fields, one_field}
 use Rattle.cedar_model.specs.Values.{AbstractValue, plain, set_value, record_value, extension_value, AbstractFields, Represented, plain_represented, abstract_value, abstract_fields}
-use Rattle.cedar_model.specs.Keys.{value_eq, value_eq-true}
-use Rattle.cedar_model.specs.Sets.{abstract_set, abstract_values-canonical_set, represented_fields_of}
+use Rattle.cedar_model.specs.Keys.{value_eq}
+use Rattle.cedar_model.specs.lemmas.Keys.{value_eq-true}
+use Rattle.cedar_model.specs.Sets.{abstract_set, represented_fields_of}
+use Rattle.cedar_model.specs.lemmas.Sets.{abstract_values-canonical_set}
 use Rattle.cedar_model.specs.Shapes.{is_projectable}
 use Rattle.cedar_model.specs.Outcomes.{ErrorKind, record_attribute_does_not_exist, type_error, wrong_number_of_arguments, Outcome, gives, errs, gives_bool, and_then, needing, bool_of, entity_of, value_type, text_eq, value_at}
 use Rattle.cedar_model.specs.World.{World, FunctionAnswer, function_gives, function_errs, function_asks, Functions, variable_value}

@@ -11,7 +11,7 @@ use Rattle.cedar_model.specs.Values.{Represented, abstract_value}
 use Rattle.cedar_model.specs.Shapes.{is_projectable}
 use Rattle.cedar_model.specs.Failures.{Failure, FailureKind, of_meaning, of_residual, of_limit, of_memory}
 use Rattle.cedar_model.specs.Failures.{failure_kind, out_of_memory, recursion_limit, PartialValue, value, residual}
-use Rattle.cedar_model.specs.Failures.{function_is_missing, arguments_are_miscounted, type_is_wrong}
+use Rattle.cedar_model.specs.Failures.{function_is_missing, arguments_are_miscounted}
 use Rattle.cedar_model.specs.Failures.{Answer, answers, answers_bool, fails, limit, part_expression}
 use Rattle.cedar_model.specs.Settings.{Resolution, shallow, deep, Setting}
 use Rattle.cedar_model.specs.Operators

@@ -3,7 +3,8 @@ use Rattle.std.specs.Prelude.{◌≡◌, Bool, true, false, cond, List, [], ◌�
 use Rattle.std.proofs.Common.{refl, ap, ◌∙◌, subst}
 use Rattle.cedar_model.specs.Terms.{Text, Term, literal, variable, slot, unknown, if_then_else, both, either, unary, binary, call, get_attribute, has_attribute, extended_has, like, is_of_type, set_of, record_of, Terms, no_terms, one_term, Fields, no_fields, one_field}
 use Rattle.cedar_model.specs.Values.{set_value, record_value, Represented, plain_represented, set_represented, record_represented, extension_represented, RepresentedValues, no_represented, one_represented, RepresentedFields, no_represented_at, one_represented_at, abstract_value, abstract_values, abstract_fields, expression_of, expressions_of, expressions_at}
-use Rattle.cedar_model.specs.Sets.{abstract_set, list_of_abstract, abstract_set-in_order, canonical_set, insert_each, insert_represented, IsStrictlyInOrder-canonical_set}
+use Rattle.cedar_model.specs.Sets.{abstract_set, list_of_abstract, canonical_set, insert_each, insert_represented}
+use Rattle.cedar_model.specs.lemmas.Sets.{abstract_set-in_order, IsStrictlyInOrder-canonical_set}
 use Rattle.std.specs.declared.cmp.Ordering.{Ordering}
 use Rattle.std.specs.declared.cmp.Ordering.TheVariants.{Less, Equal, Greater}
 use Rattle.std.specs.Ordering.{match_ordering}

@@ -1,5 +1,5 @@
 -- The laws of authorization where nothing is unknown, which the functions of `authorizations` have as their contracts.
-use Rattle.std.specs.Prelude.{◌≡◌, ◌≢◌, ℕ, List, ◌∷◌, ◌++◌, None}
+use Rattle.std.specs.Prelude.{◌≡◌, ℕ, List, ◌∷◌, ◌++◌, None}
 use Rattle.cedar_model.specs.Terms.{Text, Term}
 use Rattle.cedar_model.specs.Values.{AbstractValue}
 use Rattle.cedar_model.specs.World.{World, Extensions, Functions}

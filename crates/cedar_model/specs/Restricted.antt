@@ -1,6 +1,6 @@
 -- What is held in values and in residuals that are given: restricted expressions, and values that are written without
 -- unknowns.
-use Rattle.std.specs.Prelude.{◌≡◌, ◌⊎◌, Bool, true, false, List, Option, Some, None}
+use Rattle.std.specs.Prelude.{◌≡◌, ◌⊎◌, true, false, List, Option, Some, None}
 use Rattle.cedar_model.specs.Terms.{Text, UnaryOperator, BinaryOperator, Term, literal, variable, slot, unknown}
 use Rattle.cedar_model.specs.Terms.{if_then_else, both, either, unary, binary, call, get_attribute, has_attribute}
 use Rattle.cedar_model.specs.Terms.{extended_has, like, is_of_type, set_of, record_of, Terms, no_terms, one_term}
@@ -8,7 +8,7 @@ use Rattle.cedar_model.specs.Terms.{Fields, no_fields, one_field}
 use Rattle.cedar_model.specs.Values.{Represented, plain_represented, set_represented, record_represented}
 use Rattle.cedar_model.specs.Values.{extension_represented, RepresentedValues, no_represented, one_represented}
 use Rattle.cedar_model.specs.Values.{RepresentedFields, no_represented_at, one_represented_at}
-use Rattle.cedar_model.specs.Shapes.{is_restricted, are_restricted, are_restricted_at, has_unknown, have_unknown}
+use Rattle.cedar_model.specs.Shapes.{is_restricted, are_restricted, are_restricted_at, have_unknown}
 use Rattle.cedar_model.specs.Sets.{IsStrictlyInOrder}
 use Rattle.cedar_model.specs.Failures.{PartialValue, value, residual, answers}
 use Rattle.cedar_model.specs.Settings.{ContextPart, absent_context, known_context, residual_context, Setting}

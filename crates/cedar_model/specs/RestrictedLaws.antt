@@ -1,6 +1,6 @@
 -- The laws of restricted expressions and of unknowns in residuals, which the functions of `restricted` have as their
 -- contracts.
-use Rattle.std.specs.Prelude.{◌≡◌, ◌↔◌, ℕ, true, List, Option, Some, None}
+use Rattle.std.specs.Prelude.{◌≡◌, ◌↔◌, ℕ, true, List, Some, None}
 use Rattle.cedar_model.specs.Terms.{Text, Term, Fields}
 use Rattle.cedar_model.specs.Values.{Represented}
 use Rattle.cedar_model.specs.Shapes.{is_restricted, has_unknown, have_unknown_at}

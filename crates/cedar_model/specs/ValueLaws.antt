@@ -7,7 +7,7 @@ use Rattle.std.specs.Cmp.Lexicographic.{slice_cmp}
 use Rattle.cedar_model.specs.Terms.{Text, EntityName, bool_literal, long_literal, text_literal, entity_literal, Term}
 use Rattle.cedar_model.specs.Values.{AbstractValue, plain, extension_value, Represented, RepresentedValues, one_represented, set_represented, record_represented, RepresentedFields, one_represented_at, AbstractValues, abstract_value, abstract_values}
 use Rattle.cedar_model.specs.Keys.{value_key, value_of_key, value_cmp, value_eq}
-use Rattle.cedar_model.specs.Codes.{term_key, term_of_key, represented_key, represented_of_key}
+use Rattle.cedar_model.specs.lemmas.Codes.{term_key, term_of_key, represented_key, represented_of_key}
 use Rattle.cedar_model.specs.Sets.{represented_values_of, list_of_represented, canonical_set, IsStrictlyInOrder, find_equal, has_value, AreInOrder, abstract_set, represented_size, represented_values_size, represented_fields_size}
 
 -- the order of values is total

@@ -10,7 +10,7 @@ use Rattle.cedar_model.specs.Settings.{Resolution, shallow, deep, Setting, varia
 use Rattle.cedar_model.specs.Operators.{slot_answer, unknown_answer, unary_answer, like_answer, attribute_answer, path_answer, term_at, field_names, key_is_missing}
 use Rattle.cedar_model.specs.Operators.{attribute_residual}
 use Rattle.cedar_model.specs.Rules
-use Rattle.cedar_model.specs.Layers.{runs_by_layer}
+use Rattle.cedar_model.specs.lemmas.Layers.{runs_by_layer}
 
 -- where no stored residual is read, what is stored is answered
 unread : (May : Rules.MayAnswer) (r : Resolution) (a : Answer) → Rules.Resolves May r None a a

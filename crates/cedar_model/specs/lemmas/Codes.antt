@@ -6,7 +6,8 @@ use base.Stored.{Gv, gnil, gnum, gcons}
 use denote.Struct.Codes.{itself}
 use Rattle.cedar_model.specs.Terms.{Text, EntityName, Literal, Variable, principal, action, resource, context, Slot, principal_slot, resource_slot, ValueType, bool_type, long_type, string_type, set_type, record_type, entity_type, extension_type, UnaryOperator, not_operator, neg_operator, is_empty_operator, BinaryOperator, eq_operator, less_operator, less_eq_operator, add_operator, sub_operator, mul_operator, in_operator, contains_operator, contains_all_operator, contains_any_operator, get_tag_operator, has_tag_operator, PatternPart, character, wildcard, Term, literal, variable, slot, unknown, if_then_else, both, either, unary, binary, call, get_attribute, has_attribute, extended_has, like, is_of_type, set_of, record_of, Terms, no_terms, one_term, Fields, no_fields, one_field}
 use Rattle.cedar_model.specs.Values.{AbstractValue, AbstractValues, AbstractFields, Represented, plain_represented, set_represented, record_represented, extension_represented, RepresentedValues, no_represented, one_represented, RepresentedFields, no_represented_at, one_represented_at}
-use Rattle.cedar_model.specs.Keys.{Key, end_key, number_key, pair_key, text_key, entity_key, literal_key, value_key, values_key, value_fields_key, number_of_key, text_of_key, first_of_key, second_of_key, entity_of_key, literal_of_key, value_of_key, values_of_key, value_fields_of_key, text_of_key-text_key, entity_of_key-entity_key, literal_of_key-literal_key, value_of_key-value_key, values_of_key-values_key, value_fields_of_key-value_fields_key}
+use Rattle.cedar_model.specs.Keys.{Key, end_key, number_key, pair_key, text_key, entity_key, literal_key, value_key, values_key, value_fields_key, number_of_key, text_of_key, first_of_key, second_of_key, entity_of_key, literal_of_key, value_of_key, values_of_key, value_fields_of_key}
+use Rattle.cedar_model.specs.lemmas.Keys.{text_of_key-text_key, entity_of_key-entity_key, literal_of_key-literal_key, value_of_key-value_key, values_of_key-values_key, value_fields_of_key-value_fields_key}
 
 -- ---- keys
 
