@@ -148,10 +148,12 @@ module _ (s : Setting) (calls : Rules.StoredCalls) where
 module _ (mode : ErrorHandling) (ans : Functions) (calls : Rules.StoredCalls) (agree : AgreesWithFunctions ans calls)
     (w : World) (s : Setting) (done : IsCompletion ans w s) (faithful : AnswerFaithfully s.extensions ans calls)
     (limit_of : ℕ) where
-  not_limit : (b : Bool) (a : Answer) → IsBoolOrLimit b a → Recorded.IsRecordable (Responses.error_of (Responses.decided a))
+  not_limit : (b : Bool) (a : Answer) → IsBoolOrLimit b a
+      → Recorded.IsRecordable (Responses.error_of (Responses.decided a))
       → a ≡ answers_bool b
   unfolding Responses.error_of Responses.decided failure_kind
-  not_limit b a (inl e) h = absurd ((subst (λ z. Recorded.IsRecordable (Responses.error_of (Responses.decided z))) e h).0 refl)
+  not_limit b a (inl e) h =
+      absurd ((subst (λ z. Recorded.IsRecordable (Responses.error_of (Responses.decided z))) e h).0 refl)
   not_limit b a (inr e) h = e
 
   decided_bool_is : (b : Bool) → Responses.decided (answers_bool b) ≡ Responses.decides b
@@ -204,11 +206,13 @@ module _ (mode : ErrorHandling) (ans : Functions) (calls : Rules.StoredCalls) (a
       (sym (ap (Responses.counted_report mode r.effect) (ap (λ z. Responses.reported_of (Responses.decided z)) j
       ∙ ap Responses.reported_of (decided_bool_is b)) ∙ q)) k
 
-  true_again : (r : Responses.Row) → Responses.counted_report mode r.effect (Responses.reported_of (Responses.decides true))
+  true_again : (r : Responses.Row)
+      → Responses.counted_report mode r.effect (Responses.reported_of (Responses.decides true))
       ≡ Responses.reported_true
   true_again r = ap (Responses.counted_report mode r.effect) true_is ∙ counted_true mode r.effect
 
-  false_again : (r : Responses.Row) → Responses.counted_report mode r.effect (Responses.reported_of (Responses.decides false))
+  false_again : (r : Responses.Row)
+      → Responses.counted_report mode r.effect (Responses.reported_of (Responses.decides false))
       ≡ Responses.reported_false false
   false_again r = ap (Responses.counted_report mode r.effect) false_is ∙ counted_false mode r.effect
 

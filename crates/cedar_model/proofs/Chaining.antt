@@ -91,7 +91,8 @@ pub headline : (mode : ErrorHandling) (calls : StoredCalls) (ans : Functions) (w
 headline mode calls ans w s levels ps steps last c =
     let agree = c.functions_are_functional in
     let faithful = c.functions_are_faithful in
-    let q : CompletesRequest mode calls ans w s levels agree faithful ps c.conditions_are_conjunctions s.request = record
+    let q : CompletesRequest mode calls ans w s levels agree faithful ps c.conditions_are_conjunctions s.request =
+    record
     { agrees = c.request_agrees; context_is_faithful = c.context_is_faithful; context_fits = c.context_fits } in
     let z = with_step mode calls ans w s levels agree faithful ps c.conditions_are_conjunctions s.request
     (λ n. None) s.store q (no_map_completes mode calls ans w s levels agree faithful ps c.conditions_are_conjunctions)
@@ -101,7 +102,8 @@ headline mode calls ans w s levels ps steps last c =
     (run_stands mode ans calls agree w (Chains.without_map s) z faithful levels ps c.first.rows c.first.errors
     c.conditions_fit (run_recordable mode (Chains.without_map s) calls levels ps c.first.rows c.first.errors none
     c.first_is_answered.runs) c.first_is_answered.runs) in
-    let stand = chain_stands mode calls ans w s levels agree faithful ps c.conditions_are_conjunctions c.first last steps
+    let stand =
+    chain_stands mode calls ans w s levels agree faithful ps c.conditions_are_conjunctions c.first last steps
     (subst (CompletesRequest mode calls ans w s levels agree faithful ps c.conditions_are_conjunctions)
     (sym c.first_is_answered.request_is) q) c.steps_agree first_stands c.steps_are_answered c.no_limit_is_recorded in
     record { stands = stand; holds = Bounds.reports_hold mode s.extensions ans w ps last.rows stand }

@@ -333,7 +333,9 @@ module _ (mode : ErrorHandling) (ans : Functions) (calls : Rules.StoredCalls)
       let t = record_of (Chains.substituted_at m fs) in
       let f = substituted_at_fit s.extensions ans w m done.agreement.map_agrees done.values.map_faithful fs h.2 in
       let z = Chains.without_map (Chains.at_step s old.request store m) in
-      let e = substituted_at_mean s.extensions ans w m done.agreement.map_agrees done.values.map_faithful Agreement.no_slots fs ∙ h.0 in
+      let e =
+      substituted_at_mean s.extensions ans w m done.agreement.map_agrees done.values.map_faithful Agreement.no_slots
+      fs ∙ h.0 in
       answered_good s.extensions ans w m done.agreement.map_agrees done.values.map_faithful
       (Meaning.meaning s.extensions ans w Agreement.no_slots t)
       (ap (λ x. Meaning.and_then_all x (λ gs. gives (record_value gs))) e) a c' i
@@ -353,11 +355,15 @@ module _ (mode : ErrorHandling) (ans : Functions) (calls : Rules.StoredCalls)
       subst (λ r. Agreement.IsCompletion ans w (Chains.at_step s r store m)) (sym t.request_is) record {
         agreement = record {
           request_agrees = record {
-            principal_agrees = entry_agrees s.extensions ans w m done.agreement.map_agrees done.values.map_faithful _ _ _ _
+            principal_agrees =
+                entry_agrees s.extensions ans w m done.agreement.map_agrees done.values.map_faithful _ _ _ _
                 q.principal_agrees p.principal_is;
-            action_agrees = entry_agrees s.extensions ans w m done.agreement.map_agrees done.values.map_faithful _ _ _ _ q.action_agrees
+            action_agrees =
+                entry_agrees s.extensions ans w m done.agreement.map_agrees done.values.map_faithful _ _ _ _
+                q.action_agrees
                 p.action_is;
-            resource_agrees = entry_agrees s.extensions ans w m done.agreement.map_agrees done.values.map_faithful _ _ _ _
+            resource_agrees =
+                entry_agrees s.extensions ans w m done.agreement.map_agrees done.values.map_faithful _ _ _ _
                 q.resource_agrees p.resource_is;
             context_agrees = c.0;
           };

@@ -225,7 +225,8 @@ verdict_same (answers (value v)) = by (bool_of (abstract_value v))
 verdict_same (answers (residual t)) = refl
 verdict_same (fails e) = refl
 
-errors_same : (id : Text) (later : List (Text × Failure)) (a : Answer) → is_residual (Responses.reported_of (Responses.decided a)) ≡ false
+errors_same : (id : Text) (later : List (Text × Failure)) (a : Answer)
+    → is_residual (Responses.reported_of (Responses.decided a)) ≡ false
     → Responses.with_error id (Responses.error_of (Responses.decided a)) later
     ≡ Responses.with_error id (Authorizations.error_in (Authorizations.evaluated a)) later
 unfolding is_residual Responses.reported_of Responses.with_error Responses.error_of Responses.decided

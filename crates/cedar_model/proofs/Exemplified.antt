@@ -51,7 +51,8 @@ rows_to mode s n (p ∷ ps) = Responses.row_of mode p (policy_answer s n p) ∷ 
 
 abbrev pub errors_to : Setting → ℕ → List Policy → List (Text × Failure)
 errors_to s n [] = []
-errors_to s n (p ∷ ps) = Responses.with_error p.id (Responses.error_of (Responses.decided (policy_answer s n p))) (errors_to s n ps)
+errors_to s n (p ∷ ps) =
+    Responses.with_error p.id (Responses.error_of (Responses.decided (policy_answer s n p))) (errors_to s n ps)
 
 unfoldable pub is_memory : FailureKind → Bool
 is_memory (of_meaning k) = false

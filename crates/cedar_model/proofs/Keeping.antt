@@ -34,7 +34,8 @@ limit_is_recorded : Recorded.IsRecordable (Responses.error_of (Responses.decided
 unfolding Responses.error_of Responses.decided failure_kind
 limit_is_recorded h = h.0 refl
 
-bool_of_answer : (b : Bool) (a : Answer) → Carried.IsBoolOrLimit b a → Recorded.IsRecordable (Responses.error_of (Responses.decided a))
+bool_of_answer : (b : Bool) (a : Answer) → Carried.IsBoolOrLimit b a
+    → Recorded.IsRecordable (Responses.error_of (Responses.decided a))
     → a ≡ answers_bool b
 bool_of_answer b a (inl e) h = absurd (limit_is_recorded
     (subst (λ z. Recorded.IsRecordable (Responses.error_of (Responses.decided z))) e h))
@@ -73,14 +74,16 @@ module _ (calls : Rules.StoredCalls) (s : Setting) (levels : ℕ) where
       → KeepsReport o (Responses.counted_report mode e (Responses.reported_of (Responses.decided a)))
   unfolding Responses.clause_of is_true is_false
   keeps_report mode e reported_true a g h = (
-    λ k. ap (λ z. is_true (Responses.counted_report mode e (Responses.reported_of (Responses.decided z)))) (always true a g h)
+    λ k. ap (λ z. is_true (Responses.counted_report mode e (Responses.reported_of (Responses.decided z))))
+        (always true a g h)
         ∙ true_is_true mode e,
     λ k. absurd (false_isn't k),
   )
   keeps_report mode e (reported_false x) a g h = (
     λ k. absurd (false_isn't k),
     λ k. ap (λ z. is_false
-        (Responses.counted_report mode e (Responses.reported_of (Responses.decided z)))) (always false a g h) ∙ false_is_false mode e,
+        (Responses.counted_report mode e (Responses.reported_of (Responses.decided z)))) (always false a g h)
+        ∙ false_is_false mode e,
   )
   keeps_report mode e (reported_residual t) a g h = (λ k. absurd (false_isn't k), λ k. absurd (false_isn't k))
 

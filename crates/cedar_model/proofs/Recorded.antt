@@ -7,7 +7,8 @@ use Rattle.cedar_model.specs.Outcomes.{bool_of}
 use Rattle.cedar_model.specs.Failures.{Failure, entity_is_missing, entity_attribute_is_missing}
 use Rattle.cedar_model.specs.Failures.{record_attribute_is_missing, function_is_missing, type_is_wrong}
 use Rattle.cedar_model.specs.Failures.{arguments_are_miscounted, binary_overflow, unary_overflow, slot_is_unlinked}
-use Rattle.cedar_model.specs.Failures.{function_has_failed, residual_is_left, recursion_limit, out_of_memory, memory_is_wrapped}
+use Rattle.cedar_model.specs.Failures.{function_has_failed, residual_is_left, recursion_limit, out_of_memory}
+use Rattle.cedar_model.specs.Failures.{memory_is_wrapped}
 use Rattle.cedar_model.specs.Failures.{of_limit, of_memory, failure_kind, value, residual, Answer, answers, fails}
 use Rattle.cedar_model.specs.Settings.{Setting}
 use Rattle.cedar_model.specs.Rules.{StoredCalls}
@@ -43,7 +44,8 @@ kind_of_memory memory_is_wrapped h = absurd (cc)
 
 -- the error of an answer that is no want of memory, where it is not the limit
 pub unless_memory : (a : Answer) (id : Text) (later : List (Text × Failure)) → a ≢ fails out_of_memory
-    → HaveNoLimit (Responses.with_error id (Responses.error_of (Responses.decided a)) later) → IsRecordable (Responses.error_of (Responses.decided a))
+    → HaveNoLimit (Responses.with_error id (Responses.error_of (Responses.decided a)) later)
+    → IsRecordable (Responses.error_of (Responses.decided a))
     × HaveNoLimit later
 unfolding Responses.with_error Responses.error_of Responses.decided Responses.decided_bool failure_kind
 unless_memory (answers (value v)) id later m h = by (bool_of (abstract_value v)) h

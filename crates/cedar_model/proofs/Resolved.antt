@@ -92,7 +92,8 @@ missing_stays = (
   allowed deep true Resolutions.all_named 4 _ _ refl (λ e. cc),
 )
 
-needs_three : (t : Term) (a : Answer) → answer_at deep false Resolutions.all_named 3 t ≡ a → answer_at deep false Resolutions.all_named 2 t ≡ limit
+needs_three : (t : Term) (a : Answer) → answer_at deep false Resolutions.all_named 3 t ≡ a
+    → answer_at deep false Resolutions.all_named 2 t ≡ limit
     → Rules.Runs (Resolutions.resolving deep false Resolutions.all_named) some_calls 3 t a
     × Rules.Exceeds (Resolutions.resolving deep false Resolutions.all_named) some_calls t 2
 needs_three t a e f = (runs deep false Resolutions.all_named 3 t a e, runs deep false Resolutions.all_named 2 t limit f)

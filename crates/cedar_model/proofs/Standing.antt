@@ -138,7 +138,8 @@ module _ (mode : ErrorHandling) (ans : Functions) (w : World) (s : Setting) (p :
   failure_stands of_limit nl nm h = absurd (nl refl)
   failure_stands of_memory nl nm h = absurd (nm refl)
 
-  pub answer_stands : (a : Answer) → Recorded.IsRecordable (Responses.error_of (Responses.decided a)) → StandsFor s.extensions ans w a M
+  pub answer_stands : (a : Answer) → Recorded.IsRecordable (Responses.error_of (Responses.decided a))
+      → StandsFor s.extensions ans w a M
       → Counts (Responses.reported_of (Responses.decided a))
   unfolding Responses.reported_of Responses.error_of Responses.decided
   answer_stands (answers (value v)) r h = value_stands v (bool_of (abstract_value v)) refl h.1

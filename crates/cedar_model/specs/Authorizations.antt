@@ -1,5 +1,8 @@
--- What a set of policies comes out as, judged by what an evaluator answers to their conditions; and when an answer, a decided condition or a response is exact where nothing is unknown. In Cedar's documentation: the page on authorization.
-use Rattle.std.specs.Prelude.{◌≡◌, ◌≢◌, ◌↔◌, ℕ, ◌≤◌, Bool, true, false, List, [], ◌∷◌, map, Option, Some, None, Result, Ok, Err}
+-- What a set of policies comes out as, judged by what an evaluator answers to their conditions; and when an answer, a
+-- decided condition or a response is exact where nothing is unknown. In Cedar's documentation: the page on
+-- authorization.
+use Rattle.std.specs.Prelude.{◌≡◌, ◌≢◌, ◌↔◌, ℕ, ◌≤◌, Bool, true, false, List, [], ◌∷◌, map, Option, Some, None, Result}
+use Rattle.std.specs.Prelude.{Ok, Err}
 use Rattle.cedar_model.specs.Terms.{Text, Term}
 use Rattle.cedar_model.specs.Outcomes.{ErrorKind, type_error, Outcome, gives, errs, bool_of, has_text}
 use Rattle.cedar_model.specs.World.{World, Extensions, Functions}
@@ -8,7 +11,8 @@ use Rattle.cedar_model.specs.Failures.{Failure, recursion_limit, FailureKind, of
 use Rattle.cedar_model.specs.Settings.{Setting}
 use Rattle.cedar_model.specs.Rules.{StoredCalls, Exceeds}
 use Rattle.cedar_model.specs.Agreement.{Answers, height, IsKnown, AgreesAndFits}
-use Rattle.cedar_model.specs.Policies.{Policy, Verdict, satisfied, unsatisfied, erring, Judged, Decision, decision, reasons, judge_each}
+use Rattle.cedar_model.specs.Policies.{Policy, Verdict, satisfied, unsatisfied, erring, Judged, Decision, decision}
+use Rattle.cedar_model.specs.Policies.{reasons, judge_each}
 use Rattle.cedar_model.specs.Responses.{FitPolicies, decided, result_of, with_error}
 
 -- ---- what conditions come out as
@@ -46,7 +50,8 @@ error_in (Err e) = Some e
 abbrev pub judged_by : Policy → Result Bool Failure → Judged
 judged_by p r = record { id = p.id; effect = p.effect; verdict_of = result_verdict r }
 
--- each policy in order is judged by an answer that its condition may have, and its error, if it erred, is recorded in that order
+-- each policy in order is judged by an answer that its condition may have, and its error, if it erred, is recorded in
+-- that order
 abbrev pub JudgesEach : (Policy → Answer → Type 0) → List Policy → List Judged → List (Text × Failure) → Type 0
 JudgesEach May [] js errors = (js ≡ []) × (errors ≡ [])
 JudgesEach May (p ∷ ps) js errors =
@@ -62,12 +67,15 @@ pub record Authorized : Type 0 where
 -- the response to policies whose conditions may answer so
 abbrev pub IsResponse : (Policy → Answer → Type 0) → List Policy → Authorized → Type 0
 IsResponse May ps r =
-    (js : List Judged) × JudgesEach May ps js r.errors × (r.decided_as ≡ decision js) × ((t : Text) → r.is_reason t ≡ has_text t (reasons js))
+    (js : List Judged) × JudgesEach May ps js r.errors × (r.decided_as ≡ decision js)
+    × ((t : Text) → r.is_reason t ≡ has_text t (reasons js))
 
 -- ---- exactness, where nothing is unknown
 
--- the recursion limit is met exactly where the need is above it, which it never is where the expression is no higher; else the answer is the meaning's value or an error of its kind
-pub record IsExact (calls : StoredCalls) (ans : Functions) (w : World) (s : Setting) (levels : ℕ) (t : Term) (a : Answer) : Type 0 where
+-- the recursion limit is met exactly where the need is above it, which it never is where the expression is no higher;
+-- else the answer is the meaning's value or an error of its kind
+pub record IsExact (calls : StoredCalls) (ans : Functions) (w : World) (s : Setting) (levels : ℕ) (t : Term)
+    (a : Answer) : Type 0 where
   pub limit_by_need : (a ≡ limit) ↔ Exceeds s calls t levels
   pub limit_by_height : height t ≤ levels → a ≢ limit
   pub meant : a ≢ limit → Answers a (meaning s.extensions ans w s.slots t)
@@ -80,7 +88,8 @@ Decides (Err e) (Ok c) = ⊥
 Decides (Err e) (Err k) = failure_kind e ≡ of_meaning k
 
 -- the same of a condition
-pub record IsExactDecision (calls : StoredCalls) (ans : Functions) (w : World) (s : Setting) (levels : ℕ) (t : Term) (r : Result Bool Failure) : Type 0 where
+pub record IsExactDecision (calls : StoredCalls) (ans : Functions) (w : World) (s : Setting) (levels : ℕ) (t : Term)
+    (r : Result Bool Failure) : Type 0 where
   pub limit_by_need : (r ≡ Err recursion_limit) ↔ Exceeds s calls t levels
   pub limit_by_height : height t ≤ levels → r ≢ Err recursion_limit
   pub meant : r ≢ Err recursion_limit → Decides r (condition_meaning (meaning s.extensions ans w s.slots t))
@@ -98,8 +107,10 @@ failure_kinds es = map {B = Text × FailureKind} (λ e. (e.0, failure_kind e.1))
 abbrev pub HaveKinds : List (Text × Failure) → List (Text × ErrorKind) → Type 0
 HaveKinds es ks = failure_kinds es ≡ map {B = Text × FailureKind} (λ k. (k.0, of_meaning k.1)) ks
 
--- the decision and the reasons of the policies in the world, and exactly the erring policies, in order, each with an error of its kind
-pub record IsExactResponse (X : Extensions) (ans : Functions) (w : World) (ps : List Policy) (r : Authorized) : Type 0 where
+-- the decision and the reasons of the policies in the world, and exactly the erring policies, in order, each with an
+-- error of its kind
+pub record IsExactResponse (X : Extensions) (ans : Functions) (w : World) (ps : List Policy)
+    (r : Authorized) : Type 0 where
   pub decision_is : r.decided_as ≡ decision (judge_each X ans w ps)
   pub reasons_are : (t : Text) → r.is_reason t ≡ has_text t (reasons (judge_each X ans w ps))
   pub errors_are : HaveKinds r.errors (policy_errors X ans w ps)

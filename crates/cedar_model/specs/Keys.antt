@@ -4,7 +4,8 @@ use Rattle.std.specs.declared.cmp.Ordering.{Ordering}
 use Rattle.std.specs.declared.cmp.Ordering.TheVariants.{Less, Equal, Greater}
 use Rattle.std.specs.Ordering.{ordering_then, int_cmp, is_eq}
 use Rattle.cedar_model.specs.Terms.{Text, EntityName, Literal, bool_literal, long_literal, text_literal, entity_literal}
-use Rattle.cedar_model.specs.Values.{AbstractValue, plain, set_value, record_value, extension_value, AbstractValues, no_values, one_value, AbstractFields, no_values_at, one_value_at}
+use Rattle.cedar_model.specs.Values.{AbstractValue, plain, set_value, record_value, extension_value, AbstractValues}
+use Rattle.cedar_model.specs.Values.{no_values, one_value, AbstractFields, no_values_at, one_value_at}
 
 pub data Key : Type 0 where
   end_key : Key
@@ -97,14 +98,18 @@ entity_of_key k = record { type_name = text_of_key (first_of_key k); id = text_o
 
 abbrev pub literal_of_parts : ℕ → Key → Literal
 literal_of_parts n k =
-    cond (n == 0) (bool_literal (bool_of_key k)) (cond (n == 1) (long_literal (long_of_key k)) (cond (n == 2) (text_literal (text_of_key k)) (entity_literal (entity_of_key k))))
+    cond (n == 0) (bool_literal (bool_of_key k))
+    (cond (n == 1) (long_literal (long_of_key k))
+    (cond (n == 2) (text_literal (text_of_key k)) (entity_literal (entity_of_key k))))
 
 abbrev pub literal_of_key : Key → Literal
 literal_of_key k = literal_of_parts (number_of_key (first_of_key k)) (second_of_key k)
 
 abbrev pub value_of_parts : ℕ → Key → AbstractValues → AbstractFields → AbstractValue
 value_of_parts n k vs fs =
-    cond (n == 4) (set_value vs) (cond (n == 5) (record_value fs) (cond (n == 6) (extension_value (text_of_key (first_of_key k)) (text_of_key (second_of_key k))) (plain (literal_of_parts n k))))
+    cond (n == 4) (set_value vs) (cond (n == 5) (record_value fs)
+    (cond (n == 6) (extension_value (text_of_key (first_of_key k)) (text_of_key (second_of_key k)))
+    (plain (literal_of_parts n k))))
 
 abbrev mutual
   pub value_of_key : Key → AbstractValue
@@ -122,7 +127,8 @@ abbrev mutual
   value_fields_of_key (number_key n) = no_values_at
   value_fields_of_key (pair_key a end_key) = no_values_at
   value_fields_of_key (pair_key a (number_key n)) = no_values_at
-  value_fields_of_key (pair_key a (pair_key b c)) = one_value_at (text_of_key a) (value_of_key b) (value_fields_of_key c)
+  value_fields_of_key (pair_key a (pair_key b c)) =
+      one_value_at (text_of_key a) (value_of_key b) (value_fields_of_key c)
 
 -- ---- the order of values
 

@@ -14,14 +14,16 @@ use Rattle.cedar_model.specs.Authorizations.{HaveNoLimit}
 -- in every completion that fits the conditions a run stands, if none of its errors is the recursion limit
 abbrev pub RunsStand : StoredCalls → Type 0
 RunsStand calls =
-    (mode : ErrorHandling) (ans : Functions) (w : World) (s : Setting) → CompletesWith calls ans w s → (levels : ℕ) (ps : List Policy) (rows : List Row) (errors : List (Text × Failure)) → FitPolicies ans w ps
+    (mode : ErrorHandling) (ans : Functions) (w : World) (s : Setting) → CompletesWith calls ans w s
+    → (levels : ℕ) (ps : List Policy) (rows : List Row) (errors : List (Text × Failure)) → FitPolicies ans w ps
     → HaveNoLimit errors → RunOf mode s calls levels ps rows errors → Stand mode s.extensions ans w ps rows
 
 -- a step keeps completions: a world that completes the request before it, with the map and the store, completes the
 -- request after it
 abbrev pub StepsKeepCompletions : StoredCalls → Type 0
 StepsKeepCompletions calls =
-    (mode : ErrorHandling) (ans : Functions) (w : World) (s : Setting) (levels : ℕ) (m : Mapping) (store : Store) (old new : Response)
+    (mode : ErrorHandling) (ans : Functions) (w : World) (s : Setting) (levels : ℕ) (m : Mapping) (store : Store)
+    (old new : Response)
     → CompletesWith calls ans w (at_step s old.request store m)
     → StepsTo mode s calls levels m store old new → IsCompletion ans w (at_step s new.request store m)
 
@@ -29,7 +31,8 @@ StepsKeepCompletions calls =
 -- its errors is the recursion limit
 abbrev pub StepsKeepWhatStands : StoredCalls → Type 0
 StepsKeepWhatStands calls =
-    (mode : ErrorHandling) (ans : Functions) (w : World) (s : Setting) (levels : ℕ) (m : Mapping) (store : Store) (old new : Response)
+    (mode : ErrorHandling) (ans : Functions) (w : World) (s : Setting) (levels : ℕ) (m : Mapping) (store : Store)
+    (old new : Response)
     → CompletesWith calls ans w (at_step s old.request store m)
     → (ps : List Policy) → AreConditions ps → Stand mode s.extensions ans w ps old.rows → HaveNoLimit new.errors
     → StepsTo mode s calls levels m store old new → Stand mode s.extensions ans w ps new.rows

@@ -132,7 +132,8 @@ abbrev mutual
   IsPartBelow p (variable v) = ⊥
   IsPartBelow p (slot i) = ⊥
   IsPartBelow p (unknown n t) = ⊥
-  IsPartBelow p (if_then_else c a b) = ((p ≡ c) ⊎ IsPartBelow p c) ⊎ (((p ≡ a) ⊎ IsPartBelow p a) ⊎ ((p ≡ b) ⊎ IsPartBelow p b))
+  IsPartBelow p (if_then_else c a b) =
+      ((p ≡ c) ⊎ IsPartBelow p c) ⊎ (((p ≡ a) ⊎ IsPartBelow p a) ⊎ ((p ≡ b) ⊎ IsPartBelow p b))
   IsPartBelow p (both a b) = ((p ≡ a) ⊎ IsPartBelow p a) ⊎ ((p ≡ b) ⊎ IsPartBelow p b)
   IsPartBelow p (either a b) = ((p ≡ a) ⊎ IsPartBelow p a) ⊎ ((p ≡ b) ⊎ IsPartBelow p b)
   IsPartBelow p (unary op a) = (p ≡ a) ⊎ IsPartBelow p a

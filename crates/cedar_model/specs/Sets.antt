@@ -1,9 +1,13 @@
--- Sets in canonical order: strictly in the order of values, so each element once. Of equal elements the first stays, with its representation.
+-- Sets in canonical order: strictly in the order of values, so each element once. Of equal elements the first stays,
+-- with its representation.
 use Rattle.std.specs.Prelude.{◌≡◌, ℕ, ◌+◌, Bool, false, cond, ◌||◌, List, [], ◌∷◌, Option, Some, None}
 use Rattle.std.specs.declared.cmp.Ordering.TheVariants.{Less}
 use Rattle.std.specs.Ordering.{match_ordering}
 use Rattle.cedar_model.specs.Terms.{Text}
-use Rattle.cedar_model.specs.Values.{AbstractValue, AbstractValues, no_values, one_value, Represented, plain_represented, set_represented, record_represented, extension_represented, RepresentedValues, no_represented, one_represented, RepresentedFields, no_represented_at, one_represented_at, abstract_value, abstract_values}
+use Rattle.cedar_model.specs.Values.{AbstractValue, AbstractValues, no_values, one_value, Represented}
+use Rattle.cedar_model.specs.Values.{plain_represented, set_represented, record_represented, extension_represented}
+use Rattle.cedar_model.specs.Values.{RepresentedValues, no_represented, one_represented, RepresentedFields}
+use Rattle.cedar_model.specs.Values.{no_represented_at, one_represented_at, abstract_value, abstract_values}
 use Rattle.cedar_model.specs.Keys.{value_cmp, value_eq}
 
 -- ---- lists of values
@@ -62,7 +66,8 @@ AreInOrder (one_value b bs) = IsBelowFirst b bs × AreInOrder bs
 abbrev pub insert_represented : Represented → RepresentedValues → RepresentedValues
 insert_represented v no_represented = one_represented v no_represented
 insert_represented v (one_represented w ws) =
-    match_ordering (value_cmp (abstract_value v) (abstract_value w)) (one_represented v (one_represented w ws)) (one_represented w ws) (one_represented w (insert_represented v ws))
+    match_ordering (value_cmp (abstract_value v) (abstract_value w)) (one_represented v (one_represented w ws))
+    (one_represented w ws) (one_represented w (insert_represented v ws))
 
 abbrev pub insert_each : List Represented → RepresentedValues → RepresentedValues
 insert_each [] ws = ws

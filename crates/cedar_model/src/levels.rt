@@ -19,7 +19,8 @@ pub fn levels_keep_answers<F: AnyFunctions>(functions: &F)
     ensures layers { LayersAreLevels (F.calls functions.now) }
 {}
 
-/// At one level never both the limit and an answer, and all answers are alike: from stored functions that answer alike to equal arguments.
+/// At one level never both the limit and an answer, and all answers are alike: from stored functions that answer
+/// alike to equal arguments.
 pub fn levels_are_determined<F: AnyFunctions>(functions: &F)
     ensures limit { LimitIsAlone (F.calls functions.now) }
     ensures alike { AllowedAnswersAreAlike (F.calls functions.now) }

@@ -9,8 +9,12 @@ use Rattle.std.proofs.Common.{refl, sym, ap, ◌∙◌, arith}
 use Rattle.std.proofs.lemmas.Cmp.{int_cmp_total, int_ranked, eq_by_cmp_equiv}
 use Rattle.std.proofs.lemmas.Bool.Decides.{nat_tests}
 use Rattle.cedar_model.specs.Terms.{Text, EntityName, Literal, bool_literal, long_literal, text_literal, entity_literal}
-use Rattle.cedar_model.specs.Values.{AbstractValue, plain, set_value, record_value, extension_value, AbstractValues, no_values, one_value, AbstractFields, no_values_at, one_value_at}
-use Rattle.cedar_model.specs.Keys.{Key, bool_key, bool_of_key, end_key, entity_key, entity_of_key, key_cmp, literal_key, literal_of_key, number_key, pair_key, text_key, text_of_key, value_cmp, value_eq, value_fields_key, value_fields_of_key, value_key, value_of_key, values_key, values_of_key}
+use Rattle.cedar_model.specs.Values.{AbstractValue, plain, set_value, record_value, extension_value, AbstractValues}
+use Rattle.cedar_model.specs.Values.{no_values, one_value, AbstractFields, no_values_at, one_value_at}
+use Rattle.cedar_model.specs.Keys.{Key, bool_key, bool_of_key, end_key, entity_key, entity_of_key, key_cmp, literal_key}
+use Rattle.cedar_model.specs.Keys.{literal_of_key, number_key, pair_key, text_key, text_of_key, value_cmp, value_eq}
+use Rattle.cedar_model.specs.Keys.{value_fields_key, value_fields_of_key, value_key, value_of_key, values_key}
+use Rattle.cedar_model.specs.Keys.{values_of_key}
 
 -- ---- the order is total, and its `Equal` is equality
 
@@ -32,7 +36,8 @@ key_cmp-equal (pair_key a b) (pair_key c d) e =
     let h = then_equal (key_cmp a c) (key_cmp b d) e in
     λ i. pair_key (key_cmp-equal a c h.0 i) (key_cmp-equal b d h.1 i)
 
-then_reverse : (p q r s : Ordering) → p ≡ ordering_reverse r → q ≡ ordering_reverse s → ordering_then p q ≡ ordering_reverse (ordering_then r s)
+then_reverse : (p q r s : Ordering) → p ≡ ordering_reverse r → q ≡ ordering_reverse s
+    → ordering_then p q ≡ ordering_reverse (ordering_then r s)
 then_reverse p q Less s e f = cc
 then_reverse p q Equal s e f = cc
 then_reverse p q Greater s e f = cc
@@ -50,7 +55,9 @@ key_cmp-antisymm (pair_key a b) (pair_key c d) =
     then_reverse (key_cmp a c) (key_cmp b d) (key_cmp c a) (key_cmp d b) (key_cmp-antisymm a c) (key_cmp-antisymm b d)
 
 -- chains of pairs, from the answers at their parts
-then_trans : (p q r p' q' r' : Ordering) → (p ≡ Less → q ≡ Less → r ≡ Less) → (p ≡ Equal → r ≡ q) → (q ≡ Equal → r ≡ p) → (p' ≡ Less → q' ≡ Less → r' ≡ Less) → ordering_then p p' ≡ Less → ordering_then q q' ≡ Less → ordering_then r r' ≡ Less
+then_trans : (p q r p' q' r' : Ordering) → (p ≡ Less → q ≡ Less → r ≡ Less) → (p ≡ Equal → r ≡ q) → (q ≡ Equal → r ≡ p)
+    → (p' ≡ Less → q' ≡ Less → r' ≡ Less) → ordering_then p p' ≡ Less → ordering_then q q' ≡ Less
+    → ordering_then r r' ≡ Less
 then_trans Less Less r p' q' r' t u v w e f = ap (λ x. ordering_then x r') (t refl refl)
 then_trans Less Equal r p' q' r' t u v w e f = ap (λ x. ordering_then x r') (v refl)
 then_trans Less Greater r p' q' r' t u v w e f = absurd (cc)
@@ -80,7 +87,9 @@ key_cmp-trans (pair_key a a') (number_key k) c e f = absurd (cc)
 key_cmp-trans (pair_key a a') (pair_key b b') end_key e f = absurd (cc)
 key_cmp-trans (pair_key a a') (pair_key b b') (number_key n) e f = absurd (cc)
 key_cmp-trans (pair_key a a') (pair_key b b') (pair_key c c') e f =
-    then_trans (key_cmp a b) (key_cmp b c) (key_cmp a c) (key_cmp a' b') (key_cmp b' c') (key_cmp a' c') (key_cmp-trans a b c) (λ h. ap (λ x. key_cmp x c) (key_cmp-equal a b h)) (λ h. ap (key_cmp a) (sym (key_cmp-equal b c h))) (key_cmp-trans a' b' c') e f
+    then_trans (key_cmp a b) (key_cmp b c) (key_cmp a c) (key_cmp a' b') (key_cmp b' c') (key_cmp a' c')
+    (key_cmp-trans a b c) (λ h. ap (λ x. key_cmp x c) (key_cmp-equal a b h))
+    (λ h. ap (key_cmp a) (sym (key_cmp-equal b c h))) (key_cmp-trans a' b' c') e f
 
 pub key_cmp-total : IsTotalOrder key_cmp
 key_cmp-total = record {
@@ -109,7 +118,8 @@ bool_of_key-bool_key true = refl
 bool_of_key-bool_key false = refl
 
 pub entity_of_key-entity_key : (e : EntityName) → entity_of_key (entity_key e) ≡ e
-entity_of_key-entity_key e = λ i. record { type_name = text_of_key-text_key e.type_name i; id = text_of_key-text_key e.id i }
+entity_of_key-entity_key e =
+    λ i. record { type_name = text_of_key-text_key e.type_name i; id = text_of_key-text_key e.id i }
 
 pub literal_of_key-literal_key : (l : Literal) → literal_of_key (literal_key l) ≡ l
 literal_of_key-literal_key (bool_literal b) = ap bool_literal (bool_of_key-bool_key b)
@@ -128,22 +138,26 @@ mutual
   value_of_key-value_key (plain l) = value_of_literal_key l
   value_of_key-value_key (set_value vs) = ap set_value (values_of_key-values_key vs)
   value_of_key-value_key (record_value fs) = ap record_value (value_fields_of_key-value_fields_key fs)
-  value_of_key-value_key (extension_value t k) = λ i. extension_value (text_of_key-text_key t i) (text_of_key-text_key k i)
+  value_of_key-value_key (extension_value t k) =
+      λ i. extension_value (text_of_key-text_key t i) (text_of_key-text_key k i)
 
   pub values_of_key-values_key : (vs : AbstractValues) → values_of_key (values_key vs) ≡ vs
   values_of_key-values_key no_values = refl
-  values_of_key-values_key (one_value v vs) = λ i. one_value (value_of_key-value_key v i) (values_of_key-values_key vs i)
+  values_of_key-values_key (one_value v vs) =
+      λ i. one_value (value_of_key-value_key v i) (values_of_key-values_key vs i)
 
   pub value_fields_of_key-value_fields_key : (fs : AbstractFields) → value_fields_of_key (value_fields_key fs) ≡ fs
   value_fields_of_key-value_fields_key no_values_at = refl
   value_fields_of_key-value_fields_key (one_value_at k v fs) =
-      λ i. one_value_at (text_of_key-text_key k i) (value_of_key-value_key v i) (value_fields_of_key-value_fields_key fs i)
+      λ i. one_value_at (text_of_key-text_key k i) (value_of_key-value_key v i)
+      (value_fields_of_key-value_fields_key fs i)
 
 -- ---- the order of values
 
 pub value_cmp-equal : (a b : AbstractValue) → value_cmp a b ≡ Equal → a ≡ b
 value_cmp-equal a b e =
-    sym (value_of_key-value_key a) ∙ ap value_of_key (key_cmp-equal (value_key a) (value_key b) e) ∙ value_of_key-value_key b
+    sym (value_of_key-value_key a) ∙ ap value_of_key (key_cmp-equal (value_key a) (value_key b) e)
+    ∙ value_of_key-value_key b
 
 pub value_cmp-self : (a : AbstractValue) → value_cmp a a ≡ Equal
 value_cmp-self a = key_cmp-self (value_key a)
@@ -192,8 +206,12 @@ value_cmp-bool false true = refl
 value_cmp-bool true false = refl
 value_cmp-bool true true = refl
 
-pub value_cmp-entity : (a b : EntityName) → value_cmp (plain (entity_literal a)) (plain (entity_literal b)) ≡ ordering_then (slice_cmp nat_cmp a.type_name b.type_name) (slice_cmp nat_cmp a.id b.id)
+pub value_cmp-entity : (a b : EntityName)
+    → value_cmp (plain (entity_literal a)) (plain (entity_literal b))
+    ≡ ordering_then (slice_cmp nat_cmp a.type_name b.type_name) (slice_cmp nat_cmp a.id b.id)
 value_cmp-entity a b = λ i. ordering_then (key_cmp-text_key a.type_name b.type_name i) (key_cmp-text_key a.id b.id i)
 
-pub value_cmp-extension : (s t : Text) (j k : List ℕ) → value_cmp (extension_value s j) (extension_value t k) ≡ ordering_then (slice_cmp nat_cmp s t) (slice_cmp nat_cmp j k)
+pub value_cmp-extension : (s t : Text) (j k : List ℕ)
+    → value_cmp (extension_value s j) (extension_value t k)
+    ≡ ordering_then (slice_cmp nat_cmp s t) (slice_cmp nat_cmp j k)
 value_cmp-extension s t j k = λ i. ordering_then (key_cmp-text_key s t i) (key_cmp-text_key j k i)
