@@ -42,7 +42,10 @@ attribute_resolves = (
 
 pub attribute_stays : Resolutions.AttributeStays
 unfolding opened
-attribute_stays = allowed deep false Resolutions.none_named 4 _ _ refl (λ e. cc)
+attribute_stays = (
+  allowed deep false Resolutions.none_named 4 _ _ refl (λ e. cc),
+  allowed deep false Resolutions.one_named 4 _ _ refl (λ e. cc),
+)
 
 pub attribute_errs : Resolutions.AttributeErrs
 unfolding opened
@@ -72,7 +75,10 @@ path_walks_on = (
 
 pub path_keeps : Resolutions.PathKeeps
 unfolding opened
-path_keeps = allowed deep false Resolutions.none_named 4 _ _ refl (λ e. cc)
+path_keeps = (
+  allowed deep false Resolutions.one_named 4 _ _ refl (λ e. cc),
+  allowed deep false Resolutions.none_named 4 _ _ refl (λ e. cc),
+)
 
 pub path_errs : Resolutions.PathErrs
 unfolding opened

@@ -16,7 +16,7 @@ use Rattle.cedar_model.specs.Rules.{StoredCalls, Runs, Allows, Exceeds}
 use Rattle.cedar_model.specs.Agreement.{height, no_slots}
 use Rattle.cedar_model.specs.Restricted.{IsGivenSound}
 use Rattle.cedar_model.specs.Depth.{IsNoHigher}
-use Rattle.cedar_model.specs.Examples.{user, entity, x, some_entity, some_calls, some_extensions}
+use Rattle.cedar_model.specs.Examples.{user, long, entity, x, some_entity, some_calls, some_extensions}
 use Rattle.cedar_model.specs.Instances.{deeper_set, nesting_extensions}
 
 abbrev u : Term
@@ -25,10 +25,16 @@ u = unknown (codes "u") None
 abbrev one : Represented
 one = plain_represented (long_literal (pos 1))
 
--- the set of u, a record of it, an unknown c, and u where a text is expected; and a tag
+abbrev c : Term
+c = unknown (codes "c") None
+
+abbrev pair : Term → Term
+pair t = record_of (fields_of ((codes "l", t) ∷ (codes "m", c) ∷ []))
+
+-- an unknown c, u and c in a record, a record and the set of u, and u where a text is expected; and a tag
 abbrev pub stored_facts : StoredEntity
 stored_facts = record {
-  attributes = (codes "child", residual (unknown (codes "c") None)) ∷ (
+  attributes = (codes "child", residual c) ∷ (codes "pair", residual (pair u)) ∷ (
     codes "parts",
     residual
         (record_of (fields_of ((codes "l", u) ∷ []))),
@@ -46,6 +52,9 @@ abbrev pub all_named : Text → Option Represented
 all_named n =
     cond (text_eq n (codes "u")) (Some one) (cond (text_eq n (codes "c")) (Some (plain_represented
     (entity_literal some_entity))) (cond (text_eq n (printed_entity missing)) (Some one) None))
+
+abbrev pub one_named : Text → Option Represented
+one_named n = cond (text_eq n (codes "u")) (Some one) None
 
 abbrev pub none_named : Text → Option Represented
 none_named n = None
@@ -93,7 +102,9 @@ AttributeResolves =
 
 -- what the map doesn't name stays
 abbrev pub AttributeStays : Type 0
-AttributeStays = Answers deep none_named (attribute (codes "set")) (answers_residual the_set)
+AttributeStays =
+    Answers deep none_named (attribute (codes "set")) (answers_residual the_set)
+    × Answers deep one_named (attribute (codes "pair")) (answers_residual (pair (long 1)))
 
 -- an error is answered
 abbrev pub AttributeErrs : Type 0
@@ -120,10 +131,12 @@ PathWalksOn =
     × Answers deep all_named (path (codes "parts") (codes "l")) (answers_bool true)
     × Answers deep all_named (path (codes "parts") (codes "m")) (answers_bool false)
 
--- a residual keeps the attributes after it
+-- a residual, as it is evaluated, keeps the attributes after it
 abbrev pub PathKeeps : Type 0
 PathKeeps =
-    Answers deep none_named (path (codes "parts") (codes "l")) (answers_residual (extended_has
+    Answers deep one_named (path (codes "pair") (codes "l")) (answers_residual (extended_has (pair (long 1))
+    (codes "l") []))
+    × Answers deep none_named (path (codes "parts") (codes "l")) (answers_residual (extended_has
     (record_of (fields_of ((codes "l", u) ∷ []))) (codes "l") []))
 
 -- an error is answered
