@@ -133,8 +133,8 @@ PathWalksOn =
 -- a residual, as it is evaluated, keeps the attributes after it
 abbrev pub PathKeeps : Type 0
 PathKeeps =
-    Answers deep one_named (path (codes "pair") (codes "l")) (answers_residual (extended_has (pair (long 1))
-    (codes "l") []))
+    Answers deep one_named (extended_has (entity some_entity) (codes "pair") (codes "l" ∷ codes "n" ∷ []))
+    (answers_residual (extended_has (pair (long 1)) (codes "l") (codes "n" ∷ [])))
     × Answers deep none_named (path (codes "parts") (codes "l")) (answers_residual (extended_has
     (record_of (fields_of ((codes "l", u) ∷ []))) (codes "l") []))
 

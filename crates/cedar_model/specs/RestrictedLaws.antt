@@ -10,7 +10,7 @@ use Rattle.cedar_model.specs.Rules.{StoredCalls, Runs, Allows}
 use Rattle.cedar_model.specs.Agreement.{EachStored}
 use Rattle.cedar_model.specs.Restricted.{IsSound, IsSoundPart, first_disallowed}
 
--- what a restricted expression may answer depends on neither request, store nor slots
+-- what a restricted expression may answer depends on neither request, store, slots nor resolution
 abbrev pub RestrictedReadsNothing : StoredCalls → Type 0
 RestrictedReadsNothing calls =
     (s z : Setting) → s.map ≡ z.map → s.extensions ≡ z.extensions → (n : ℕ) (t : Term) (a : Answer) →
