@@ -1,16 +1,17 @@
 -- The examples of stored residuals, by computing.
 use Rattle.std.specs.Prelude.{◌≡◌, ◌≢◌, ℕ, ◌≤◌, zero, suc, Bool, true, false, cond, List, Option, Some, None, codes}
 use Rattle.std.proofs.Common.{refl, subst, arith}
-use Rattle.cedar_model.specs.Terms.{Text, Term}
-use Rattle.cedar_model.specs.Values.{Represented}
+use Rattle.cedar_model.specs.Terms.{record_of, Text, Term}
+use Rattle.cedar_model.specs.Values.{expression_of, Represented}
 use Rattle.cedar_model.specs.Failures.{PartialValue, value, residual, Answer, answers, answers_bool, limit}
 use Rattle.cedar_model.specs.Outcomes.{text_eq}
 use Rattle.cedar_model.specs.Agreement.{EachStored}
-use Rattle.cedar_model.specs.Settings.{Resolution, shallow, deep, part_at}
+use Rattle.cedar_model.specs.Settings.{residual_context, Resolution, shallow, deep, part_at}
 use Rattle.cedar_model.specs.Rules
 use Rattle.cedar_model.specs.Restricted.{IsSoundPart}
 use Rattle.cedar_model.specs.Depth.{substituted_height}
-use Rattle.cedar_model.specs.Chains.{substituted, value_for}
+use Rattle.cedar_model.specs.Chains.{substituted, substituted_at, value_for}
+use Rattle.cedar_model.specs.Agreement.{height}
 use Rattle.cedar_model.specs.LevelLaws.{FunctionsAnswer}
 use Rattle.cedar_model.specs.Examples.{some_calls, some_extensions}
 use Rattle.cedar_model.specs.Instances
@@ -142,7 +143,7 @@ none_is e = cc
 
 -- the one stored part is such
 only_part : (Such : PartialValue → Type 0) → Such (residual Resolutions.nested_residual)
-    → EachStored Such Resolutions.nesting.store
+    → EachStored Such (Resolutions.nesting Resolutions.no_context).store
 unfolding part_at
 only_part Such h e x k p f =
     subst (λ z. (part_at k z.attributes ≡ Some p → Such p) × (part_at k z.tags ≡ Some p → Such p)) (some_inj f) (
@@ -171,5 +172,37 @@ residuals_grow = (
     answers_low = λ f vs p e. subst (λ q. substituted_height (λ n. None) q ≤ 5) (deepest_only f vs p e) (omega arith);
   },
   refl,
-  computed_with Resolutions.nesting Resolutions.deepest_calls deepest_answer 8 Resolutions.projects_nested limit refl,
+  computed_with (Resolutions.nesting Resolutions.no_context) Resolutions.deepest_calls deepest_answer 8 Resolutions.projects_nested limit refl,
+)
+
+is_unsound : (b : Bool) (v : Represented) → cond b (Some Resolutions.unsound) None ≡ Some v → Resolutions.unsound ≡ v
+is_unsound true v e = cc
+is_unsound false v e = absurd (cc)
+
+pub unsound_grow : Resolutions.UnsoundContextsGrow
+unfolding opened substituted value_for
+unsound_grow = (
+  record {
+    context_sound = refl;
+    stored_sound = only_part IsSoundPart refl;
+    mapped_sound = λ n v e. absurd (none_is e);
+    answers_sound = λ f vs p e. subst IsSoundPart (deepest_only f vs p e)
+        ((tt, tt), (((tt, tt), (((tt, tt), (((tt, tt), (tt, tt)), tt)), tt)), tt));
+  },
+  record {
+    context_low = omega arith;
+    stored_low = only_part (λ p. substituted_height Resolutions.unsound_named p ≤ 5) (omega arith);
+    mapped_low =
+        λ n v e. subst (λ w. height (expression_of w) ≤ 5) (is_unsound (text_eq n (codes "y")) v e) (omega arith);
+    answers_low = λ f vs p e. subst (λ q. substituted_height Resolutions.unsound_named q ≤ 5) (deepest_only f vs p e)
+        (omega arith);
+  },
+  (
+    λ e. cc,
+    9,
+    computed_with (Resolutions.nesting (residual_context Resolutions.reading_context)) Resolutions.deepest_calls
+        deepest_answer 9 (record_of (substituted_at Resolutions.unsound_named Resolutions.reading_context))
+        (answers (residual Resolutions.read_context)) refl,
+  ),
+  refl,
 )

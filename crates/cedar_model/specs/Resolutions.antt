@@ -4,18 +4,21 @@ use Rattle.cedar_model.specs.Terms.{Text, EntityName, text_literal, long_literal
 use Rattle.cedar_model.specs.Terms.{long_type}
 use Rattle.cedar_model.specs.Terms.{get_tag_operator, has_tag_operator, Term, literal, unknown, binary, call}
 use Rattle.cedar_model.specs.Terms.{get_attribute, has_attribute, extended_has, set_of, record_of, no_terms, terms_of}
-use Rattle.cedar_model.specs.Terms.{fields_of}
-use Rattle.cedar_model.specs.Values.{Represented, plain_represented, set_represented}
+use Rattle.cedar_model.specs.Terms.{Fields, fields_of}
+use Rattle.cedar_model.specs.Values.{Represented, plain_represented, set_represented, extension_represented}
+use Rattle.cedar_model.specs.Values.{expression_of}
 use Rattle.cedar_model.specs.Values.{no_represented, one_represented, no_represented_at}
 use Rattle.cedar_model.specs.Outcomes.{text_eq, entity_eq}
 use Rattle.cedar_model.specs.Failures.{type_is_wrong, residual, Answer, answers_value}
 use Rattle.cedar_model.specs.Failures.{answers_residual, answers_bool, fails}
-use Rattle.cedar_model.specs.Settings.{known_entry, known_context, StoredEntity, Resolution, shallow, deep}
+use Rattle.cedar_model.specs.Settings.{known_entry, ContextPart, known_context, residual_context, StoredEntity}
+use Rattle.cedar_model.specs.Settings.{Resolution, shallow, deep}
 use Rattle.cedar_model.specs.Settings.{Setting, missing_entity, printed_entity}
 use Rattle.cedar_model.specs.Rules.{StoredCalls, Runs, Allows, Exceeds}
 use Rattle.cedar_model.specs.Agreement.{height, no_slots}
 use Rattle.cedar_model.specs.Restricted.{IsGivenSound}
-use Rattle.cedar_model.specs.Depth.{IsNoHigher}
+use Rattle.cedar_model.specs.Depth.{IsNoHigher, substituted_height}
+use Rattle.cedar_model.specs.Chains.{with_context, substituted_at}
 use Rattle.cedar_model.specs.Examples.{user, long, entity, x, some_entity, some_calls, some_extensions}
 use Rattle.cedar_model.specs.Instances.{deeper_set, nesting_extensions}
 
@@ -134,8 +137,8 @@ PathWalksOn =
 -- a residual, as it is evaluated, keeps the attributes after it
 abbrev pub PathKeeps : Type 0
 PathKeeps =
-    Answers deep one_named (path (codes "pair") (codes "l")) (answers_residual (extended_has (pair (long 1))
-    (codes "l") []))
+    Answers deep one_named (extended_has (entity some_entity) (codes "pair") (codes "l" ∷ codes "n" ∷ []))
+    (answers_residual (extended_has (pair (long 1)) (codes "l") (codes "n" ∷ [])))
     × Answers deep none_named (path (codes "parts") (codes "l")) (answers_residual (extended_has
     (record_of (fields_of ((codes "l", u) ∷ []))) (codes "l") []))
 
@@ -219,9 +222,9 @@ nested_residual =
 abbrev pub nesting_facts : StoredEntity
 nesting_facts = record { attributes = (codes "r", residual nested_residual) ∷ []; tags = []; ancestors = [] }
 
-abbrev pub nesting : Setting
-nesting = record {
-  request = (resolving deep false none_named).request;
+abbrev pub nesting : ContextPart → Setting
+nesting c = record {
+  request = with_context (resolving deep false none_named).request c;
   store = record { entity = λ e. Some nesting_facts; is_partial = false };
   map = none_named;
   slots = no_slots;
@@ -229,10 +232,42 @@ nesting = record {
   resolution = deep;
 }
 
+abbrev pub no_context : ContextPart
+no_context = known_context no_represented_at
+
 abbrev pub projects_nested : Term
 projects_nested = get_attribute (attribute (codes "r")) (codes "a")
 
 abbrev pub StoredResidualsGrow : Type 0
 StoredResidualsGrow =
-    IsGivenSound deepest_calls nesting × IsNoHigher deepest_calls nesting nesting.map 5
-    × (height projects_nested ≡ 3) × Exceeds nesting deepest_calls projects_nested 8
+    IsGivenSound deepest_calls (nesting no_context) × IsNoHigher deepest_calls (nesting no_context) none_named 5
+    × (height projects_nested ≡ 3) × Exceeds (nesting no_context) deepest_calls projects_nested 8
+
+-- why values that are put into a context are sound: one that is written as `f(e.r)` reads the residual, so that the
+-- context `{a: y}`, no higher than 5 with it, answers what is higher than 10
+abbrev pub unsound : Represented
+unsound = extension_represented (codes "T") [] (codes "f") (terms_of (attribute (codes "r") ∷ []))
+
+abbrev pub unsound_named : Text → Option Represented
+unsound_named n = cond (text_eq n (codes "y")) (Some unsound) None
+
+abbrev pub reading_context : Fields
+reading_context = fields_of ((codes "a", unknown (codes "y") None) ∷ [])
+
+abbrev pub grown_residual : Term
+grown_residual =
+    around (codes "a") (around (codes "b") (around (codes "c") (record_of (fields_of ((
+      codes "d",
+      expression_of deepest_set,
+    ) ∷ (codes "e", x) ∷ [])))))
+
+abbrev pub read_context : Term
+read_context = around (codes "a") (call (codes "f") (terms_of (grown_residual ∷ [])))
+
+abbrev pub UnsoundContextsGrow : Type 0
+UnsoundContextsGrow =
+    IsGivenSound deepest_calls (nesting (residual_context reading_context))
+    × IsNoHigher deepest_calls (nesting (residual_context reading_context)) unsound_named 5
+    × Allows (nesting (residual_context reading_context)) deepest_calls
+    (record_of (substituted_at unsound_named reading_context)) (answers_residual read_context)
+    × (substituted_height unsound_named (residual read_context) ≡ 11)

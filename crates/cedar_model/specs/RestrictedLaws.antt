@@ -11,7 +11,7 @@ use Rattle.cedar_model.specs.Agreement.{EachStored}
 use Rattle.cedar_model.specs.Restricted.{IsSound, IsSoundPart, Disallowed, first_disallowed, feature_of}
 use Rattle.cedar_model.specs.Restricted.{IsPartOf}
 
--- what a restricted expression may answer depends on neither request, store nor slots
+-- what a restricted expression may answer depends on neither request, store, slots nor resolution
 abbrev pub RestrictedReadsNothing : StoredCalls → Type 0
 RestrictedReadsNothing calls =
     (s z : Setting) → s.map ≡ z.map → s.extensions ≡ z.extensions → (n : ℕ) (t : Term) (a : Answer) →

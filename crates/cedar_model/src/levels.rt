@@ -37,7 +37,8 @@ pub fn levels_have_answers<F: AnyFunctions>(functions: &F)
     ensures { LevelsHaveAnswers (F.calls functions.now) }
 {}
 
-/// Each expression has an answer at some level, where these functions answer, and never by the recursion limit.
+/// Each expression has an answer at some level, where these functions answer, and never by the recursion limit; with
+/// deep resolution where stored residuals are restricted.
 pub fn expressions_have_answers<F: AnyFunctions>(functions: &F)
     ensures { ExpressionsHaveAnswers (F.calls functions.now) }
 {}

@@ -2,7 +2,7 @@
 ghost use Rattle.cedar_model.specs.Resolutions.{AttributeResolves, AttributeStays, AttributeErrs, TagResolves};
 ghost use Rattle.cedar_model.specs.Resolutions.{PresenceReadsNone, PathWalksOn, PathKeeps, PathErrs, LastIsPresence};
 ghost use Rattle.cedar_model.specs.Resolutions.{MissingStays, StoredNeedThree, ShallowNeedsTwo};
-ghost use Rattle.cedar_model.specs.Resolutions.{SelfReadingNeverAnswers, StoredResidualsGrow};
+ghost use Rattle.cedar_model.specs.Resolutions.{SelfReadingNeverAnswers, StoredResidualsGrow, UnsoundContextsGrow};
 
 /// Examples: a stored residual that an attribute or a tag reads answers itself, or with deep resolution what it is
 /// evaluated to: a value, a residual or an error.
@@ -24,11 +24,12 @@ pub fn paths_resolve()
     ensures last { LastIsPresence }
 {}
 
-/// Examples: the levels that stored residuals need, why they are restricted, and why the depth bound has twice the
-/// bound with deep resolution.
+/// Examples: the levels that stored residuals need, why they are restricted, why the depth bound has twice the bound
+/// with deep resolution, and why values that are put into a context are sound.
 pub fn resolutions_need_levels()
     ensures three { StoredNeedThree }
     ensures two { ShallowNeedsTwo }
     ensures looping { SelfReadingNeverAnswers }
     ensures grown { StoredResidualsGrow }
+    ensures unsound { UnsoundContextsGrow }
 {}

@@ -5,7 +5,7 @@ ghost use Rattle.cedar_model.specs.RestrictedLaws.{DisallowedHasItsFeature};
 
 use crate::levels::AnyFunctions;
 
-/// What a restricted expression may answer depends on neither request, store nor slots.
+/// What a restricted expression may answer depends on neither request, store, slots nor resolution.
 pub fn restricted_reads_nothing<F: AnyFunctions>(functions: &F)
     ensures { RestrictedReadsNothing (F.calls functions.now) }
 {}

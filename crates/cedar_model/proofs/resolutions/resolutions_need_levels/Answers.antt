@@ -12,3 +12,6 @@ returns-clause-looping g = Resolved.never_answers
 
 pub returns-clause-grown : goal.returns-clause-grown
 returns-clause-grown g = Resolved.residuals_grow
+
+pub returns-clause-unsound : goal.returns-clause-unsound
+returns-clause-unsound g = Resolved.unsound_grow
