@@ -172,7 +172,8 @@ residuals_grow = (
     answers_low = λ f vs p e. subst (λ q. substituted_height (λ n. None) q ≤ 5) (deepest_only f vs p e) (omega arith);
   },
   refl,
-  computed_with (Resolutions.nesting Resolutions.no_context) Resolutions.deepest_calls deepest_answer 8 Resolutions.projects_nested limit refl,
+  computed_with (Resolutions.nesting Resolutions.no_context) Resolutions.deepest_calls deepest_answer 8
+      Resolutions.projects_nested limit refl,
 )
 
 is_unsound : (b : Bool) (v : Represented) → cond b (Some Resolutions.unsound) None ≡ Some v → Resolutions.unsound ≡ v
