@@ -1,7 +1,11 @@
 //! The line of a row.
+ghost use Rattle.std.specs.Prelude.{◌≡◌, None};
+ghost use Rattle.cedar_layers.specs.Policies.{first_repeated};
+ghost use Rattle.cedar_rows.specs.Ids.{ids_of};
+
 use crate::rows::{Row, request};
 use cedar_authorizer::authorizer::{AuthorizationError, Authorizer, Decision, Response};
-use cedar_layers::policies::{Entities, PolicyID, PolicySet, PolicySetError};
+use cedar_layers::policies::{Entities, Policy, PolicyID, PolicySet, PolicySetError};
 use cedar_values::extensions::Extensions;
 use std::alloc::{AllocError, AllocFailed, Global};
 use std::collections::HashSet;
@@ -50,6 +54,10 @@ pub fn print_line<W: Write>(
     out: &mut W,
 ) -> Result<(), Stop> {
     let line = line(alloc, row, extensions)?;
+    write_line(line.as_str(), out)
+}
+
+fn write_line<W: Write>(line: &str, out: &mut W) -> Result<(), Stop> {
     writeln!(out, "{line}")?;
     Ok(())
 }
@@ -70,30 +78,38 @@ fn decide(alloc: Global, row: Row, extensions: &Extensions<'_>) -> Result<Respon
     authorizer.is_authorized(alloc, request(alloc)?, &policies, &Entities::new(alloc))
 }
 
-// No two policies of a row have one id, so only memory can be wanting.
 fn row_policies(alloc: Global, row: Row) -> Result<PolicySet, AllocError> {
-    match PolicySet::try_from_iter(alloc, row.policies(alloc)?) {
+    let policies = row.policies(alloc)?;
+    set_of(alloc, policies)
+}
+
+// No two policies have one id, so only memory can be wanting.
+fn set_of(alloc: Global, policies: Vec<Policy>) -> Result<PolicySet, AllocError>
+    requires { first_repeated (ids_of policies.items) ≡ None }
+{
+    match PolicySet::try_from_iter(alloc, policies) {
         Ok(policies) => Ok(policies),
         Err(PolicySetError::Occupied { id: _ }) => unreachable!(),
         Err(PolicySetError::Memory(error)) => Err(error),
     }
 }
 
-fn decision_text(decision: Decision) -> &'static str {
+/// The name of the decision.
+pub fn decision_text(decision: Decision) -> &'static str {
     match decision {
         Decision::Allow => "Allow",
         Decision::Deny => "Deny",
     }
 }
 
-// The ids sorted by bytes, joined by commas.
-fn reasons_text(alloc: Global, reasons: &HashSet<PolicyID>) -> Result<String, AllocError> {
+/// The ids sorted by bytes, joined by commas.
+pub fn reasons_text(alloc: Global, reasons: &HashSet<PolicyID>) -> Result<String, AllocError> {
     let mut ids: Vec<String> = Vec::new(alloc);
     for id in reasons.iter() {
         ids.push(format!(in alloc; "{id}")?)?;
     }
     ids.sort()?;
-    joined(alloc, &ids)
+    joined(alloc, &ids, ",")
 }
 
 // The ids of the policies that erred, in order, joined by commas.
@@ -103,14 +119,15 @@ fn errors_text(alloc: Global, errors: &[AuthorizationError]) -> Result<String, A
         let AuthorizationError::PolicyEvaluationError { id, error: _ } = error;
         ids.push(format!(in alloc; "{id}")?)?;
     }
-    joined(alloc, &ids)
+    joined(alloc, &ids, ",")
 }
 
-fn joined(alloc: Global, texts: &[String]) -> Result<String, AllocError> {
+/// The texts, with this one between them.
+pub fn joined(alloc: Global, texts: &[String], between: &str) -> Result<String, AllocError> {
     let mut all = String::new(alloc);
     for (i, text) in texts.iter().enumerate() {
         if i > 0 {
-            all.push_str(",")?;
+            all.push_str(between)?;
         }
         all.push_str(text.as_str())?;
     }

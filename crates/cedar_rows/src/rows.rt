@@ -1,6 +1,6 @@
 //! The built-in rows: their policies and requests.
 ghost use Rattle.std.specs.Prelude.{◌≡◌, None, IfOk};
-ghost use Rattle.cedar_layers.specs.Policies.{policy_view, first_repeated};
+ghost use Rattle.cedar_layers.specs.Policies.{policy_view, policy_id_text, first_repeated};
 ghost use Rattle.cedar_rows.specs.Ids.{ids_of, skipped_permit_ids, skipped_forbid_ids, forbidden_ids};
 
 use cedar_evaluator::request::{Context, Request};
@@ -100,6 +100,7 @@ fn forbidden(alloc: Global) -> Result<Vec<Policy>, AllocError>
 fn always(alloc: Global, effect: Effect, id: &str) -> Result<Policy, AllocError>
     ensures { IfOk result (λ p. (policy_view p).id ≡ id.now) }
 {
+    let id = PolicyID::from_string(RcStr::from_str(alloc, id)?);
     policy(alloc, effect, id, Expr::val(Literal::Bool(true)))
 }
 
@@ -107,25 +108,25 @@ fn always(alloc: Global, effect: Effect, id: &str) -> Result<Policy, AllocError>
 fn when_bad_is_two(alloc: Global, effect: Effect, id: &str) -> Result<Policy, AllocError>
     ensures { IfOk result (λ p. (policy_view p).id ≡ id.now) }
 {
+    let id = PolicyID::from_string(RcStr::from_str(alloc, id)?);
+    policy(alloc, effect, id, bad_is_two(alloc)?)
+}
+
+// `context.bad == 2`
+fn bad_is_two(alloc: Global) -> Result<Expr, AllocError> {
     let bad = RcStr::from_str(alloc, "bad")?;
     let bad = Expr::get_attr(alloc, Expr::var(Var::Context), bad)?;
-    let two = Expr::val(Literal::Long(2));
-    policy(
-        alloc,
-        effect,
-        id,
-        Expr::binary_app(alloc, BinaryOp::Eq, bad, two)?,
-    )
+    Expr::binary_app(alloc, BinaryOp::Eq, bad, Expr::val(Literal::Long(2)))
 }
 
 // A policy with no constraint on its scope.
-fn policy(alloc: Global, effect: Effect, id: &str, when: Expr) -> Result<Policy, AllocError>
-    ensures { IfOk result (λ p. (policy_view p).id ≡ id.now) }
+fn policy(alloc: Global, effect: Effect, id: PolicyID, when: Expr) -> Result<Policy, AllocError>
+    ensures { IfOk result (λ p. (policy_view p).id ≡ policy_id_text id) }
 {
     Policy::new(
         alloc,
         effect,
-        PolicyID::from_string(RcStr::from_str(alloc, id)?),
+        id,
         Annotations::new(alloc),
         Expr::val(Literal::Bool(true)),
         Expr::val(Literal::Bool(true)),

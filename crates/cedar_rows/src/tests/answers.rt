@@ -2,10 +2,13 @@
 //!
 //! - of the words of an expression: `value LIMIT`, `place LIMIT` and `error LIMIT` (what it evaluates to, where that or its error stands, and the error's text; with no limit as many levels as it needs),
 //!   `text`, `cut BOUND` (`all` for no bound), `copy`, `shape`, and `substitute x WORDS`, which is answered by the words of an expression;
-//! - of the words of a value: `operator PLACE` (values and then an operator), `value-text`, `value-cut BOUND`, `value-expression`, `value-type`, `value-copy`, `part-text`, `part-cut BOUND` and `part-copy`;
+//! - of the words of a value: `operator PLACE` (values and then an operator), `value-text`, `value-cut BOUND`,
+//!   `value-expression`, `value-type`, `value-copy`, `value-elements`, `part-text`, `part-cut BOUND`, `part-copy` and `part-expression`;
 //! - of two expressions with ` ~ ` between them: `equal`; of the keys of a record: `keys`; of two values: `order`; of a leaf: `leaf`; of the words of an error: `built-error PLACE`;
-//! - of the ids of policies: `decide LIMIT`, `decide-texts LIMIT` (the errors' own texts), `evaluate LIMIT`, `set`, `policy` and `condition`;
-//! - of the setting: `request` and `entity`.
+//! - of the ids of policies: `decide LIMIT`, `decide-texts LIMIT` (the errors' own texts), `decide-copy LIMIT` (whether a copy
+//!   is equal), `evaluate LIMIT`, `set`, `set-debug`, `policy` and `condition`;
+//! - of the setting: `request` and `entity`;
+//! - of the arguments of the program: `run`.
 pub mod described;
 mod evaluated;
 mod judged;
@@ -13,15 +16,19 @@ mod operated;
 mod stored;
 mod written;
 
+use super::program;
 use super::reader::headed;
+use super::reader::settings::Setting;
 use cedar_layers::expressions::Loc;
-use std::alloc::{AllocError, Global};
+use std::alloc::Global;
+use std::fmt;
 use std::test::Fail;
 
-/// What is answered to these words, where the answer that is wanted is this one.
+/// What is answered to these words, where the answer that is wanted is this one. The facts are those of the setting.
 pub fn answer(
     alloc: Global,
-    setting: &str,
+    facts: &str,
+    setting: &Setting,
     question: &str,
     words: &str,
     want: &str,
@@ -33,22 +40,25 @@ pub fn answer(
         "text" | "cut" | "copy" | "shape" => written::answer(alloc, kind, argument, words),
         "operator" => operated::answer(alloc, argument, words),
         "built-error" => operated::built_error(alloc, argument, words),
-        "decide" | "decide-texts" | "evaluate" => judged::answer(
-            alloc, setting, kind, argument, words,
+        "decide" | "decide-texts" | "decide-copy" | "evaluate" => judged::answer(
+            alloc, facts, setting, kind, argument, words,
         ),
-        "set" | "policy" | "condition" => judged::listed(alloc, setting, kind, words),
+        "set" | "set-debug" | "policy" | "condition" => judged::listed(alloc, facts, kind, words),
         "request" | "entity" => stored::answer(alloc, setting, kind, words),
+        "run" => program::answer(alloc, words),
         _ => written::other(alloc, kind, argument, words),
     }
 }
 
-/// The place, as `at 1-2`, or `nowhere`.
-pub fn place_text(alloc: Global, place: Option<&Loc>) -> Result<String, AllocError> {
-    match place {
-        Some(place) => {
-            let (start, end) = (place.start, place.end);
-            format!(in alloc; "at {start}-{end}")
+/// A place as text: `at 1-2`, or `nowhere`.
+#[derive(Clone, Copy)]
+pub struct Place<'a>(pub Option<&'a Loc>);
+
+impl fmt::Display for Place<'_> {
+    fn fmt<W: fmt::Write>(&self, f: &mut fmt::Formatter<W>) -> fmt::Result {
+        match self.0 {
+            Some(place) => write!(f, "at {}-{}", place.start, place.end),
+            None => f.write_str("nowhere"),
         }
-        None => String::from_str(alloc, "nowhere"),
     }
 }

@@ -17,20 +17,17 @@ mod written;
 
 use super::answers::answer;
 use super::reader::fact;
+use super::reader::settings::{Setting, setting_of};
 use std::alloc::Global;
 use std::rc::RcStr;
 use std::test::Fail;
 
-/// Whether all rows of these tables hold.
-fn tables_hold(
-    rt: &impl Print,
-    alloc: Global,
-    setting: &str,
-    tables: &[&str],
-) -> Result<bool, Fail> {
+/// Whether all rows of these tables hold in the setting of these facts.
+fn tables_hold(rt: &impl Print, alloc: Global, facts: &str, tables: &[&str]) -> Result<bool, Fail> {
+    let setting = setting_of(alloc, facts)?;
     let mut all_hold = true;
     for rows in tables {
-        if !rows_hold(rt, alloc, setting, *rows)? {
+        if !rows_hold(rt, alloc, facts, &setting, *rows)? {
             all_hold = false;
         }
     }
@@ -38,13 +35,19 @@ fn tables_hold(
 }
 
 /// Whether the answers to these rows are those that are wanted. Prints each row that has another answer.
-fn rows_hold(rt: &impl Print, alloc: Global, setting: &str, rows: &str) -> Result<bool, Fail> {
+fn rows_hold(
+    rt: &impl Print,
+    alloc: Global,
+    facts: &str,
+    setting: &Setting,
+    rows: &str,
+) -> Result<bool, Fail> {
     let mut question = RcStr::from_str(alloc, "value")?;
     let mut all_hold = true;
     for line in rows.lines() {
         if let Some(asked) = fact(line, "ask") {
             question = RcStr::from_str(alloc, asked)?;
-        } else if !line_holds(rt, alloc, setting, question.as_str(), line)? {
+        } else if !line_holds(rt, alloc, facts, setting, question.as_str(), line)? {
             all_hold = false;
         }
     }
@@ -55,7 +58,8 @@ fn rows_hold(rt: &impl Print, alloc: Global, setting: &str, rows: &str) -> Resul
 fn line_holds(
     rt: &impl Print,
     alloc: Global,
-    setting: &str,
+    facts: &str,
+    setting: &Setting,
     question: &str,
     line: &str,
 ) -> Result<bool, Fail> {
@@ -63,7 +67,7 @@ fn line_holds(
         return Ok(true);
     }
     let (words, want) = line.split_once(" => ").ok_or("a row without an answer")?;
-    let answer = answer(alloc, setting, question, words, want)?;
+    let answer = answer(alloc, facts, setting, question, words, want)?;
     let holds = answer.as_str() == want;
     if !holds {
         println!(rt; "{question}: {words} => {answer}, not {want}")?;
@@ -72,37 +76,20 @@ fn line_holds(
 }
 
 #[test]
-fn rows_on_operands(rt: HostRuntime) -> Result<(), Fail> {
-    assert!(rt; rows_hold(&rt, rt.alloc(), everyday::SETTING, operands::ROWS)?);
+fn rows_of_operators(rt: HostRuntime) -> Result<(), Fail> {
+    let tables = [
+        operands::ROWS,
+        operators::ROWS,
+        logic::ROWS,
+        parts::ROWS,
+        store::ROWS,
+    ];
+    assert!(rt; tables_hold(&rt, rt.alloc(), everyday::SETTING, &tables)?);
     Ok(())
 }
 
 #[test]
-fn rows_on_operators(rt: HostRuntime) -> Result<(), Fail> {
-    assert!(rt; rows_hold(&rt, rt.alloc(), everyday::SETTING, operators::ROWS)?);
-    Ok(())
-}
-
-#[test]
-fn rows_on_logic(rt: HostRuntime) -> Result<(), Fail> {
-    assert!(rt; rows_hold(&rt, rt.alloc(), everyday::SETTING, logic::ROWS)?);
-    Ok(())
-}
-
-#[test]
-fn rows_on_parts(rt: HostRuntime) -> Result<(), Fail> {
-    assert!(rt; rows_hold(&rt, rt.alloc(), everyday::SETTING, parts::ROWS)?);
-    Ok(())
-}
-
-#[test]
-fn rows_on_store(rt: HostRuntime) -> Result<(), Fail> {
-    assert!(rt; rows_hold(&rt, rt.alloc(), everyday::SETTING, store::ROWS)?);
-    Ok(())
-}
-
-#[test]
-fn rows_on_places_and_texts(rt: HostRuntime) -> Result<(), Fail> {
+fn rows_of_places_and_texts(rt: HostRuntime) -> Result<(), Fail> {
     let tables = [
         depth::ROWS,
         places::ROWS,
@@ -116,7 +103,7 @@ fn rows_on_places_and_texts(rt: HostRuntime) -> Result<(), Fail> {
 
 #[test]
 fn rows_in_other_settings(rt: HostRuntime) -> Result<(), Fail> {
-    assert!(rt; rows_hold(&rt, rt.alloc(), unknowns::SETTING, unknowns::ROWS)?);
-    assert!(rt; rows_hold(&rt, rt.alloc(), policies::SETTING, policies::ROWS)?);
+    assert!(rt; tables_hold(&rt, rt.alloc(), unknowns::SETTING, &[unknowns::ROWS])?);
+    assert!(rt; tables_hold(&rt, rt.alloc(), policies::SETTING, &[policies::ROWS])?);
     Ok(())
 }

@@ -1,8 +1,8 @@
 //! What an expression evaluates to in the setting.
+use super::Place;
 use super::described::described;
-use super::place_text;
 use crate::tests::reader::expressions::expression;
-use crate::tests::reader::settings::{request, slots, stored};
+use crate::tests::reader::settings::Setting;
 use cedar_evaluator::evaluator::{EvaluationError, Evaluator};
 use cedar_layers::expressions::{Expr, Value};
 use cedar_values::extensions::Extensions;
@@ -15,17 +15,30 @@ const LIMIT: usize = 1000;
 /// What the expression evaluates to: its value or its error, the place of either, or the error's own text.
 pub fn answer(
     alloc: Global,
-    setting: &str,
+    setting: &Setting,
     kind: &str,
     limit_text: &str,
     words: &str,
 ) -> Result<String, Fail> {
     let limit = limit(limit_text)?;
-    let outcome = outcome(alloc, setting, limit, &expression(alloc, words)?)?;
+    let expr = expression(alloc, words)?;
+    or_fail(asked(alloc, kind, &outcome(alloc, setting, limit, &expr)))
+}
+
+/// The text, or that memory was wanting.
+pub fn or_fail(text: Result<String, AllocError>) -> Result<String, Fail> {
+    Ok(text?)
+}
+
+fn asked(
+    alloc: Global,
+    kind: &str,
+    outcome: &Result<Value, EvaluationError>,
+) -> Result<String, AllocError> {
     match kind {
-        "value" => Ok(outcome_text(alloc, &outcome)?),
-        "place" => Ok(outcome_place(alloc, &outcome)?),
-        _ => Ok(error_text(alloc, &outcome)?),
+        "value" => outcome_text(alloc, outcome),
+        "place" => outcome_place(alloc, outcome),
+        _ => error_text(alloc, outcome),
     }
 }
 
@@ -40,16 +53,14 @@ pub fn limit(written: &str) -> Result<usize, Fail> {
 
 fn outcome(
     alloc: Global,
-    setting: &str,
+    setting: &Setting,
     limit: usize,
     expr: &Expr,
-) -> Result<Result<Value, EvaluationError>, Fail> {
-    let slots = slots(alloc, setting)?;
-    let request = request(alloc, setting)?;
-    let entities = stored(alloc, setting)?;
+) -> Result<Value, EvaluationError> {
     let extensions = Extensions::none();
-    let evaluator = Evaluator::new(alloc, request, &entities, &extensions, limit)?;
-    Ok(evaluator.interpret(alloc, expr, &slots))
+    let request = setting.request.clone()?;
+    let evaluator = Evaluator::new(alloc, request, &setting.entities, &extensions, limit)?;
+    evaluator.interpret(alloc, expr, &setting.slots)
 }
 
 /// The value, or the error with all its fields but the place.
@@ -69,14 +80,8 @@ pub fn outcome_place(
     outcome: &Result<Value, EvaluationError>,
 ) -> Result<String, AllocError> {
     match outcome {
-        Ok(value) => {
-            let place = place_text(alloc, value.source_loc())?;
-            format!(in alloc; "value {place}")
-        }
-        Err(error) => {
-            let place = place_text(alloc, error.source_loc())?;
-            format!(in alloc; "error {place}")
-        }
+        Ok(value) => format!(in alloc; "value {}", Place(value.source_loc())),
+        Err(error) => format!(in alloc; "error {}", Place(error.source_loc())),
     }
 }
 

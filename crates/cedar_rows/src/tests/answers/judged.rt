@@ -1,59 +1,87 @@
 //! What policies decide, and what a policy holds.
+use super::Place;
 use super::described::described;
-use super::evaluated::limit;
-use super::place_text;
+use super::evaluated::{limit, or_fail};
+use crate::lines::{decision_text, joined, reasons_text};
 use crate::tests::reader::policies::{policies, policy};
-use crate::tests::reader::settings::{request, stored};
-use cedar_authorizer::authorizer::{AuthorizationError, Authorizer, Decision, Response};
+use crate::tests::reader::settings::Setting;
+use cedar_authorizer::authorizer::{AuthorizationError, Authorizer, Response};
 use cedar_evaluator::evaluator::{EvaluationError, Evaluator};
-use cedar_layers::expressions::{Expr, ExprKind, SlotId};
-use cedar_layers::policies::{Effect, Policy, PolicyID, PolicySet};
+use cedar_layers::expressions::{Expr, ExprKind};
+use cedar_layers::policies::{Effect, Policy, PolicySet};
 use cedar_values::extensions::Extensions;
 use std::alloc::{AllocError, Global};
-use std::collections::HashSet;
 use std::test::Fail;
 
 /// What the policies decide for the request, or what the condition of the one policy comes out as.
 pub fn answer(
     alloc: Global,
-    setting: &str,
+    facts: &str,
+    setting: &Setting,
     kind: &str,
     limit_text: &str,
     ids: &str,
 ) -> Result<String, Fail> {
     let limit = limit(limit_text)?;
-    match kind {
-        "decide" => Ok(response_text(alloc, &decided(alloc, setting, limit, ids)?)?),
-        "decide-texts" => Ok(error_texts(alloc, &decided(alloc, setting, limit, ids)?)?),
-        _ => evaluated(alloc, setting, limit, ids),
+    if kind == "evaluate" {
+        let policy = policy(alloc, facts, ids)?;
+        return or_fail(truth_text(alloc, &evaluated(alloc, setting, limit, &policy)));
     }
+    let policies = PolicySet::try_from_iter(alloc, policies(alloc, facts, ids)?)?;
+    or_fail(decided(alloc, setting, kind, limit, &policies))
 }
 
 /// What the set of the policies holds, or the one policy, or its condition.
-pub fn listed(alloc: Global, setting: &str, kind: &str, ids: &str) -> Result<String, Fail> {
-    match kind {
-        "set" => Ok(set_text(alloc, policies(alloc, setting, ids)?)?),
-        "policy" => Ok(policy_text(alloc, &policy(alloc, setting, ids)?)?),
-        _ => Ok(condition_text(alloc, &policy(alloc, setting, ids)?)?),
+pub fn listed(alloc: Global, facts: &str, kind: &str, ids: &str) -> Result<String, Fail> {
+    if kind == "set" || kind == "set-debug" {
+        return or_fail(set_text(alloc, kind, policies(alloc, facts, ids)?));
+    }
+    let policy = policy(alloc, facts, ids)?;
+    if kind == "policy" {
+        or_fail(policy_text(alloc, &policy))
+    } else {
+        or_fail(condition_text(alloc, &policy))
     }
 }
 
-fn decided(alloc: Global, setting: &str, limit: usize, ids: &str) -> Result<Response, Fail> {
-    let policies = PolicySet::try_from_iter(alloc, policies(alloc, setting, ids)?)?;
-    let request = request(alloc, setting)?;
-    let entities = stored(alloc, setting)?;
+fn decided(
+    alloc: Global,
+    setting: &Setting,
+    kind: &str,
+    limit: usize,
+    policies: &PolicySet,
+) -> Result<String, AllocError> {
     let extensions = Extensions::none();
     let authorizer = Authorizer::new(&extensions, limit);
-    Ok(authorizer.is_authorized(alloc, request, &policies, &entities)?)
+    let request = setting.request.clone()?;
+    let response = authorizer.is_authorized(alloc, request, policies, &setting.entities)?;
+    if kind == "decide-copy" {
+        copy_text(alloc, &response)
+    } else {
+        response_text(alloc, kind, &response)
+    }
 }
 
-fn evaluated(alloc: Global, setting: &str, limit: usize, id: &str) -> Result<String, Fail> {
-    let policy = policy(alloc, setting, id)?;
-    let request = request(alloc, setting)?;
-    let entities = stored(alloc, setting)?;
+// Whether a copy of the response is equal to it.
+fn copy_text(alloc: Global, response: &Response) -> Result<String, AllocError> {
+    let copy = response.clone()?;
+    truth(alloc, copy == *response)
+}
+
+fn truth(alloc: Global, is_true: bool) -> Result<String, AllocError> {
+    is_true.to_string(alloc)
+}
+
+fn evaluated(
+    alloc: Global,
+    setting: &Setting,
+    limit: usize,
+    policy: &Policy,
+) -> Result<bool, EvaluationError> {
     let extensions = Extensions::none();
-    let evaluator = Evaluator::new(alloc, request, &entities, &extensions, limit)?;
-    Ok(truth_text(alloc, &evaluator.evaluate(alloc, &policy))?)
+    let request = setting.request.clone()?;
+    let evaluator = Evaluator::new(alloc, request, &setting.entities, &extensions, limit)?;
+    evaluator.evaluate(alloc, policy)
 }
 
 fn truth_text(
@@ -66,72 +94,52 @@ fn truth_text(
     }
 }
 
-// `Allow [reasons] [errors]`, with each error behind its policy, and its place.
-fn response_text(alloc: Global, response: &Response) -> Result<String, AllocError> {
-    let decision = match response.decision {
-        Decision::Allow => "Allow",
-        Decision::Deny => "Deny",
-    };
+// `Allow [reasons] [errors]`, with each error behind its policy, and its place; or the errors' own texts, of copies
+// of them.
+fn response_text(alloc: Global, kind: &str, response: &Response) -> Result<String, AllocError> {
+    let mut texts: Vec<String> = Vec::new(alloc);
+    for error in &response.diagnostics.errors {
+        texts.push(if kind == "decide" {
+            error_line(alloc, error)?
+        } else {
+            copied_line(alloc, error)?
+        })?;
+    }
+    let errors = joined(alloc, &texts, "; ")?;
+    let decision = decision_text(response.decision);
     let reasons = reasons_text(alloc, &response.diagnostics.reason)?;
-    let errors = errors_text(alloc, &response.diagnostics.errors)?;
     format!(in alloc; "{decision} [{reasons}] [{errors}]")
 }
 
-fn reasons_text(alloc: Global, reasons: &HashSet<PolicyID>) -> Result<String, AllocError> {
-    let mut ids: Vec<String> = Vec::new(alloc);
-    for id in reasons.iter() {
-        ids.push(id.to_string(alloc)?)?;
-    }
-    ids.sort()?;
-    joined(alloc, &ids, ", ")
+fn error_line(alloc: Global, error: &AuthorizationError) -> Result<String, AllocError> {
+    let AuthorizationError::PolicyEvaluationError { id, error } = error;
+    let text = described(alloc, error)?;
+    format!(in alloc; "{id}: {text} {}", Place(error.source_loc()))
 }
 
-fn errors_text(alloc: Global, errors: &[AuthorizationError]) -> Result<String, AllocError> {
-    let mut texts: Vec<String> = Vec::new(alloc);
-    for error in errors {
-        let AuthorizationError::PolicyEvaluationError { id, error } = error;
-        let text = described(alloc, error)?;
-        let place = place_text(alloc, error.source_loc())?;
-        texts.push(format!(in alloc; "{id}: {text} {place}")?)?;
-    }
-    joined(alloc, &texts, "; ")
-}
-
-// The errors' own texts, of copies of them.
-fn error_texts(alloc: Global, response: &Response) -> Result<String, AllocError> {
-    let mut texts: Vec<String> = Vec::new(alloc);
-    for error in &response.diagnostics.errors {
-        texts.push(error.clone()?.to_string(alloc)?)?;
-    }
-    joined(alloc, &texts, "; ")
-}
-
-fn joined(alloc: Global, texts: &[String], between: &str) -> Result<String, AllocError> {
-    let mut all = String::new(alloc);
-    for text in texts {
-        if !all.is_empty() {
-            all.push_str(between)?;
-        }
-        all.push_str(text.as_str())?;
-    }
-    Ok(all)
+fn copied_line(alloc: Global, error: &AuthorizationError) -> Result<String, AllocError> {
+    error.clone()?.to_string(alloc)
 }
 
 // The ids with their effects, in order, or why there is no such set.
-fn set_text(alloc: Global, policies: Vec<Policy>) -> Result<String, AllocError> {
+fn set_text(alloc: Global, kind: &str, policies: Vec<Policy>) -> Result<String, AllocError> {
     match PolicySet::try_from_iter(alloc, policies) {
-        Ok(set) => policies_text(alloc, &set),
+        Ok(set) => if kind == "set" {
+            policies_text(alloc, &set)
+        } else {
+            format!(in alloc; "{set:?}")
+        },
         Err(error) => error.to_string(alloc),
     }
 }
 
 fn policies_text(alloc: Global, set: &PolicySet) -> Result<String, AllocError> {
     let mut texts: Vec<String> = Vec::new(alloc);
-    for policy in set.policies() {
+    for policy in set {
         let effect = effect_text(policy.effect());
         texts.push(format!(in alloc; "{effect} {}", policy.id())?)?;
     }
-    joined(alloc, &texts, ", ")
+    joined(alloc, &texts, ",")
 }
 
 fn effect_text(effect: Effect) -> &'static str {
@@ -145,47 +153,29 @@ fn effect_text(effect: Effect) -> &'static str {
 fn policy_text(alloc: Global, policy: &Policy) -> Result<String, AllocError> {
     let copy = policy.clone()?;
     let effect = effect_text(copy.effect());
-    let annotations = annotations_text(alloc, &copy)?;
-    let slots = slots_text(alloc, &copy)?;
-    format!(in alloc; "{effect} {} [{annotations}] [{slots}]", copy.id())
-}
-
-fn annotations_text(alloc: Global, policy: &Policy) -> Result<String, AllocError> {
-    let mut texts: Vec<String> = Vec::new(alloc);
-    for (key, text) in policy.annotations_rc().0.iter() {
-        texts.push(format!(in alloc; "{key} {text}")?)?;
-    }
-    joined(alloc, &texts, ", ")
-}
-
-fn slots_text(alloc: Global, policy: &Policy) -> Result<String, AllocError> {
-    let mut texts: Vec<String> = Vec::new(alloc);
-    for slot in [SlotId::Principal, SlotId::Resource] {
-        if let Some(uid) = policy.env().get(&slot) {
-            texts.push(format!(in alloc; "{slot} {uid}")?)?;
-        }
-    }
-    joined(alloc, &texts, ", ")
+    let annotations = &copy.annotations_rc().0;
+    format!(in alloc; "{effect} {} {annotations:?} {:?}", copy.id(), copy.env())
 }
 
 // The condition of a copy of the policy, where each of its conjunctions stands, and where the first constraint does.
 fn condition_text(alloc: Global, policy: &Policy) -> Result<String, AllocError> {
-    let mut condition = policy.clone()?.condition(alloc)?;
-    let mut text = condition.to_string(alloc)?;
-    for _ in 0..3 {
-        text.push_str(", ")?;
-        text.push_str(place_text(alloc, condition.source_loc())?.as_str())?;
-        condition = left_of(&condition)?;
-    }
-    text.push_str(", ")?;
-    text.push_str(place_text(alloc, condition.source_loc())?.as_str())?;
-    Ok(text)
+    let condition = policy.clone()?.condition(alloc)?;
+    let both = left_of(&condition);
+    let scope = left_of(both);
+    let first = left_of(scope);
+    format!(in alloc;
+        "{condition}, {}, {}, {}, {}",
+        Place(condition.source_loc()),
+        Place(both.source_loc()),
+        Place(scope.source_loc()),
+        Place(first.source_loc())
+    )
 }
 
 // The left side of a conjunction, and else the expression.
-fn left_of(expr: &Expr) -> Result<Expr, AllocError> {
+fn left_of(expr: &Expr) -> &Expr {
     match expr.expr_kind() {
-        ExprKind::And { left, .. } => left.as_ref().clone(),
-        _ => expr.clone(),
+        ExprKind::And { left, .. } => left.as_ref(),
+        _ => expr,
     }
 }

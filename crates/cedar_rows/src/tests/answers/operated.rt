@@ -1,13 +1,13 @@
 //! What the operators answer that users call by themselves, and errors that are made from their fields.
 use super::evaluated::{outcome_place, outcome_text};
-use super::place_text;
+use super::written::same_text;
 use crate::tests::reader::errors::error;
 use crate::tests::reader::leaves::{place, unary};
 use crate::tests::reader::values::values;
 use cedar_evaluator::evaluator::{EvaluationError, binary_arith, binary_relation, unary_app};
 use cedar_layers::expressions::{BinaryOp, Loc, Value};
 use cedar_values::extensions::Extensions;
-use std::alloc::Global;
+use std::alloc::{AllocError, Global};
 use std::test::Fail;
 
 /// The value or the error of the operator, and where it stands.
@@ -58,8 +58,10 @@ fn related(
 /// The text of the error, once it is put at the place, and where it stands; a copy of it is equal.
 pub fn built_error(alloc: Global, ends: &str, words: &str) -> Result<String, Fail> {
     let error = error(alloc, words)?.with_maybe_source_loc(place(ends)?);
-    let text = error.to_string(alloc)?;
-    let place = place_text(alloc, error.source_loc())?;
-    let is_same = error.clone()? == error;
-    Ok(format!(in alloc; "{text}, {place}, copied {is_same}")?)
+    Ok(error_copy(alloc, &error)?)
+}
+
+fn error_copy(alloc: Global, error: &EvaluationError) -> Result<String, AllocError> {
+    let copy = error.clone()?;
+    same_text(alloc, &copy, error, copy.source_loc())
 }

@@ -1,19 +1,19 @@
 //! What a request and a store hold.
-use super::place_text;
+use super::Place;
 use crate::tests::reader::leaves::uid;
-use crate::tests::reader::settings::{request, stored};
-use cedar_evaluator::request::{EntityUIDEntry, Request};
-use cedar_layers::expressions::{EntityUID, Unknown};
+use crate::tests::reader::settings::Setting;
+use cedar_evaluator::request::{Context, EntityUIDEntry, Request};
+use cedar_layers::expressions::{EntityUID, PartialValue, Unknown};
 use cedar_layers::policies::{Dereference, Entity};
 use std::alloc::{AllocError, Global};
 use std::rc::RcStr;
 use std::test::Fail;
 
 /// The part of the request of this name, or what the store has of the entity of this name.
-pub fn answer(alloc: Global, setting: &str, kind: &str, name: &str) -> Result<String, Fail> {
+pub fn answer(alloc: Global, setting: &Setting, kind: &str, name: &str) -> Result<String, Fail> {
     match kind {
-        "request" => asked(alloc, &request(alloc, setting)?, name),
-        _ => found(alloc, setting, &uid(alloc, name)?),
+        "request" => asked(alloc, &setting.request, name),
+        _ => Ok(found(alloc, setting, &uid(alloc, name)?)?),
     }
 }
 
@@ -22,36 +22,38 @@ fn asked(alloc: Global, request: &Request, name: &str) -> Result<String, Fail> {
         "principal" => Ok(entry_text(alloc, request.principal())?),
         "action" => Ok(entry_text(alloc, request.action())?),
         "resource" => Ok(entry_text(alloc, request.resource())?),
-        _ => Ok(context_text(alloc, request)?),
+        _ => match request.context() {
+            Some(context) => Ok(context_text(alloc, context)?),
+            None => Ok(String::from_str(alloc, "no context")?),
+        },
     }
 }
 
 // The entity, the value that stands for it, and where that stands.
 fn entry_text(alloc: Global, entry: &EntityUIDEntry) -> Result<String, AllocError> {
     let value = entry.evaluate(alloc)?;
-    let place = place_text(alloc, value.source_loc())?;
+    let place = Place(value.source_loc());
     match entry.uid() {
         Some(uid) => format!(in alloc; "{uid}, {value} {place}"),
         None => format!(in alloc; "not known, {value} {place}"),
     }
 }
 
-fn context_text(alloc: Global, request: &Request) -> Result<String, AllocError> {
-    match request.context() {
-        Some(context) => {
-            let (count, is_known) = (context.num_keys(), context.as_value().is_some());
-            format!(in alloc; "{count} attributes, known {is_known}")
-        }
-        None => String::from_str(alloc, "no context"),
-    }
+// How many attributes a copy of the context has, whether they are known, and whether it is equal.
+fn context_text(alloc: Global, context: &Context) -> Result<String, AllocError> {
+    let copy = context.clone()?;
+    let (count, is_known) = (copy.num_keys(), copy.as_value().is_some());
+    format!(in alloc;
+        "{count} attributes, known {is_known}, the same {}",
+        copy == *context
+    )
 }
 
-fn found(alloc: Global, setting: &str, uid: &EntityUID) -> Result<String, Fail> {
-    let store = stored(alloc, setting)?;
-    match store.entity(alloc, uid)? {
-        Dereference::NoSuchEntity => Ok(String::from_str(alloc, "no such entity")?),
-        Dereference::Residual(unknown) => Ok(unknown_text(alloc, &unknown)?),
-        Dereference::Data(entity) => Ok(entity_text(alloc, entity)?),
+fn found(alloc: Global, setting: &Setting, uid: &EntityUID) -> Result<String, AllocError> {
+    match setting.entities.entity(alloc, uid)? {
+        Dereference::NoSuchEntity => String::from_str(alloc, "no such entity"),
+        Dereference::Residual(unknown) => unknown_text(alloc, &unknown),
+        Dereference::Data(entity) => entity_text(alloc, entity),
     }
 }
 
@@ -63,38 +65,26 @@ fn unknown_text(alloc: Global, unknown: &Unknown) -> Result<String, AllocError> 
 }
 
 fn entity_text(alloc: Global, entity: &Entity) -> Result<String, AllocError> {
-    let attributes = attributes_text(alloc, entity)?;
-    let tags = tags_text(alloc, entity)?;
     let (attrs, tag_count) = (entity.attrs_len(), entity.tags_len());
-    format!(in alloc; "{attrs} attributes [{attributes}], {tag_count} tags [{tags}]")
-}
-
-fn attributes_text(alloc: Global, entity: &Entity) -> Result<String, AllocError> {
-    let mut text = String::new(alloc);
+    let mut text = format!(in alloc; "{attrs} attributes")?;
     for key in entity.keys() {
-        put(&mut text, key)?;
-        if let Some(part) = entity.get(key.as_str()) {
-            text.push_str(part.to_string(alloc)?.as_str())?;
-        }
+        part_text(alloc, &mut text, key, entity.get(key.as_str()))?;
     }
-    Ok(text)
-}
-
-fn tags_text(alloc: Global, entity: &Entity) -> Result<String, AllocError> {
-    let mut text = String::new(alloc);
+    text.push_str(format!(in alloc; ", {tag_count} tags")?.as_str())?;
     for key in entity.tag_keys() {
-        put(&mut text, key)?;
-        if let Some(part) = entity.get_tag(key.as_str()) {
-            text.push_str(part.to_string(alloc)?.as_str())?;
-        }
+        part_text(alloc, &mut text, key, entity.get_tag(key.as_str()))?;
     }
     Ok(text)
 }
 
-fn put(text: &mut String, key: &RcStr) -> Result<(), AllocError> {
-    if !text.is_empty() {
-        text.push_str(", ")?;
+fn part_text(
+    alloc: Global,
+    text: &mut String,
+    key: &RcStr,
+    part: Option<&PartialValue>,
+) -> Result<(), AllocError> {
+    match part {
+        Some(part) => text.push_str(format!(in alloc; ", {key} {part}")?.as_str()),
+        None => text.push_str(", no part"),
     }
-    text.push_str(key.as_str())?;
-    text.push_str(" ")
 }

@@ -1,26 +1,34 @@
 //! Expressions, values and leaves as they are printed, copied and changed.
-use super::place_text;
+use super::Place;
 use crate::tests::reader::expressions::expression;
+use crate::tests::reader::headed;
 use crate::tests::reader::leaves::{
     binary, entity_type, name, named_type, slot, uid, unary, unknown, variable,
 };
 use crate::tests::reader::values::{value, values};
-use crate::tests::reader::{headed, only};
-use cedar_layers::expressions::{BoundedDisplay, Expr, Literal, PartialValue, ResidualExpr, Value};
+use cedar_layers::expressions::{
+    BoundedDisplay, Expr, ExpressionConstructionError, Literal, Loc, PartialValue, ResidualExpr,
+    Value, ValueKind,
+};
 use std::alloc::{AllocError, Global};
 use std::cmp::Ordering;
 use std::collections::HashMap;
+use std::fmt;
 use std::rc::RcStr;
 use std::test::Fail;
 
 /// The text of the expression, under a bound, of a copy with its place, or what it is like.
 pub fn answer(alloc: Global, kind: &str, bound: &str, words: &str) -> Result<String, Fail> {
     let expr = expression(alloc, words)?;
+    of_expression(alloc, kind, bound, &expr)
+}
+
+fn of_expression(alloc: Global, kind: &str, bound: &str, expr: &Expr) -> Result<String, Fail> {
     match kind {
         "text" => Ok(expr.to_string(alloc)?),
-        "cut" => cut(alloc, &expr, bound),
-        "copy" => Ok(copy_text(alloc, &expr)?),
-        _ => Ok(shape_text(alloc, &expr)?),
+        "cut" => cut(alloc, expr, bound),
+        "copy" => Ok(copy_text(alloc, expr)?),
+        _ => Ok(shape_text(alloc, expr)?),
     }
 }
 
@@ -38,9 +46,18 @@ fn cut<T: BoundedDisplay>(alloc: Global, shown: &T, bound: &str) -> Result<Strin
 
 fn copy_text(alloc: Global, expr: &Expr) -> Result<String, AllocError> {
     let copy = expr.clone()?;
-    let is_same = copy == *expr;
-    let place = place_text(alloc, copy.source_loc())?;
-    format!(in alloc; "{copy}, {place}, the same {is_same}")
+    same_text(alloc, &copy, expr, copy.source_loc())
+}
+
+/// The copy, where it stands, and whether it is equal to what it was made from.
+pub fn same_text<T: fmt::Display + PartialEq>(
+    alloc: Global,
+    copy: &T,
+    original: &T,
+    place: Option<&Loc>,
+) -> Result<String, AllocError> {
+    let is_same = copy == original;
+    format!(in alloc; "{copy}, {}, the same {is_same}", Place(place))
 }
 
 fn shape_text(alloc: Global, expr: &Expr) -> Result<String, AllocError> {
@@ -53,11 +70,33 @@ fn shape_text(alloc: Global, expr: &Expr) -> Result<String, AllocError> {
 /// The map has a value at the first word, or nothing.
 pub fn substituted(alloc: Global, map: &str, words: &str, want: &str) -> Result<String, Fail> {
     let map = mapping(alloc, map)?;
-    let replaced = expression(alloc, words)?.substitute(alloc, &map)?;
-    if expression(alloc, want)? == replaced {
+    substituted_by(alloc, &map, words, want)
+}
+
+fn substituted_by(
+    alloc: Global,
+    map: &HashMap<RcStr, Value>,
+    words: &str,
+    want: &str,
+) -> Result<String, Fail> {
+    let expr = expression(alloc, words)?;
+    match expr.substitute(alloc, map) {
+        Ok(replaced) => wanted_or_text(alloc, &replaced, want),
+        Err(_) => Err(Fail::from("out of memory")),
+    }
+}
+
+fn wanted_or_text(alloc: Global, replaced: &Expr, want: &str) -> Result<String, Fail> {
+    let wanted = expression(alloc, want)?;
+    shown_or(alloc, replaced, wanted == *replaced, want)
+}
+
+// What is wanted, where it is met, and else the text of the expression.
+fn shown_or(alloc: Global, expr: &Expr, is_met: bool, want: &str) -> Result<String, Fail> {
+    if is_met {
         Ok(String::from_str(alloc, want)?)
     } else {
-        Ok(replaced.to_string(alloc)?)
+        Ok(expr.to_string(alloc)?)
     }
 }
 
@@ -75,21 +114,53 @@ pub fn other(alloc: Global, kind: &str, bound: &str, words: &str) -> Result<Stri
     match kind {
         "leaf" => leaf(alloc, words),
         "equal" => equal(alloc, words),
-        "keys" => keyed(alloc, words),
+        "keys" => Ok(keyed(alloc, words)?),
         "order" => ordered(alloc, words),
-        "part-text" => Ok(partial(alloc, words)?.to_string(alloc)?),
-        "part-cut" => cut(alloc, &partial(alloc, words)?, bound),
-        "part-copy" => Ok(part_copy(alloc, &partial(alloc, words)?)?),
-        _ => of_value(alloc, kind, bound, &value(alloc, words)?),
+        "part-text" | "part-cut" | "part-copy" | "part-expression" => {
+            let part = partial(alloc, words)?;
+            of_part(alloc, kind, bound, &part)
+        }
+        _ => {
+            let value = value(alloc, words)?;
+            of_value(alloc, kind, bound, &value)
+        }
     }
 }
 
-// Whether the two expressions are equal, in either order.
+fn of_part(alloc: Global, kind: &str, bound: &str, part: &PartialValue) -> Result<String, Fail> {
+    match kind {
+        "part-text" => Ok(part.to_string(alloc)?),
+        "part-cut" => cut(alloc, part, bound),
+        "part-copy" => Ok(part_copy(alloc, part)?),
+        _ => Ok(part_expression(alloc, part)?),
+    }
+}
+
+fn part_expression(alloc: Global, part: &PartialValue) -> Result<String, AllocError> {
+    let expr = part.as_expr(alloc)?;
+    expr.to_string(alloc)
+}
+
+fn value_expression(alloc: Global, value: &Value) -> Result<String, AllocError> {
+    let expr = value.to_expr(alloc)?;
+    copy_text(alloc, &expr)
+}
+
+// Whether the two expressions are equal.
 fn equal(alloc: Global, words: &str) -> Result<String, Fail> {
     let (left, right) = words.split_once(" ~ ").ok_or("equality is of two")?;
-    let (left, right) = (expression(alloc, left)?, expression(alloc, right)?);
-    let is_equal = left == right;
-    if is_equal == (right == left) {
+    let left = expression(alloc, left)?;
+    equal_to(alloc, &left, right)
+}
+
+// Whether the expression equals the one of these words, in either order.
+fn equal_to(alloc: Global, left: &Expr, words: &str) -> Result<String, Fail> {
+    let right = expression(alloc, words)?;
+    truths(alloc, *left == right, right == *left)
+}
+
+fn truths(alloc: Global, is_equal: bool, is_equal_turned: bool) -> Result<String, Fail> {
+    if is_equal == is_equal_turned {
         Ok(is_equal.to_string(alloc)?)
     } else {
         Err(Fail::from("equality has no order"))
@@ -98,32 +169,40 @@ fn equal(alloc: Global, words: &str) -> Result<String, Fail> {
 
 // How the first value stands to the second one, and whether they are equal.
 fn ordered(alloc: Global, words: &str) -> Result<String, Fail> {
-    let mut values = values(alloc, words)?;
-    let right = values.pop().ok_or("an order is of two")?;
-    let left = only(values)?;
-    let is_equal = left == right;
-    let order = match left.cmp(&right) {
-        Ordering::Less => "Less",
-        Ordering::Equal => "Equal",
-        Ordering::Greater => "Greater",
-    };
-    Ok(format!(in alloc; "{order}, equal {is_equal}")?)
+    let values = values(alloc, words)?;
+    match values.as_slice() {
+        [left, right] => order_text(alloc, left.cmp(right), left == right),
+        _ => Err(Fail::from("an order is of two")),
+    }
+}
+
+fn order_text(alloc: Global, order: Ordering, is_equal: bool) -> Result<String, Fail> {
+    Ok(format!(in alloc; "{order:?}, equal {is_equal}")?)
 }
 
 // The record of `true` under these keys, or the text of its error as it is and in another context.
-fn keyed(alloc: Global, keys: &str) -> Result<String, Fail> {
+fn keyed(alloc: Global, keys: &str) -> Result<String, AllocError> {
+    match Expr::record(alloc, true_under(alloc, keys)?) {
+        Ok(expr) => expr.to_string(alloc),
+        Err(error) => error_in_context(alloc, error),
+    }
+}
+
+fn true_under(alloc: Global, keys: &str) -> Result<Vec<(RcStr, Expr)>, AllocError> {
     let mut pairs: Vec<(RcStr, Expr)> = Vec::new(alloc);
     for key in keys.split(',') {
         pairs.push((RcStr::from_str(alloc, key)?, Expr::val(Literal::Bool(true))))?;
     }
-    match Expr::record(alloc, pairs) {
-        Ok(expr) => Ok(expr.to_string(alloc)?),
-        Err(error) => {
-            let text = error.to_string(alloc)?;
-            let error = error.with_context("in a row");
-            Ok(format!(in alloc; "{text}, {error}")?)
-        }
-    }
+    Ok(pairs)
+}
+
+fn error_in_context(
+    alloc: Global,
+    error: ExpressionConstructionError,
+) -> Result<String, AllocError> {
+    let mut text = format!(in alloc; "{error}, ")?;
+    text.push_str(error.with_context("in a row").to_string(alloc)?.as_str())?;
+    Ok(text)
 }
 
 fn of_value(alloc: Global, kind: &str, bound: &str, value: &Value) -> Result<String, Fail> {
@@ -131,17 +210,32 @@ fn of_value(alloc: Global, kind: &str, bound: &str, value: &Value) -> Result<Str
         "value-text" => Ok(value.to_string(alloc)?),
         "value-cut" => cut(alloc, value, bound),
         "value-type" => Ok(value.type_of()?.to_string(alloc)?),
-        "value-expression" => Ok(copy_text(alloc, &value.to_expr(alloc)?)?),
+        "value-expression" => Ok(value_expression(alloc, value)?),
         "value-copy" => Ok(value_copy(alloc, value)?),
+        "value-elements" => Ok(elements_text(alloc, value)?),
         _ => Err(Fail::from("no such question")),
     }
 }
 
 fn value_copy(alloc: Global, value: &Value) -> Result<String, AllocError> {
     let copy = value.clone()?;
-    let is_same = copy == *value;
-    let place = place_text(alloc, copy.source_loc())?;
-    format!(in alloc; "{copy}, {place}, the same {is_same}")
+    same_text(alloc, &copy, value, copy.source_loc())
+}
+
+// The elements of a set, in order.
+fn elements_text(alloc: Global, value: &Value) -> Result<String, AllocError> {
+    let mut text = String::from_str(alloc, "elements")?;
+    if let ValueKind::Set(set) = value.value_kind() {
+        for element in set {
+            put_element(alloc, &mut text, element)?;
+        }
+    }
+    Ok(text)
+}
+
+fn put_element(alloc: Global, text: &mut String, element: &Value) -> Result<(), AllocError> {
+    text.push_str(" ")?;
+    text.push_str(element.to_string(alloc)?.as_str())
 }
 
 // The value that the words write, or the unknown.
@@ -157,28 +251,35 @@ fn partial(alloc: Global, words: &str) -> Result<PartialValue, Fail> {
 
 fn part_copy(alloc: Global, part: &PartialValue) -> Result<String, AllocError> {
     let copy = part.clone()?;
-    let is_same = copy == *part;
-    let expr = copy.as_expr(alloc)?;
-    format!(in alloc; "{copy}, the same {is_same}, as {expr}")
+    same_text(alloc, &copy, part, None)
 }
 
 fn leaf(alloc: Global, words: &str) -> Result<String, Fail> {
     let (kind, rest) = words.split_once(':').ok_or("a leaf has a kind")?;
     match kind {
-        "name" => Ok(name(alloc, rest)?.to_string(alloc)?),
-        "entity-type" => Ok(entity_type(alloc, rest)?.to_string(alloc)?),
-        "uid" => Ok(uid(alloc, rest)?.to_string(alloc)?),
-        "type" => Ok(named_type(alloc, rest)?.to_string(alloc)?),
-        _ => small_leaf(alloc, kind, rest),
+        "name" => shown(alloc, name(alloc, rest)),
+        "entity-type" => shown(alloc, entity_type(alloc, rest)),
+        "uid" => shown(alloc, uid(alloc, rest)),
+        "type" => shown(alloc, named_type(alloc, rest)),
+        "variable" => shown(alloc, variable(rest)),
+        "slot" => shown(alloc, slot(rest)),
+        "unary" => shown(alloc, known(unary(rest))),
+        "binary" => shown(alloc, known(binary(rest))),
+        _ => Err(Fail::from("no such leaf")),
     }
 }
 
-fn small_leaf(alloc: Global, kind: &str, rest: &str) -> Result<String, Fail> {
-    match kind {
-        "variable" => Ok(variable(rest)?.to_string(alloc)?),
-        "slot" => Ok(slot(rest)?.to_string(alloc)?),
-        "unary" => Ok(unary(rest).ok_or("no such operator")?.to_string(alloc)?),
-        "binary" => Ok(binary(rest).ok_or("no such operator")?.to_string(alloc)?),
-        _ => Err(Fail::from("no such leaf")),
+// The text of what was read.
+fn shown<T: fmt::Display + Drop>(alloc: Global, read: Result<T, Fail>) -> Result<String, Fail> {
+    match read {
+        Ok(leaf) => Ok(leaf.to_string(alloc)?),
+        Err(error) => Err(error),
+    }
+}
+
+fn known<T: Drop>(leaf: Option<T>) -> Result<T, Fail> {
+    match leaf {
+        Some(leaf) => Ok(leaf),
+        None => Err(Fail::from("no such leaf")),
     }
 }

@@ -80,10 +80,7 @@ pub fn place(text: &str) -> Result<Option<Loc>, Fail> {
 
 /// The text that is written so, with spaces in the place of `␣`.
 pub fn text(alloc: Global, written: &str) -> Result<RcStr, AllocError> {
-    let mut text = String::new(alloc);
-    for c in written.chars() {
-        text.push(if c == '␣' { ' ' } else { c })?;
-    }
+    let text = written.replace(alloc, '␣', " ")?;
     RcStr::from_str(alloc, text.as_str())
 }
 

@@ -5,10 +5,10 @@
 //! - `clause p forbid 3-5 WORDS` is a policy made from its when clause alone, at a place.
 //! - `annotation p key text` is an annotation of a policy.
 use super::expressions::expression;
-use super::headed;
 use super::leaves::{place, text};
 use super::settings::{fact_of, slots};
-use cedar_layers::expressions::Expr;
+use super::{Parts, headed};
+use cedar_layers::expressions::{Expr, Literal};
 use cedar_layers::policies::{Annotations, Effect, Policy, PolicyID};
 use std::alloc::{AllocError, Global};
 use std::rc::Rc;
@@ -60,7 +60,9 @@ fn of_parts(alloc: Global, setting: &str, id: &str, stated: &str) -> Result<Poli
     let annotations = annotations(alloc, setting, id)?;
     let slots = slots(alloc, setting)?;
     let id = policy_id(alloc, id)?;
-    let (principal, action, resource, when) = conjuncts(alloc, words)?;
+    let mut parts = conjuncts(alloc, words)?;
+    let when = part(&mut parts);
+    let (resource, action, principal) = (part(&mut parts), part(&mut parts), part(&mut parts));
     Ok(Policy::new(
         alloc,
         effect,
@@ -74,22 +76,23 @@ fn of_parts(alloc: Global, setting: &str, id: &str, stated: &str) -> Result<Poli
     )?)
 }
 
-// The constraints on the principal, the action and the resource, and the when clause.
-fn conjuncts(alloc: Global, words: &str) -> Result<(Expr, Expr, Expr, Expr), Fail> {
-    let (principal, rest) = cut(words);
-    let (action, rest) = cut(rest);
-    let (resource, when) = cut(rest);
-    let scope = (expression(alloc, principal)?, expression(alloc, action)?);
-    let rest = (expression(alloc, resource)?, expression(alloc, when)?);
-    Ok((scope.0, scope.1, rest.0, rest.1))
+// The constraints on the principal, the action and the resource, if they are written, and the when clause.
+fn conjuncts(alloc: Global, words: &str) -> Result<Parts<Expr>, Fail> {
+    let mut parts: Parts<Expr> = Parts::new(alloc);
+    for part in words.split(" | ") {
+        read(alloc, part, &mut parts)?;
+    }
+    Ok(parts)
 }
 
-// The words before the bar and those behind it. Where there is no bar, `true` stands before it.
-fn cut(words: &str) -> (&str, &str) {
-    match words.split_once(" | ") {
-        Some((part, rest)) => (part, rest),
-        None => ("B:true", words),
-    }
+fn read(alloc: Global, words: &str, parts: &mut Parts<Expr>) -> Result<(), Fail> {
+    let expr = expression(alloc, words)?;
+    Ok(parts.push(expr)?)
+}
+
+// The last part; a constraint that is not written is `true`.
+fn part(parts: &mut Parts<Expr>) -> Expr {
+    parts.pop(Expr::val(Literal::Bool(true)))
 }
 
 fn annotations(alloc: Global, setting: &str, id: &str) -> Result<Annotations, Fail> {

@@ -26,38 +26,57 @@ use std::test::Fail;
 
 /// Values and unknowns under their names, as an entity has them.
 #[derive(Drop)]
-struct Parts {
+struct StoredParts {
     parts: BTreeMap<RcStr, PartialValue>,
     ghost restricted: { are_restricted_parts (parts_view parts.entries) ≡ true } by { Bool-set _ _ },
 }
 
-impl Parts {
-    fn new(alloc: Global) -> Parts {
-        Parts {
+impl StoredParts {
+    fn new(alloc: Global) -> StoredParts {
+        StoredParts {
             parts: BTreeMap::new(alloc),
         }
     }
 
     // The parts, and this value under its name.
     #[tactic(auto, using(crate::proofs::StoredValues::restricted_insert))]
-    fn with(self, name: RcStr, value: Value) -> Result<Parts, AllocError> {
+    fn with(self, name: RcStr, value: Value) -> Result<StoredParts, AllocError> {
         let mut parts = self.parts;
         parts.insert(name, PartialValue::Value(value))?;
-        Ok(Parts { parts })
+        Ok(StoredParts { parts })
     }
 
     // The parts, and this unknown under its name.
     #[tactic(auto, using(crate::proofs::StoredValues::restricted_insert))]
-    fn with_unknown(self, name: RcStr, unknown: Unknown) -> Result<Parts, AllocError> {
+    fn with_unknown(self, name: RcStr, unknown: Unknown) -> Result<StoredParts, AllocError> {
         let mut parts = self.parts;
         let residual = ResidualExpr::new(Expr::unknown(unknown));
         parts.insert(name, PartialValue::Residual(residual))?;
-        Ok(Parts { parts })
+        Ok(StoredParts { parts })
     }
 }
 
-/// The request.
-pub fn request(alloc: Global, setting: &str) -> Result<Request, Fail> {
+/// What rows are answered in.
+#[derive(Drop)]
+pub struct Setting {
+    pub request: Request,
+    pub slots: SlotEnv,
+    pub entities: Entities,
+}
+
+/// The setting of these facts.
+pub fn setting_of(alloc: Global, facts: &str) -> Result<Setting, Fail> {
+    let slots = slots(alloc, facts)?;
+    let request = request(alloc, facts)?;
+    let entities = stored(alloc, facts)?;
+    Ok(Setting {
+        request,
+        slots,
+        entities,
+    })
+}
+
+fn request(alloc: Global, setting: &str) -> Result<Request, Fail> {
     let principal = entry(alloc, setting, "principal")?;
     let action = entry(alloc, setting, "action")?;
     let resource = entry(alloc, setting, "resource")?;
@@ -82,8 +101,7 @@ pub fn slots(alloc: Global, setting: &str) -> Result<SlotEnv, Fail> {
     Ok(slots)
 }
 
-/// The store of the entities.
-pub fn stored(alloc: Global, setting: &str) -> Result<Entities, Fail> {
+fn stored(alloc: Global, setting: &str) -> Result<Entities, Fail> {
     let is_partial = first_fact(setting, "store") == Some("partial");
     let entities = entities(alloc, setting)?;
     Ok(Entities::with(alloc, entities, is_partial)?)
@@ -120,8 +138,13 @@ fn ancestors(alloc: Global, setting: &str, called: &str) -> Result<HashSet<Entit
 }
 
 // The attributes, or the tags, of the entity.
-fn parts_of(alloc: Global, setting: &str, keyword: &str, called: &str) -> Result<Parts, Fail> {
-    let mut parts = Parts::new(alloc);
+fn parts_of(
+    alloc: Global,
+    setting: &str,
+    keyword: &str,
+    called: &str,
+) -> Result<StoredParts, Fail> {
+    let mut parts = StoredParts::new(alloc);
     for line in setting.lines() {
         if let Some(rest) = fact_of(line, keyword, called) {
             parts = with_part(alloc, parts, rest)?;
@@ -130,7 +153,7 @@ fn parts_of(alloc: Global, setting: &str, keyword: &str, called: &str) -> Result
     Ok(parts)
 }
 
-fn with_part(alloc: Global, parts: Parts, named: &str) -> Result<Parts, Fail> {
+fn with_part(alloc: Global, parts: StoredParts, named: &str) -> Result<StoredParts, Fail> {
     let (name, words) = headed(named);
     let name = text(alloc, name)?;
     match words.strip_prefix("U:") {

@@ -1,64 +1,60 @@
 //! Reads values: literals, sets and records, as words alike. `@1-2` puts the value before it at this place. `X:decimal:1.5` is the extension value of
 //! this type that a function of the type's name makes of the text, which is its key.
 use super::leaves::{literal, name, place, text};
-use super::{last, only};
+use super::{Parts, mapped};
 use cedar_layers::expressions::{
     Expr, ExtensionValue, Literal, Name, Representation, Value, ValueKind,
 };
 use std::alloc::{AllocError, Global};
-use std::collections::BTreeMap;
 use std::rc::{Rc, RcStr};
 use std::test::Fail;
 
 /// The value that these words write.
 pub fn value(alloc: Global, words: &str) -> Result<Value, Fail> {
-    only(values(alloc, words)?)
+    read_all(alloc, words)?.only()
 }
 
 /// The values that these words write.
 pub fn values(alloc: Global, words: &str) -> Result<Vec<Value>, Fail> {
-    let mut parts: Vec<Value> = Vec::new(alloc);
+    read_all(alloc, words)?.all()
+}
+
+fn read_all(alloc: Global, words: &str) -> Result<Parts<Value>, Fail> {
+    let mut parts: Parts<Value> = Parts::new(alloc);
     for word in words.split(' ') {
-        let value = part(alloc, word, &mut parts)?;
-        parts.push(value)?;
+        read(alloc, word, &mut parts)?;
     }
     Ok(parts)
 }
 
+fn read(alloc: Global, word: &str, parts: &mut Parts<Value>) -> Result<(), Fail> {
+    let value = part(alloc, word, parts)?;
+    Ok(parts.push(value)?)
+}
+
 // The value that the word makes of those before it.
-fn part(alloc: Global, word: &str, parts: &mut Vec<Value>) -> Result<Value, Fail> {
+fn part(alloc: Global, word: &str, parts: &mut Parts<Value>) -> Result<Value, Fail> {
     if let Some(ends) = word.strip_prefix('@') {
-        return placed(ends, parts);
+        let place = place(ends)?;
+        return Ok(popped(parts).with_maybe_source_loc(place));
     }
-    let (kind, rest) = word.split_once(':').ok_or("a word that is no value")?;
-    match kind {
-        "set" => set(alloc, rest, parts),
-        "record" => record(alloc, rest, parts),
-        "X" => extension(alloc, rest),
-        _ => Ok(Value::from(literal(alloc, kind, rest)?)),
-    }
-}
-
-fn placed(ends: &str, parts: &mut Vec<Value>) -> Result<Value, Fail> {
-    let place = place(ends)?;
-    let value = parts.pop().ok_or("a part is missing")?;
-    Ok(value.with_maybe_source_loc(place))
-}
-
-fn set(alloc: Global, count: &str, parts: &mut Vec<Value>) -> Result<Value, Fail> {
-    let elements = last(alloc, parts, count.parse::<usize>()?)?;
-    Ok(Value::set(alloc, elements, None)?)
-}
-
-fn record(alloc: Global, keys: &str, parts: &mut Vec<Value>) -> Result<Value, Fail> {
-    let mut pairs: BTreeMap<RcStr, Value> = BTreeMap::new(alloc);
-    if !keys.is_empty() {
-        for key in keys.rsplit(',') {
-            let value = parts.pop().ok_or("a part is missing")?;
-            pairs.insert(text(alloc, key)?, value)?;
+    match word.split_once(':') {
+        Some(("set", count)) => {
+            let count = count.parse::<usize>()?;
+            Ok(Value::set(alloc, parts.last(count)?, None)?)
         }
+        Some(("record", keys)) => {
+            let map = mapped(alloc, parts.named(alloc, keys)?)?;
+            Ok(Value::record(alloc, map, None)?)
+        }
+        Some(("X", rest)) => extension(alloc, rest),
+        Some((kind, rest)) => Ok(Value::from(literal(alloc, kind, rest)?)),
+        None => Err(Fail::from("a word that is no value")),
     }
-    Ok(Value::record(alloc, pairs, None)?)
+}
+
+fn popped(parts: &mut Parts<Value>) -> Value {
+    parts.pop(Value::from(Literal::Bool(false)))
 }
 
 fn extension(alloc: Global, written: &str) -> Result<Value, Fail> {

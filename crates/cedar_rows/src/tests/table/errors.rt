@@ -42,15 +42,15 @@ ask error 1
 B:true not => recursion limit reached
 # errors that are made from their fields, at no place and at one: the type that was given, and those that were expected, in order
 ask built-error
-TypeError Bool Long => type error: expected long, got bool, nowhere, copied true
-TypeError Bool Long,String => type error: expected one of [long, string], got bool, nowhere, copied true
-TypeError Bool String,Long => type error: expected one of [string, long], got bool, nowhere, copied true
-TypeError Long Set,Record,Entity:User => type error: expected one of [set, record, (entity of type `User`)], got long, nowhere, copied true
-TypeError Extension:ipaddr Bool,Bool,Long,Extension:decimal => type error: expected one of [bool, bool, long, decimal], got ipaddr, nowhere, copied true
-WrongNumArguments f 2 1 => wrong number of arguments provided to extension function `f`: expected 2, got 1, nowhere, copied true
-FailedExtensionFunctionExecution ip no␣address => error while evaluating `ip` extension function: no address, nowhere, copied true
+TypeError Bool Long => type error: expected long, got bool, nowhere, the same true
+TypeError Bool Long,String => type error: expected one of [long, string], got bool, nowhere, the same true
+TypeError Bool String,Long => type error: expected one of [string, long], got bool, nowhere, the same true
+TypeError Long Set,Record,Entity:User => type error: expected one of [set, record, (entity of type `User`)], got long, nowhere, the same true
+TypeError Extension:ipaddr Bool,Bool,Long,Extension:decimal => type error: expected one of [bool, bool, long, decimal], got ipaddr, nowhere, the same true
+WrongNumArguments f 2 1 => wrong number of arguments provided to extension function `f`: expected 2, got 1, nowhere, the same true
+FailedExtensionFunctionExecution ip no␣address => error while evaluating `ip` extension function: no address, nowhere, the same true
 ask built-error 3-5
-TypeError Bool Long,String => type error: expected one of [long, string], got bool, at 3-5, copied true
-WrongNumArguments f 2 1 => wrong number of arguments provided to extension function `f`: expected 2, got 1, at 3-5, copied true
-FailedExtensionFunctionExecution ip no␣address => error while evaluating `ip` extension function: no address, at 3-5, copied true
+TypeError Bool Long,String => type error: expected one of [long, string], got bool, at 3-5, the same true
+WrongNumArguments f 2 1 => wrong number of arguments provided to extension function `f`: expected 2, got 1, at 3-5, the same true
+FailedExtensionFunctionExecution ip no␣address => error while evaluating `ip` extension function: no address, at 3-5, the same true
 "#;

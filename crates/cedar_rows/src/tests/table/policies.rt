@@ -47,72 +47,72 @@ ask decide
 yes => Allow [yes] []
 never => Deny [] []
 never yes => Allow [yes] []
-yes also => Allow [also, yes] []
-also yes never => Allow [also, yes] []
+yes also => Allow [also,yes] []
+also yes never => Allow [also,yes] []
 deny => Deny [deny] []
 yes deny => Deny [deny] []
 deny yes => Deny [deny] []
 not-denied yes => Allow [yes] []
 not-denied => Deny [] []
-bad => Deny [] [bad: RecordAttrDoesNotExist bad [] 0 nowhere]
-yes bad => Allow [yes] [bad: RecordAttrDoesNotExist bad [] 0 nowhere]
-bad bad-deny yes => Allow [yes] [bad: RecordAttrDoesNotExist bad [] 0 nowhere; bad-deny: RecordAttrDoesNotExist bad [] 0 at 4-5]
-bad-deny yes bad => Allow [yes] [bad-deny: RecordAttrDoesNotExist bad [] 0 at 4-5; bad: RecordAttrDoesNotExist bad [] 0 nowhere]
-bad-deny deny yes => Deny [deny] [bad-deny: RecordAttrDoesNotExist bad [] 0 at 4-5]
-long => Deny [] [long: TypeError expected Bool actual Long nowhere]
-unlinked => Deny [] [unlinked: UnlinkedSlot ?resource nowhere]
+bad => Deny [] [bad: record does not have the attribute `bad`, other false, 0: nowhere]
+yes bad => Allow [yes] [bad: record does not have the attribute `bad`, other false, 0: nowhere]
+bad bad-deny yes => Allow [yes] [bad: record does not have the attribute `bad`, other false, 0: nowhere; bad-deny: record does not have the attribute `bad`, other false, 0: at 4-5]
+bad-deny yes bad => Allow [yes] [bad-deny: record does not have the attribute `bad`, other false, 0: at 4-5; bad: record does not have the attribute `bad`, other false, 0: nowhere]
+bad-deny deny yes => Deny [deny] [bad-deny: record does not have the attribute `bad`, other false, 0: at 4-5]
+long => Deny [] [long: type error: expected bool, got long nowhere]
+unlinked => Deny [] [unlinked: template slot `?resource` was not linked nowhere]
 linked => Allow [linked] []
-placed => Deny [] [placed: TypeError expected Bool actual Record at 3-5]
-placed-bad => Deny [] [placed-bad: RecordAttrDoesNotExist bad [] 0 at 6-7]
-scoped => Deny [] [scoped: TypeError expected Bool actual Record nowhere]
+placed => Deny [] [placed: type error: expected bool, got record at 3-5]
+placed-bad => Deny [] [placed-bad: record does not have the attribute `bad`, other false, 0: at 6-7]
+scoped => Deny [] [scoped: type error: expected bool, got record nowhere]
 # the texts of errors
 ask decide-texts
-bad => while evaluating policy `bad`: record does not have the attribute `bad`
-long yes unlinked => while evaluating policy `long`: type error: expected bool, got long; while evaluating policy `unlinked`: template slot `?resource` was not linked
+bad => Deny [] [while evaluating policy `bad`: record does not have the attribute `bad`]
+long yes unlinked => Allow [yes] [while evaluating policy `long`: type error: expected bool, got long; while evaluating policy `unlinked`: template slot `?resource` was not linked]
 # a constraint that is false keeps an error of the when clause back
 ask decide
 other => Deny [] []
 late => Deny [] []
-early => Deny [] [early: TypeError expected Bool actual Long nowhere]
+early => Deny [] [early: type error: expected bool, got long nowhere]
 # the constraint on the principal is four levels deep, that on the action too, that on the resource three, the when clause two
 ask decide 5
-linked yes => Allow [linked, yes] []
+linked yes => Allow [linked,yes] []
 ask decide 4
 yes => Allow [yes] []
-also yes => Allow [also, yes] []
-unplaced yes => Allow [unplaced, yes] []
-linked yes => Allow [yes] [linked: RecursionLimit nowhere]
+also yes => Allow [also,yes] []
+unplaced yes => Allow [unplaced,yes] []
+linked yes => Allow [yes] [linked: recursion limit reached nowhere]
 ask decide 3
-yes also => Deny [] [yes: RecursionLimit nowhere; also: RecursionLimit nowhere]
-unplaced deny => Deny [] [unplaced: RecursionLimit nowhere; deny: RecursionLimit nowhere]
+yes also => Deny [] [yes: recursion limit reached nowhere; also: recursion limit reached nowhere]
+unplaced deny => Deny [] [unplaced: recursion limit reached nowhere; deny: recursion limit reached nowhere]
 ask decide 2
-yes => Deny [] [yes: RecursionLimit nowhere]
-placed => Deny [] [placed: RecursionLimit at 3-5]
+yes => Deny [] [yes: recursion limit reached nowhere]
+placed => Deny [] [placed: recursion limit reached at 3-5]
 ask decide 0
-yes deny => Deny [] [yes: RecursionLimit nowhere; deny: RecursionLimit nowhere]
-placed => Deny [] [placed: RecursionLimit nowhere]
+yes deny => Deny [] [yes: recursion limit reached nowhere; deny: recursion limit reached nowhere]
+placed => Deny [] [placed: recursion limit reached nowhere]
 # what the condition of one policy comes out as
 ask evaluate
 yes => true
 never => false
 deny => true
-bad => RecordAttrDoesNotExist bad [] 0
-long => TypeError expected Bool actual Long
+bad => record does not have the attribute `bad`, other false, 0:
+long => type error: expected bool, got long
 linked => true
 ask evaluate 2
-yes => RecursionLimit
+yes => recursion limit reached
 # policies in order, and ids that come again
 ask set
-yes never deny => permit yes, permit never, forbid deny
-deny never yes => forbid deny, permit never, permit yes
+yes never deny => permit yes,permit never,forbid deny
+deny never yes => forbid deny,permit never,permit yes
 yes yes => duplicate policy id `yes`
 yes never yes never => duplicate policy id `yes`
 yes never never yes => duplicate policy id `never`
 # what a copy of a policy holds
 ask policy
-linked => permit linked [id first, note of two words] [?principal User::"a"]
-placed => forbid placed [id second] []
-yes => permit yes [] [?principal User::"a"]
+linked => permit linked {"id": "first", "note": "of two words"} {Principal: EntityUID { ty: EntityType(Name { text: "User", loc: None }), eid: "a", loc: None }}
+placed => forbid placed {"id": "second"} {}
+yes => permit yes {} {Principal: EntityUID { ty: EntityType(Name { text: "User", loc: None }), eid: "a", loc: None }}
 # the condition of a copy, where each of its conjunctions stands, the outermost first, and then where the first constraint does
 ask condition
 placed => ((true && true) && true) && context, at 3-5, at 3-5, at 3-5, nowhere
@@ -123,24 +123,39 @@ ask request
 principal => User::"a", User::"a" at 0-1
 action => User::"b", User::"b" nowhere
 resource => User::"c", User::"c" at 2-3
-context => 0 attributes, known true
+context => 0 attributes, known true, the same true
 # a value of a variable stands at the expression
 ask place
 V:principal => value nowhere
 V:principal @5-6 => value at 5-6
 # the store
 ask entity
-User:a => 1 attributes [number 3], 0 tags []
-User:b => 1 attributes [number 2], 0 tags []
+User:a => 1 attributes, number 3, 0 tags
+User:b => 1 attributes, number 2, 0 tags
 User:c => no such entity
 ask value
 E:User:a get:number => 3
 E:User:a T:number hasTag => false
-E:User:a T:number getTag => EntityAttrDoesNotExist User::"a" number was_attr=false other=true [] 0
+E:User:a T:number getTag => `User::"a"` does not have the tag `number`, other true, 0:
 E:User:a E:User:parent in => true
 E:User:a E:User:first in => false
 E:User:a E:User:b in => false
 # a guard that is false keeps an error back, and one that is true shows it
 V:principal E:User:b eq V:context get:bad L:2 eq and => false
-V:principal E:User:a eq V:context get:bad L:2 eq and => RecordAttrDoesNotExist bad [] 0
+V:principal E:User:a eq V:context get:bad L:2 eq and => record does not have the attribute `bad`, other false, 0:
+ask decide-copy
+yes long unlinked => true
+never => true
+ask set-debug
+yes => PolicySet { policies: {PolicyID("yes"): Policy { effect: Permit, id: PolicyID("yes"), annotations: Annotations({}), principal: Expr { expr_kind: Lit(Bool(true)), source_loc: None }, action: Expr { expr_kind: Lit(Bool(true)), source_loc: None }, resource: Expr { expr_kind: Lit(Bool(true)), source_loc: None }, when: Expr { expr_kind: Lit(Bool(true)), source_loc: None }, env: {Principal: EntityUID { ty: EntityType(Name { text: "User", loc: None }), eid: "a", loc: None }}, loc: None }} }
+# the program: its status and its lines
+ask run
+none => 0 empty Deny [] [];skip2 Allow [1] [2];skip3 Allow [1] [2,3];skip4 Deny [4] [2,3];
+empty => 0 empty Deny [] [];
+skip2 => 0 skip2 Allow [1] [2];
+skip3 => 0 skip3 Allow [1] [2,3];
+skip4 => 0 skip4 Deny [4] [2,3];
+skip9 => 2 no such row: skip9;
+'' => 2 no such row: ;
+skip2 skip3 => 2 usage: cedar_rows [NAME];
 "#;

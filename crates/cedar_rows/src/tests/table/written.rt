@@ -106,6 +106,9 @@ T:a => "a", nowhere, the same true
 L:2 L:1 L:2 set:3 @1-2 => [1, 2], at 1-2, the same true
 L:1 E:User:a record:l,k @1-2 => {"k": User::"a", "l": 1}, at 1-2, the same true
 X:decimal:1.5 @1-2 => decimal("1.5"), at 1-2, the same true
+ask value-elements
+L:2 L:1 L:2 T:a set:4 => elements 1 2 "a"
+set:0 => elements
 # the type of a value
 ask value-type
 B:true => bool
@@ -136,10 +139,15 @@ X:decimal:1.5 X:decimal:1.6 => Less, equal false
 X:a:2 X:b:1 => Less, equal false
 # copies of partial values, and their expressions
 ask part-copy
-L:1 => 1, the same true, as 1
-L:1 set:1 => [1], the same true, as [1]
-U:x => unknown("x"), the same true, as unknown("x")
-U:x:Long => unknown("x"), the same true, as unknown("x")
+L:1 => 1, nowhere, the same true
+L:1 set:1 => [1], nowhere, the same true
+U:x => unknown("x"), nowhere, the same true
+U:x:Long => unknown("x"), nowhere, the same true
+ask part-expression
+L:1 => 1
+L:1 set:1 => [1]
+U:x => unknown("x")
+U:x:Long => unknown("x")
 # operators on values
 ask operator
 B:true not => false, value nowhere
@@ -156,16 +164,16 @@ L:5 L:2 sub => 3, value nowhere
 L:5 L:2 mul => 10, value nowhere
 # at the place that is handed in stands an overflow, and no other error
 ask operator 2-7
-L:-9223372036854775808 neg => IntegerOverflow -_ -9223372036854775808, error at 2-7
-L:9223372036854775807 L:1 add => IntegerOverflow _+_ 9223372036854775807 1, error at 2-7
-L:-9223372036854775808 L:1 sub => IntegerOverflow _-_ -9223372036854775808 1, error at 2-7
-L:9223372036854775807 L:2 mul => IntegerOverflow _*_ 9223372036854775807 2, error at 2-7
+L:-9223372036854775808 neg => integer overflow while attempting to negate the value `-9223372036854775808`, error at 2-7
+L:9223372036854775807 L:1 add => integer overflow while attempting to add the values `9223372036854775807` and `1`, error at 2-7
+L:-9223372036854775808 L:1 sub => integer overflow while attempting to subtract the values `-9223372036854775808` and `1`, error at 2-7
+L:9223372036854775807 L:2 mul => integer overflow while attempting to multiply the values `9223372036854775807` and `2`, error at 2-7
 L:5 L:2 add => 7, value nowhere
 L:7 neg => -7, value nowhere
-T:a @1-2 L:1 add => TypeError expected Long actual String, error at 1-2
-T:a L:1 add => TypeError expected Long actual String, error nowhere
-L:1 @1-2 not => TypeError expected Bool actual Long, error at 1-2
-T:a @1-2 L:1 less => TypeError expected Long actual String, error at 1-2
-L:1 @1-2 T:a @3-4 less => TypeError expected Long actual String, error at 3-4
-T:a @1-2 T:b @3-4 lessEq => TypeError expected Long actual String, error at 1-2
+T:a @1-2 L:1 add => type error: expected long, got string, error at 1-2
+T:a L:1 add => type error: expected long, got string, error nowhere
+L:1 @1-2 not => type error: expected bool, got long, error at 1-2
+T:a @1-2 L:1 less => type error: expected long, got string, error at 1-2
+L:1 @1-2 T:a @3-4 less => type error: expected long, got string, error at 3-4
+T:a @1-2 T:b @3-4 lessEq => type error: expected long, got string, error at 1-2
 "#;
