@@ -69,18 +69,18 @@ module _ (s : Setting) (May : MayAnswer) where
   pub slot_gives : (i : Slot) (r : Result Placed EvaluationError) → Answers r (slot_answer i (s.slots i)) → Gives (slot i) r
   slot_gives i r is ok = (slot_answer i (s.slots i), refl, answers_stopped r _ is ok)
 
-  pub unknown_stops : (n : Text) (t : Option ValueType) (e : EvaluationError) → s.map n ≡ None → FailsWith e (residual_is_left (unknown n t)) → Gives (unknown n t) (Err e)
+  pub unknown_stops : (n : Text) (t : Option ValueType) (r : Result Placed EvaluationError) → s.map n ≡ None
+      → Answers r (fails (residual_is_left (unknown n t))) → Gives (unknown n t) r
   unfolding stopped not_known_in mapped
-  unknown_stops n t e none is ok =
-      (mapped None n t, ap (λ o. mapped o n t) (sym none), ap fails (is (λ m. ok (ap fails m))))
+  unknown_stops n t r none is ok = (mapped None n t, ap (λ o. mapped o n t) (sym none), is ok)
 
   -- ---- if
 
-  pub if_no_bool : (c t u : Term) (v : Represented) (e : EvaluationError) → Reads c v → (failure_of e ≢ out_of_memory → bool_of (abstract_value v) ≡ None) → FailsWith e (wrong_type bool_type [] (abstract_value v)) → Gives (if_then_else c t u) (Err e)
+  pub if_no_bool : (c t u : Term) (v : Represented) (r : Result Placed EvaluationError) → Reads c v
+      → bool_of (abstract_value v) ≡ None → Answers r (bool_expected v) → Gives (if_then_else c t u) r
   unfolding stopped
-  if_no_bool c t u v e reads none is ok =
-      let want : failure_of e ≢ out_of_memory = λ m. ok (ap fails m) in
-      (bool_expected v, (answers_value v, reads (value_is_no_want v), subst (λ b. TakesBranch May b v t u (bool_expected v)) (sym (none want)) refl), ap fails (is want))
+  if_no_bool c t u v r reads none is ok =
+      (bool_expected v, (answers_value v, reads (value_is_no_want v), subst (λ b. TakesBranch May b v t u (bool_expected v)) (sym none) refl), is ok)
 
   pub if_true : (c t u : Term) (v : Represented) (r : Result Placed EvaluationError) → Reads c v → bool_of (abstract_value v) ≡ Some true → Meets (May t) (answer_of r) → Gives (if_then_else c t u) r
   if_true c t u v r reads is_true may ok =
@@ -101,11 +101,11 @@ module _ (s : Setting) (May : MayAnswer) where
   stopped-bool_or_failure (Some b) v = refl
   stopped-bool_or_failure None v = refl
 
-  pub and_no_bool : (t u : Term) (v : Represented) (e : EvaluationError) → Reads t v → (failure_of e ≢ out_of_memory → bool_of (abstract_value v) ≡ None) → FailsWith e (wrong_type bool_type [] (abstract_value v)) → Gives (both t u) (Err e)
+  pub and_no_bool : (t u : Term) (v : Represented) (r : Result Placed EvaluationError) → Reads t v
+      → bool_of (abstract_value v) ≡ None → Answers r (bool_expected v) → Gives (both t u) r
   unfolding stopped
-  and_no_bool t u v e reads none is ok =
-      let want : failure_of e ≢ out_of_memory = λ m. ok (ap fails m) in
-      (bool_expected v, (answers_value v, reads (value_is_no_want v), subst (λ b. AndLeft May b v u (bool_expected v)) (sym (none want)) refl), ap fails (is want))
+  and_no_bool t u v r reads none is ok =
+      (bool_expected v, (answers_value v, reads (value_is_no_want v), subst (λ b. AndLeft May b v u (bool_expected v)) (sym none) refl), is ok)
 
   pub and_decides : (t u : Term) (v : Represented) (r : Result Placed EvaluationError) → Reads t v → bool_of (abstract_value v) ≡ Some false → answer_of r ≡ answers_bool false → Gives (both t u) r
   unfolding stopped
@@ -127,11 +127,11 @@ module _ (s : Setting) (May : MayAnswer) where
   unfolding stopped
   and_fails t u e errs ok = (fails (failure_of e), (fails (failure_of e), errs ok, refl), refl)
 
-  pub or_no_bool : (t u : Term) (v : Represented) (e : EvaluationError) → Reads t v → (failure_of e ≢ out_of_memory → bool_of (abstract_value v) ≡ None) → FailsWith e (wrong_type bool_type [] (abstract_value v)) → Gives (either t u) (Err e)
+  pub or_no_bool : (t u : Term) (v : Represented) (r : Result Placed EvaluationError) → Reads t v
+      → bool_of (abstract_value v) ≡ None → Answers r (bool_expected v) → Gives (either t u) r
   unfolding stopped
-  or_no_bool t u v e reads none is ok =
-      let want : failure_of e ≢ out_of_memory = λ m. ok (ap fails m) in
-      (bool_expected v, (answers_value v, reads (value_is_no_want v), subst (λ b. OrLeft May b v u (bool_expected v)) (sym (none want)) refl), ap fails (is want))
+  or_no_bool t u v r reads none is ok =
+      (bool_expected v, (answers_value v, reads (value_is_no_want v), subst (λ b. OrLeft May b v u (bool_expected v)) (sym none) refl), is ok)
 
   pub or_decides : (t u : Term) (v : Represented) (r : Result Placed EvaluationError) → Reads t v → bool_of (abstract_value v) ≡ Some true → answer_of r ≡ answers_bool true → Gives (either t u) r
   unfolding stopped

@@ -9,10 +9,10 @@ ghost use Rattle.cedar_model.specs.Values.{plain_represented, set_represented, r
 ghost use Rattle.cedar_model.specs.Sets.{canonical_set};
 ghost use Rattle.cedar_model.specs.Outcomes.{bool_of};
 ghost use Rattle.cedar_model.specs.Failures as Failures;
-ghost use Rattle.cedar_model.specs.Failures.{answers, answers_value, function_is_missing, out_of_memory};
+ghost use Rattle.cedar_model.specs.Failures.{answers, answers_value, fails, limit, function_is_missing, out_of_memory, residual_is_left};
 ghost use Rattle.cedar_model.specs.Settings.{variable_part};
 ghost use Rattle.cedar_model.specs.Operators.{binary_answer, slot_answer};
-ghost use Rattle.cedar_model.specs.Rules.{Meets, bool_or_failure};
+ghost use Rattle.cedar_model.specs.Rules.{Meets, bool_expected, bool_or_failure};
 ghost use Rattle.cedar_names.specs.Names.{name_text, type_text, uid_name};
 ghost use Rattle.cedar_names.specs.Leaves.{literal_view, variable_view, slot_view, unary_view, binary_view, pattern_view, texts_view};
 ghost use Rattle.cedar_expressions.specs.View.{view, terms_view, fields_view, expr_loc};
@@ -29,16 +29,16 @@ ghost use Rattle.cedar_evaluator.specs.Evaluations.{MeetsKind, GivesParts, Fails
 use crate::request::{EntityUIDEntry, Request};
 use cedar_layers::expressions::{
     BinaryOp, EntityType, EntityUID, Expr, ExprKind, FirstRest, Literal, Loc, Name, Pattern,
-    SlotEnv, SlotId, UnaryOp, Value, ValueKind, Var,
+    SlotEnv, SlotId, Type, UnaryOp, Value, ValueKind, Var,
 };
 use cedar_layers::policies::{Entities, Policy};
 use cedar_operators::attributes::{attribute_of, has_attribute, has_path};
-use cedar_operators::failures::non_value;
+use cedar_operators::failures::{non_value, type_error};
 pub use cedar_operators::operators::{binary_arith, binary_relation, unary_app};
 use cedar_operators::operators::{is_of_type, likeness};
 use cedar_operators::sets::{contains, contains_all, contains_any};
 use cedar_operators::store::{has_tag, is_in, tag_of};
-use cedar_operators::typed::{bool_value, get_as_bool};
+use cedar_operators::typed::{bool_in, bool_value, get_as_bool};
 pub use cedar_values::evaluator::err::{EvaluationError, evaluation_errors};
 use cedar_values::extensions::{
     ExtensionFunctionLookupError, Extensions, extension_function_lookup_errors,
@@ -183,11 +183,11 @@ impl<'e, 'x, 'f> Evaluator<'e, 'x, 'f> {
         ensures elements { (parts : _) → node_of e.now ≡ node.Set parts → IfOk result (λ v. HasElementsOf self.now slots.now (left - 1) parts v) }
     {
         if left == 0 {
-            return Err(recursion_limit());
+            return limit_met();
         }
         match self.interpret_kind(alloc, e, slots, left - 1) {
             Ok(value) => Ok(value.with_maybe_source_loc(e.source_loc().copied())),
-            Err(error) => Err(with_enclosing_loc(error, e.source_loc().copied())),
+            Err(error) => failed_at(error, e.source_loc().copied()),
         }
     }
 
@@ -207,7 +207,7 @@ impl<'e, 'x, 'f> Evaluator<'e, 'x, 'f> {
             ExprKind::Lit(value) => literal_value(value),
             ExprKind::Var(var) => self.variable(*var),
             ExprKind::Slot(slot) => slot_value(alloc, slots, *slot),
-            ExprKind::Unknown(_) => Err(non_value(e)),
+            ExprKind::Unknown(_) => unknown_met(e),
             ExprKind::If {
                 test_expr,
                 then_expr,
@@ -258,10 +258,10 @@ impl<'e, 'x, 'f> Evaluator<'e, 'x, 'f> {
         ensures { MeetsKind self.now slots.now left (Terms.if_then_else (view test_expr.now) (view then_expr.now) (view else_expr.now)) result }
     {
         match self.interpret_within(alloc, test_expr, slots, left) {
-            Ok(value) => match get_as_bool(alloc, &value) {
-                Ok(true) => self.interpret_within(alloc, then_expr, slots, left),
-                Ok(false) => self.interpret_within(alloc, else_expr, slots, left),
-                Err(error) => Err(error),
+            Ok(value) => match bool_in(&value) {
+                Some(true) => self.interpret_within(alloc, then_expr, slots, left),
+                Some(false) => self.interpret_within(alloc, else_expr, slots, left),
+                None => no_bool(alloc, &value),
             },
             Err(error) => Err(error),
         }
@@ -280,13 +280,13 @@ impl<'e, 'x, 'f> Evaluator<'e, 'x, 'f> {
         ensures { MeetsKind self.now slots.now left (both (view first.now) (view second.now)) result }
     {
         match self.interpret_within(alloc, first, slots, left) {
-            Ok(value) => match get_as_bool(alloc, &value) {
-                Ok(true) => match self.interpret_within(alloc, second, slots, left) {
+            Ok(value) => match bool_in(&value) {
+                Some(true) => match self.interpret_within(alloc, second, slots, left) {
                     Ok(value) => as_bool_value(alloc, &value),
                     Err(error) => Err(error),
                 },
-                Ok(false) => Ok(bool_value(false)),
-                Err(error) => Err(error),
+                Some(false) => Ok(bool_value(false)),
+                None => no_bool(alloc, &value),
             },
             Err(error) => Err(error),
         }
@@ -305,13 +305,13 @@ impl<'e, 'x, 'f> Evaluator<'e, 'x, 'f> {
         ensures { MeetsKind self.now slots.now left (either (view first.now) (view second.now)) result }
     {
         match self.interpret_within(alloc, first, slots, left) {
-            Ok(value) => match get_as_bool(alloc, &value) {
-                Ok(true) => Ok(bool_value(true)),
-                Ok(false) => match self.interpret_within(alloc, second, slots, left) {
+            Ok(value) => match bool_in(&value) {
+                Some(true) => Ok(bool_value(true)),
+                Some(false) => match self.interpret_within(alloc, second, slots, left) {
                     Ok(value) => as_bool_value(alloc, &value),
                     Err(error) => Err(error),
                 },
-                Err(error) => Err(error),
+                None => no_bool(alloc, &value),
             },
             Err(error) => Err(error),
         }
@@ -653,12 +653,45 @@ fn no_such_function(fn_name: &Name) -> EvaluationError
     }
 }
 
+// That no level is left. This and the three below answer the whole result, out of line: where an error is made in the caller,
+// the caller keeps room for it at each call.
 #[cold]
 #[inline(never)]
-fn recursion_limit() -> EvaluationError
-    ensures { failure_of result ≡ Failures.recursion_limit }
+fn limit_met() -> Result<Value, EvaluationError>
+    ensures answer { answer_of result ≡ limit }
+    ensures no_value { IfOk result (λ v. ⊥) }
 {
-    EvaluationError::RecursionLimit(RecursionLimitError { source_loc: None })
+    Err(EvaluationError::RecursionLimit(RecursionLimitError {
+        source_loc: None,
+    }))
+}
+
+// That the unknown is left.
+#[cold]
+#[inline(never)]
+fn unknown_met(e: &Expr) -> Result<Value, EvaluationError>
+    ensures { Answers result (fails (residual_is_left (view e.now))) }
+{
+    Err(non_value(e))
+}
+
+// The error, at this location if it has none.
+#[cold]
+#[inline(never)]
+fn failed_at(error: EvaluationError, loc: Option<Loc>) -> Result<Value, EvaluationError>
+    ensures answer { answer_of result ≡ fails (failure_of error) }
+    ensures no_value { IfOk result (λ v. ⊥) }
+{
+    Err(with_enclosing_loc(error, loc))
+}
+
+// That a boolean is expected.
+#[cold]
+#[inline(never)]
+fn no_bool(alloc: Global, value: &Value) -> Result<Value, EvaluationError>
+    ensures { Answers result (bool_expected value.now.what) }
+{
+    Err(type_error(alloc, Type::Bool, value))
 }
 
 // The error, at this location if it has none.
@@ -679,5 +712,8 @@ fn with_enclosing_loc(error: EvaluationError, loc: Option<Loc>) -> EvaluationErr
 fn as_bool_value(alloc: Global, value: &Value) -> Result<Value, EvaluationError>
     ensures { Answers result (bool_or_failure (bool_of (abstract_value value.now.what)) value.now.what) }
 {
-    Ok(bool_value(get_as_bool(alloc, value)?))
+    match bool_in(value) {
+        Some(b) => Ok(bool_value(b)),
+        None => no_bool(alloc, value),
+    }
 }

@@ -18,7 +18,7 @@ use Rattle.cedar_evaluator.proofs.evaluator.Evaluator.+interpret.Goals as goal
 
 pub interpret_within-returns-then-left-eq0-clause-answer : goal.interpret_within-returns-then-left-eq0-clause-answer
 interpret_within-returns-then-left-eq0-clause-answer t c =
-    λ ok. at_none _ _ _ _ c.if-left-eq0.true (ap fails c.recursion_limit.ensures)
+    λ ok. at_none _ _ _ _ c.if-left-eq0.true c.limit_met.ensures.answer
 
 pub interpret_within-returns-in-Ok-clause-answer : goal.interpret_within-returns-in-Ok-clause-answer
 interpret_within-returns-in-Ok-clause-answer t c =
@@ -26,7 +26,7 @@ interpret_within-returns-in-Ok-clause-answer t c =
 
 pub interpret_within-returns-in-Err-clause-answer : goal.interpret_within-returns-in-Err-clause-answer
 interpret_within-returns-in-Err-clause-answer t c =
-    λ ok. at_some _ _ _ _ (omega arith) (rw c.with_enclosing_loc.ensures (c.in-Err.ensures.answer (rw c.with_enclosing_loc.ensures at ok)))
+    λ ok. at_some _ _ _ _ (omega arith) (rw c.failed_at.ensures.answer (c.in-Err.ensures.answer (rw c.failed_at.ensures.answer at ok)))
 
 pub interpret_within-returns-in-Ok-clause-elements : goal.interpret_within-returns-in-Ok-clause-elements
 interpret_within-returns-in-Ok-clause-elements t c =
@@ -54,7 +54,7 @@ pub interpret_kind-returns-in-Unknown-clause-answer : goal.interpret_kind-return
 interpret_kind-returns-in-Unknown-clause-answer t c =
     let s = setting_of c.args.self.now (slots_view c.args.slots.now) in
     let May = StoppingRuns s c.args.left in
-    λ ok. rw (← c.expr_kind.ensures.view, c.in-Unknown.is, kind_view-Unknown) (step.unknown_stops s May _ _ c.non_value.result refl (rw (← c.expr_kind.ensures.view, c.in-Unknown.is, kind_view-Unknown) at c.non_value.ensures) ok)
+    λ ok. rw (← c.expr_kind.ensures.view, c.in-Unknown.is, kind_view-Unknown) (step.unknown_stops s May _ _ c.unknown_met.result refl (rw (← c.expr_kind.ensures.view, c.in-Unknown.is, kind_view-Unknown) at c.unknown_met.ensures) ok)
 
 pub interpret_kind-returns-in-Lit-clause-elements : goal.interpret_kind-returns-in-Lit-clause-elements
 interpret_kind-returns-in-Lit-clause-elements t c =
