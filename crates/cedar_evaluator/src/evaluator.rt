@@ -151,10 +151,11 @@ impl<'e, 'x, 'f> Evaluator<'e, 'x, 'f> {
         }
     }
 
-    /// The value of the expression under these slots, at the expression's location. Each element of a set that is written as
-    /// parts stands at the location of its part, and of equal elements the first stays. Fails with the first error in the order
-    /// of evaluation; with `RecursionLimit` where the evaluation goes more levels deep than the limit; and with `NonValue` where
-    /// it meets what is not known: an unknown, a stored residual, or an entity that a partial store lacks.
+    /// The value of the expression under these slots, at the expression's location. Each element of a set that is
+    /// written as parts stands at the location of its part, and of equal elements the first stays. Fails with the first
+    /// error in the order of evaluation; with `RecursionLimit` where the evaluation goes more levels deep than the
+    /// limit; and with `NonValue` where it meets what is not known: an unknown, a stored residual, or an entity that a
+    /// partial store lacks.
     pub fn interpret(
         &self,
         alloc: Global,
