@@ -418,10 +418,13 @@ step_in_alike s Operators.no_container (Operators.an_entity d) e f k l ls h a = 
 step_in_alike s Operators.no_container Operators.no_container e f k l ls h a = h
 
 -- a step from values that are alike
-pub step_alike : (s : Store) (k l : Text) (ls : List Text) (v w : Represented) → abstract_value v ≡ abstract_value w → AreAlikeSteps (Operators.step_in s (Operators.container_of v) (Operators.container_expected v) k l ls) (Operators.step_in s (Operators.container_of w) (Operators.container_expected w) k l ls)
+pub step_alike : (s : Store) (k l : Text) (ls : List Text) (v w : Represented) → abstract_value v ≡ abstract_value w
+    → AreAlikeSteps (Operators.step_in s (Operators.container_of v) (Operators.container_expected v) k l ls)
+    (Operators.step_in s (Operators.container_of w) (Operators.container_expected w) k l ls)
 unfolding failure_kind
 step_alike s k l ls v w h =
-    step_in_alike s (Operators.container_of v) (Operators.container_of w) (Operators.container_expected v) (Operators.container_expected w) k l ls refl (alike_containers v w h)
+    step_in_alike s (Operators.container_of v) (Operators.container_of w) (Operators.container_expected v)
+    (Operators.container_expected w) k l ls refl (alike_containers v w h)
 
 after_step_alike : (x y : Operators.Step) (next : Represented → Answer) → AreAlikeSteps x y → ((v w : Represented) → abstract_value v ≡ abstract_value w → AreAlike (next v) (next w)) → AreAlike (Operators.after_step x next) (Operators.after_step y next)
 unfolding Operators.after_step

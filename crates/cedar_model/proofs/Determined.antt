@@ -123,7 +123,9 @@ by_sides : (a b x y : Answer) → a ≡ x → b ≡ y → AreAlike x y → AreAl
 by_sides a b x y e f h = subst (λ z. AreAlike z b) (sym e) (subst (λ z. AreAlike x z) (sym f) h)
 
 -- operands that are alike read the same stored residual
-binary_residual_alike : (s : Store) (op : BinaryOperator) (v v' w w' : Represented) → abstract_value v ≡ abstract_value v' → abstract_value w ≡ abstract_value w' → Operators.binary_residual s op v w ≡ Operators.binary_residual s op v' w'
+binary_residual_alike : (s : Store) (op : BinaryOperator) (v v' w w' : Represented)
+    → abstract_value v ≡ abstract_value v' → abstract_value w ≡ abstract_value w'
+    → Operators.binary_residual s op v w ≡ Operators.binary_residual s op v' w'
 unfolding Operators.binary_residual
 binary_residual_alike s eq_operator v v' w w' h k = refl
 binary_residual_alike s less_operator v v' w w' h k = refl
@@ -139,7 +141,8 @@ binary_residual_alike s get_tag_operator v v' w w' h k =
     λ i. Operators.tag_residual_of s (entity_of (h i)) (text_of (k i))
 binary_residual_alike s has_tag_operator v v' w w' h k = refl
 
-beside_residual_alike : (s : Store) (op : BinaryOperator) (p p' : PartialValue) (x y : Answer) → AreAlikeParts p p' → AreAlike x y → Rules.beside_residual s op p x ≡ Rules.beside_residual s op p' y
+beside_residual_alike : (s : Store) (op : BinaryOperator) (p p' : PartialValue) (x y : Answer) → AreAlikeParts p p'
+    → AreAlike x y → Rules.beside_residual s op p x ≡ Rules.beside_residual s op p' y
 unfolding Rules.beside_residual
 beside_residual_alike s op p p' (fails e) (fails f) h k = refl
 beside_residual_alike s op p p' (fails e) (answers q) h k = absurd k
@@ -224,7 +227,8 @@ module _ (s : Setting) (calls : Rules.StoredCalls) (functional : (f : Text) (vs 
   beside_alike op p p' (answers q) (fails e) h k = absurd k
   beside_alike op p p' (answers q) (answers q') h k = alike.binary_parts_alike s op p p' q q' h k
 
-  resolves_alike : (r : Resolution) (o z : Option Term) (x y a b : Answer) → o ≡ z → AreAlike x y → Rules.Resolves G r o x a → Rules.Resolves G r z y b → AreAlike a b
+  resolves_alike : (r : Resolution) (o z : Option Term) (x y a b : Answer) → o ≡ z → AreAlike x y
+      → Rules.Resolves G r o x a → Rules.Resolves G r z y b → AreAlike a b
   resolves_alike shallow o z x y a b e h g j = by_sides a b _ _ g j h
   resolves_alike deep None None x y a b e h g j = by_sides a b _ _ g j h
   resolves_alike deep None (Some u) x y a b e h g j = absurd (cc)
@@ -238,17 +242,23 @@ module _ (s : Setting) (calls : Rules.StoredCalls) (functional : (f : Text) (vs 
   left_alike op (answers p) (fails e) t a b h g j = absurd h
   left_alike op (answers p) (answers p') t a b h (x, g, e) (y, j, f) =
       let i = determined t x y g j in
-      resolves_alike s.resolution _ _ _ _ a b (beside_residual_alike s.store op p p' x y h i) (beside_alike op p p' x y h i) e f
+      resolves_alike s.resolution _ _ _ _ a b (beside_residual_alike s.store op p p' x y h i)
+      (beside_alike op p p' x y h i) e f
 
   -- ---- extended `has`
 
-  after_step_alike : (z z' : Operators.Step) (Next Next' : Represented → Answer → Type 0) (a b : Answer) → alike.AreAlikeSteps z z' → ((v w : Represented) → abstract_value v ≡ abstract_value w → Next v a → Next' w b → AreAlike a b) → Rules.AfterStep G z Next a → Rules.AfterStep G z' Next' b → AreAlike a b
+  after_step_alike : (z z' : Operators.Step) (Next Next' : Represented → Answer → Type 0) (a b : Answer)
+      → alike.AreAlikeSteps z z' → ((v w : Represented) → abstract_value v ≡ abstract_value w → Next v a → Next' w b
+      → AreAlike a b) → Rules.AfterStep G z Next a → Rules.AfterStep G z' Next' b → AreAlike a b
   after_step_alike (Operators.walks_on v) (Operators.walks_on w) Next Next' a b h f g j = f v w h g j
   after_step_alike (Operators.walks_on v) (Operators.stops x) Next Next' a b h f g j = absurd h
   after_step_alike (Operators.stops x) (Operators.walks_on v) Next Next' a b h f g j = absurd h
   after_step_alike (Operators.stops x) (Operators.stops y) Next Next' a b h f g j = by_sides a b _ _ g j h
 
-  after_stored_alike : (x y : Answer) (l : Text) (ls : List Text) (Next Next' : Represented → Answer → Type 0) (a b : Answer) → AreAlike x y → ((v w : Represented) → abstract_value v ≡ abstract_value w → Next v a → Next' w b → AreAlike a b) → Rules.AfterStored G x l ls Next a → Rules.AfterStored G y l ls Next' b → AreAlike a b
+  after_stored_alike : (x y : Answer) (l : Text) (ls : List Text) (Next Next' : Represented → Answer
+      → Type 0) (a b : Answer) → AreAlike x y → ((v w : Represented) → abstract_value v ≡ abstract_value w → Next v a
+      → Next' w b → AreAlike a b) → Rules.AfterStored G x l ls Next a → Rules.AfterStored G y l ls Next' b
+      → AreAlike a b
   after_stored_alike (fails e) (fails e') l ls Next Next' a b h f g j = by_sides a b _ _ g j h
   after_stored_alike (fails e) (answers p) l ls Next Next' a b h f g j = absurd h
   after_stored_alike (answers p) (fails e) l ls Next Next' a b h f g j = absurd h
@@ -258,22 +268,34 @@ module _ (s : Setting) (calls : Rules.StoredCalls) (functional : (f : Text) (vs 
   after_stored_alike (answers (residual r)) (answers (residual q)) l ls Next Next' a b h f g j =
       by_sides a b _ _ g j (ap (λ t. extended_has t l ls) h)
 
-  steps_alike : (o z : Option Term) (x y : Operators.Step) (l : Text) (ls : List Text) (Next Next' : Represented → Answer → Type 0) (a b : Answer) → o ≡ z → alike.AreAlikeSteps x y → ((v w : Represented) → abstract_value v ≡ abstract_value w → Next v a → Next' w b → AreAlike a b) → Rules.StepsOn G o x l ls Next a → Rules.StepsOn G z y l ls Next' b → AreAlike a b
+  steps_alike : (o z : Option Term) (x y : Operators.Step) (l : Text) (ls : List Text) (Next Next' : Represented
+      → Answer → Type 0) (a b : Answer) → o ≡ z → alike.AreAlikeSteps x y → ((v w : Represented)
+      → abstract_value v ≡ abstract_value w → Next v a → Next' w b → AreAlike a b) → Rules.StepsOn G o x l ls Next a
+      → Rules.StepsOn G z y l ls Next' b → AreAlike a b
   steps_alike None None x y l ls Next Next' a b e h f g j = after_step_alike x y Next Next' a b h f g j
   steps_alike None (Some u) x y l ls Next Next' a b e h f g j = absurd (cc)
   steps_alike (Some t) None x y l ls Next Next' a b e h f g j = absurd (cc)
   steps_alike (Some t) (Some u) x y l ls Next Next' a b e h f (x', g, i) (y', j, k) =
-      after_stored_alike x' y' l ls Next Next' a b (determined t x' y' g (subst (λ z. G z y') (sym (some_inj e)) j)) f i k
+      after_stored_alike x' y' l ls Next Next' a b (determined t x' y' g (subst (λ z. G z y') (sym
+      (some_inj e)) j)) f i k
 
-  walks_alike : (ks : List Text) (v w : Represented) (k : Text) (a b : Answer) → abstract_value v ≡ abstract_value w → Rules.Walks G s.store v k ks a → Rules.Walks G s.store w k ks b → AreAlike a b
+  walks_alike : (ks : List Text) (v w : Represented) (k : Text) (a b : Answer) → abstract_value v ≡ abstract_value w
+      → Rules.Walks G s.store v k ks a → Rules.Walks G s.store w k ks b → AreAlike a b
   unfolding Operators.path_answer
   walks_alike [] v w k a b h g j = by_sides a b _ _ g j (alike.path_alike s.store k [] v w h)
   walks_alike (l ∷ ls) v w k a b h g j =
-      steps_alike (Operators.attribute_residual s.store v k) (Operators.attribute_residual s.store w k) (Operators.step_in s.store (Operators.container_of v) (Operators.container_expected v) k l ls) (Operators.step_in s.store (Operators.container_of w) (Operators.container_expected w) k l ls) l ls (λ u. Rules.Walks G s.store u l ls) (λ u. Rules.Walks G s.store u l ls) a b (ap (λ u. Operators.attribute_residual_of s.store (entity_of u) k) h) (alike.step_alike s.store k l ls v w h) (λ u u' e. walks_alike ls u u' l a b e) g j
+      steps_alike (Operators.attribute_residual s.store v k) (Operators.attribute_residual s.store w k)
+      (Operators.step_in s.store (Operators.container_of v) (Operators.container_expected v) k l ls)
+      (Operators.step_in s.store (Operators.container_of w) (Operators.container_expected w) k l ls) l ls
+      (λ u. Rules.Walks G s.store u l ls) (λ u. Rules.Walks G s.store u l ls) a b (ap
+      (λ u. Operators.attribute_residual_of s.store (entity_of u) k) h) (alike.step_alike s.store k l ls v w h)
+      (λ u u' e. walks_alike ls u u' l a b e) g j
 
-  path_from_alike : (r : Resolution) (x y : Answer) (k : Text) (ks : List Text) (a b : Answer) → AreAlike x y → Rules.AtPath G r s.store x k ks a → Rules.AtPath G r s.store y k ks b → AreAlike a b
+  path_from_alike : (r : Resolution) (x y : Answer) (k : Text) (ks : List Text) (a b : Answer) → AreAlike x y
+      → Rules.AtPath G r s.store x k ks a → Rules.AtPath G r s.store y k ks b → AreAlike a b
   path_from_alike shallow x y k ks a b h g j =
-      by_sides a b _ _ g j (alike.on_part_alike _ _ _ _ (alike.path_alike s.store k ks) (λ r q e. ap (λ i. extended_has i k ks) e) x y h)
+      by_sides a b _ _ g j (alike.on_part_alike _ _ _ _ (alike.path_alike s.store k ks) (λ r q e. ap
+      (λ i. extended_has i k ks) e) x y h)
   path_from_alike deep (fails e) (fails f) k ks a b h g j = by_sides a b _ _ g j h
   path_from_alike deep (fails e) (answers p) k ks a b h g j = absurd h
   path_from_alike deep (answers p) (fails e) k ks a b h g j = absurd h
@@ -350,7 +372,9 @@ module _ (s : Setting) (calls : Rules.StoredCalls) (functional : (f : Text) (vs 
   attribute_alike (fails e) (answers p) k a b h g j = absurd h
   attribute_alike (answers p) (fails e) k a b h g j = absurd h
   attribute_alike (answers (value v)) (answers (value w)) k a b h g j =
-      resolves_alike s.resolution (Operators.attribute_residual s.store v k) (Operators.attribute_residual s.store w k) _ _ a b (ap (λ u. Operators.attribute_residual_of s.store (entity_of u) k) h) (alike.attribute_alike s v w k h) g j
+      resolves_alike s.resolution (Operators.attribute_residual s.store v k)
+      (Operators.attribute_residual s.store w k) _ _ a b (ap (λ u. Operators.attribute_residual_of s.store
+      (entity_of u) k) h) (alike.attribute_alike s v w k h) g j
   attribute_alike (answers (value v)) (answers (residual r)) k a b h g j = absurd h
   attribute_alike (answers (residual r)) (answers (value v)) k a b h g j = absurd h
   attribute_alike (answers (residual r)) (answers (residual q)) k a b h g j =

@@ -272,7 +272,8 @@ module _ (mode : ErrorHandling) (ans : Functions) (calls : StoredCalls)
       ∙ not_residual a i) (run_finishes s known limit qs rest later n.1 j))
 
   module _ (s : Setting) (limit : ℕ) (m : Mapping) (store : Store) (old new : Response)
-      (concrete : store.is_partial ≡ false) (values : Agreement.EachStored (Progress.LeavesNoResidual ans m s.resolution) store)
+      (concrete : store.is_partial ≡ false) (values : Agreement.EachStored
+      (Progress.LeavesNoResidual ans m s.resolution) store)
       (named : Progress.NamesAll ans m old) where
     context_known : (c c' : ContextPart) → IsThere ans m c
         → Chains.SubstitutesTo (Chains.at_step s old.request store m) calls limit m c (Ok c')

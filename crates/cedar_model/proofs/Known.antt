@@ -178,13 +178,16 @@ module _ (ans : Functions) (calls : Rules.StoredCalls) (agree : Agreement.Agrees
     left_exact : (L P : Type 0) → (L → P) → (op : BinaryOperator) (x : Answer) (o : Outcome) (t : Term) (a : Answer) → Agreement.IsKnown ans t → (n < Agreement.height t → P) → Exact L x o → Rules.AfterLeft G s op x t a → Exact P a (and_then o (λ u. and_then (M t) (λ v. Meaning.binary_meaning s.extensions w op u v)))
     left_exact L P g op (fails f) o t a k p z r = by_equal P a (fails f) _ r (kind_bind L P g (failure_kind f) o _ z)
     left_exact L P g op (answers (value v)) o t a k p (u, q) (y, j, e) =
-        value_bind P a (abstract_value v) o _ q (by_equal P a _ _ (resolving.as_stored G s.store none s.resolution _ _ a (λ r. beside_is_stored s.store op (value v) y r) e) (beside_exact _ P p op v y (M t) (ih t y k j)))
+        value_bind P a (abstract_value v) o _ q (by_equal P a _ _ (resolving.as_stored G s.store none s.resolution _ _
+        a (λ r. beside_is_stored s.store op (value v) y r) e) (beside_exact _ P p op v y (M t) (ih t y k j)))
     left_exact L P g op (answers (residual q)) o t a k p z r = absurd z
 
     attribute_exact : (L P : Type 0) → (L → P) → (k : Text) (x : Answer) (o : Outcome) (a : Answer) → Exact L x o → Rules.AtAttribute G s x k a → Exact P a (and_then o (λ v. Meaning.attribute_meaning w v k))
     attribute_exact L P g k (fails f) o a z r = by_equal P a (fails f) _ r (kind_bind L P g (failure_kind f) o _ z)
     attribute_exact L P g k (answers (value v)) o a (u, q) r =
-        value_bind P a (abstract_value v) o _ q (by_equal P a _ _ (resolving.as_stored G s.store none s.resolution _ _ a (λ z. attribute_is_stored s.store v k z) r) (sure P _ _ (Means.attribute_means ans w s Any NoResidual _ well v k tt)))
+        value_bind P a (abstract_value v) o _ q (by_equal P a _ _ (resolving.as_stored G s.store none s.resolution _ _
+        a (λ z. attribute_is_stored s.store v k z) r) (sure P _ _ (Means.attribute_means ans w s Any NoResidual _
+        well v k tt)))
     attribute_exact L P g k (answers (residual q)) o a z r = absurd z
 
     has_exact : (L P : Type 0) → (L → P) → (k : Text) (x : Answer) (o : Outcome) → Exact L x o → Exact P (Rules.has_part s k x) (and_then o (λ v. Meaning.has_meaning w v k))
@@ -438,7 +441,9 @@ module _ (ans : Functions) (calls : Rules.StoredCalls) (agree : Agreement.Agrees
     rule_exact (has_attribute t l) a k (x, g, e) =
         by_equal _ a _ _ e (has_exact (n < Agreement.height t) _ (λ h. omega arith) l x (M t) (ih t x k g))
     rule_exact (extended_has t l ls) a k (x, g, e) =
-        by_equal _ a _ _ (resolving.path_as_stored G s.store none s.resolution x l ls a e) (on_part_exact (n < Agreement.height t) _ (λ h. omega arith) _ _ _ (λ v. Means.path_means ans w s Any NoResidual _ well l ls v tt) x (M t) (ih t x k g))
+        by_equal _ a _ _ (resolving.path_as_stored G s.store none s.resolution x l ls a e) (on_part_exact
+        (n < Agreement.height t) _ (λ h. omega arith) _ _ _ (λ v. Means.path_means ans w s Any NoResidual _ well l
+        ls v tt) x (M t) (ih t x k g))
     rule_exact (like t p) a k (x, g, e) =
         by_equal _ a _ _ e (on_part_exact (n < Agreement.height t) _ (λ h. omega arith) _ _ _ (Means.like_means ans w s Any NoResidual _ well p) x (M t) (ih t x k g))
     rule_exact (is_of_type t l) a k (x, g, e) =

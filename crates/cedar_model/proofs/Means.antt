@@ -392,7 +392,8 @@ module _ (ans : Functions) (w : World) (s : Setting) (F : Represented → Type 0
         let m = well.missing_well d e in
         m.stands (extended_has (missing_entity d) k []) _ (missing_fits d e) (λ i. outcome_value (Meaning.has_meaning w (missing_means d e i) k))
 
-    pub last_in_means : (v : Represented) (k : Text) → Sound F R E (Operators.last_in s.store (Operators.container_of v) (Operators.container_expected v) k) (Meaning.has_meaning w (abstract_value v) k)
+    pub last_in_means : (v : Represented) (k : Text) → Sound F R E (Operators.last_in s.store
+        (Operators.container_of v) (Operators.container_expected v) k) (Meaning.has_meaning w (abstract_value v) k)
     unfolding Operators.container_of Operators.last_in Meaning.has_meaning failure_kind
     last_in_means (plain_represented (bool_literal b)) k = type_fails (plain_represented (bool_literal b))
     last_in_means (plain_represented (long_literal n)) k = type_fails (plain_represented (long_literal n))
@@ -446,7 +447,11 @@ module _ (ans : Functions) (w : World) (s : Setting) (F : Represented → Type 0
         let m = well.missing_well d e in
         m.stands (extended_has (missing_entity d) k (l ∷ ls)) _ (missing_fits d e) (λ i. outcome_value (Meaning.has_path w (missing_means d e i) k (l ∷ ls)))
 
-    pub step_means : (v : Represented) (k l : Text) (ls : List Text) → F v → ((u : Represented) → F u → Sound F R E (Operators.path_answer s.store u l ls) (Meaning.has_path w (abstract_value u) l ls)) → Sound F R E (Operators.after_step (Operators.step_in s.store (Operators.container_of v) (Operators.container_expected v) k l ls) (λ u. Operators.path_answer s.store u l ls)) (Meaning.has_path w (abstract_value v) k (l ∷ ls))
+    pub step_means : (v : Represented) (k l : Text) (ls : List Text) → F v → ((u : Represented) → F u
+        → Sound F R E (Operators.path_answer s.store u l ls) (Meaning.has_path w (abstract_value u) l ls))
+        → Sound F R E (Operators.after_step (Operators.step_in s.store (Operators.container_of v)
+        (Operators.container_expected v) k l ls) (λ u. Operators.path_answer s.store u l ls)) (Meaning.has_path w
+        (abstract_value v) k (l ∷ ls))
     unfolding Operators.after_step Operators.step_in Operators.container_of Meaning.has_path Meaning.has_meaning Meaning.attribute_meaning and_then needing bool_of failure_kind
     step_means (plain_represented (bool_literal b)) k l ls f rest = type_fails (plain_represented (bool_literal b))
     step_means (plain_represented (long_literal n)) k l ls f rest = type_fails (plain_represented (long_literal n))

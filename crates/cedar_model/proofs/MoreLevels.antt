@@ -71,41 +71,60 @@ module _ (s : Setting) (calls : Rules.StoredCalls) (G H : Rules.MayAnswer) (keep
       (answers≢limit (value v), keep_or_bool (bool_of (abstract_value v)) v t a r n)
   keep_or (answers (residual q)) t a r n = (answers≢limit (residual q), keep_kept (either q) t a r n)
 
-  keep_resolves : (r : Resolution) (o : Option Term) (x a : Answer) → Rules.Resolves G r o x a → a ≢ limit → Rules.Resolves H r o x a
+  keep_resolves : (r : Resolution) (o : Option Term) (x a : Answer) → Rules.Resolves G r o x a → a ≢ limit
+      → Rules.Resolves H r o x a
   keep_resolves shallow o x a h n = h
   keep_resolves deep None x a h n = h
   keep_resolves deep (Some t) x a h n = keep t a h n
 
-  keep_beside : (op : BinaryOperator) (p : PartialValue) (t : Term) (y a : Answer) → G t y → Rules.Resolves G s.resolution (Rules.beside_residual s.store op p y) (Rules.binary_beside s op p y) a → a ≢ limit → H t y
+  keep_beside : (op : BinaryOperator) (p : PartialValue) (t : Term) (y a : Answer) → G t y
+      → Rules.Resolves G s.resolution (Rules.beside_residual s.store op p y) (Rules.binary_beside s op p y) a
+      → a ≢ limit → H t y
   unfolding Rules.binary_beside Rules.beside_residual
   keep_beside op p t (fails e) a g h n = keep t (fails e) g (λ q. n (nothing_read G s.resolution (fails e) a h ∙ q))
   keep_beside op p t (answers q) a g h n = keep t (answers q) g (answers≢limit q)
 
   keep_left : (op : BinaryOperator) (x : Answer) (t : Term) (a : Answer) → Rules.AfterLeft G s op x t a → a ≢ limit → (x ≢ limit) × Rules.AfterLeft H s op x t a
   keep_left op (fails e) t a r n = (λ q. n (r ∙ q), r)
-  keep_left op (answers p) t a (y, g, e) n =
-      (answers≢limit p, (y, keep_beside op p t y a g e n, keep_resolves s.resolution (Rules.beside_residual s.store op p y) (Rules.binary_beside s op p y) a e n))
+  keep_left op (answers p) t a (y, g, e) n = (
+    answers≢limit p,
+    (
+      y,
+      keep_beside op p t y a g e n,
+      keep_resolves s.resolution
+          (Rules.beside_residual s.store op p y) (Rules.binary_beside s op p y) a e n,
+    ),
+  )
 
-  keep_step : (z : Step) (Next Next' : Represented → Answer → Type 0) (a : Answer) → ((v : Represented) → Next v a → Next' v a) → Rules.AfterStep G z Next a → Rules.AfterStep H z Next' a
+  keep_step : (z : Step) (Next Next' : Represented → Answer → Type 0) (a : Answer) → ((v : Represented) → Next v a
+      → Next' v a) → Rules.AfterStep G z Next a → Rules.AfterStep H z Next' a
   keep_step (walks_on v) Next Next' a f h = f v h
   keep_step (stops b) Next Next' a f h = h
 
-  keep_stored : (x : Answer) (l : Text) (ls : List Text) (Next Next' : Represented → Answer → Type 0) (a : Answer) → ((v : Represented) → Next v a → Next' v a) → Rules.AfterStored G x l ls Next a → a ≢ limit → (x ≢ limit) × Rules.AfterStored H x l ls Next' a
+  keep_stored : (x : Answer) (l : Text) (ls : List Text) (Next Next' : Represented → Answer → Type 0) (a : Answer)
+      → ((v : Represented) → Next v a → Next' v a) → Rules.AfterStored G x l ls Next a → a ≢ limit → (x ≢ limit)
+      × Rules.AfterStored H x l ls Next' a
   keep_stored (fails e) l ls Next Next' a f h n = (λ q. n (h ∙ q), h)
   keep_stored (answers (value v)) l ls Next Next' a f h n = (answers≢limit (value v), f v h)
   keep_stored (answers (residual r)) l ls Next Next' a f h n = (answers≢limit (residual r), h)
 
-  keep_steps : (o : Option Term) (z : Step) (l : Text) (ls : List Text) (Next Next' : Represented → Answer → Type 0) (a : Answer) → ((v : Represented) → Next v a → Next' v a) → Rules.StepsOn G o z l ls Next a → a ≢ limit → Rules.StepsOn H o z l ls Next' a
+  keep_steps : (o : Option Term) (z : Step) (l : Text) (ls : List Text) (Next Next' : Represented → Answer
+      → Type 0) (a : Answer) → ((v : Represented) → Next v a → Next' v a) → Rules.StepsOn G o z l ls Next a
+      → a ≢ limit → Rules.StepsOn H o z l ls Next' a
   keep_steps None z l ls Next Next' a f h n = keep_step z Next Next' a f h
   keep_steps (Some t) z l ls Next Next' a f (x, g, h) n =
       let k = keep_stored x l ls Next Next' a f h n in (x, keep t x g k.0, k.1)
 
-  keep_walks : (store : Store) (ks : List Text) (v : Represented) (k : Text) (a : Answer) → Rules.Walks G store v k ks a → a ≢ limit → Rules.Walks H store v k ks a
+  keep_walks : (store : Store) (ks : List Text) (v : Represented) (k : Text) (a : Answer)
+      → Rules.Walks G store v k ks a → a ≢ limit → Rules.Walks H store v k ks a
   keep_walks store [] v k a h n = h
   keep_walks store (l ∷ ls) v k a h n =
-      keep_steps (attribute_residual store v k) (step_in store (container_of v) (container_expected v) k l ls) l ls (λ u. Rules.Walks G store u l ls) (λ u. Rules.Walks H store u l ls) a (λ u j. keep_walks store ls u l a j n) h n
+      keep_steps (attribute_residual store v k) (step_in store (container_of v) (container_expected v) k l ls) l ls
+      (λ u. Rules.Walks G store u l ls) (λ u. Rules.Walks H store u l ls) a
+      (λ u j. keep_walks store ls u l a j n) h n
 
-  keep_path : (r : Resolution) (x : Answer) (k : Text) (ks : List Text) (a : Answer) → Rules.AtPath G r s.store x k ks a → a ≢ limit → (x ≢ limit) × Rules.AtPath H r s.store x k ks a
+  keep_path : (r : Resolution) (x : Answer) (k : Text) (ks : List Text) (a : Answer)
+      → Rules.AtPath G r s.store x k ks a → a ≢ limit → (x ≢ limit) × Rules.AtPath H r s.store x k ks a
   unfolding Rules.on_part
   keep_path shallow x k ks a e n =
       (λ q. n (e ∙ ap (Rules.on_part (λ v. path_answer s.store v k ks) (λ r. extended_has r k ks)) q), e)
@@ -127,8 +146,11 @@ module _ (s : Setting) (calls : Rules.StoredCalls) (G H : Rules.MayAnswer) (keep
 
   keep_attribute : (x : Answer) (k : Text) (a : Answer) → Rules.AtAttribute G s x k a → a ≢ limit → (x ≢ limit) × Rules.AtAttribute H s x k a
   keep_attribute (fails e) k a r n = (λ q. n (r ∙ q), r)
-  keep_attribute (answers (value v)) k a r n =
-      (answers≢limit (value v), keep_resolves s.resolution (attribute_residual s.store v k) (attribute_answer s v k) a r n)
+  keep_attribute (answers (value v)) k a r n = (
+    answers≢limit (value v),
+    keep_resolves s.resolution (attribute_residual s.store v k)
+        (attribute_answer s v k) a r n,
+  )
   keep_attribute (answers (residual q)) k a r n =
       (answers≢limit (residual q), keep_at_fields (Rules.fields_of_record q) q k a r n)
 
@@ -255,12 +277,14 @@ module _ (s : Setting) (calls : Rules.StoredCalls) where
   gather_or (answers (value v)) t a r = gather_or_bool (bool_of (abstract_value v)) v t a r
   gather_or (answers (residual q)) t a (x, (ne, n, g), h) = (n, (x, (ne, g), h))
 
-  gather_resolves : (r : Resolution) (o : Option Term) (x a : Answer) → Rules.Resolves (Rules.Allows s calls) r o x a → (n : ℕ) × Rules.Resolves (Within n) r o x a
+  gather_resolves : (r : Resolution) (o : Option Term) (x a : Answer) → Rules.Resolves (Rules.Allows s calls) r o x a
+      → (n : ℕ) × Rules.Resolves (Within n) r o x a
   gather_resolves shallow o x a h = (0, h)
   gather_resolves deep None x a h = (0, h)
   gather_resolves deep (Some t) x a (ne, n, g) = (n, (ne, g))
 
-  widen_resolves : (n m : ℕ) → n ≤ m → (r : Resolution) (o : Option Term) (x a : Answer) → Rules.Resolves (Within n) r o x a → Rules.Resolves (Within m) r o x a
+  widen_resolves : (n m : ℕ) → n ≤ m → (r : Resolution) (o : Option Term) (x a : Answer)
+      → Rules.Resolves (Within n) r o x a → Rules.Resolves (Within m) r o x a
   widen_resolves n m e shallow o x a h = h
   widen_resolves n m e deep None x a h = h
   widen_resolves n m e deep (Some t) x a h = widen n m e t a h
@@ -268,39 +292,69 @@ module _ (s : Setting) (calls : Rules.StoredCalls) where
   gather_left : (op : BinaryOperator) (x : Answer) (t : Term) (a : Answer) → Rules.AfterLeft (Rules.Allows s calls) s op x t a → (n : ℕ) × Rules.AfterLeft (Within n) s op x t a
   gather_left op (fails e) t a r = (0, r)
   gather_left op (answers p) t a (y, (ne, n, g), h) =
-      let k = gather_resolves s.resolution (Rules.beside_residual s.store op p y) (Rules.binary_beside s op p y) a h in
-      (max n k.0, (y, widen n (max n k.0) (omega arith) t y (ne, g), widen_resolves k.0 (max n k.0) (omega arith) s.resolution (Rules.beside_residual s.store op p y) (Rules.binary_beside s op p y) a k.1))
+      let k = gather_resolves s.resolution (Rules.beside_residual s.store op p y) (Rules.binary_beside s op p y) a h in (
+        max n k.0,
+        (
+          y,
+          widen n (max n k.0) (omega arith) t y (ne, g),
+          widen_resolves k.0 (max n k.0)
+              (omega arith) s.resolution (Rules.beside_residual s.store op p y) (Rules.binary_beside s op p y) a k.1,
+        ),
+      )
 
-  gather_step : (z : Step) (Next : Represented → Answer → Type 0) (Next' : ℕ → Represented → Answer → Type 0) (a : Answer) → ((v : Represented) → Next v a → (n : ℕ) × Next' n v a) → Rules.AfterStep (Rules.Allows s calls) z Next a → (n : ℕ) × Rules.AfterStep (Within n) z (Next' n) a
+  gather_step : (z : Step) (Next : Represented → Answer → Type 0) (Next' : ℕ → Represented → Answer
+      → Type 0) (a : Answer) → ((v : Represented) → Next v a → (n : ℕ) × Next' n v a)
+      → Rules.AfterStep (Rules.Allows s calls) z Next a → (n : ℕ) × Rules.AfterStep (Within n) z (Next' n) a
   gather_step (walks_on v) Next Next' a f h = f v h
   gather_step (stops b) Next Next' a f h = (0, h)
 
-  gather_stored : (x : Answer) (l : Text) (ls : List Text) (Next : Represented → Answer → Type 0) (Next' : ℕ → Represented → Answer → Type 0) (a : Answer) → ((v : Represented) → Next v a → (n : ℕ) × Next' n v a) → Rules.AfterStored (Rules.Allows s calls) x l ls Next a → (n : ℕ) × Rules.AfterStored (Within n) x l ls (Next' n) a
+  gather_stored : (x : Answer) (l : Text) (ls : List Text) (Next : Represented → Answer → Type 0) (Next' : ℕ
+      → Represented → Answer → Type 0) (a : Answer) → ((v : Represented) → Next v a → (n : ℕ) × Next' n v a)
+      → Rules.AfterStored (Rules.Allows s calls) x l ls Next a → (n : ℕ)
+      × Rules.AfterStored (Within n) x l ls (Next' n) a
   gather_stored (fails e) l ls Next Next' a f h = (0, h)
   gather_stored (answers (value v)) l ls Next Next' a f h = f v h
   gather_stored (answers (residual r)) l ls Next Next' a f h = (0, h)
 
-  widen_stored : (n m : ℕ) (x : Answer) (l : Text) (ls : List Text) (Next Next' : Represented → Answer → Type 0) (a : Answer) → ((v : Represented) → Next v a → Next' v a) → Rules.AfterStored (Within n) x l ls Next a → Rules.AfterStored (Within m) x l ls Next' a
+  widen_stored : (n m : ℕ) (x : Answer) (l : Text) (ls : List Text) (Next Next' : Represented → Answer
+      → Type 0) (a : Answer) → ((v : Represented) → Next v a → Next' v a) → Rules.AfterStored (Within n) x l ls Next a
+      → Rules.AfterStored (Within m) x l ls Next' a
   widen_stored n m (fails e) l ls Next Next' a f h = h
   widen_stored n m (answers (value v)) l ls Next Next' a f h = f v h
   widen_stored n m (answers (residual r)) l ls Next Next' a f h = h
 
-  gather_steps : (o : Option Term) (z : Step) (l : Text) (ls : List Text) (Next : Represented → Answer → Type 0) (Next' : ℕ → Represented → Answer → Type 0) (a : Answer) → ((n m : ℕ) → n ≤ m → (v : Represented) → Next' n v a → Next' m v a) → ((v : Represented) → Next v a → (n : ℕ) × Next' n v a) → Rules.StepsOn (Rules.Allows s calls) o z l ls Next a → (n : ℕ) × Rules.StepsOn (Within n) o z l ls (Next' n) a
+  gather_steps : (o : Option Term) (z : Step) (l : Text) (ls : List Text) (Next : Represented → Answer
+      → Type 0) (Next' : ℕ → Represented → Answer → Type 0) (a : Answer) → ((n m : ℕ) → n ≤ m → (v : Represented)
+      → Next' n v a → Next' m v a) → ((v : Represented) → Next v a → (n : ℕ) × Next' n v a)
+      → Rules.StepsOn (Rules.Allows s calls) o z l ls Next a → (n : ℕ) × Rules.StepsOn (Within n) o z l ls (Next' n) a
   gather_steps None z l ls Next Next' a w f h = gather_step z Next Next' a f h
   gather_steps (Some t) z l ls Next Next' a w f (x, (ne, n, g), h) =
-      let k = gather_stored x l ls Next Next' a f h in
-      (max n k.0, (x, widen n (max n k.0) (omega arith) t x (ne, g), widen_stored k.0 (max n k.0) x l ls (Next' k.0) (Next' (max n k.0)) a (w k.0 (max n k.0) (omega arith)) k.1))
+      let k = gather_stored x l ls Next Next' a f h in (
+        max n k.0,
+        (
+          x,
+          widen n (max n k.0) (omega arith) t x (ne, g),
+          widen_stored k.0 (max n k.0) x l ls (Next' k.0)
+              (Next' (max n k.0)) a (w k.0 (max n k.0) (omega arith)) k.1,
+        ),
+      )
 
-  widen_walks : (a : Answer) → a ≢ limit → (n m : ℕ) → n ≤ m → (ks : List Text) (v : Represented) (k : Text) → Rules.Walks (Within n) s.store v k ks a → Rules.Walks (Within m) s.store v k ks a
+  widen_walks : (a : Answer) → a ≢ limit → (n m : ℕ) → n ≤ m → (ks : List Text) (v : Represented) (k : Text)
+      → Rules.Walks (Within n) s.store v k ks a → Rules.Walks (Within m) s.store v k ks a
   widen_walks a na n m e ks v k h =
       keep_walks s calls (Within n) (Within m) (λ u y w _. widen n m e u y w) s.store ks v k a h na
 
-  gather_walks : (a : Answer) → a ≢ limit → (ks : List Text) (v : Represented) (k : Text) → Rules.Walks (Rules.Allows s calls) s.store v k ks a → (n : ℕ) × Rules.Walks (Within n) s.store v k ks a
+  gather_walks : (a : Answer) → a ≢ limit → (ks : List Text) (v : Represented) (k : Text)
+      → Rules.Walks (Rules.Allows s calls) s.store v k ks a → (n : ℕ) × Rules.Walks (Within n) s.store v k ks a
   gather_walks a na [] v k h = (0, h)
   gather_walks a na (l ∷ ls) v k h =
-      gather_steps (attribute_residual s.store v k) (step_in s.store (container_of v) (container_expected v) k l ls) l ls (λ u. Rules.Walks (Rules.Allows s calls) s.store u l ls) (λ n u. Rules.Walks (Within n) s.store u l ls) a (λ n m e u j. widen_walks a na n m e ls u l j) (λ u j. gather_walks a na ls u l j) h
+      gather_steps (attribute_residual s.store v k) (step_in s.store (container_of v)
+      (container_expected v) k l ls) l ls (λ u. Rules.Walks (Rules.Allows s calls) s.store u l ls)
+      (λ n u. Rules.Walks (Within n) s.store u l ls) a (λ n m e u j. widen_walks a na n m e ls u l j)
+      (λ u j. gather_walks a na ls u l j) h
 
-  gather_path : (r : Resolution) (x : Answer) (k : Text) (ks : List Text) (a : Answer) → a ≢ limit → Rules.AtPath (Rules.Allows s calls) r s.store x k ks a → (n : ℕ) × Rules.AtPath (Within n) r s.store x k ks a
+  gather_path : (r : Resolution) (x : Answer) (k : Text) (ks : List Text) (a : Answer) → a ≢ limit
+      → Rules.AtPath (Rules.Allows s calls) r s.store x k ks a → (n : ℕ) × Rules.AtPath (Within n) r s.store x k ks a
   gather_path shallow x k ks a na h = (0, h)
   gather_path deep (fails e) k ks a na h = (0, h)
   gather_path deep (answers (value v)) k ks a na h = gather_walks a na ks v k h
@@ -407,8 +461,15 @@ module _ (s : Setting) (calls : Rules.StoredCalls) where
       (max n k.0, (x, first_within n k.0 t x ne g, (keep_attribute s calls (Within k.0) (Rules.Runs s calls (max n k.0)) (keeps n k.0) x l a k.1 na).1))
   gather (has_attribute t k) a na (x, (ne, n, g), e) = (n, (x, g, e))
   gather (extended_has t l ls) a na (x, (ne, n, g), h) =
-      let k = gather_path s.resolution x l ls a na h in
-      (max n k.0, (x, first_within n k.0 t x ne g, (keep_path s calls (Within k.0) (Rules.Runs s calls (max n k.0)) (keeps n k.0) s.resolution x l ls a k.1 na).1))
+      let k = gather_path s.resolution x l ls a na h in (
+        max n k.0,
+        (
+          x,
+          first_within n k.0 t x ne g,
+          (keep_path s calls (Within k.0) (Rules.Runs s calls (max n k.0))
+              (keeps n k.0) s.resolution x l ls a k.1 na).1,
+        ),
+      )
   gather (like t p) a na (x, (ne, n, g), e) = (n, (x, g, e))
   gather (is_of_type t m) a na (x, (ne, n, g), e) = (n, (x, g, e))
   gather (set_of ts) a na (r, g, e) =

@@ -259,7 +259,8 @@ module _ (s : Setting) (calls : Rules.StoredCalls) (answered : FunctionsMeetNoLi
   step_met (Operators.walks_on v) h = tt
   step_met (Operators.stops b) h = λ q. absurd (never b h q)
 
-  read_met : s.resolution ≡ deep → (r : Term) → IsStored s.store r → (x : Answer) → G r x → (l : Text) (ls : List Text) →
+  read_met : s.resolution ≡ deep → (r : Term) → IsStored s.store r → (x : Answer) → G r x
+      → (l : Text) (ls : List Text) →
       resolving.GoesOn G LimitStored x l ls
   read_met d r i (fails e) g l ls = λ q. (r, d, i, met r (fails e) g q)
   read_met d r i (answers (value v)) g l ls = tt

@@ -99,7 +99,8 @@ missing_stays = (
   allowed deep true Resolutions.all_named 4 _ _ refl (λ e. cc),
 )
 
-needs_three : (t : Term) (a : Answer) → answer_at deep false Resolutions.all_named 3 t ≡ a → answer_at deep false Resolutions.all_named 2 t ≡ limit
+needs_three : (t : Term) (a : Answer) → answer_at deep false Resolutions.all_named 3 t ≡ a
+    → answer_at deep false Resolutions.all_named 2 t ≡ limit
     → Rules.Runs (Resolutions.resolving deep false Resolutions.all_named) some_calls 3 t a
     × Rules.Exceeds (Resolutions.resolving deep false Resolutions.all_named) some_calls t 2
 needs_three t a e f = (runs deep false Resolutions.all_named 3 t a e, runs deep false Resolutions.all_named 2 t limit f)
@@ -171,7 +172,8 @@ residuals_grow = (
     answers_low = λ f vs p e. subst (λ q. substituted_height (λ n. None) q ≤ 5) (deepest_only f vs p e) (omega arith);
   },
   refl,
-  computed_with (Resolutions.nesting Resolutions.no_context) Resolutions.deepest_calls deepest_answer 8 Resolutions.projects_nested limit refl,
+  computed_with (Resolutions.nesting Resolutions.no_context) Resolutions.deepest_calls deepest_answer 8
+      Resolutions.projects_nested limit refl,
 )
 
 is_unsound : (b : Bool) (v : Represented) → cond b (Some Resolutions.unsound) None ≡ Some v → Resolutions.unsound ≡ v

@@ -180,7 +180,8 @@ module _ (G : Rules.MayAnswer) where
     GoesOn (answers (value v)) l ls = Unit {0}
     GoesOn (answers (residual r)) l ls = C (answers (residual (extended_has r l ls)))
 
-    module _ (store : Store) (last : (v : Represented) (k : Text) → C (Operators.last_in store (Operators.container_of v)
+    module _ (store : Store) (last : (v : Represented) (k : Text)
+        → C (Operators.last_in store (Operators.container_of v)
         (Operators.container_expected v) k)) (step : (v : Represented) (k l : Text) (ls : List Text)
         → Operators.attribute_residual store v k ≡ None → StopsWith (Operators.step_in store (Operators.container_of v)
         (Operators.container_expected v) k l ls)) (read : (t : Term) → IsStored store t → (x : Answer) → G t x
@@ -199,7 +200,8 @@ module _ (G : Rules.MayAnswer) where
       steps_on : (o : Option Term) (v : Represented) (k l : Text) (ls : List Text)
           (Next : Represented → Answer → Type 0) (a : Answer) → Operators.attribute_residual store v k ≡ o
           → ((u : Represented) → Next u a → C a)
-          → Rules.StepsOn G o (Operators.step_in store (Operators.container_of v) (Operators.container_expected v) k l ls)
+          → Rules.StepsOn G o (Operators.step_in store (Operators.container_of v)
+          (Operators.container_expected v) k l ls)
           l ls Next a → C a
       steps_on None v k l ls Next a e g h = after_step _ Next a (step v k l ls e) g h
       steps_on (Some t) v k l ls Next a e g (x, j, h) =

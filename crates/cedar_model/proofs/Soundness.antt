@@ -386,18 +386,23 @@ module _ (ans : Functions) (calls : Rules.StoredCalls) (agree : Agreement.Agrees
     beside_sound op p (fails e) o m hp hq = loose_map (failure_kind e) _ _ (Binds.error_inside o m _) hq
 
     -- a stored residual that is read stands for what it means
-    read_sound : (r : Term) (u : AbstractValue) (x : Answer) → IsStored s.store r → N r ≡ gives u → G r x → Sound x (gives u)
+    read_sound : (r : Term) (u : AbstractValue) (x : Answer) → IsStored s.store r → N r ≡ gives u → G r x
+        → Sound x (gives u)
     read_sound r u x i e g =
-        let fr : Agreement.Fits ans w r = each_stored (Agreement.FitsPart s.extensions ans w) s.store done.store_fits r i in
+        let fr : Agreement.Fits ans w r = each_stored (Agreement.FitsPart s.extensions ans w) s.store done.store_fits
+        r i in
         let m : M r ≡ gives u = Binds.less_gives (N r) (M r) u (Binds.fewer_slots s.extensions ans w s.slots r) e in
         subst (Sound x) m (ih r x fr g)
 
-    beside_read : (op : BinaryOperator) (p : PartialValue) (y : Answer) (o m : Outcome) (r : Term) (a : Answer) → Sound (answers p) o → Sound y m → Rules.beside_residual s.store op p y ≡ Some r → G r a → Sound a (and_then o (λ u. and_then m (λ v. Meaning.binary_meaning s.extensions w op u v)))
+    beside_read : (op : BinaryOperator) (p : PartialValue) (y : Answer) (o m : Outcome) (r : Term) (a : Answer)
+        → Sound (answers p) o → Sound y m → Rules.beside_residual s.store op p y ≡ Some r → G r a
+        → Sound a (and_then o (λ u. and_then m (λ v. Meaning.binary_meaning s.extensions w op u v)))
     unfolding Rules.beside_residual
     beside_read op p (fails e) o m r a hp hq i g = absurd (cc)
     beside_read op (value v) (answers (value v')) o m r a (fv, ev) (fu, eu) i g =
         let z = StoredMeans.binary_stored ans w s done.store_agrees op v v' r i in
-        let h : Sound a (gives z.0) = read_sound r z.0 a (beside_is_stored s.store op (value v) (answers (value v')) r i) z.1 g in
+        let h : Sound a (gives z.0) = read_sound r z.0 a (beside_is_stored s.store op (value v) (answers
+        (value v')) r i) z.1 g in
         value_bind a (abstract_value v) o _ ev (value_bind a (abstract_value v') m _ eu (subst (Sound a) (sym z.2) h))
     beside_read op (value v) (answers (residual q)) o m r a hp hq i g = absurd (cc)
     beside_read op (residual q) (answers q') o m r a hp hq i g = absurd (cc)
@@ -406,7 +411,10 @@ module _ (ans : Functions) (calls : Rules.StoredCalls) (agree : Agreement.Agrees
     left_sound op (fails f) o t a ft z r = by_equal a (fails f) _ r (error_bind f o _ z)
     left_sound op (answers p) o t a ft z (y, j, e) =
         let h = ih t y ft j in
-        resolving.resolved G (λ b. Sound b (and_then o (λ u. and_then (M t) (λ v. Meaning.binary_meaning s.extensions w op u v)))) s.resolution (Rules.beside_residual s.store op p y) _ a (beside_sound op p y o (M t) z h) (λ r d i g. beside_read op p y o (M t) r a z h i g) e
+        resolving.resolved G (λ b. Sound b (and_then o (λ u. and_then (M t)
+        (λ v. Meaning.binary_meaning s.extensions w op u v)))) s.resolution
+        (Rules.beside_residual s.store op p y) _ a (beside_sound op p y o (M t) z h)
+        (λ r d i g. beside_read op p y o (M t) r a z h i g) e
 
     -- ---- `is`
 
@@ -513,14 +521,22 @@ module _ (ans : Functions) (calls : Rules.StoredCalls) (agree : Agreement.Agrees
     attribute_sound : (k : Text) (x : Answer) (o : Outcome) (a : Answer) → Sound x o → Rules.AtAttribute G s x k a → Sound a (and_then o (λ v. Meaning.attribute_meaning w v k))
     attribute_sound k (fails f) o a z r = by_equal a (fails f) _ r (error_bind f o _ z)
     attribute_sound k (answers (value v)) o a (f, e) r =
-        value_bind a (abstract_value v) o _ e (resolving.resolved G (λ b. Sound b (Meaning.attribute_meaning w (abstract_value v) k)) s.resolution (Operators.attribute_residual s.store v k) _ a (Means.attribute_means ans w s F R E well v k f) (λ q d i g. let z = StoredMeans.attribute_stored ans w s done.store_agrees v k q i in subst (Sound a) (sym z.2) (read_sound q z.0 a (attribute_is_stored s.store v k q i) z.1 g)) r)
+        value_bind a (abstract_value v) o _ e (resolving.resolved G (λ b. Sound b (Meaning.attribute_meaning w
+        (abstract_value v) k)) s.resolution (Operators.attribute_residual s.store v k) _ a
+        (Means.attribute_means ans w s F R E well v k f) (λ q d i g. let z = StoredMeans.attribute_stored ans w s
+        done.store_agrees v k q i in subst (Sound a) (sym z.2) (read_sound q z.0 a
+        (attribute_is_stored s.store v k q i) z.1 g)) r)
     attribute_sound k (answers (residual q)) o a z r =
         at_fields_sound (Rules.fields_of_record q) q k a o refl z r
 
     -- ---- extended `has`
 
     -- after a stored residual
-    stored_sound : (x : Answer) (u : AbstractValue) (l : Text) (ls : List Text) (a : Answer) → Sound x (gives u) → ((v : Represented) → F v → Rules.Walks G s.store v l ls a → Sound a (Meaning.has_path w (abstract_value v) l ls)) → Rules.AfterStored G x l ls (λ v. Rules.Walks G s.store v l ls) a → Sound a (and_then (gives u) (λ v. Meaning.has_path w v l ls))
+    stored_sound : (x : Answer) (u : AbstractValue) (l : Text) (ls : List Text) (a : Answer) → Sound x (gives u)
+        → ((v : Represented) → F v → Rules.Walks G s.store v l ls a
+        → Sound a (Meaning.has_path w (abstract_value v) l ls))
+        → Rules.AfterStored G x l ls (λ v. Rules.Walks G s.store v l ls) a
+        → Sound a (and_then (gives u) (λ v. Meaning.has_path w v l ls))
     unfolding Meaning.meaning
     stored_sound (fails e) u l ls a z rest h = by_equal a (fails e) _ h (error_bind e (gives u) _ z)
     stored_sound (answers (value v)) u l ls a (f, e) rest h = value_bind a (abstract_value v) (gives u) _ e (rest v f h)
@@ -528,30 +544,52 @@ module _ (ans : Functions) (calls : Rules.StoredCalls) (agree : Agreement.Agrees
         by_equal a _ _ h (f, Binds.same_bind (N r) (gives u) _ _ e (λ v. refl))
 
     -- a step that reads no stored residual
-    step_sound : (z : Operators.Step) (v : Represented) (k l : Text) (ls : List Text) (a : Answer) → Operators.step_in s.store (Operators.container_of v) (Operators.container_expected v) k l ls ≡ z → F v → ((u : Represented) → F u → Rules.Walks G s.store u l ls a → Sound a (Meaning.has_path w (abstract_value u) l ls)) → Rules.AfterStep G z (λ u. Rules.Walks G s.store u l ls) a → Sound a (Meaning.has_path w (abstract_value v) k (l ∷ ls))
+    step_sound : (z : Operators.Step) (v : Represented) (k l : Text) (ls : List Text) (a : Answer)
+        → Operators.step_in s.store (Operators.container_of v) (Operators.container_expected v) k l ls ≡ z → F v
+        → ((u : Represented) → F u → Rules.Walks G s.store u l ls a
+        → Sound a (Meaning.has_path w (abstract_value u) l ls))
+        → Rules.AfterStep G z (λ u. Rules.Walks G s.store u l ls) a
+        → Sound a (Meaning.has_path w (abstract_value v) k (l ∷ ls))
     unfolding Operators.after_step
     step_sound (Operators.walks_on u) v k l ls a e f rest h =
-        let z = StoredMeans.walks_on_attribute s (Operators.container_of v) (Operators.container_expected v) k l ls u e in
-        let x : F u × (Meaning.attribute_meaning w (abstract_value v) k ≡ gives (abstract_value u)) = subst (λ b. Sound b (Meaning.attribute_meaning w (abstract_value v) k)) z.0 (Means.attribute_means ans w s F R E well v k f) in
-        let y : F (plain_represented (bool_literal true)) × (Meaning.has_meaning w (abstract_value v) k ≡ gives_bool true) = subst (λ b. Sound b (Meaning.has_meaning w (abstract_value v) k)) z.1 (Means.has_means ans w s F R E well v k) in
-        subst (Sound a) (sym (StoredMeans.path_goes_on w (abstract_value v) (abstract_value u) k l ls y.1 x.1)) (value_bind a (abstract_value u) (gives (abstract_value u)) _ refl (rest u x.0 h))
+        let z = StoredMeans.walks_on_attribute s (Operators.container_of v)
+        (Operators.container_expected v) k l ls u e in
+        let x : F u × (Meaning.attribute_meaning w (abstract_value v) k ≡ gives (abstract_value u)) = subst
+        (λ b. Sound b (Meaning.attribute_meaning w (abstract_value v) k)) z.0
+        (Means.attribute_means ans w s F R E well v k f) in
+        let y : F (plain_represented (bool_literal true)) × (Meaning.has_meaning w
+        (abstract_value v) k ≡ gives_bool true) = subst (λ b. Sound b (Meaning.has_meaning w
+        (abstract_value v) k)) z.1 (Means.has_means ans w s F R E well v k) in
+        subst (Sound a) (sym (StoredMeans.path_goes_on w (abstract_value v) (abstract_value u) k l ls y.1 x.1))
+        (value_bind a (abstract_value u) (gives (abstract_value u)) _ refl (rest u x.0 h))
     step_sound (Operators.stops b) v k l ls a e f rest h =
-        by_equal a b _ h (subst (λ z. Sound (Operators.after_step z (λ u. Operators.path_answer s.store u l ls)) (Meaning.has_path w (abstract_value v) k (l ∷ ls))) e (Means.step_means ans w s F R E well v k l ls f (Means.path_means ans w s F R E well l ls)))
+        by_equal a b _ h (subst (λ z. Sound (Operators.after_step z (λ u. Operators.path_answer s.store u l ls))
+        (Meaning.has_path w (abstract_value v) k (l ∷ ls))) e (Means.step_means ans w s F R E well v k l ls f
+        (Means.path_means ans w s F R E well l ls)))
 
-    steps_sound : (o : Option Term) (v : Represented) (k l : Text) (ls : List Text) (a : Answer) → Operators.attribute_residual s.store v k ≡ o → F v → ((u : Represented) → F u → Rules.Walks G s.store u l ls a → Sound a (Meaning.has_path w (abstract_value u) l ls)) → Rules.StepsOn G o (Operators.step_in s.store (Operators.container_of v) (Operators.container_expected v) k l ls) l ls (λ u. Rules.Walks G s.store u l ls) a → Sound a (Meaning.has_path w (abstract_value v) k (l ∷ ls))
+    steps_sound : (o : Option Term) (v : Represented) (k l : Text) (ls : List Text) (a : Answer)
+        → Operators.attribute_residual s.store v k ≡ o → F v → ((u : Represented) → F u
+        → Rules.Walks G s.store u l ls a → Sound a (Meaning.has_path w (abstract_value u) l ls))
+        → Rules.StepsOn G o (Operators.step_in s.store (Operators.container_of v)
+        (Operators.container_expected v) k l ls) l ls (λ u. Rules.Walks G s.store u l ls) a
+        → Sound a (Meaning.has_path w (abstract_value v) k (l ∷ ls))
     steps_sound None v k l ls a e f rest h =
-        step_sound (Operators.step_in s.store (Operators.container_of v) (Operators.container_expected v) k l ls) v k l ls a refl f rest h
+        step_sound (Operators.step_in s.store (Operators.container_of v)
+        (Operators.container_expected v) k l ls) v k l ls a refl f rest h
     steps_sound (Some t) v k l ls a e f rest (x, g, h) =
         let z = StoredMeans.attribute_stored ans w s done.store_agrees v k t e in
-        subst (Sound a) (sym (StoredMeans.path_goes_on w (abstract_value v) z.0 k l ls z.3 z.2)) (stored_sound x z.0 l ls a (read_sound t z.0 x (attribute_is_stored s.store v k t e) z.1 g) rest h)
+        subst (Sound a) (sym (StoredMeans.path_goes_on w (abstract_value v) z.0 k l ls z.3 z.2))
+        (stored_sound x z.0 l ls a (read_sound t z.0 x (attribute_is_stored s.store v k t e) z.1 g) rest h)
 
-    walks_sound : (ks : List Text) (v : Represented) (k : Text) (a : Answer) → F v → Rules.Walks G s.store v k ks a → Sound a (Meaning.has_path w (abstract_value v) k ks)
+    walks_sound : (ks : List Text) (v : Represented) (k : Text) (a : Answer) → F v → Rules.Walks G s.store v k ks a
+        → Sound a (Meaning.has_path w (abstract_value v) k ks)
     unfolding Meaning.has_path
     walks_sound [] v k a f h = by_equal a _ _ h (Means.last_in_means ans w s F R E well v k)
     walks_sound (l ∷ ls) v k a f h =
         steps_sound (Operators.attribute_residual s.store v k) v k l ls a refl f (λ u i j. walks_sound ls u l a i j) h
 
-    path_sound : (d : Resolution) (x : Answer) (k : Text) (ks : List Text) (o : Outcome) (a : Answer) → Sound x o → Rules.AtPath G d s.store x k ks a → Sound a (and_then o (λ v. Meaning.has_path w v k ks))
+    path_sound : (d : Resolution) (x : Answer) (k : Text) (ks : List Text) (o : Outcome) (a : Answer) → Sound x o
+        → Rules.AtPath G d s.store x k ks a → Sound a (and_then o (λ v. Meaning.has_path w v k ks))
     unfolding Meaning.meaning
     path_sound shallow x k ks o a z h =
         by_equal a _ _ h (on_part_sound _ _ _ (Means.path_means ans w s F R E well k ks) (λ r i. i) (λ r. refl) x o z)

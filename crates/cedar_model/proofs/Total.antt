@@ -184,7 +184,8 @@ module _ (s : Setting) (calls : Rules.StoredCalls) (callable : FunctionsAnswer c
     path_total deep st (answers (value v)) k ks = walks_total (st refl) ks v k
     path_total deep st (answers (residual r)) k ks = (answers (residual (extended_has r k ks)), refl)
 
-    abbrev attribute_total : FoundStored → FoundProjected → (c : Answer) (k : Text) → (a : Answer) × Rules.AtAttribute G s c k a
+    abbrev attribute_total : FoundStored → FoundProjected → (c : Answer) (k : Text) → (a : Answer)
+        × Rules.AtAttribute G s c k a
     attribute_total st pr (fails e) k = (fails e, refl)
     attribute_total st pr (answers (value v)) k =
         resolves_total s.resolution (attribute_residual s.store v k) (attribute_answer s v k)

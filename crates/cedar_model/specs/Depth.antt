@@ -49,7 +49,8 @@ NeedIsBounded calls =
 abbrev pub AnswersAreNoHigher : StoredCalls → Type 0
 AnswersAreNoHigher calls =
     (s : Setting) (m : Mapping) (b : ℕ) → IsWithin s.map m → IsGivenSound calls s → IsNoHigher calls s m b →
-    (t : Term) (p : PartialValue) → Allows s calls t (answers p) → substituted_height m p ≤ height t + bound_of s.resolution b
+    (t : Term) (p : PartialValue) → Allows s calls t (answers p)
+    → substituted_height m p ≤ height t + bound_of s.resolution b
 
 -- so a context that is substituted and interpreted again is at most twice as high: with deep resolution where the
 -- values that are put in are sound, so that the context stays restricted and reads nothing stored

@@ -124,28 +124,75 @@ module _ (s : Setting) (calls : Rules.StoredCalls) (n : ℕ) (below : 0 < n) whe
   pub runs_binary_fails : (op : BinaryOperator) (t u : Term) (f : Failure) → Part t (fails f) → Whole (binary op t u) (fails f)
   runs_binary_fails op t u f p = runs_by_layer s calls n (binary op t u) _ below (fails f, p, refl)
 
-  pub runs_binary : (op : BinaryOperator) (t u : Term) (p : PartialValue) (y : Answer) → s.resolution ≡ shallow → Part t (answers p) → Part u y → Whole (binary op t u) (Rules.binary_beside s op p y)
+  pub runs_binary : (op : BinaryOperator) (t u : Term) (p : PartialValue) (y : Answer) → s.resolution ≡ shallow
+      → Part t (answers p) → Part u y → Whole (binary op t u) (Rules.binary_beside s op p y)
   runs_binary op t u p y e h k =
-      runs_by_layer s calls n (binary op t u) _ below (answers p, h, (y, k, subst (λ r. Rules.Resolves Part r (Rules.beside_residual s.store op p y) (Rules.binary_beside s op p y) (Rules.binary_beside s op p y)) (sym e) refl))
+      runs_by_layer s calls n (binary op t u) _ below (
+        answers p,
+        h,
+        (
+          y,
+          k,
+          subst (λ r. Rules.Resolves Part r
+              (Rules.beside_residual s.store op p y) (Rules.binary_beside s op p y) (Rules.binary_beside s op p y))
+              (sym e) refl,
+        ),
+      )
 
-  pub runs_binary_unread : (op : BinaryOperator) (t u : Term) (p : PartialValue) (y : Answer) → Rules.beside_residual s.store op p y ≡ None → Part t (answers p) → Part u y → Whole (binary op t u) (Rules.binary_beside s op p y)
+  pub runs_binary_unread : (op : BinaryOperator) (t u : Term) (p : PartialValue) (y : Answer)
+      → Rules.beside_residual s.store op p y ≡ None → Part t (answers p) → Part u y
+      → Whole (binary op t u) (Rules.binary_beside s op p y)
   runs_binary_unread op t u p y e h k =
-      runs_by_layer s calls n (binary op t u) _ below (answers p, h, (y, k, subst (λ o. Rules.Resolves Part s.resolution o (Rules.binary_beside s op p y) (Rules.binary_beside s op p y)) (sym e) (unread Part s.resolution _)))
+      runs_by_layer s calls n (binary op t u) _ below (
+        answers p,
+        h,
+        (
+          y,
+          k,
+          subst
+              (λ o. Rules.Resolves Part s.resolution o (Rules.binary_beside s op p y) (Rules.binary_beside s op p y))
+              (sym e) (unread Part s.resolution _),
+        ),
+      )
 
-  pub runs_binary_read : (op : BinaryOperator) (t u : Term) (p : PartialValue) (y : Answer) (r : Term) (a : Answer) → s.resolution ≡ deep → Rules.beside_residual s.store op p y ≡ Some r → Part t (answers p) → Part u y → Part r a → Whole (binary op t u) a
+  pub runs_binary_read : (op : BinaryOperator) (t u : Term) (p : PartialValue) (y : Answer) (r : Term) (a : Answer)
+      → s.resolution ≡ deep → Rules.beside_residual s.store op p y ≡ Some r → Part t (answers p) → Part u y → Part r a
+      → Whole (binary op t u) a
   runs_binary_read op t u p y r a e f h k j =
-      runs_by_layer s calls n (binary op t u) _ below (answers p, h, (y, k, subst (λ z. Rules.Resolves Part z (Rules.beside_residual s.store op p y) (Rules.binary_beside s op p y) a) (sym e) (subst (λ o. Rules.Resolves Part deep o (Rules.binary_beside s op p y) a) (sym f) j)))
+      runs_by_layer s calls n (binary op t u) _ below (
+        answers p,
+        h,
+        (
+          y,
+          k,
+          subst (λ z. Rules.Resolves Part z
+              (Rules.beside_residual s.store op p y) (Rules.binary_beside s op p y) a) (sym e) (subst
+              (λ o. Rules.Resolves Part deep o (Rules.binary_beside s op p y) a) (sym f) j),
+        ),
+      )
 
   pub runs_has : (t : Term) (k : Text) (x : Answer) → Part t x → Whole (has_attribute t k) (Rules.has_part s k x)
   runs_has t k x p = runs_by_layer s calls n (has_attribute t k) _ below (x, p, refl)
 
-  pub runs_extended_has : (t : Term) (k : Text) (ks : List Text) (x : Answer) → s.resolution ≡ shallow → Part t x → Whole (extended_has t k ks) (Rules.on_part (λ v. path_answer s.store v k ks) (λ r. extended_has r k ks) x)
+  pub runs_extended_has : (t : Term) (k : Text) (ks : List Text) (x : Answer) → s.resolution ≡ shallow → Part t x
+      → Whole (extended_has t k ks) (Rules.on_part (λ v. path_answer s.store v k ks) (λ r. extended_has r k ks) x)
   runs_extended_has t k ks x e p =
-      runs_by_layer s calls n (extended_has t k ks) _ below (x, p, subst (λ r. Rules.AtPath Part r s.store x k ks (Rules.on_part (λ v. path_answer s.store v k ks) (λ r. extended_has r k ks) x)) (sym e) refl)
+      runs_by_layer s calls n (extended_has t k ks) _ below (
+        x,
+        p,
+        subst (λ r. Rules.AtPath Part r s.store x k ks
+            (Rules.on_part (λ v. path_answer s.store v k ks) (λ r. extended_has r k ks) x)) (sym e) refl,
+      )
 
-  pub runs_extended_has_deep : (t : Term) (k : Text) (ks : List Text) (x a : Answer) → s.resolution ≡ deep → Part t x → Rules.WalksFrom Part s.store x k ks a → Whole (extended_has t k ks) a
+  pub runs_extended_has_deep : (t : Term) (k : Text) (ks : List Text) (x a : Answer) → s.resolution ≡ deep → Part t x
+      → Rules.WalksFrom Part s.store x k ks a → Whole (extended_has t k ks) a
   runs_extended_has_deep t k ks x a e p j =
-      runs_by_layer s calls n (extended_has t k ks) _ below (x, p, subst (λ r. Rules.AtPath Part r s.store x k ks a) (sym e) j)
+      runs_by_layer s calls n (extended_has t k ks) _ below (
+        x,
+        p,
+        subst (λ r. Rules.AtPath Part r s.store x k ks a)
+            (sym e) j,
+      )
 
   pub runs_like : (t : Term) (pattern : List PatternPart) (x : Answer) → Part t x → Whole (like t pattern) (Rules.on_part (like_answer pattern) (λ r. like r pattern) x)
   runs_like t pattern x p = runs_by_layer s calls n (like t pattern) _ below (x, p, refl)
@@ -158,17 +205,37 @@ module _ (s : Setting) (calls : Rules.StoredCalls) (n : ℕ) (below : 0 < n) whe
   pub runs_attribute_fails : (t : Term) (k : Text) (f : Failure) → Part t (fails f) → Whole (get_attribute t k) (fails f)
   runs_attribute_fails t k f p = runs_by_layer s calls n (get_attribute t k) _ below (fails f, p, refl)
 
-  pub runs_attribute_of_value : (t : Term) (k : Text) (v : Represented) → s.resolution ≡ shallow → Part t (answers (value v)) → Whole (get_attribute t k) (attribute_answer s v k)
+  pub runs_attribute_of_value : (t : Term) (k : Text) (v : Represented) → s.resolution ≡ shallow
+      → Part t (answers (value v)) → Whole (get_attribute t k) (attribute_answer s v k)
   runs_attribute_of_value t k v e p =
-      runs_by_layer s calls n (get_attribute t k) _ below (answers (value v), p, subst (λ r. Rules.Resolves Part r (attribute_residual s.store v k) (attribute_answer s v k) (attribute_answer s v k)) (sym e) refl)
+      runs_by_layer s calls n (get_attribute t k) _ below (
+        answers (value v),
+        p,
+        subst (λ r. Rules.Resolves Part r
+            (attribute_residual s.store v k) (attribute_answer s v k) (attribute_answer s v k)) (sym e) refl,
+      )
 
-  pub runs_attribute_unread : (t : Term) (k : Text) (v : Represented) → attribute_residual s.store v k ≡ None → Part t (answers (value v)) → Whole (get_attribute t k) (attribute_answer s v k)
+  pub runs_attribute_unread : (t : Term) (k : Text) (v : Represented) → attribute_residual s.store v k ≡ None
+      → Part t (answers (value v)) → Whole (get_attribute t k) (attribute_answer s v k)
   runs_attribute_unread t k v e p =
-      runs_by_layer s calls n (get_attribute t k) _ below (answers (value v), p, subst (λ o. Rules.Resolves Part s.resolution o (attribute_answer s v k) (attribute_answer s v k)) (sym e) (unread Part s.resolution _))
+      runs_by_layer s calls n (get_attribute t k) _ below (
+        answers (value v),
+        p,
+        subst
+            (λ o. Rules.Resolves Part s.resolution o (attribute_answer s v k) (attribute_answer s v k)) (sym e)
+            (unread Part s.resolution _),
+      )
 
-  pub runs_attribute_read : (t : Term) (k : Text) (v : Represented) (r : Term) (a : Answer) → s.resolution ≡ deep → attribute_residual s.store v k ≡ Some r → Part t (answers (value v)) → Part r a → Whole (get_attribute t k) a
+  pub runs_attribute_read : (t : Term) (k : Text) (v : Represented) (r : Term) (a : Answer) → s.resolution ≡ deep
+      → attribute_residual s.store v k ≡ Some r → Part t (answers (value v)) → Part r a → Whole (get_attribute t k) a
   runs_attribute_read t k v r a e f p j =
-      runs_by_layer s calls n (get_attribute t k) _ below (answers (value v), p, subst (λ z. Rules.Resolves Part z (attribute_residual s.store v k) (attribute_answer s v k) a) (sym e) (subst (λ o. Rules.Resolves Part deep o (attribute_answer s v k) a) (sym f) j))
+      runs_by_layer s calls n (get_attribute t k) _ below (
+        answers (value v),
+        p,
+        subst (λ z. Rules.Resolves Part z
+            (attribute_residual s.store v k) (attribute_answer s v k) a) (sym e) (subst (λ o. Rules.Resolves Part deep o
+            (attribute_answer s v k) a) (sym f) j),
+      )
 
   pub runs_attribute_of_no_record : (t : Term) (k : Text) (r : Term) → Part t (answers (residual r)) → Rules.fields_of_record r ≡ None → Whole (get_attribute t k) (answers_residual (get_attribute r k))
   runs_attribute_of_no_record t k r p h =
