@@ -28,6 +28,7 @@ pub mod StepNeeds
 pub mod Tabled
 pub mod Instanced
 pub mod Resolved
+pub mod Agreeing
 pub mod Computed
 pub mod Conjunction
 pub mod Functional

@@ -292,7 +292,8 @@ module _ (s : Setting) (calls : Rules.StoredCalls) where
   gather_left : (op : BinaryOperator) (x : Answer) (t : Term) (a : Answer) → Rules.AfterLeft (Rules.Allows s calls) s op x t a → (n : ℕ) × Rules.AfterLeft (Within n) s op x t a
   gather_left op (fails e) t a r = (0, r)
   gather_left op (answers p) t a (y, (ne, n, g), h) =
-      let k = gather_resolves s.resolution (Rules.beside_residual s.store op p y) (Rules.binary_beside s op p y) a h in (
+      let k = gather_resolves s.resolution (Rules.beside_residual s.store op p y)
+      (Rules.binary_beside s op p y) a h in (
         max n k.0,
         (
           y,

@@ -35,6 +35,7 @@ pub mod ResponseLaws
 pub mod Needs
 pub mod Instances
 pub mod Resolutions
+pub mod ResolutionLaws
 pub mod Steps
 pub mod Authorizations
 pub mod AuthorizationLaws
