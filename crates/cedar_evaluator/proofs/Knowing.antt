@@ -12,7 +12,8 @@ use Rattle.cedar_model.specs.Agreement.{AgreesWithFunctions, HasNothingUnknown, 
 use Rattle.cedar_model.specs.Authorizations.{IsExact, IsExactDecision, decided}
 use Rattle.cedar_model.specs.Operators.{attribute_answer, attribute_residual}
 use Rattle.cedar_model.proofs.Exactly.{answer_exact, decision_exact}
-use Rattle.cedar_model.proofs.Resolving.{IsStored, none_is_stored, attribute_is_stored, beside_is_stored, resolves_map, path_map}
+use Rattle.cedar_model.proofs.Resolving.{IsStored, none_is_stored, attribute_is_stored, beside_is_stored}
+use Rattle.cedar_model.proofs.Resolving.{resolves_map, path_map}
 use Rattle.cedar_operators.specs.Stopping.{stopped}
 use Rattle.cedar_evaluator.specs.Stops.{NoCalls, StoppingRuns, IsKnownExactly, IsDecidedExactly}
 

@@ -7,7 +7,8 @@ use Rattle.cedar_model.specs.Shapes.{is_projectable}
 use Rattle.cedar_model.specs.Outcomes.{bool_of}
 use Rattle.cedar_model.specs.Failures.{Failure, failure_kind, recursion_limit, PartialValue, value, residual, Answer, answers, fails, limit}
 use Rattle.cedar_model.specs.Settings.{Store, Resolution, shallow, deep, Setting}
-use Rattle.cedar_model.specs.Operators.{term_at, Step, walks_on, stops, step_in, container_of, container_expected, attribute_answer, path_answer, attribute_residual}
+use Rattle.cedar_model.specs.Operators.{term_at, Step, walks_on, stops, step_in, container_of, container_expected}
+use Rattle.cedar_model.specs.Operators.{attribute_answer, path_answer, attribute_residual}
 use Rattle.cedar_model.proofs.Resolving.{nothing_read}
 use Rattle.cedar_model.specs.Rules
 

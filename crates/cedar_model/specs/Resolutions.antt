@@ -1,6 +1,7 @@
 -- Worked examples: what stored residuals answer with each resolution, and how many levels that takes.
 use Rattle.std.specs.Prelude.{◌≡◌, ℕ, pos, Bool, true, false, cond, [], ◌∷◌, Option, Some, None, codes}
-use Rattle.cedar_model.specs.Terms.{Text, EntityName, text_literal, long_literal, entity_literal, string_type, long_type}
+use Rattle.cedar_model.specs.Terms.{Text, EntityName, text_literal, long_literal, entity_literal, string_type}
+use Rattle.cedar_model.specs.Terms.{long_type}
 use Rattle.cedar_model.specs.Terms.{get_tag_operator, has_tag_operator, Term, literal, unknown, binary, call}
 use Rattle.cedar_model.specs.Terms.{get_attribute, has_attribute, extended_has, set_of, record_of, no_terms, terms_of}
 use Rattle.cedar_model.specs.Terms.{Fields, fields_of}
