@@ -10,7 +10,8 @@ use Rattle.cedar_model.specs.Terms.{Text}
 use Rattle.cedar_model.specs.Outcomes.{text_eq, has_text}
 use Rattle.cedar_model.specs.Failures.{Failure, out_of_memory, Answer}
 use Rattle.cedar_model.specs.Policies.{Policy, Effect, permit, forbid, Judged, is_satisfied_by, is_satisfied, satisfied_ids}
-use Rattle.cedar_model.specs.Authorizations.{decided, bool_verdict, result_verdict, with_result, judged_by, JudgesEach}
+use Rattle.cedar_model.specs.Authorizations.{evaluated, bool_verdict, result_verdict, error_in, judged_by, JudgesEach}
+use Rattle.cedar_model.specs.Responses.{with_error}
 use Rattle.cedar_model.proofs.Decisions.{or_swap}
 use Rattle.cedar_layers.specs.contracts.policies.policy.PolicyIDPartialEq.TheImpl.{eq-value}
 use Rattle.cedar_layers.specs.declared.policies.policy.PolicyID.{PolicyID}
@@ -47,7 +48,7 @@ under_text ids new s u e h t = h t ∙ ap (λ (x : Text). text_eq t x || ids t) 
 -- ---- one policy is noted
 
 pub nothing_noted : (s : Sheet) (id : Text) (effect : Effect) → Notes s s id effect (Ok false)
-unfolding result_verdict bool_verdict is_satisfied_by with_result
+unfolding result_verdict bool_verdict is_satisfied_by with_error error_in
 nothing_noted s id effect = record {
   permits = λ t. refl;
   forbids = λ t. refl;
@@ -55,7 +56,7 @@ nothing_noted s id effect = record {
 }
 
 pub permit_noted : (old new : Sheet) (id : Text) → ((t : Text) → has_id new.satisfied_permits t ≡ (text_eq t id || has_id old.satisfied_permits t)) → new.satisfied_forbids ≡ old.satisfied_forbids → sheet_errors new ≡ sheet_errors old → Notes old new id permit (Ok true)
-unfolding result_verdict bool_verdict is_satisfied_by with_result
+unfolding result_verdict bool_verdict is_satisfied_by with_error error_in
 permit_noted old new id h f e = record {
   permits = h;
   forbids = λ t. ap (λ (ids : PolicyIDs). has_id ids t) f;
@@ -63,7 +64,7 @@ permit_noted old new id h f e = record {
 }
 
 pub forbid_noted : (old new : Sheet) (id : Text) → ((t : Text) → has_id new.satisfied_forbids t ≡ (text_eq t id || has_id old.satisfied_forbids t)) → new.satisfied_permits ≡ old.satisfied_permits → sheet_errors new ≡ sheet_errors old → Notes old new id forbid (Ok true)
-unfolding result_verdict bool_verdict is_satisfied_by with_result
+unfolding result_verdict bool_verdict is_satisfied_by with_error error_in
 forbid_noted old new id h f e = record {
   permits = λ t. ap (λ (ids : PolicyIDs). has_id ids t) f;
   forbids = h;
@@ -71,7 +72,7 @@ forbid_noted old new id h f e = record {
 }
 
 error_noted : (old new : Sheet) (id : Text) (effect : Effect) (e : Failure) → NotesError old new id e → Notes old new id effect (Err e)
-unfolding result_verdict is_satisfied_by with_result
+unfolding result_verdict is_satisfied_by with_error error_in
 error_noted old new id effect e n = record {
   permits = λ t. ap (λ (ids : PolicyIDs). has_id ids t) n.permits;
   forbids = λ t. ap (λ (ids : PolicyIDs). has_id ids t) n.forbids;
@@ -111,16 +112,16 @@ reflects_more js old new p r h n = record {
   forbids = λ t. n.forbids t ∙ ap (λ (z : Bool). (is_satisfied_by forbid (result_verdict r) p.effect && text_eq t p.id) || z) (h.forbids t) ∙ sym (ids_more forbid t js (judged_by p r));
 }
 
-with_result_more : (id : Text) (r : Result Bool Failure) (es fs : List (Text × Failure)) → with_result id r es ++ fs ≡ with_result id r (es ++ fs)
-unfolding with_result
-with_result_more id (Ok b) es fs = refl
-with_result_more id (Err e) es fs = refl
+with_error_more : (id : Text) (r : Result Bool Failure) (es fs : List (Text × Failure)) → with_error id (error_in r) es ++ fs ≡ with_error id (error_in r) (es ++ fs)
+unfolding with_error error_in
+with_error_more id (Ok b) es fs = refl
+with_error_more id (Err e) es fs = refl
 
-judges_more : (May : Policy → Answer → Type 0) (ps : List Policy) (js : List Judged) (es : List (Text × Failure)) (p : Policy) (a : Answer) → JudgesEach May ps js es → May p a → JudgesEach May (ps ++ p ∷ []) (js ++ judged_by p (decided a) ∷ []) (es ++ with_result p.id (decided a) [])
+judges_more : (May : Policy → Answer → Type 0) (ps : List Policy) (js : List Judged) (es : List (Text × Failure)) (p : Policy) (a : Answer) → JudgesEach May ps js es → May p a → JudgesEach May (ps ++ p ∷ []) (js ++ judged_by p (evaluated a) ∷ []) (es ++ with_error p.id (error_in (evaluated a)) [])
 judges_more May [] js es p a (e, f) m =
-    (a, [], [], m, (refl, refl), ap (λ (l : List Judged). l ++ judged_by p (decided a) ∷ []) e, ap (λ (l : List (Text × Failure)). l ++ with_result p.id (decided a) []) f)
+    (a, [], [], m, (refl, refl), ap (λ (l : List Judged). l ++ judged_by p (evaluated a) ∷ []) e, ap (λ (l : List (Text × Failure)). l ++ with_error p.id (error_in (evaluated a)) []) f)
 judges_more May (q ∷ ps) js es p a (b, rest, later, n, j, e, f) m =
-    (b, rest ++ judged_by p (decided a) ∷ [], later ++ with_result p.id (decided a) [], n, judges_more May ps rest later p a j m, ap (λ (l : List Judged). l ++ judged_by p (decided a) ∷ []) e, ap (λ (l : List (Text × Failure)). l ++ with_result p.id (decided a) []) f ∙ with_result_more q.id (decided b) later (with_result p.id (decided a) []))
+    (b, rest ++ judged_by p (evaluated a) ∷ [], later ++ with_error p.id (error_in (evaluated a)) [], n, judges_more May ps rest later p a j m, ap (λ (l : List Judged). l ++ judged_by p (evaluated a) ∷ []) e, ap (λ (l : List (Text × Failure)). l ++ with_error p.id (error_in (evaluated a)) []) f ∙ with_error_more q.id (evaluated b) later (with_error p.id (error_in (evaluated a)) []))
 
 -- ---- the loop
 
@@ -133,7 +134,7 @@ judged_none May all s left h e same = ([], ([], (refl, e), h), same)
 
 pub judged_more : (May : Policy → Answer → Type 0) (all : List Policy) (old new : Sheet) (p : Policy) (rest left : List Policy) → left ≡ p ∷ rest → IsJudgedSoFar May all old left → NotesAnswer (May p) old new p.id p.effect → IsJudgedSoFar May all new rest
 judged_more May all old new p rest left e (done, (js, j, h), same) (a, m, n) =
-    (done ++ p ∷ [], (js ++ judged_by p (decided a) ∷ [], subst (JudgesEach May (done ++ p ∷ []) (js ++ judged_by p (decided a) ∷ [])) (sym n.errors) (judges_more May done js (sheet_errors old) p a j m), reflects_more js old new p (decided a) h n), same ∙ ap (λ (l : List Policy). done ++ l) e ∙ sym (append_assoc done (p ∷ []) rest))
+    (done ++ p ∷ [], (js ++ judged_by p (evaluated a) ∷ [], subst (JudgesEach May (done ++ p ∷ []) (js ++ judged_by p (evaluated a) ∷ [])) (sym n.errors) (judges_more May done js (sheet_errors old) p a j m), reflects_more js old new p (evaluated a) h n), same ∙ ap (λ (l : List Policy). done ++ l) e ∙ sym (append_assoc done (p ∷ []) rest))
 
 pub judged_all : (May : Policy → Answer → Type 0) (all : List Policy) (s : Sheet) (left : List Policy) → left ≡ [] → IsJudgedSoFar May all s left → IsJudged May all s
 judged_all May all s left e (done, j, same) =

@@ -4,7 +4,8 @@ use Rattle.cedar_model.specs.Terms.{Text}
 use Rattle.cedar_model.specs.Outcomes.{text_eq, has_text}
 use Rattle.cedar_model.specs.Failures.{Failure, Answer}
 use Rattle.cedar_model.specs.Policies.{Policy, Effect, permit, forbid, Judged, is_satisfied_by, satisfied_ids, decision, reasons}
-use Rattle.cedar_model.specs.Authorizations.{Authorized, decided, result_verdict, with_result, JudgesEach}
+use Rattle.cedar_model.specs.Authorizations.{Authorized, evaluated, result_verdict, error_in, JudgesEach}
+use Rattle.cedar_model.specs.Responses.{with_error}
 use Rattle.cedar_layers.specs.declared.policies.policy.PolicyID.{PolicyID}
 use Rattle.cedar_authorizer.specs.declared.authorizer.Sheet.{Sheet}
 use Rattle.cedar_authorizer.specs.Responding.{has_id, errors_view}
@@ -22,11 +23,11 @@ sheet_errors s = errors_view s.errors.items
 pub record Notes (old new : Sheet) (id : Text) (effect : Effect) (r : Result Bool Failure) : Type 0 where
   pub permits : (t : Text) → has_id new.satisfied_permits t ≡ ((is_satisfied_by permit (result_verdict r) effect && text_eq t id) || has_id old.satisfied_permits t)
   pub forbids : (t : Text) → has_id new.satisfied_forbids t ≡ ((is_satisfied_by forbid (result_verdict r) effect && text_eq t id) || has_id old.satisfied_forbids t)
-  pub errors : sheet_errors new ≡ sheet_errors old ++ with_result id r []
+  pub errors : sheet_errors new ≡ sheet_errors old ++ with_error id (error_in r) []
 
 -- a policy is noted by an answer that its condition may have
 abbrev pub NotesAnswer : (Answer → Type 0) → Sheet → Sheet → Text → Effect → Type 0
-NotesAnswer May old new id effect = (a : Answer) × May a × Notes old new id effect (decided a)
+NotesAnswer May old new id effect = (a : Answer) × May a × Notes old new id effect (evaluated a)
 
 -- an error is noted, and nothing else
 pub record NotesError (old new : Sheet) (id : Text) (e : Failure) : Type 0 where

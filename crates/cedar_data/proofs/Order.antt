@@ -5,7 +5,8 @@ use Rattle.std.specs.Rc.{rc_str_bytes}
 use Rattle.std.specs.Ordering.{ordering_then}
 use Rattle.std.proofs.lemmas.List.{drop_all}
 use Rattle.cedar_model.specs.Values.{RepresentedValues, abstract_values, abstract_fields}
-use Rattle.cedar_model.specs.Keys.{Key, key_cmp, number_key, pair_key, literal_key, values_key, value_fields_key, value_cmp, key_cmp-text_key, value_cmp-bool, value_cmp-long, value_cmp-text, value_cmp-entity, value_cmp-extension}
+use Rattle.cedar_model.specs.Keys.{Key, key_cmp, number_key, pair_key, literal_key, values_key, value_fields_key, value_cmp}
+use Rattle.cedar_model.specs.lemmas.Keys.{key_cmp-text_key, value_cmp-bool, value_cmp-long, value_cmp-text, value_cmp-entity, value_cmp-extension}
 use Rattle.cedar_model.specs.Sets.{represented_size, represented_values_of, canonical_set}
 use Rattle.std.specs.Map.{values_of}
 use Rattle.std.specs.declared.rc.Rc.{Rc}

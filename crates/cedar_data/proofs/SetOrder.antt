@@ -9,8 +9,10 @@ use Rattle.std.proofs.lemmas.Cmp.{on_total}
 use Rattle.std.proofs.lemmas.List.Filters.{dedup_is}
 use Rattle.std.proofs.lemmas.List.Kept.{IsStrictlySortedBy-dedup}
 use Rattle.cedar_model.specs.Values.{AbstractValue, Represented, RepresentedValues, no_represented, one_represented, abstract_value, abstract_values}
-use Rattle.cedar_model.specs.Keys.{value_eq, value_eq-true, value_eq-self}
-use Rattle.cedar_model.specs.Sets.{represented_values_of, list_of-represented_values_of, canonical_set, canonical_set-in_order, find_equal, find_equal-canonical_set, IsStrictlyInOrder, IsStrictlyInOrder-canonical_set, IsBelowFirst, same_finds}
+use Rattle.cedar_model.specs.Keys.{value_eq}
+use Rattle.cedar_model.specs.lemmas.Keys.{value_eq-true, value_eq-self}
+use Rattle.cedar_model.specs.Sets.{represented_values_of, canonical_set, find_equal, IsStrictlyInOrder, IsBelowFirst}
+use Rattle.cedar_model.specs.lemmas.Sets.{list_of-represented_values_of, canonical_set-in_order, find_equal-canonical_set, IsStrictlyInOrder-canonical_set, same_finds}
 use Rattle.cedar_data.specs.Sound.{Placed, whats, first_equal, in_front, each_first, firsts}
 use Rattle.cedar_data.specs.Compared.{represented_cmp, represented_eq, represented_cmp-total}
 

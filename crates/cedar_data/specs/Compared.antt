@@ -11,7 +11,8 @@ use Rattle.std.specs.Cmp.{IsTotalOrder, IsEquivalence, IsPartialEquivalence, IsP
 use Rattle.std.proofs.lemmas.Cmp.{on_total, on_equiv}
 use Rattle.std.specs.Cmp.Lexicographic.{slice_cmp}
 use Rattle.cedar_model.specs.Values.{Represented, abstract_value}
-use Rattle.cedar_model.specs.Keys.{value_cmp, value_cmp-total, value_eq-equivalence}
+use Rattle.cedar_model.specs.Keys.{value_cmp}
+use Rattle.cedar_model.specs.lemmas.Keys.{value_cmp-total, value_eq-equivalence}
 use Rattle.cedar_model.specs.Failures.{PartialValue, value, residual}
 use Rattle.cedar_names.specs.Equality.{term_eq}
 use Rattle.cedar_names.specs.EqualityLaws.{term_eq-equivalence}

@@ -4,7 +4,7 @@ use Rattle.std.specs.Hash as fed
 use Rattle.std.proofs.Common.{ap, rules}
 use Rattle.cedar_model.specs.Terms.{Literal, bool_literal, long_literal, text_literal, entity_literal, EntityName}
 use Rattle.cedar_model.specs.Values.{AbstractValue, plain, set_value, record_value, extension_value, AbstractValues, no_values, one_value, AbstractFields, no_values_at, one_value_at, Represented, abstract_value}
-use Rattle.cedar_model.specs.Keys.{value_eq-true}
+use Rattle.cedar_model.specs.lemmas.Keys.{value_eq-true}
 use Rattle.cedar_data.specs.Compared.{represented_eq}
 
 abbrev pub entity_writes : EntityName → fed.HashWrites

@@ -11,28 +11,14 @@ use Rattle.cedar_model.specs.Terms.{Terms, no_terms}
 use Rattle.cedar_model.specs.Values.{AbstractValue, Represented, plain_represented, set_represented, record_represented, extension_represented, RepresentedValues, no_represented, one_represented, RepresentedFields, no_represented_at, one_represented_at, abstract_value, expression_of, expressions_of, expressions_at}
 use Rattle.cedar_model.specs.Shapes.{is_restricted, are_restricted, are_restricted_at, has_unknown, have_unknown, have_unknown_at}
 use Rattle.cedar_model.specs.Keys.{value_cmp, value_eq}
-use Rattle.cedar_model.specs.Codes.{represented_code, represented_values_code}
-use Rattle.cedar_model.specs.Sets.{represented_values_of, list_of_represented, insert_represented, insert_each, canonical_set, canonical_set-in_order, IsStrictlyInOrder, IsStrictlyInOrder-prop, IsStrictlyInOrder-canonical_set, IsCanonical, AreCanonical, AreCanonicalAt}
+use Rattle.cedar_model.specs.lemmas.Codes.{represented_code, represented_values_code}
+use Rattle.cedar_model.specs.Sets.{represented_values_of, list_of_represented, insert_represented, insert_each, canonical_set, IsStrictlyInOrder, IsCanonical, AreCanonical, AreCanonicalAt}
+use Rattle.cedar_model.specs.lemmas.Sets.{canonical_set-in_order, IsStrictlyInOrder-prop, IsStrictlyInOrder-canonical_set}
+pub use Rattle.cedar_model.specs.Restricted.{IsSound, AreSound, AreSoundAt}
 use Rattle.std.specs.Rc.{rc_str_bytes}
 use Rattle.std.specs.declared.alloc.Global.{Global}
 use Rattle.std.specs.declared.rc.RcStr.{RcStr}
 use Rattle.cedar_names.specs.declared.names.Loc.{Loc}
-
--- each set is strictly in order, and the arguments of each representation are restricted and hold no unknown
-abbrev mutual
-  pub IsSound : Represented → Type 0
-  IsSound (plain_represented l) = Unit {0}
-  IsSound (set_represented vs) = IsStrictlyInOrder vs × AreSound vs
-  IsSound (record_represented fs) = AreSoundAt fs
-  IsSound (extension_represented t k f ts) = (are_restricted ts ≡ true) × (have_unknown ts ≡ false)
-
-  pub AreSound : RepresentedValues → Type 0
-  AreSound no_represented = Unit {0}
-  AreSound (one_represented v vs) = IsSound v × AreSound vs
-
-  pub AreSoundAt : RepresentedFields → Type 0
-  AreSoundAt no_represented_at = Unit {0}
-  AreSoundAt (one_represented_at k v fs) = IsSound v × AreSoundAt fs
 
 -- a value and where it stands, and where the values inside it stand: of each element of a set or value of a record, in order, its own location and then those inside it
 pub record Placed : Type 0 where

@@ -9,7 +9,7 @@ use Rattle.cedar_model.specs.Failures.{Failure, out_of_memory, PartialValue, val
 use Rattle.cedar_model.specs.Settings.{Setting}
 use Rattle.cedar_model.specs.Rules.{MayAnswer, Meets, Rule, Runs, TakesBranch, AfterGuard, AndLeft, AfterAndLeft, OrLeft, AfterOrLeft, AfterLeft, AtAttribute, beside_residual, binary_beside, Parts, AfterPart, FieldParts, AfterFieldPart}
 use Rattle.cedar_model.specs.Agreement.{AgreesWithFunctions, HasNothingUnknown, IsKnown, AreKnown, AreKnownAt, own_world}
-use Rattle.cedar_model.specs.Authorizations.{IsExact, IsExactDecision, decided}
+use Rattle.cedar_model.specs.Authorizations.{IsExact, IsExactDecision, evaluated}
 use Rattle.cedar_model.specs.Operators.{attribute_answer, attribute_residual}
 use Rattle.cedar_model.proofs.Exactly.{answer_exact, decision_exact}
 use Rattle.cedar_model.proofs.Resolving.{IsStored, none_is_stored, attribute_is_stored, beside_is_stored}
@@ -147,7 +147,7 @@ pub known_exactly : (s : Setting) (levels : ℕ) (t : Term) (a : Answer) → Mee
 known_exactly s levels t a may ok known ans k sigma =
     exactly s known ans sigma levels t a k (known_runs s known ans sigma levels t a k (may ok))
 
-pub decided_exactly : (s : Setting) (levels : ℕ) (t : Term) (r : Result Bool Failure) → (r ≢ Err out_of_memory → (x : Answer) × StoppingRuns s levels t x × (r ≡ decided x)) → IsDecidedExactly s levels t r
+pub decided_exactly : (s : Setting) (levels : ℕ) (t : Term) (r : Result Bool Failure) → (r ≢ Err out_of_memory → (x : Answer) × StoppingRuns s levels t x × (r ≡ evaluated x)) → IsDecidedExactly s levels t r
 decided_exactly s levels t r may ok known ans k sigma =
     let z = may ok in
     subst (IsExactDecision NoCalls ans (own_world s sigma) s levels t) (sym z.2) (decision_exact NoCalls ans (no_calls_agree ans) s known sigma levels t z.0 k (known_runs s known ans sigma levels t z.0 k z.1))

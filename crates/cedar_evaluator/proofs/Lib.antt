@@ -1,4 +1,5 @@
 pub mod Steps
 pub mod Parts
+pub mod Elements
 pub mod Knowing
 pub mod Copies

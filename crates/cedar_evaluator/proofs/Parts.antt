@@ -24,8 +24,11 @@ use Rattle.cedar_model.specs.Values.{Represented, one_represented_at}
 use Rattle.cedar_model.specs.Sets.{represented_fields_of}
 use Rattle.cedar_model.specs.Failures.{Failure, PartialValue, value, fails, answers_value}
 use Rattle.cedar_model.specs.Rules.{MayAnswer, Parts, FieldParts, part_then, field_part_then}
+use Rattle.cedar_names.specs.declared.names.Loc.{Loc}
+use Rattle.cedar_expressions.specs.declared.expr.Expr.{Expr}
+use Rattle.cedar_expressions.specs.View.{expr_loc}
 use Rattle.cedar_data.specs.Sound.{Placed, whats, whats_at}
-use Rattle.cedar_evaluator.specs.Evaluations.{all_values, values_under, all_fields, key_order, AreInOrder}
+use Rattle.cedar_evaluator.specs.Evaluations.{all_values, values_under, all_fields, key_order, AreInOrder, locs_of, part_locs, AreAtPlaces}
 
 -- ---- parts in a list
 
@@ -70,6 +73,22 @@ pub collected_fails : (May : MayAnswer) (all rest more : Terms) (t : Term) (vs :
 collected_fails May all rest more t vs e sofar is may =
     let now : Parts May rest (Err e) = subst (λ ts. Parts May ts (Err e)) (sym is) (fails e, may, refl) in
     subst (Parts May all) (parts_after-err (whats vs) e) (sofar (Err e) now)
+
+-- the values so far stand where their parts stand, which the rest follow
+abbrev pub HavePlaces : List Expr → List Expr → List Placed → Type 0
+HavePlaces all rest vs = locs_of vs ++ part_locs rest ≡ part_locs all
+
+locs_of-append : (vs : List Placed) (v : Placed) (ls : List (Option Loc)) → locs_of (vs ++ v ∷ []) ++ ls ≡ locs_of vs ++ v.loc ∷ ls
+locs_of-append [] v ls = refl
+locs_of-append (w ∷ vs) v ls = ap (λ l. w.loc ∷ l) (locs_of-append vs v ls)
+
+pub placed_more : (all rest more : List Expr) (e : Expr) (vs : List Placed) (v : Placed) → HavePlaces all rest vs → rest ≡ e ∷ more → v.loc ≡ expr_loc e → HavePlaces all more (vs ++ v ∷ [])
+placed_more all rest more e vs v sofar is at =
+    locs_of-append vs v (part_locs more) ∙ ap (λ l. locs_of vs ++ l ∷ part_locs more) at ∙ ap (λ es. locs_of vs ++ part_locs es) (sym is) ∙ sofar
+
+pub placed_all : (all rest : List Expr) (vs : List Placed) → HavePlaces all rest vs → rest ≡ [] → AreAtPlaces all vs
+placed_all all rest vs sofar is =
+    sym (append-nil (locs_of vs)) ∙ ap (λ es. locs_of vs ++ part_locs es) (sym is) ∙ sofar
 
 -- ---- parts under keys
 

@@ -9,7 +9,7 @@ use Rattle.cedar_model.specs.Settings.{shallow, Setting, variable_part}
 use Rattle.cedar_model.specs.Operators.{slot_answer, unary_answer, binary_answer, attribute_answer, has_answer, path_answer, like_answer, is_answer, mapped, attribute_residual}
 use Rattle.cedar_model.specs.Rules
 use Rattle.cedar_model.specs.Rules.{MayAnswer, Meets, bool_expected, joined, bool_or_failure, on_part, binary_beside, binary_of_parts, beside_residual, Resolves, AtPath, has_part, is_part, Parts, FieldParts, add_value, values_of_parts, add_value_at, values_of_field_parts, set_answer, set_of_parts, record_answer, record_of_parts, TakesBranch, AndLeft, OrLeft, AfterValues}
-use Rattle.cedar_model.specs.Authorizations.{bool_result, decided}
+use Rattle.cedar_model.specs.Responses.{decided_bool, decided, result_of}
 use Rattle.cedar_data.specs.Sound.{Placed}
 use Rattle.cedar_values.specs.declared.evaluator.err.EvaluationError.{EvaluationError}
 use Rattle.cedar_values.specs.Failures.{failure_of}
@@ -338,19 +338,19 @@ module _ (s : Setting) (May : MayAnswer) where
 
 -- a condition's value that is a boolean
 pub decides_value : (May : Answer → Type 0) (v : Represented) (b : Bool) → Meets May (answers_value v) → bool_of (abstract_value v) ≡ Some b → DecidesBy May (Ok b)
-unfolding decided bool_result
+unfolding decided decided_bool result_of
 decides_value May v b may is ok =
-    (answers_value v, may (value_is_no_want v), sym (ap (λ o. bool_result o v) is))
+    (answers_value v, may (value_is_no_want v), sym (ap (λ o. result_of (decided_bool o v)) is))
 
 -- a condition's value that is no boolean
 pub decides_no_bool : (May : Answer → Type 0) (v : Represented) (e : EvaluationError) → Meets May (answers_value v) → (failure_of e ≢ out_of_memory → bool_of (abstract_value v) ≡ None) → FailsWith e (wrong_type bool_type [] (abstract_value v)) → DecidesBy May (Err e)
-unfolding decided bool_result
+unfolding decided decided_bool result_of
 decides_no_bool May v e may none is ok =
     let want : failure_of e ≢ out_of_memory = λ m. ok (ap Err m) in
-    (answers_value v, may (value_is_no_want v), ap Err (is want) ∙ sym (ap (λ o. bool_result o v) (none want)))
+    (answers_value v, may (value_is_no_want v), ap Err (is want) ∙ sym (ap (λ o. result_of (decided_bool o v)) (none want)))
 
 -- a condition that errs
 pub decides_error : (May : Answer → Type 0) (e : EvaluationError) → Meets May (fails (failure_of e)) → DecidesBy May (Err e)
-unfolding decided
+unfolding decided result_of
 decides_error May e may ok =
     (fails (failure_of e), may (λ m. let f : failure_of e ≡ out_of_memory = cc in ok (ap Err f)), refl)

@@ -1,5 +1,5 @@
 -- What an evaluator is given and what its parts answer, as plain data.
-use Rattle.std.specs.Prelude.{ℕ, List, map, None, Result, Ok, Err}
+use Rattle.std.specs.Prelude.{◌≡◌, ℕ, List, map, Option, None, Result, Ok, Err}
 use Rattle.std.specs.Rc.{rc_str_bytes}
 use Rattle.std.specs.Cmp.Lexicographic.{slice_cmp}
 use Rattle.std.specs.List.Sorted.{IsStrictlySortedBy}
@@ -9,14 +9,16 @@ use Rattle.std.specs.declared.alloc.Global.{Global}
 use Rattle.std.specs.declared.cmp.Ordering.{Ordering}
 use Rattle.std.specs.declared.rc.RcStr.{RcStr}
 use Rattle.cedar_model.specs.Terms.{Text, Term}
-use Rattle.cedar_model.specs.Values.{Represented}
+use Rattle.cedar_model.specs.Values.{Represented, set_represented}
+use Rattle.cedar_model.specs.Sets.{canonical_set}
 use Rattle.cedar_model.specs.World.{Slots}
 use Rattle.cedar_model.specs.Failures.{Failure, PartialValue, value}
 use Rattle.cedar_model.specs.Settings.{Entry, known_entry, RequestPart, Store, shallow, Setting, known_context}
 use Rattle.cedar_model.specs.Rules.{Meets, Parts, FieldParts}
 use Rattle.cedar_expressions.specs.declared.expr.Expr.{Expr}
-use Rattle.cedar_expressions.specs.View.{terms_view, fields_view}
-use Rattle.cedar_data.specs.Sound.{Placed, whats, whats_at}
+use Rattle.cedar_expressions.specs.View.{terms_view, fields_view, expr_loc}
+use Rattle.cedar_data.specs.Sound.{Placed, whats, whats_at, firsts, inside_each}
+use Rattle.cedar_names.specs.declared.names.Loc.{Loc}
 use Rattle.cedar_names.specs.Names.{uid_name}
 use Rattle.cedar_layers.specs.Policies.{SlotValues, slots_view}
 use Rattle.cedar_layers.specs.Stores.{store_view}
@@ -96,3 +98,26 @@ AreInOrder fs = IsStrictlySortedBy key_order (keys_of fs)
 abbrev pub FailsFields : Evaluator → SlotValues → ℕ → List (RcStr Global × Expr) → Failure → Type 0
 FailsFields v slots n pairs e =
     FieldParts (StoppingRuns (setting_of v (slots_view slots)) n) (fields_view pairs) (Err e)
+
+-- ---- where the elements of a set stand
+
+-- where values stand
+abbrev pub locs_of : List Placed → List (Option Loc)
+locs_of vs = map {B = Option Loc} (λ v. v.loc) vs
+
+-- where parts stand
+abbrev pub part_locs : List Expr → List (Option Loc)
+part_locs parts = map {B = Option Loc} expr_loc parts
+
+-- these values stand where these parts stand, in order
+abbrev pub AreAtPlaces : List Expr → List Placed → Type 0
+AreAtPlaces parts vs = locs_of vs ≡ part_locs parts
+
+-- the set of these values: of equal ones the first stays, with its location and those inside it
+abbrev pub IsSetOf : List Placed → Placed → Type 0
+IsSetOf vs s = (s.what ≡ set_represented (canonical_set (whats vs))) × (s.inside ≡ inside_each (firsts vs))
+
+-- the set of values that these parts give, each at the location of its part
+abbrev pub HasElementsOf : Evaluator → SlotValues → ℕ → List Expr → Placed → Type 0
+HasElementsOf v slots n parts s =
+    (vs : List Placed) × GivesParts v slots n parts vs × AreAtPlaces parts vs × IsSetOf vs s

@@ -1,6 +1,6 @@
 #![tactic(auto, using(cedar_expressions::proofs::Levels::levels))]
 //! The evaluator.
-ghost use Rattle.std.specs.Prelude.{◌≡◌, ◌≢◌, IfOk, IfErr};
+ghost use Rattle.std.specs.Prelude.{◌≡◌, ◌≢◌, ◌-◌, IfOk, IfErr};
 ghost use Rattle.std.specs.Rc.{rc_str_bytes};
 ghost use Rattle.std.specs.BTreeMap.{IsFromIterResult};
 ghost use Rattle.cedar_model.specs.Terms.{both, either, binary, unary, call, get_attribute, has_attribute, extended_has, like, is_of_type, set_of, record_of};
@@ -16,13 +16,15 @@ ghost use Rattle.cedar_model.specs.Rules.{Meets, bool_or_failure};
 ghost use Rattle.cedar_names.specs.Names.{name_text, type_text, uid_name};
 ghost use Rattle.cedar_names.specs.Leaves.{literal_view, variable_view, slot_view, unary_view, binary_view, pattern_view, texts_view};
 ghost use Rattle.cedar_expressions.specs.View.{view, terms_view, fields_view, expr_loc};
+ghost use Rattle.cedar_expressions.specs.Nodes.{node_of};
+ghost use Rattle.cedar_expressions.specs.Nodes as node;
 ghost use Rattle.cedar_data.specs.Sound.{whats, whats_at};
 ghost use Rattle.cedar_layers.specs.Policies.{slots_view};
 ghost use Rattle.cedar_values.specs.Failures.{failure_of};
 ghost use Rattle.cedar_operators.specs.Answers.{answer_of, Answers, FailsWith};
 ghost use Rattle.cedar_operators.specs.Stopping.{stopped};
 ghost use Rattle.cedar_evaluator.specs.Stops.{StoppingRuns};
-ghost use Rattle.cedar_evaluator.specs.Evaluations.{MeetsKind, GivesParts, FailsParts, GivesFields, FailsFields, key_order, AreInOrder};
+ghost use Rattle.cedar_evaluator.specs.Evaluations.{MeetsKind, GivesParts, FailsParts, GivesFields, FailsFields, key_order, AreInOrder, AreAtPlaces, IsSetOf, HasElementsOf};
 
 use crate::request::{EntityUIDEntry, Request};
 use cedar_layers::expressions::{
@@ -149,9 +151,10 @@ impl<'e, 'x, 'f> Evaluator<'e, 'x, 'f> {
         }
     }
 
-    /// The value of the expression under these slots, at the expression's location. Fails with the first error in the order of
-    /// evaluation; with `RecursionLimit` where the evaluation goes more levels deep than the limit; and with `NonValue` where it
-    /// meets what is not known: an unknown, a stored residual, or an entity that a partial store lacks.
+    /// The value of the expression under these slots, at the expression's location. Each element of a set that is written as
+    /// parts stands at the location of its part, and of equal elements the first stays. Fails with the first error in the order
+    /// of evaluation; with `RecursionLimit` where the evaluation goes more levels deep than the limit; and with `NonValue` where
+    /// it meets what is not known: an unknown, a stored residual, or an entity that a partial store lacks.
     pub fn interpret(
         &self,
         alloc: Global,
@@ -160,6 +163,7 @@ impl<'e, 'x, 'f> Evaluator<'e, 'x, 'f> {
     ) -> Result<Value, EvaluationError>
         ensures answer { Meets (StoppingRuns (setting_of self.now (slots_view slots.now)) (limit_of self.now) (view e.now)) (answer_of result) }
         ensures place { IfOk result (λ v. v.loc ≡ expr_loc e.now) }
+        ensures elements { (parts : _) → node_of e.now ≡ node.Set parts → IfOk result (λ v. HasElementsOf self.now slots.now (limit_of self.now - 1) parts v) }
         ensures known { IsKnownExactly (setting_of self.now (slots_view slots.now)) (limit_of self.now) (view e.now) (answer_of result) }
     {
         self.interpret_within(alloc, e, slots, self.limit)
@@ -176,6 +180,7 @@ impl<'e, 'x, 'f> Evaluator<'e, 'x, 'f> {
     ) -> Result<Value, EvaluationError>
         ensures answer { Meets (StoppingRuns (setting_of self.now (slots_view slots.now)) left (view e.now)) (answer_of result) }
         ensures place { IfOk result (λ v. v.loc ≡ expr_loc e.now) }
+        ensures elements { (parts : _) → node_of e.now ≡ node.Set parts → IfOk result (λ v. HasElementsOf self.now slots.now (left - 1) parts v) }
     {
         if left == 0 {
             return Err(recursion_limit());
@@ -195,7 +200,8 @@ impl<'e, 'x, 'f> Evaluator<'e, 'x, 'f> {
         slots: &SlotEnv,
         left: usize,
     ) -> Result<Value, EvaluationError>
-        ensures { MeetsKind self.now slots.now left (view e.now) result }
+        ensures answer { MeetsKind self.now slots.now left (view e.now) result }
+        ensures elements { (parts : _) → node_of e.now ≡ node.Set parts → IfOk result (λ v. HasElementsOf self.now slots.now left parts v) }
     {
         match e.expr_kind() {
             ExprKind::Lit(value) => literal_value(value),
@@ -470,7 +476,8 @@ impl<'e, 'x, 'f> Evaluator<'e, 'x, 'f> {
         slots: &SlotEnv,
         left: usize,
     ) -> Result<Value, EvaluationError>
-        ensures { MeetsKind self.now slots.now left (set_of (terms_view parts.now)) result }
+        ensures answer { MeetsKind self.now slots.now left (set_of (terms_view parts.now)) result }
+        ensures elements { IfOk result (λ v. HasElementsOf self.now slots.now left parts.now v) }
     {
         match self.values(alloc, parts, slots, left) {
             Ok(values) => set_value(alloc, values),
@@ -505,6 +512,7 @@ impl<'e, 'x, 'f> Evaluator<'e, 'x, 'f> {
         left: usize,
     ) -> Result<Vec<Value>, EvaluationError>
         ensures ok { IfOk result (λ v. GivesParts self.now slots.now left parts.now v.items) }
+        ensures places { IfOk result (λ v. AreAtPlaces parts.now v.items) }
         ensures error { IfErr result (λ e. failure_of e ≢ out_of_memory → FailsParts self.now slots.now left parts.now (failure_of e)) }
     {
         let mut values: Vec<Value> = Vec::new(alloc);
@@ -606,7 +614,8 @@ fn slot_value(alloc: Global, slots: &SlotEnv, slot: SlotId) -> Result<Value, Eva
 }
 
 fn set_value(alloc: Global, values: Vec<Value>) -> Result<Value, EvaluationError>
-    ensures { Answers result (answers_value (set_represented (canonical_set (whats values.items)))) }
+    ensures answer { Answers result (answers_value (set_represented (canonical_set (whats values.items)))) }
+    ensures elements { IfOk result (λ v. IsSetOf values.items v) }
 {
     Ok(Value::set(alloc, values, None)?)
 }

@@ -2,8 +2,9 @@
 use Rattle.std.proofs.Common.{◌≡◌, ℕ, pos, Bool, true, false, ◌&&◌, List, Option, refl, ap, ◌∙◌}
 use Rattle.std.specs.Ordering.{is_eq, ordering_then}
 use Rattle.cedar_model.specs.Terms.{Text, Literal, Variable, Slot, ValueType, UnaryOperator, BinaryOperator, PatternPart, Term, literal, variable, slot, unknown, if_then_else, both, either, unary, binary, call, get_attribute, has_attribute, extended_has, like, is_of_type, set_of, record_of, Terms, no_terms, one_term, Fields, no_fields, one_field}
-use Rattle.cedar_model.specs.Keys.{Key, end_key, number_key, key_cmp, key_cmp-self, text_key, literal_key}
-use Rattle.cedar_model.specs.Codes.{node_key, term_key, terms_key, fields_key, annotation_key, texts_key, pattern_key, variable_number, slot_number, unary_number, binary_number}
+use Rattle.cedar_model.specs.Keys.{Key, end_key, number_key, key_cmp, text_key, literal_key}
+use Rattle.cedar_model.specs.lemmas.Keys.{key_cmp-self}
+use Rattle.cedar_model.specs.lemmas.Codes.{node_key, term_key, terms_key, fields_key, annotation_key, texts_key, pattern_key, variable_number, slot_number, unary_number, binary_number}
 use Rattle.cedar_names.specs.Equality.{key_eq, text_eq, texts_eq, literal_eq, annotation_eq, variable_eq, slot_eq, unary_eq, binary_eq, pattern_eq, term_eq, terms_eq, fields_eq}
 use Rattle.cedar_names.proofs.Equality.{then_eq, and_true}
 

@@ -5,7 +5,7 @@ use Rattle.std.specs.Hash as fed
 use Rattle.std.specs.Hash.{HashWrites}
 use Rattle.cedar_model.specs.Terms as model
 use Rattle.cedar_model.specs.Terms.{Text, ValueType, UnaryOperator, BinaryOperator, PatternPart, Term, literal, variable, slot, unknown, if_then_else, both, either, unary, binary, call, get_attribute, has_attribute, extended_has, like, is_of_type, set_of, record_of, Terms, no_terms, one_term, Fields, no_fields, one_field}
-use Rattle.cedar_model.specs.Codes.{variable_number, slot_number, unary_number, binary_number}
+use Rattle.cedar_model.specs.lemmas.Codes.{variable_number, slot_number, unary_number, binary_number}
 use Rattle.cedar_expressions.specs.declared.expr.Expr.{Expr}
 use Rattle.cedar_expressions.specs.View.{view, terms_view}
 use Rattle.cedar_names.specs.Hashing.{fed_literal, fed_annotation, fed_pattern, fed_texts, fed_term, fed_terms, fed_fields}

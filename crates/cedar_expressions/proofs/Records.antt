@@ -10,7 +10,7 @@ use Rattle.std.specs.Cmp.Lexicographic.{slice_cmp}
 use Rattle.std.specs.BTreeMap.{insert_entry, is_at}
 use Rattle.std.specs.Map.{lookup}
 use Rattle.cedar_model.specs.Terms.{Text, one_field}
-use Rattle.cedar_model.specs.Keys.{key_cmp-text_key}
+use Rattle.cedar_model.specs.lemmas.Keys.{key_cmp-text_key}
 use Rattle.cedar_expressions.specs.declared.expr.Expr.{Expr}
 use Rattle.cedar_names.specs.Equality.{text_eq}
 use Rattle.cedar_names.specs.EqualityLaws.{text_eq-decides}

@@ -148,22 +148,24 @@ module _ (s : Setting) (calls : Rules.StoredCalls) where
 module _ (mode : ErrorHandling) (ans : Functions) (calls : Rules.StoredCalls) (agree : AgreesWithFunctions ans calls)
     (w : World) (s : Setting) (done : IsCompletion ans w s) (faithful : AnswerFaithfully s.extensions ans calls)
     (limit_of : ℕ) where
-  not_limit : (b : Bool) (a : Answer) → IsBoolOrLimit b a → Recorded.IsRecordable (Responses.error_of a)
+  not_limit : (b : Bool) (a : Answer) → IsBoolOrLimit b a
+      → Recorded.IsRecordable (Responses.error_of (Responses.decided a))
       → a ≡ answers_bool b
-  unfolding Responses.error_of failure_kind
-  not_limit b a (inl e) h = absurd ((subst (λ z. Recorded.IsRecordable (Responses.error_of z)) e h).0 refl)
+  unfolding Responses.error_of Responses.decided failure_kind
+  not_limit b a (inl e) h =
+      absurd ((subst (λ z. Recorded.IsRecordable (Responses.error_of (Responses.decided z))) e h).0 refl)
   not_limit b a (inr e) h = e
 
-  reported_bool_is : (b : Bool) → Responses.reported_of (answers_bool b) ≡ Responses.reported_bool (Some b)
-  unfolding Responses.reported_of bool_of
-  reported_bool_is b = refl
+  decided_bool_is : (b : Bool) → Responses.decided (answers_bool b) ≡ Responses.decides b
+  unfolding Responses.decided Responses.decided_bool bool_of
+  decided_bool_is b = refl
 
-  true_is : Responses.reported_bool (Some true) ≡ Responses.reported_true
-  unfolding Responses.reported_bool
+  true_is : Responses.reported_of (Responses.decides true) ≡ Responses.reported_true
+  unfolding Responses.reported_of
   true_is = refl
 
-  false_is : Responses.reported_bool (Some false) ≡ Responses.reported_false false
-  unfolding Responses.reported_bool
+  false_is : Responses.reported_of (Responses.decides false) ≡ Responses.reported_false false
+  unfolding Responses.reported_of
   false_is = refl
 
   erring_isn't : (v : Verdict) → v ≡ erring → v ≢ satisfied
@@ -188,11 +190,11 @@ module _ (mode : ErrorHandling) (ans : Functions) (calls : Rules.StoredCalls) (a
 
   -- what is reported of a row that is carried on
   abbrev Again : Responses.Row → Answer → Responses.Reported
-  Again r a = Responses.counted_report mode r.effect (Responses.reported_of a)
+  Again r a = Responses.counted_report mode r.effect (Responses.reported_of (Responses.decided a))
 
   bool_row : (p : Policy) (r : Responses.Row) (b : Bool) (c : Term) (a : Answer) (r' : Responses.Reported)
-      → c ≡ literal (bool_literal b) → Carries p c a → Recorded.IsRecordable (Responses.error_of a)
-      → Responses.counted_report mode r.effect (Responses.reported_bool (Some b)) ≡ r'
+      → c ≡ literal (bool_literal b) → Carries p c a → Recorded.IsRecordable (Responses.error_of (Responses.decided a))
+      → Responses.counted_report mode r.effect (Responses.reported_of (Responses.decides b)) ≡ r'
       → Responses.StandsAs mode s.extensions ans w p r' → Responses.StandsAs mode s.extensions ans w p (Again r a)
   bool_row p r b c a r' e g h q k =
       let i : Rules.Runs (Responses.with_slots s no_slots) calls limit_of
@@ -201,19 +203,22 @@ module _ (mode : ErrorHandling) (ans : Functions) (calls : Rules.StoredCalls) (a
       let j : a ≡ answers_bool b = not_limit b a (clause_always (Responses.with_slots s no_slots) calls b
       (literal (bool_literal b)) (literal_always (Responses.with_slots s no_slots) calls b) limit_of a i) h in
       subst (Responses.StandsAs mode s.extensions ans w p)
-      (sym (ap (Responses.counted_report mode r.effect) (ap Responses.reported_of j ∙ reported_bool_is b) ∙ q)) k
+      (sym (ap (Responses.counted_report mode r.effect) (ap (λ z. Responses.reported_of (Responses.decided z)) j
+      ∙ ap Responses.reported_of (decided_bool_is b)) ∙ q)) k
 
-  true_again : (r : Responses.Row) → Responses.counted_report mode r.effect (Responses.reported_bool (Some true))
+  true_again : (r : Responses.Row)
+      → Responses.counted_report mode r.effect (Responses.reported_of (Responses.decides true))
       ≡ Responses.reported_true
   true_again r = ap (Responses.counted_report mode r.effect) true_is ∙ counted_true mode r.effect
 
-  false_again : (r : Responses.Row) → Responses.counted_report mode r.effect (Responses.reported_bool (Some false))
+  false_again : (r : Responses.Row)
+      → Responses.counted_report mode r.effect (Responses.reported_of (Responses.decides false))
       ≡ Responses.reported_false false
   false_again r = ap (Responses.counted_report mode r.effect) false_is ∙ counted_false mode r.effect
 
   row_stands : (p : Policy) (r : Responses.Row) (o : Responses.Reported) (a : Answer) → r.effect ≡ p.effect
       → r.reported ≡ o → Responses.IsCondition p.condition → Responses.StandsAs mode s.extensions ans w p o
-      → Carries p (Responses.clause_of r.reported) a → Recorded.IsRecordable (Responses.error_of a)
+      → Carries p (Responses.clause_of r.reported) a → Recorded.IsRecordable (Responses.error_of (Responses.decided a))
       → Responses.StandsAs mode s.extensions ans w p (Again r a)
   row_stands p r Responses.reported_true a x e c k g h =
       bool_row p r true (Responses.clause_of r.reported) a Responses.reported_true (ap Responses.clause_of e
@@ -254,7 +259,7 @@ module _ (mode : ErrorHandling) (ans : Functions) (calls : Rules.StoredCalls) (a
       → Responses.RunOf mode s calls limit_of (map Responses.carried rs) rows errors → AllFollow rs rows
   run_follows [] rows errors h r = subst (AllFollow []) (sym r.0) tt
   run_follows (q ∷ qs) rows errors h (a, rest, later, g, m, j, e, k) =
-      let z = recorded q.id (Responses.error_of a) later (subst Recorded.AreRecordable k h) in
+      let z = recorded q.id (Responses.error_of (Responses.decided a)) later (subst Recorded.AreRecordable k h) in
       subst (AllFollow (q ∷ qs)) (sym e) (
         (refl, refl, λ p x c i. row_stands p q q.reported a x refl c i g z.0),
         run_follows qs rest later z.1 j,

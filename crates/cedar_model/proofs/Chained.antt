@@ -88,9 +88,9 @@ sorted_is (r ∷ rs) = chaining (keeping r (sorted_is rs)) (sorted_more rs r.id 
 
 module _ (mode : ErrorHandling) (ans : Functions) (calls : Rules.StoredCalls) (agree : AgreesWithFunctions ans calls)
     (w : World) (s : Setting) (done : IsCompletion ans w s) (faithful : AnswerFaithfully s.extensions ans calls)
-    (limit : ℕ) where
+    (levels : ℕ) where
   abbrev Follow : List Row → List Row → Type 0
-  Follow = AllFollow mode ans calls agree w s done faithful limit
+  Follow = AllFollow mode ans calls agree w s done faithful levels
 
   follow_order : {xs zs : List Row} → IsReordering Row xs zs → (ys : List Row) → Follow zs ys → (us : List Row)
       × IsReordering Row us ys × Follow xs us
@@ -120,9 +120,9 @@ module _ (mode : ErrorHandling) (ans : Functions) (calls : Rules.StoredCalls) (a
 
   pub step_stands : (ps : List Policy) (old rows : List Row) (errors : List (Text × Failure))
       → Responses.AreConditions ps → Responses.Stand mode s.extensions ans w ps old → Recorded.AreRecordable errors
-      → Responses.RunOf mode s calls limit (Chains.all_residuals old) rows errors
+      → Responses.RunOf mode s calls levels (Chains.all_residuals old) rows errors
       → Responses.Stand mode s.extensions ans w ps rows
   step_stands ps old rows errors c h r g =
-      let f = run_follows mode ans calls agree w s done faithful limit (sorted old) rows errors r g in
+      let f = run_follows mode ans calls agree w s done faithful levels (sorted old) rows errors r g in
       let k = follow_order (chaining h.1 (sorted_is old)) rows f in
       (k.0, k.1, compose ps h.0 k.0 c h.2 k.2)

@@ -28,7 +28,7 @@ ok_inj e = cc
 none_is : (v : Represented) → None ≡ Some v → ⊥
 none_is v e = cc
 
-module _ (mode : ErrorHandling) (calls : StoredCalls) (ans : Functions) (w : World) (s : Setting) (limit : ℕ)
+module _ (mode : ErrorHandling) (calls : StoredCalls) (ans : Functions) (w : World) (s : Setting) (levels : ℕ)
     (agree : Agreement.AgreesWithFunctions ans calls) (faithful : Agreement.AnswerFaithfully s.extensions ans calls)
     (ps : List Policy) (conditions : Responses.AreConditions ps) where
   -- the world completes a request
@@ -40,15 +40,19 @@ module _ (mode : ErrorHandling) (calls : StoredCalls) (ans : Functions) (w : Wor
   with_step : (r : RequestPart) (m : Mapping) (store : Store) → CompletesRequest r → Headline.CompletesMap ans w s m
       → Headline.CompletesStore ans w s store → Agreement.IsCompletion ans w (Chains.at_step s r store m)
   with_step r m store q a b = record {
-    request_agrees = q.agrees;
-    store_agrees = b.store_agrees;
-    map_agrees = a.map_agrees;
-    context_faithful = q.context_is_faithful;
-    store_faithful = b.stored_values_are_faithful;
-    map_faithful = a.mapped_values_are_faithful;
-    context_fits = q.context_fits;
-    store_fits = b.stored_residuals_fit;
-    store_restricted = b.stored_residuals_are_restricted;
+    agreement = record {
+      request_agrees = q.agrees;
+      store_agrees = b.store_agrees;
+      map_agrees = a.map_agrees;
+      context_fits = q.context_fits;
+      store_fits = b.stored_residuals_fit;
+      store_restricted = b.stored_residuals_are_restricted;
+    };
+    values = record {
+      context_faithful = q.context_is_faithful;
+      store_faithful = b.stored_values_are_faithful;
+      map_faithful = a.mapped_values_are_faithful;
+    };
   }
 
   pub no_map_completes : Headline.CompletesMap ans w s (λ n. None)
@@ -59,45 +63,47 @@ module _ (mode : ErrorHandling) (calls : StoredCalls) (ans : Functions) (w : Wor
 
   pub chain_stands : (r last : Response) (steps : List (Mapping × Store)) → CompletesRequest r.request
       → Headline.CompletesSteps ans w s steps → Responses.Stand mode s.extensions ans w ps r.rows
-      → Chains.ChainOf mode s calls limit r steps last → HaveNoLimit last.errors
+      → Chains.ChainOf mode s calls levels r steps last → HaveNoLimit last.errors
       → Responses.Stand mode s.extensions ans w ps last.rows
   chain_stands r last [] q c h g none =
       subst (λ x. Responses.Stand mode s.extensions ans w ps x.rows) (sym (ok_inj g)) h
   chain_stands r last (step ∷ steps) q c h g none =
-      let on = goes_on mode s calls limit r last step steps g none in
+      let on = goes_on mode s calls levels r last step steps g none in
       let next = on.1.0 in
-      let k = first_has_none mode s calls limit next last steps on.1.2 none in
+      let k = first_has_none mode s calls levels next last steps on.1.2 none in
       let before = with_step r.request step.0 step.1 q c.0 c.1 in
-      let t = taken mode s calls limit step.0 step.1 r next on.1.1 in
-      let z = step_completes mode ans calls agree w s limit step.0 step.1 r next before faithful on.1.1 in
-      let stand = step_stands mode ans calls agree w (Chains.at_step s next.request step.1 step.0) z faithful limit ps
+      let t = taken mode s calls levels step.0 step.1 r next on.1.1 in
+      let z = step_completes mode ans calls agree w s levels step.0 step.1 r next before faithful on.1.1 in
+      let stand = step_stands mode ans calls agree w (Chains.at_step s next.request step.1 step.0) z faithful levels ps
       r.rows next.rows next.errors conditions h
-      (run_recordable mode (Chains.at_step s next.request step.1 step.0) calls limit
+      (run_recordable mode (Chains.at_step s next.request step.1 step.0) calls levels
       (Chains.all_residuals r.rows) next.rows next.errors k t.runs) t.runs in
       chain_stands next last steps record {
-        agrees = z.request_agrees;
-        context_is_faithful = z.context_faithful;
-        context_fits = z.context_fits;
+        agrees = z.agreement.request_agrees;
+        context_is_faithful = z.values.context_faithful;
+        context_fits = z.agreement.context_fits;
       } c.2 stand on.1.2 none
 
-pub headline : (mode : ErrorHandling) (calls : StoredCalls) (ans : Functions) (w : World) (s : Setting) (limit : ℕ)
+pub headline : (mode : ErrorHandling) (calls : StoredCalls) (ans : Functions) (w : World) (s : Setting) (levels : ℕ)
     (ps : List Policy)
-    (steps : List (Mapping × Store)) (last : Response) → Headline.CompletesChain mode calls ans w s limit ps steps last
+    (steps : List (Mapping × Store)) (last : Response) → Headline.CompletesChain mode calls ans w s levels ps steps last
     → Headline.Headline mode ans w s ps last
-headline mode calls ans w s limit ps steps last c =
+headline mode calls ans w s levels ps steps last c =
     let agree = c.functions_are_functional in
     let faithful = c.functions_are_faithful in
-    let q : CompletesRequest mode calls ans w s limit agree faithful ps c.conditions_are_conjunctions s.request = record
+    let q : CompletesRequest mode calls ans w s levels agree faithful ps c.conditions_are_conjunctions s.request =
+    record
     { agrees = c.request_agrees; context_is_faithful = c.context_is_faithful; context_fits = c.context_fits } in
-    let z = with_step mode calls ans w s limit agree faithful ps c.conditions_are_conjunctions s.request
-    (λ n. None) s.store q (no_map_completes mode calls ans w s limit agree faithful ps c.conditions_are_conjunctions)
+    let z = with_step mode calls ans w s levels agree faithful ps c.conditions_are_conjunctions s.request
+    (λ n. None) s.store q (no_map_completes mode calls ans w s levels agree faithful ps c.conditions_are_conjunctions)
     c.first_store_agrees in
-    let none = first_has_none mode s calls limit c.first last steps c.steps_are_answered c.no_limit_is_recorded in
+    let none = first_has_none mode s calls levels c.first last steps c.steps_are_answered c.no_limit_is_recorded in
     let first_stands = in_order_stands c.first.rows (Responses.StandInOrder mode s.extensions ans w ps)
-    (run_stands mode ans calls agree w (Chains.without_map s) z faithful limit ps c.first.rows c.first.errors
-    c.conditions_fit (run_recordable mode (Chains.without_map s) calls limit ps c.first.rows c.first.errors none
+    (run_stands mode ans calls agree w (Chains.without_map s) z faithful levels ps c.first.rows c.first.errors
+    c.conditions_fit (run_recordable mode (Chains.without_map s) calls levels ps c.first.rows c.first.errors none
     c.first_is_answered.runs) c.first_is_answered.runs) in
-    let stand = chain_stands mode calls ans w s limit agree faithful ps c.conditions_are_conjunctions c.first last steps
-    (subst (CompletesRequest mode calls ans w s limit agree faithful ps c.conditions_are_conjunctions)
+    let stand =
+    chain_stands mode calls ans w s levels agree faithful ps c.conditions_are_conjunctions c.first last steps
+    (subst (CompletesRequest mode calls ans w s levels agree faithful ps c.conditions_are_conjunctions)
     (sym c.first_is_answered.request_is) q) c.steps_agree first_stands c.steps_are_answered c.no_limit_is_recorded in
     record { stands = stand; holds = Bounds.reports_hold mode s.extensions ans w ps last.rows stand }

@@ -297,71 +297,85 @@ concrete_parts m r r' h =
 
 module _ (mode : ErrorHandling) (ans : Functions) (calls : Rules.StoredCalls)
     (agree : Agreement.AgreesWithFunctions ans calls) (w : World)
-    (s : Setting) (limit : ℕ) (m : Chains.Mapping) (store : Store) (old new : Chains.Response)
+    (s : Setting) (levels : ℕ) (m : Chains.Mapping) (store : Store) (old new : Chains.Response)
     (done : Agreement.IsCompletion ans w (Chains.at_step s old.request store m))
     (faithful : Agreement.AnswerFaithfully s.extensions ans calls) where
   -- the world completes what the context is read under
   without_map_done : Agreement.IsCompletion ans w (Chains.without_map (Chains.at_step s old.request store m))
   without_map_done = record {
-    request_agrees = done.request_agrees;
-    store_agrees = done.store_agrees;
-    map_agrees = λ n v e. absurd (none_is v e);
-    context_faithful = done.context_faithful;
-    store_faithful = done.store_faithful;
-    map_faithful = λ n v e. absurd (none_is v e);
-    context_fits = done.context_fits;
-    store_fits = done.store_fits;
-    store_restricted = done.store_restricted;
+    agreement = record {
+      request_agrees = done.agreement.request_agrees;
+      store_agrees = done.agreement.store_agrees;
+      map_agrees = λ n v e. absurd (none_is v e);
+      context_fits = done.agreement.context_fits;
+      store_fits = done.agreement.store_fits;
+      store_restricted = done.agreement.store_restricted;
+    };
+    values = record {
+      context_faithful = done.values.context_faithful;
+      store_faithful = done.values.store_faithful;
+      map_faithful = λ n v e. absurd (none_is v e);
+    };
   }
     where
       none_is : (v : Represented) → None ≡ Some v → ⊥
       none_is v e = cc
 
   abbrev GoodContext : ContextPart → Type 0
-  GoodContext c = Good s.extensions ans w m done.map_agrees done.map_faithful c
+  GoodContext c = Good s.extensions ans w m done.agreement.map_agrees done.values.map_faithful c
 
   substituted_good : (c c' : ContextPart) → GoodContext c
-      → Chains.SubstitutesTo (Chains.at_step s old.request store m) calls limit m c (Ok c') → GoodContext c'
+      → Chains.SubstitutesTo (Chains.at_step s old.request store m) calls levels m c (Ok c') → GoodContext c'
   unfolding Meaning.meaning Meaning.and_then_all
   substituted_good absent_context c' h k = subst GoodContext (sym (ok_inj k)) h
   substituted_good (known_context fs) c' h k = subst GoodContext (sym (ok_inj k)) h
   substituted_good (residual_context fs) c' h (a, r, i) =
       let t = record_of (Chains.substituted_at m fs) in
-      let f = substituted_at_fit s.extensions ans w m done.map_agrees done.map_faithful fs h.2 in
+      let f = substituted_at_fit s.extensions ans w m done.agreement.map_agrees done.values.map_faithful fs h.2 in
       let z = Chains.without_map (Chains.at_step s old.request store m) in
-      let e = substituted_at_mean s.extensions ans w m done.map_agrees done.map_faithful Agreement.no_slots fs ∙ h.0 in
-      answered_good s.extensions ans w m done.map_agrees done.map_faithful
+      let e =
+      substituted_at_mean s.extensions ans w m done.agreement.map_agrees done.values.map_faithful Agreement.no_slots
+      fs ∙ h.0 in
+      answered_good s.extensions ans w m done.agreement.map_agrees done.values.map_faithful
       (Meaning.meaning s.extensions ans w Agreement.no_slots t)
       (ap (λ x. Meaning.and_then_all x (λ gs. gives (record_value gs))) e) a c' i
       (sound_stands ans calls agree w z without_map_done faithful t a
-      (runs_sound ans calls agree w z without_map_done faithful limit t a f r))
+      (runs_sound ans calls agree w z without_map_done faithful levels t a f r))
 
-  pub step_completes : Chains.StepsTo mode s calls limit m store old new
+  pub step_completes : Chains.StepsTo mode s calls levels m store old new
       → Agreement.IsCompletion ans w (Chains.at_step s new.request store m)
   step_completes h =
-      let t = Stepping.taken mode s calls limit m store old new h in
+      let t = Stepping.taken mode s calls levels m store old new h in
       let p = concrete_parts m old.request t.request t.concrete in
-      let q = done.request_agrees in
+      let q = done.agreement.request_agrees in
       let c = substituted_good t.request.context_part t.context
-      (mapped_good s.extensions ans w m done.map_agrees done.map_faithful old.request.context_part
-      t.request.context_part (q.context_agrees, done.context_faithful, done.context_fits) p.context_is)
+      (mapped_good s.extensions ans w m done.agreement.map_agrees done.values.map_faithful old.request.context_part
+      t.request.context_part (q.context_agrees, done.values.context_faithful, done.agreement.context_fits) p.context_is)
       t.substitutes in
       subst (λ r. Agreement.IsCompletion ans w (Chains.at_step s r store m)) (sym t.request_is) record {
-        request_agrees = record {
-          principal_agrees = entry_agrees s.extensions ans w m done.map_agrees done.map_faithful _ _ _ _
-              q.principal_agrees p.principal_is;
-          action_agrees = entry_agrees s.extensions ans w m done.map_agrees done.map_faithful _ _ _ _ q.action_agrees
-              p.action_is;
-          resource_agrees = entry_agrees s.extensions ans w m done.map_agrees done.map_faithful _ _ _ _
-              q.resource_agrees p.resource_is;
-          context_agrees = c.0;
+        agreement = record {
+          request_agrees = record {
+            principal_agrees =
+                entry_agrees s.extensions ans w m done.agreement.map_agrees done.values.map_faithful _ _ _ _
+                q.principal_agrees p.principal_is;
+            action_agrees =
+                entry_agrees s.extensions ans w m done.agreement.map_agrees done.values.map_faithful _ _ _ _
+                q.action_agrees
+                p.action_is;
+            resource_agrees =
+                entry_agrees s.extensions ans w m done.agreement.map_agrees done.values.map_faithful _ _ _ _
+                q.resource_agrees p.resource_is;
+            context_agrees = c.0;
+          };
+          store_agrees = done.agreement.store_agrees;
+          map_agrees = done.agreement.map_agrees;
+          context_fits = c.2;
+          store_fits = done.agreement.store_fits;
+          store_restricted = done.agreement.store_restricted;
         };
-        store_agrees = done.store_agrees;
-        map_agrees = done.map_agrees;
-        context_faithful = c.1;
-        store_faithful = done.store_faithful;
-        map_faithful = done.map_faithful;
-        context_fits = c.2;
-        store_fits = done.store_fits;
-        store_restricted = done.store_restricted;
+        values = record {
+          context_faithful = c.1;
+          store_faithful = done.values.store_faithful;
+          map_faithful = done.values.map_faithful;
+        };
       }

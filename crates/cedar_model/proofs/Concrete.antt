@@ -211,29 +211,31 @@ concrete_is_defined mode X ans w ps rows stand none =
 
 -- ---- a run
 
-verdict_same : (a : Answer) → reported_verdict (Responses.reported_of a)
-    ≡ Authorizations.result_verdict (Authorizations.decided a)
-unfolding reported_verdict Responses.reported_of Responses.reported_bool Authorizations.result_verdict
-    Authorizations.decided Authorizations.bool_result Authorizations.bool_verdict
+verdict_same : (a : Answer) → reported_verdict (Responses.reported_of (Responses.decided a))
+    ≡ Authorizations.result_verdict (Authorizations.evaluated a)
+unfolding reported_verdict Responses.reported_of Responses.decided Responses.decided_bool Responses.result_of
+    Authorizations.result_verdict Authorizations.bool_verdict
 verdict_same (answers (value v)) = by (bool_of (abstract_value v))
   where
-    by : (o : Option Bool) → reported_verdict (Responses.reported_bool o)
-        ≡ Authorizations.result_verdict (Authorizations.bool_result o v)
+    by : (o : Option Bool) → reported_verdict (Responses.reported_of (Responses.decided_bool o v))
+        ≡ Authorizations.result_verdict (Responses.result_of (Responses.decided_bool o v))
     by (Some true) = refl
     by (Some false) = refl
     by None = refl
 verdict_same (answers (residual t)) = refl
 verdict_same (fails e) = refl
 
-errors_same : (id : Text) (later : List (Text × Failure)) (a : Answer) → is_residual (Responses.reported_of a) ≡ false
-    → Responses.with_error id (Responses.error_of a) later
-    ≡ Authorizations.with_result id (Authorizations.decided a) later
-unfolding is_residual Responses.reported_of Responses.with_error Responses.error_of Responses.bool_error
-    Authorizations.with_result Authorizations.decided Authorizations.bool_result
+errors_same : (id : Text) (later : List (Text × Failure)) (a : Answer)
+    → is_residual (Responses.reported_of (Responses.decided a)) ≡ false
+    → Responses.with_error id (Responses.error_of (Responses.decided a)) later
+    ≡ Responses.with_error id (Authorizations.error_in (Authorizations.evaluated a)) later
+unfolding is_residual Responses.reported_of Responses.with_error Responses.error_of Responses.decided
+    Responses.decided_bool Responses.result_of Authorizations.error_in
 errors_same id later (answers (value v)) h = by (bool_of (abstract_value v))
   where
-    by : (o : Option Bool) → Responses.with_error id (Responses.bool_error o v) later
-        ≡ Authorizations.with_result id (Authorizations.bool_result o v) later
+    by : (o : Option Bool) → Responses.with_error id (Responses.error_of (Responses.decided_bool o v)) later
+        ≡ Responses.with_error id
+        (Authorizations.error_in (Responses.result_of (Responses.decided_bool o v))) later
     by (Some b) = refl
     by None = refl
 errors_same id later (answers (residual t)) h = absurd (cc)
@@ -265,10 +267,10 @@ none_left r rs h = (
   ),
 )
 
-module _ (calls : StoredCalls) (s : Setting) (limit : ℕ) where
+module _ (calls : StoredCalls) (s : Setting) (levels : ℕ) where
   run_judges : (ps : List Policy) (rows : List Row) (errors : List (Text × Failure))
-      → Responses.RunOf skip s calls limit ps rows errors → Reports.HaveNoResidual rows
-      → Authorizations.JudgesEach (PolicyRuns s calls limit) ps (map judged_row rows) errors
+      → Responses.RunOf skip s calls levels ps rows errors → Reports.HaveNoResidual rows
+      → Authorizations.JudgesEach (PolicyRuns s calls levels) ps (map judged_row rows) errors
   unfolding Responses.counted_report
   run_judges [] rows errors h none = (ap (map judged_row) h.0, h.1)
   run_judges (p ∷ ps) rows errors (a, rest, later, g, m, j, e, k) none =
@@ -286,11 +288,11 @@ module _ (calls : StoredCalls) (s : Setting) (limit : ℕ) where
       )
 
   pub run_is_response : (ps : List Policy) (rows : List Row) (errors : List (Text × Failure))
-      → Responses.RunOf skip s calls limit ps rows errors → Reports.HaveNoResidual rows
-      → Authorizations.IsResponse (PolicyRuns s calls limit) ps (Reports.concretized skip rows errors)
+      → Responses.RunOf skip s calls levels ps rows errors → Reports.HaveNoResidual rows
+      → Authorizations.IsResponse (PolicyRuns s calls levels) ps (Reports.concretized skip rows errors)
   run_is_response ps rows errors h none = (
     map judged_row rows,
-    subst (Authorizations.JudgesEach (PolicyRuns s calls limit) ps (map judged_row rows))
+    subst (Authorizations.JudgesEach (PolicyRuns s calls levels) ps (map judged_row rows))
         (sym (no_error rows none errors)) (run_judges ps rows errors h none),
     concrete_decides_rows rows,
     λ t. ap (has_text t) (reason_ids t),

@@ -22,7 +22,7 @@ use Rattle.cedar_model.proofs.Total.{total}
 
 -- all that chains compute with
 unfoldable pub chain_opened : Unit {0}
-unfolding meaning_opened Responses.reported_of Responses.reported_bool Responses.error_of Responses.bool_error
+unfolding meaning_opened Responses.reported_of Responses.decided Responses.decided_bool Responses.error_of
     Responses.with_error Responses.clause_of Chains.value_for Chains.substituted Chains.rows_of Chains.has_effect
     Chains.is_true Chains.is_false Chains.is_residual Chains.is_limit Chains.has_limit Chains.is_same_mode
     Responses.counted_report Policies.counted_verdict Refusals.first_repeated_after Refusals.typed_entry
@@ -51,7 +51,8 @@ rows_to mode s n (p ∷ ps) = Responses.row_of mode p (policy_answer s n p) ∷ 
 
 abbrev pub errors_to : Setting → ℕ → List Policy → List (Text × Failure)
 errors_to s n [] = []
-errors_to s n (p ∷ ps) = Responses.with_error p.id (Responses.error_of (policy_answer s n p)) (errors_to s n ps)
+errors_to s n (p ∷ ps) =
+    Responses.with_error p.id (Responses.error_of (Responses.decided (policy_answer s n p))) (errors_to s n ps)
 
 unfoldable pub is_memory : FailureKind → Bool
 is_memory (of_meaning k) = false

@@ -1,5 +1,6 @@
 -- With one level less an expression has the same answer, or meets the limit.
-use Rattle.std.specs.Prelude.{◌≡◌, ◌⊎◌, ℕ, zero, suc, ◌+◌, ◌-◌, ◌≤◌, Bool, true, false, List, [], ◌∷◌, Option, Some, None}
+use Rattle.std.specs.Prelude.{◌≡◌, ◌⊎◌, ℕ, zero, suc, ◌+◌, ◌-◌, ◌≤◌, Bool, true, false, List, [], ◌∷◌, Option, Some}
+use Rattle.std.specs.Prelude.{None}
 use Rattle.std.specs.Prelude.{Result, Err}
 use Rattle.std.proofs.Common.{refl, subst, arith, inl, inr}
 use Rattle.cedar_model.specs.Terms.{Text, BinaryOperator, Term, literal, variable, slot, unknown, if_then_else, both}

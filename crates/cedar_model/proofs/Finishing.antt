@@ -206,11 +206,11 @@ known_answer (answers (value (extension_represented t j f ts))) c k h = absurd h
 known_answer (answers (residual t)) c k h = absurd k
 known_answer (fails e) c k h = absurd (err_is_not_ok (sym h))
 
-not_residual : (a : Answer) → IsNoResidual a → is_residual (Responses.reported_of a) ≡ false
-unfolding is_residual Responses.reported_of Responses.reported_bool
+not_residual : (a : Answer) → IsNoResidual a → is_residual (Responses.reported_of (Responses.decided a)) ≡ false
+unfolding is_residual Responses.reported_of Responses.decided Responses.decided_bool
 not_residual (answers (value v)) h = by (bool_of (abstract_value v))
   where
-    by : (o : Option Bool) → is_residual (Responses.reported_bool o) ≡ false
+    by : (o : Option Bool) → is_residual (Responses.reported_of (Responses.decided_bool o v)) ≡ false
     by (Some true) = refl
     by (Some false) = refl
     by None = refl
@@ -260,35 +260,35 @@ module _ (mode : ErrorHandling) (ans : Functions) (calls : StoredCalls)
   }
 
   run_finishes : (s : Setting) → Answering.IsReady ans calls agree s
-      → (limit : ℕ) (qs rows : List Row) (errors : List (Text × Failure)) → Progress.RowsAreNamed ans s.map qs
-      → Responses.RunOf mode s calls limit (map Responses.carried qs) rows errors → Reports.HaveNoResidual rows
-  run_finishes s known limit [] rows errors n h = subst Reports.HaveNoResidual (sym h.0) no_rows
-  run_finishes s known limit (q ∷ qs) rows errors n (a, rest, later, g, f, j, e, k) =
+      → (levels : ℕ) (qs rows : List Row) (errors : List (Text × Failure)) → Progress.RowsAreNamed ans s.map qs
+      → Responses.RunOf mode s calls levels (map Responses.carried qs) rows errors → Reports.HaveNoResidual rows
+  run_finishes s known levels [] rows errors n h = subst Reports.HaveNoResidual (sym h.0) no_rows
+  run_finishes s known levels (q ∷ qs) rows errors n (a, rest, later, g, f, j, e, k) =
       let z = Responses.with_slots s Agreement.no_slots in
-      let i = Answering.named_runs ans calls agree z (ready_with_slots s Agreement.no_slots known) limit
+      let i = Answering.named_runs ans calls agree z (ready_with_slots s Agreement.no_slots known) levels
       (Responses.carried q).condition a (((tt, tt), tt), clause_named ans s.map q.reported n.0) g in
       subst Reports.HaveNoResidual (sym e) (more_none (Responses.row_of mode (Responses.carried q) a) rest
-      (counted_residual mode q.effect (Responses.reported_of a)
-      ∙ not_residual a i) (run_finishes s known limit qs rest later n.1 j))
+      (counted_residual mode q.effect (Responses.reported_of (Responses.decided a))
+      ∙ not_residual a i) (run_finishes s known levels qs rest later n.1 j))
 
-  module _ (s : Setting) (limit : ℕ) (m : Mapping) (store : Store) (old new : Response)
-      (concrete : store.is_partial ≡ false) (values : Agreement.EachStored
-      (Progress.LeavesNoResidual ans m s.resolution) store)
+  module _ (s : Setting) (levels : ℕ) (m : Mapping) (store : Store) (old new : Response)
+      (concrete : store.is_partial ≡ false)
+      (values : Agreement.EachStored (Progress.LeavesNoResidual ans m s.resolution) store)
       (named : Progress.NamesAll ans m old) where
     context_known : (c c' : ContextPart) → IsThere ans m c
-        → Chains.SubstitutesTo (Chains.at_step s old.request store m) calls limit m c (Ok c')
+        → Chains.SubstitutesTo (Chains.at_step s old.request store m) calls levels m c (Ok c')
         → Agreement.IsKnownContext c'
     context_known absent_context c' i h = absurd i
     context_known (known_context fs) c' i h = subst Agreement.IsKnownContext (sym (ok_inj h)) tt
     context_known (residual_context fs) c' i (a, g, h) =
         let p = substituted_at_plain ans m named.values_are_known fs i.0 i.1 in
         known_answer a c' (Answering.plain_runs ans calls agree
-        (Chains.without_map (Chains.at_step s old.request store m)) limit
+        (Chains.without_map (Chains.at_step s old.request store m)) levels
         (record_of (Chains.substituted_at m fs)) a p g) h
 
-    pub step_finishes : Chains.StepsTo mode s calls limit m store old new → Reports.HaveNoResidual new.rows
+    pub step_finishes : Chains.StepsTo mode s calls levels m store old new → Reports.HaveNoResidual new.rows
     step_finishes h =
-        let t = taken mode s calls limit m store old new h in
+        let t = taken mode s calls levels m store old new h in
         let p = concrete_parts m old.request t.request t.concrete in
         let c = context_known t.request.context_part t.context
         (context_there ans m old.request.context_part t.request.context_part named.context_is_named p.context_is)
@@ -304,11 +304,11 @@ module _ (mode : ErrorHandling) (ans : Functions) (calls : StoredCalls)
         } in
         let k : Answering.IsReady ans calls agree (Chains.at_step s new.request store m) = subst
         (λ x. Answering.IsReady ans calls agree (Chains.at_step s x store m)) (sym t.request_is) r in
-        run_finishes (Chains.at_step s new.request store m) k limit
+        run_finishes (Chains.at_step s new.request store m) k levels
         (Chains.rows_by permit old.rows ++ Chains.rows_by forbid old.rows) new.rows new.errors
         (named_reordered ans m (sorted_is old.rows) named.rows_are_named) t.runs
 
 pub steps_finish : (calls : StoredCalls) → Progress.StepsFinish calls
-steps_finish calls ans agree mode s limit m store old new concrete values named h =
-    let none = step_finishes mode ans calls agree s limit m store old new concrete values named h in
+steps_finish calls ans agree mode s levels m store old new concrete values named h =
+    let none = step_finishes mode ans calls agree s levels m store old new concrete values named h in
     (none, λ w ps stand. concrete_is_defined mode s.extensions ans w ps new.rows stand none)

@@ -1,10 +1,13 @@
 -- Stored functions that agree with one answer to equal arguments answer alike.
 use Rattle.std.specs.Prelude.{◌≡◌, map, Option, Some}
 use Rattle.std.proofs.Common.{refl, sym, ap, ◌∙◌, subst}
-use Rattle.cedar_model.specs.Terms.{Text, ValueType, literal, variable, slot, unknown, if_then_else, both, either, unary, binary, call, get_attribute, has_attribute, extended_has, like, is_of_type, set_of, record_of}
+use Rattle.cedar_model.specs.Terms.{Text, ValueType, literal, variable, slot, unknown, if_then_else, both, either}
+use Rattle.cedar_model.specs.Terms.{unary, binary, call, get_attribute, has_attribute, extended_has, like, is_of_type}
+use Rattle.cedar_model.specs.Terms.{set_of, record_of}
 use Rattle.cedar_model.specs.Values.{Represented, abstract_value}
 use Rattle.cedar_model.specs.World.{FunctionAnswer, function_gives, function_errs, function_asks, Functions}
-use Rattle.cedar_model.specs.Failures.{Failure, FailureKind, of_meaning, of_residual, of_limit, of_memory, failure_kind, value, residual, Answer, answers, fails}
+use Rattle.cedar_model.specs.Failures.{Failure, FailureKind, of_meaning, of_residual, of_limit, of_memory, failure_kind}
+use Rattle.cedar_model.specs.Failures.{value, residual, Answer, answers, fails}
 use Rattle.cedar_model.specs.Rules.{StoredCalls}
 use Rattle.cedar_model.specs.Agreement.{failure_answer, function_answer, AgreesWithFunctions}
 use Rattle.cedar_model.specs.Alike.{AreAlike, AreFunctional}
@@ -15,7 +18,8 @@ IsSeen a (function_gives u) = (v : Represented) × (a ≡ answers (value v)) × 
 IsSeen a (function_errs k) = (e : Failure) × (a ≡ fails e) × (failure_kind e ≡ of_meaning k)
 IsSeen a (function_asks n t) = a ≡ answers (residual (unknown n t))
 
-seen_failure : (e : Failure) (k : FailureKind) (b : FunctionAnswer) → failure_kind e ≡ k → failure_answer k ≡ Some b → IsSeen (fails e) b
+seen_failure : (e : Failure) (k : FailureKind) (b : FunctionAnswer) → failure_kind e ≡ k → failure_answer k ≡ Some b
+    → IsSeen (fails e) b
 unfolding failure_answer
 seen_failure e (of_meaning j) (function_gives u) q h = absurd (cc)
 seen_failure e (of_meaning j) (function_errs k) q h = (e, refl, let f : j ≡ k = cc in q ∙ ap of_meaning f)
@@ -24,12 +28,14 @@ seen_failure e of_residual b q h = absurd (cc)
 seen_failure e of_limit b q h = absurd (cc)
 seen_failure e of_memory b q h = absurd (cc)
 
-seen_value : (v : Represented) (b : FunctionAnswer) → function_gives (abstract_value v) ≡ b → IsSeen (answers (value v)) b
+seen_value : (v : Represented) (b : FunctionAnswer) → function_gives (abstract_value v) ≡ b
+    → IsSeen (answers (value v)) b
 seen_value v (function_gives u) h = (v, refl, cc)
 seen_value v (function_errs k) h = absurd (cc)
 seen_value v (function_asks n t) h = absurd (cc)
 
-seen_unknown : (n : Text) (t : Option ValueType) (b : FunctionAnswer) → function_asks n t ≡ b → IsSeen (answers (residual (unknown n t))) b
+seen_unknown : (n : Text) (t : Option ValueType) (b : FunctionAnswer) → function_asks n t ≡ b
+    → IsSeen (answers (residual (unknown n t))) b
 seen_unknown n t (function_gives u) h = absurd (cc)
 seen_unknown n t (function_errs k) h = absurd (cc)
 seen_unknown n t (function_asks m u) h =
@@ -72,4 +78,5 @@ alike_by (function_asks n t) a b e e' = by_sides a b _ _ e e' refl
 
 pub functional : (ans : Functions) (calls : StoredCalls) → AgreesWithFunctions ans calls → AreFunctional calls
 functional ans calls agree f vs ws a b e g h =
-    alike_by (ans f (map abstract_value vs)) a b (seen a _ (agree f vs a g)) (seen b _ (subst (λ us. function_answer b ≡ Some (ans f us)) (sym e) (agree f ws b h)))
+    alike_by (ans f (map abstract_value vs)) a b (seen a _ (agree f vs a g))
+    (seen b _ (subst (λ us. function_answer b ≡ Some (ans f us)) (sym e) (agree f ws b h)))

@@ -1,42 +1,22 @@
 -- How high an answer can be, and with it the need.
-use Rattle.std.specs.Prelude.{◌≡◌, ◌≢◌, ◌⊎◌, ℕ, zero, suc, ◌+◌, ◌<◌, ◌≤◌, ◌==◌, max, Bool, true, false, cond, ◌&&◌}
-use Rattle.std.specs.Prelude.{◌||◌, List, [], ◌∷◌, length, Option, Some, None, Result, Ok, Err}
-use Rattle.std.specs.declared.cmp.Ordering.{Ordering}
-use Rattle.std.specs.declared.cmp.Ordering.TheVariants.{Less, Equal, Greater}
-use Rattle.std.specs.Ordering.{match_ordering}
-use Rattle.std.proofs.Common.{refl, ap, subst, sym, ◌∙◌, arith, inl, inr}
-use Rattle.cedar_model.specs.Terms.{Text, EntityName, Literal, Variable, principal, action, resource, context}
-use Rattle.cedar_model.specs.Terms.{ValueType, BinaryOperator, in_operator, Term, literal, variable, slot, unknown}
+use Rattle.std.specs.Prelude.{◌≡◌, ℕ, suc, ◌+◌, ◌<◌, ◌≤◌, Bool, true, false, ◌&&◌}
+use Rattle.std.specs.Prelude.{◌||◌, Option, Some, None}
+use Rattle.std.proofs.Common.{refl, ap, arith}
+use Rattle.cedar_model.specs.Terms.{Text}
+use Rattle.cedar_model.specs.Terms.{ValueType, Term, literal, variable, slot, unknown}
 use Rattle.cedar_model.specs.Terms.{if_then_else, both, either, unary, binary, call, get_attribute, has_attribute}
 use Rattle.cedar_model.specs.Terms.{extended_has, like, is_of_type, set_of, record_of, Terms, no_terms, one_term}
-use Rattle.cedar_model.specs.Terms.{terms_of, Fields, no_fields, one_field, fields_of}
+use Rattle.cedar_model.specs.Terms.{Fields, no_fields, one_field}
 use Rattle.cedar_model.specs.Values.{Represented, plain_represented, set_represented, record_represented}
 use Rattle.cedar_model.specs.Values.{extension_represented, RepresentedValues, no_represented, one_represented}
-use Rattle.cedar_model.specs.Values.{RepresentedFields, no_represented_at, one_represented_at, abstract_value}
+use Rattle.cedar_model.specs.Values.{RepresentedFields, no_represented_at, one_represented_at}
 use Rattle.cedar_model.specs.Values.{expression_of, expressions_of, expressions_at}
-use Rattle.cedar_model.specs.Keys.{value_cmp}
-use Rattle.cedar_model.specs.Sets.{canonical_set, insert_represented, insert_each, represented_fields_of}
 use Rattle.cedar_model.specs.Shapes.{is_projectable, are_projectable, are_projectable_at, is_restricted}
 use Rattle.cedar_model.specs.Shapes.{are_restricted, are_restricted_at, has_unknown, have_unknown, have_unknown_at}
-use Rattle.cedar_model.specs.Outcomes.{bool_of, text_eq}
-use Rattle.cedar_model.specs.Failures.{Failure, FailureKind, of_meaning, of_residual, of_limit, of_memory}
-use Rattle.cedar_model.specs.Failures.{failure_kind, PartialValue, value, residual, Answer, answers, answers_bool}
-use Rattle.cedar_model.specs.Failures.{fails, limit, part_expression}
-use Rattle.cedar_model.specs.Settings.{Entry, known_entry, unknown_entry, ContextPart, absent_context, known_context}
-use Rattle.cedar_model.specs.Settings.{residual_context, Setting, StoredEntity, missing_entity, part_at}
-use Rattle.cedar_model.specs.Settings.{type_annotation, entry_part, context_value, variable_part}
-use Rattle.cedar_model.specs.Operators
-use Rattle.cedar_model.specs.Rules
 use Rattle.cedar_model.specs.Agreement.{height, greatest_height, greatest_height_at}
 use Rattle.cedar_model.specs.Chains.{Mapping, value_for, substituted, substituted_each, substituted_at}
-use Rattle.cedar_model.specs.Restricted.{IsSound, AreSound, AreSoundAt, IsGivenSound}
-use Rattle.cedar_model.specs.LevelLaws.{FunctionsMeetNoLimit}
-use Rattle.cedar_model.specs.Depth.{IsNoHigher, IsWithin, substituted_height}
-use Rattle.cedar_model.proofs.Operands as operands
-use Rattle.cedar_model.proofs.Operands.{Facts, AllAnswer, AllPart}
-use Rattle.cedar_model.proofs.Projection.{record_is}
-use Rattle.cedar_model.proofs.RecordParts.{both_first, both_second, some_inj, projectable_part, restricted_part}
-use Rattle.cedar_model.proofs.RecordParts.{part_such}
+use Rattle.cedar_model.specs.Restricted.{IsSound, AreSound, AreSoundAt}
+use Rattle.cedar_model.proofs.RecordParts.{both_first, both_second}
 
 -- ---- values
 

@@ -1,16 +1,16 @@
 -- The instances of the laws' premises.
-use Rattle.std.specs.Prelude.{◌≡◌, ◌≢◌, ℕ, pos, ◌≤◌, Bool, true, false, cond, List, [], ◌∷◌, map, length, Option}
-use Rattle.std.specs.Prelude.{Some, None, Ok, codes}
-use Rattle.std.proofs.Common.{refl, subst, sym, ap, ◌∙◌, arith}
+use Rattle.std.specs.Prelude.{◌≡◌, ℕ, pos, ◌≤◌, Bool, true, false, cond, List, map, length, Option}
+use Rattle.std.specs.Prelude.{Some, None, codes}
+use Rattle.std.proofs.Common.{refl, subst, sym, ap, arith}
 use Rattle.std.proofs.lemmas.Slice.Eq.{bytes_eq-Decides}
 use Rattle.cedar_model.specs.Terms.{Text, EntityName, entity_literal, context, Term, variable, unknown, get_attribute}
-use Rattle.cedar_model.specs.Terms.{record_of, Fields, bool_literal}
+use Rattle.cedar_model.specs.Terms.{record_of, bool_literal}
 use Rattle.cedar_model.specs.Terms.{long_literal, long_type}
-use Rattle.cedar_model.specs.Values.{AbstractValue, plain, Represented, expression_of, abstract_value}
+use Rattle.cedar_model.specs.Values.{plain, Represented, expression_of, abstract_value}
 use Rattle.cedar_model.specs.Values.{plain_represented}
 use Rattle.cedar_model.specs.Shapes.{have_unknown_at}
 use Rattle.cedar_model.specs.Outcomes.{text_eq, entity_eq, function_failed}
-use Rattle.cedar_model.specs.World.{Extensions, Functions, function_asks, function_errs, function_gives}
+use Rattle.cedar_model.specs.World.{Extensions, function_asks, function_errs, function_gives}
 use Rattle.cedar_model.specs.Failures.{PartialValue, value, residual, Answer, answers, limit, answers_bool}
 use Rattle.cedar_model.specs.Failures.{answers_residual, fails, function_has_failed, part_expression}
 use Rattle.cedar_model.specs.Settings.{ContextPart, absent_context, known_context, residual_context, StoredEntity}
@@ -20,9 +20,9 @@ use Rattle.cedar_model.specs.Rules
 use Rattle.cedar_model.specs.Agreement
 use Rattle.cedar_model.specs.Agreement.{IsCompletion, AgreesAt, height}
 use Rattle.cedar_model.specs.LevelLaws.{FunctionsAnswer}
-use Rattle.cedar_model.specs.Restricted.{IsSound, IsSoundPart, IsGivenSound, first_disallowed, or_else}
-use Rattle.cedar_model.specs.RestrictedLaws.{HoldsUnknown, ResidualsHoldUnknowns}
-use Rattle.cedar_model.specs.Depth.{IsNoHigher, substituted_height}
+use Rattle.cedar_model.specs.Restricted.{IsSound, IsSoundPart, first_disallowed, or_else}
+use Rattle.cedar_model.specs.RestrictedLaws.{HoldsUnknown}
+use Rattle.cedar_model.specs.Depth.{substituted_height}
 use Rattle.cedar_model.specs.Printing.{unquoted, id_here, with_byte, read_entity}
 use Rattle.cedar_model.specs.Instances
 use Rattle.cedar_model.specs.Examples.{some_calls, some_extensions, user}
@@ -130,25 +130,29 @@ named_u n false e v f = absurd (none_is v f)
 pub completes : (is_partial : Bool) → IsCompletion Instances.asked Instances.completing (Instances.waiting is_partial)
 unfolding meaning_opened Instances.value_of_unknown unquoted id_here with_byte read_entity
 completes is_partial = record {
-  request_agrees =
-      record {
-        principal_agrees = (
-          principal_ok,
-          refl,
-        );
-        action_agrees = refl;
-        resource_agrees = refl;
-        context_agrees = context_ok is_partial;
-      };
-  store_agrees = λ e. store_by is_partial e (entity_eq e Instances.stored_entity);
-  map_agrees = λ n v e. named_u n (text_eq n (codes "u")) refl v e;
-  context_faithful = tt;
-  store_faithful = stored_such is_partial (Agreement.IsFaithfulPart some_extensions Instances.asked) tt;
-  map_faithful =
-      λ n v e. subst (Agreement.IsFaithful some_extensions Instances.asked) (is_seven (text_eq n (codes "u")) v e) tt;
-  context_fits = (refl, tt);
-  store_fits = stored_such is_partial (Agreement.FitsPart some_extensions Instances.asked Instances.completing) tt;
-  store_restricted = stored_such is_partial Agreement.IsRestrictedPart refl;
+  agreement = record {
+    request_agrees =
+        record {
+          principal_agrees = (
+            principal_ok,
+            refl,
+          );
+          action_agrees = refl;
+          resource_agrees = refl;
+          context_agrees = context_ok is_partial;
+        };
+    store_agrees = λ e. store_by is_partial e (entity_eq e Instances.stored_entity);
+    map_agrees = λ n v e. named_u n (text_eq n (codes "u")) refl v e;
+    context_fits = (refl, tt);
+    store_fits = stored_such is_partial (Agreement.FitsPart some_extensions Instances.asked Instances.completing) tt;
+    store_restricted = stored_such is_partial Agreement.IsRestrictedPart refl;
+  };
+  values = record {
+    context_faithful = tt;
+    store_faithful = stored_such is_partial (Agreement.IsFaithfulPart some_extensions Instances.asked) tt;
+    map_faithful =
+        λ n v e. subst (Agreement.IsFaithful some_extensions Instances.asked) (is_seven (text_eq n (codes "u")) v e) tt;
+  };
 }
 
 -- ---- functions

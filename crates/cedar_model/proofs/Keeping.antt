@@ -30,26 +30,27 @@ use Rattle.cedar_model.proofs.Counting
 abbrev KeepsReport : Reported → Reported → Type 0
 KeepsReport o o' = (is_true o ≡ true → is_true o' ≡ true) × (is_false o ≡ true → is_false o' ≡ true)
 
-limit_is_recorded : Recorded.IsRecordable (Responses.error_of limit) → ⊥
-unfolding Responses.error_of failure_kind
+limit_is_recorded : Recorded.IsRecordable (Responses.error_of (Responses.decided limit)) → ⊥
+unfolding Responses.error_of Responses.decided failure_kind
 limit_is_recorded h = h.0 refl
 
-bool_of_answer : (b : Bool) (a : Answer) → Carried.IsBoolOrLimit b a → Recorded.IsRecordable (Responses.error_of a)
+bool_of_answer : (b : Bool) (a : Answer) → Carried.IsBoolOrLimit b a
+    → Recorded.IsRecordable (Responses.error_of (Responses.decided a))
     → a ≡ answers_bool b
 bool_of_answer b a (inl e) h = absurd (limit_is_recorded
-    (subst (λ z. Recorded.IsRecordable (Responses.error_of z)) e h))
+    (subst (λ z. Recorded.IsRecordable (Responses.error_of (Responses.decided z))) e h))
 bool_of_answer b a (inr e) h = e
 
 true_is_true : (mode : ErrorHandling) (e : Effect) → is_true
-    (Responses.counted_report mode e (Responses.reported_of (answers_bool true))) ≡ true
-unfolding is_true Responses.reported_of Responses.reported_bool Responses.counted_report bool_of
+    (Responses.counted_report mode e (Responses.reported_of (Responses.decided (answers_bool true)))) ≡ true
+unfolding is_true Responses.reported_of Responses.decided Responses.decided_bool Responses.counted_report bool_of
 true_is_true skip e = refl
 true_is_true forbid_on_error permit = refl
 true_is_true forbid_on_error forbid = refl
 
 false_is_false : (mode : ErrorHandling) (e : Effect)
-    → is_false (Responses.counted_report mode e (Responses.reported_of (answers_bool false))) ≡ true
-unfolding is_false Responses.reported_of Responses.reported_bool Responses.counted_report bool_of
+    → is_false (Responses.counted_report mode e (Responses.reported_of (Responses.decided (answers_bool false)))) ≡ true
+unfolding is_false Responses.reported_of Responses.decided Responses.decided_bool Responses.counted_report bool_of
 false_is_false skip e = refl
 false_is_false forbid_on_error permit = refl
 false_is_false forbid_on_error forbid = refl
@@ -63,24 +64,26 @@ module _ (calls : Rules.StoredCalls) (s : Setting) (levels : ℕ) where
       Rules.Runs s calls levels (both (both (both Responses.truth Responses.truth) Responses.truth) c) a
 
   always : (b : Bool) (a : Answer) → Carries (literal (bool_literal b)) a
-      → Recorded.IsRecordable (Responses.error_of a) → a ≡ answers_bool b
+      → Recorded.IsRecordable (Responses.error_of (Responses.decided a)) → a ≡ answers_bool b
   always b a g h =
       bool_of_answer b a (Carried.clause_always s calls b (literal (bool_literal b))
       (Carried.literal_always s calls b) levels a g) h
 
   keeps_report : (mode : ErrorHandling) (e : Effect) (o : Reported) (a : Answer) → Carries (Responses.clause_of o) a
-      → Recorded.IsRecordable (Responses.error_of a)
-      → KeepsReport o (Responses.counted_report mode e (Responses.reported_of a))
+      → Recorded.IsRecordable (Responses.error_of (Responses.decided a))
+      → KeepsReport o (Responses.counted_report mode e (Responses.reported_of (Responses.decided a)))
   unfolding Responses.clause_of is_true is_false
   keeps_report mode e reported_true a g h = (
-    λ k. ap (λ z. is_true (Responses.counted_report mode e (Responses.reported_of z))) (always true a g h)
+    λ k. ap (λ z. is_true (Responses.counted_report mode e (Responses.reported_of (Responses.decided z))))
+        (always true a g h)
         ∙ true_is_true mode e,
     λ k. absurd (false_isn't k),
   )
   keeps_report mode e (reported_false x) a g h = (
     λ k. absurd (false_isn't k),
     λ k. ap (λ z. is_false
-        (Responses.counted_report mode e (Responses.reported_of z))) (always false a g h) ∙ false_is_false mode e,
+        (Responses.counted_report mode e (Responses.reported_of (Responses.decided z)))) (always false a g h)
+        ∙ false_is_false mode e,
   )
   keeps_report mode e (reported_residual t) a g h = (λ k. absurd (false_isn't k), λ k. absurd (false_isn't k))
 

@@ -1,10 +1,7 @@
 -- The order of values between kinds, and inside sets and records.
-use Rattle.std.specs.Prelude.{◌≡◌, ℕ, ◌<◌}
 use Rattle.std.proofs.Common.{refl, arith}
-use Rattle.std.specs.declared.cmp.Ordering.TheVariants.{Less}
 use Rattle.cedar_model.specs.Terms.{bool_literal, long_literal, text_literal, entity_literal}
-use Rattle.cedar_model.specs.Values.{AbstractValue, plain, set_value, record_value, extension_value}
-use Rattle.cedar_model.specs.Keys.{value_cmp}
+use Rattle.cedar_model.specs.Values.{plain, set_value, record_value, extension_value}
 use Rattle.cedar_model.specs.KindLaws.{kind_rank, KindsComeInOrder, SetsAreOrdered, RecordsAreOrdered}
 
 pub in_order : KindsComeInOrder

@@ -23,6 +23,7 @@ pub mod Heights
 pub mod LowAnswers
 pub mod Needs
 pub mod RestrictedAnswers
+pub mod Disallowing
 pub mod HeldUnknowns
 pub mod StepNeeds
 pub mod Tabled
@@ -45,6 +46,8 @@ pub mod Exactly
 pub mod Stability
 pub mod Limits
 pub mod Chaining
+pub mod Wanting
+pub mod Answered
 pub mod Refusing
 pub mod Keeping
 pub mod Unread

@@ -72,31 +72,31 @@ ok_inj e = cc
 err_is_not_ok : {A B : Type 0} {x : A} {y : B} → ◌≡◌ {A = Result A B} (Ok x) (Err y) → ⊥
 err_is_not_ok e = cc
 
-module _ (mode : ErrorHandling) (s : Setting) (calls : StoredCalls) (limit : ℕ) where
+module _ (mode : ErrorHandling) (s : Setting) (calls : StoredCalls) (levels : ℕ) where
   abbrev Chain : Response → List (Mapping × Store) → Response → Type 0
-  Chain = Chains.ChainOf mode s calls limit
+  Chain = Chains.ChainOf mode s calls levels
 
   -- it ends here with the limit, or goes on with a response without one
   abbrev GoesOn : Bool → Response → (Mapping × Store) → List (Mapping × Store) → Response → Type 0
   GoesOn b r step steps last =
       MatchBool b (◌≡◌ {A = Result Response Refusal} (Ok last) (Ok r)) ((y : Result Response Refusal)
-      × Chains.Steps mode s calls limit step.0 step.1 r y
+      × Chains.Steps mode s calls levels step.0 step.1 r y
       × MatchResult y (λ next. Chain next steps last) (λ e. ◌≡◌ {A = Result Response Refusal} (Ok last) (Err e)))
 
   -- a chain whose last response holds no limit goes on by the step
   pub goes_on : (r last : Response) (step : Mapping × Store) (steps : List (Mapping × Store))
       → Chain r (step ∷ steps) last → HaveNoLimit last.errors → HaveNoLimit r.errors
-      × ((next : Response) × Chains.StepsTo mode s calls limit step.0 step.1 r next × Chain next steps last)
+      × ((next : Response) × Chains.StepsTo mode s calls levels step.0 step.1 r next × Chain next steps last)
   goes_on r last step steps h none = by (Chains.has_limit r.errors) refl h
     where
-      on : (y : Result Response Refusal) → Chains.Steps mode s calls limit step.0 step.1 r y
+      on : (y : Result Response Refusal) → Chains.Steps mode s calls levels step.0 step.1 r y
           → MatchResult y (λ next. Chain next steps last) (λ e. ◌≡◌ {A = Result Response Refusal} (Ok last) (Err e))
-          → (next : Response) × Chains.StepsTo mode s calls limit step.0 step.1 r next × Chain next steps last
+          → (next : Response) × Chains.StepsTo mode s calls levels step.0 step.1 r next × Chain next steps last
       on (Ok next) g k = (next, g, k)
       on (Err e) g k = absurd (err_is_not_ok k)
 
       by : (b : Bool) → Chains.has_limit r.errors ≡ b → GoesOn b r step steps last → HaveNoLimit r.errors
-          × ((next : Response) × Chains.StepsTo mode s calls limit step.0 step.1 r next × Chain next steps last)
+          × ((next : Response) × Chains.StepsTo mode s calls levels step.0 step.1 r next × Chain next steps last)
       by true e k =
           absurd (true_isn't (Chains.has_limit r.errors)
           (has_none r.errors (subst (λ x. HaveNoLimit x.errors) (ok_inj k) none)) e)

@@ -18,8 +18,8 @@ use Rattle.cedar_model.proofs.Resolving.{IsStored, each_stored}
 use Rattle.cedar_model.proofs.Total
 
 module _ (s : Setting) (calls : Rules.StoredCalls) (callable : FunctionsAnswer calls s.extensions.arity)
-    (answered : FunctionsMeetNoLimit calls) (restricted : s.resolution ≡ deep
-    → EachStored IsRestrictedPart s.store) where
+    (answered : FunctionsMeetNoLimit calls)
+    (restricted : s.resolution ≡ deep → EachStored IsRestrictedPart s.store) where
   abbrev Ever : Rules.MayAnswer
   Ever t a = Rules.Allows s calls t a
 

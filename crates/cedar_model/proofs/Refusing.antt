@@ -76,15 +76,15 @@ contexts_alike (fails e) (fails f) c d h i j =
     subst (λ z. AreAlikeContexts z d) (sym i) (subst (AreAlikeContexts (Err (context_fails e))) (sym j)
     (inr (e, f, refl, refl, h)))
 
-module _ (calls : StoredCalls) (functional : AreFunctional calls) (mode : ErrorHandling) (s : Setting) (limit : ℕ)
+module _ (calls : StoredCalls) (functional : AreFunctional calls) (mode : ErrorHandling) (s : Setting) (levels : ℕ)
     (m : Mapping)
     (store : Store) (old : Response) (x y : Result Response Refusal) where
   substituted_alike : (z : Setting) (k : ContextPart) (c d : Result ContextPart Refusal)
-      → Chains.SubstitutesTo z calls limit m k c → Chains.SubstitutesTo z calls limit m k d → AreAlikeContexts c d
+      → Chains.SubstitutesTo z calls levels m k c → Chains.SubstitutesTo z calls levels m k d → AreAlikeContexts c d
   substituted_alike z absent_context c d h i = same_contexts c d (Ok absent_context) h i
   substituted_alike z (known_context fs) c d h i = same_contexts c d (Ok (known_context fs)) h i
   substituted_alike z (residual_context fs) c d (a, g, h) (b, j, i) =
-      contexts_alike a b c d (runs_determined (Chains.without_map z) calls functional limit
+      contexts_alike a b c d (runs_determined (Chains.without_map z) calls functional levels
       (record_of (Chains.substituted_at m fs)) a b g j) h i
 
   both_answer : (u v : Response) → x ≡ Ok u → y ≡ Ok v → ChainLaws.AreAlikeSteps x y
@@ -92,7 +92,7 @@ module _ (calls : StoredCalls) (functional : AreFunctional calls) (mode : ErrorH
       subst (λ z. ChainLaws.AreAlikeSteps z y) (sym e) (subst (ChainLaws.AreAlikeSteps (Ok u)) (sym f) tt)
 
   abbrev After : RequestPart → Result ContextPart Refusal → Result Response Refusal → Type 0
-  After = Chains.AfterContext mode s calls limit m store old
+  After = Chains.AfterContext mode s calls levels m store old
 
   after_alike : (r : RequestPart) (c d : Result ContextPart Refusal) → AreAlikeContexts c d → After r c x
       → After r d y → ChainLaws.AreAlikeSteps x y
@@ -103,22 +103,22 @@ module _ (calls : StoredCalls) (functional : AreFunctional calls) (mode : ErrorH
   after_alike r (Err e) (Err f) a h i =
       subst (λ z. ChainLaws.AreAlikeSteps z y) (sym h) (subst (ChainLaws.AreAlikeSteps (Err e)) (sym i) a)
 
-  request_alike : (r : Result RequestPart Refusal) → Chains.AfterRequest mode s calls limit m store old r x
-      → Chains.AfterRequest mode s calls limit m store old r y → ChainLaws.AreAlikeSteps x y
+  request_alike : (r : Result RequestPart Refusal) → Chains.AfterRequest mode s calls levels m store old r x
+      → Chains.AfterRequest mode s calls levels m store old r y → ChainLaws.AreAlikeSteps x y
   request_alike (Ok r) (c, g, h) (d, j, i) =
       after_alike r c d (substituted_alike (Chains.at_step s old.request store m) r.context_part c d g j) h i
   request_alike (Err e) h i = same_steps x y (Err e) h i
 
-  ids_alike : (o : Option Text) → Chains.AfterIds mode s calls limit m store old o x
-      → Chains.AfterIds mode s calls limit m store old o y → ChainLaws.AreAlikeSteps x y
+  ids_alike : (o : Option Text) → Chains.AfterIds mode s calls levels m store old o x
+      → Chains.AfterIds mode s calls levels m store old o y → ChainLaws.AreAlikeSteps x y
   ids_alike (Some id) h i = same_steps x y (Err (Refusals.id_comes_again id)) h i
   ids_alike None h i = request_alike (Refusals.concrete_request m old.request) h i
 
-  mode_alike : (b : Bool) → Chains.AfterMode mode s calls limit m store old b x
-      → Chains.AfterMode mode s calls limit m store old b y → ChainLaws.AreAlikeSteps x y
+  mode_alike : (b : Bool) → Chains.AfterMode mode s calls levels m store old b x
+      → Chains.AfterMode mode s calls levels m store old b y → ChainLaws.AreAlikeSteps x y
   mode_alike true h i = ids_alike (Refusals.first_repeated (map (λ p. p.id) (Chains.all_residuals old.rows))) h i
   mode_alike false h i = same_steps x y (Err (Refusals.mode_is_other old.mode mode)) h i
 
-  pub steps_alike : Chains.Steps mode s calls limit m store old x → Chains.Steps mode s calls limit m store old y
+  pub steps_alike : Chains.Steps mode s calls levels m store old x → Chains.Steps mode s calls levels m store old y
       → ChainLaws.AreAlikeSteps x y
   steps_alike h i = mode_alike (Chains.is_same_mode mode old.mode) h i

@@ -1,12 +1,12 @@
 -- What restricted expressions answer, and unknowns in residuals.
-use Rattle.std.specs.Prelude.{◌≡◌, ◌↔◌, ℕ, zero, suc, ◌==◌, Bool, true, false, cond, ◌&&◌, ◌||◌, List, [], ◌∷◌, map}
+use Rattle.std.specs.Prelude.{◌≡◌, ◌↔◌, ℕ, zero, suc, ◌==◌, Bool, true, false, cond, ◌&&◌, List, [], ◌∷◌}
 use Rattle.std.specs.Prelude.{length, Option, Some, None, Result, Ok, Err}
 use Rattle.std.specs.declared.cmp.Ordering.{Ordering}
 use Rattle.std.specs.declared.cmp.Ordering.TheVariants.{Less, Equal, Greater}
 use Rattle.std.specs.Ordering.{match_ordering}
-use Rattle.std.proofs.Common.{refl, ap, subst, sym, ◌∙◌}
-use Rattle.cedar_model.specs.Terms.{Text, EntityName, ValueType, Slot, Variable, principal, action, resource, context}
-use Rattle.cedar_model.specs.Terms.{UnaryOperator, BinaryOperator, PatternPart, Term, literal, variable, slot}
+use Rattle.std.proofs.Common.{refl, subst, sym, ◌∙◌}
+use Rattle.cedar_model.specs.Terms.{Text, ValueType}
+use Rattle.cedar_model.specs.Terms.{Term, literal, variable, slot}
 use Rattle.cedar_model.specs.Terms.{unknown, if_then_else, both, either, unary, binary, call, get_attribute}
 use Rattle.cedar_model.specs.Terms.{has_attribute, extended_has, like, is_of_type, set_of, record_of, Terms, no_terms}
 use Rattle.cedar_model.specs.Terms.{one_term, Fields, no_fields, one_field}
@@ -16,11 +16,10 @@ use Rattle.cedar_model.specs.Values.{RepresentedFields, no_represented_at, one_r
 use Rattle.cedar_model.specs.Values.{expression_of, expressions_of, expressions_at}
 use Rattle.cedar_model.specs.Keys.{value_cmp}
 use Rattle.cedar_model.specs.Sets.{canonical_set, insert_represented, insert_each, represented_fields_of}
-use Rattle.cedar_model.specs.Sets.{IsStrictlyInOrder-canonical_set}
+use Rattle.cedar_model.specs.lemmas.Sets.{IsStrictlyInOrder-canonical_set}
 use Rattle.cedar_model.specs.Outcomes.{value_type, type_eq}
 use Rattle.cedar_model.specs.Chains.{Mapping, value_for, substituted, substituted_each, substituted_at}
-use Rattle.cedar_model.specs.Shapes.{is_restricted, are_restricted, are_restricted_at, has_unknown, have_unknown}
-use Rattle.cedar_model.specs.Shapes.{have_unknown_at}
+use Rattle.cedar_model.specs.Shapes.{is_restricted, are_restricted, are_restricted_at}
 use Rattle.cedar_model.specs.Failures.{Failure, PartialValue, value, residual, Answer, answers, fails, wrong_type}
 use Rattle.cedar_model.specs.Failures.{limit, part_expression}
 use Rattle.cedar_model.specs.Settings.{ContextPart, absent_context, known_context, residual_context, context_value}

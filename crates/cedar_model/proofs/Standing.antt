@@ -124,8 +124,8 @@ module _ (mode : ErrorHandling) (ans : Functions) (w : World) (s : Setting) (p :
       (λ e. ap (counted_verdict mode p.effect) h ∙ e) (λ e. ap (counted_verdict mode p.effect) h ∙ e)
 
   value_stands : (v : Represented) (o : Option Bool) → bool_of (abstract_value v) ≡ o → M ≡ gives (abstract_value v)
-      → Counts (Responses.reported_bool o)
-  unfolding Responses.reported_bool
+      → Counts (Responses.reported_of (Responses.decided_bool o v))
+  unfolding Responses.reported_of Responses.decided_bool
   value_stands v (Some true) e h = true_stands (ap verdict (h ∙ ap gives (bool_is (abstract_value v) true e))
       ∙ verdict_true)
   value_stands v (Some false) e h = false_stands (ap verdict (h ∙ ap gives (bool_is (abstract_value v) false e))
@@ -138,9 +138,10 @@ module _ (mode : ErrorHandling) (ans : Functions) (w : World) (s : Setting) (p :
   failure_stands of_limit nl nm h = absurd (nl refl)
   failure_stands of_memory nl nm h = absurd (nm refl)
 
-  pub answer_stands : (a : Answer) → Recorded.IsRecordable (Responses.error_of a) → StandsFor s.extensions ans w a M
-      → Counts (Responses.reported_of a)
-  unfolding Responses.reported_of Responses.error_of
+  pub answer_stands : (a : Answer) → Recorded.IsRecordable (Responses.error_of (Responses.decided a))
+      → StandsFor s.extensions ans w a M
+      → Counts (Responses.reported_of (Responses.decided a))
+  unfolding Responses.reported_of Responses.error_of Responses.decided
   answer_stands (answers (value v)) r h = value_stands v (bool_of (abstract_value v)) refl h.1
   answer_stands (answers (residual t)) r h =
       subst (Responses.StandsAs mode s.extensions ans w p) (sym (counted_residual mode p.effect t)) h
@@ -149,15 +150,19 @@ module _ (mode : ErrorHandling) (ans : Functions) (w : World) (s : Setting) (p :
 pub with_slots_done : (ans : Functions) (w : World) (s : Setting) (slots : Slots) → IsCompletion ans w s
     → IsCompletion ans w (Responses.with_slots s slots)
 with_slots_done ans w s slots d = record {
-  request_agrees = d.request_agrees;
-  store_agrees = d.store_agrees;
-  map_agrees = d.map_agrees;
-  context_faithful = d.context_faithful;
-  store_faithful = d.store_faithful;
-  map_faithful = d.map_faithful;
-  context_fits = d.context_fits;
-  store_fits = d.store_fits;
-  store_restricted = d.store_restricted;
+  agreement = record {
+    request_agrees = d.agreement.request_agrees;
+    store_agrees = d.agreement.store_agrees;
+    map_agrees = d.agreement.map_agrees;
+    context_fits = d.agreement.context_fits;
+    store_fits = d.agreement.store_fits;
+    store_restricted = d.agreement.store_restricted;
+  };
+  values = record {
+    context_faithful = d.values.context_faithful;
+    store_faithful = d.values.store_faithful;
+    map_faithful = d.values.map_faithful;
+  };
 }
 
 -- an error that is recorded, or none, and those after it
@@ -169,17 +174,17 @@ recorded id (Some e) later h = (h.0, h.1)
 
 module _ (mode : ErrorHandling) (ans : Functions) (calls : StoredCalls) (agree : AgreesWithFunctions ans calls)
     (w : World) (s : Setting) (done : IsCompletion ans w s) (faithful : AnswerFaithfully s.extensions ans calls)
-    (limit : ℕ) where
+    (levels : ℕ) where
   pub run_stands : (ps : List Policy) (rows : List Responses.Row) (errors : List (Text × Failure))
       → Responses.FitPolicies ans w ps → Recorded.AreRecordable errors
-      → Responses.RunOf mode s calls limit ps rows errors → Responses.StandInOrder mode s.extensions ans w ps rows
+      → Responses.RunOf mode s calls levels ps rows errors → Responses.StandInOrder mode s.extensions ans w ps rows
   run_stands [] rows errors f r h = subst (Responses.StandInOrder mode s.extensions ans w []) (sym h.0) tt
   run_stands (p ∷ ps) rows errors f r (a, rest, later, g, m, j, e, q) =
-      let z = recorded p.id (Responses.error_of a) later (subst Recorded.AreRecordable q r) in
+      let z = recorded p.id (Responses.error_of (Responses.decided a)) later (subst Recorded.AreRecordable q r) in
       let k = sound_stands ans calls agree w (Responses.with_slots s p.slots)
       (with_slots_done ans w s p.slots done) faithful p.condition a
       (runs_sound ans calls agree w (Responses.with_slots s p.slots)
-      (with_slots_done ans w s p.slots done) faithful limit p.condition a f.0 g) in
+      (with_slots_done ans w s p.slots done) faithful levels p.condition a f.0 g) in
       subst (Responses.StandInOrder mode s.extensions ans w (p ∷ ps)) (sym e)
       (refl, refl, answer_stands mode ans w s p a z.0 k, run_stands ps rest later f.1 z.1 j)
 

@@ -45,7 +45,8 @@ module _ (s : Setting) where
   walks_found : (f : Found) (e : EntityName) (k l : Text) (ls : List Text) (u : Represented)
       → Operators.step_found f e k l ls ≡ Operators.walks_on u
       → (Operators.attribute_found s.map f e k ≡ answers_value u) × (Operators.has_found f e k ≡ answers_bool true)
-  unfolding Operators.step_found Operators.step_to_stored Operators.attribute_found Operators.stored_attribute Operators.has_found
+  unfolding Operators.step_found Operators.step_to_stored Operators.attribute_found Operators.stored_attribute
+      Operators.has_found
   walks_found not_known e k l ls u h = absurd (cc)
   walks_found not_there e k l ls u h = absurd (cc)
   walks_found (found x) e k l ls u h = by (part_at k x.attributes) refl h

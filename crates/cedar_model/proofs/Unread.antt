@@ -81,8 +81,8 @@ module _ (s : Setting) (concrete : s.store.is_partial ≡ false) where
   tag_found e k (found x) i h = tag_unread (part_at k x.tags) _ h
 
   tag_by : (o : Option EntityName) (p : Option Text) (e f : Failure) → Operators.tag_residual_of s.store o p ≡ None
-      → IsNoResidual (Operators.expecting o e (λ d. Operators.expecting p f (Operators.tag_found
-      (look_up s.store d) d)))
+      → IsNoResidual (Operators.expecting o e
+      (λ d. Operators.expecting p f (Operators.tag_found (look_up s.store d) d)))
   unfolding Operators.tag_residual_of Operators.expecting
   tag_by None p e f h = tt
   tag_by (Some d) None e f h = tt

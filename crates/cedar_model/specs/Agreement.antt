@@ -1,14 +1,26 @@
--- When a world fits an expression and agrees with what an evaluator is given; faithful values; where nothing is unknown.
+-- When a world fits an expression and agrees with what an evaluator is given; faithful values; where nothing is
+-- unknown.
 use Rattle.std.specs.Prelude.{◌≡◌, ◌≢◌, ℕ, suc, max, true, false, List, [], ◌∷◌, map, Option, Some, None, Ok, codes}
-use Rattle.cedar_model.specs.Terms.{Text, EntityName, entity_literal, ValueType, Term, literal, variable, slot, unknown, if_then_else, both, either, unary, binary, call, get_attribute, has_attribute, extended_has, like, is_of_type, set_of, record_of, Terms, no_terms, one_term, Fields, no_fields, one_field}
-use Rattle.cedar_model.specs.Values.{AbstractValue, plain, record_value, extension_value, AbstractFields, no_values_at, Represented, plain_represented, set_represented, record_represented, extension_represented, RepresentedValues, no_represented, one_represented, RepresentedFields, no_represented_at, one_represented_at, abstract_value, abstract_fields}
+use Rattle.cedar_model.specs.Terms.{Text, EntityName, entity_literal, ValueType, Term, literal, variable, slot, unknown}
+use Rattle.cedar_model.specs.Terms.{if_then_else, both, either, unary, binary, call, get_attribute, has_attribute}
+use Rattle.cedar_model.specs.Terms.{extended_has, like, is_of_type, set_of, record_of, Terms, no_terms, one_term}
+use Rattle.cedar_model.specs.Terms.{Fields, no_fields, one_field}
+use Rattle.cedar_model.specs.Values.{AbstractValue, plain, record_value, extension_value, AbstractFields, no_values_at}
+use Rattle.cedar_model.specs.Values.{Represented, plain_represented, set_represented, record_represented}
+use Rattle.cedar_model.specs.Values.{extension_represented, RepresentedValues, no_represented, one_represented}
+use Rattle.cedar_model.specs.Values.{RepresentedFields, no_represented_at, one_represented_at, abstract_value}
+use Rattle.cedar_model.specs.Values.{abstract_fields}
 use Rattle.cedar_model.specs.Sets.{IsStrictlyInOrder}
 use Rattle.cedar_model.specs.Shapes.{is_restricted}
 use Rattle.cedar_model.specs.Outcomes.{Outcome, gives, errs, value_type}
-use Rattle.cedar_model.specs.World.{WorldEntity, World, Slots, FunctionAnswer, function_gives, function_errs, function_asks, Extensions, Functions}
+use Rattle.cedar_model.specs.World.{WorldEntity, World, Slots, FunctionAnswer, function_gives, function_errs}
+use Rattle.cedar_model.specs.World.{function_asks, Extensions, Functions}
 use Rattle.cedar_model.specs.Meaning.{meaning, field_meanings}
-use Rattle.cedar_model.specs.Failures.{FailureKind, of_meaning, of_residual, of_limit, of_memory, failure_kind, PartialValue, value, residual, Answer, answers, fails}
-use Rattle.cedar_model.specs.Settings.{Entry, known_entry, unknown_entry, ContextPart, absent_context, known_context, residual_context, RequestPart, StoredEntity, Store, Setting, printed_entity, part_at, is_among, Found, found, not_there, not_known, look_up}
+use Rattle.cedar_model.specs.Failures.{FailureKind, of_meaning, of_residual, of_limit, of_memory, failure_kind}
+use Rattle.cedar_model.specs.Failures.{PartialValue, value, residual, Answer, answers, fails}
+use Rattle.cedar_model.specs.Settings.{Entry, known_entry, unknown_entry, ContextPart, absent_context, known_context}
+use Rattle.cedar_model.specs.Settings.{residual_context, RequestPart, StoredEntity, Store, Setting, printed_entity}
+use Rattle.cedar_model.specs.Settings.{part_at, is_among, Found, found, not_there, not_known, look_up}
 use Rattle.cedar_model.specs.Rules.{StoredCalls}
 
 -- ---- height
@@ -132,14 +144,16 @@ module _ (ans : Functions) where
 -- ---- faithful values
 
 module _ (X : Extensions) (ans : Functions) where
-  -- each extension value in it is written as a call that is known and means it in every world; and its sets are in order
+  -- each extension value in it is written as a call that is known and means it in every world; and its sets are in
+  -- order
   abbrev mutual
     pub IsFaithful : Represented → Type 0
     IsFaithful (plain_represented l) = Unit {0}
     IsFaithful (set_represented vs) = IsStrictlyInOrder vs × AreFaithful vs
     IsFaithful (record_represented fs) = AreFaithfulAt fs
     IsFaithful (extension_represented t k f ts) =
-        IsKnown ans (call f ts) × ((w : World) (slots : Slots) → meaning X ans w slots (call f ts) ≡ gives (extension_value t k))
+        IsKnown ans (call f ts) × ((w : World) (slots : Slots)
+        → meaning X ans w slots (call f ts) ≡ gives (extension_value t k))
 
     pub AreFaithful : RepresentedValues → Type 0
     AreFaithful no_represented = Unit {0}
@@ -171,12 +185,14 @@ function_answer (fails e) = failure_answer (failure_kind e)
 -- each stored function answers one outcome to equal arguments, and `ans` says which
 abbrev pub AgreesWithFunctions : Functions → StoredCalls → Type 0
 AgreesWithFunctions ans calls =
-    (f : Text) (vs : List Represented) (a : Answer) → calls f vs a → function_answer a ≡ Some (ans f (map abstract_value vs))
+    (f : Text) (vs : List Represented) (a : Answer) → calls f vs a
+    → function_answer a ≡ Some (ans f (map abstract_value vs))
 
 -- to faithful values the functions answer faithful values
 abbrev pub AnswerFaithfully : Extensions → Functions → StoredCalls → Type 0
 AnswerFaithfully X ans calls =
-    (f : Text) (vs : List Represented) (v : Represented) → AllFaithful X ans vs → calls f vs (answers (value v)) → IsFaithful X ans v
+    (f : Text) (vs : List Represented) (v : Represented) → AllFaithful X ans vs → calls f vs (answers (value v))
+    → IsFaithful X ans v
 
 -- ---- agreement
 
@@ -228,7 +244,8 @@ module _ (X : Extensions) (ans : Functions) (w : World) where
   AgreesWithFound e not_there o = o ≡ None
   AgreesWithFound e not_known o = w.sigma (printed_entity e) ≡ plain (entity_literal e)
 
-  -- each entity of the store is in the world. A concrete store has no other; of a partial one the unknown of each missing entity is that entity
+  -- each entity of the store is in the world. A concrete store has no other; of a partial one the unknown of each
+  -- missing entity is that entity
   abbrev pub AgreesWithStore : Store → Type 0
   AgreesWithStore s = (e : EntityName) → AgreesWithFound e (look_up s e) (w.store e)
 
@@ -260,25 +277,42 @@ module _ (X : Extensions) (ans : Functions) where
 -- each stored attribute and tag is such a part
 abbrev pub EachStored : (PartialValue → Type 0) → Store → Type 0
 EachStored Such s =
-    (e : EntityName) (x : StoredEntity) (k : Text) (p : PartialValue) → s.entity e ≡ Some x → ((part_at k x.attributes ≡ Some p → Such p) × (part_at k x.tags ≡ Some p → Such p))
+    (e : EntityName) (x : StoredEntity) (k : Text) (p : PartialValue) → s.entity e ≡ Some x
+    → ((part_at k x.attributes ≡ Some p → Such p) × (part_at k x.tags ≡ Some p → Such p))
 
 -- a residual is restricted
 abbrev pub IsRestrictedPart : PartialValue → Type 0
 IsRestrictedPart (value v) = Unit {0}
 IsRestrictedPart (residual t) = is_restricted t ≡ true
 
--- a world agrees with all that the evaluator is given, its values are faithful, and the world fits its residuals, of
--- which the stored ones are restricted
-pub record IsCompletion (ans : Functions) (w : World) (s : Setting) : Type 0 where
+-- ---- completion: a world agrees and fits, the values that are given are faithful, and (of policies, `FitPolicies`)
+-- the world fits the conditions
+
+-- a world agrees with all that the evaluator is given, and fits its residuals, of which the stored ones are restricted
+pub record AgreesAndFits (ans : Functions) (w : World) (s : Setting) : Type 0 where
   pub request_agrees : AgreesWithRequest s.extensions ans w s.request
   pub store_agrees : AgreesWithStore s.extensions ans w s.store
   pub map_agrees : AgreesWithMap w s.map
-  pub context_faithful : IsFaithfulContext s.extensions ans s.request.context_part
-  pub store_faithful : EachStored (IsFaithfulPart s.extensions ans) s.store
-  pub map_faithful : (n : Text) (v : Represented) → s.map n ≡ Some v → IsFaithful s.extensions ans v
   pub context_fits : FitsContext s.extensions ans w s.request.context_part
   pub store_fits : EachStored (FitsPart s.extensions ans w) s.store
   pub store_restricted : EachStored IsRestrictedPart s.store
+
+-- the values of the context, the store and the map are faithful
+pub record HasFaithfulValues (ans : Functions) (s : Setting) : Type 0 where
+  pub context_faithful : IsFaithfulContext s.extensions ans s.request.context_part
+  pub store_faithful : EachStored (IsFaithfulPart s.extensions ans) s.store
+  pub map_faithful : (n : Text) (v : Represented) → s.map n ≡ Some v → IsFaithful s.extensions ans v
+
+-- both
+pub record IsCompletion (ans : Functions) (w : World) (s : Setting) : Type 0 where
+  pub agreement : AgreesAndFits ans w s
+  pub values : HasFaithfulValues ans s
+
+-- a completion, with stored functions that each answer what `ans` says, and faithful values to faithful ones
+pub record CompletesWith (calls : StoredCalls) (ans : Functions) (w : World) (s : Setting) : Type 0 where
+  pub completion : IsCompletion ans w s
+  pub functions_agree : AgreesWithFunctions ans calls
+  pub functions_are_faithful : AnswerFaithfully s.extensions ans calls
 
 -- ---- where nothing is unknown
 
@@ -304,6 +338,17 @@ pub record HasNothingUnknown (s : Setting) : Type 0 where
   pub store_concrete : s.store.is_partial ≡ false
   pub store_known : EachStored IsValue s.store
 
+-- nothing is unknown, and stored functions each answer what `ans` says
+pub record IsAllKnown (calls : StoredCalls) (ans : Functions) (s : Setting) : Type 0 where
+  pub nothing_unknown : HasNothingUnknown s
+  pub functions_agree : AgreesWithFunctions ans calls
+
+-- and a world agrees with the request and the store
+pub record IsAllKnownIn (calls : StoredCalls) (ans : Functions) (w : World) (s : Setting) : Type 0 where
+  pub all_known : IsAllKnown calls ans s
+  pub request_agrees : AgreesWithRequest s.extensions ans w s.request
+  pub store_agrees : AgreesWithStore s.extensions ans w s.store
+
 -- the answer is the outcome: its value, or an error of its kind
 abbrev pub FailsAs : FailureKind → Outcome → Type 0
 FailsAs (of_meaning k) o = o ≡ errs k
@@ -316,7 +361,8 @@ Answers (answers (value v)) o = o ≡ gives (abstract_value v)
 Answers (answers (residual t)) o = ⊥
 Answers (fails e) o = FailsAs (failure_kind e) o
 
--- an answer stands for an outcome: a faithful value that is its value; an error, where it errs; or a residual that fits the world and has the same outcome without slots. The recursion limit and want of memory say nothing
+-- an answer stands for an outcome: a faithful value that is its value; an error, where it errs; or a residual that fits
+-- the world and has the same outcome without slots. The recursion limit and want of memory say nothing
 abbrev pub FailsFor : FailureKind → Outcome → Type 0
 FailsFor (of_meaning k) o = outcome_value o ≡ None
 FailsFor of_residual o = outcome_value o ≡ None
@@ -348,7 +394,12 @@ value_of_part (Some (residual t)) = None
 unfoldable pub world_entity : Option StoredEntity → Option WorldEntity
 world_entity None = None
 world_entity (Some x) =
-    Some record { is_ancestor = λ e. is_among e x.ancestors; attribute = λ k. value_of_part (part_at k x.attributes); tag = λ k. value_of_part (part_at k x.tags) }
+    Some record {
+      is_ancestor = λ e. is_among e x.ancestors;
+      attribute =
+          λ k. value_of_part (part_at k x.attributes);
+      tag = λ k. value_of_part (part_at k x.tags);
+    }
 
 abbrev pub own_world : Setting → (Text → AbstractValue) → World
 own_world s sigma = record {

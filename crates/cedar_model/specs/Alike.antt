@@ -1,11 +1,14 @@
 -- Answers that are alike: equal values, the same expression but for its calls, or errors of one kind.
 use Rattle.std.specs.Prelude.{◌≡◌, List, [], map}
-use Rattle.cedar_model.specs.Terms.{Text, Term, literal, variable, slot, unknown, if_then_else, both, either, unary, binary, call, get_attribute, has_attribute, extended_has, like, is_of_type, set_of, record_of, Terms, no_terms, one_term, Fields, no_fields, one_field}
+use Rattle.cedar_model.specs.Terms.{Text, Term, literal, variable, slot, unknown, if_then_else, both, either, unary}
+use Rattle.cedar_model.specs.Terms.{binary, call, get_attribute, has_attribute, extended_has, like, is_of_type, set_of}
+use Rattle.cedar_model.specs.Terms.{record_of, Terms, no_terms, one_term, Fields, no_fields, one_field}
 use Rattle.cedar_model.specs.Values.{Represented, abstract_value}
 use Rattle.cedar_model.specs.Failures.{failure_kind, PartialValue, value, residual, Answer, answers, fails}
 use Rattle.cedar_model.specs.Rules.{StoredCalls}
 
--- the expression with each call taken out, its function and arguments alike. The representation of a value is a call, so two expressions with values of other representations have this in common; and so have any two calls
+-- the expression with each call taken out, its function and arguments alike. The representation of a value is a call,
+-- so two expressions with values of other representations have this in common; and so have any two calls
 abbrev mutual
   pub erased : Term → Term
   erased (literal l) = literal l
@@ -51,4 +54,5 @@ AreAlike (fails e) (fails f) = failure_kind e ≡ failure_kind f
 -- each stored function answers alike to equal arguments
 abbrev pub AreFunctional : StoredCalls → Type 0
 AreFunctional calls =
-    (f : Text) (vs ws : List Represented) (a b : Answer) → map abstract_value vs ≡ map abstract_value ws → calls f vs a → calls f ws b → AreAlike a b
+    (f : Text) (vs ws : List Represented) (a b : Answer) → map abstract_value vs ≡ map abstract_value ws → calls f vs a
+    → calls f ws b → AreAlike a b

@@ -1,5 +1,5 @@
 -- The laws of authorization where nothing is unknown, which the functions of `authorizations` have as their contracts.
-use Rattle.std.specs.Prelude.{◌≡◌, ◌≢◌, ℕ, List, ◌∷◌, ◌++◌, None}
+use Rattle.std.specs.Prelude.{◌≡◌, ℕ, List, ◌∷◌, ◌++◌, None}
 use Rattle.cedar_model.specs.Terms.{Text, Term}
 use Rattle.cedar_model.specs.Values.{AbstractValue}
 use Rattle.cedar_model.specs.World.{World, Extensions, Functions}
@@ -7,21 +7,26 @@ use Rattle.cedar_model.specs.Meaning.{meaning}
 use Rattle.cedar_model.specs.Failures.{Answer}
 use Rattle.cedar_model.specs.Settings.{Setting}
 use Rattle.cedar_model.specs.Rules.{StoredCalls, Runs}
-use Rattle.cedar_model.specs.Agreement.{IsKnown, AgreesWithFunctions, HasNothingUnknown, own_world}
+use Rattle.cedar_model.specs.Agreement.{IsKnown, HasNothingUnknown, IsAllKnown, own_world}
 use Rattle.cedar_model.specs.Policies.{Policy, permit, forbid, erring, verdict, allow, deny}
 use Rattle.cedar_model.specs.Responses.{with_slots}
 use Rattle.cedar_model.specs.Reordering.{IsReordering}
-use Rattle.cedar_model.specs.Authorizations.{decided, Authorized, IsResponse, IsExact, IsExactDecision, IsExactResponse, HaveNoLimit, HaveKnownConditions, AreNoHigher, Completes}
+use Rattle.cedar_model.specs.Authorizations.{evaluated, Authorized, IsResponse, IsExact, IsExactDecision}
+use Rattle.cedar_model.specs.Authorizations.{IsExactResponse, HaveNoLimit, HaveKnownConditions, AreNoHigher, Completes}
 
 -- an answer is exact in the own world
 abbrev pub KnownAnswersAreExact : StoredCalls → Type 0
 KnownAnswersAreExact calls =
-    (ans : Functions) → AgreesWithFunctions ans calls → (s : Setting) → HasNothingUnknown s → (sigma : Text → AbstractValue) (levels : ℕ) (t : Term) (a : Answer) → IsKnown ans t → Runs s calls levels t a → IsExact calls ans (own_world s sigma) s levels t a
+    (ans : Functions) (s : Setting) → IsAllKnown calls ans s
+    → (sigma : Text → AbstractValue) (levels : ℕ) (t : Term) (a : Answer) → IsKnown ans t → Runs s calls levels t a
+    → IsExact calls ans (own_world s sigma) s levels t a
 
 -- so is what it decides, as a condition's
 abbrev pub KnownConditionsAreExact : StoredCalls → Type 0
 KnownConditionsAreExact calls =
-    (ans : Functions) → AgreesWithFunctions ans calls → (s : Setting) → HasNothingUnknown s → (sigma : Text → AbstractValue) (levels : ℕ) (t : Term) (a : Answer) → IsKnown ans t → Runs s calls levels t a → IsExactDecision calls ans (own_world s sigma) s levels t (decided a)
+    (ans : Functions) (s : Setting) → IsAllKnown calls ans s
+    → (sigma : Text → AbstractValue) (levels : ℕ) (t : Term) (a : Answer) → IsKnown ans t → Runs s calls levels t a
+    → IsExactDecision calls ans (own_world s sigma) s levels t (evaluated a)
 
 -- what policies may answer within so many levels
 abbrev pub PolicyRuns : Setting → StoredCalls → ℕ → Policy → Answer → Type 0
@@ -30,17 +35,23 @@ PolicyRuns s calls levels p a = Runs (with_slots s p.slots) calls levels p.condi
 -- a response without the recursion limit is exact in the own world
 abbrev pub KnownResponsesAreExact : StoredCalls → Type 0
 KnownResponsesAreExact calls =
-    (ans : Functions) → AgreesWithFunctions ans calls → (s : Setting) → HasNothingUnknown s → (sigma : Text → AbstractValue) (levels : ℕ) (ps : List Policy) (r : Authorized) → HaveKnownConditions ans ps → IsResponse (PolicyRuns s calls levels) ps r → HaveNoLimit r.errors → IsExactResponse s.extensions ans (own_world s sigma) ps r
+    (ans : Functions) (s : Setting) → IsAllKnown calls ans s
+    → (sigma : Text → AbstractValue) (levels : ℕ) (ps : List Policy) (r : Authorized) → HaveKnownConditions ans ps
+    → IsResponse (PolicyRuns s calls levels) ps r → HaveNoLimit r.errors
+    → IsExactResponse s.extensions ans (own_world s sigma) ps r
 
 -- where no condition is higher than the limit, none meets it
 abbrev pub LowConditionsMeetNoLimit : StoredCalls → Type 0
 LowConditionsMeetNoLimit calls =
-    (ans : Functions) → AgreesWithFunctions ans calls → (s : Setting) → HasNothingUnknown s → (levels : ℕ) (ps : List Policy) (r : Authorized) → HaveKnownConditions ans ps → IsResponse (PolicyRuns s calls levels) ps r → AreNoHigher ps levels → HaveNoLimit r.errors
+    (ans : Functions) (s : Setting) → IsAllKnown calls ans s → (levels : ℕ) (ps : List Policy) (r : Authorized)
+    → HaveKnownConditions ans ps → IsResponse (PolicyRuns s calls levels) ps r → AreNoHigher ps levels
+    → HaveNoLimit r.errors
 
 -- the own world completes a call in which nothing is unknown, whatever its unknowns are
 abbrev pub OwnWorldCompletes : Type 0
 OwnWorldCompletes =
-    (ans : Functions) (s : Setting) (sigma : Text → AbstractValue) (ps : List Policy) → HasNothingUnknown s → ((n : Text) → s.map n ≡ None) → HaveKnownConditions ans ps → Completes ans (own_world s sigma) s ps
+    (ans : Functions) (s : Setting) (sigma : Text → AbstractValue) (ps : List Policy) → HasNothingUnknown s
+    → ((n : Text) → s.map n ≡ None) → HaveKnownConditions ans ps → Completes ans (own_world s sigma) s ps
 
 -- ---- the four facts, of two exact responses
 
@@ -51,19 +62,26 @@ module _ (X : Extensions) (ans : Functions) (w : World) where
   -- the order of policies changes nothing
   abbrev pub OrderChangesNoResponse : Type 0
   OrderChangesNoResponse =
-      (ps qs : List Policy) (r q : Authorized) → IsReordering Policy ps qs → IsExactResponse X ans w ps r → IsExactResponse X ans w qs q → AgreeWhollyAs q r
+      (ps qs : List Policy) (r q : Authorized) → IsReordering Policy ps qs → IsExactResponse X ans w ps r
+      → IsExactResponse X ans w qs q → AgreeWhollyAs q r
 
   -- an added forbid never turns Deny into Allow
   abbrev pub AddedForbidKeepsDeny : Type 0
   AddedForbidKeepsDeny =
-      (before after : List Policy) (p : Policy) (r q : Authorized) → p.effect ≡ forbid → IsExactResponse X ans w (before ++ after) r → IsExactResponse X ans w (before ++ (p ∷ after)) q → r.decided_as ≡ deny → q.decided_as ≡ deny
+      (before after : List Policy) (p : Policy) (r q : Authorized) → p.effect ≡ forbid
+      → IsExactResponse X ans w (before ++ after) r → IsExactResponse X ans w (before ++ (p ∷ after)) q
+      → r.decided_as ≡ deny → q.decided_as ≡ deny
 
   -- an added permit never turns Allow into Deny
   abbrev pub AddedPermitKeepsAllow : Type 0
   AddedPermitKeepsAllow =
-      (before after : List Policy) (p : Policy) (r q : Authorized) → p.effect ≡ permit → IsExactResponse X ans w (before ++ after) r → IsExactResponse X ans w (before ++ (p ∷ after)) q → r.decided_as ≡ allow → q.decided_as ≡ allow
+      (before after : List Policy) (p : Policy) (r q : Authorized) → p.effect ≡ permit
+      → IsExactResponse X ans w (before ++ after) r → IsExactResponse X ans w (before ++ (p ∷ after)) q
+      → r.decided_as ≡ allow → q.decided_as ≡ allow
 
   -- taking out an erring policy changes neither decision nor reasons
   abbrev pub ErringChangesNoResponse : Type 0
   ErringChangesNoResponse =
-      (before after : List Policy) (p : Policy) (r q : Authorized) → verdict (meaning X ans w p.slots p.condition) ≡ erring → IsExactResponse X ans w (before ++ after) r → IsExactResponse X ans w (before ++ (p ∷ after)) q → AgreeWhollyAs q r
+      (before after : List Policy) (p : Policy) (r q : Authorized)
+      → verdict (meaning X ans w p.slots p.condition) ≡ erring → IsExactResponse X ans w (before ++ after) r
+      → IsExactResponse X ans w (before ++ (p ∷ after)) q → AgreeWhollyAs q r

@@ -1,28 +1,26 @@
--- What a set of policies comes out as, judged by what an evaluator answers to their conditions; and when an answer, a decided condition or a response is exact where nothing is unknown. In Cedar's documentation: the page on authorization.
-use Rattle.std.specs.Prelude.{◌≡◌, ◌≢◌, ◌↔◌, ℕ, ◌≤◌, Bool, true, false, List, [], ◌∷◌, map, Option, Some, None, Result, Ok, Err}
-use Rattle.cedar_model.specs.Terms.{Text, bool_type, Term}
-use Rattle.cedar_model.specs.Values.{Represented, abstract_value}
+-- What a set of policies comes out as, judged by what an evaluator answers to their conditions; and when an answer, a
+-- decided condition or a response is exact where nothing is unknown. In Cedar's documentation: the page on
+-- authorization.
+use Rattle.std.specs.Prelude.{◌≡◌, ◌≢◌, ◌↔◌, ℕ, ◌≤◌, Bool, true, false, List, [], ◌∷◌, map, Option, Some, None, Result}
+use Rattle.std.specs.Prelude.{Ok, Err}
+use Rattle.cedar_model.specs.Terms.{Text, Term}
 use Rattle.cedar_model.specs.Outcomes.{ErrorKind, type_error, Outcome, gives, errs, bool_of, has_text}
 use Rattle.cedar_model.specs.World.{World, Extensions, Functions}
 use Rattle.cedar_model.specs.Meaning.{meaning}
-use Rattle.cedar_model.specs.Failures.{Failure, recursion_limit, residual_is_left, FailureKind, of_meaning, failure_kind, value, residual, Answer, answers, fails, limit, wrong_type}
+use Rattle.cedar_model.specs.Failures.{Failure, recursion_limit, FailureKind, of_meaning, failure_kind, Answer, limit}
 use Rattle.cedar_model.specs.Settings.{Setting}
 use Rattle.cedar_model.specs.Rules.{StoredCalls, Exceeds}
-use Rattle.cedar_model.specs.Agreement.{Answers, height, IsKnown, AgreesWithRequest, AgreesWithStore, AgreesWithMap, FitsContext, FitsPart, EachStored}
-use Rattle.cedar_model.specs.Policies.{Policy, Verdict, satisfied, unsatisfied, erring, Judged, Decision, decision, reasons, judge_each}
-use Rattle.cedar_model.specs.Responses.{FitPolicies}
+use Rattle.cedar_model.specs.Agreement.{Answers, height, IsKnown, AgreesAndFits}
+use Rattle.cedar_model.specs.Policies.{Policy, Verdict, satisfied, unsatisfied, erring, Judged, Decision, decision}
+use Rattle.cedar_model.specs.Policies.{reasons, judge_each}
+use Rattle.cedar_model.specs.Responses.{FitPolicies, decided, result_of, with_error}
 
 -- ---- what conditions come out as
 
-unfoldable pub bool_result : Option Bool → Represented → Result Bool Failure
-bool_result (Some b) v = Ok b
-bool_result None v = Err (wrong_type bool_type [] (abstract_value v))
-
--- what a condition's answer decides: a bool; another value is a type error that expects one, and a residual is left
-unfoldable pub decided : Answer → Result Bool Failure
-decided (fails e) = Err e
-decided (answers (value v)) = bool_result (bool_of (abstract_value v)) v
-decided (answers (residual t)) = Err (residual_is_left t)
+-- the bool that a condition's answer decides, or an error: another value is a type error that expects a bool, and a
+-- residual is left
+abbrev pub evaluated : Answer → Result Bool Failure
+evaluated a = result_of (decided a)
 
 unfoldable pub bool_meaning : Option Bool → Result Bool ErrorKind
 bool_meaning (Some b) = Ok b
@@ -42,21 +40,23 @@ unfoldable pub result_verdict : {E : Type 0} → Result Bool E → Verdict
 result_verdict (Ok b) = bool_verdict b
 result_verdict (Err e) = erring
 
--- the errors with that of one policy more, if it erred, in front
-unfoldable pub with_result : {E : Type 0} → Text → Result Bool E → List (Text × E) → List (Text × E)
-with_result id (Ok b) errors = errors
-with_result id (Err e) errors = (id, e) ∷ errors
+-- the error, if there is one
+unfoldable pub error_in : {E : Type 0} → Result Bool E → Option E
+error_in (Ok b) = None
+error_in (Err e) = Some e
 
 -- ---- responses
 
 abbrev pub judged_by : Policy → Result Bool Failure → Judged
 judged_by p r = record { id = p.id; effect = p.effect; verdict_of = result_verdict r }
 
--- each policy in order is judged by an answer that its condition may have, and its error, if it erred, is recorded in that order
+-- each policy in order is judged by an answer that its condition may have, and its error, if it erred, is recorded in
+-- that order
 abbrev pub JudgesEach : (Policy → Answer → Type 0) → List Policy → List Judged → List (Text × Failure) → Type 0
 JudgesEach May [] js errors = (js ≡ []) × (errors ≡ [])
 JudgesEach May (p ∷ ps) js errors =
-    (a : Answer) × (rest : List Judged) × (later : List (Text × Failure)) × May p a × JudgesEach May ps rest later × (js ≡ judged_by p (decided a) ∷ rest) × (errors ≡ with_result p.id (decided a) later)
+    (a : Answer) × (rest : List Judged) × (later : List (Text × Failure)) × May p a × JudgesEach May ps rest later
+    × (js ≡ judged_by p (evaluated a) ∷ rest) × (errors ≡ with_error p.id (error_in (evaluated a)) later)
 
 -- a decision, which ids are reasons for it, and the errors under the ids of the policies that erred
 pub record Authorized : Type 0 where
@@ -67,12 +67,15 @@ pub record Authorized : Type 0 where
 -- the response to policies whose conditions may answer so
 abbrev pub IsResponse : (Policy → Answer → Type 0) → List Policy → Authorized → Type 0
 IsResponse May ps r =
-    (js : List Judged) × JudgesEach May ps js r.errors × (r.decided_as ≡ decision js) × ((t : Text) → r.is_reason t ≡ has_text t (reasons js))
+    (js : List Judged) × JudgesEach May ps js r.errors × (r.decided_as ≡ decision js)
+    × ((t : Text) → r.is_reason t ≡ has_text t (reasons js))
 
 -- ---- exactness, where nothing is unknown
 
--- the recursion limit is met exactly where the need is above it, which it never is where the expression is no higher; else the answer is the meaning's value or an error of its kind
-pub record IsExact (calls : StoredCalls) (ans : Functions) (w : World) (s : Setting) (levels : ℕ) (t : Term) (a : Answer) : Type 0 where
+-- the recursion limit is met exactly where the need is above it, which it never is where the expression is no higher;
+-- else the answer is the meaning's value or an error of its kind
+pub record IsExact (calls : StoredCalls) (ans : Functions) (w : World) (s : Setting) (levels : ℕ) (t : Term)
+    (a : Answer) : Type 0 where
   pub limit_by_need : (a ≡ limit) ↔ Exceeds s calls t levels
   pub limit_by_height : height t ≤ levels → a ≢ limit
   pub meant : a ≢ limit → Answers a (meaning s.extensions ans w s.slots t)
@@ -85,7 +88,8 @@ Decides (Err e) (Ok c) = ⊥
 Decides (Err e) (Err k) = failure_kind e ≡ of_meaning k
 
 -- the same of a condition
-pub record IsExactDecision (calls : StoredCalls) (ans : Functions) (w : World) (s : Setting) (levels : ℕ) (t : Term) (r : Result Bool Failure) : Type 0 where
+pub record IsExactDecision (calls : StoredCalls) (ans : Functions) (w : World) (s : Setting) (levels : ℕ) (t : Term)
+    (r : Result Bool Failure) : Type 0 where
   pub limit_by_need : (r ≡ Err recursion_limit) ↔ Exceeds s calls t levels
   pub limit_by_height : height t ≤ levels → r ≢ Err recursion_limit
   pub meant : r ≢ Err recursion_limit → Decides r (condition_meaning (meaning s.extensions ans w s.slots t))
@@ -94,7 +98,7 @@ pub record IsExactDecision (calls : StoredCalls) (ans : Functions) (w : World) (
 unfoldable pub policy_errors : Extensions → Functions → World → List Policy → List (Text × ErrorKind)
 policy_errors X ans w [] = []
 policy_errors X ans w (p ∷ ps) =
-    with_result p.id (condition_meaning (meaning X ans w p.slots p.condition)) (policy_errors X ans w ps)
+    with_error p.id (error_in (condition_meaning (meaning X ans w p.slots p.condition))) (policy_errors X ans w ps)
 
 -- errors by their kinds
 abbrev pub failure_kinds : List (Text × Failure) → List (Text × FailureKind)
@@ -103,8 +107,10 @@ failure_kinds es = map {B = Text × FailureKind} (λ e. (e.0, failure_kind e.1))
 abbrev pub HaveKinds : List (Text × Failure) → List (Text × ErrorKind) → Type 0
 HaveKinds es ks = failure_kinds es ≡ map {B = Text × FailureKind} (λ k. (k.0, of_meaning k.1)) ks
 
--- the decision and the reasons of the policies in the world, and exactly the erring policies, in order, each with an error of its kind
-pub record IsExactResponse (X : Extensions) (ans : Functions) (w : World) (ps : List Policy) (r : Authorized) : Type 0 where
+-- the decision and the reasons of the policies in the world, and exactly the erring policies, in order, each with an
+-- error of its kind
+pub record IsExactResponse (X : Extensions) (ans : Functions) (w : World) (ps : List Policy)
+    (r : Authorized) : Type 0 where
   pub decision_is : r.decided_as ≡ decision (judge_each X ans w ps)
   pub reasons_are : (t : Text) → r.is_reason t ≡ has_text t (reasons (judge_each X ans w ps))
   pub errors_are : HaveKinds r.errors (policy_errors X ans w ps)
@@ -124,11 +130,7 @@ abbrev pub AreNoHigher : List Policy → ℕ → Type 0
 AreNoHigher [] n = Unit {0}
 AreNoHigher (p ∷ ps) n = (height p.condition ≤ n) × AreNoHigher ps n
 
--- a world agrees with all that an authorization is given, and fits each condition, the context and what is stored
+-- a world agrees with all that an authorization is given and fits it, each condition too
 pub record Completes (ans : Functions) (w : World) (s : Setting) (ps : List Policy) : Type 0 where
-  pub request_agrees : AgreesWithRequest s.extensions ans w s.request
-  pub store_agrees : AgreesWithStore s.extensions ans w s.store
-  pub map_agrees : AgreesWithMap w s.map
+  pub agreement : AgreesAndFits ans w s
   pub conditions_fit : FitPolicies ans w ps
-  pub context_fits : FitsContext s.extensions ans w s.request.context_part
-  pub store_fits : EachStored (FitsPart s.extensions ans w) s.store

@@ -4,13 +4,35 @@ use Rattle.cedar_model.specs.Terms.{Text}
 use Rattle.cedar_model.specs.Failures.{Failure, failure_kind}
 use Rattle.cedar_model.specs.Settings.{Setting, Store}
 use Rattle.cedar_model.specs.Rules.{StoredCalls}
+use Rattle.cedar_model.specs.LevelLaws.{FunctionsAnswer, FunctionsFindMemory}
 use Rattle.cedar_model.specs.Alike.{AreFunctional}
-use Rattle.cedar_model.specs.Policies.{Decision, ErrorHandling}
+use Rattle.cedar_model.specs.Policies.{Policy, Decision, ErrorHandling}
 use Rattle.cedar_model.specs.Refusals.{Refusal, context_fails}
-use Rattle.cedar_model.specs.Chains.{Mapping, Response, Steps, StepsTo, has_limit, ChainOf}
+use Rattle.cedar_model.specs.Chains.{Mapping, Response, Begins, Steps, StepsTo, has_limit, ChainAnswers, ChainOf}
 use Rattle.cedar_model.specs.Authorizations.{HaveNoLimit}
 use Rattle.cedar_model.specs.Reports.{ids, given_decision, must_determine, may_determine}
 use Rattle.cedar_model.specs.ReportLaws.{Within}
+
+-- where the functions that exist answer, and never want of memory, there is a first response to policies
+abbrev pub ChainsBegin : StoredCalls → Type 0
+ChainsBegin calls =
+    FunctionsFindMemory calls → (mode : ErrorHandling) (s : Setting) (levels : ℕ)
+    → FunctionsAnswer calls s.extensions.arity → (ps : List Policy)
+    → (first : Response) × Begins mode s calls levels ps first
+
+-- each step answers a response or a refusal
+abbrev pub StepsAnswer : StoredCalls → Type 0
+StepsAnswer calls =
+    FunctionsFindMemory calls → (mode : ErrorHandling) (s : Setting) (levels : ℕ)
+    → FunctionsAnswer calls s.extensions.arity → (m : Mapping) (store : Store) (old : Response)
+    → (x : Result Response Refusal) × Steps mode s calls levels m store old x
+
+-- and so does each chain
+abbrev pub ChainsAnswer : StoredCalls → Type 0
+ChainsAnswer calls =
+    FunctionsFindMemory calls → (mode : ErrorHandling) (s : Setting) (levels : ℕ)
+    → FunctionsAnswer calls s.extensions.arity → (first : Response) (steps : List (Mapping × Store))
+    → (x : Result Response Refusal) × ChainAnswers mode s calls levels first steps x
 
 -- the same refusal, or errors of one kind of the context
 abbrev pub AreAlikeRefusals : Refusal → Refusal → Type 0
@@ -28,9 +50,9 @@ AreAlikeSteps (Err e) (Err f) = AreAlikeRefusals e f
 -- from functional functions a step answers responses alone, or one refusal
 abbrev pub RefusalIsOne : StoredCalls → Type 0
 RefusalIsOne calls =
-    AreFunctional calls → (mode : ErrorHandling) (s : Setting) (limit : ℕ) (m : Mapping) (store : Store)
+    AreFunctional calls → (mode : ErrorHandling) (s : Setting) (levels : ℕ) (m : Mapping) (store : Store)
     (old : Response)
-    (x y : Result Response Refusal) → Steps mode s calls limit m store old x → Steps mode s calls limit m store old y
+    (x y : Result Response Refusal) → Steps mode s calls levels m store old x → Steps mode s calls levels m store old y
     → AreAlikeSteps x y
 
 -- the test for the recursion limit says so
@@ -41,10 +63,10 @@ LimitsAreSeen = (errors : List (Text × Failure)) → HaveNoLimit errors ↔ (ha
 -- response without one, from which the others lead to the last
 abbrev pub NoEarlierLimit : StoredCalls → Type 0
 NoEarlierLimit calls =
-    (mode : ErrorHandling) (s : Setting) (limit : ℕ) (first last : Response) (before after : List (Mapping × Store))
-    → ChainOf mode s calls limit first (before ++ after) last → HaveNoLimit last.errors
-    → (middle : Response) × ChainOf mode s calls limit first before middle × HaveNoLimit middle.errors
-    × ChainOf mode s calls limit middle after last
+    (mode : ErrorHandling) (s : Setting) (levels : ℕ) (first last : Response) (before after : List (Mapping × Store))
+    → ChainOf mode s calls levels first (before ++ after) last → HaveNoLimit last.errors
+    → (middle : Response) × ChainOf mode s calls levels first before middle × HaveNoLimit middle.errors
+    × ChainOf mode s calls levels middle after last
 
 -- nothing is taken back: where a step succeeds without a recursion limit, a given decision stays, no id leaves those
 -- that must determine it, and none comes to those that may; whatever worlds and functions there are
@@ -55,5 +77,5 @@ pub record KeepsWhatIsGiven (old new : Response) : Type 0 where
 
 abbrev pub NothingIsTakenBack : StoredCalls → Type 0
 NothingIsTakenBack calls =
-    (mode : ErrorHandling) (s : Setting) (limit : ℕ) (m : Mapping) (store : Store) (old new : Response)
-    → StepsTo mode s calls limit m store old new → HaveNoLimit new.errors → KeepsWhatIsGiven old new
+    (mode : ErrorHandling) (s : Setting) (levels : ℕ) (m : Mapping) (store : Store) (old new : Response)
+    → StepsTo mode s calls levels m store old new → HaveNoLimit new.errors → KeepsWhatIsGiven old new

@@ -128,10 +128,10 @@ at_step s r store m =
 -- a residual context is interpreted again, with the map's values in it: under the old response's request and the new
 -- store, without the map. Another context stays
 abbrev pub SubstitutesTo : Setting → StoredCalls → ℕ → Mapping → ContextPart → Result ContextPart Refusal → Type 0
-SubstitutesTo s calls limit m absent_context r = r ≡ Ok absent_context
-SubstitutesTo s calls limit m (known_context fs) r = r ≡ Ok (known_context fs)
-SubstitutesTo s calls limit m (residual_context fs) r =
-    (a : Answer) × Runs (without_map s) calls limit (record_of (substituted_at m fs)) a × IsContext a r
+SubstitutesTo s calls levels m absent_context r = r ≡ Ok absent_context
+SubstitutesTo s calls levels m (known_context fs) r = r ≡ Ok (known_context fs)
+SubstitutesTo s calls levels m (residual_context fs) r =
+    (a : Answer) × Runs (without_map s) calls levels (record_of (substituted_at m fs)) a × IsContext a r
 
 abbrev pub with_context : RequestPart → ContextPart → RequestPart
 with_context r c =
@@ -148,20 +148,20 @@ is_same_mode skip forbid_on_error = false
 is_same_mode forbid_on_error skip = false
 is_same_mode forbid_on_error forbid_on_error = true
 
-module _ (mode : ErrorHandling) (s : Setting) (calls : StoredCalls) (limit : ℕ) (m : Mapping) (store : Store)
+module _ (mode : ErrorHandling) (s : Setting) (calls : StoredCalls) (levels : ℕ) (m : Mapping) (store : Store)
     (old : Response) where
   -- the rows before, carried on as policies, run under the new request with the map
   abbrev pub AfterContext : RequestPart → Result ContextPart Refusal → Result Response Refusal → Type 0
   AfterContext r (Err e) x = x ≡ Err e
   AfterContext r (Ok c) x =
       (rows : List Row) × (errors : List (Text × Failure))
-      × RunOf mode (at_step s (with_context r c) store m) calls limit (all_residuals old.rows) rows errors
+      × RunOf mode (at_step s (with_context r c) store m) calls levels (all_residuals old.rows) rows errors
       × (x ≡ Ok record { mode = mode; request = with_context r c; rows = rows; errors = errors })
 
   abbrev pub AfterRequest : Result RequestPart Refusal → Result Response Refusal → Type 0
   AfterRequest (Err e) x = x ≡ Err e
   AfterRequest (Ok r) x =
-      (c : Result ContextPart Refusal) × SubstitutesTo (at_step s old.request store m) calls limit m r.context_part c
+      (c : Result ContextPart Refusal) × SubstitutesTo (at_step s old.request store m) calls levels m r.context_part c
       × AfterContext r c x
 
   abbrev pub AfterIds : Option Text → Result Response Refusal → Type 0
@@ -184,11 +184,11 @@ module _ (mode : ErrorHandling) (s : Setting) (calls : StoredCalls) (limit : ℕ
 -- ---- chains
 
 -- the first response, from a request without a map
-pub record Begins (mode : ErrorHandling) (s : Setting) (calls : StoredCalls) (limit : ℕ) (policies : List Policy)
+pub record Begins (mode : ErrorHandling) (s : Setting) (calls : StoredCalls) (levels : ℕ) (policies : List Policy)
     (first : Response) : Type 0 where
   pub mode_is : first.mode ≡ mode
   pub request_is : first.request ≡ s.request
-  pub runs : RunOf mode (without_map s) calls limit policies first.rows first.errors
+  pub runs : RunOf mode (without_map s) calls levels policies first.rows first.errors
 
 unfoldable pub is_limit : FailureKind → Bool
 is_limit (of_meaning k) = false
@@ -206,12 +206,12 @@ has_limit (e ∷ es) = is_limit (failure_kind e.1) || has_limit es
 abbrev pub ChainAnswers : ErrorHandling → Setting → StoredCalls → ℕ → Response → List (Mapping × Store)
     → Result Response Refusal
     → Type 0
-ChainAnswers mode s calls limit r [] x = x ≡ Ok r
-ChainAnswers mode s calls limit r (step ∷ steps) x =
+ChainAnswers mode s calls levels r [] x = x ≡ Ok r
+ChainAnswers mode s calls levels r (step ∷ steps) x =
     MatchBool (has_limit r.errors) (x ≡ Ok r) ((y : Result Response Refusal)
-    × Steps mode s calls limit step.0 step.1 r y
-    × MatchResult y (λ next. ChainAnswers mode s calls limit next steps x) (λ e. x ≡ Err e))
+    × Steps mode s calls levels step.0 step.1 r y
+    × MatchResult y (λ next. ChainAnswers mode s calls levels next steps x) (λ e. x ≡ Err e))
 
 -- a chain from a response that succeeds with this one
 abbrev pub ChainOf : ErrorHandling → Setting → StoredCalls → ℕ → Response → List (Mapping × Store) → Response → Type 0
-ChainOf mode s calls limit r steps last = ChainAnswers mode s calls limit r steps (Ok last)
+ChainOf mode s calls levels r steps last = ChainAnswers mode s calls levels r steps (Ok last)

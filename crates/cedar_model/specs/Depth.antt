@@ -39,6 +39,12 @@ unfoldable pub bound_of : Resolution → ℕ → ℕ
 bound_of shallow b = b
 bound_of deep b = b + b
 
+-- all that is given is sound and no higher than b, with a map of which the one that is given is part
+pub record IsBounded (calls : StoredCalls) (s : Setting) (m : Mapping) (b : ℕ) : Type 0 where
+  pub is_within : IsWithin s.map m
+  pub given_is_sound : IsGivenSound calls s
+  pub is_no_higher : IsNoHigher calls s m b
+
 -- the need is at most the height and the bound together; with deep resolution the height and twice the bound
 abbrev pub NeedIsBounded : StoredCalls → Type 0
 NeedIsBounded calls =
@@ -48,7 +54,7 @@ NeedIsBounded calls =
 -- and so is the height of what is answered, also with more values in place of unknowns
 abbrev pub AnswersAreNoHigher : StoredCalls → Type 0
 AnswersAreNoHigher calls =
-    (s : Setting) (m : Mapping) (b : ℕ) → IsWithin s.map m → IsGivenSound calls s → IsNoHigher calls s m b →
+    (s : Setting) (m : Mapping) (b : ℕ) → IsBounded calls s m b →
     (t : Term) (p : PartialValue) → Allows s calls t (answers p)
     → substituted_height m p ≤ height t + bound_of s.resolution b
 
@@ -56,7 +62,7 @@ AnswersAreNoHigher calls =
 -- values that are put in are sound, so that the context stays restricted and reads nothing stored
 abbrev pub SubstitutedContextsAreNoHigher : StoredCalls → Type 0
 SubstitutedContextsAreNoHigher calls =
-    (s : Setting) (m : Mapping) (b : ℕ) → IsWithin s.map m → IsGivenSound calls s → IsNoHigher calls s m b →
+    (s : Setting) (m : Mapping) (b : ℕ) → IsBounded calls s m b →
     (s.resolution ≡ deep → (n : Text) (v : Represented) → m n ≡ Some v → IsSound v) →
     (fs : Fields) (p : PartialValue) → s.request.context_part ≡ residual_context fs →
     Allows s calls (record_of (substituted_at m fs)) (answers p) → substituted_height m p ≤ b + b
@@ -79,7 +85,7 @@ ContextFollows s calls m (residual_context fs) c =
 -- the need in a step's run is at most the height and twice the bound
 abbrev pub StepNeedIsBounded : StoredCalls → Type 0
 StepNeedIsBounded calls =
-    FunctionsMeetNoLimit calls → (s : Setting) (m : Mapping) (b : ℕ) → IsWithin s.map m → IsGivenSound calls s →
-    ((n : Text) (v : Represented) → m n ≡ Some v → IsSound v) → IsNoHigher calls s m b → (r : RequestPart) →
+    FunctionsMeetNoLimit calls → (s : Setting) (m : Mapping) (b : ℕ) → IsBounded calls s m b →
+    ((n : Text) (v : Represented) → m n ≡ Some v → IsSound v) → (r : RequestPart) →
     ContextFollows s calls m s.request.context_part r.context_part → (n : ℕ) (t : Term) →
     Exceeds (at_step s r s.store m) calls t n → n < height t + (b + b)

@@ -1,6 +1,7 @@
 -- Worked examples: a request, two stores, and expressions with what they mean and may answer.
 use Rattle.std.specs.Prelude.{◌≡◌, ℕ, pos, Bool, true, cond, List, [], ◌∷◌, Option, Some, None, codes}
-use Rattle.cedar_model.specs.Terms.{Text, EntityName, bool_literal, long_literal, text_literal, entity_literal, ValueType, Term, literal, unknown, set_of, terms_of}
+use Rattle.cedar_model.specs.Terms.{Text, EntityName, bool_literal, long_literal, text_literal, entity_literal}
+use Rattle.cedar_model.specs.Terms.{ValueType, Term, literal, unknown, set_of, terms_of}
 use Rattle.cedar_model.specs.Values.{plain, Represented, plain_represented, no_represented_at}
 use Rattle.cedar_model.specs.Outcomes.{text_eq, entity_eq}
 use Rattle.cedar_model.specs.World.{Extensions, Functions, function_gives}
@@ -45,7 +46,9 @@ parent = user (codes "parent")
 -- attributes a to g, of which `a` is 1, `f` is the unknown u, and `child` is the unknown c
 abbrev pub some_attributes : List (Text × PartialValue)
 some_attributes =
-    (codes "a", value (plain_represented (long_literal (pos 1)))) ∷ (codes "child", residual (unknown (codes "c") None)) ∷ (codes "f", residual (unknown (codes "u") None)) ∷ (codes "g", residual (set_of (terms_of (unknown (codes "u") None ∷ [])))) ∷ []
+    (codes "a", value (plain_represented (long_literal (pos 1)))) ∷
+    (codes "child", residual (unknown (codes "c") None)) ∷ (codes "f", residual (unknown (codes "u") None)) ∷
+    (codes "g", residual (set_of (terms_of (unknown (codes "u") None ∷ [])))) ∷ []
 
 abbrev pub some_facts : StoredEntity
 some_facts = record {
@@ -55,12 +58,14 @@ some_facts = record {
 }
 
 abbrev pub some_store : Bool → Store
-some_store is_partial = record { entity = λ e. cond (entity_eq e some_entity) (Some some_facts) None; is_partial = is_partial }
+some_store is_partial =
+    record { entity = λ e. cond (entity_eq e some_entity) (Some some_facts) None; is_partial = is_partial }
 
 -- u and v are mapped to 1
 abbrev pub some_map : Text → Option Represented
 some_map n =
-    cond (text_eq n (codes "u")) (Some (plain_represented (long_literal (pos 1)))) (cond (text_eq n (codes "v")) (Some (plain_represented (long_literal (pos 1)))) None)
+    cond (text_eq n (codes "u")) (Some (plain_represented (long_literal (pos 1))))
+    (cond (text_eq n (codes "v")) (Some (plain_represented (long_literal (pos 1)))) None)
 
 -- one function, `even`, of one argument
 abbrev pub some_extensions : Extensions
@@ -76,7 +81,15 @@ some_functions f vs = function_gives (plain (bool_literal true))
 -- the request is known, with an empty context
 abbrev pub some_setting : Bool → Setting
 some_setting is_partial = record {
-  request = record { principal_entry = known_entry (user (codes "u")); action_entry = known_entry (user (codes "act")); resource_entry = known_entry (user (codes "r")); context_part = known_context no_represented_at };
+  request =
+      record {
+        principal_entry = known_entry (user (codes "u"));
+        action_entry =
+            known_entry (user (codes "act"));
+        resource_entry = known_entry (user (codes "r"));
+        context_part =
+            known_context no_represented_at;
+      };
   store = some_store is_partial;
   map = some_map;
   slots = no_slots;

@@ -1,10 +1,17 @@
 -- What an evaluation answers: a value or a residual expression, or an error with its fields.
 use Rattle.std.specs.Prelude.{ℕ, Bool, List, codes}
-use Rattle.cedar_model.specs.Terms.{Text, EntityName, bool_literal, Slot, ValueType, entity_type, UnaryOperator, BinaryOperator, Term}
+use Rattle.cedar_model.specs.Terms.{Text, EntityName, bool_literal, Slot, ValueType, entity_type, UnaryOperator}
+use Rattle.cedar_model.specs.Terms.{BinaryOperator, Term}
 use Rattle.cedar_model.specs.Values.{AbstractValue, Represented, plain_represented, expression_of}
-use Rattle.cedar_model.specs.Outcomes.{ErrorKind, entity_does_not_exist, entity_attribute_does_not_exist, record_attribute_does_not_exist, function_does_not_exist, type_error, wrong_number_of_arguments, integer_overflow, unlinked_slot, function_failed, value_type}
+use Rattle.cedar_model.specs.Outcomes.{ErrorKind, entity_does_not_exist, entity_attribute_does_not_exist}
+use Rattle.cedar_model.specs.Outcomes.{record_attribute_does_not_exist, function_does_not_exist, type_error}
+use Rattle.cedar_model.specs.Outcomes.{wrong_number_of_arguments, integer_overflow, unlinked_slot, function_failed}
+use Rattle.cedar_model.specs.Outcomes.{value_type}
 
--- an error with its fields. Of an attribute or tag that is missing: the entity, the name, whether it is an attribute, whether the entity has one of the other kind by that name, the first five names that are there, and how many there are. Want of memory inside the error of a look-up is an error of its own, of the kind of the look-up, and no rule answers it
+-- an error with its fields. Of an attribute or tag that is missing: the entity, the name, whether it is an attribute,
+-- whether the entity has one of the other kind by that name, the first five names that are there, and how many there
+-- are. Want of memory inside the error of a look-up is an error of its own, of the kind of the look-up, and no rule
+-- answers it
 pub data Failure : Type 0 where
   entity_is_missing : EntityName → Failure
   entity_attribute_is_missing : EntityName → Text → Bool → Bool → List Text → ℕ → Failure

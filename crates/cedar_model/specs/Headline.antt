@@ -35,7 +35,7 @@ CompletesSteps ans w s (step ∷ steps) =
 -- the premises, of a chain from the request and the store of `s` and the policies `ps` by the steps to the last
 -- response
 pub record CompletesChain (mode : ErrorHandling) (calls : StoredCalls) (ans : Functions) (w : World) (s : Setting)
-    (limit : ℕ)
+    (levels : ℕ)
     (ps : List Policy) (steps : List (Mapping × Store)) (last : Response) : Type 0 where
   -- the world agrees with the first request, each store and each map, and fits each condition, the context and each
   -- stored residual
@@ -46,8 +46,8 @@ pub record CompletesChain (mode : ErrorHandling) (calls : StoredCalls) (ans : Fu
   pub conditions_fit : FitPolicies ans w ps
   -- every call of the chain answered, from the same extensions
   pub first : Response
-  pub first_is_answered : Begins mode s calls limit ps first
-  pub steps_are_answered : ChainOf mode s calls limit first steps last
+  pub first_is_answered : Begins mode s calls levels ps first
+  pub steps_are_answered : ChainOf mode s calls levels first steps last
   -- stored functions are functional: each answers what `ans` says
   pub functions_are_functional : AgreesWithFunctions ans calls
   -- faithful values: those of the stores and the maps beside them, those of the context, and what functions answer to
@@ -68,6 +68,6 @@ pub record Headline (mode : ErrorHandling) (ans : Functions) (w : World) (s : Se
 
 abbrev pub ChainsStand : StoredCalls → Type 0
 ChainsStand calls =
-    (mode : ErrorHandling) (ans : Functions) (w : World) (s : Setting) (limit : ℕ) (ps : List Policy)
-    (steps : List (Mapping × Store)) (last : Response) → CompletesChain mode calls ans w s limit ps steps last
+    (mode : ErrorHandling) (ans : Functions) (w : World) (s : Setting) (levels : ℕ) (ps : List Policy)
+    (steps : List (Mapping × Store)) (last : Response) → CompletesChain mode calls ans w s levels ps steps last
     → Headline mode ans w s ps last

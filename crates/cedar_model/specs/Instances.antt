@@ -1,6 +1,6 @@
 -- Instances of the laws' premises: worlds that complete what is unknown, functions that answer, and what is no higher
 -- than a bound.
-use Rattle.std.specs.Prelude.{◌≡◌, ℕ, pos, Bool, true, false, cond, List, [], ◌∷◌, Option, Some, None, codes}
+use Rattle.std.specs.Prelude.{◌≡◌, ℕ, pos, Bool, true, false, cond, [], ◌∷◌, Option, Some, None, codes}
 use Rattle.cedar_model.specs.Terms.{Text, EntityName, bool_literal, long_literal, entity_literal, bool_type}
 use Rattle.cedar_model.specs.Terms.{long_type, context, Term, variable, unknown, if_then_else, both, call}
 use Rattle.cedar_model.specs.Terms.{get_attribute, set_of, record_of, no_terms, terms_of, Fields, fields_of}
@@ -10,11 +10,11 @@ use Rattle.cedar_model.specs.Values.{expression_of}
 use Rattle.cedar_model.specs.Outcomes.{function_failed, text_eq, entity_eq}
 use Rattle.cedar_model.specs.World.{Extensions, Functions, function_gives, function_errs, function_asks, World}
 use Rattle.cedar_model.specs.World.{WorldEntity}
-use Rattle.cedar_model.specs.Failures.{value, residual, Answer, answers_bool, answers_value, answers_residual, fails}
+use Rattle.cedar_model.specs.Failures.{residual, Answer, answers_bool, answers_value, answers_residual, fails}
 use Rattle.cedar_model.specs.Failures.{function_has_failed}
 use Rattle.cedar_model.specs.Settings.{RequestPart, known_entry, unknown_entry, ContextPart, known_context}
 use Rattle.cedar_model.specs.Settings.{residual_context}
-use Rattle.cedar_model.specs.Settings.{StoredEntity, Store, shallow, Setting}
+use Rattle.cedar_model.specs.Settings.{StoredEntity, shallow, Setting}
 use Rattle.cedar_model.specs.Rules.{StoredCalls, Runs, Exceeds}
 use Rattle.cedar_model.specs.Agreement.{height, no_slots, IsCompletion, AgreesWithFunctions, AnswerFaithfully}
 use Rattle.cedar_model.specs.LevelLaws.{FunctionsAnswer, FunctionsMeetNoLimit}
@@ -23,7 +23,7 @@ use Rattle.cedar_model.specs.Restricted.{IsGivenSound, first_disallowed, disallo
 use Rattle.cedar_model.specs.RestrictedLaws.{ResidualsHoldUnknowns}
 use Rattle.cedar_model.specs.Depth.{IsNoHigher, ContextFollows}
 use Rattle.cedar_model.specs.Printing.{read_entity}
-use Rattle.cedar_model.specs.Examples.{entity_of_type, user, long, bool, x, some_calls, some_extensions}
+use Rattle.cedar_model.specs.Examples.{entity_of_type, user, long, x, some_calls, some_extensions}
 
 -- ---- what is given, with unknowns: the principal, a value in the context, and a stored attribute that the map names
 

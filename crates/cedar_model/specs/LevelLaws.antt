@@ -1,8 +1,9 @@
--- The laws of the levels of the residual rules, which the functions of `levels` have as their contracts. They hold whatever the stored functions answer.
+-- The laws of the levels of the residual rules, which the functions of `levels` have as their contracts. They hold
+-- whatever the stored functions answer.
 use Rattle.std.specs.Prelude.{◌≡◌, ◌≢◌, ◌↔◌, ℕ, ◌<◌, ◌≤◌, ◌-◌, List, length, Option, Some}
 use Rattle.cedar_model.specs.Terms.{Text, Term}
 use Rattle.cedar_model.specs.Values.{Represented}
-use Rattle.cedar_model.specs.Failures.{Answer, limit}
+use Rattle.cedar_model.specs.Failures.{out_of_memory, Answer, fails, limit}
 use Rattle.cedar_model.specs.Settings.{deep, Setting}
 use Rattle.cedar_model.specs.Rules.{StoredCalls, Rule, Runs, Allows, Exceeds}
 use Rattle.cedar_model.specs.World.{Functions}
@@ -17,17 +18,20 @@ MoreLevelsKeepAnswers calls =
 -- at one level never both the limit and an answer
 abbrev pub LimitIsAlone : StoredCalls → Type 0
 LimitIsAlone calls =
-    (s : Setting) → AreFunctional calls → (n : ℕ) (t : Term) (a : Answer) → Exceeds s calls t n → Runs s calls n t a → a ≡ limit
+    (s : Setting) → AreFunctional calls → (n : ℕ) (t : Term) (a : Answer) → Exceeds s calls t n → Runs s calls n t a
+    → a ≡ limit
 
 -- all answers that are allowed are alike
 abbrev pub AllowedAnswersAreAlike : StoredCalls → Type 0
 AllowedAnswersAreAlike calls =
-    (s : Setting) → AreFunctional calls → (t : Term) (a b : Answer) → Allows s calls t a → Allows s calls t b → AreAlike a b
+    (s : Setting) → AreFunctional calls → (t : Term) (a b : Answer) → Allows s calls t a → Allows s calls t b
+    → AreAlike a b
 
 -- an answer takes more levels than those at which the limit is met
 abbrev pub AnswersTakeMoreLevels : StoredCalls → Type 0
 AnswersTakeMoreLevels calls =
-    (s : Setting) → AreFunctional calls → (n m : ℕ) (t : Term) (a : Answer) → Exceeds s calls t n → a ≢ limit → Runs s calls m t a → n < m
+    (s : Setting) → AreFunctional calls → (n m : ℕ) (t : Term) (a : Answer) → Exceeds s calls t n → a ≢ limit
+    → Runs s calls m t a → n < m
 
 -- what is allowed is what the rules give over what is allowed: no level and no limit is left in it
 abbrev pub AllowedIsByTheRules : StoredCalls → Type 0
@@ -47,6 +51,16 @@ FunctionsAnswer calls arity =
 -- no function answers the recursion limit
 abbrev pub FunctionsMeetNoLimit : StoredCalls → Type 0
 FunctionsMeetNoLimit calls = (f : Text) (vs : List Represented) → calls f vs limit → ⊥
+
+-- nor want of memory
+abbrev pub FunctionsFindMemory : StoredCalls → Type 0
+FunctionsFindMemory calls = (f : Text) (vs : List Represented) → calls f vs (fails out_of_memory) → ⊥
+
+-- then no expression does
+abbrev pub AnswersFindMemory : StoredCalls → Type 0
+AnswersFindMemory calls =
+    FunctionsFindMemory calls → (s : Setting) (n : ℕ) (t : Term) (a : Answer) → Runs s calls n t a
+    → a ≢ fails out_of_memory
 
 -- at each level there is an answer, where the functions that exist answer
 abbrev pub LevelsHaveAnswers : StoredCalls → Type 0

@@ -1,7 +1,6 @@
 pub mod Terms
 pub mod Values
 pub mod Keys
-pub mod Codes
 pub mod Sets
 pub mod ValueLaws
 pub mod KindLaws
@@ -20,7 +19,6 @@ pub mod Alike
 pub mod LevelLaws
 pub mod Restricted
 pub mod RestrictedLaws
-pub mod Layers
 pub mod MeaningLaws
 pub mod Reordering
 pub mod PolicyLaws
@@ -36,7 +34,6 @@ pub mod Needs
 pub mod Instances
 pub mod Resolutions
 pub mod ResolutionLaws
-pub mod Steps
 pub mod Authorizations
 pub mod AuthorizationLaws
 pub mod Reports
@@ -46,3 +43,4 @@ pub mod Progress
 pub mod ChainExamples
 pub mod Headline
 pub mod Tables
+pub mod lemmas

@@ -1,15 +1,30 @@
--- The meaning of an expression in a world: a value, or the kind of its first error in the order of evaluation. In Cedar's documentation: the pages on the syntax of policies, on data types and on operators.
-use Rattle.std.specs.Prelude.{ℕ, ◌==◌, ℤ, ◌+ℤ◌, ◌-ℤ◌, ◌*ℤ◌, neg_ℤ, Bool, true, false, cond, not, ◌&&◌, ◌||◌, List, [], ◌∷◌, length, Option, Some, None, Result, Ok, Err, is_some}
+-- The meaning of an expression in a world: a value, or the kind of its first error in the order of evaluation. In
+-- Cedar's documentation: the pages on the syntax of policies, on data types and on operators.
+use Rattle.std.specs.Prelude.{ℕ, ◌==◌, ℤ, ◌+ℤ◌, ◌-ℤ◌, ◌*ℤ◌, neg_ℤ, Bool, true, false, cond, not, ◌&&◌, ◌||◌, List, []}
+use Rattle.std.specs.Prelude.{◌∷◌, length, Option, Some, None, Result, Ok, Err, is_some}
 use Rattle.std.specs.Str.{chars}
 use Rattle.std.specs.declared.cmp.Ordering.{Ordering}
 use Rattle.std.specs.Ordering.{int_cmp, nat_cmp, is_lt, is_le}
 use Rattle.std.specs.Cmp.Lexicographic.{slice_cmp}
-use Rattle.cedar_model.specs.Terms.{Text, EntityName, bool_literal, long_literal, text_literal, entity_literal, UnaryOperator, not_operator, neg_operator, is_empty_operator, BinaryOperator, eq_operator, less_operator, less_eq_operator, add_operator, sub_operator, mul_operator, in_operator, contains_operator, contains_all_operator, contains_any_operator, get_tag_operator, has_tag_operator, Term, literal, variable, slot, unknown, if_then_else, both, either, unary, binary, call, get_attribute, has_attribute, extended_has, like, is_of_type, set_of, record_of, Terms, no_terms, one_term, Fields, no_fields, one_field}
-use Rattle.cedar_model.specs.Values.{AbstractValue, plain, set_value, record_value, extension_value, AbstractValues, no_values, one_value, AbstractFields, no_values_at, one_value_at}
+use Rattle.cedar_model.specs.Terms.{Text, EntityName, bool_literal, long_literal, text_literal, entity_literal}
+use Rattle.cedar_model.specs.Terms.{UnaryOperator, not_operator, neg_operator, is_empty_operator, BinaryOperator}
+use Rattle.cedar_model.specs.Terms.{eq_operator, less_operator, less_eq_operator, add_operator, sub_operator}
+use Rattle.cedar_model.specs.Terms.{mul_operator, in_operator, contains_operator, contains_all_operator}
+use Rattle.cedar_model.specs.Terms.{contains_any_operator, get_tag_operator, has_tag_operator, Term, literal, variable}
+use Rattle.cedar_model.specs.Terms.{slot, unknown, if_then_else, both, either, unary, binary, call, get_attribute}
+use Rattle.cedar_model.specs.Terms.{has_attribute, extended_has, like, is_of_type, set_of, record_of, Terms, no_terms}
+use Rattle.cedar_model.specs.Terms.{one_term, Fields, no_fields, one_field}
+use Rattle.cedar_model.specs.Values.{AbstractValue, plain, set_value, record_value, extension_value, AbstractValues}
+use Rattle.cedar_model.specs.Values.{no_values, one_value, AbstractFields, no_values_at, one_value_at}
 use Rattle.cedar_model.specs.Keys.{value_eq}
 use Rattle.cedar_model.specs.Sets.{abstract_set, has_value}
-use Rattle.cedar_model.specs.Outcomes.{ErrorKind, entity_does_not_exist, entity_attribute_does_not_exist, record_attribute_does_not_exist, function_does_not_exist, type_error, wrong_number_of_arguments, integer_overflow, unlinked_slot, Outcome, gives, errs, gives_bool, and_then, needing, bool_of, long_of, text_of, entity_of, elements_of, text_eq, entity_eq, has_text, value_at, is_long, matches}
-use Rattle.cedar_model.specs.World.{WorldEntity, World, variable_value, Slots, FunctionAnswer, function_gives, function_errs, function_asks, Extensions, Functions}
+use Rattle.cedar_model.specs.Outcomes.{ErrorKind, entity_does_not_exist, entity_attribute_does_not_exist}
+use Rattle.cedar_model.specs.Outcomes.{record_attribute_does_not_exist, function_does_not_exist, type_error}
+use Rattle.cedar_model.specs.Outcomes.{wrong_number_of_arguments, integer_overflow, unlinked_slot, Outcome, gives, errs}
+use Rattle.cedar_model.specs.Outcomes.{gives_bool, and_then, needing, bool_of, long_of, text_of, entity_of, elements_of}
+use Rattle.cedar_model.specs.Outcomes.{text_eq, entity_eq, has_text, value_at, is_long, matches}
+use Rattle.cedar_model.specs.World.{WorldEntity, World, variable_value, Slots, FunctionAnswer, function_gives}
+use Rattle.cedar_model.specs.World.{function_errs, function_asks, Extensions, Functions}
 
 -- ---- operators on values
 
@@ -155,7 +170,8 @@ and_then_bool o next = and_then o (λ v. needing (bool_of v) next)
 unfoldable pub has_path : World → AbstractValue → Text → List Text → Outcome
 has_path w v k [] = has_meaning w v k
 has_path w v k (l ∷ ls) =
-    and_then_bool (has_meaning w v k) (λ b. cond b (and_then (attribute_meaning w v k) (λ u. has_path w u l ls)) (gives_bool false))
+    and_then_bool (has_meaning w v k)
+    (λ b. cond b (and_then (attribute_meaning w v k) (λ u. has_path w u l ls)) (gives_bool false))
 
 -- ---- calls
 

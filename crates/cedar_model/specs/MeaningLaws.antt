@@ -8,34 +8,45 @@ use Rattle.cedar_model.specs.Meaning.{meaning}
 use Rattle.cedar_model.specs.Failures.{Answer}
 use Rattle.cedar_model.specs.Settings.{Setting}
 use Rattle.cedar_model.specs.Rules.{StoredCalls, Allows, Exceeds}
-use Rattle.cedar_model.specs.Agreement.{height, IsKnown, AgreesWithFunctions, AgreesWithRequest, AgreesWithStore, HasNothingUnknown, Answers, own_world, Fits, IsFaithful, IsCompletion, AnswerFaithfully, StandsFor}
+use Rattle.cedar_model.specs.Agreement.{height, IsKnown, AgreesWithRequest, AgreesWithStore, HasNothingUnknown}
+use Rattle.cedar_model.specs.Agreement.{IsAllKnownIn, Answers}
+use Rattle.cedar_model.specs.Agreement.{own_world, Fits, IsFaithful, CompletesWith, StandsFor}
 
 -- where nothing is unknown, what is allowed is the meaning: its value, or an error of its kind, and no residual
 abbrev pub AllowedIsMeant : StoredCalls → Type 0
 AllowedIsMeant calls =
-    (ans : Functions) → AgreesWithFunctions ans calls → (w : World) (s : Setting) → HasNothingUnknown s → AgreesWithRequest s.extensions ans w s.request → AgreesWithStore s.extensions ans w s.store → (t : Term) (a : Answer) → IsKnown ans t → Allows s calls t a → Answers a (meaning s.extensions ans w s.slots t)
+    (ans : Functions) (w : World) (s : Setting) → IsAllKnownIn calls ans w s → (t : Term) (a : Answer) → IsKnown ans t
+    → Allows s calls t a → Answers a (meaning s.extensions ans w s.slots t)
 
 -- and the need is at most the height
 abbrev pub NeedIsAtMostHeight : StoredCalls → Type 0
 NeedIsAtMostHeight calls =
-    (ans : Functions) → AgreesWithFunctions ans calls → (w : World) (s : Setting) → HasNothingUnknown s → AgreesWithRequest s.extensions ans w s.request → AgreesWithStore s.extensions ans w s.store → (n : ℕ) (t : Term) → IsKnown ans t → Exceeds s calls t n → n < height t
+    (ans : Functions) (w : World) (s : Setting) → IsAllKnownIn calls ans w s → (n : ℕ) (t : Term) → IsKnown ans t
+    → Exceeds s calls t n → n < height t
 
 -- the own world is such a world, whatever its unknowns are
 abbrev pub OwnWorldAgrees : Type 0
 OwnWorldAgrees =
-    (ans : Functions) (s : Setting) (sigma : Text → AbstractValue) → HasNothingUnknown s → AgreesWithRequest s.extensions ans (own_world s sigma) s.request × AgreesWithStore s.extensions ans (own_world s sigma) s.store
+    (ans : Functions) (s : Setting) (sigma : Text → AbstractValue) → HasNothingUnknown s
+    → AgreesWithRequest s.extensions ans (own_world s sigma) s.request
+    × AgreesWithStore s.extensions ans (own_world s sigma) s.store
 
--- residual soundness: in every world that agrees with what the evaluator is given, what is allowed stands for the meaning
+-- residual soundness: in every world that agrees with what the evaluator is given, what is allowed stands for the
+-- meaning
 abbrev pub ResidualsAreSound : StoredCalls → Type 0
 ResidualsAreSound calls =
-    (ans : Functions) → AgreesWithFunctions ans calls → (w : World) (s : Setting) → IsCompletion ans w s → AnswerFaithfully s.extensions ans calls → (t : Term) (a : Answer) → Fits ans w t → Allows s calls t a → StandsFor s.extensions ans w a (meaning s.extensions ans w s.slots t)
+    (ans : Functions) (w : World) (s : Setting) → CompletesWith calls ans w s → (t : Term) (a : Answer) → Fits ans w t
+    → Allows s calls t a → StandsFor s.extensions ans w a (meaning s.extensions ans w s.slots t)
 
 -- the expression of a faithful value means the value and fits, in every world
 abbrev pub WrittenValuesMean : Type 0
 WrittenValuesMean =
-    (X : Extensions) (ans : Functions) (v : Represented) → IsFaithful X ans v → (w : World) (slots : Slots) → (meaning X ans w slots (expression_of v) ≡ gives (abstract_value v)) × Fits ans w (expression_of v)
+    (X : Extensions) (ans : Functions) (v : Represented) → IsFaithful X ans v → (w : World) (slots : Slots)
+    → (meaning X ans w slots (expression_of v) ≡ gives (abstract_value v)) × Fits ans w (expression_of v)
 
 -- an extended `has` is the conjunction `e has k && e.k has l..`
 abbrev pub ExtendedHasIsConjunction : Type 0
 ExtendedHasIsConjunction =
-    (X : Extensions) (ans : Functions) (w : World) (slots : Slots) (e : Term) (k l : Text) (ls : List Text) → meaning X ans w slots (extended_has e k (l ∷ ls)) ≡ meaning X ans w slots (both (has_attribute e k) (extended_has (get_attribute e k) l ls))
+    (X : Extensions) (ans : Functions) (w : World) (slots : Slots) (e : Term) (k l : Text) (ls : List Text)
+    → meaning X ans w slots (extended_has e k (l ∷ ls))
+    ≡ meaning X ans w slots (both (has_attribute e k) (extended_has (get_attribute e k) l ls))

@@ -1,12 +1,19 @@
 -- Worked examples: what expressions mean in a world, with the setting of `Examples`.
 use Rattle.std.specs.Prelude.{◌≡◌, pos, negsuc, true, false, [], ◌∷◌, codes}
-use Rattle.cedar_model.specs.Terms.{long_literal, principal_slot, neg_operator, add_operator, in_operator, get_tag_operator, Term, slot, both, unary, binary, call, get_attribute, has_attribute, extended_has, is_of_type, set_of, record_of, literal, terms_of, fields_of}
+use Rattle.cedar_model.specs.Terms.{long_literal, principal_slot, neg_operator, add_operator, in_operator}
+use Rattle.cedar_model.specs.Terms.{get_tag_operator, Term, slot, both, unary, binary, call, get_attribute}
+use Rattle.cedar_model.specs.Terms.{has_attribute, extended_has, is_of_type, set_of, record_of, literal, terms_of}
+use Rattle.cedar_model.specs.Terms.{fields_of}
 use Rattle.cedar_model.specs.Values.{plain, set_value, no_values, one_value}
-use Rattle.cedar_model.specs.Outcomes.{entity_does_not_exist, entity_attribute_does_not_exist, record_attribute_does_not_exist, function_does_not_exist, type_error, wrong_number_of_arguments, integer_overflow, unlinked_slot, Outcome, gives, errs, gives_bool}
+use Rattle.cedar_model.specs.Outcomes.{entity_does_not_exist, entity_attribute_does_not_exist}
+use Rattle.cedar_model.specs.Outcomes.{record_attribute_does_not_exist, function_does_not_exist, type_error}
+use Rattle.cedar_model.specs.Outcomes.{wrong_number_of_arguments, integer_overflow, unlinked_slot, Outcome, gives, errs}
+use Rattle.cedar_model.specs.Outcomes.{gives_bool}
 use Rattle.cedar_model.specs.World.{World}
 use Rattle.cedar_model.specs.Meaning.{meaning}
 use Rattle.cedar_model.specs.Agreement.{no_slots, own_world}
-use Rattle.cedar_model.specs.Examples.{entity_of_type, long, text, entity, bool, x, some_entity, parent, some_setting, some_extensions, some_functions}
+use Rattle.cedar_model.specs.Examples.{entity_of_type, long, text, entity, bool, x, some_entity, parent, some_setting}
+use Rattle.cedar_model.specs.Examples.{some_extensions, some_functions}
 
 -- every unknown is 7
 abbrev pub some_world : World
@@ -21,31 +28,42 @@ MeansOverflowAbove = Means (binary add_operator (long 9223372036854775807) (long
 
 -- minus the least long
 abbrev pub MeansOverflowBelow : Type 0
-MeansOverflowBelow = Means (unary neg_operator (literal (long_literal (negsuc 9223372036854775807)))) (errs integer_overflow)
+MeansOverflowBelow =
+    Means (unary neg_operator (literal (long_literal (negsuc 9223372036854775807)))) (errs integer_overflow)
 
 -- the least long is one
 abbrev pub MeansLeastLong : Type 0
-MeansLeastLong = Means (literal (long_literal (negsuc 9223372036854775807))) (gives (plain (long_literal (negsuc 9223372036854775807))))
+MeansLeastLong =
+    Means (literal (long_literal (negsuc 9223372036854775807)))
+    (gives (plain (long_literal (negsuc 9223372036854775807))))
 
 -- the first error of a record is by its keys
 abbrev pub MeansFirstErrorByKey : Type 0
-MeansFirstErrorByKey = Means (record_of (fields_of ((codes "a", binary add_operator (long 9223372036854775807) (long 1)) ∷ (codes "b", binary add_operator (long 1) (text (codes "a"))) ∷ []))) (errs integer_overflow)
+MeansFirstErrorByKey =
+    Means (record_of (fields_of ((codes "a", binary add_operator (long 9223372036854775807) (long 1)) ∷
+    (codes "b", binary add_operator (long 1) (text (codes "a"))) ∷ []))) (errs integer_overflow)
 
 -- the left side errs first
 abbrev pub MeansLeftErrorFirst : Type 0
-MeansLeftErrorFirst = Means (binary add_operator (binary add_operator (long 1) (text (codes "a"))) (binary add_operator (long 9223372036854775807) (long 1))) (errs type_error)
+MeansLeftErrorFirst =
+    Means (binary add_operator (binary add_operator (long 1) (text (codes "a")))
+    (binary add_operator (long 9223372036854775807) (long 1))) (errs type_error)
 
 -- operands before their types
 abbrev pub MeansOperandsBeforeTypes : Type 0
-MeansOperandsBeforeTypes = Means (binary add_operator (text (codes "a")) (binary add_operator (long 9223372036854775807) (long 1))) (errs integer_overflow)
+MeansOperandsBeforeTypes =
+    Means (binary add_operator (text (codes "a")) (binary add_operator (long 9223372036854775807) (long 1)))
+    (errs integer_overflow)
 
 -- an entity that isn't there has nothing
 abbrev pub MeansMissingHas : Type 0
-MeansMissingHas = Means (has_attribute (entity (entity_of_type (codes "E") (codes "none"))) (codes "f")) (gives_bool false)
+MeansMissingHas =
+    Means (has_attribute (entity (entity_of_type (codes "E") (codes "none"))) (codes "f")) (gives_bool false)
 
 -- and no attribute
 abbrev pub MeansMissingAttributeOf : Type 0
-MeansMissingAttributeOf = Means (get_attribute (entity (entity_of_type (codes "E") (codes "none"))) (codes "f")) (errs entity_does_not_exist)
+MeansMissingAttributeOf =
+    Means (get_attribute (entity (entity_of_type (codes "E") (codes "none"))) (codes "f")) (errs entity_does_not_exist)
 
 -- an attribute of an entity
 abbrev pub MeansAttribute : Type 0
@@ -57,11 +75,14 @@ MeansAttributeMissing = Means (get_attribute (entity some_entity) (codes "z")) (
 
 -- a key that a record lacks
 abbrev pub MeansKeyMissing : Type 0
-MeansKeyMissing = Means (get_attribute (record_of (fields_of ((codes "a", long 1) ∷ []))) (codes "z")) (errs record_attribute_does_not_exist)
+MeansKeyMissing =
+    Means (get_attribute (record_of (fields_of ((codes "a", long 1) ∷ []))) (codes "z"))
+    (errs record_attribute_does_not_exist)
 
 -- a tag that an entity lacks
 abbrev pub MeansTagMissing : Type 0
-MeansTagMissing = Means (binary get_tag_operator (entity some_entity) (text (codes "z"))) (errs entity_attribute_does_not_exist)
+MeansTagMissing =
+    Means (binary get_tag_operator (entity some_entity) (text (codes "z"))) (errs entity_attribute_does_not_exist)
 
 -- an entity is in its ancestors
 abbrev pub MeansInAncestor : Type 0
@@ -69,19 +90,27 @@ MeansInAncestor = Means (binary in_operator (entity some_entity) (entity parent)
 
 -- and in itself, also where it isn't there
 abbrev pub MeansInItself : Type 0
-MeansInItself = Means (binary in_operator (entity (entity_of_type (codes "E") (codes "none"))) (entity (entity_of_type (codes "E") (codes "none")))) (gives_bool true)
+MeansInItself =
+    Means (binary in_operator (entity (entity_of_type (codes "E") (codes "none")))
+    (entity (entity_of_type (codes "E") (codes "none")))) (gives_bool true)
 
 -- a set of entities alone
 abbrev pub MeansInMixedSet : Type 0
-MeansInMixedSet = Means (binary in_operator (entity (entity_of_type (codes "E") (codes "none"))) (set_of (terms_of (entity (entity_of_type (codes "E") (codes "none")) ∷ long 1 ∷ [])))) (errs type_error)
+MeansInMixedSet =
+    Means (binary in_operator (entity (entity_of_type (codes "E") (codes "none")))
+    (set_of (terms_of (entity (entity_of_type (codes "E") (codes "none")) ∷ long 1 ∷ [])))) (errs type_error)
 
 -- an extended `has` stops at an attribute that isn't there
 abbrev pub MeansPathStops : Type 0
-MeansPathStops = Means (extended_has (record_of (fields_of ((codes "a", long 1) ∷ []))) (codes "b") (codes "c" ∷ [])) (gives_bool false)
+MeansPathStops =
+    Means (extended_has (record_of (fields_of ((codes "a", long 1) ∷ []))) (codes "b") (codes "c" ∷ []))
+    (gives_bool false)
 
 -- and errs at a value without attributes
 abbrev pub MeansPathOfLong : Type 0
-MeansPathOfLong = Means (extended_has (record_of (fields_of ((codes "a", long 1) ∷ []))) (codes "a") (codes "b" ∷ [])) (errs type_error)
+MeansPathOfLong =
+    Means (extended_has (record_of (fields_of ((codes "a", long 1) ∷ []))) (codes "a") (codes "b" ∷ []))
+    (errs type_error)
 
 -- a slot that isn't reached
 abbrev pub MeansSlotNotReached : Type 0
@@ -97,11 +126,14 @@ MeansUnknown = Means (binary add_operator x (long 1)) (gives (plain (long_litera
 
 -- a set has each element once
 abbrev pub MeansSetOnce : Type 0
-MeansSetOnce = Means (set_of (terms_of (long 2 ∷ long 1 ∷ long 2 ∷ []))) (gives (set_value (one_value (plain (long_literal (pos 1))) (one_value (plain (long_literal (pos 2))) no_values))))
+MeansSetOnce =
+    Means (set_of (terms_of (long 2 ∷ long 1 ∷ long 2 ∷ [])))
+    (gives (set_value (one_value (plain (long_literal (pos 1))) (one_value (plain (long_literal (pos 2))) no_values))))
 
 -- an argument errs before its function is looked up
 abbrev pub MeansArgumentErrsFirst : Type 0
-MeansArgumentErrsFirst = Means (call (codes "nosuch") (terms_of (binary add_operator (long 1) (text (codes "a")) ∷ []))) (errs type_error)
+MeansArgumentErrsFirst =
+    Means (call (codes "nosuch") (terms_of (binary add_operator (long 1) (text (codes "a")) ∷ []))) (errs type_error)
 
 -- a function that isn't there
 abbrev pub MeansNoSuchFunction : Type 0

@@ -17,7 +17,8 @@ a_projection = get_attribute (record_of (fields_of ((codes "a", x) ∷ []))) (co
 -- at three levels an answer, at two the limit
 abbrev pub NotsNeedThree : Type 0
 NotsNeedThree =
-    Runs (some_setting true) some_calls 3 two_nots (answers_bool true) × Exceeds (some_setting true) some_calls two_nots 2
+    Runs (some_setting true) some_calls 3 two_nots (answers_bool true)
+    × Exceeds (some_setting true) some_calls two_nots 2
 
 -- best effort hands the limit up
 abbrev pub BestEffortHandsUp : Type 0
@@ -26,12 +27,18 @@ BestEffortHandsUp = Exceeds (some_setting true) some_calls (both x two_nots) 3
 -- a projected part is one level deeper
 abbrev pub ProjectionNeedsThree : Type 0
 ProjectionNeedsThree =
-    Runs (some_setting true) some_calls 3 a_projection (answers_residual x) × Exceeds (some_setting true) some_calls a_projection 2
+    Runs (some_setting true) some_calls 3 a_projection (answers_residual x)
+    × Exceeds (some_setting true) some_calls a_projection 2
 
 -- a satisfied permit beside erring policies
 abbrev pub three_judged : List Judged
 three_judged =
-    record { id = codes "1"; effect = permit; verdict_of = satisfied } ∷ record { id = codes "2"; effect = permit; verdict_of = erring } ∷ record { id = codes "3"; effect = forbid; verdict_of = erring } ∷ []
+    record { id = codes "1"; effect = permit; verdict_of = satisfied } ∷ record {
+      id = codes "2";
+      effect =
+          permit;
+      verdict_of = erring;
+    } ∷ record { id = codes "3"; effect = forbid; verdict_of = erring } ∷ []
 
 abbrev pub ErringAreSkipped : Type 0
 ErringAreSkipped = (decision three_judged ≡ allow) × (reasons three_judged ≡ codes "1" ∷ [])

@@ -1,17 +1,33 @@
 -- What each operator answers to values, with the fields of its errors.
-use Rattle.std.specs.Prelude.{ℤ, ◌+ℤ◌, ◌-ℤ◌, ◌*ℤ◌, neg_ℤ, Bool, true, false, cond, not, ◌||◌, List, [], ◌∷◌, map, length, take, Option, Some, None, is_some}
+use Rattle.std.specs.Prelude.{ℤ, ◌+ℤ◌, ◌-ℤ◌, ◌*ℤ◌, neg_ℤ, Bool, true, false, cond, not, ◌||◌, List, [], ◌∷◌, map}
+use Rattle.std.specs.Prelude.{length, take, Option, Some, None, is_some}
 use Rattle.std.specs.Str.{chars}
 use Rattle.std.specs.declared.cmp.Ordering.{Ordering}
 use Rattle.std.specs.Ordering.{is_lt, is_le}
-use Rattle.cedar_model.specs.Terms.{Text, EntityName, bool_literal, long_literal, text_literal, entity_literal, ValueType, bool_type, long_type, string_type, set_type, record_type, extension_type, UnaryOperator, not_operator, neg_operator, is_empty_operator, BinaryOperator, eq_operator, less_operator, less_eq_operator, add_operator, sub_operator, mul_operator, in_operator, contains_operator, contains_all_operator, contains_any_operator, get_tag_operator, has_tag_operator, PatternPart, Slot, Term, literal, unknown, binary, get_attribute, has_attribute, extended_has, Fields, no_fields, one_field}
-use Rattle.cedar_model.specs.Values.{AbstractValue, plain, set_value, record_value, extension_value, AbstractValues, no_values, one_value, Represented, plain_represented, set_represented, record_represented, extension_represented, RepresentedFields, no_represented_at, one_represented_at, abstract_value, expression_of}
+use Rattle.cedar_model.specs.Terms.{Text, EntityName, bool_literal, long_literal, text_literal, entity_literal}
+use Rattle.cedar_model.specs.Terms.{ValueType, bool_type, long_type, string_type, set_type, record_type, extension_type}
+use Rattle.cedar_model.specs.Terms.{UnaryOperator, not_operator, neg_operator, is_empty_operator, BinaryOperator}
+use Rattle.cedar_model.specs.Terms.{eq_operator, less_operator, less_eq_operator, add_operator, sub_operator}
+use Rattle.cedar_model.specs.Terms.{mul_operator, in_operator, contains_operator, contains_all_operator}
+use Rattle.cedar_model.specs.Terms.{contains_any_operator, get_tag_operator, has_tag_operator, PatternPart, Slot, Term}
+use Rattle.cedar_model.specs.Terms.{literal, unknown, binary, get_attribute, has_attribute, extended_has, Fields}
+use Rattle.cedar_model.specs.Terms.{no_fields, one_field}
+use Rattle.cedar_model.specs.Values.{AbstractValue, plain, set_value, record_value, extension_value, AbstractValues}
+use Rattle.cedar_model.specs.Values.{no_values, one_value, Represented, plain_represented, set_represented}
+use Rattle.cedar_model.specs.Values.{record_represented, extension_represented, RepresentedFields, no_represented_at}
+use Rattle.cedar_model.specs.Values.{one_represented_at, abstract_value, expression_of}
 use Rattle.cedar_model.specs.Keys.{value_eq}
 use Rattle.cedar_model.specs.Sets.{has_value}
-use Rattle.cedar_model.specs.Outcomes.{bool_of, long_of, text_of, entity_of, elements_of, value_type, text_eq, has_text, type_eq, is_long, matches}
+use Rattle.cedar_model.specs.Outcomes.{bool_of, long_of, text_of, entity_of, elements_of, value_type, text_eq, has_text}
+use Rattle.cedar_model.specs.Outcomes.{type_eq, is_long, matches}
 use Rattle.cedar_model.specs.World.{Extensions}
 use Rattle.cedar_model.specs.Meaning.{is_empty, comparison, has_each, has_some, entities_of, some_entity}
-use Rattle.cedar_model.specs.Failures.{Failure, entity_is_missing, entity_attribute_is_missing, record_attribute_is_missing, binary_overflow, unary_overflow, slot_is_unlinked, PartialValue, value, residual, Answer, answers, fails, answers_value, answers_residual, answers_bool, any_entity, wrong_type}
-use Rattle.cedar_model.specs.Settings.{StoredEntity, Store, Setting, missing_entity, part_at, is_among, names_of, Found, found, not_there, not_known, look_up}
+use Rattle.cedar_model.specs.Failures.{Failure, entity_is_missing, entity_attribute_is_missing}
+use Rattle.cedar_model.specs.Failures.{record_attribute_is_missing, binary_overflow, unary_overflow, slot_is_unlinked}
+use Rattle.cedar_model.specs.Failures.{PartialValue, value, residual, Answer, answers, fails, answers_value}
+use Rattle.cedar_model.specs.Failures.{answers_residual, answers_bool, any_entity, wrong_type}
+use Rattle.cedar_model.specs.Settings.{StoredEntity, Store, Setting, missing_entity, part_at, is_among, names_of, Found}
+use Rattle.cedar_model.specs.Settings.{found, not_there, not_known, look_up}
 use Rattle.cedar_model.specs.Outcomes.{entity_eq}
 
 -- goes on with what is expected, or fails
@@ -51,17 +67,21 @@ unfoldable pub unary_answer : UnaryOperator → Represented → Answer
 unary_answer not_operator v =
     expecting (bool_of (abstract_value v)) (wrong_type bool_type [] (abstract_value v)) (λ b. answers_bool (not b))
 unary_answer neg_operator v =
-    expecting (long_of (abstract_value v)) (wrong_type long_type [] (abstract_value v)) (λ n. long_answer (neg_ℤ n) (unary_overflow neg_operator v))
+    expecting (long_of (abstract_value v)) (wrong_type long_type [] (abstract_value v))
+    (λ n. long_answer (neg_ℤ n) (unary_overflow neg_operator v))
 unary_answer is_empty_operator v =
-    expecting (elements_of (abstract_value v)) (wrong_type set_type [] (abstract_value v)) (λ vs. answers_bool (is_empty vs))
+    expecting (elements_of (abstract_value v)) (wrong_type set_type [] (abstract_value v))
+    (λ vs. answers_bool (is_empty vs))
 
 abbrev pub like_answer : List PatternPart → Represented → Answer
 like_answer p v =
-    expecting (text_of (abstract_value v)) (wrong_type string_type [] (abstract_value v)) (λ t. answers_bool (matches p (chars t)))
+    expecting (text_of (abstract_value v)) (wrong_type string_type [] (abstract_value v))
+    (λ t. answers_bool (matches p (chars t)))
 
 abbrev pub is_answer : Text → Represented → Answer
 is_answer t v =
-    expecting (entity_of (abstract_value v)) (wrong_type any_entity [] (abstract_value v)) (λ e. answers_bool (text_eq e.type_name t))
+    expecting (entity_of (abstract_value v)) (wrong_type any_entity [] (abstract_value v))
+    (λ e. answers_bool (text_eq e.type_name t))
 
 -- ---- comparisons and arithmetic
 
@@ -72,8 +92,10 @@ overloaded_type X (plain l) = None
 overloaded_type X (set_value vs) = None
 overloaded_type X (record_value fs) = None
 
--- one side a long expects a long; else one side an overloaded extension value expects its type; else all that can be compared is expected on the left
-unfoldable pub order_failure : Extensions → Option ℤ → Option ℤ → Option Text → Option Text → AbstractValue → AbstractValue → Failure
+-- one side a long expects a long; else one side an overloaded extension value expects its type; else all that can be
+-- compared is expected on the left
+unfoldable pub order_failure : Extensions → Option ℤ → Option ℤ → Option Text → Option Text → AbstractValue
+    → AbstractValue → Failure
 order_failure X (Some m) n s t v w = wrong_type long_type [] w
 order_failure X None (Some n) s t v w = wrong_type long_type [] v
 order_failure X None None (Some s) t v w = wrong_type (extension_type s) [] w
@@ -90,7 +112,9 @@ comparison_answer X test v w =
 
 abbrev pub arithmetic_answer : BinaryOperator → (ℤ → ℤ → ℤ) → Represented → Represented → Answer
 arithmetic_answer op f v w =
-    expecting (long_of (abstract_value v)) (wrong_type long_type [] (abstract_value v)) (λ m. expecting (long_of (abstract_value w)) (wrong_type long_type [] (abstract_value w)) (λ n. long_answer (f m n) (binary_overflow op v w)))
+    expecting (long_of (abstract_value v)) (wrong_type long_type [] (abstract_value v))
+    (λ m. expecting (long_of (abstract_value w)) (wrong_type long_type [] (abstract_value w))
+    (λ n. long_answer (f m n) (binary_overflow op v w)))
 
 -- ---- sets
 
@@ -117,9 +141,11 @@ entities_failure None v = wrong_type set_type (any_entity ∷ []) v
 unfoldable pub in_found : Found → EntityName → Represented → Answer
 in_found not_known d w = answers_residual (binary in_operator (missing_entity d) (expression_of w))
 in_found not_there d w =
-    expecting (entities_of (abstract_value w)) (entities_failure (elements_of (abstract_value w)) (abstract_value w)) (λ es. answers_bool (some_entity (entity_eq d) es))
+    expecting (entities_of (abstract_value w)) (entities_failure (elements_of (abstract_value w)) (abstract_value w))
+    (λ es. answers_bool (some_entity (entity_eq d) es))
 in_found (found x) d w =
-    expecting (entities_of (abstract_value w)) (entities_failure (elements_of (abstract_value w)) (abstract_value w)) (λ es. answers_bool (some_entity (λ e. entity_eq d e || is_among e x.ancestors) es))
+    expecting (entities_of (abstract_value w)) (entities_failure (elements_of (abstract_value w)) (abstract_value w))
+    (λ es. answers_bool (some_entity (λ e. entity_eq d e || is_among e x.ancestors) es))
 
 abbrev pub entity_expected : AbstractValue → Failure
 entity_expected v = wrong_type any_entity [] v
@@ -134,11 +160,13 @@ in_answer store v w =
 -- a tag or an attribute that an entity lacks
 abbrev pub tag_is_missing : StoredEntity → EntityName → Text → Failure
 tag_is_missing x e t =
-    entity_attribute_is_missing e t false (is_some (part_at t x.attributes)) (shown_names (names_of x.tags)) (length x.tags)
+    entity_attribute_is_missing e t false (is_some (part_at t x.attributes)) (shown_names (names_of x.tags))
+    (length x.tags)
 
 abbrev pub attribute_is_missing : StoredEntity → EntityName → Text → Failure
 attribute_is_missing x e k =
-    entity_attribute_is_missing e k true (is_some (part_at k x.tags)) (shown_names (names_of x.attributes)) (length x.attributes)
+    entity_attribute_is_missing e k true (is_some (part_at k x.tags)) (shown_names (names_of x.attributes))
+    (length x.attributes)
 
 -- a stored tag is answered as it is stored
 unfoldable pub stored_tag : Option PartialValue → Failure → Answer
@@ -173,11 +201,16 @@ binary_answer s sub_operator v w = arithmetic_answer sub_operator ◌-ℤ◌ v w
 binary_answer s mul_operator v w = arithmetic_answer mul_operator ◌*ℤ◌ v w
 binary_answer s in_operator v w = in_answer s.store v w
 binary_answer s contains_operator v w =
-    expecting (elements_of (abstract_value v)) (set_expected (abstract_value v)) (λ us. answers_bool (has_value (abstract_value w) us))
+    expecting (elements_of (abstract_value v)) (set_expected (abstract_value v))
+    (λ us. answers_bool (has_value (abstract_value w) us))
 binary_answer s contains_all_operator v w =
-    expecting (elements_of (abstract_value v)) (set_expected (abstract_value v)) (λ us. expecting (elements_of (abstract_value w)) (set_expected (abstract_value w)) (λ vs. answers_bool (has_each vs us)))
+    expecting (elements_of (abstract_value v)) (set_expected (abstract_value v))
+    (λ us. expecting (elements_of (abstract_value w)) (set_expected (abstract_value w))
+    (λ vs. answers_bool (has_each vs us)))
 binary_answer s contains_any_operator v w =
-    expecting (elements_of (abstract_value v)) (set_expected (abstract_value v)) (λ us. expecting (elements_of (abstract_value w)) (set_expected (abstract_value w)) (λ vs. answers_bool (has_some vs us)))
+    expecting (elements_of (abstract_value v)) (set_expected (abstract_value v))
+    (λ us. expecting (elements_of (abstract_value w)) (set_expected (abstract_value w))
+    (λ vs. answers_bool (has_some vs us)))
 binary_answer s get_tag_operator v w =
     on_entity_and_text (λ e. tag_found (look_up s.store e) e) (abstract_value v) (abstract_value w)
 binary_answer s has_tag_operator v w =
@@ -240,7 +273,8 @@ attribute_found map not_there e k = fails (entity_is_missing e)
 attribute_found map (found x) e k = stored_attribute map (part_at k x.attributes) (attribute_is_missing x e k)
 
 unfoldable pub attribute_in : Setting → Container → Failure → Text → Answer
-attribute_in s (a_record fs) failure k = value_or_failure (represented_at k fs) (key_is_missing k (represented_names fs))
+attribute_in s (a_record fs) failure k =
+    value_or_failure (represented_at k fs) (key_is_missing k (represented_names fs))
 attribute_in s (an_entity e) failure k = attribute_found s.map (look_up s.store e) e k
 attribute_in s no_container failure k = fails failure
 

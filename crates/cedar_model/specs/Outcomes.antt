@@ -1,7 +1,12 @@
--- What an expression can mean, and how values are read: their kinds, types, fields, longs, and the patterns of `like`. In Cedar's documentation: the pages on data types and on the operator `like`.
-use Rattle.std.specs.Prelude.{ℕ, ℤ, pos, negsuc, Bool, true, false, cond, ◌&&◌, ◌||◌, ◌==◌, leb, List, [], ◌∷◌, Option, Some, None, bytes_eq}
-use Rattle.cedar_model.specs.Terms.{Text, EntityName, bool_literal, long_literal, text_literal, entity_literal, ValueType, bool_type, long_type, string_type, set_type, record_type, entity_type, extension_type, PatternPart, character, wildcard}
-use Rattle.cedar_model.specs.Values.{AbstractValue, plain, set_value, record_value, extension_value, AbstractValues, AbstractFields, no_values_at, one_value_at}
+-- What an expression can mean, and how values are read: their kinds, types, fields, longs, and the patterns of `like`.
+-- In Cedar's documentation: the pages on data types and on the operator `like`.
+use Rattle.std.specs.Prelude.{ℕ, ℤ, pos, negsuc, Bool, true, false, cond, ◌&&◌, ◌||◌, ◌==◌, leb, List, [], ◌∷◌, Option}
+use Rattle.std.specs.Prelude.{Some, None, bytes_eq}
+use Rattle.cedar_model.specs.Terms.{Text, EntityName, bool_literal, long_literal, text_literal, entity_literal}
+use Rattle.cedar_model.specs.Terms.{ValueType, bool_type, long_type, string_type, set_type, record_type, entity_type}
+use Rattle.cedar_model.specs.Terms.{extension_type, PatternPart, character, wildcard}
+use Rattle.cedar_model.specs.Values.{AbstractValue, plain, set_value, record_value, extension_value, AbstractValues}
+use Rattle.cedar_model.specs.Values.{AbstractFields, no_values_at, one_value_at}
 
 -- why an evaluation errs
 pub data ErrorKind : Type 0 where

@@ -89,9 +89,9 @@ module _ (ans : Functions) (m : Mapping) where
 abbrev pub StepsFinish : StoredCalls → Type 0
 StepsFinish calls =
     (ans : Functions) → AgreesWithFunctions ans calls
-    → (mode : ErrorHandling) (s : Setting) (limit : ℕ) (m : Mapping) (store : Store) (old new : Response)
+    → (mode : ErrorHandling) (s : Setting) (levels : ℕ) (m : Mapping) (store : Store) (old new : Response)
     → store.is_partial ≡ false → EachStored (LeavesNoResidual ans m s.resolution) store → NamesAll ans m old
-    → StepsTo mode s calls limit m store old new
+    → StepsTo mode s calls levels m store old new
     → HaveNoResidual new.rows
     × ((w : World) (ps : List Policy) → Stand mode s.extensions ans w ps new.rows
     → (concrete_decision mode new.rows ≡ decision (counted_each mode s.extensions ans w ps))

@@ -55,9 +55,9 @@ ConcreteDecidesRows = (rows : List Row) → concrete_decision skip rows ≡ deci
 -- and a run that leaves no residual is concrete as the response to its policies
 abbrev pub RunsWithoutResidualsAreResponses : StoredCalls → Type 0
 RunsWithoutResidualsAreResponses calls =
-    (s : Setting) (limit : ℕ) (ps : List Policy) (rows : List Row) (errors : List (Text × Failure))
-    → RunOf skip s calls limit ps rows errors → HaveNoResidual rows
-    → IsResponse (PolicyRuns s calls limit) ps (concretized skip rows errors)
+    (s : Setting) (levels : ℕ) (ps : List Policy) (rows : List Row) (errors : List (Text × Failure))
+    → RunOf skip s calls levels ps rows errors → HaveNoResidual rows
+    → IsResponse (PolicyRuns s calls levels) ps (concretized skip rows errors)
 
 -- the policies that are carried on are the rows, each once
 abbrev pub EachIsCarriedOnce : Type 0

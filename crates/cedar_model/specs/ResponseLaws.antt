@@ -5,7 +5,7 @@ use Rattle.cedar_model.specs.World.{World, Functions}
 use Rattle.cedar_model.specs.Failures.{Failure}
 use Rattle.cedar_model.specs.Settings.{Setting, Store}
 use Rattle.cedar_model.specs.Rules.{StoredCalls}
-use Rattle.cedar_model.specs.Agreement.{AgreesWithFunctions, IsCompletion, AnswerFaithfully}
+use Rattle.cedar_model.specs.Agreement.{IsCompletion, CompletesWith}
 use Rattle.cedar_model.specs.Policies.{Policy, ErrorHandling}
 use Rattle.cedar_model.specs.Responses.{Row, Stand, RunOf, FitPolicies, AreConditions}
 use Rattle.cedar_model.specs.Chains.{Mapping, Response, at_step, StepsTo}
@@ -14,26 +14,25 @@ use Rattle.cedar_model.specs.Authorizations.{HaveNoLimit}
 -- in every completion that fits the conditions a run stands, if none of its errors is the recursion limit
 abbrev pub RunsStand : StoredCalls → Type 0
 RunsStand calls =
-    (mode : ErrorHandling) (ans : Functions) → AgreesWithFunctions ans calls → (w : World) (s : Setting)
-    → IsCompletion ans w s → AnswerFaithfully s.extensions ans calls
-    → (limit : ℕ) (ps : List Policy) (rows : List Row) (errors : List (Text × Failure)) → FitPolicies ans w ps
-    → HaveNoLimit errors → RunOf mode s calls limit ps rows errors → Stand mode s.extensions ans w ps rows
+    (mode : ErrorHandling) (ans : Functions) (w : World) (s : Setting) → CompletesWith calls ans w s
+    → (levels : ℕ) (ps : List Policy) (rows : List Row) (errors : List (Text × Failure)) → FitPolicies ans w ps
+    → HaveNoLimit errors → RunOf mode s calls levels ps rows errors → Stand mode s.extensions ans w ps rows
 
 -- a step keeps completions: a world that completes the request before it, with the map and the store, completes the
 -- request after it
 abbrev pub StepsKeepCompletions : StoredCalls → Type 0
 StepsKeepCompletions calls =
-    (mode : ErrorHandling) (ans : Functions) → AgreesWithFunctions ans calls
-    → (w : World) (s : Setting) (limit : ℕ) (m : Mapping) (store : Store) (old new : Response)
-    → IsCompletion ans w (at_step s old.request store m) → AnswerFaithfully s.extensions ans calls
-    → StepsTo mode s calls limit m store old new → IsCompletion ans w (at_step s new.request store m)
+    (mode : ErrorHandling) (ans : Functions) (w : World) (s : Setting) (levels : ℕ) (m : Mapping) (store : Store)
+    (old new : Response)
+    → CompletesWith calls ans w (at_step s old.request store m)
+    → StepsTo mode s calls levels m store old new → IsCompletion ans w (at_step s new.request store m)
 
 -- a step keeps what stands, in every world that agrees with the request before it, the map and the store, if none of
 -- its errors is the recursion limit
 abbrev pub StepsKeepWhatStands : StoredCalls → Type 0
 StepsKeepWhatStands calls =
-    (mode : ErrorHandling) (ans : Functions) → AgreesWithFunctions ans calls
-    → (w : World) (s : Setting) (limit : ℕ) (m : Mapping) (store : Store) (old new : Response)
-    → IsCompletion ans w (at_step s old.request store m) → AnswerFaithfully s.extensions ans calls
+    (mode : ErrorHandling) (ans : Functions) (w : World) (s : Setting) (levels : ℕ) (m : Mapping) (store : Store)
+    (old new : Response)
+    → CompletesWith calls ans w (at_step s old.request store m)
     → (ps : List Policy) → AreConditions ps → Stand mode s.extensions ans w ps old.rows → HaveNoLimit new.errors
-    → StepsTo mode s calls limit m store old new → Stand mode s.extensions ans w ps new.rows
+    → StepsTo mode s calls levels m store old new → Stand mode s.extensions ans w ps new.rows

@@ -1,12 +1,13 @@
 -- Responses: what is reported of each policy, when that stands in a world, and which responses follow from a request,
 -- policies and a limit.
-use Rattle.std.specs.Prelude.{◌≡◌, ◌≢◌, ℕ, Bool, true, false, List, [], ◌∷◌, Option, Some, None}
+use Rattle.std.specs.Prelude.{◌≡◌, ◌≢◌, ℕ, Bool, true, false, List, [], ◌∷◌, Option, Some, None, Result, Ok, Err}
 use Rattle.cedar_model.specs.Terms.{Text, bool_literal, bool_type, Term, literal, both}
 use Rattle.cedar_model.specs.Values.{Represented, abstract_value}
 use Rattle.cedar_model.specs.Outcomes.{bool_of}
 use Rattle.cedar_model.specs.World.{World, Slots, Extensions, Functions}
 use Rattle.cedar_model.specs.Meaning.{meaning}
-use Rattle.cedar_model.specs.Failures.{Failure, out_of_memory, value, residual, Answer, answers, fails, wrong_type}
+use Rattle.cedar_model.specs.Failures.{Failure, out_of_memory, residual_is_left, value, residual, Answer, answers}
+use Rattle.cedar_model.specs.Failures.{fails, wrong_type}
 use Rattle.cedar_model.specs.Settings.{Setting}
 use Rattle.cedar_model.specs.Rules.{StoredCalls, Runs}
 use Rattle.cedar_model.specs.Agreement.{Fits, HaveSameOutcome, no_slots}
@@ -54,16 +55,40 @@ Stand mode X ans w ps rows = (ordered : List Row) × IsReordering Row ordered ro
 
 -- ---- what a response follows from
 
-unfoldable pub reported_bool : Option Bool → Reported
-reported_bool (Some true) = reported_true
-reported_bool (Some false) = reported_false false
-reported_bool None = reported_false true
+-- what the answer of a condition decides: a bool; an error, which a value that is no bool is; or nothing yet, where a
+-- residual is left
+pub data Decided : Type 0 where
+  decides : Bool → Decided
+  errs_with : Failure → Decided
+  leaves : Term → Decided
 
--- what is reported of an answer: a value that is no bool is an error
-unfoldable pub reported_of : Answer → Reported
-reported_of (answers (value v)) = reported_bool (bool_of (abstract_value v))
-reported_of (answers (residual t)) = reported_residual t
-reported_of (fails e) = reported_false true
+unfoldable pub decided_bool : Option Bool → Represented → Decided
+decided_bool (Some b) v = decides b
+decided_bool None v = errs_with (wrong_type bool_type [] (abstract_value v))
+
+unfoldable pub decided : Answer → Decided
+decided (answers (value v)) = decided_bool (bool_of (abstract_value v)) v
+decided (answers (residual t)) = leaves t
+decided (fails e) = errs_with e
+
+-- what is reported of that
+unfoldable pub reported_of : Decided → Reported
+reported_of (decides true) = reported_true
+reported_of (decides false) = reported_false false
+reported_of (errs_with e) = reported_false true
+reported_of (leaves t) = reported_residual t
+
+-- the error that is recorded, if there is one
+unfoldable pub error_of : Decided → Option Failure
+error_of (decides b) = None
+error_of (errs_with e) = Some e
+error_of (leaves t) = None
+
+-- a bool or an error, where a residual that is left is an error
+unfoldable pub result_of : Decided → Result Bool Failure
+result_of (decides b) = Ok b
+result_of (errs_with e) = Err e
+result_of (leaves t) = Err (residual_is_left t)
 
 -- where an erring forbid counts, it is reported true
 unfoldable pub counted_report : ErrorHandling → Effect → Reported → Reported
@@ -73,15 +98,6 @@ counted_report forbid_on_error forbid reported_true = reported_true
 counted_report forbid_on_error forbid (reported_false true) = reported_true
 counted_report forbid_on_error forbid (reported_false false) = reported_false false
 counted_report forbid_on_error forbid (reported_residual t) = reported_residual t
-
-unfoldable pub bool_error : Option Bool → Represented → Option Failure
-bool_error (Some b) v = None
-bool_error None v = Some (wrong_type bool_type [] (abstract_value v))
-
-unfoldable pub error_of : Answer → Option Failure
-error_of (answers (value v)) = bool_error (bool_of (abstract_value v)) v
-error_of (answers (residual t)) = None
-error_of (fails e) = Some e
 
 abbrev pub with_slots : Setting → Slots → Setting
 with_slots s slots =
@@ -94,7 +110,8 @@ with_slots s slots =
       resolution = s.resolution;
     }
 
-unfoldable pub with_error : Text → Option Failure → List (Text × Failure) → List (Text × Failure)
+-- the errors with that of one policy more, if it has one, in front
+unfoldable pub with_error : {E : Type 0} → Text → Option E → List (Text × E) → List (Text × E)
 with_error id None errors = errors
 with_error id (Some e) errors = (id, e) ∷ errors
 
@@ -104,19 +121,19 @@ row_of mode p a = record {
   id = p.id;
   effect = p.effect;
   annotations = p.annotations;
-  reported = counted_report mode p.effect (reported_of a);
+  reported = counted_report mode p.effect (reported_of (decided a));
 }
 
 -- each policy in order is reported by an answer of its condition within the limit, and its error, if any, is recorded
 -- in that order; a condition whose need is above the limit errs with the recursion limit. No answer is want of
 -- memory, which ends a run
 abbrev pub RunOf : ErrorHandling → Setting → StoredCalls → ℕ → List Policy → List Row → List (Text × Failure) → Type 0
-RunOf mode s calls limit [] rows errors = (rows ≡ []) × (errors ≡ [])
-RunOf mode s calls limit (p ∷ ps) rows errors =
+RunOf mode s calls levels [] rows errors = (rows ≡ []) × (errors ≡ [])
+RunOf mode s calls levels (p ∷ ps) rows errors =
     (a : Answer) × (rest : List Row) × (later : List (Text × Failure))
-    × Runs (with_slots s p.slots) calls limit p.condition a × (a ≢ fails out_of_memory)
-    × RunOf mode s calls limit ps rest later × (rows ≡ row_of mode p a ∷ rest)
-    × (errors ≡ with_error p.id (error_of a) later)
+    × Runs (with_slots s p.slots) calls levels p.condition a × (a ≢ fails out_of_memory)
+    × RunOf mode s calls levels ps rest later × (rows ≡ row_of mode p a ∷ rest)
+    × (errors ≡ with_error p.id (error_of (decided a)) later)
 
 -- ---- what a response carries on
 

@@ -1,6 +1,6 @@
 -- What is held in values and in residuals that are given: restricted expressions, and values that are written without
 -- unknowns.
-use Rattle.std.specs.Prelude.{◌≡◌, Bool, true, false, List, Option, Some, None}
+use Rattle.std.specs.Prelude.{◌≡◌, ◌⊎◌, true, false, List, Option, Some, None}
 use Rattle.cedar_model.specs.Terms.{Text, UnaryOperator, BinaryOperator, Term, literal, variable, slot, unknown}
 use Rattle.cedar_model.specs.Terms.{if_then_else, both, either, unary, binary, call, get_attribute, has_attribute}
 use Rattle.cedar_model.specs.Terms.{extended_has, like, is_of_type, set_of, record_of, Terms, no_terms, one_term}
@@ -8,7 +8,7 @@ use Rattle.cedar_model.specs.Terms.{Fields, no_fields, one_field}
 use Rattle.cedar_model.specs.Values.{Represented, plain_represented, set_represented, record_represented}
 use Rattle.cedar_model.specs.Values.{extension_represented, RepresentedValues, no_represented, one_represented}
 use Rattle.cedar_model.specs.Values.{RepresentedFields, no_represented_at, one_represented_at}
-use Rattle.cedar_model.specs.Shapes.{is_restricted, are_restricted, are_restricted_at, has_unknown, have_unknown}
+use Rattle.cedar_model.specs.Shapes.{is_restricted, are_restricted, are_restricted_at, have_unknown}
 use Rattle.cedar_model.specs.Sets.{IsStrictlyInOrder}
 use Rattle.cedar_model.specs.Failures.{PartialValue, value, residual, answers}
 use Rattle.cedar_model.specs.Settings.{ContextPart, absent_context, known_context, residual_context, Setting}
@@ -104,3 +104,57 @@ unfoldable mutual
   pub first_disallowed_at : Fields → Option Disallowed
   first_disallowed_at no_fields = None
   first_disallowed_at (one_field k t fs) = or_else (first_disallowed t) (first_disallowed_at fs)
+
+-- the feature of a node that is disallowed
+unfoldable pub feature_of : Term → Option Feature
+feature_of (literal l) = None
+feature_of (variable v) = Some of_variable
+feature_of (slot i) = Some of_slot
+feature_of (unknown n t) = None
+feature_of (if_then_else c a b) = Some of_if
+feature_of (both a b) = Some of_and
+feature_of (either a b) = Some of_or
+feature_of (unary op a) = Some (of_unary op)
+feature_of (binary op a b) = Some (of_binary op)
+feature_of (call f ts) = None
+feature_of (get_attribute a k) = Some of_attribute
+feature_of (has_attribute a k) = Some of_has
+feature_of (extended_has a k ks) = Some of_has
+feature_of (like a p) = Some of_like
+feature_of (is_of_type a t) = Some of_is
+feature_of (set_of ts) = None
+feature_of (record_of fs) = None
+
+-- a part of an expression, but not itself
+abbrev mutual
+  pub IsPartBelow : Term → Term → Type 0
+  IsPartBelow p (literal l) = ⊥
+  IsPartBelow p (variable v) = ⊥
+  IsPartBelow p (slot i) = ⊥
+  IsPartBelow p (unknown n t) = ⊥
+  IsPartBelow p (if_then_else c a b) =
+      ((p ≡ c) ⊎ IsPartBelow p c) ⊎ (((p ≡ a) ⊎ IsPartBelow p a) ⊎ ((p ≡ b) ⊎ IsPartBelow p b))
+  IsPartBelow p (both a b) = ((p ≡ a) ⊎ IsPartBelow p a) ⊎ ((p ≡ b) ⊎ IsPartBelow p b)
+  IsPartBelow p (either a b) = ((p ≡ a) ⊎ IsPartBelow p a) ⊎ ((p ≡ b) ⊎ IsPartBelow p b)
+  IsPartBelow p (unary op a) = (p ≡ a) ⊎ IsPartBelow p a
+  IsPartBelow p (binary op a b) = ((p ≡ a) ⊎ IsPartBelow p a) ⊎ ((p ≡ b) ⊎ IsPartBelow p b)
+  IsPartBelow p (call f ts) = IsPartOfEach p ts
+  IsPartBelow p (get_attribute a k) = (p ≡ a) ⊎ IsPartBelow p a
+  IsPartBelow p (has_attribute a k) = (p ≡ a) ⊎ IsPartBelow p a
+  IsPartBelow p (extended_has a k ks) = (p ≡ a) ⊎ IsPartBelow p a
+  IsPartBelow p (like a q) = (p ≡ a) ⊎ IsPartBelow p a
+  IsPartBelow p (is_of_type a t) = (p ≡ a) ⊎ IsPartBelow p a
+  IsPartBelow p (set_of ts) = IsPartOfEach p ts
+  IsPartBelow p (record_of fs) = IsPartAt p fs
+
+  pub IsPartOfEach : Term → Terms → Type 0
+  IsPartOfEach p no_terms = ⊥
+  IsPartOfEach p (one_term t ts) = ((p ≡ t) ⊎ IsPartBelow p t) ⊎ IsPartOfEach p ts
+
+  pub IsPartAt : Term → Fields → Type 0
+  IsPartAt p no_fields = ⊥
+  IsPartAt p (one_field k t fs) = ((p ≡ t) ⊎ IsPartBelow p t) ⊎ IsPartAt p fs
+
+-- a part of an expression, or itself
+abbrev pub IsPartOf : Term → Term → Type 0
+IsPartOf p t = (p ≡ t) ⊎ IsPartBelow p t

@@ -1,6 +1,6 @@
 -- The laws of restricted expressions and of unknowns in residuals, which the functions of `restricted` have as their
 -- contracts.
-use Rattle.std.specs.Prelude.{◌≡◌, ◌↔◌, ℕ, true, List, Option, Some, None}
+use Rattle.std.specs.Prelude.{◌≡◌, ◌↔◌, ℕ, true, List, Some, None}
 use Rattle.cedar_model.specs.Terms.{Text, Term, Fields}
 use Rattle.cedar_model.specs.Values.{Represented}
 use Rattle.cedar_model.specs.Shapes.{is_restricted, has_unknown, have_unknown_at}
@@ -8,7 +8,8 @@ use Rattle.cedar_model.specs.Failures.{PartialValue, value, residual, Answer, an
 use Rattle.cedar_model.specs.Settings.{residual_context, Setting}
 use Rattle.cedar_model.specs.Rules.{StoredCalls, Runs, Allows}
 use Rattle.cedar_model.specs.Agreement.{EachStored}
-use Rattle.cedar_model.specs.Restricted.{IsSound, IsSoundPart, first_disallowed}
+use Rattle.cedar_model.specs.Restricted.{IsSound, IsSoundPart, Disallowed, first_disallowed, feature_of}
+use Rattle.cedar_model.specs.Restricted.{IsPartOf}
 
 -- what a restricted expression may answer depends on neither request, store, slots nor resolution
 abbrev pub RestrictedReadsNothing : StoredCalls → Type 0
@@ -46,3 +47,9 @@ AnsweredResidualsHoldUnknowns calls =
 -- no part is disallowed exactly where the expression is restricted
 abbrev pub NoneIsDisallowed : Type 0
 NoneIsDisallowed = (t : Term) → (first_disallowed t ≡ None ↔ (is_restricted t ≡ true))
+
+-- and the first one is a part of the expression, with the feature of its node
+abbrev pub DisallowedHasItsFeature : Type 0
+DisallowedHasItsFeature =
+    (t : Term) (d : Disallowed) → first_disallowed t ≡ Some d → IsPartOf d.part t
+    × (feature_of d.part ≡ Some d.feature)

@@ -1,13 +1,28 @@
--- The residual rules: what an evaluator may answer to an expression. (Cedar's documentation has them under partial evaluation, an experimental feature.) `Rule` is one layer, over what the parts may answer; `Runs` takes the layers a given number of levels deep; `Allows` and `Exceeds` are read off the levels.
-use Rattle.std.specs.Prelude.{◌≡◌, ◌≢◌, ℕ, zero, suc, ◌==◌, Bool, true, false, cond, not, List, [], ◌∷◌, length, map, Option, Some, None, Result, Ok, Err, is_some}
-use Rattle.cedar_model.specs.Terms.{Text, EntityName, bool_literal, ValueType, bool_type, entity_type, BinaryOperator, eq_operator, less_operator, less_eq_operator, add_operator, sub_operator, mul_operator, in_operator, contains_operator, contains_all_operator, contains_any_operator, get_tag_operator, has_tag_operator, Term, literal, variable, slot, unknown, if_then_else, both, either, unary, binary, call, get_attribute, has_attribute, extended_has, like, is_of_type, set_of, record_of, Terms, no_terms, one_term, terms_of, Fields, no_fields, one_field, fields_of}
-use Rattle.cedar_model.specs.Values.{Represented, plain_represented, set_represented, record_represented, abstract_value}
+-- The residual rules: what an evaluator may answer to an expression. (Cedar's documentation has them under partial
+-- evaluation, an experimental feature.) `Rule` is one layer, over what the parts may answer; `Runs` takes the layers a
+-- given number of levels deep; `Allows` and `Exceeds` are read off the levels.
+use Rattle.std.specs.Prelude.{◌≡◌, ◌≢◌, ℕ, zero, suc, ◌==◌, Bool, true, false, cond, not, List, [], ◌∷◌, length, map}
+use Rattle.std.specs.Prelude.{Option, Some, None, Result, Ok, Err, is_some}
+use Rattle.cedar_model.specs.Terms.{Text, EntityName, bool_literal, ValueType, bool_type, entity_type, BinaryOperator}
+use Rattle.cedar_model.specs.Terms.{eq_operator, less_operator, less_eq_operator, add_operator, sub_operator}
+use Rattle.cedar_model.specs.Terms.{mul_operator, in_operator, contains_operator, contains_all_operator}
+use Rattle.cedar_model.specs.Terms.{contains_any_operator, get_tag_operator, has_tag_operator, Term, literal, variable}
+use Rattle.cedar_model.specs.Terms.{slot, unknown, if_then_else, both, either, unary, binary, call, get_attribute}
+use Rattle.cedar_model.specs.Terms.{has_attribute, extended_has, like, is_of_type, set_of, record_of, Terms, no_terms}
+use Rattle.cedar_model.specs.Terms.{one_term, terms_of, Fields, no_fields, one_field, fields_of}
+use Rattle.cedar_model.specs.Values.{Represented, plain_represented, set_represented, record_represented}
+use Rattle.cedar_model.specs.Values.{abstract_value}
 use Rattle.cedar_model.specs.Sets.{canonical_set, represented_fields_of}
 use Rattle.cedar_model.specs.Shapes.{is_projectable}
 use Rattle.cedar_model.specs.Outcomes.{bool_of, entity_of, text_eq}
-use Rattle.cedar_model.specs.Failures.{FailureKind, of_meaning, of_residual, of_limit, of_memory, failure_kind, Failure, function_is_missing, arguments_are_miscounted, out_of_memory, PartialValue, value, residual, Answer, answers, fails, answers_value, answers_residual, answers_bool, limit, part_expression, wrong_type}
+use Rattle.cedar_model.specs.Failures.{FailureKind, of_meaning, of_residual, of_limit, of_memory, failure_kind, Failure}
+use Rattle.cedar_model.specs.Failures.{function_is_missing, arguments_are_miscounted, out_of_memory, PartialValue}
+use Rattle.cedar_model.specs.Failures.{value, residual, Answer, answers, fails, answers_value, answers_residual}
+use Rattle.cedar_model.specs.Failures.{answers_bool, limit, part_expression, wrong_type}
 use Rattle.cedar_model.specs.Settings.{Store, Resolution, shallow, deep, Setting, variable_part}
-use Rattle.cedar_model.specs.Operators.{slot_answer, unknown_answer, unary_answer, like_answer, is_answer, binary_answer, attribute_answer, has_answer, path_answer, term_at, field_names, key_is_missing}
+use Rattle.cedar_model.specs.Operators.{slot_answer, unknown_answer, unary_answer, like_answer, is_answer}
+use Rattle.cedar_model.specs.Operators.{binary_answer, attribute_answer, has_answer, path_answer, term_at, field_names}
+use Rattle.cedar_model.specs.Operators.{key_is_missing}
 use Rattle.cedar_model.specs.Operators.{Step, walks_on, stops, step_in, last_in, container_of, container_expected}
 use Rattle.cedar_model.specs.Operators.{attribute_residual, binary_residual}
 
@@ -15,7 +30,9 @@ use Rattle.cedar_model.specs.Operators.{attribute_residual, binary_residual}
 abbrev pub MayAnswer : Type 1
 MayAnswer = Term → Answer → Type 0
 
--- what a stored function may answer to arguments, besides want of memory: that may come of any call, whatever its arguments are, and `Meets` allows it; among the answers it would be a second one to equal arguments, so that no function answered alike
+-- what a stored function may answer to arguments, besides want of memory: that may come of any call, whatever its
+-- arguments are, and `Meets` allows it; among the answers it would be a second one to equal arguments, so that no
+-- function answered alike
 abbrev pub StoredCalls : Type 1
 StoredCalls = Text → List Represented → Answer → Type 0
 
@@ -105,7 +122,8 @@ module _ (May : MayAnswer) where
   -- both branches of a residual guard, each best effort
   abbrev pub KeepsBranches : Term → Term → Term → Answer → Type 0
   KeepsBranches r t e a =
-      (x : Answer) × May t x × AfterBest (best x t) (λ t' b. (y : Answer) × May e y × AfterBest (best y e) (λ e' c. c ≡ answers_residual (if_then_else r t' e')) b) a
+      (x : Answer) × May t x × AfterBest (best x t)
+      (λ t' b. (y : Answer) × May e y × AfterBest (best y e) (λ e' c. c ≡ answers_residual (if_then_else r t' e')) b) a
 
   abbrev pub AfterGuard : Answer → Term → Term → Answer → Type 0
   AfterGuard (fails f) t e a = a ≡ fails f
@@ -189,7 +207,8 @@ differ_by_type has_tag_operator p q = false
 
 abbrev pub kept_binary : BinaryOperator → PartialValue → PartialValue → Answer
 kept_binary op p q =
-    cond (differ_by_type op p q) (answers_bool false) (answers_residual (binary op (part_expression p) (part_expression q)))
+    cond (differ_by_type op p q) (answers_bool false)
+    (answers_residual (binary op (part_expression p) (part_expression q)))
 
 unfoldable pub binary_of_parts : Setting → BinaryOperator → PartialValue → PartialValue → Answer
 binary_of_parts s op (value v) (value w) = binary_answer s op v w
@@ -277,12 +296,14 @@ unfoldable pub part_then : PartialValue → Result (List PartialValue) Failure �
 part_then p (Err e) = Err e
 part_then p (Ok ps) = Ok (p ∷ ps)
 
-unfoldable pub field_part_then : Text → PartialValue → Result (List (Text × PartialValue)) Failure → Result (List (Text × PartialValue)) Failure
+unfoldable pub field_part_then : Text → PartialValue → Result (List (Text × PartialValue)) Failure
+    → Result (List (Text × PartialValue)) Failure
 field_part_then k p (Err e) = Err e
 field_part_then k p (Ok ps) = Ok ((k, p) ∷ ps)
 
 module _ (May : MayAnswer) where
-  abbrev pub AfterPart : Answer → (Result (List PartialValue) Failure → Type 0) → Result (List PartialValue) Failure → Type 0
+  abbrev pub AfterPart : Answer → (Result (List PartialValue) Failure → Type 0) → Result (List PartialValue) Failure
+      → Type 0
   AfterPart (fails e) Rest r = r ≡ Err e
   AfterPart (answers p) Rest r = (rest : Result (List PartialValue) Failure) × Rest rest × (r ≡ part_then p rest)
 
@@ -290,7 +311,8 @@ module _ (May : MayAnswer) where
   Parts no_terms r = r ≡ Ok []
   Parts (one_term t ts) r = (x : Answer) × May t x × AfterPart x (Parts ts) r
 
-  abbrev pub AfterFieldPart : Text → Answer → (Result (List (Text × PartialValue)) Failure → Type 0) → Result (List (Text × PartialValue)) Failure → Type 0
+  abbrev pub AfterFieldPart : Text → Answer → (Result (List (Text × PartialValue)) Failure → Type 0)
+      → Result (List (Text × PartialValue)) Failure → Type 0
   AfterFieldPart k (fails e) Rest r = r ≡ Err e
   AfterFieldPart k (answers p) Rest r =
       (rest : Result (List (Text × PartialValue)) Failure) × Rest rest × (r ≡ field_part_then k p rest)
@@ -309,7 +331,8 @@ unfoldable pub values_of_parts : List PartialValue → Option (List Represented)
 values_of_parts [] = Some []
 values_of_parts (p ∷ ps) = add_value p (values_of_parts ps)
 
-unfoldable pub add_value_at : Text → PartialValue → Option (List (Text × Represented)) → Option (List (Text × Represented))
+unfoldable pub add_value_at : Text → PartialValue → Option (List (Text × Represented))
+    → Option (List (Text × Represented))
 add_value_at k (value v) None = None
 add_value_at k (value v) (Some vs) = Some ((k, v) ∷ vs)
 add_value_at k (residual r) vs = None

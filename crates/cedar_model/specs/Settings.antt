@@ -1,6 +1,8 @@
--- What an evaluator is given: a request, a store, a map of unknowns, slots and extensions, each of them perhaps in part.
+-- What an evaluator is given: a request, a store, a map of unknowns, slots and extensions, each of them perhaps in
+-- part.
 use Rattle.std.specs.Prelude.{Bool, true, false, cond, ◌||◌, List, [], ◌∷◌, ◌++◌, map, Option, Some, None, codes}
-use Rattle.cedar_model.specs.Terms.{Text, EntityName, entity_literal, Variable, principal, action, resource, context, ValueType, entity_type, Term, unknown, record_of, Fields}
+use Rattle.cedar_model.specs.Terms.{Text, EntityName, entity_literal, Variable, principal, action, resource, context}
+use Rattle.cedar_model.specs.Terms.{ValueType, entity_type, Term, unknown, record_of, Fields}
 use Rattle.cedar_model.specs.Values.{Represented, plain_represented, record_represented, RepresentedFields}
 use Rattle.cedar_model.specs.Outcomes.{text_eq, entity_eq, escaped}
 use Rattle.cedar_model.specs.World.{Slots, Extensions}

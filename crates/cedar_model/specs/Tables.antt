@@ -1,6 +1,6 @@
 -- Worked examples: a row of the tables of type errors, of residuals and of operators' errors each, where `Rows` has
 -- none.
-use Rattle.std.specs.Prelude.{◌≡◌, pos, negsuc, Bool, true, false, cond, List, [], ◌∷◌, Option, Some, None, ℕ, codes}
+use Rattle.std.specs.Prelude.{◌≡◌, pos, negsuc, Bool, true, false, cond, [], ◌∷◌, Some, None, codes}
 use Rattle.std.specs.Prelude.{Err}
 use Rattle.cedar_model.specs.Terms.{Text, EntityName, long_literal, bool_type, long_type, string_type, set_type}
 use Rattle.cedar_model.specs.Terms.{record_type, extension_type, not_operator, neg_operator, is_empty_operator}
@@ -9,16 +9,16 @@ use Rattle.cedar_model.specs.Terms.{contains_operator, contains_any_operator, ge
 use Rattle.cedar_model.specs.Terms.{Term, literal, unknown, if_then_else, both, either, unary, binary, call}
 use Rattle.cedar_model.specs.Terms.{get_attribute, has_attribute, extended_has, is_of_type, set_of, record_of}
 use Rattle.cedar_model.specs.Terms.{no_terms, fields_of}
-use Rattle.cedar_model.specs.Values.{Represented, plain_represented, extension_represented}
+use Rattle.cedar_model.specs.Values.{plain_represented, extension_represented}
 use Rattle.cedar_model.specs.Outcomes.{text_eq, entity_eq}
 use Rattle.cedar_model.specs.World.{Extensions}
 use Rattle.cedar_model.specs.Failures.{entity_is_missing, entity_attribute_is_missing, record_attribute_is_missing}
 use Rattle.cedar_model.specs.Failures.{type_is_wrong, binary_overflow, function_has_failed, PartialValue, value}
 use Rattle.cedar_model.specs.Failures.{any_entity, Answer, fails, answers_value, answers_residual, answers_bool}
-use Rattle.cedar_model.specs.Settings.{StoredEntity, Store, shallow, Setting, missing_entity}
+use Rattle.cedar_model.specs.Settings.{StoredEntity, shallow, Setting, missing_entity}
 use Rattle.cedar_model.specs.Rules.{StoredCalls, Allows}
 use Rattle.cedar_model.specs.Agreement.{no_slots}
-use Rattle.cedar_model.specs.Authorizations.{decided}
+use Rattle.cedar_model.specs.Authorizations.{evaluated}
 use Rattle.cedar_model.specs.Examples.{entity_of_type, user, long, text, entity, bool, x, some_entity, some_facts}
 use Rattle.cedar_model.specs.Examples.{some_map, some_setting}
 
@@ -226,7 +226,7 @@ HasOfLong =
 -- a policy's value
 abbrev pub PolicyExpectsBool : Type 0
 PolicyExpectsBool =
-    decided (answers_value (plain_represented (long_literal (pos 1)))) ≡ Err (type_is_wrong bool_type [] long_type)
+    evaluated (answers_value (plain_represented (long_literal (pos 1)))) ≡ Err (type_is_wrong bool_type [] long_type)
 
 -- ---- residuals
 

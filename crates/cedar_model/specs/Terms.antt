@@ -1,4 +1,5 @@
--- The expressions of Cedar's policy language as plain terms: all 17 kinds, without source locations. A text is the list of its bytes in UTF-8.
+-- The expressions of Cedar's policy language as plain terms: all 17 kinds, without source locations. A text is the list
+-- of its bytes in UTF-8.
 use Rattle.std.specs.Prelude.{ℕ, ℤ, Bool, List, [], ◌∷◌, Option}
 
 -- the bytes of a text

@@ -1,6 +1,7 @@
 -- Values: with their representations, as an evaluator holds them, and without, as their equality sees them.
 use Rattle.std.specs.Prelude.{ℕ, List}
-use Rattle.cedar_model.specs.Terms.{Text, Literal, Term, literal, call, set_of, record_of, Terms, no_terms, one_term, Fields, no_fields, one_field}
+use Rattle.cedar_model.specs.Terms.{Text, Literal, Term, literal, call, set_of, record_of, Terms, no_terms, one_term}
+use Rattle.cedar_model.specs.Terms.{Fields, no_fields, one_field}
 
 -- a value as equality sees it; an extension value is its type's name and a key
 mutual

@@ -1,6 +1,8 @@
--- A world: what every unknown, entity and context is. It may hold more than any request or store says. In Cedar's documentation: the pages on requests, contexts and entities.
+-- A world: what every unknown, entity and context is. It may hold more than any request or store says. In Cedar's
+-- documentation: the pages on requests, contexts and entities.
 use Rattle.std.specs.Prelude.{ℕ, Bool, List, Option}
-use Rattle.cedar_model.specs.Terms.{Text, EntityName, entity_literal, Variable, principal, action, resource, context, Slot, ValueType}
+use Rattle.cedar_model.specs.Terms.{Text, EntityName, entity_literal, Variable, principal, action, resource, context}
+use Rattle.cedar_model.specs.Terms.{Slot, ValueType}
 use Rattle.cedar_model.specs.Values.{AbstractValue, plain, record_value, AbstractFields}
 use Rattle.cedar_model.specs.Outcomes.{ErrorKind}
 

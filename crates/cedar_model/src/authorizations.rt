@@ -1,10 +1,14 @@
 //! Authorization where nothing is unknown. Each function is a law, and does nothing.
 ghost use Rattle.cedar_model.specs.World.{World, Extensions, Functions};
-ghost use Rattle.cedar_model.specs.AuthorizationLaws.{KnownAnswersAreExact, KnownConditionsAreExact, KnownResponsesAreExact, LowConditionsMeetNoLimit, OwnWorldCompletes, OrderChangesNoResponse, AddedForbidKeepsDeny, AddedPermitKeepsAllow, ErringChangesNoResponse};
+ghost use Rattle.cedar_model.specs.AuthorizationLaws.{KnownAnswersAreExact, KnownConditionsAreExact};
+ghost use Rattle.cedar_model.specs.AuthorizationLaws.{KnownResponsesAreExact, LowConditionsMeetNoLimit};
+ghost use Rattle.cedar_model.specs.AuthorizationLaws.{OwnWorldCompletes, OrderChangesNoResponse, AddedForbidKeepsDeny};
+ghost use Rattle.cedar_model.specs.AuthorizationLaws.{AddedPermitKeepsAllow, ErringChangesNoResponse};
 
 use crate::levels::AnyFunctions;
 
-/// Where nothing is unknown, an answer, a decided condition and a response without the recursion limit are exact; and where no
+/// Where nothing is unknown, an answer, a decided condition and a response without the recursion limit are exact;
+/// and where no
 /// condition is higher than the limit, none meets it.
 pub fn known_is_exact<F: AnyFunctions>(functions: &F)
     ensures answers { KnownAnswersAreExact (F.calls functions.now) }

@@ -1,5 +1,6 @@
 //! Chains of steps. Each function is a law, and does nothing.
 ghost use Rattle.cedar_model.specs.ChainLaws.{RefusalIsOne, LimitsAreSeen, NoEarlierLimit, NothingIsTakenBack};
+ghost use Rattle.cedar_model.specs.ChainLaws.{ChainsBegin, StepsAnswer, ChainsAnswer};
 ghost use Rattle.cedar_model.specs.Headline.{ChainsStand};
 
 use crate::levels::AnyFunctions;
@@ -8,6 +9,14 @@ use crate::levels::AnyFunctions;
 /// policies that determine it lie between the two bounds.
 pub fn chains_stand<F: AnyFunctions>(functions: &F)
     ensures { ChainsStand (F.calls functions.now) }
+{}
+
+/// There is a first response, and each step and each chain answers a response or a refusal, where the functions that
+/// exist answer, and never want of memory.
+pub fn chains_have_answers<F: AnyFunctions>(functions: &F)
+    ensures first { ChainsBegin (F.calls functions.now) }
+    ensures step { StepsAnswer (F.calls functions.now) }
+    ensures chain { ChainsAnswer (F.calls functions.now) }
 {}
 
 /// A step answers responses alone, or one refusal.

@@ -6,7 +6,7 @@ ghost use Rattle.cedar_model.specs.Failures.{Answer};
 ghost use Rattle.cedar_model.specs.LevelLaws.{MoreLevelsKeepAnswers, LimitIsAlone, AllowedAnswersAreAlike};
 ghost use Rattle.cedar_model.specs.LevelLaws.{AnswersTakeMoreLevels, AllowedIsByTheRules, LayersAreLevels};
 ghost use Rattle.cedar_model.specs.LevelLaws.{LevelsHaveAnswers, ExpressionsHaveAnswers, NeedIsThreshold};
-ghost use Rattle.cedar_model.specs.LevelLaws.{AgreedFunctionsAreFunctional};
+ghost use Rattle.cedar_model.specs.LevelLaws.{AgreedFunctionsAreFunctional, AnswersFindMemory};
 
 /// Any stored functions: what they may answer to arguments. The laws hold for each type that has this.
 pub trait AnyFunctions {
@@ -19,7 +19,8 @@ pub fn levels_keep_answers<F: AnyFunctions>(functions: &F)
     ensures layers { LayersAreLevels (F.calls functions.now) }
 {}
 
-/// At one level never both the limit and an answer, and all answers are alike: from stored functions that answer alike to equal arguments.
+/// At one level never both the limit and an answer, and all answers are alike: from stored functions that answer
+/// alike to equal arguments.
 pub fn levels_are_determined<F: AnyFunctions>(functions: &F)
     ensures limit { LimitIsAlone (F.calls functions.now) }
     ensures alike { AllowedAnswersAreAlike (F.calls functions.now) }
@@ -40,6 +41,11 @@ pub fn levels_have_answers<F: AnyFunctions>(functions: &F)
 /// deep resolution where stored residuals are restricted.
 pub fn expressions_have_answers<F: AnyFunctions>(functions: &F)
     ensures { ExpressionsHaveAnswers (F.calls functions.now) }
+{}
+
+/// No expression answers want of memory, where no function does.
+pub fn answers_find_memory<F: AnyFunctions>(functions: &F)
+    ensures { AnswersFindMemory (F.calls functions.now) }
 {}
 
 /// Where the recursion limit is met, it is met with fewer levels too.

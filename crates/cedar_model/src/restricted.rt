@@ -1,6 +1,7 @@
 //! Restricted expressions, and unknowns in residuals. Each function is a law, and does nothing.
 ghost use Rattle.cedar_model.specs.RestrictedLaws.{RestrictedReadsNothing, RestrictedStays};
 ghost use Rattle.cedar_model.specs.RestrictedLaws.{AnsweredResidualsHoldUnknowns, NoneIsDisallowed};
+ghost use Rattle.cedar_model.specs.RestrictedLaws.{DisallowedHasItsFeature};
 
 use crate::levels::AnyFunctions;
 
@@ -19,7 +20,9 @@ pub fn residuals_hold_unknowns<F: AnyFunctions>(functions: &F)
     ensures { AnsweredResidualsHoldUnknowns (F.calls functions.now) }
 {}
 
-/// No part is disallowed exactly where the expression is restricted.
+/// No part is disallowed exactly where the expression is restricted, and the first one that is has the feature of its
+/// node.
 pub fn restricted_has_no_disallowed_part()
-    ensures { NoneIsDisallowed }
+    ensures none { NoneIsDisallowed }
+    ensures feature { DisallowedHasItsFeature }
 {}

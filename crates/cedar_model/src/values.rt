@@ -1,5 +1,10 @@
 //! The order of values, their keys and canonical sets. Each function is a law, and does nothing.
-ghost use Rattle.cedar_model.specs.ValueLaws.{ValuesAreOrdered, EqualIsEquality, TestIsEquality, TestIsEquivalence, KeysComeBack, BoolsAreOrdered, LongsAreOrdered, TextsAreOrdered, EntitiesAreOrdered, ExtensionValuesAreOrdered, CanonicalSetsAreInOrder, CanonicalSetsKeepTheFirst, CanonicalSetsHaveTheMembers, OrderedListsAreOne, OrderedMembersAreOne, OrderedListsAreCanonical, CanonicalSetsAreAbstractSets, ValuesAreLargerThanParts};
+ghost use Rattle.cedar_model.specs.ValueLaws.{ValuesAreOrdered, EqualIsEquality, TestIsEquality, TestIsEquivalence};
+ghost use Rattle.cedar_model.specs.ValueLaws.{KeysComeBack, BoolsAreOrdered, LongsAreOrdered, TextsAreOrdered};
+ghost use Rattle.cedar_model.specs.ValueLaws.{EntitiesAreOrdered, ExtensionValuesAreOrdered, CanonicalSetsAreInOrder};
+ghost use Rattle.cedar_model.specs.ValueLaws.{CanonicalSetsKeepTheFirst, CanonicalSetsHaveTheMembers};
+ghost use Rattle.cedar_model.specs.ValueLaws.{OrderedListsAreOne, OrderedMembersAreOne, OrderedListsAreCanonical};
+ghost use Rattle.cedar_model.specs.ValueLaws.{CanonicalSetsAreAbstractSets, ValuesAreLargerThanParts};
 
 /// The order of values is total, and what it calls equal is equal.
 pub fn values_are_ordered()
@@ -23,7 +28,8 @@ pub fn keys_come_back()
     ensures { KeysComeBack }
 {}
 
-/// A canonical set is strictly in order, has what the list has, and keeps the first of equal elements; nothing else does.
+/// A canonical set is strictly in order, has what the list has, and keeps the first of equal elements; nothing else
+/// does.
 pub fn sets_are_canonical()
     ensures in_order { CanonicalSetsAreInOrder }
     ensures first { CanonicalSetsKeepTheFirst }

@@ -7,7 +7,7 @@ use Rattle.std.specs.Option.{option_eq, option_map}
 use Rattle.std.specs.Cmp.Lexicographic.{pointwise}
 use Rattle.std.proofs.lemmas.Bool.Decides.{Decides-eqb, Decides-int_eq}
 use Rattle.cedar_model.specs.Keys.{end_key, number_key, key_cmp, text_key}
-use Rattle.cedar_model.specs.Codes.{texts_key, type_key, pattern_key}
+use Rattle.cedar_model.specs.lemmas.Codes.{texts_key, type_key, pattern_key}
 use Rattle.cedar_names.specs.declared.names.EntityUID.{EntityUID}
 use Rattle.cedar_names.specs.declared.names.SlotId.{SlotId}
 use Rattle.cedar_names.specs.declared.names.SlotId.TheVariants as slots

@@ -6,7 +6,7 @@ use Rattle.std.specs.Hash as fed
 use Rattle.std.specs.Hash.{HashWrites}
 use Rattle.std.specs.List.{flat_map}
 use Rattle.std.specs.Option.{option_map}
-use Rattle.cedar_model.specs.Codes.{variable_number, slot_number, unary_number, binary_number}
+use Rattle.cedar_model.specs.lemmas.Codes.{variable_number, slot_number, unary_number, binary_number}
 use Rattle.cedar_names.specs.declared.names.SlotId.{SlotId}
 use Rattle.cedar_names.specs.declared.names.SlotId.TheVariants as slots
 use Rattle.cedar_names.specs.declared.names.Var.{Var}

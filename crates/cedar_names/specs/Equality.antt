@@ -3,7 +3,7 @@ use Rattle.std.specs.Prelude.{pos, Bool, List, Option}
 use Rattle.std.specs.Ordering.{is_eq}
 use Rattle.cedar_model.specs.Terms.{Text, EntityName, Literal, Variable, Slot, ValueType, UnaryOperator, BinaryOperator, PatternPart, Term, Terms, Fields}
 use Rattle.cedar_model.specs.Keys.{Key, number_key, key_cmp, text_key, entity_key, literal_key}
-use Rattle.cedar_model.specs.Codes.{type_key, annotation_key, variable_number, slot_number, unary_number, binary_number, pattern_key, texts_key, term_key, terms_key, fields_key}
+use Rattle.cedar_model.specs.lemmas.Codes.{type_key, annotation_key, variable_number, slot_number, unary_number, binary_number, pattern_key, texts_key, term_key, terms_key, fields_key}
 
 -- whether two keys are one
 abbrev pub key_eq : Key → Key → Bool

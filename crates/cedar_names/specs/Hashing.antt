@@ -3,7 +3,7 @@ use Rattle.std.specs.Prelude.{pos, List, ◌++◌, Option}
 use Rattle.std.specs.Hash as fed
 use Rattle.std.specs.Hash.{HashWrites}
 use Rattle.cedar_model.specs.Terms.{Text, EntityName, Literal, bool_literal, long_literal, text_literal, entity_literal, ValueType, bool_type, long_type, string_type, set_type, record_type, entity_type, extension_type, PatternPart, character, wildcard, Term, literal, variable, slot, unknown, if_then_else, both, either, unary, binary, call, get_attribute, has_attribute, extended_has, like, is_of_type, set_of, record_of, Terms, no_terms, one_term, Fields, no_fields, one_field}
-use Rattle.cedar_model.specs.Codes.{variable_number, slot_number, unary_number, binary_number}
+use Rattle.cedar_model.specs.lemmas.Codes.{variable_number, slot_number, unary_number, binary_number}
 
 abbrev pub fed_entity : EntityName → HashWrites
 fed_entity e = fed.str e.type_name ++ fed.str e.id

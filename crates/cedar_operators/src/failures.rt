@@ -24,10 +24,10 @@ pub(crate) fn any_entity_type(alloc: Global) -> Result<Type, AllocError>
     })
 }
 
-// The error that the value is not of this type, at the value's location.
+/// The error that the value is not of this type, at the value's location.
 #[cold]
 #[inline(never)]
-pub(crate) fn type_error(alloc: Global, expected: Type, value: &Value) -> EvaluationError
+pub fn type_error(alloc: Global, expected: Type, value: &Value) -> EvaluationError
     ensures { FailsWith result (wrong_type (type_view expected) [] (abstract_value value.now.what)) }
 {
     match value.type_of() {

@@ -49,9 +49,10 @@ pub fn get_as_bool(alloc: Global, value: &Value) -> Result<bool, EvaluationError
     }
 }
 
+/// The boolean, if the value is one.
 #[tactic(auto, unfolding(cedar_model::specs::Outcomes::bool_of))]
 #[inline(always)]
-fn bool_in(value: &Value) -> Option<bool>
+pub fn bool_in(value: &Value) -> Option<bool>
     ensures { result ≡ bool_of (abstract_value value.now.what) }
 {
     match value.value_kind() {

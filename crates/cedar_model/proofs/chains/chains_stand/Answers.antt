@@ -2,4 +2,4 @@ use Rattle.cedar_model.proofs.Chaining.{headline}
 use Rattle.cedar_model.proofs.chains.chains_stand.Goals as goal
 
 pub returns : goal.returns
-returns g c = λ mode ans w s limit ps steps last. headline mode _ ans w s limit ps steps last
+returns g c = λ mode ans w s levels ps steps last. headline mode _ ans w s levels ps steps last

@@ -5,4 +5,4 @@ pub returns-clause-seen : goal.returns-clause-seen
 returns-clause-seen g c = λ errors. (has_none errors, none_has errors)
 
 pub returns-clause-none : goal.returns-clause-none
-returns-clause-none g c = λ mode s limit first last before after. no_earlier mode s _ limit first last before after
+returns-clause-none g c = λ mode s levels first last before after. no_earlier mode s _ levels first last before after

@@ -3,4 +3,5 @@ use Rattle.cedar_model.proofs.depth.step_need_is_bounded.Goals as goal
 
 pub returns : goal.returns
 returns g c =
-    λ answered s m b within sound mapped low r f. step_need_bounded s _ m b within sound mapped low answered r f
+    λ answered s m b k mapped r f.
+    step_need_bounded s _ m b k.is_within k.given_is_sound mapped k.is_no_higher answered r f

@@ -1,4 +1,4 @@
-use Rattle.cedar_model.specs.Layers.{runs_by_layer}
+use Rattle.cedar_model.specs.lemmas.Layers.{runs_by_layer}
 use Rattle.cedar_model.proofs.MoreLevels.{more_levels}
 use Rattle.cedar_model.proofs.levels.levels_keep_answers.Goals as goal
 

@@ -1,4 +1,5 @@
-use Rattle.cedar_model.proofs.Decisions.{order_changes_nothing, forbids_keep_deny, permits_keep_allow, erring_changes_nothing}
+use Rattle.cedar_model.proofs.Decisions.{order_changes_nothing, forbids_keep_deny, permits_keep_allow}
+use Rattle.cedar_model.proofs.Decisions.{erring_changes_nothing}
 use Rattle.cedar_model.proofs.policies.decisions_are_stable.Goals as goal
 
 pub returns-clause-order : goal.returns-clause-order

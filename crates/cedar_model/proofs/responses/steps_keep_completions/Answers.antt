@@ -3,5 +3,5 @@ use Rattle.cedar_model.proofs.responses.steps_keep_completions.Goals as goal
 
 pub returns : goal.returns
 returns g c =
-    λ mode ans agree w s limit m store old new done faithful step. step_completes mode ans _ agree w s limit m store
-    old new done faithful step
+    λ mode ans w s levels m store old new k step.
+    step_completes mode ans _ k.functions_agree w s levels m store old new k.completion k.functions_are_faithful step

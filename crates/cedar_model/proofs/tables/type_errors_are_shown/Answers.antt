@@ -2,7 +2,7 @@ use Rattle.cedar_model.proofs.Tabled.{shown}
 use Rattle.cedar_model.proofs.Computed.{opened}
 use Rattle.std.proofs.Common.{refl}
 use Rattle.std.specs.Prelude.{true, false}
-use Rattle.cedar_model.specs.Authorizations.{bool_result, decided}
+use Rattle.cedar_model.specs.Responses.{decided_bool, decided, result_of}
 use Rattle.cedar_model.proofs.tables.type_errors_are_shown.Goals as goal
 
 pub returns-clause-guard_expects_bool : goal.returns-clause-guard_expects_bool
@@ -110,5 +110,5 @@ unfolding opened
 returns-clause-has_of_long c = shown false 6 _ _ refl (λ e. cc)
 
 pub returns-clause-policy_expects_bool : goal.returns-clause-policy_expects_bool
-unfolding opened decided bool_result
+unfolding opened decided decided_bool result_of
 returns-clause-policy_expects_bool g = refl

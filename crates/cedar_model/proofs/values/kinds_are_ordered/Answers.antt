@@ -1,4 +1,4 @@
-use Rattle.cedar_model.specs.Keys.{value_cmp-text, value_cmp-entity, value_cmp-extension}
+use Rattle.cedar_model.specs.lemmas.Keys.{value_cmp-text, value_cmp-entity, value_cmp-extension}
 use Rattle.cedar_model.proofs.values.kinds_are_ordered.Goals as goal
 
 pub returns-clause-texts : goal.returns-clause-texts

@@ -1,4 +1,6 @@
-use Rattle.cedar_model.specs.Sets.{IsStrictlyInOrder-canonical_set, find_equal-canonical_set, has_value-canonical_set, same_finds, same_members, canonical_set-in_order, abstract_values-canonical_set}
+use Rattle.cedar_model.specs.lemmas.Sets.{IsStrictlyInOrder-canonical_set, find_equal-canonical_set}
+use Rattle.cedar_model.specs.lemmas.Sets.{has_value-canonical_set, same_finds, same_members, canonical_set-in_order}
+use Rattle.cedar_model.specs.lemmas.Sets.{abstract_values-canonical_set}
 use Rattle.cedar_model.proofs.values.sets_are_canonical.Goals as goal
 
 pub returns-clause-in_order : goal.returns-clause-in_order

@@ -1,5 +1,7 @@
 use Rattle.std.proofs.Common.{ap, ◌∙◌}
-use Rattle.cedar_model.specs.Keys.{value_cmp, value_eq, value_cmp-total, value_cmp-equal, value_cmp-self, value_eq-true, value_eq-self, value_eq-equivalence}
+use Rattle.cedar_model.specs.Keys.{value_cmp, value_eq}
+use Rattle.cedar_model.specs.lemmas.Keys.{value_cmp-total, value_cmp-equal, value_cmp-self, value_eq-true}
+use Rattle.cedar_model.specs.lemmas.Keys.{value_eq-self, value_eq-equivalence}
 use Rattle.cedar_model.proofs.values.values_are_ordered.Goals as goal
 
 pub returns-clause-total : goal.returns-clause-total

@@ -1,4 +1,4 @@
-use Rattle.std.proofs.Common.{◌≡◌, ◌+◌, suc, ◌∷◌, drop, Some, Ok, arith, ap, refl, sym, ◌∙◌}
+use Rattle.std.proofs.Common.{◌≡◌, ◌+◌, ◌-◌, suc, ◌∷◌, drop, Some, Ok, IfOk, arith, ap, refl, sym, ◌∙◌, subst}
 use Rattle.std.proofs.Math.Seq.{drop-cons}
 use Rattle.std.proofs.lemmas.List.{drop_all}
 use Rattle.std.specs.Rc.{rc_str_bytes}
@@ -6,12 +6,14 @@ use Rattle.cedar_values.specs.Failures.{failure_of}
 use Rattle.cedar_expressions.specs.View.{view, terms_view, fields_view}
 use Rattle.cedar_model.specs.Failures.{fails, answers_value}
 use Rattle.cedar_expressions.proofs.Levels.{kind_view-Lit, kind_view-Var, kind_view-Slot, kind_view-Unknown}
+use Rattle.cedar_expressions.proofs.NodeLevels.{kind_node-Lit, kind_node-Var, kind_node-Slot, kind_node-Unknown, kind_node-If, kind_node-And, kind_node-Or, kind_node-UnaryApp, kind_node-BinaryApp, kind_node-ExtensionFunctionApp, kind_node-GetAttr, kind_node-HasAttr, kind_node-ExtHasAttr, kind_node-Like, kind_node-Is, kind_node-Set, kind_node-Record}
 use Rattle.cedar_layers.specs.Policies.{slots_view}
 use Rattle.cedar_evaluator.specs.Stops.{StoppingRuns}
-use Rattle.cedar_evaluator.specs.Evaluations.{setting_of}
+use Rattle.cedar_evaluator.specs.Evaluations.{setting_of, HasElementsOf}
 use Rattle.cedar_evaluator.proofs.Steps.{value_is_no_want, at_none, at_some}
 use Rattle.cedar_evaluator.proofs.Steps as step
 use Rattle.cedar_evaluator.proofs.Parts as parts
+use Rattle.cedar_evaluator.proofs.Elements.{no_set, same_parts, elements_given, elements_stay}
 use Rattle.cedar_evaluator.proofs.evaluator.Evaluator.+interpret.Goals as goal
 
 pub interpret_within-returns-then-left-eq0-clause-answer : goal.interpret_within-returns-then-left-eq0-clause-answer
@@ -20,35 +22,109 @@ interpret_within-returns-then-left-eq0-clause-answer t c =
 
 pub interpret_within-returns-in-Ok-clause-answer : goal.interpret_within-returns-in-Ok-clause-answer
 interpret_within-returns-in-Ok-clause-answer t c =
-    λ ok. at_some _ _ _ _ (omega arith) (rw c.with_maybe_source_loc.ensures.what (c.in-Ok.ensures (value_is_no_want _)))
+    λ ok. at_some _ _ _ _ (omega arith) (rw c.with_maybe_source_loc.ensures.what (c.in-Ok.ensures.answer (value_is_no_want _)))
 
 pub interpret_within-returns-in-Err-clause-answer : goal.interpret_within-returns-in-Err-clause-answer
 interpret_within-returns-in-Err-clause-answer t c =
-    λ ok. at_some _ _ _ _ (omega arith) (rw c.with_enclosing_loc.ensures (c.in-Err.ensures (rw c.with_enclosing_loc.ensures at ok)))
+    λ ok. at_some _ _ _ _ (omega arith) (rw c.with_enclosing_loc.ensures (c.in-Err.ensures.answer (rw c.with_enclosing_loc.ensures at ok)))
 
-pub interpret_kind-returns-in-Lit : goal.interpret_kind-returns-in-Lit
-interpret_kind-returns-in-Lit t c =
+pub interpret_within-returns-in-Ok-clause-elements : goal.interpret_within-returns-in-Ok-clause-elements
+interpret_within-returns-in-Ok-clause-elements t c =
+    λ parts is. elements_stay c.args.self.now c.args.slots.now (c.args.left - 1) parts c.in-Ok.value c.with_maybe_source_loc.result c.with_maybe_source_loc.ensures.what c.with_maybe_source_loc.ensures.inside (c.in-Ok.ensures.elements parts is)
+
+pub interpret_kind-returns-in-Lit-clause-answer : goal.interpret_kind-returns-in-Lit-clause-answer
+interpret_kind-returns-in-Lit-clause-answer t c =
     let s = setting_of c.args.self.now (slots_view c.args.slots.now) in
     let May = StoppingRuns s c.args.left in
     λ ok. rw (← c.expr_kind.ensures.view, c.in-Lit.is, kind_view-Lit) (step.literal_gives s May _ _ c.literal_value.ensures ok)
 
-pub interpret_kind-returns-in-Var : goal.interpret_kind-returns-in-Var
-interpret_kind-returns-in-Var t c =
+pub interpret_kind-returns-in-Var-clause-answer : goal.interpret_kind-returns-in-Var-clause-answer
+interpret_kind-returns-in-Var-clause-answer t c =
     let s = setting_of c.args.self.now (slots_view c.args.slots.now) in
     let May = StoppingRuns s c.args.left in
     λ ok. rw (← c.expr_kind.ensures.view, c.in-Var.is, kind_view-Var) (step.variable_gives s May _ _ (c.variable.ensures (slots_view c.args.slots.now)) ok)
 
-pub interpret_kind-returns-in-Slot : goal.interpret_kind-returns-in-Slot
-interpret_kind-returns-in-Slot t c =
+pub interpret_kind-returns-in-Slot-clause-answer : goal.interpret_kind-returns-in-Slot-clause-answer
+interpret_kind-returns-in-Slot-clause-answer t c =
     let s = setting_of c.args.self.now (slots_view c.args.slots.now) in
     let May = StoppingRuns s c.args.left in
     λ ok. rw (← c.expr_kind.ensures.view, c.in-Slot.is, kind_view-Slot) (step.slot_gives s May _ _ c.slot_value.ensures ok)
 
-pub interpret_kind-returns-in-Unknown : goal.interpret_kind-returns-in-Unknown
-interpret_kind-returns-in-Unknown t c =
+pub interpret_kind-returns-in-Unknown-clause-answer : goal.interpret_kind-returns-in-Unknown-clause-answer
+interpret_kind-returns-in-Unknown-clause-answer t c =
     let s = setting_of c.args.self.now (slots_view c.args.slots.now) in
     let May = StoppingRuns s c.args.left in
     λ ok. rw (← c.expr_kind.ensures.view, c.in-Unknown.is, kind_view-Unknown) (step.unknown_stops s May _ _ c.non_value.result refl (rw (← c.expr_kind.ensures.view, c.in-Unknown.is, kind_view-Unknown) at c.non_value.ensures) ok)
+
+pub interpret_kind-returns-in-Lit-clause-elements : goal.interpret_kind-returns-in-Lit-clause-elements
+interpret_kind-returns-in-Lit-clause-elements t c =
+    λ parts. no_set c.args.e.now _ _ _ parts c.expr_kind.ensures.node c.in-Lit.is (kind_node-Lit _) refl
+
+pub interpret_kind-returns-in-Var-clause-elements : goal.interpret_kind-returns-in-Var-clause-elements
+interpret_kind-returns-in-Var-clause-elements t c =
+    λ parts. no_set c.args.e.now _ _ _ parts c.expr_kind.ensures.node c.in-Var.is (kind_node-Var _) refl
+
+pub interpret_kind-returns-in-Slot-clause-elements : goal.interpret_kind-returns-in-Slot-clause-elements
+interpret_kind-returns-in-Slot-clause-elements t c =
+    λ parts. no_set c.args.e.now _ _ _ parts c.expr_kind.ensures.node c.in-Slot.is (kind_node-Slot _) refl
+
+pub interpret_kind-returns-in-Unknown-clause-elements : goal.interpret_kind-returns-in-Unknown-clause-elements
+interpret_kind-returns-in-Unknown-clause-elements t c =
+    λ parts. no_set c.args.e.now _ _ _ parts c.expr_kind.ensures.node c.in-Unknown.is (kind_node-Unknown _) refl
+
+pub interpret_kind-returns-in-If-clause-elements : goal.interpret_kind-returns-in-If-clause-elements
+interpret_kind-returns-in-If-clause-elements t c =
+    λ parts. no_set c.args.e.now _ _ _ parts c.expr_kind.ensures.node c.in-If.is (kind_node-If _ _ _) refl
+
+pub interpret_kind-returns-in-And-clause-elements : goal.interpret_kind-returns-in-And-clause-elements
+interpret_kind-returns-in-And-clause-elements t c =
+    λ parts. no_set c.args.e.now _ _ _ parts c.expr_kind.ensures.node c.in-And.is (kind_node-And _ _) refl
+
+pub interpret_kind-returns-in-Or-clause-elements : goal.interpret_kind-returns-in-Or-clause-elements
+interpret_kind-returns-in-Or-clause-elements t c =
+    λ parts. no_set c.args.e.now _ _ _ parts c.expr_kind.ensures.node c.in-Or.is (kind_node-Or _ _) refl
+
+pub interpret_kind-returns-in-UnaryApp-clause-elements : goal.interpret_kind-returns-in-UnaryApp-clause-elements
+interpret_kind-returns-in-UnaryApp-clause-elements t c =
+    λ parts. no_set c.args.e.now _ _ _ parts c.expr_kind.ensures.node c.in-UnaryApp.is (kind_node-UnaryApp _ _) refl
+
+pub interpret_kind-returns-in-BinaryApp-clause-elements : goal.interpret_kind-returns-in-BinaryApp-clause-elements
+interpret_kind-returns-in-BinaryApp-clause-elements t c =
+    λ parts. no_set c.args.e.now _ _ _ parts c.expr_kind.ensures.node c.in-BinaryApp.is (kind_node-BinaryApp _ _ _) refl
+
+pub interpret_kind-returns-in-ExtensionFunctionApp-clause-elements : goal.interpret_kind-returns-in-ExtensionFunctionApp-clause-elements
+interpret_kind-returns-in-ExtensionFunctionApp-clause-elements t c =
+    λ parts. no_set c.args.e.now _ _ _ parts c.expr_kind.ensures.node c.in-ExtensionFunctionApp.is (kind_node-ExtensionFunctionApp _ _) refl
+
+pub interpret_kind-returns-in-GetAttr-clause-elements : goal.interpret_kind-returns-in-GetAttr-clause-elements
+interpret_kind-returns-in-GetAttr-clause-elements t c =
+    λ parts. no_set c.args.e.now _ _ _ parts c.expr_kind.ensures.node c.in-GetAttr.is (kind_node-GetAttr _ _) refl
+
+pub interpret_kind-returns-in-HasAttr-clause-elements : goal.interpret_kind-returns-in-HasAttr-clause-elements
+interpret_kind-returns-in-HasAttr-clause-elements t c =
+    λ parts. no_set c.args.e.now _ _ _ parts c.expr_kind.ensures.node c.in-HasAttr.is (kind_node-HasAttr _ _) refl
+
+pub interpret_kind-returns-in-ExtHasAttr-clause-elements : goal.interpret_kind-returns-in-ExtHasAttr-clause-elements
+interpret_kind-returns-in-ExtHasAttr-clause-elements t c =
+    λ parts. no_set c.args.e.now _ _ _ parts c.expr_kind.ensures.node c.in-ExtHasAttr.is (kind_node-ExtHasAttr _ _) refl
+
+pub interpret_kind-returns-in-Like-clause-elements : goal.interpret_kind-returns-in-Like-clause-elements
+interpret_kind-returns-in-Like-clause-elements t c =
+    λ parts. no_set c.args.e.now _ _ _ parts c.expr_kind.ensures.node c.in-Like.is (kind_node-Like _ _) refl
+
+pub interpret_kind-returns-in-Is-clause-elements : goal.interpret_kind-returns-in-Is-clause-elements
+interpret_kind-returns-in-Is-clause-elements t c =
+    λ parts. no_set c.args.e.now _ _ _ parts c.expr_kind.ensures.node c.in-Is.is (kind_node-Is _ _) refl
+
+pub interpret_kind-returns-in-Record-clause-elements : goal.interpret_kind-returns-in-Record-clause-elements
+interpret_kind-returns-in-Record-clause-elements t c =
+    λ parts. no_set c.args.e.now _ _ _ parts c.expr_kind.ensures.node c.in-Record.is (kind_node-Record _) refl
+
+pub interpret_kind-returns-in-Set-clause-elements : goal.interpret_kind-returns-in-Set-clause-elements
+interpret_kind-returns-in-Set-clause-elements t c =
+    let held = c.in-Set.parts.value.items in
+    let lent : c.deref-in-Set-2.result.now ≡ held = c.deref-in-Set-2.ensures.value ∙ ap (λ v. v.items) c.deref-in-Set.ensures in
+    λ parts is. subst (λ es. IfOk c.set.result (λ s. HasElementsOf c.args.self.now c.args.slots.now c.args.left es s)) (lent ∙ same_parts c.args.e.now _ _ held parts c.expr_kind.ensures.node c.in-Set.is (kind_node-Set _) is) c.set.ensures.elements
 
 pub branch-returns-in-Ok-true : goal.branch-returns-in-Ok-true
 branch-returns-in-Ok-true t c =
@@ -238,14 +314,18 @@ is-returns-in-Err t c =
     let May = StoppingRuns s c.args.left in
     step.is_fails s May _ _ c.in-Err.error c.in-Err.ensures.answer
 
-pub set-returns-in-Ok : goal.set-returns-in-Ok
-set-returns-in-Ok t c =
+pub set-returns-in-Ok-clause-answer : goal.set-returns-in-Ok-clause-answer
+set-returns-in-Ok-clause-answer t c =
     let s = setting_of c.args.self.now (slots_view c.args.slots.now) in
     let May = StoppingRuns s c.args.left in
-    step.set_reads s May _ _ _ c.in-Ok.ensures.ok c.set_value.ensures
+    step.set_reads s May _ _ _ c.in-Ok.ensures.ok c.set_value.ensures.answer
 
-pub set-returns-in-Err : goal.set-returns-in-Err
-set-returns-in-Err t c =
+pub set-returns-in-Ok-clause-elements : goal.set-returns-in-Ok-clause-elements
+set-returns-in-Ok-clause-elements t c =
+    elements_given c.args.self.now c.args.slots.now c.args.left c.args.parts.now c.in-Ok.values.items c.set_value.result c.in-Ok.ensures.ok c.in-Ok.ensures.places c.set_value.ensures.elements
+
+pub set-returns-in-Err-clause-answer : goal.set-returns-in-Err-clause-answer
+set-returns-in-Err-clause-answer t c =
     let s = setting_of c.args.self.now (slots_view c.args.slots.now) in
     let May = StoppingRuns s c.args.left in
     step.set_fails s May _ c.in-Err.error c.in-Err.ensures.error
@@ -271,7 +351,10 @@ values-parts-preserved t c =
     let item = c.part-item.result in
     let more : suc i ≡ i + 1 = omega arith in
     let next : drop i items ≡ item ∷ drop (i + 1) items = drop-cons items i item c.parts-test.true ∙ ap (λ p. p ∷ drop (suc i) items) (sym c.part-item.is) ∙ ap (λ j. item ∷ drop j items) more in
-    rw c.in_ok-push-in-Ok.ensures.items (parts.collected_more May (terms_view items) (terms_view (drop i items)) (terms_view (drop (i + 1) items)) (view item) c.parts.values.items c.in-Ok.value c.parts.invariant (ap terms_view next) (c.in-Ok.ensures.answer (value_is_no_want _)))
+    rw c.in_ok-push-in-Ok.ensures.items (
+      parts.collected_more May (terms_view items) (terms_view (drop i items)) (terms_view (drop (i + 1) items)) (view item) c.parts.values.items c.in-Ok.value c.parts.invariant.0 (ap terms_view next) (c.in-Ok.ensures.answer (value_is_no_want _)),
+      parts.placed_more items (drop i items) (drop (i + 1) items) item c.parts.values.items c.in-Ok.value c.parts.invariant.1 next c.in-Ok.ensures.place,
+    )
 
 pub values-returns-in-Err-clause-error : goal.values-returns-in-Err-clause-error
 values-returns-in-Err-clause-error t c =
@@ -282,7 +365,7 @@ values-returns-in-Err-clause-error t c =
     let item = c.part-item.result in
     let more : suc i ≡ i + 1 = omega arith in
     let next : drop i items ≡ item ∷ drop (i + 1) items = drop-cons items i item c.parts-test.true ∙ ap (λ p. p ∷ drop (suc i) items) (sym c.part-item.is) ∙ ap (λ j. item ∷ drop j items) more in
-    λ m. parts.collected_fails May (terms_view items) (terms_view (drop i items)) (terms_view (drop (i + 1) items)) (view item) c.parts.values.items (failure_of c.in-Err.error) c.parts.invariant (ap terms_view next) (c.in-Err.ensures.answer (step.no_want c.in-Err.error m))
+    λ m. parts.collected_fails May (terms_view items) (terms_view (drop i items)) (terms_view (drop (i + 1) items)) (view item) c.parts.values.items (failure_of c.in-Err.error) c.parts.invariant.0 (ap terms_view next) (c.in-Err.ensures.answer (step.no_want c.in-Err.error m))
 
 pub values-returns-clause-ok : goal.values-returns-clause-ok
 values-returns-clause-ok t c =
@@ -290,7 +373,13 @@ values-returns-clause-ok t c =
     let May = StoppingRuns s c.args.left in
     let items = c.args.parts.now in
     let i = c.parts.part-index in
-    parts.collected_all May (terms_view items) (terms_view (drop i items)) c.parts.values.items c.parts.invariant (ap terms_view (drop_all i items c.parts-test.false))
+    parts.collected_all May (terms_view items) (terms_view (drop i items)) c.parts.values.items c.parts.invariant.0 (ap terms_view (drop_all i items c.parts-test.false))
+
+pub values-returns-clause-places : goal.values-returns-clause-places
+values-returns-clause-places t c =
+    let items = c.args.parts.now in
+    let i = c.parts.part-index in
+    parts.placed_all items (drop i items) c.parts.values.items c.parts.invariant.1 (drop_all i items c.parts-test.false)
 
 pub fields-fields-preserved : goal.fields-fields-preserved
 fields-fields-preserved t c =

@@ -4,7 +4,7 @@ use Rattle.cedar_data.specs.Sound.{whats}
 use Rattle.cedar_layers.specs.Policies.{slots_view}
 use Rattle.cedar_evaluator.specs.Evaluations.{setting_of}
 use Rattle.cedar_evaluator.specs.Stops.{StoppingRuns}
-use Rattle.cedar_evaluator.proofs.Parts.{Collected, CollectedAt, names_under}
+use Rattle.cedar_evaluator.proofs.Parts.{Collected, HavePlaces, CollectedAt, names_under}
 use Rattle.cedar_evaluator.proofs.evaluator.Evaluator.+interpret.Given as goal
 
 abbrev pub decreases-interpret_within : goal.decreases-interpret_within
@@ -61,6 +61,7 @@ decreases-fields l = 4 * l.left + 1
 abbrev pub invariant-values-parts : goal.invariant-values-parts
 invariant-values-parts l =
     Collected (StoppingRuns (setting_of l.fn.self (slots_view l.fn.slots)) l.fn.left) (terms_view l.fn.parts) (terms_view (drop l.part-index l.parts)) (whats l.values.items)
+    × HavePlaces l.fn.parts (drop l.part-index l.parts) l.values.items
 
 abbrev pub invariant-fields-fields : goal.invariant-fields-fields
 invariant-fields-fields l =

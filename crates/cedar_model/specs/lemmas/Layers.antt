@@ -6,12 +6,14 @@ use Rattle.cedar_model.specs.Failures.{Answer, limit}
 use Rattle.cedar_model.specs.Settings.{Setting}
 use Rattle.cedar_model.specs.Rules.{StoredCalls, Rule, Runs}
 
-pub runs_by_layer : (s : Setting) (calls : StoredCalls) (n : ℕ) (t : Term) (a : Answer) → 0 < n → Rule s calls (Runs s calls (n - 1)) t a → Runs s calls n t a
+pub runs_by_layer : (s : Setting) (calls : StoredCalls) (n : ℕ) (t : Term) (a : Answer) → 0 < n
+    → Rule s calls (Runs s calls (n - 1)) t a → Runs s calls n t a
 runs_by_layer s calls zero t a h r = absurd (omega arith)
 runs_by_layer s calls (suc m) t a h r =
     let e : suc m - 1 ≡ m = omega arith in subst (λ k. Rule s calls (Runs s calls k) t a) e r
 
-pub layer_of_runs : (s : Setting) (calls : StoredCalls) (n : ℕ) (t : Term) (a : Answer) → 0 < n → Runs s calls n t a → Rule s calls (Runs s calls (n - 1)) t a
+pub layer_of_runs : (s : Setting) (calls : StoredCalls) (n : ℕ) (t : Term) (a : Answer) → 0 < n → Runs s calls n t a
+    → Rule s calls (Runs s calls (n - 1)) t a
 layer_of_runs s calls zero t a h r = absurd (omega arith)
 layer_of_runs s calls (suc m) t a h r =
     let e : m ≡ suc m - 1 = omega arith in subst (λ k. Rule s calls (Runs s calls k) t a) e r

@@ -1,12 +1,31 @@
--- How a ghost value of the model's data is stored: each type by its key, and a key as a tree of numbers. No law of Cedar stands here.
+-- How a ghost value of the model's data is stored: each type by its key, and a key as a tree of numbers. No law of
+-- Cedar stands here.
 use Rattle.std.specs.Prelude.{◌≡◌, ℕ, pos, negsuc, cond, ◌==◌, List, [], ◌∷◌, Option, Some, None}
 use Rattle.std.proofs.Common.{refl, ap}
 use Rattle.std.specs.Coded.{Coded, code_by}
 use base.Stored.{Gv, gnil, gnum, gcons}
 use denote.Struct.Codes.{itself}
-use Rattle.cedar_model.specs.Terms.{Text, EntityName, Literal, Variable, principal, action, resource, context, Slot, principal_slot, resource_slot, ValueType, bool_type, long_type, string_type, set_type, record_type, entity_type, extension_type, UnaryOperator, not_operator, neg_operator, is_empty_operator, BinaryOperator, eq_operator, less_operator, less_eq_operator, add_operator, sub_operator, mul_operator, in_operator, contains_operator, contains_all_operator, contains_any_operator, get_tag_operator, has_tag_operator, PatternPart, character, wildcard, Term, literal, variable, slot, unknown, if_then_else, both, either, unary, binary, call, get_attribute, has_attribute, extended_has, like, is_of_type, set_of, record_of, Terms, no_terms, one_term, Fields, no_fields, one_field}
-use Rattle.cedar_model.specs.Values.{AbstractValue, AbstractValues, AbstractFields, Represented, plain_represented, set_represented, record_represented, extension_represented, RepresentedValues, no_represented, one_represented, RepresentedFields, no_represented_at, one_represented_at}
-use Rattle.cedar_model.specs.Keys.{Key, end_key, number_key, pair_key, text_key, entity_key, literal_key, value_key, values_key, value_fields_key, number_of_key, text_of_key, first_of_key, second_of_key, entity_of_key, literal_of_key, value_of_key, values_of_key, value_fields_of_key, text_of_key-text_key, entity_of_key-entity_key, literal_of_key-literal_key, value_of_key-value_key, values_of_key-values_key, value_fields_of_key-value_fields_key}
+use Rattle.cedar_model.specs.Terms.{Text, EntityName, Literal, Variable, principal, action, resource, context, Slot}
+use Rattle.cedar_model.specs.Terms.{principal_slot, resource_slot, ValueType, bool_type, long_type, string_type}
+use Rattle.cedar_model.specs.Terms.{set_type, record_type, entity_type, extension_type, UnaryOperator, not_operator}
+use Rattle.cedar_model.specs.Terms.{neg_operator, is_empty_operator, BinaryOperator, eq_operator, less_operator}
+use Rattle.cedar_model.specs.Terms.{less_eq_operator, add_operator, sub_operator, mul_operator, in_operator}
+use Rattle.cedar_model.specs.Terms.{contains_operator, contains_all_operator, contains_any_operator, get_tag_operator}
+use Rattle.cedar_model.specs.Terms.{has_tag_operator, PatternPart, character, wildcard, Term, literal, variable, slot}
+use Rattle.cedar_model.specs.Terms.{unknown, if_then_else, both, either, unary, binary, call, get_attribute}
+use Rattle.cedar_model.specs.Terms.{has_attribute, extended_has, like, is_of_type, set_of, record_of, Terms, no_terms}
+use Rattle.cedar_model.specs.Terms.{one_term, Fields, no_fields, one_field}
+use Rattle.cedar_model.specs.Values.{AbstractValue, AbstractValues, AbstractFields, Represented, plain_represented}
+use Rattle.cedar_model.specs.Values.{set_represented, record_represented, extension_represented, RepresentedValues}
+use Rattle.cedar_model.specs.Values.{no_represented, one_represented, RepresentedFields, no_represented_at}
+use Rattle.cedar_model.specs.Values.{one_represented_at}
+use Rattle.cedar_model.specs.Keys.{Key, end_key, number_key, pair_key, text_key, entity_key, literal_key, value_key}
+use Rattle.cedar_model.specs.Keys.{values_key, value_fields_key, number_of_key, text_of_key, first_of_key}
+use Rattle.cedar_model.specs.Keys.{second_of_key, entity_of_key, literal_of_key, value_of_key, values_of_key}
+use Rattle.cedar_model.specs.Keys.{value_fields_of_key}
+use Rattle.cedar_model.specs.lemmas.Keys.{text_of_key-text_key, entity_of_key-entity_key, literal_of_key-literal_key}
+use Rattle.cedar_model.specs.lemmas.Keys.{value_of_key-value_key, values_of_key-values_key}
+use Rattle.cedar_model.specs.lemmas.Keys.{value_fields_of_key-value_fields_key}
 
 -- ---- keys
 
@@ -177,19 +196,23 @@ binary_of_number-binary_number has_tag_operator = refl
 
 abbrev pub variable_code : Coded Variable
 variable_code =
-    code_by Key key_code (λ v. number_key (pos (variable_number v))) (λ k. variable_of_number (number_of_key k)) variable_of_number-variable_number
+    code_by Key key_code (λ v. number_key (pos (variable_number v)))
+    (λ k. variable_of_number (number_of_key k)) variable_of_number-variable_number
 
 abbrev pub slot_code : Coded Slot
 slot_code =
-    code_by Key key_code (λ s. number_key (pos (slot_number s))) (λ k. slot_of_number (number_of_key k)) slot_of_number-slot_number
+    code_by Key key_code (λ s. number_key (pos (slot_number s)))
+    (λ k. slot_of_number (number_of_key k)) slot_of_number-slot_number
 
 abbrev pub unary_operator_code : Coded UnaryOperator
 unary_operator_code =
-    code_by Key key_code (λ o. number_key (pos (unary_number o))) (λ k. unary_of_number (number_of_key k)) unary_of_number-unary_number
+    code_by Key key_code (λ o. number_key (pos (unary_number o)))
+    (λ k. unary_of_number (number_of_key k)) unary_of_number-unary_number
 
 abbrev pub binary_operator_code : Coded BinaryOperator
 binary_operator_code =
-    code_by Key key_code (λ o. number_key (pos (binary_number o))) (λ k. binary_of_number (number_of_key k)) binary_of_number-binary_number
+    code_by Key key_code (λ o. number_key (pos (binary_number o)))
+    (λ k. binary_of_number (number_of_key k)) binary_of_number-binary_number
 
 abbrev pub pattern_key : List PatternPart → Key
 pattern_key [] = end_key
@@ -258,7 +281,8 @@ abbrev mutual
 abbrev pub term_of_parts : ℕ → Key → Key → Key → Term → Term → Term → Terms → Fields → Term
 term_of_parts n a b c s t u ts fs =
     cond (n == 0) (literal (literal_of_key a)) (cond (n == 1) (variable (variable_of_number (number_of_key a)))
-    (cond (n == 2) (slot (slot_of_number (number_of_key a))) (cond (n == 3) (unknown (text_of_key a) (annotation_of_key b))
+    (cond (n == 2) (slot (slot_of_number (number_of_key a)))
+    (cond (n == 3) (unknown (text_of_key a) (annotation_of_key b))
     (cond (n == 4) (if_then_else s t u) (cond (n == 5) (both s t) (cond (n == 6) (either s t)
     (cond (n == 7) (unary (unary_of_number (number_of_key b)) s)
     (cond (n == 8) (binary (binary_of_number (number_of_key c)) s t) (cond (n == 9) (call (text_of_key a) ts)
@@ -275,7 +299,8 @@ abbrev mutual
   term_of_key (pair_key m (pair_key a end_key)) = set_of no_terms
   term_of_key (pair_key m (pair_key a (number_key n))) = set_of no_terms
   term_of_key (pair_key m (pair_key a (pair_key b c))) =
-      term_of_parts (number_of_key m) a b c (term_of_key a) (term_of_key b) (term_of_key c) (terms_of_key b) (fields_of_key b)
+      term_of_parts (number_of_key m) a b c (term_of_key a) (term_of_key b) (term_of_key c) (terms_of_key b)
+      (fields_of_key b)
 
   pub terms_of_key : Key → Terms
   terms_of_key end_key = no_terms
@@ -338,7 +363,8 @@ abbrev mutual
   represented_key (set_represented vs) = pair_key (number_key (pos 1)) (represented_values_key vs)
   represented_key (record_represented fs) = pair_key (number_key (pos 2)) (represented_fields_key fs)
   represented_key (extension_represented t k f ts) =
-      pair_key (number_key (pos 3)) (pair_key (pair_key (text_key t) (text_key k)) (pair_key (text_key f) (terms_key ts)))
+      pair_key (number_key (pos 3)) (pair_key (pair_key (text_key t) (text_key k))
+      (pair_key (text_key f) (terms_key ts)))
 
   pub represented_values_key : RepresentedValues → Key
   represented_values_key no_represented = end_key
@@ -351,8 +377,10 @@ abbrev mutual
 
 abbrev pub represented_of_parts : ℕ → Key → RepresentedValues → RepresentedFields → Represented
 represented_of_parts n k vs fs =
-    cond (n == 0) (plain_represented (literal_of_key k)) (cond (n == 1) (set_represented vs) (cond (n == 2) (record_represented fs)
-    (extension_represented (text_of_key (first_of_key (first_of_key k))) (text_of_key (second_of_key (first_of_key k))) (text_of_key (first_of_key (second_of_key k))) (terms_of_key (second_of_key (second_of_key k))))))
+    cond (n == 0) (plain_represented (literal_of_key k))
+    (cond (n == 1) (set_represented vs) (cond (n == 2) (record_represented fs)
+    (extension_represented (text_of_key (first_of_key (first_of_key k))) (text_of_key (second_of_key (first_of_key k)))
+    (text_of_key (first_of_key (second_of_key k))) (terms_of_key (second_of_key (second_of_key k))))))
 
 abbrev mutual
   pub represented_of_key : Key → Represented
@@ -382,17 +410,22 @@ mutual
   represented_of_key-represented_key (record_represented fs) =
       ap record_represented (represented_fields_of_key-represented_fields_key fs)
   represented_of_key-represented_key (extension_represented t k f ts) =
-      λ i. extension_represented (text_of_key-text_key t i) (text_of_key-text_key k i) (text_of_key-text_key f i) (terms_of_key-terms_key ts i)
+      λ i. extension_represented (text_of_key-text_key t i) (text_of_key-text_key k i) (text_of_key-text_key f i)
+      (terms_of_key-terms_key ts i)
 
-  pub represented_values_of_key-represented_values_key : (vs : RepresentedValues) → represented_values_of_key (represented_values_key vs) ≡ vs
+  pub represented_values_of_key-represented_values_key : (vs : RepresentedValues)
+      → represented_values_of_key (represented_values_key vs) ≡ vs
   represented_values_of_key-represented_values_key no_represented = refl
   represented_values_of_key-represented_values_key (one_represented v vs) =
-      λ i. one_represented (represented_of_key-represented_key v i) (represented_values_of_key-represented_values_key vs i)
+      λ i. one_represented (represented_of_key-represented_key v i)
+      (represented_values_of_key-represented_values_key vs i)
 
-  pub represented_fields_of_key-represented_fields_key : (fs : RepresentedFields) → represented_fields_of_key (represented_fields_key fs) ≡ fs
+  pub represented_fields_of_key-represented_fields_key : (fs : RepresentedFields)
+      → represented_fields_of_key (represented_fields_key fs) ≡ fs
   represented_fields_of_key-represented_fields_key no_represented_at = refl
   represented_fields_of_key-represented_fields_key (one_represented_at k v fs) =
-      λ i. one_represented_at (text_of_key-text_key k i) (represented_of_key-represented_key v i) (represented_fields_of_key-represented_fields_key fs i)
+      λ i. one_represented_at (text_of_key-text_key k i) (represented_of_key-represented_key v i)
+      (represented_fields_of_key-represented_fields_key fs i)
 
 abbrev pub represented_code : Coded Represented
 represented_code =
@@ -400,8 +433,10 @@ represented_code =
 
 abbrev pub represented_values_code : Coded RepresentedValues
 represented_values_code =
-    code_by Key key_code represented_values_key represented_values_of_key represented_values_of_key-represented_values_key
+    code_by Key key_code represented_values_key represented_values_of_key
+    represented_values_of_key-represented_values_key
 
 abbrev pub represented_fields_code : Coded RepresentedFields
 represented_fields_code =
-    code_by Key key_code represented_fields_key represented_fields_of_key represented_fields_of_key-represented_fields_key
+    code_by Key key_code represented_fields_key represented_fields_of_key
+    represented_fields_of_key-represented_fields_key

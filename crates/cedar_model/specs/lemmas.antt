@@ -1,0 +1,5 @@
+pub mod Keys
+pub mod Sets
+pub mod Codes
+pub mod Layers
+pub mod Steps
