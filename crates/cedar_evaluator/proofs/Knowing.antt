@@ -12,7 +12,8 @@ use Rattle.cedar_model.specs.Agreement.{AgreesWithFunctions, HasNothingUnknown, 
 use Rattle.cedar_model.specs.Authorizations.{IsExact, IsExactDecision, evaluated}
 use Rattle.cedar_model.specs.Operators.{attribute_answer, attribute_residual}
 use Rattle.cedar_model.proofs.Exactly.{answer_exact, decision_exact}
-use Rattle.cedar_model.proofs.Resolving.{IsStored, none_is_stored, attribute_is_stored, beside_is_stored, resolves_map, path_map}
+use Rattle.cedar_model.proofs.Resolving.{IsStored, none_is_stored, attribute_is_stored, beside_is_stored}
+use Rattle.cedar_model.proofs.Resolving.{resolves_map, path_map}
 use Rattle.cedar_operators.specs.Stopping.{stopped}
 use Rattle.cedar_evaluator.specs.Stops.{NoCalls, StoppingRuns, IsKnownExactly, IsDecidedExactly}
 
@@ -33,7 +34,9 @@ no_residual s zero t a r = subst IsNoResidual (sym r) tt
 no_residual s (suc n) t a (b, r, e) = subst IsNoResidual (sym e) (stopped_no_residual b)
 
 -- what holds of the parts that a known expression has, one layer up
-module _ (s : Setting) (ans : Functions) (May Can : MayAnswer) (none : (t : Term) → IsStored s.store t → ⊥) (clean : (t : Term) (x : Answer) → May t x → IsNoResidual x) (more : (t : Term) (x : Answer) → IsKnown ans t → May t x → Can t x) where
+module _ (s : Setting) (ans : Functions) (May Can : MayAnswer) (none : (t : Term) → IsStored s.store t
+    → ⊥) (clean : (t : Term) (x : Answer) → May t x → IsNoResidual x) (more : (t : Term) (x : Answer) → IsKnown ans t
+    → May t x → Can t x) where
   branch : (o : Option Bool) (v : Represented) (t e : Term) (a : Answer) → IsKnown ans t → IsKnown ans e → TakesBranch May o v t e a → TakesBranch Can o v t e a
   branch None v t e a k l r = r
   branch (Some true) v t e a k l r = more t a k r
@@ -66,13 +69,18 @@ module _ (s : Setting) (ans : Functions) (May Can : MayAnswer) (none : (t : Term
 
   right_after : (op : BinaryOperator) (x : Answer) (t : Term) (a : Answer) → IsKnown ans t → AfterLeft May s op x t a → AfterLeft Can s op x t a
   right_after op (fails e) t a k r = r
-  right_after op (answers p) t a k (x, m, e) =
-      (x, more t x k m, resolves_map May Can s.store (λ z i. absurd (none z i)) s.resolution (beside_residual s.store op p x) (binary_beside s op p x) a (beside_is_stored s.store op p x) e)
+  right_after op (answers p) t a k (x, m, e) = (
+    x,
+    more t x k m,
+    resolves_map May Can s.store (λ z i. absurd (none z i)) s.resolution
+        (beside_residual s.store op p x) (binary_beside s op p x) a (beside_is_stored s.store op p x) e,
+  )
 
   attribute_after : (x : Answer) (l : Text) (a : Answer) → IsNoResidual x → AtAttribute May s x l a → AtAttribute Can s x l a
   attribute_after (fails e) l a c r = r
   attribute_after (answers (value v)) l a c r =
-      resolves_map May Can s.store (λ z i. absurd (none z i)) s.resolution (attribute_residual s.store v l) (attribute_answer s v l) a (attribute_is_stored s.store v l) r
+      resolves_map May Can s.store (λ z i. absurd (none z i)) s.resolution (attribute_residual s.store v l)
+      (attribute_answer s v l) a (attribute_is_stored s.store v l) r
   attribute_after (answers (residual q)) l a c r = absurd c
 
   after_part : (x : Answer) (P Q : Result (List PartialValue) Failure → Type 0) (r : Result (List PartialValue) Failure) → ((q : Result (List PartialValue) Failure) → P q → Q q) → AfterPart May x P r → AfterPart Can x Q r
@@ -131,7 +139,8 @@ module _ (s : Setting) (known : HasNothingUnknown s) (ans : Functions) (sigma : 
   unfolding StoppingRuns
   known_runs zero t a k r = r
   known_runs (suc n) t a k (b, r, e) =
-      let q : Runs s NoCalls (suc n) t b = rule s ans (StoppingRuns s n) (Runs s NoCalls n) (none_is_stored s.store known.store_known) (no_residual s n) (known_runs n) t b k r in
+      let q : Runs s NoCalls (suc n) t b = rule s ans (StoppingRuns s n) (Runs s NoCalls n)
+      (none_is_stored s.store known.store_known) (no_residual s n) (known_runs n) t b k r in
       subst (Runs s NoCalls (suc n) t) (sym (e ∙ goes_on (suc n) t b (exactly (suc n) t b k q))) q
 
 pub known_exactly : (s : Setting) (levels : ℕ) (t : Term) (a : Answer) → Meets (StoppingRuns s levels t) a → IsKnownExactly s levels t a

@@ -168,15 +168,44 @@ module _ (s : Setting) (May : MayAnswer) where
   unfolding stopped on_part
   unary_fails op t e errs ok = (fails (failure_of e), (fails (failure_of e), errs ok, refl), refl)
 
-  pub binary_reads : s.resolution ≡ shallow → (op : BinaryOperator) (t u : Term) (v w : Represented) (r : Result Placed EvaluationError) → Reads t v → Reads u w → Answers r (stopped (binary_answer s op v w)) → Gives (binary op t u) r
+  pub binary_reads : s.resolution ≡ shallow → (op : BinaryOperator) (t u : Term) (v w : Represented)
+      (r : Result Placed EvaluationError) → Reads t v → Reads u w → Answers r (stopped (binary_answer s op v w))
+      → Gives (binary op t u) r
   unfolding binary_beside binary_of_parts
-  binary_reads kept op t u v w r first second is ok =
-      (binary_answer s op v w, (answers_value v, first (value_is_no_want v), (answers_value w, second (value_is_no_want w), stored_stays kept (beside_residual s.store op (value v) (answers_value w)) (binary_answer s op v w))), is ok)
+  binary_reads kept op t u v w r first second is ok = (
+    binary_answer s op v w,
+    (
+      answers_value v,
+      first (value_is_no_want v),
+      (
+        answers_value w,
+        second
+            (value_is_no_want w),
+        stored_stays kept (beside_residual s.store op (value v) (answers_value w))
+            (binary_answer s op v w),
+      ),
+    ),
+    is ok,
+  )
 
-  pub binary_right_fails : s.resolution ≡ shallow → (op : BinaryOperator) (t u : Term) (v : Represented) (e : EvaluationError) → Reads t v → Errs u e → Gives (binary op t u) (Err e)
+  pub binary_right_fails : s.resolution ≡ shallow → (op : BinaryOperator) (t u : Term) (v : Represented)
+      (e : EvaluationError) → Reads t v → Errs u e → Gives (binary op t u) (Err e)
   unfolding stopped binary_beside
-  binary_right_fails kept op t u v e first errs ok =
-      (fails (failure_of e), (answers_value v, first (value_is_no_want v), (fails (failure_of e), errs ok, stored_stays kept (beside_residual s.store op (value v) (fails (failure_of e))) (fails (failure_of e)))), refl)
+  binary_right_fails kept op t u v e first errs ok = (
+    fails (failure_of e),
+    (
+      answers_value v,
+      first (value_is_no_want v),
+      (
+        fails
+            (failure_of e),
+        errs ok,
+        stored_stays kept (beside_residual s.store op (value v) (fails (failure_of e)))
+            (fails (failure_of e)),
+      ),
+    ),
+    refl,
+  )
 
   pub binary_fails : (op : BinaryOperator) (t u : Term) (e : EvaluationError) → Errs t e → Gives (binary op t u) (Err e)
   unfolding stopped
@@ -202,9 +231,19 @@ module _ (s : Setting) (May : MayAnswer) where
 
   -- ---- attributes
 
-  pub attribute_reads : s.resolution ≡ shallow → (t : Term) (k : Text) (v : Represented) (r : Result Placed EvaluationError) → Reads t v → Answers r (stopped (attribute_answer s v k)) → Gives (get_attribute t k) r
-  attribute_reads kept t k v r reads is ok =
-      (attribute_answer s v k, (answers_value v, reads (value_is_no_want v), stored_stays kept (attribute_residual s.store v k) (attribute_answer s v k)), is ok)
+  pub attribute_reads : s.resolution ≡ shallow → (t : Term) (k : Text) (v : Represented)
+      (r : Result Placed EvaluationError) → Reads t v → Answers r (stopped (attribute_answer s v k))
+      → Gives (get_attribute t k) r
+  attribute_reads kept t k v r reads is ok = (
+    attribute_answer s v k,
+    (
+      answers_value v,
+      reads (value_is_no_want v),
+      stored_stays kept
+          (attribute_residual s.store v k) (attribute_answer s v k),
+    ),
+    is ok,
+  )
 
   pub attribute_fails : (t : Term) (k : Text) (e : EvaluationError) → Errs t e → Gives (get_attribute t k) (Err e)
   unfolding stopped
@@ -219,15 +258,34 @@ module _ (s : Setting) (May : MayAnswer) where
   unfolding stopped has_part
   has_fails t k e errs ok = (fails (failure_of e), (fails (failure_of e), errs ok, refl), refl)
 
-  pub path_reads : s.resolution ≡ shallow → (t : Term) (k : Text) (ks : List Text) (v : Represented) (r : Result Placed EvaluationError) → Reads t v → Answers r (stopped (path_answer s.store v k ks)) → Gives (extended_has t k ks) r
+  pub path_reads : s.resolution ≡ shallow → (t : Term) (k : Text) (ks : List Text) (v : Represented)
+      (r : Result Placed EvaluationError) → Reads t v → Answers r (stopped (path_answer s.store v k ks))
+      → Gives (extended_has t k ks) r
   unfolding on_part
-  path_reads kept t k ks v r reads is ok =
-      (path_answer s.store v k ks, (answers_value v, reads (value_is_no_want v), subst (λ z. AtPath May z s.store (answers_value v) k ks (path_answer s.store v k ks)) (sym kept) refl), is ok)
+  path_reads kept t k ks v r reads is ok = (
+    path_answer s.store v k ks,
+    (
+      answers_value v,
+      reads (value_is_no_want v),
+      subst (λ z. AtPath May z s.store
+          (answers_value v) k ks (path_answer s.store v k ks)) (sym kept) refl,
+    ),
+    is ok,
+  )
 
-  pub path_fails : s.resolution ≡ shallow → (t : Term) (k : Text) (ks : List Text) (e : EvaluationError) → Errs t e → Gives (extended_has t k ks) (Err e)
+  pub path_fails : s.resolution ≡ shallow → (t : Term) (k : Text) (ks : List Text) (e : EvaluationError) → Errs t e
+      → Gives (extended_has t k ks) (Err e)
   unfolding stopped on_part
-  path_fails kept t k ks e errs ok =
-      (fails (failure_of e), (fails (failure_of e), errs ok, subst (λ z. AtPath May z s.store (fails (failure_of e)) k ks (fails (failure_of e))) (sym kept) refl), refl)
+  path_fails kept t k ks e errs ok = (
+    fails (failure_of e),
+    (
+      fails (failure_of e),
+      errs ok,
+      subst (λ z. AtPath May z s.store (fails
+          (failure_of e)) k ks (fails (failure_of e))) (sym kept) refl,
+    ),
+    refl,
+  )
 
   -- ---- sets, records and calls
 

@@ -29,6 +29,7 @@ pub mod StepNeeds
 pub mod Tabled
 pub mod Instanced
 pub mod Resolved
+pub mod Agreeing
 pub mod Computed
 pub mod Conjunction
 pub mod Functional

@@ -33,6 +33,7 @@ pub mod ResponseLaws
 pub mod Needs
 pub mod Instances
 pub mod Resolutions
+pub mod ResolutionLaws
 pub mod Authorizations
 pub mod AuthorizationLaws
 pub mod Reports

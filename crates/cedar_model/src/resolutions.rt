@@ -1,8 +1,16 @@
-//! Worked examples: stored residuals. Each function is a set of examples, and does nothing.
+//! Stored residuals. Each function is a law or a set of examples, and does nothing.
+ghost use Rattle.cedar_model.specs.ResolutionLaws.{ResolutionsAgree};
 ghost use Rattle.cedar_model.specs.Resolutions.{AttributeResolves, AttributeStays, AttributeErrs, TagResolves};
 ghost use Rattle.cedar_model.specs.Resolutions.{PresenceReadsNone, PathWalksOn, PathKeeps, PathErrs, LastIsPresence};
 ghost use Rattle.cedar_model.specs.Resolutions.{MissingStays, StoredNeedThree, ShallowNeedsTwo};
 ghost use Rattle.cedar_model.specs.Resolutions.{SelfReadingNeverAnswers, StoredResidualsGrow, UnsoundContextsGrow};
+
+use crate::levels::AnyFunctions;
+
+/// Where the store holds values alone, an expression may answer the same with each resolution, at each level.
+pub fn resolutions_agree<F: AnyFunctions>(functions: &F)
+    ensures { ResolutionsAgree (F.calls functions.now) }
+{}
 
 /// Examples: a stored residual that an attribute or a tag reads answers itself, or with deep resolution what it is
 /// evaluated to: a value, a residual or an error.

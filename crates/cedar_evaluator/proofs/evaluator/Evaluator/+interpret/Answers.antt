@@ -226,13 +226,15 @@ pub binary-returns-in-Ok-interpret_within : goal.binary-returns-in-Ok-interpret_
 binary-returns-in-Ok-interpret_within t c =
     let s = setting_of c.args.self.now (slots_view c.args.slots.now) in
     let May = StoppingRuns s c.args.left in
-    step.binary_reads s May refl _ _ _ _ _ _ c.in-Ok.ensures.answer c.in-Ok-interpret_within.ensures.answer (c.operate.ensures (slots_view c.args.slots.now))
+    step.binary_reads s May refl _ _ _ _ _ _ c.in-Ok.ensures.answer c.in-Ok-interpret_within.ensures.answer
+    (c.operate.ensures (slots_view c.args.slots.now))
 
 pub binary-returns-in-Err-interpret_within : goal.binary-returns-in-Err-interpret_within
 binary-returns-in-Err-interpret_within t c =
     let s = setting_of c.args.self.now (slots_view c.args.slots.now) in
     let May = StoppingRuns s c.args.left in
-    step.binary_right_fails s May refl _ _ _ _ c.in-Err-interpret_within.error c.in-Ok.ensures.answer c.in-Err-interpret_within.ensures.answer
+    step.binary_right_fails s May refl _ _ _ _ c.in-Err-interpret_within.error c.in-Ok.ensures.answer
+    c.in-Err-interpret_within.ensures.answer
 
 pub binary-returns-in-Err : goal.binary-returns-in-Err
 binary-returns-in-Err t c =
