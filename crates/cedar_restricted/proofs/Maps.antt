@@ -19,7 +19,7 @@ use Rattle.std.specs.List.Sorted.{IsStrictlySortedBy}
 use Rattle.std.specs.Map.{keys_of, lookup}
 use Rattle.std.specs.Ordering.{eq_by_cmp, is_eq, ordering_reverse}
 use Rattle.cedar_model.specs.Terms.{Text, Fields, no_fields, one_field}
-use Rattle.cedar_model.specs.Values.{Represented, RepresentedFields, no_represented_at, one_represented_at, record_represented}
+use Rattle.cedar_model.specs.Values.{RepresentedFields, no_represented_at, one_represented_at}
 use Rattle.cedar_model.specs.Sets.{represented_fields_of}
 use Rattle.cedar_expressions.specs.declared.expr.Expr.{Expr}
 use Rattle.cedar_expressions.specs.View.{view, terms_view, fields_view}

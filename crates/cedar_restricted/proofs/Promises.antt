@@ -1,6 +1,6 @@
 -- What is promised of the evaluation of a restricted expression, from what the loop answers.
 use Rattle.std.proofs.Common.{◌≡◌, ◌≢◌, ℕ, ◌≤◌, ◌<◌, true, Result, Ok, Err, IfOk, refl, sym, ◌∙◌, subst, arith}
-use Rattle.cedar_model.specs.Terms.{Text, Term}
+use Rattle.cedar_model.specs.Terms.{Term}
 use Rattle.cedar_model.specs.Values.{Represented}
 use Rattle.cedar_model.specs.Agreement.{height}
 use Rattle.cedar_model.specs.Alike.{AreFunctional}

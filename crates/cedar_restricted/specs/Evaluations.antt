@@ -1,6 +1,6 @@
 -- What a restricted expression may answer, as plain data.
-use Rattle.std.specs.Prelude.{◌≡◌, ◌≢◌, ◌↔◌, ℕ, Bool, true, false, [], Option, None, Result, Ok, Err, alloc_error}
-use Rattle.cedar_model.specs.Terms.{Text, Term}
+use Rattle.std.specs.Prelude.{◌≡◌, ◌≢◌, ◌↔◌, ℕ, Bool, true, false, [], None, Result, Ok, Err, alloc_error}
+use Rattle.cedar_model.specs.Terms.{Term}
 use Rattle.cedar_model.specs.World as model
 use Rattle.cedar_model.specs.Failures.{residual_is_left, Answer, value, residual, answers, fails, limit, out_of_memory}
 use Rattle.cedar_model.specs.Settings.{Setting, unknown_entry, absent_context}

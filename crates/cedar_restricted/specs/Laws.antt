@@ -1,5 +1,5 @@
 -- The laws of the evaluation over frames.
-use Rattle.std.specs.Prelude.{◌≡◌, ◌≢◌, ℕ, suc, ◌+◌, ◌-◌, ◌^◌, ◌<◌, ◌≤◌, true, false, List, [], ◌∷◌, ◌++◌, length, drop, Option, None, Result, Ok, Err, IfOk}
+use Rattle.std.specs.Prelude.{◌≡◌, ◌≢◌, ℕ, suc, ◌+◌, ◌-◌, ◌^◌, ◌<◌, ◌≤◌, true, false, List, [], ◌∷◌, ◌++◌, length, drop, Option, Result, Ok, Err, IfOk}
 use Rattle.std.proofs.Common.{refl, sym, ap, ◌∙◌, subst, arith}
 use Rattle.cedar_model.specs.Terms.{Text, Term, Literal, ValueType, literal, unknown}
 use Rattle.cedar_model.specs.Values.{plain_represented}
@@ -14,14 +14,13 @@ use Rattle.cedar_expressions.specs.View.{view, terms_view, expr_loc}
 use Rattle.cedar_data.specs.declared.partial_value.PartialValue.{PartialValue}
 use Rattle.cedar_data.specs.Residuals.{partial_view, partial_loc}
 use Rattle.cedar_values.specs.declared.evaluator.err.EvaluationError.{EvaluationError}
-use Rattle.cedar_values.specs.declared.evaluator.err.EvaluationError.TheVariants as errors
 use Rattle.cedar_values.specs.Failures.{failure_of}
 use Rattle.cedar_frames.specs.declared.machine.Step.TheVariants.{Done, Wait}
 use Rattle.cedar_frames.specs.Frames.{Resumes, Fewer, Below}
 use Rattle.cedar_restricted.specs.declared.answers.Answers.{Answers}
 use Rattle.cedar_restricted.specs.declared.parts.PartsFrame.{PartsFrame}
 use Rattle.cedar_restricted.specs.declared.whole.Whole.{Whole}
-use Rattle.cedar_restricted.specs.Evaluations.{partial_answer, AnswersWith, NoCalls, bare, is_final, ends_all, limit_error, want_error}
+use Rattle.cedar_restricted.specs.Evaluations.{partial_answer, AnswersWith, NoCalls, bare, ends_all, limit_error, want_error}
 use Rattle.cedar_restricted.specs.Parts as shapes
 use Rattle.cedar_restricted.specs.Parts.{whole_term, HasKeys, count, Are, made}
 use Rattle.cedar_restricted.specs.Frames.{NextPart, Reads, Begun, Begins, Continued, GoesOn, HasRead, IsNext, Waits, IsRight, left_of}

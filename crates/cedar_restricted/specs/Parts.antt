@@ -1,5 +1,5 @@
 -- Sets, records and calls, part by part: what their parts have answered so far, and what all of them make.
-use Rattle.std.specs.Prelude.{◌≡◌, ℕ, List, [], ◌∷◌, length, map, None, Result, Ok, Err}
+use Rattle.std.specs.Prelude.{◌≡◌, ℕ, List, [], ◌∷◌, length, map, None, Result}
 use native.Mathlib.Nat.{ℕ_set}
 use Rattle.std.proofs.lemmas.Map.Keys.{IsStrictlySortedBy-prop}
 use Rattle.std.specs.List.Sorted.{IsStrictlySortedBy}

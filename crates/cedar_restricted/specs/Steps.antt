@@ -1,12 +1,10 @@
 -- Sets, records and calls against the rules, part by part.
-use Rattle.std.specs.Prelude.{◌≡◌, ◌≢◌, ℕ, zero, suc, true, false, ◌&&◌, List, [], ◌∷◌, ◌++◌, length, drop, get_or, ◌<◌, map, Option, Some, None, Result, Ok, Err}
+use Rattle.std.specs.Prelude.{◌≡◌, ℕ, zero, suc, true, false, ◌&&◌, List, [], ◌∷◌, ◌++◌, length, drop, get_or, ◌<◌, Option, Some, None, Result, Ok, Err}
 use Rattle.std.proofs.Common.{refl, sym, ap, ◌∙◌, subst, arith}
-use Rattle.std.specs.Rc.{rc_str_bytes}
 use Rattle.std.specs.declared.alloc.Global.{Global}
 use Rattle.std.specs.declared.rc.RcStr.{RcStr}
 use Rattle.cedar_model.specs.Terms.{Text, Term, call, set_of, record_of, Terms, no_terms, one_term, terms_of}
-use Rattle.cedar_model.specs.Values.{Represented, set_represented, record_represented}
-use Rattle.cedar_model.specs.Sets.{canonical_set, represented_fields_of}
+use Rattle.cedar_model.specs.Values.{Represented}
 use Rattle.cedar_model.specs.Shapes.{is_restricted, are_restricted, are_restricted_at}
 use Rattle.cedar_model.specs.Failures as model
 use Rattle.cedar_model.specs.Failures.{Failure, function_is_missing, value, residual, Answer, answers, fails, answers_value, answers_residual, part_expression}
@@ -21,7 +19,7 @@ use Rattle.cedar_restricted.specs.declared.whole.Whole.{Whole}
 use Rattle.cedar_restricted.specs.declared.whole.Whole.TheVariants as wholes
 use Rattle.cedar_restricted.specs.declared.answers.Answers.{Answers}
 use Rattle.cedar_restricted.specs.declared.answers.Answers.TheVariants as answereds
-use Rattle.cedar_restricted.specs.Keys.{key_order, texts_of, fields_named, under}
+use Rattle.cedar_restricted.specs.Keys.{texts_of, fields_named, under}
 use Rattle.cedar_restricted.specs.Evaluations.{NoCalls}
 use Rattle.cedar_restricted.specs.Parts.{whole_term, HasKeys, count, all_values, Are, made, parts_after, SoFar}
 

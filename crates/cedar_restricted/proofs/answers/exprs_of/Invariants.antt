@@ -1,4 +1,4 @@
-use Rattle.std.proofs.Common.{◌≡◌, length, take, map}
+use Rattle.std.proofs.Common.{◌≡◌, take, map}
 use Rattle.cedar_expressions.specs.View.{view}
 use Rattle.cedar_data.proofs.Written.{written}
 use Rattle.cedar_restricted.proofs.answers.exprs_of.Given as goal

@@ -1,4 +1,4 @@
-use Rattle.std.proofs.Common.{◌≡◌, ◌∙◌, Ok, subst, ap}
+use Rattle.std.proofs.Common.{◌∙◌, Ok, subst, ap}
 use Rattle.cedar_model.specs.Rules.{Meets}
 use Rattle.cedar_expressions.specs.View.{view}
 use Rattle.cedar_data.specs.Residuals.{residual_term}

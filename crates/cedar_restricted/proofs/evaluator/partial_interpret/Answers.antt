@@ -1,8 +1,7 @@
-use Rattle.std.proofs.Common.{◌≡◌, ◌≢◌, ◌≤◌, true, ap, ◌∙◌, subst, IfOk}
+use Rattle.std.proofs.Common.{◌≢◌, ◌≤◌, ap, ◌∙◌, subst}
 use Rattle.cedar_model.specs.Agreement.{height}
 use Rattle.cedar_model.specs.Failures.{limit}
 use Rattle.cedar_model.specs.Shapes.{is_restricted}
-use Rattle.cedar_expressions.specs.View.{view}
 use Rattle.cedar_restricted.specs.Evaluations.{partial_answer, IsAnswerWithin}
 use Rattle.cedar_restricted.specs.Frames.{IsRight}
 use Rattle.cedar_restricted.proofs.Promises.{promised, low_enough, sound_part}

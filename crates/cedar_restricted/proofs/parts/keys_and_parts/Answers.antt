@@ -1,4 +1,4 @@
-use Rattle.std.proofs.Common.{◌≡◌, ◌++◌, ◌+◌, ap, sym, subst, ◌∙◌, length, map}
+use Rattle.std.proofs.Common.{◌++◌, ◌+◌, ap, sym, ◌∙◌, length, map}
 use Rattle.std.proofs.lemmas.List.{append-nil, length_push}
 use Rattle.cedar_expressions.specs.View.{view, terms_view}
 use Rattle.cedar_restricted.specs.Keys.{texts_of, fields_named}

@@ -1,4 +1,4 @@
-use Rattle.std.proofs.Common.{◌≡◌, ◌∙◌, subst, sym}
+use Rattle.std.proofs.Common.{◌∙◌, subst, sym}
 use Rattle.cedar_restricted.specs.Frames.{Begins}
 use Rattle.cedar_restricted.specs.Laws.{begins_right}
 use Rattle.cedar_restricted.proofs.start.set.Goals as goal

@@ -1,5 +1,4 @@
-use Rattle.std.proofs.Common.{◌≡◌, ◌++◌, ◌∷◌, [], List, subst, sym, ap, ◌∙◌}
-use Rattle.cedar_model.specs.Failures as model
+use Rattle.std.proofs.Common.{◌≡◌, ◌++◌, ◌∷◌, [], subst, sym, ap, ◌∙◌}
 use Rattle.cedar_model.specs.Values.{expressions_of}
 use Rattle.cedar_model.specs.Sets.{represented_values_of}
 use Rattle.cedar_model.specs.Rules.{terms_of_parts, values_of_parts}

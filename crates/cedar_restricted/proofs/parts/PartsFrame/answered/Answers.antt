@@ -1,4 +1,4 @@
-use Rattle.std.proofs.Common.{◌≡◌, sym, subst}
+use Rattle.std.proofs.Common.{sym, subst}
 use Rattle.cedar_restricted.specs.Frames.{GoesOn}
 use Rattle.cedar_restricted.specs.Laws.{continues}
 use Rattle.cedar_restricted.proofs.parts.PartsFrame.answered.Goals as goal

@@ -1,7 +1,7 @@
 use Rattle.std.proofs.Common.{◌≡◌, sym, ap, length, rules}
 use Rattle.cedar_model.specs.Terms.{call}
 use Rattle.cedar_names.specs.Names.{name_text}
-use Rattle.cedar_expressions.specs.View.{terms_view, fields_view}
+use Rattle.cedar_expressions.specs.View.{terms_view}
 use Rattle.cedar_data.specs.Sound.{whats}
 use Rattle.cedar_restricted.specs.declared.whole.Whole.TheVariants as wholes
 use Rattle.cedar_restricted.specs.declared.answers.Answers.TheVariants as answereds

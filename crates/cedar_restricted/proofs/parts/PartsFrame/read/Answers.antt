@@ -1,7 +1,7 @@
-use Rattle.std.proofs.Common.{◌≡◌, refl, sym, ap, subst, ◌∙◌, suc, drop, length, get_or, ◌<◌, arith, rules}
+use Rattle.std.proofs.Common.{◌≡◌, refl, sym, ap, ◌∙◌, suc, drop, length, get_or, ◌<◌, arith}
 use Rattle.std.proofs.lemmas.Grind.{common_steps}
 use Rattle.cedar_model.specs.Terms.{one_term}
-use Rattle.cedar_expressions.specs.View.{view, terms_view}
+use Rattle.cedar_expressions.specs.View.{terms_view}
 use Rattle.cedar_restricted.specs.Parts.{count}
 use Rattle.cedar_restricted.specs.Steps.{next_is}
 use Rattle.cedar_restricted.proofs.parts.PartsFrame.read.Goals as goal
