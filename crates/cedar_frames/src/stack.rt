@@ -1,0 +1,55 @@
+//! The stack of frames.
+ghost use Rattle.std.specs.Prelude.{◌≡◌, ◌++◌, ◌∷◌, [], ◌<◌, ◌≤◌, IfOk, IfSome, MatchOption, vec_len, length, IsTrue, ◌↔◌};
+
+use std::alloc::{AllocError, Global};
+
+/// Frames, the last on top: never more than the limit.
+#[derive(Drop)]
+pub struct Stack<F> {
+    frames: Vec<F>,
+    limit: usize,
+    ghost bounded: { vec_len frames ≤ limit },
+}
+
+impl<F> Stack<F> {
+    /// The empty stack for at most `limit` frames.
+    pub fn new(alloc: Global, limit: usize) -> Stack<F>
+        ensures limit { result.limit ≡ limit }
+        ensures empty { result.frames.items ≡ [] }
+    {
+        Stack {
+            frames: Vec::new(alloc),
+            limit,
+        }
+    }
+
+    /// Whether there are as many frames as the limit allows.
+    pub fn is_full(&self) -> bool
+        ensures { IsTrue result ↔ length self.now.frames.items ≡ self.now.limit }
+    {
+        self.frames.len() == self.limit
+    }
+
+    /// Puts a frame on top. Refuses only for want of memory.
+    pub fn push(&mut self, frame: F) -> Result<(), AllocError>
+    where
+        F: Drop,
+        requires { vec_len self.old.frames < self.old.limit }
+        ensures limit { self.new.limit ≡ self.old.limit }
+        ensures ok { IfOk result (λ _. self.new.frames.items ≡ self.old.frames.items ++ frame ∷ []) }
+    {
+        match self.frames.push(frame) {
+            Ok(()) => Ok(()),
+            Err(_) => Err(AllocError),
+        }
+    }
+
+    /// Takes the frame on top away.
+    pub fn pop(&mut self) -> Option<F>
+        ensures limit { self.new.limit ≡ self.old.limit }
+        ensures top { MatchOption result (self.old.frames.items ≡ []) (λ f. self.old.frames.items ≡ self.new.frames.items ++ f ∷ []) }
+        ensures room { IfSome result (λ _. length self.new.frames.items < self.old.limit) }
+    {
+        self.frames.pop()
+    }
+}

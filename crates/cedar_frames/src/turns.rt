@@ -1,0 +1,107 @@
+//! The loop: turn by turn, over the stack.
+ghost use Rattle.std.specs.Prelude.{◌≡◌, ◌++◌, ◌∷◌, [], ℕ, ◌<◌, List, vec_len};
+ghost use Rattle.cedar_frames.specs.Frames.{State, Turned, Less, IsHandedOn, work_left};
+ghost use Rattle.cedar_frames.specs.declared.turns.Mode.TheVariants.{Eval, Answer};
+
+use crate::machine::{Machine, Step};
+use crate::stack::Stack;
+use std::alloc::Global;
+
+/// What the loop is at.
+#[derive(Drop)]
+pub enum Mode<P, A> {
+    /// A part that is not looked at yet.
+    Eval(P),
+    /// The answer of the part that the last frame waits for.
+    Answer(A),
+}
+
+/// What a turn leads to.
+#[derive(Drop)]
+pub enum Turn<P, A> {
+    /// Another turn.
+    Go(Mode<P, A>),
+    /// The answer of the whole.
+    End(A),
+}
+
+/// Evaluates: the answer is right, with so many levels. The whole is one level, its parts one more. Where no level is left the
+/// loop ends with the machine's answer for that; where the stack finds no memory, with that for want of memory.
+pub fn interpret<M: Machine>(machine: &M, alloc: Global, part: M::Part, limit: usize) -> M::Answer
+    ensures { M.right machine.now limit part result }
+{
+    let mut stack = Stack::new(alloc, limit);
+    let mut mode = Mode::Eval(part);
+    'turns: loop {
+        match advance(machine, alloc, &mut stack, mode) {
+            Turn::Go(next) => mode = next,
+            Turn::End(answer) => return answer,
+        }
+    }
+}
+
+/// One turn: looks at a part, or hands an answer to the last frame. An answer that ends the whole is handed to none.
+pub fn advance<M: Machine>(
+    machine: &M,
+    alloc: Global,
+    stack: &mut Stack<M::Frame>,
+    mode: Mode<M::Part, M::Answer>,
+) -> Turn<M::Part, M::Answer>
+    ensures limit { stack.new.limit ≡ stack.old.limit }
+    ensures right { (e : M.Part) → State (M.right machine.now) (M.waits machine.now) stack.old.limit e stack.old.frames.items mode → Turned (M.right machine.now) (M.waits machine.now) stack.old.limit e stack.new.frames.items result }
+    ensures less { Less M.left_of (work_left M.left_of M.most stack.old.limit stack.old.frames.items mode) M.most stack.old.limit stack.new.frames.items result }
+    ensures handed_on { IsHandedOn M.ends_all result }
+{
+    match mode {
+        Mode::Eval(part) => {
+            if stack.is_full() {
+                return Turn::End(machine.limit());
+            }
+            match machine.start(alloc, &part) {
+                Step::Done(answer) => answered(machine, answer),
+                Step::Wait(frame, next) => waiting(machine, stack, frame, next),
+            }
+        }
+        Mode::Answer(answer) => {
+            let Some(frame) = stack.pop() else {
+                return Turn::End(answer);
+            };
+            match machine.resume(alloc, frame, answer) {
+                Step::Done(answer) => answered(machine, answer),
+                Step::Wait(frame, next) => waiting(machine, stack, frame, next),
+            }
+        }
+    }
+}
+
+// On with an answer, or the end.
+fn answered<M: Machine>(machine: &M, answer: M::Answer) -> Turn<M::Part, M::Answer>
+    ensures right { (limit : ℕ) (e : M.Part) (fs : List M.Frame) → State (M.right machine.now) (M.waits machine.now) limit e fs (Answer answer) → Turned (M.right machine.now) (M.waits machine.now) limit e fs result }
+    ensures less { (n limit : ℕ) (fs : List M.Frame) → work_left {P = M.Part} M.left_of M.most limit fs (Answer answer) < n → Less M.left_of n M.most limit fs result }
+    ensures handed_on { IsHandedOn M.ends_all result }
+{
+    if machine.ends(&answer) {
+        Turn::End(answer)
+    } else {
+        Turn::Go(Mode::Answer(answer))
+    }
+}
+
+// On with a part that a new frame waits for, or the end where the stack finds no memory.
+fn waiting<M: Machine>(
+    machine: &M,
+    stack: &mut Stack<M::Frame>,
+    frame: M::Frame,
+    part: M::Part,
+) -> Turn<M::Part, M::Answer>
+    requires { vec_len stack.old.frames < stack.old.limit }
+    ensures limit { stack.new.limit ≡ stack.old.limit }
+    ensures right { (e : M.Part) → State (M.right machine.now) (M.waits machine.now) stack.old.limit e (stack.old.frames.items ++ frame ∷ []) (Eval part) → Turned (M.right machine.now) (M.waits machine.now) stack.old.limit e stack.new.frames.items result }
+    ensures less { (n : ℕ) → work_left {A = M.Answer} M.left_of M.most stack.old.limit (stack.old.frames.items ++ frame ∷ []) (Eval part) < n → Less M.left_of n M.most stack.old.limit stack.new.frames.items result }
+    ensures handed_on { IsHandedOn M.ends_all result }
+{
+    match stack.push(frame) {
+        Ok(()) => Turn::Go(Mode::Eval(part)),
+        Err(_) => Turn::End(machine.want()),
+    }
+}

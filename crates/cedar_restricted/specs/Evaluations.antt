@@ -1,0 +1,104 @@
+-- What a restricted expression may answer, as plain data.
+use Rattle.std.specs.Prelude.{◌≡◌, ◌≢◌, ◌↔◌, ℕ, Bool, true, false, [], None, Result, Ok, Err, alloc_error}
+use Rattle.cedar_model.specs.Terms.{Term}
+use Rattle.cedar_model.specs.World as model
+use Rattle.cedar_model.specs.Failures.{residual_is_left, Answer, value, residual, answers, fails, limit, out_of_memory}
+use Rattle.cedar_model.specs.Settings.{Setting, unknown_entry, absent_context}
+use Rattle.cedar_model.specs.Rules.{StoredCalls, Runs, Allows, Exceeds}
+use Rattle.cedar_data.specs.declared.partial_value.PartialValue.{PartialValue}
+use Rattle.cedar_data.specs.Residuals.{partial_view}
+use Rattle.cedar_data.specs.Sound.{Placed}
+use Rattle.cedar_values.specs.declared.evaluator.err.EvaluationError.{EvaluationError}
+use Rattle.cedar_values.specs.declared.evaluator.err.EvaluationError.TheVariants as errors
+use Rattle.cedar_values.specs.Failures.{failure_of}
+
+-- the answer of a call that gives a value or a residual
+abbrev pub partial_answer : Result PartialValue EvaluationError → Answer
+partial_answer (Ok p) = answers (partial_view p)
+partial_answer (Err e) = fails (failure_of e)
+
+-- the answer of a call that gives a value
+abbrev pub value_answer : Result Placed EvaluationError → Answer
+value_answer (Ok v) = answers (value v.what)
+value_answer (Err e) = fails (failure_of e)
+
+-- a call answers this, unless it finds no memory
+abbrev pub AnswersWith : Result PartialValue EvaluationError → Answer → Type 0
+AnswersWith r a = partial_answer r ≢ fails out_of_memory → partial_answer r ≡ a
+
+-- where a value is asked for, a residual that is left is an error
+unfoldable pub only_values : Answer → Answer
+only_values (answers (value v)) = answers (value v)
+only_values (answers (residual r)) = fails (residual_is_left r)
+only_values (fails e) = fails e
+
+-- ---- what is given
+
+-- no function is stored
+abbrev pub NoCalls : StoredCalls
+NoCalls f vs a = ⊥
+
+-- no extension
+abbrev pub no_functions : model.Extensions
+no_functions = record { arity = λ f. None; overloaded = [] }
+
+-- there is neither a map nor an extension; what else is given is not read
+pub record IsBare (s : Setting) : Type 0 where
+  pub no_map : s.map ≡ (λ n. None)
+  pub no_extensions : s.extensions ≡ no_functions
+
+-- the least that is given
+abbrev pub bare : Setting
+bare =
+    record {
+      request = record {
+        principal_entry = unknown_entry None;
+        action_entry = unknown_entry None;
+        resource_entry = unknown_entry None;
+        context_part = absent_context;
+      };
+      store = record { entity = λ e. None; is_partial = false };
+      map = λ n. None;
+      slots = λ i. None;
+      extensions = no_functions;
+    }
+
+-- ---- what is answered
+
+-- with so many levels: the recursion limit exactly where the need is above them, else what the rules allow
+pub record IsAnswerWithin (s : Setting) (levels : ℕ) (t : Term) (a : Answer) : Type 0 where
+  pub runs : Runs s NoCalls levels t a
+  pub limited : a ≡ limit ↔ Exceeds s NoCalls t levels
+  pub allowed : a ≢ limit → Allows s NoCalls t a
+
+-- and of a residual the error that it is left
+abbrev pub IsValueWithin : Setting → ℕ → Term → Answer → Type 0
+IsValueWithin s levels t a = (b : Answer) × IsAnswerWithin s levels t b × (a ≡ only_values b)
+
+-- ---- errors that end an evaluation at once
+
+-- the recursion limit, and want of memory
+abbrev pub is_final : EvaluationError → Bool
+is_final (errors.EntityDoesNotExist e) = false
+is_final (errors.EntityAttrDoesNotExist e) = false
+is_final (errors.RecordAttrDoesNotExist e) = false
+is_final (errors.FailedExtensionFunctionLookup e) = false
+is_final (errors.TypeError e) = false
+is_final (errors.WrongNumArguments e) = false
+is_final (errors.IntegerOverflow e) = false
+is_final (errors.UnlinkedSlot e) = false
+is_final (errors.FailedExtensionFunctionExecution e) = false
+is_final (errors.NonValue e) = false
+is_final (errors.RecursionLimit e) = true
+is_final (errors.Memory e) = true
+
+-- the recursion limit is met, and memory is wanting
+abbrev pub limit_error : EvaluationError
+limit_error = errors.RecursionLimit (record { source_loc = None })
+
+abbrev pub want_error : EvaluationError
+want_error = errors.Memory alloc_error
+
+abbrev pub ends_all : Result PartialValue EvaluationError → Bool
+ends_all (Ok p) = false
+ends_all (Err e) = is_final e

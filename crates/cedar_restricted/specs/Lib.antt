@@ -1,0 +1,6 @@
+pub mod Keys
+pub mod Evaluations
+pub mod Parts
+pub mod Frames
+pub mod Steps
+pub mod Laws

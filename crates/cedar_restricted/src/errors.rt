@@ -1,0 +1,69 @@
+//! Errors of an evaluation.
+ghost use Rattle.std.specs.Prelude.{◌≡◌};
+ghost use Rattle.cedar_model.specs.Failures.{function_is_missing, residual_is_left};
+ghost use Rattle.cedar_names.specs.Names.{name_text};
+ghost use Rattle.cedar_data.specs.Residuals.{residual_term};
+ghost use Rattle.cedar_values.specs.Failures.{failure_of};
+ghost use Rattle.cedar_restricted.specs.Evaluations.{is_final};
+
+use cedar_data::ResidualExpr;
+use cedar_names::{Loc, Name};
+use cedar_values::evaluator::err::{EvaluationError, evaluation_errors};
+use cedar_values::extensions::{ExtensionFunctionLookupError, extension_function_lookup_errors};
+use evaluation_errors::NonValueError;
+use extension_function_lookup_errors::FuncDoesNotExistError;
+
+// The error, at this location if it has none.
+#[inline(always)]
+pub(crate) fn with_enclosing_loc(error: EvaluationError, loc: Option<Loc>) -> EvaluationError
+    ensures { failure_of result ≡ failure_of error }
+{
+    if error.source_loc().is_none() {
+        error.with_maybe_source_loc(loc)
+    } else {
+        error
+    }
+}
+
+// The error that no extension has the function, at the location of its name.
+#[cold]
+#[inline(never)]
+pub(crate) fn no_such_function(name: Name) -> EvaluationError
+    ensures { failure_of result ≡ function_is_missing (name_text name) }
+{
+    let source_loc: Option<Loc> = name.loc().copied();
+    EvaluationError::FailedExtensionFunctionLookup(ExtensionFunctionLookupError::FuncDoesNotExist(
+        FuncDoesNotExistError { name, source_loc },
+    ))
+}
+
+// The error that this residual is left, at the residual's location.
+#[cold]
+#[inline(never)]
+pub(crate) fn residual_left(residual: ResidualExpr) -> EvaluationError
+    ensures { failure_of result ≡ residual_is_left (residual_term residual) }
+{
+    let expr = residual.into_expr();
+    let source_loc: Option<Loc> = expr.source_loc().copied();
+    EvaluationError::NonValue(NonValueError { expr, source_loc })
+}
+
+// Whether the error ends an evaluation at once: the recursion limit, or want of memory.
+pub(crate) fn is_final(error: &EvaluationError) -> bool
+    ensures { result ≡ is_final error.now }
+{
+    match error {
+        EvaluationError::EntityDoesNotExist(_) => false,
+        EvaluationError::EntityAttrDoesNotExist(_) => false,
+        EvaluationError::RecordAttrDoesNotExist(_) => false,
+        EvaluationError::FailedExtensionFunctionLookup(_) => false,
+        EvaluationError::TypeError(_) => false,
+        EvaluationError::WrongNumArguments(_) => false,
+        EvaluationError::IntegerOverflow(_) => false,
+        EvaluationError::UnlinkedSlot(_) => false,
+        EvaluationError::FailedExtensionFunctionExecution(_) => false,
+        EvaluationError::NonValue(_) => false,
+        EvaluationError::RecursionLimit(_) => true,
+        EvaluationError::Memory(_) => true,
+    }
+}

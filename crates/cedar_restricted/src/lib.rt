@@ -1,0 +1,18 @@
+//! The evaluation of restricted expressions: literals, unknowns, and sets, records and calls of restricted ones.
+#![tactic(auto)]
+
+mod answers;
+mod errors;
+mod evaluator;
+mod machine;
+mod made;
+mod parts;
+mod start;
+#[cfg(test)]
+mod tests;
+mod whole;
+
+pub use answers::{Answers, Mixed};
+pub use evaluator::{RestrictedEvaluator, interpret, partial_interpret};
+pub use parts::PartsFrame;
+pub use whole::Whole;

@@ -1,0 +1,84 @@
+//! The evaluation of restricted expressions, for the loop over frames.
+ghost use Rattle.std.specs.Prelude.{◌≡◌, ℕ, ◌+◌, ◌^◌, Err};
+ghost use Rattle.cedar_expressions.specs.declared.expr.Expr.{Expr};
+ghost use Rattle.cedar_values.specs.declared.evaluator.err.EvaluationError.TheVariants as errors;
+ghost use Rattle.cedar_frames.specs.Frames.{Resumes, Fewer, Below};
+ghost use Rattle.cedar_restricted.specs.Evaluations.{ends_all, limit_error, want_error};
+ghost use Rattle.cedar_restricted.specs.Frames.{Waits, IsRight, left_of};
+ghost use Rattle.cedar_restricted.specs.Laws.{right_limit, right_want, right_upward, limit_ends, some_left, some_most};
+
+use crate::errors::is_final;
+use crate::parts::{NextPart, PartsFrame};
+use cedar_data::{PartialValue, ResidualExpr, Value, ValueKind};
+use cedar_expressions::{Expr, ExprKind};
+use cedar_frames::{Machine, Step};
+use cedar_names::{Literal, Loc};
+use cedar_values::evaluator::err::{EvaluationError, evaluation_errors};
+use evaluation_errors::RecursionLimitError;
+use std::alloc::{AllocError, Global};
+
+/// The evaluation of restricted expressions.
+#[derive(Drop)]
+pub(crate) struct Restricted;
+
+impl Machine for Restricted {
+    type Frame = PartsFrame;
+
+    type Part = Expr;
+
+    type Answer = Result<PartialValue, EvaluationError>;
+
+    ghost right = { λ s k t a. IsRight k t a };
+
+    ghost waits = { λ s k f t c. Waits k f t c };
+
+    ghost left_of = { left_of };
+
+    ghost most = { 2 ^ 64 + 1 };
+
+    ghost ends_all = { ends_all };
+
+    ghost at_limit = { Err limit_error };
+
+    ghost at_want = { Err want_error };
+
+    fn start(&self, alloc: Global, part: &Expr) -> NextPart {
+        crate::start::start(alloc, part)
+    }
+
+    fn resume(
+        &self,
+        alloc: Global,
+        frame: PartsFrame,
+        answer: Result<PartialValue, EvaluationError>,
+    ) -> NextPart {
+        frame.answered(alloc, answer)
+    }
+
+    fn ends(&self, answer: &Result<PartialValue, EvaluationError>) -> bool {
+        match answer {
+            Ok(_) => false,
+            Err(error) => is_final(error),
+        }
+    }
+
+    fn limit(&self) -> Result<PartialValue, EvaluationError> {
+        Err(EvaluationError::RecursionLimit(RecursionLimitError { source_loc: None }))
+    }
+
+    fn want(&self) -> Result<PartialValue, EvaluationError> {
+        Err(EvaluationError::Memory(AllocError))
+    }
+
+    ghost right_limit = { λ s t. right_limit t };
+
+    ghost right_want = { λ s k t. right_want k t };
+
+    ghost limit_ends = { limit_ends };
+
+    ghost right_upward = { λ s k f t c a. right_upward k f t c a };
+
+    ghost some_left = { some_left };
+
+    ghost some_most = { some_most };
+}

@@ -1,0 +1,124 @@
+//! What the answers of parts make: a set, a record or a call.
+ghost use Rattle.std.specs.Prelude.{◌≡◌, true, length, IfOk};
+ghost use Rattle.std.specs.List.{zip};
+ghost use Rattle.std.specs.List.Sorted.{IsStrictlySortedBy};
+ghost use Rattle.std.specs.BTreeMap.{IsFromIterResult};
+ghost use Rattle.cedar_model.specs.Terms as Terms;
+ghost use Rattle.cedar_model.specs.Values.{record_represented};
+ghost use Rattle.cedar_model.specs.Sets.{represented_fields_of};
+ghost use Rattle.cedar_model.specs.Shapes.{has_unknown};
+ghost use Rattle.cedar_expressions.specs.View.{view, terms_view};
+ghost use Rattle.cedar_data.specs.Sound.{whats};
+ghost use Rattle.cedar_restricted.specs.Evaluations.{AnswersWith};
+ghost use Rattle.cedar_restricted.specs.declared.whole.Whole.TheVariants as wholes;
+ghost use Rattle.cedar_restricted.specs.Parts.{HasKeys, count, made};
+ghost use Rattle.cedar_restricted.specs.Keys.{key_order, texts_of, fields_named, under};
+
+use crate::answers::{Answers, Mixed};
+use crate::errors::no_such_function;
+use crate::whole::Whole;
+use cedar_data::{PartialValue, ResidualExpr, Value};
+use cedar_expressions::Expr;
+use cedar_names::Name;
+use cedar_values::evaluator::err::EvaluationError;
+use std::alloc::{AllocError, Global};
+use std::collections::BTreeMap;
+use std::rc::RcStr;
+
+// What the answers make.
+pub(crate) fn whole_of(
+    alloc: Global,
+    whole: Whole,
+    answers: Answers,
+) -> Result<PartialValue, EvaluationError>
+    requires { HasKeys whole (count answers) }
+    ensures { AnswersWith result (made whole answers) }
+{
+    match whole {
+        Whole::Set => set_of(alloc, answers),
+        Whole::Record(keys) => record_of(alloc, keys, answers),
+        Whole::Call(fn_name) => call_of(alloc, fn_name, answers),
+    }
+}
+
+fn set_of(alloc: Global, answers: Answers) -> Result<PartialValue, EvaluationError>
+    ensures { AnswersWith result (made wholes.Set answers) }
+{
+    match answers {
+        Answers::Values(values) => Ok(PartialValue::Value(Value::set(alloc, values, None)?)),
+        Answers::Mixed(mixed) => {
+            let expr = Expr::set(alloc, mixed.into_exprs())?;
+            Ok(PartialValue::Residual(ResidualExpr::new(expr)))
+        }
+    }
+}
+
+fn record_of(
+    alloc: Global,
+    keys: Vec<RcStr>,
+    answers: Answers,
+) -> Result<PartialValue, EvaluationError>
+    requires { HasKeys (wholes.Record keys) (count answers) }
+    ensures { AnswersWith result (made (wholes.Record keys) answers) }
+{
+    match answers {
+        Answers::Values(values) => Ok(PartialValue::Value(record_value(alloc, keys, values)?)),
+        Answers::Mixed(mixed) => {
+            let expr = record_expr(alloc, keys, mixed)?;
+            Ok(PartialValue::Residual(ResidualExpr::new(expr)))
+        }
+    }
+}
+
+// The record of these values under these keys.
+fn record_value(alloc: Global, keys: Vec<RcStr>, values: Vec<Value>) -> Result<Value, AllocError>
+    requires { (length keys.items ≡ length values.items) × IsStrictlySortedBy key_order keys.items }
+    ensures { IfOk result (λ v. v.what ≡ record_represented (represented_fields_of (under (texts_of keys.items) (whats values.items)))) }
+{
+    let fields = values_under(alloc, keys, values)?;
+    Ok(Value::record(alloc, fields, None)?)
+}
+
+// The record of these expressions under these keys.
+fn record_expr(alloc: Global, keys: Vec<RcStr>, mixed: Mixed) -> Result<Expr, AllocError>
+    requires { (length keys.items ≡ length mixed.exprs.items) × IsStrictlySortedBy key_order keys.items }
+    ensures view { IfOk result (λ e. view e ≡ Terms.record_of (fields_named (texts_of keys.items) (terms_view mixed.exprs.items))) }
+    ensures unknown { IfOk result (λ e. has_unknown (view e) ≡ true) }
+{
+    let fields = exprs_under(alloc, keys, mixed.into_exprs())?;
+    Ok(Expr::record_map(alloc, fields)?)
+}
+
+fn call_of(alloc: Global, fn_name: Name, answers: Answers) -> Result<PartialValue, EvaluationError>
+    ensures { AnswersWith result (made (wholes.Call fn_name) answers) }
+{
+    match answers {
+        Answers::Values(_) => Err(no_such_function(fn_name)),
+        Answers::Mixed(mixed) => {
+            let expr = Expr::call_extension_fn(alloc, fn_name, mixed.into_exprs())?;
+            Ok(PartialValue::Residual(ResidualExpr::new(expr)))
+        }
+    }
+}
+
+// The map of the values under the keys, in turn.
+fn values_under(
+    alloc: Global,
+    keys: Vec<RcStr>,
+    values: Vec<Value>,
+) -> Result<BTreeMap<RcStr, Value>, AllocError>
+    ensures { IfOk result (λ m. IsFromIterResult key_order (zip keys.items values.items) m) }
+{
+    keys.into_iter().zip(values).collect(alloc)
+}
+
+// The map of the expressions under the keys, in turn.
+fn exprs_under(
+    alloc: Global,
+    keys: Vec<RcStr>,
+    exprs: Vec<Expr>,
+) -> Result<BTreeMap<RcStr, Expr>, AllocError>
+    ensures { IfOk result (λ m. IsFromIterResult key_order (zip keys.items exprs.items) m) }
+{
+    keys.into_iter().zip(exprs).collect(alloc)
+}

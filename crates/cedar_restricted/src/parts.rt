@@ -1,0 +1,155 @@
+//! Sets, records and calls, part by part: the frame in which an evaluator waits for their parts.
+ghost use Rattle.std.specs.Prelude.{◌≡◌, ◌<◌, ◌≤◌, length, IfOk, IfSome};
+ghost use Rattle.std.specs.List.Sorted.{IsStrictlySortedBy};
+ghost use Rattle.cedar_expressions.specs.View.{terms_view, fields_view};
+ghost use Rattle.cedar_restricted.specs.Keys.{key_order, texts_of, fields_named};
+ghost use Rattle.cedar_restricted.specs.Parts.{HasKeys, HasKeys-prop, count};
+
+use crate::answers::Answers;
+use crate::errors::with_enclosing_loc;
+use crate::made::whole_of;
+use crate::whole::Whole;
+use cedar_data::PartialValue;
+use cedar_expressions::Expr;
+use cedar_frames::Step;
+use cedar_names::{Loc, Name};
+use cedar_values::evaluator::err::EvaluationError;
+use std::alloc::{AllocError, Global};
+use std::collections::BTreeMap;
+use std::rc::{Rc, RcStr};
+
+/// What comes next of a set, a record or a call: its answer, or the part that it waits for.
+pub type NextPart = Step<PartsFrame, Expr, Result<PartialValue, EvaluationError>>;
+
+/// A set, a record or a call that waits for the answer of a part: what the parts make, the parts, the answers of those before,
+/// and where it stands.
+#[derive(Drop)]
+pub struct PartsFrame {
+    whole: Whole,
+    parts: Rc<Vec<Expr>>,
+    answers: Answers,
+    loc: Option<Loc>,
+    ghost keys: { HasKeys whole (length parts.value.items) } by { HasKeys-prop whole _ },
+    ghost waits: { count answers < length parts.value.items },
+}
+
+impl PartsFrame {
+    ghost use Rattle.cedar_model.specs.Terms.{set_of, record_of, call};
+    ghost use Rattle.cedar_names.specs.Names.{name_text};
+    ghost use Rattle.cedar_restricted.specs.Frames.{Begins, GoesOn, Reads};
+
+    /// A set at this location, before any part has answered.
+    pub fn set(alloc: Global, parts: &Rc<Vec<Expr>>, loc: Option<Loc>) -> NextPart
+        ensures { Begins (set_of (terms_view parts.now.value.items)) loc result }
+    {
+        match parts.clone() {
+            Ok(parts) => PartsFrame::read(
+                alloc,
+                Whole::Set,
+                parts,
+                Answers::Values(Vec::new(alloc)),
+                loc,
+            ),
+            Err(error) => Step::Done(Err(EvaluationError::Memory(error))),
+        }
+    }
+
+    /// A call of this function at this location, before any argument has answered.
+    pub fn call(alloc: Global, fn_name: &Name, args: &Rc<Vec<Expr>>, loc: Option<Loc>) -> NextPart
+        ensures { Begins (call (name_text fn_name.now) (terms_view args.now.value.items)) loc result }
+    {
+        match fn_name.clone() {
+            Ok(fn_name) => match args.clone() {
+                Ok(args) => PartsFrame::read(
+                    alloc,
+                    Whole::Call(fn_name),
+                    args,
+                    Answers::Values(Vec::new(alloc)),
+                    loc,
+                ),
+                Err(error) => Step::Done(Err(EvaluationError::Memory(error))),
+            },
+            Err(error) => Step::Done(Err(EvaluationError::Memory(error))),
+        }
+    }
+
+    /// A record at this location, before any field has answered.
+    pub fn record(alloc: Global, pairs: &BTreeMap<RcStr, Expr>, loc: Option<Loc>) -> NextPart
+        ensures { Begins (record_of (fields_view pairs.now.entries)) loc result }
+    {
+        match keys_and_parts(alloc, pairs) {
+            Ok((keys, parts)) => PartsFrame::read(
+                alloc,
+                Whole::Record(keys),
+                parts,
+                Answers::Values(Vec::new(alloc)),
+                loc,
+            ),
+            Err(error) => Step::Done(Err(EvaluationError::Memory(error))),
+        }
+    }
+
+    /// The same after the answer of the part that it waits for: an error is its own, at its location if it has none.
+    pub fn answered(self, alloc: Global, answer: Result<PartialValue, EvaluationError>) -> NextPart
+        ensures { GoesOn self answer result }
+    {
+        match answer {
+            Ok(part) => match self.answers.with(alloc, part) {
+                Ok(answers) => PartsFrame::read(alloc, self.whole, self.parts, answers, self.loc),
+                Err(error) => Step::Done(Err(EvaluationError::Memory(error))),
+            },
+            Err(error) => Step::Done(Err(with_enclosing_loc(error, self.loc))),
+        }
+    }
+
+    // The next part, or what all answers make.
+    fn read(
+        alloc: Global,
+        whole: Whole,
+        parts: Rc<Vec<Expr>>,
+        answers: Answers,
+        loc: Option<Loc>,
+    ) -> NextPart
+        requires keys { HasKeys whole (length parts.value.items) }
+        requires no_more { count answers ≤ length parts.value.items }
+        ensures { Reads whole parts answers loc result }
+    {
+        let done = answers.len();
+        if done < parts.len() {
+            match parts[done].clone() {
+                Ok(part) => Step::Wait(
+                    PartsFrame {
+                        whole,
+                        parts,
+                        answers,
+                        loc,
+                    },
+                    part,
+                ),
+                Err(error) => Step::Done(Err(EvaluationError::Memory(error))),
+            }
+        } else {
+            match whole_of(alloc, whole, answers) {
+                Ok(answer) => Step::Done(Ok(answer.with_maybe_source_loc(loc))),
+                Err(error) => Step::Done(Err(with_enclosing_loc(error, loc))),
+            }
+        }
+    }
+}
+
+// The keys of a record and its parts, both in the order of the keys.
+fn keys_and_parts(
+    alloc: Global,
+    pairs: &BTreeMap<RcStr, Expr>,
+) -> Result<(Vec<RcStr>, Rc<Vec<Expr>>), AllocError>
+    ensures fields { IfOk result (λ p. fields_named (texts_of p.0.items) (terms_view p.1.value.items) ≡ fields_view pairs.now.entries) }
+    ensures keys { IfOk result (λ p. (length p.0.items ≡ length p.1.value.items) × IsStrictlySortedBy key_order p.0.items) }
+{
+    let mut keys: Vec<RcStr> = Vec::new(alloc);
+    let mut parts: Vec<Expr> = Vec::new(alloc);
+    'fields: for (key, part) in pairs.iter() {
+        keys.push(key.clone()?)?;
+        parts.push(part.clone()?)?;
+    }
+    Ok((keys, Rc::new(alloc, parts)?))
+}
