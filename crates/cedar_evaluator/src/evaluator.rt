@@ -662,9 +662,7 @@ fn limit_met() -> Result<Value, EvaluationError>
     ensures answer { answer_of result ≡ limit }
     ensures no_value { IfOk result (λ v. ⊥) }
 {
-    Err(EvaluationError::RecursionLimit(RecursionLimitError {
-        source_loc: None,
-    }))
+    Err(EvaluationError::RecursionLimit(RecursionLimitError { source_loc: None }))
 }
 
 // That the unknown is left.

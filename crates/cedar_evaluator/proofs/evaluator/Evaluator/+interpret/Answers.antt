@@ -126,23 +126,23 @@ interpret_kind-returns-in-Set-clause-elements t c =
     let lent : c.deref-in-Set-2.result.now ≡ held = c.deref-in-Set-2.ensures.value ∙ ap (λ v. v.items) c.deref-in-Set.ensures in
     λ parts is. subst (λ es. IfOk c.set.result (λ s. HasElementsOf c.args.self.now c.args.slots.now c.args.left es s)) (lent ∙ same_parts c.args.e.now _ _ held parts c.expr_kind.ensures.node c.in-Set.is (kind_node-Set _) is) c.set.ensures.elements
 
-pub branch-returns-in-Ok-true : goal.branch-returns-in-Ok-true
-branch-returns-in-Ok-true t c =
+pub branch-returns-in-Some-true : goal.branch-returns-in-Some-true
+branch-returns-in-Some-true t c =
     let s = setting_of c.args.self.now (slots_view c.args.slots.now) in
     let May = StoppingRuns s c.args.left in
-    step.if_true s May _ _ _ _ _ c.in-Ok.ensures.answer (c.in-Ok-true.ensures.ok ∙ ap Some c.in-Ok-true.field-0-test) c.interpret_within-in-Ok-true.ensures.answer
+    step.if_true s May _ _ _ _ _ c.in-Ok.ensures.answer (sym c.bool_in.ensures ∙ c.in-Some-true.is ∙ ap Some c.in-Some-true.field-0-test) c.interpret_within-in-Some-true.ensures.answer
 
-pub branch-returns-in-Ok-false : goal.branch-returns-in-Ok-false
-branch-returns-in-Ok-false t c =
+pub branch-returns-in-Some-false : goal.branch-returns-in-Some-false
+branch-returns-in-Some-false t c =
     let s = setting_of c.args.self.now (slots_view c.args.slots.now) in
     let May = StoppingRuns s c.args.left in
-    step.if_false s May _ _ _ _ _ c.in-Ok.ensures.answer (c.in-Ok-false.ensures.ok ∙ ap Some c.in-Ok-false.field-0-test) c.interpret_within-in-Ok-false.ensures.answer
+    step.if_false s May _ _ _ _ _ c.in-Ok.ensures.answer (sym c.bool_in.ensures ∙ c.in-Some-false.is ∙ ap Some c.in-Some-false.field-0-test) c.interpret_within-in-Some-false.ensures.answer
 
 pub branch-returns-in-Ok : goal.branch-returns-in-Ok
 branch-returns-in-Ok t c =
     let s = setting_of c.args.self.now (slots_view c.args.slots.now) in
     let May = StoppingRuns s c.args.left in
-    step.if_no_bool s May _ _ _ _ c.in-Err-get_as_bool.error c.in-Ok.ensures.answer c.in-Err-get_as_bool.ensures.no_bool c.in-Err-get_as_bool.ensures.error
+    step.if_no_bool s May _ _ _ _ c.no_bool.result c.in-Ok.ensures.answer (sym c.bool_in.ensures ∙ c.in-None.is) c.no_bool.ensures
 
 pub branch-returns : goal.branch-returns
 branch-returns t c =
@@ -154,25 +154,25 @@ pub both-returns-in-Ok-interpret_within : goal.both-returns-in-Ok-interpret_with
 both-returns-in-Ok-interpret_within t c =
     let s = setting_of c.args.self.now (slots_view c.args.slots.now) in
     let May = StoppingRuns s c.args.left in
-    step.and_reads s May _ _ _ _ _ c.in-Ok.ensures.answer (c.in-Ok-true.ensures.ok ∙ ap Some c.in-Ok-true.field-0-test) c.in-Ok-interpret_within.ensures.answer c.as_bool_value.ensures
+    step.and_reads s May _ _ _ _ _ c.in-Ok.ensures.answer (sym c.bool_in.ensures ∙ c.in-Some-true.is ∙ ap Some c.in-Some-true.field-0-test) c.in-Ok-interpret_within.ensures.answer c.as_bool_value.ensures
 
-pub both-returns-in-Ok-true : goal.both-returns-in-Ok-true
-both-returns-in-Ok-true t c =
+pub both-returns-in-Some-true : goal.both-returns-in-Some-true
+both-returns-in-Some-true t c =
     let s = setting_of c.args.self.now (slots_view c.args.slots.now) in
     let May = StoppingRuns s c.args.left in
-    step.and_right_fails s May _ _ _ c.in-Err-interpret_within.error c.in-Ok.ensures.answer (c.in-Ok-true.ensures.ok ∙ ap Some c.in-Ok-true.field-0-test) c.in-Err-interpret_within.ensures.answer
+    step.and_right_fails s May _ _ _ c.in-Err-interpret_within.error c.in-Ok.ensures.answer (sym c.bool_in.ensures ∙ c.in-Some-true.is ∙ ap Some c.in-Some-true.field-0-test) c.in-Err-interpret_within.ensures.answer
 
-pub both-returns-in-Ok-false : goal.both-returns-in-Ok-false
-both-returns-in-Ok-false t c =
+pub both-returns-in-Some-false : goal.both-returns-in-Some-false
+both-returns-in-Some-false t c =
     let s = setting_of c.args.self.now (slots_view c.args.slots.now) in
     let May = StoppingRuns s c.args.left in
-    step.and_decides s May _ _ _ (Ok c.bool_value.result) c.in-Ok.ensures.answer (c.in-Ok-false.ensures.ok ∙ ap Some c.in-Ok-false.field-0-test) (ap answers_value c.bool_value.ensures)
+    step.and_decides s May _ _ _ (Ok c.bool_value.result) c.in-Ok.ensures.answer (sym c.bool_in.ensures ∙ c.in-Some-false.is ∙ ap Some c.in-Some-false.field-0-test) (ap answers_value c.bool_value.ensures)
 
 pub both-returns-in-Ok : goal.both-returns-in-Ok
 both-returns-in-Ok t c =
     let s = setting_of c.args.self.now (slots_view c.args.slots.now) in
     let May = StoppingRuns s c.args.left in
-    step.and_no_bool s May _ _ _ c.in-Err-get_as_bool.error c.in-Ok.ensures.answer c.in-Err-get_as_bool.ensures.no_bool c.in-Err-get_as_bool.ensures.error
+    step.and_no_bool s May _ _ _ c.no_bool.result c.in-Ok.ensures.answer (sym c.bool_in.ensures ∙ c.in-None.is) c.no_bool.ensures
 
 pub both-returns : goal.both-returns
 both-returns t c =
@@ -180,29 +180,29 @@ both-returns t c =
     let May = StoppingRuns s c.args.left in
     step.and_fails s May _ _ c.in-Err.error c.in-Err.ensures.answer
 
-pub either-returns-in-Ok-true : goal.either-returns-in-Ok-true
-either-returns-in-Ok-true t c =
+pub either-returns-in-Some-true : goal.either-returns-in-Some-true
+either-returns-in-Some-true t c =
     let s = setting_of c.args.self.now (slots_view c.args.slots.now) in
     let May = StoppingRuns s c.args.left in
-    step.or_decides s May _ _ _ (Ok c.bool_value.result) c.in-Ok.ensures.answer (c.in-Ok-true.ensures.ok ∙ ap Some c.in-Ok-true.field-0-test) (ap answers_value c.bool_value.ensures)
+    step.or_decides s May _ _ _ (Ok c.bool_value.result) c.in-Ok.ensures.answer (sym c.bool_in.ensures ∙ c.in-Some-true.is ∙ ap Some c.in-Some-true.field-0-test) (ap answers_value c.bool_value.ensures)
 
 pub either-returns-in-Ok-interpret_within : goal.either-returns-in-Ok-interpret_within
 either-returns-in-Ok-interpret_within t c =
     let s = setting_of c.args.self.now (slots_view c.args.slots.now) in
     let May = StoppingRuns s c.args.left in
-    step.or_reads s May _ _ _ _ _ c.in-Ok.ensures.answer (c.in-Ok-false.ensures.ok ∙ ap Some c.in-Ok-false.field-0-test) c.in-Ok-interpret_within.ensures.answer c.as_bool_value.ensures
+    step.or_reads s May _ _ _ _ _ c.in-Ok.ensures.answer (sym c.bool_in.ensures ∙ c.in-Some-false.is ∙ ap Some c.in-Some-false.field-0-test) c.in-Ok-interpret_within.ensures.answer c.as_bool_value.ensures
 
-pub either-returns-in-Ok-false : goal.either-returns-in-Ok-false
-either-returns-in-Ok-false t c =
+pub either-returns-in-Some-false : goal.either-returns-in-Some-false
+either-returns-in-Some-false t c =
     let s = setting_of c.args.self.now (slots_view c.args.slots.now) in
     let May = StoppingRuns s c.args.left in
-    step.or_right_fails s May _ _ _ c.in-Err-interpret_within.error c.in-Ok.ensures.answer (c.in-Ok-false.ensures.ok ∙ ap Some c.in-Ok-false.field-0-test) c.in-Err-interpret_within.ensures.answer
+    step.or_right_fails s May _ _ _ c.in-Err-interpret_within.error c.in-Ok.ensures.answer (sym c.bool_in.ensures ∙ c.in-Some-false.is ∙ ap Some c.in-Some-false.field-0-test) c.in-Err-interpret_within.ensures.answer
 
 pub either-returns-in-Ok : goal.either-returns-in-Ok
 either-returns-in-Ok t c =
     let s = setting_of c.args.self.now (slots_view c.args.slots.now) in
     let May = StoppingRuns s c.args.left in
-    step.or_no_bool s May _ _ _ c.in-Err-get_as_bool.error c.in-Ok.ensures.answer c.in-Err-get_as_bool.ensures.no_bool c.in-Err-get_as_bool.ensures.error
+    step.or_no_bool s May _ _ _ c.no_bool.result c.in-Ok.ensures.answer (sym c.bool_in.ensures ∙ c.in-None.is) c.no_bool.ensures
 
 pub either-returns : goal.either-returns
 either-returns t c =
