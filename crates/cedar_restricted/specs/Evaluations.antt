@@ -3,7 +3,7 @@ use Rattle.std.specs.Prelude.{◌≡◌, ◌≢◌, ◌↔◌, ℕ, Bool, true, 
 use Rattle.cedar_model.specs.Terms.{Term}
 use Rattle.cedar_model.specs.World as model
 use Rattle.cedar_model.specs.Failures.{residual_is_left, Answer, value, residual, answers, fails, limit, out_of_memory}
-use Rattle.cedar_model.specs.Settings.{Setting, unknown_entry, absent_context}
+use Rattle.cedar_model.specs.Settings.{shallow, Setting, unknown_entry, absent_context}
 use Rattle.cedar_model.specs.Rules.{StoredCalls, Runs, Allows, Exceeds}
 use Rattle.cedar_data.specs.declared.partial_value.PartialValue.{PartialValue}
 use Rattle.cedar_data.specs.Residuals.{partial_view}
@@ -61,6 +61,7 @@ bare =
       map = λ n. None;
       slots = λ i. None;
       extensions = no_functions;
+      resolution = shallow;
     }
 
 -- ---- what is answered
