@@ -30,8 +30,8 @@ impl<F> Stack<F> {
         self.frames.len() == self.limit
     }
 
-    /// Puts a frame on top. Refuses only for want of memory.
-    pub fn push(&mut self, frame: F) -> Result<(), AllocError>
+    // Puts a frame on top. Refuses only for want of memory.
+    pub(crate) fn push(&mut self, frame: F) -> Result<(), AllocError>
     where
         F: Drop,
         requires { vec_len self.old.frames < self.old.limit }

@@ -8,6 +8,8 @@ mod machine;
 mod made;
 mod parts;
 mod start;
+#[cfg(test)]
+mod tests;
 mod whole;
 
 pub use answers::{Answers, Mixed};
