@@ -5,7 +5,7 @@ ghost use Rattle.cedar_model.specs.Failures.{out_of_memory};
 ghost use Rattle.cedar_layers.specs.Policies.{effect_view, policy_id_text, policy_view, condition_term};
 ghost use Rattle.cedar_layers.specs.Stores.{store_view};
 ghost use Rattle.cedar_values.specs.Failures.{failure_of};
-ghost use Rattle.cedar_evaluator.specs.Requests.{request_view};
+ghost use Rattle.cedar_requests.specs.Requests.{request_view};
 ghost use Rattle.cedar_evaluator.specs.Evaluations.{setting_of, limit_of};
 ghost use Rattle.cedar_evaluator.specs.Stops.{StoppingRuns};
 ghost use Rattle.cedar_authorizer.specs.Sheets.{has_some_id, IsJudged};

@@ -63,8 +63,8 @@ module _ (s : Setting) (May : MayAnswer) where
   pub literal_gives : (l : Literal) (r : Result Placed EvaluationError) → Answers r (answers_value (plain_represented l)) → Gives (literal l) r
   literal_gives l r is ok = (answers_value (plain_represented l), refl, answers_stopped r _ is ok)
 
-  pub variable_gives : (v : Variable) (r : Result Placed EvaluationError) → Answers r (answers (variable_part s.request v)) → Gives (variable v) r
-  variable_gives v r is ok = (answers (variable_part s.request v), refl, answers_stopped r _ is ok)
+  pub variable_gives : (v : Variable) (r : Result Placed EvaluationError) → Answers r (stopped (answers (variable_part s.request v))) → Gives (variable v) r
+  variable_gives v r is ok = (answers (variable_part s.request v), refl, is ok)
 
   pub slot_gives : (i : Slot) (r : Result Placed EvaluationError) → Answers r (slot_answer i (s.slots i)) → Gives (slot i) r
   slot_gives i r is ok = (slot_answer i (s.slots i), refl, answers_stopped r _ is ok)

@@ -9,7 +9,7 @@ ghost use Rattle.cedar_model.specs.Values.{plain_represented, set_represented, r
 ghost use Rattle.cedar_model.specs.Sets.{canonical_set};
 ghost use Rattle.cedar_model.specs.Outcomes.{bool_of};
 ghost use Rattle.cedar_model.specs.Failures as Failures;
-ghost use Rattle.cedar_model.specs.Failures.{answers, answers_value, fails, limit, function_is_missing, out_of_memory, residual_is_left};
+ghost use Rattle.cedar_model.specs.Failures.{answers, answers_value, answers_residual, fails, limit, function_is_missing, out_of_memory, residual_is_left};
 ghost use Rattle.cedar_model.specs.Settings.{variable_part};
 ghost use Rattle.cedar_model.specs.Operators.{binary_answer, slot_answer};
 ghost use Rattle.cedar_model.specs.Rules.{Meets, bool_expected, bool_or_failure};
@@ -26,7 +26,7 @@ ghost use Rattle.cedar_operators.specs.Stopping.{stopped};
 ghost use Rattle.cedar_evaluator.specs.Stops.{StoppingRuns};
 ghost use Rattle.cedar_evaluator.specs.Evaluations.{MeetsKind, GivesParts, FailsParts, GivesFields, FailsFields, key_order, AreInOrder, AreAtPlaces, IsSetOf, HasElementsOf};
 
-use crate::request::{EntityUIDEntry, Request};
+use crate::request::{Context, EntityUIDEntry, Request};
 use cedar_layers::expressions::{
     BinaryOp, EntityType, EntityUID, Expr, ExprKind, FirstRest, Literal, Loc, Name, Pattern,
     SlotEnv, SlotId, Type, UnaryOp, Value, ValueKind, Var,
@@ -39,6 +39,7 @@ use cedar_operators::operators::{is_of_type, likeness};
 use cedar_operators::sets::{contains, contains_all, contains_any};
 use cedar_operators::store::{has_tag, is_in, tag_of};
 use cedar_operators::typed::{bool_in, bool_value, get_as_bool};
+use cedar_requests::shared::ContextPairs;
 pub use cedar_values::evaluator::err::{EvaluationError, evaluation_errors};
 use cedar_values::extensions::{
     ExtensionFunctionLookupError, Extensions, extension_function_lookup_errors,
@@ -58,7 +59,7 @@ struct SharedEntity {
 
 impl SharedEntity {
     ghost use Rattle.cedar_model.specs.Terms.{entity_literal};
-    ghost use Rattle.cedar_evaluator.specs.Requests.{entry_view};
+    ghost use Rattle.cedar_requests.specs.Requests.{entry_view};
     ghost use Rattle.cedar_evaluator.specs.Evaluations.{shared_entry};
 
     fn new(alloc: Global, entry: EntityUIDEntry) -> Result<SharedEntity, AllocError>
@@ -82,13 +83,46 @@ impl SharedEntity {
     }
 }
 
+// The context of the request, whose values are shared by the values that stand for it.
+#[derive(Drop)]
+enum SharedContext {
+    Values(Rc<BTreeMap<RcStr, Value>>),
+    Residual(BTreeMap<RcStr, Expr>),
+}
+
+impl SharedContext {
+    ghost use Rattle.cedar_model.specs.Settings.{context_value};
+    ghost use Rattle.cedar_requests.specs.Contexts.{context_view};
+    ghost use Rattle.cedar_evaluator.specs.Evaluations.{shared_context};
+
+    fn new(alloc: Global, context: Context) -> Result<SharedContext, AllocError>
+        ensures { IfOk result (λ c. shared_context c ≡ context_view context) }
+    {
+        match context.into_pairs() {
+            ContextPairs::Values(pairs) => Ok(SharedContext::Values(Rc::new(alloc, pairs)?)),
+            ContextPairs::Residual(residual) => Ok(SharedContext::Residual(residual.into_map())),
+        }
+    }
+
+    // The record of the values, or that the context is left.
+    #[tactic(auto, unfolding(cedar_model::specs::Settings::context_value, cedar_operators::specs::Stopping::stopped))]
+    fn value(&self, alloc: Global) -> Result<Value, EvaluationError>
+        ensures { Answers result (stopped (answers (context_value (shared_context self.now)))) }
+    {
+        match self {
+            SharedContext::Values(pairs) => Ok(Value::new(ValueKind::Record(pairs.clone()?), None)),
+            SharedContext::Residual(pairs) => residual_met(alloc, pairs),
+        }
+    }
+}
+
 /// An evaluator: a request, a store of entities and extensions, and how many levels deep it goes.
 #[derive(Drop)]
 pub struct Evaluator<'e, 'x, 'f> {
     principal: SharedEntity,
     action: SharedEntity,
     resource: SharedEntity,
-    context: Rc<BTreeMap<RcStr, Value>>,
+    context: SharedContext,
     entities: &'e Entities,
     extensions: &'x Extensions<'f>,
     limit: usize,
@@ -98,7 +132,7 @@ impl<'e, 'x, 'f> Evaluator<'e, 'x, 'f> {
     ghost use Rattle.cedar_model.specs.Terms.{variable};
     ghost use Rattle.cedar_layers.specs.Policies.{condition_term, policy_view};
     ghost use Rattle.cedar_layers.specs.Stores.{store_view};
-    ghost use Rattle.cedar_evaluator.specs.Requests.{request_view};
+    ghost use Rattle.cedar_requests.specs.Requests.{request_view};
     ghost use Rattle.cedar_evaluator.specs.Evaluations.{setting_for, setting_of, limit_of};
     ghost use Rattle.cedar_evaluator.specs.Stops.{IsKnownExactly, IsDecidedExactly};
     ghost use Rattle.cedar_evaluator.specs.Decisions.{decision_of, DecidesBy};
@@ -116,7 +150,7 @@ impl<'e, 'x, 'f> Evaluator<'e, 'x, 'f> {
         ensures limit { IfOk result (λ v. limit_of v ≡ limit) }
     {
         let (principal, action, resource, context) = request.into_parts();
-        let context = Rc::new(alloc, context.into_map())?;
+        let context = SharedContext::new(alloc, context)?;
         Ok(Evaluator {
             principal: SharedEntity::new(alloc, principal)?,
             action: SharedEntity::new(alloc, action)?,
@@ -206,7 +240,7 @@ impl<'e, 'x, 'f> Evaluator<'e, 'x, 'f> {
     {
         match e.expr_kind() {
             ExprKind::Lit(value) => literal_value(value),
-            ExprKind::Var(var) => self.variable(*var),
+            ExprKind::Var(var) => self.variable(alloc, *var),
             ExprKind::Slot(slot) => slot_value(alloc, slots, *slot),
             ExprKind::Unknown(_) => unknown_met(e),
             ExprKind::If {
@@ -578,15 +612,15 @@ impl<'e, 'x, 'f> Evaluator<'e, 'x, 'f> {
     }
 
     // The value of a variable: an entity of the request, or its context.
-    #[tactic(auto, unfolding(cedar_model::specs::Settings::variable_part, cedar_model::specs::Settings::entry_part, cedar_model::specs::Settings::context_value))]
-    fn variable(&self, var: Var) -> Result<Value, EvaluationError>
-        ensures { (s : _) → Answers result (answers (variable_part (setting_of self.now s).request (variable_view var))) }
+    #[tactic(auto, unfolding(cedar_model::specs::Settings::variable_part, cedar_model::specs::Settings::entry_part, cedar_operators::specs::Stopping::stopped))]
+    fn variable(&self, alloc: Global, var: Var) -> Result<Value, EvaluationError>
+        ensures { (s : _) → Answers result (stopped (answers (variable_part (setting_of self.now s).request (variable_view var)))) }
     {
         match var {
             Var::Principal => Ok(self.principal.value()?),
             Var::Action => Ok(self.action.value()?),
             Var::Resource => Ok(self.resource.value()?),
-            Var::Context => Ok(Value::new(ValueKind::Record(self.context.clone()?), None)),
+            Var::Context => self.context.value(alloc),
         }
     }
 }
@@ -663,6 +697,17 @@ fn limit_met() -> Result<Value, EvaluationError>
     ensures no_value { IfOk result (λ v. ⊥) }
 {
     Err(EvaluationError::RecursionLimit(RecursionLimitError { source_loc: None }))
+}
+
+// That a context of these expressions is left.
+#[tactic(auto, using(cedar_expressions::proofs::Levels::levels), unfolding(cedar_operators::specs::Stopping::stopped, cedar_operators::specs::Stopping::not_known_in))]
+#[cold]
+#[inline(never)]
+fn residual_met(alloc: Global, pairs: &BTreeMap<RcStr, Expr>) -> Result<Value, EvaluationError>
+    ensures { Answers result (stopped (answers_residual (record_of (fields_view pairs.now.entries)))) }
+{
+    let record = Expr::record_map(alloc, pairs.clone()?)?;
+    Err(non_value(&record))
 }
 
 // That the unknown is left.
