@@ -700,7 +700,6 @@ fn limit_met() -> Result<Value, EvaluationError>
 }
 
 // That a context of these expressions is left.
-#[tactic(auto, using(cedar_expressions::proofs::Levels::levels), unfolding(cedar_operators::specs::Stopping::stopped, cedar_operators::specs::Stopping::not_known_in))]
 #[cold]
 #[inline(never)]
 fn residual_met(alloc: Global, pairs: &BTreeMap<RcStr, Expr>) -> Result<Value, EvaluationError>
