@@ -1,3 +1,4 @@
+#![tactic(auto, using(cedar_expressions::proofs::Levels::levels), unfolding(cedar_model::specs::Restricted::first_disallowed, cedar_model::specs::Restricted::or_else))]
 //! The first part of an expression that may not stand in a restricted one.
 ghost use Rattle.std.specs.Prelude.{◌≡◌, true, Some, option_map, OnOk, IfErr};
 ghost use Rattle.cedar_model.specs.Shapes.{is_restricted};
@@ -47,34 +48,34 @@ fn first_found(expr: &Expr) -> Option<Found<'_>>
 {
     match expr.expr_kind() {
         ExprKind::Lit(_) => None,
-        ExprKind::Var(_) => found("variables", expr),
-        ExprKind::Slot(_) => found("template slots", expr),
+        ExprKind::Var(_) => refused("variables", expr),
+        ExprKind::Slot(_) => refused("template slots", expr),
         ExprKind::Unknown(_) => None,
         ExprKind::If {
             test_expr: _,
             then_expr: _,
             else_expr: _,
-        } => found("if-then-else", expr),
-        ExprKind::And { left: _, right: _ } => found("&&", expr),
-        ExprKind::Or { left: _, right: _ } => found("||", expr),
-        ExprKind::UnaryApp { op, arg: _ } => found(unary_feature(*op), expr),
+        } => refused("if-then-else", expr),
+        ExprKind::And { left: _, right: _ } => refused("&&", expr),
+        ExprKind::Or { left: _, right: _ } => refused("||", expr),
+        ExprKind::UnaryApp { op, arg: _ } => refused(unary_feature(*op), expr),
         ExprKind::BinaryApp {
             op,
             arg1: _,
             arg2: _,
-        } => found(binary_feature(*op), expr),
+        } => refused(binary_feature(*op), expr),
         ExprKind::ExtensionFunctionApp { fn_name: _, args } => first_found_of(args),
-        ExprKind::GetAttr { expr: _, attr: _ } => found("attribute accesses", expr),
-        ExprKind::HasAttr { expr: _, attr: _ } => found("'has'", expr),
-        ExprKind::ExtHasAttr { expr: _, attrs: _ } => found("'has'", expr),
+        ExprKind::GetAttr { expr: _, attr: _ } => refused("attribute accesses", expr),
+        ExprKind::HasAttr { expr: _, attr: _ } => refused("'has'", expr),
+        ExprKind::ExtHasAttr { expr: _, attrs: _ } => refused("'has'", expr),
         ExprKind::Like {
             expr: _,
             pattern: _,
-        } => found("'like'", expr),
+        } => refused("'like'", expr),
         ExprKind::Is {
             expr: _,
             entity_type: _,
-        } => found("'is'", expr),
+        } => refused("'is'", expr),
         ExprKind::Set(parts) => first_found_of(parts),
         ExprKind::Record(pairs) => first_found_at(pairs),
     }
@@ -104,7 +105,7 @@ fn first_found_at(pairs: &BTreeMap<RcStr, Expr>) -> Option<Found<'_>>
     None
 }
 
-fn found<'a>(feature: &'static str, part: &'a Expr) -> Option<Found<'a>>
+fn refused<'a>(feature: &'static str, part: &'a Expr) -> Option<Found<'a>>
     ensures { option_map found_view result ≡ Some (feature.now, view part.now) }
 {
     Some(Found { feature, part })

@@ -18,7 +18,7 @@ pub struct RestrictedExprShapeOnly<'a>(BorrowedRestrictedExpr<'a>);
 impl<'a> RestrictedExprShapeOnly<'a> {
     /// The shape of the expression.
     pub fn new(expr: BorrowedRestrictedExpr<'a>) -> RestrictedExprShapeOnly<'a>
-        ensures { shape_expr result ≡ borrowed_expr expr }
+        ensures { shape_expr result ≡ borrowed_expr expr.entry }
     {
         RestrictedExprShapeOnly(expr)
     }
