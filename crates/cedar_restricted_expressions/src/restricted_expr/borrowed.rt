@@ -32,8 +32,8 @@ impl<'a> BorrowedRestrictedExpr<'a> {
 
     /// A copy that owns its expression: of one node, whose parts are shared. Refuses only for want of memory.
     pub fn to_owned(self) -> Result<RestrictedExpr, AllocError>
-        ensures view { IfOk result (λ r. restricted_term r ≡ borrowed_term self) }
-        ensures loc { IfOk result (λ r. restricted_loc r ≡ borrowed_loc self) }
+        ensures view { IfOk result (λ r. restricted_term r ≡ borrowed_term self.entry) }
+        ensures loc { IfOk result (λ r. restricted_loc r ≡ borrowed_loc self.entry) }
     {
         let expr: Expr = self.expr.clone()?;
         Ok(RestrictedExpr { expr })
