@@ -1,0 +1,26 @@
+-- The types of restricted expressions.
+use Rattle.std.specs.Prelude.{Option, Some, None}
+use Rattle.cedar_model.specs.Terms.{Text, bool_type, long_type, string_type, set_type, record_type, entity_type, ValueType}
+use Rattle.cedar_model.specs.Terms.{Literal, bool_literal, long_literal, text_literal, entity_literal, Term, literal, unknown}
+use Rattle.cedar_model.specs.Terms.{call, set_of, record_of}
+use Rattle.cedar_values.specs.declared.extensions.Extensions.{Extensions}
+
+abbrev pub literal_type : Literal → ValueType
+literal_type (bool_literal b) = bool_type
+literal_type (long_literal n) = long_type
+literal_type (text_literal t) = string_type
+literal_type (entity_literal e) = entity_type e.type_name
+
+-- the type of a restricted expression, as far as it is known before it is evaluated, where functions return values of
+-- these types
+abbrev pub type_in : (Text → Option ValueType) → Term → Option ValueType
+type_in returned (literal l) = Some (literal_type l)
+type_in returned (unknown n t) = t
+type_in returned (set_of ts) = Some set_type
+type_in returned (record_of fs) = Some record_type
+type_in returned (call f ts) = returned f
+type_in returned t = None
+
+-- the types that the extensions' functions return: there is no function
+abbrev pub return_types : Extensions → Text → Option ValueType
+return_types e f = None
