@@ -1,3 +1,5 @@
 pub mod Copies
 pub mod Equality
 pub mod Names
+pub mod Records
+pub mod Creations

@@ -1,2 +1,4 @@
 pub mod Contexts
 pub mod Requests
+pub mod Errors
+pub mod Creations

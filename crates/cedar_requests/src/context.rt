@@ -2,6 +2,7 @@
 ghost use Rattle.std.specs.Prelude.{◌≡◌, Some, None, option_copied, IfSome, true, length};
 
 mod copies;
+mod creation;
 mod equality;
 pub(crate) mod pairs;
 

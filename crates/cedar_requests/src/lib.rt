@@ -3,9 +3,11 @@
 
 mod context;
 mod entry;
+mod errors;
 mod request;
 pub mod shared;
 
 pub use context::Context;
 pub use entry::EntityUIDEntry;
+pub use errors::{ContextCreationError, context_creation_errors};
 pub use request::Request;

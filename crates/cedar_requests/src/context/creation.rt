@@ -1,5 +1,5 @@
 //! How contexts are made of restricted expressions.
-ghost use Rattle.std.specs.Prelude.{◌≡◌, ◌≤◌, true, IfOk, IfErr, option_map};
+ghost use Rattle.std.specs.Prelude.{◌≡◌, ◌≤◌, ℕ, true, false, Err, IfOk, IfErr, option_map};
 ghost use Rattle.cedar_model.specs.Terms.{record_of};
 ghost use Rattle.cedar_model.specs.Values.{record_represented};
 ghost use Rattle.cedar_model.specs.Shapes.{is_restricted};
@@ -46,7 +46,7 @@ impl Context {
         ensures place { IfErr result (NamesAt (borrowed_loc expr.entry)) }
         ensures low { height (borrowed_term expr.entry) ≤ limit → IfErr result (λ e. ¬ (IsAtLimit e)) }
     {
-        if record_in(expr.as_expr()).is_some() {
+        if is_record(expr.as_expr()) {
             of_record(alloc, expr, extensions, limit)
         } else {
             Err(not_a_record(expr))
@@ -85,16 +85,16 @@ impl Context {
 // The context that the record is evaluated to.
 fn of_record(
     alloc: Global,
-    record: BorrowedRestrictedExpr<'_>,
+    expr: BorrowedRestrictedExpr<'_>,
     extensions: &Extensions<'_>,
     limit: usize,
 ) -> Result<Context, ContextCreationError>
-    requires { is_record (borrowed_term record) ≡ true }
-    ensures created { (s : Setting) → IsBare s → IsOfRecord s limit (borrowed_term record.entry) result }
-    ensures low { height (borrowed_term record.entry) ≤ limit → IfErr result (λ e. ¬ (IsAtLimit e)) }
+    requires { is_record (borrowed_term expr) ≡ true }
+    ensures created { (s : Setting) → IsBare s → IsOfRecord s limit (borrowed_term expr.entry) result }
+    ensures low { height (borrowed_term expr.entry) ≤ limit → IfErr result (λ e. ¬ (IsAtLimit e)) }
 {
     let evaluator = RestrictedEvaluator::new(extensions, limit);
-    match partial_interpret(alloc, &evaluator, record.as_expr()) {
+    match partial_interpret(alloc, &evaluator, expr.as_expr()) {
         Ok(part) => match of_part(alloc, part) {
             Ok(context) => Ok(context),
             Err(error) => Err(ContextCreationError::Memory(error)),
@@ -132,11 +132,11 @@ fn of_part(alloc: Global, part: PartialValue) -> Result<Context, AllocError>
 }
 
 // The values of the record.
-fn values_in(record: Value) -> Result<BTreeMap<RcStr, Value>, AllocError>
-    requires { IsRecordPart (value record.what) }
-    ensures { IfOk result (λ m. record_represented (whats_at m.entries) ≡ record.what) }
+fn values_in(whole: Value) -> Result<BTreeMap<RcStr, Value>, AllocError>
+    requires { IsRecordPart (value whole.what) }
+    ensures { IfOk result (λ m. record_represented (whats_at m.entries) ≡ whole.what) }
 {
-    match record.value {
+    match whole.value {
         ValueKind::Record(pairs) => Ok(Rc::unwrap_or_clone(pairs)?),
         ValueKind::Lit(_) => unreachable!(),
         ValueKind::Set(_) => unreachable!(),
@@ -157,14 +157,21 @@ fn pairs_of(residual: ResidualExpr) -> Result<ResidualPairs, AllocError>
 }
 
 // The parts of the record, shared.
-fn shared_pairs(record: &Expr) -> Result<Rc<BTreeMap<RcStr, Expr>>, AllocError>
-    requires { is_record (view record.now) ≡ true }
-    ensures { IfOk result (λ m. record_of (fields_view m.value.entries) ≡ view record.now) }
+fn shared_pairs(expr: &Expr) -> Result<Rc<BTreeMap<RcStr, Expr>>, AllocError>
+    requires { is_record (view expr.now) ≡ true }
+    ensures { IfOk result (λ m. record_of (fields_view m.value.entries) ≡ view expr.now) }
 {
-    match record_in(record) {
+    match record_in(expr) {
         Some(pairs) => Ok(pairs.clone()?),
         None => unreachable!(),
     }
+}
+
+// Whether the expression is a record.
+fn is_record(expr: &Expr) -> bool
+    ensures { result ≡ is_record (view expr.now) }
+{
+    record_in(expr).is_some()
 }
 
 // The parts of a record.
