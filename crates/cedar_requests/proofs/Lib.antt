@@ -3,3 +3,5 @@ pub mod Equality
 pub mod Names
 pub mod Records
 pub mod Creations
+pub mod Writing
+pub mod Texts

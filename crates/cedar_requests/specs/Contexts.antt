@@ -4,6 +4,7 @@ use Rattle.std.specs.declared.alloc.Global.{Global}
 use Rattle.std.specs.declared.rc.RcStr.{RcStr}
 use Rattle.std.specs.declared.collections.BTreeMap.{BTreeMap}
 use Rattle.cedar_model.specs.Terms.{Text, Fields}
+use Rattle.cedar_model.specs.Values.{expressions_at}
 use Rattle.cedar_model.specs.Failures as model
 use Rattle.cedar_model.specs.Operators.{represented_names, field_names}
 use Rattle.cedar_model.specs.Settings.{ContextPart, absent_context, known_context, residual_context, context_value}
@@ -46,6 +47,11 @@ pairs_view (kinds.Residual r) = residual_context (residual_fields r)
 abbrev pub pairs_locs : ContextPairs → List (Option Loc)
 pairs_locs (kinds.Values m) = map (λ p. p.1.loc) m.entries
 pairs_locs (kinds.Residual r) = residual_locs r
+
+-- their terms under their names: a value is written as its expression
+abbrev pub pairs_terms : ContextPairs → Fields
+pairs_terms (kinds.Values m) = expressions_at (whats_at m.entries)
+pairs_terms (kinds.Residual r) = residual_fields r
 
 abbrev pub pairs_values : ContextPairs → Option ValueMap
 pairs_values (kinds.Values m) = Some m

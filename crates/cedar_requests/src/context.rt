@@ -1,10 +1,13 @@
 //! Contexts of requests.
 ghost use Rattle.std.specs.Prelude.{◌≡◌, Some, None, option_copied, IfSome, true, length};
 
+mod conversions;
 mod copies;
 mod creation;
 mod equality;
 pub(crate) mod pairs;
+mod texts;
+mod walk;
 
 use cedar_data::Value;
 use cedar_expressions::Expr;
@@ -12,6 +15,7 @@ use pairs::ContextPairs;
 use std::alloc::Global;
 use std::collections::BTreeMap;
 use std::rc::RcStr;
+pub use walk::IntoIter;
 
 /// The context of a request: a record of values, or a record of restricted expressions of which one or more hold an unknown.
 #[derive(Debug, Drop)]

@@ -7,7 +7,7 @@ mod errors;
 mod request;
 pub mod shared;
 
-pub use context::Context;
+pub use context::{Context, IntoIter};
 pub use entry::EntityUIDEntry;
 pub use errors::{ContextCreationError, context_creation_errors};
 pub use request::Request;
