@@ -38,12 +38,4 @@ impl<'a> BorrowedRestrictedExpr<'a> {
         let expr: Expr = self.expr.clone()?;
         Ok(RestrictedExpr { expr })
     }
-
-    /// The expression.
-    pub fn as_expr(&self) -> &'a Expr
-        ensures expr { result.now ≡ borrowed_expr self.now }
-        ensures restricted { is_restricted (view result.now) ≡ true }
-    {
-        self.expr
-    }
 }
