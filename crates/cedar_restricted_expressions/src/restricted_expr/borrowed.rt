@@ -6,12 +6,14 @@ ghost use Rattle.cedar_expressions.specs.View.{view};
 ghost use Rattle.cedar_restricted_expressions.specs.Refusals.{IsRefusal};
 
 use super::disallowed::check;
-use super::{BorrowedRestrictedExpr, RestrictedExpr, RestrictedExpressionError};
+use super::{BorrowedRestrictedExpr, RestrictedExpr};
+use crate::errors::RestrictedExpressionError;
 use cedar_expressions::Expr;
 use std::alloc::AllocError;
 
 impl<'a> BorrowedRestrictedExpr<'a> {
-    ghost use Rattle.cedar_restricted_expressions.specs.Views.{borrowed_expr, borrowed_term, borrowed_loc, restricted_term, restricted_loc};
+    ghost use Rattle.cedar_restricted_expressions.specs.Views.{borrowed_expr, borrowed_term, borrowed_loc};
+    ghost use Rattle.cedar_restricted_expressions.specs.Views.{restricted_term, restricted_loc};
 
     /// The expression, as a restricted one. Refuses as `RestrictedExpr::new` does.
     pub fn new(expr: &'a Expr) -> Result<BorrowedRestrictedExpr<'a>, RestrictedExpressionError>

@@ -6,10 +6,8 @@ ghost use Rattle.cedar_data.specs.Kinds.{kind_what};
 ghost use Rattle.cedar_data.specs.Residuals.{partial_view, partial_loc, partial_term};
 ghost use Rattle.cedar_restricted_expressions.specs.Refusals.{IsRefusedResidual};
 
-use super::{
-    BorrowedRestrictedExpr, PartialValueToRestrictedExprError, RestrictedExpr,
-    RestrictedExpressionError,
-};
+use super::{BorrowedRestrictedExpr, RestrictedExpr};
+use crate::errors::{PartialValueToRestrictedExprError, RestrictedExpressionError};
 use cedar_data::{PartialValue, Value, ValueKind};
 use cedar_expressions::Expr;
 use std::alloc::{AllocError, Global};

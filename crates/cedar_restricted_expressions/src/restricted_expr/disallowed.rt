@@ -8,8 +8,8 @@ ghost use Rattle.cedar_names.specs.Texts.{unary_text, binary_text};
 ghost use Rattle.cedar_expressions.specs.View.{view, terms_view, fields_view};
 ghost use Rattle.cedar_restricted_expressions.specs.Refusals.{with_its_text, found_view, IsRefusal};
 
-use super::errors::RestrictedExpressionError;
-use super::restricted_expr_errors::InvalidRestrictedExpressionError;
+use crate::errors::RestrictedExpressionError;
+use crate::errors::restricted_expr_errors::InvalidRestrictedExpressionError;
 use cedar_expressions::{Expr, ExprKind};
 use cedar_names::{BinaryOp, UnaryOp};
 use std::collections::BTreeMap;
@@ -83,7 +83,8 @@ fn first_found(expr: &Expr) -> Option<Found<'_>>
 
 #[cycle(found)]
 fn first_found_of(parts: &Vec<Expr>) -> Option<Found<'_>>
-    ensures { option_map found_view result ≡ option_map with_its_text (first_disallowed_of (terms_view parts.now.items)) }
+    ensures { option_map found_view result ≡
+        option_map with_its_text (first_disallowed_of (terms_view parts.now.items)) }
 {
     'parts: for part in parts {
         if let Some(found) = first_found(part) {
@@ -95,7 +96,8 @@ fn first_found_of(parts: &Vec<Expr>) -> Option<Found<'_>>
 
 #[cycle(found)]
 fn first_found_at(pairs: &BTreeMap<RcStr, Expr>) -> Option<Found<'_>>
-    ensures { option_map found_view result ≡ option_map with_its_text (first_disallowed_at (fields_view pairs.now.entries)) }
+    ensures { option_map found_view result ≡
+        option_map with_its_text (first_disallowed_at (fields_view pairs.now.entries)) }
 {
     'pairs: for (_, part) in pairs {
         if let Some(found) = first_found(part) {

@@ -4,4 +4,7 @@ use Rattle.cedar_restricted_expressions.proofs.restricted_expr.RestrictedExpr.ca
 
 pub invariant_of-result : goal.invariant_of-result
 invariant_of-result c =
-    record { restricted = rw (c.in_ok-call_extension_fn.ensures.view, c.in_ok-args.ensures) (parts_restricted c.args.args.items) }
+    record {
+      restricted =
+          rw (c.in_ok-call_extension_fn.ensures.view, c.in_ok-args.ensures) (parts_restricted c.args.args.items);
+    }

@@ -4,4 +4,7 @@ use Rattle.cedar_restricted_expressions.proofs.restricted_expr.RestrictedExpr.se
 
 pub invariant_of-result : goal.invariant_of-result
 invariant_of-result c =
-    record { restricted = rw (c.in_ok-set.ensures.view, c.in_ok-elements.ensures) (parts_restricted c.args.elements.items) }
+    record {
+      restricted =
+          rw (c.in_ok-set.ensures.view, c.in_ok-elements.ensures) (parts_restricted c.args.elements.items);
+    }

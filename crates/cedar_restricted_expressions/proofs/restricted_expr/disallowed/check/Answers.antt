@@ -1,4 +1,3 @@
-use Rattle.std.proofs.Common.{rules}
 use Rattle.cedar_expressions.specs.View.{view}
 use Rattle.cedar_restricted_expressions.proofs.Made.{none_found}
 use Rattle.cedar_restricted_expressions.proofs.restricted_expr.disallowed.check.Goals as goal

@@ -1,7 +1,7 @@
 //! Why no restricted expression was made.
 ghost use Rattle.std.specs.Prelude.{◌≡◌, alloc_error};
-ghost use Rattle.cedar_restricted_expressions.specs.declared.restricted_expr.errors.RestrictedExpressionError.TheVariants as refusals;
-ghost use Rattle.cedar_restricted_expressions.specs.declared.restricted_expr.errors.PartialValueToRestrictedExprError.TheVariants as residuals;
+ghost use Rattle.cedar_restricted_expressions.specs.declared.errors.RestrictedExpressionError.TheVariants as refusals;
+ghost use Rattle.cedar_restricted_expressions.specs.declared.errors.PartialValueToRestrictedExprError.TheVariants as residuals;
 
 use cedar_expressions::Expr;
 use restricted_expr_errors::InvalidRestrictedExpressionError;
