@@ -1,10 +1,10 @@
 //! Restricted expressions: literals, unknowns, and sets, records and calls of restricted ones.
 #![tactic(auto)]
 
-mod errors;
+mod err;
 mod restricted_expr;
 
-pub use errors::{
+pub use err::{
     PartialValueToRestrictedExprError, RestrictedExpressionError, restricted_expr_errors,
 };
 pub use restricted_expr::{

@@ -7,7 +7,7 @@ ghost use Rattle.cedar_restricted_expressions.specs.Refusals.{IsRefusal};
 
 use super::disallowed::check;
 use super::{BorrowedRestrictedExpr, RestrictedExpr};
-use crate::errors::RestrictedExpressionError;
+use crate::err::RestrictedExpressionError;
 use cedar_expressions::Expr;
 use std::alloc::AllocError;
 

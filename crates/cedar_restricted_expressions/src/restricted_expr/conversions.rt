@@ -7,7 +7,7 @@ ghost use Rattle.cedar_data.specs.Residuals.{partial_view, partial_loc, partial_
 ghost use Rattle.cedar_restricted_expressions.specs.Refusals.{IsRefusedResidual};
 
 use super::{BorrowedRestrictedExpr, RestrictedExpr};
-use crate::errors::{PartialValueToRestrictedExprError, RestrictedExpressionError};
+use crate::err::{PartialValueToRestrictedExprError, RestrictedExpressionError};
 use cedar_data::{PartialValue, Value, ValueKind};
 use cedar_expressions::Expr;
 use std::alloc::{AllocError, Global};

@@ -1,4 +1,4 @@
-#![tactic(auto, using(cedar_expressions::proofs::Levels::levels), unfolding(cedar_model::specs::Restricted::first_disallowed, cedar_model::specs::Restricted::or_else))]
+#![tactic(auto, using(crate::proofs::Levels::terms), unfolding(cedar_model::specs::Restricted::first_disallowed))]
 //! The first part of an expression that may not stand in a restricted one.
 ghost use Rattle.std.specs.Prelude.{◌≡◌, true, Some, option_map, OnOk, IfErr};
 ghost use Rattle.cedar_model.specs.Shapes.{is_restricted};
@@ -8,8 +8,8 @@ ghost use Rattle.cedar_names.specs.Texts.{unary_text, binary_text};
 ghost use Rattle.cedar_expressions.specs.View.{view, terms_view, fields_view};
 ghost use Rattle.cedar_restricted_expressions.specs.Refusals.{with_its_text, found_view, IsRefusal};
 
-use crate::errors::RestrictedExpressionError;
-use crate::errors::restricted_expr_errors::InvalidRestrictedExpressionError;
+use crate::err::RestrictedExpressionError;
+use crate::err::restricted_expr_errors::InvalidRestrictedExpressionError;
 use cedar_expressions::{Expr, ExprKind};
 use cedar_names::{BinaryOp, UnaryOp};
 use std::collections::BTreeMap;
@@ -82,6 +82,7 @@ fn first_found(expr: &Expr) -> Option<Found<'_>>
 }
 
 #[cycle(found)]
+#[tactic(auto, unfolding(cedar_model::specs::Restricted::first_disallowed, cedar_model::specs::Restricted::or_else))]
 fn first_found_of(parts: &Vec<Expr>) -> Option<Found<'_>>
     ensures { option_map found_view result ≡
         option_map with_its_text (first_disallowed_of (terms_view parts.now.items)) }
@@ -95,6 +96,7 @@ fn first_found_of(parts: &Vec<Expr>) -> Option<Found<'_>>
 }
 
 #[cycle(found)]
+#[tactic(auto, unfolding(cedar_model::specs::Restricted::first_disallowed, cedar_model::specs::Restricted::or_else))]
 fn first_found_at(pairs: &BTreeMap<RcStr, Expr>) -> Option<Found<'_>>
     ensures { option_map found_view result ≡
         option_map with_its_text (first_disallowed_at (fields_view pairs.now.entries)) }

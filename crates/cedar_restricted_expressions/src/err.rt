@@ -1,7 +1,7 @@
 //! Why no restricted expression was made.
 ghost use Rattle.std.specs.Prelude.{◌≡◌, alloc_error};
-ghost use Rattle.cedar_restricted_expressions.specs.declared.errors.RestrictedExpressionError.TheVariants as refusals;
-ghost use Rattle.cedar_restricted_expressions.specs.declared.errors.PartialValueToRestrictedExprError.TheVariants as residuals;
+ghost use Rattle.cedar_restricted_expressions.specs.declared.err.RestrictedExpressionError.TheVariants as refusals;
+ghost use Rattle.cedar_restricted_expressions.specs.declared.err.PartialValueToRestrictedExprError.TheVariants as kinds;
 
 use cedar_expressions::Expr;
 use restricted_expr_errors::InvalidRestrictedExpressionError;
@@ -66,7 +66,7 @@ impl From<AllocError> for RestrictedExpressionError {
 }
 
 impl From<AllocError> for PartialValueToRestrictedExprError {
-    ghost from_gives = { λ error result. result ≡ residuals.Memory error };
+    ghost from_gives = { λ error result. result ≡ kinds.Memory error };
 
     fn from(error: AllocError) -> PartialValueToRestrictedExprError {
         PartialValueToRestrictedExprError::Memory(error)
@@ -74,7 +74,7 @@ impl From<AllocError> for PartialValueToRestrictedExprError {
 }
 
 impl<T: Drop> From<AllocFailed<T>> for PartialValueToRestrictedExprError {
-    ghost from_gives = { λ _ result. result ≡ residuals.Memory alloc_error };
+    ghost from_gives = { λ _ result. result ≡ kinds.Memory alloc_error };
 
     fn from(_failed: AllocFailed<T>) -> PartialValueToRestrictedExprError {
         PartialValueToRestrictedExprError::Memory(AllocError)
