@@ -8,7 +8,8 @@ ghost use Rattle.cedar_model.specs.Restricted.{IsSoundPart};
 ghost use Rattle.cedar_model.specs.RestrictedLaws.{HoldsUnknown};
 ghost use Rattle.cedar_restricted_expressions.specs.Views.{borrowed_term, borrowed_loc};
 ghost use Rattle.cedar_data.specs.Residuals.{partial_view, partial_loc};
-ghost use Rattle.cedar_restricted.specs.Evaluations.{partial_answer, value_answer, IsBare, IsAnswerWithin, IsValueWithin};
+ghost use Rattle.cedar_restricted.specs.Evaluations.{partial_answer, value_answer, IsBare, IsAnswerWithin};
+ghost use Rattle.cedar_restricted.specs.Evaluations.{IsValueWithin};
 
 use crate::errors::residual_left;
 use crate::machine::Restricted;
@@ -27,7 +28,8 @@ pub struct RestrictedEvaluator<'x, 'f> {
 }
 
 impl<'x, 'f> RestrictedEvaluator<'x, 'f> {
-    /// The evaluator with these extensions. Evaluation goes at most `limit` levels deep: an expression is one level, its parts
+    /// The evaluator with these extensions. Evaluation goes at most `limit` levels deep: an expression is one level,
+    /// its parts
     /// one more.
     pub fn new(extensions: &'x Extensions<'f>, limit: usize) -> RestrictedEvaluator<'x, 'f>
         ensures { result.limit ≡ limit }
@@ -37,14 +39,16 @@ impl<'x, 'f> RestrictedEvaluator<'x, 'f> {
 
     /// The value of the expression, or what is left of it where an unknown stands in it, at the expression's location.
     /// Fails with the first error in the order of evaluation: a call fails after its arguments, since no function is
-    /// stored; and with `RecursionLimit` exactly where the evaluation goes more levels deep than the limit, which it never
+    /// stored; and with `RecursionLimit` exactly where the evaluation goes more levels deep than the limit, which it
+    /// never
     /// does for an expression that is no higher.
     pub fn partial_interpret(
         &self,
         alloc: Global,
         e: BorrowedRestrictedExpr<'_>,
     ) -> Result<PartialValue, EvaluationError>
-        ensures answer { (s : Setting) → IsBare s → Meets (IsAnswerWithin s self.now.limit (borrowed_term e.entry)) (partial_answer result) }
+        ensures answer { (s : Setting) → IsBare s →
+            Meets (IsAnswerWithin s self.now.limit (borrowed_term e.entry)) (partial_answer result) }
         ensures place { IfOk result (λ p. partial_loc p ≡ borrowed_loc e.entry) }
         ensures restricted { IfOk result (λ p. IsSoundPart (partial_view p)) }
         ensures unknown { IfOk result (λ p. HoldsUnknown (partial_view p)) }
@@ -59,14 +63,16 @@ impl<'x, 'f> RestrictedEvaluator<'x, 'f> {
         }
     }
 
-    /// The value of the expression, at the expression's location. Fails as `partial_interpret` does, and where something
+    /// The value of the expression, at the expression's location. Fails as `partial_interpret` does, and where
+    /// something
     /// is left of the expression with `NonValue` and what is left.
     pub fn interpret(
         &self,
         alloc: Global,
         e: BorrowedRestrictedExpr<'_>,
     ) -> Result<Value, EvaluationError>
-        ensures answer { (s : Setting) → IsBare s → Meets (IsValueWithin s self.now.limit (borrowed_term e.entry)) (value_answer result) }
+        ensures answer { (s : Setting) → IsBare s →
+            Meets (IsValueWithin s self.now.limit (borrowed_term e.entry)) (value_answer result) }
         ensures place { IfOk result (λ v. v.loc ≡ borrowed_loc e.entry) }
         ensures low { height (borrowed_term e.entry) ≤ self.now.limit → value_answer result ≢ limit }
     {

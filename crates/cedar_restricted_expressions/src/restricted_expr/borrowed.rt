@@ -21,7 +21,7 @@ impl<'a> BorrowedRestrictedExpr<'a> {
         ensures refused { IfErr result (IsRefusal (first_disallowed (view expr.now))) }
     {
         check(expr)?;
-        Ok(BorrowedRestrictedExpr { expr })
+        Ok(BorrowedRestrictedExpr::new_unchecked(expr))
     }
 
     /// The expression, which the caller knows to be restricted: `new` is the test.

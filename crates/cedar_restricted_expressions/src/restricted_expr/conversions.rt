@@ -68,8 +68,8 @@ impl From<RestrictedExpr> for Expr {
 
     ghost from_gives = { λ r e. e ≡ expr_in r };
 
-    fn from(r: RestrictedExpr) -> Expr {
-        r.expr
+    fn from(restricted: RestrictedExpr) -> Expr {
+        restricted.expr
     }
 }
 
@@ -78,8 +78,8 @@ impl<'a> From<BorrowedRestrictedExpr<'a>> for &'a Expr {
 
     ghost from_gives = { λ b e. e.now ≡ borrowed_expr b };
 
-    fn from(b: BorrowedRestrictedExpr<'a>) -> &'a Expr {
-        b.expr
+    fn from(borrowed: BorrowedRestrictedExpr<'a>) -> &'a Expr {
+        borrowed.expr
     }
 }
 

@@ -24,7 +24,7 @@ impl RestrictedExpr {
         ensures refused { IfErr result (IsRefusal (first_disallowed (view expr))) }
     {
         check(&expr)?;
-        Ok(RestrictedExpr { expr })
+        Ok(RestrictedExpr::new_unchecked(expr))
     }
 
     /// The expression, which the caller knows to be restricted: `BorrowedRestrictedExpr::new` is the test.

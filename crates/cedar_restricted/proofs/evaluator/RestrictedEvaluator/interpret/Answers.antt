@@ -12,17 +12,24 @@ returns-in-Ok-Value-clause-answer c s b ok =
     let levels = c.args.self.now.limit in
     let t = borrowed_term c.args.e in
     let is = c.in-Ok-Value.is ∙ ap Ok c.in-Ok-Value.field-0-is in
-    value_within s levels t c.in-Ok-Value.value.what (subst (λ r. Meets (IsAnswerWithin s levels t) (partial_answer r)) is (c.partial_interpret.ensures.answer s b))
+    value_within s levels t
+    c.in-Ok-Value.value.what (subst (λ r. Meets (IsAnswerWithin s levels t) (partial_answer r)) is
+    (c.partial_interpret.ensures.answer s b))
 
 pub returns-in-Ok-Residual-clause-answer : goal.returns-in-Ok-Residual-clause-answer
 returns-in-Ok-Residual-clause-answer c s b ok =
     let levels = c.args.self.now.limit in
     let t = borrowed_term c.args.e in
     let is = c.in-Ok-Residual.is ∙ ap Ok c.in-Ok-Residual.field-0-is in
-    residual_within s levels t (residual_term c.in-Ok-Residual.residual) (failure_of c.residual_left.result) c.residual_left.ensures (subst (λ r. Meets (IsAnswerWithin s levels t) (partial_answer r)) is (c.partial_interpret.ensures.answer s b))
+    residual_within s levels t (residual_term c.in-Ok-Residual.residual)
+    (failure_of c.residual_left.result)
+    c.residual_left.ensures (subst (λ r. Meets (IsAnswerWithin s levels t) (partial_answer r)) is
+    (c.partial_interpret.ensures.answer s b))
 
 pub returns-in-Err-clause-answer : goal.returns-in-Err-clause-answer
 returns-in-Err-clause-answer c s b ok =
     let levels = c.args.self.now.limit in
     let t = borrowed_term c.args.e in
-    failure_within s levels t (failure_of c.in-Err.error) ok (subst (λ r. Meets (IsAnswerWithin s levels t) (partial_answer r)) c.in-Err.is (c.partial_interpret.ensures.answer s b))
+    failure_within s levels t (failure_of c.in-Err.error) ok
+    (subst (λ r. Meets (IsAnswerWithin s levels t) (partial_answer r))
+    c.in-Err.is (c.partial_interpret.ensures.answer s b))

@@ -13,16 +13,21 @@ returns-in-Ok-clause-answer c s b ok =
     let levels = c.args.self.now.limit in
     let r = c.interpret.result in
     let seen = ap view c.from-expr.ensures ∙ c.in-Ok.ensures.view in
-    let is_r : is_restricted (view c.from-expr.result) ≡ true = ap (λ e. is_restricted (view e)) c.from-expr.ensures ∙ c.in-Ok.restricted.restricted in
-    let right : IsRight levels c.from-expr.result r = record { answer = c.interpret.ensures.answer; place = c.interpret.ensures.place } in
-    subst (λ t. IsAnswerWithin s levels t (partial_answer r)) seen (promised levels c.from-expr.result r (is_r) right s b ok)
+    let is_r : is_restricted (view c.from-expr.result) ≡ true = ap (λ e. is_restricted (view e)) c.from-expr.ensures ∙
+    c.in-Ok.restricted.restricted in
+    let right : IsRight levels c.from-expr.result r =
+    record { answer = c.interpret.ensures.answer; place = c.interpret.ensures.place } in
+    subst (λ t. IsAnswerWithin s levels t (partial_answer r)) seen
+    (promised levels c.from-expr.result r (is_r) right s b ok)
 
 pub returns-in-Ok-clause-restricted : goal.returns-in-Ok-clause-restricted
 returns-in-Ok-clause-restricted c =
     let levels = c.args.self.now.limit in
     let r = c.interpret.result in
-    let is_r : is_restricted (view c.from-expr.result) ≡ true = ap (λ e. is_restricted (view e)) c.from-expr.ensures ∙ c.in-Ok.restricted.restricted in
-    let right : IsRight levels c.from-expr.result r = record { answer = c.interpret.ensures.answer; place = c.interpret.ensures.place } in
+    let is_r : is_restricted (view c.from-expr.result) ≡ true = ap (λ e. is_restricted (view e)) c.from-expr.ensures ∙
+    c.in-Ok.restricted.restricted in
+    let right : IsRight levels c.from-expr.result r =
+    record { answer = c.interpret.ensures.answer; place = c.interpret.ensures.place } in
     sound_part levels c.from-expr.result r (is_r) right
 
 pub returns-in-Ok-clause-low : goal.returns-in-Ok-clause-low
@@ -30,6 +35,8 @@ returns-in-Ok-clause-low c =
     let levels = c.args.self.now.limit in
     let r = c.interpret.result in
     let seen = ap view c.from-expr.ensures ∙ c.in-Ok.ensures.view in
-    let is_r : is_restricted (view c.from-expr.result) ≡ true = ap (λ e. is_restricted (view e)) c.from-expr.ensures ∙ c.in-Ok.restricted.restricted in
-    let right : IsRight levels c.from-expr.result r = record { answer = c.interpret.ensures.answer; place = c.interpret.ensures.place } in
+    let is_r : is_restricted (view c.from-expr.result) ≡ true = ap (λ e. is_restricted (view e)) c.from-expr.ensures ∙
+    c.in-Ok.restricted.restricted in
+    let right : IsRight levels c.from-expr.result r =
+    record { answer = c.interpret.ensures.answer; place = c.interpret.ensures.place } in
     subst (λ t. height t ≤ levels → partial_answer r ≢ limit) seen (low_enough levels c.from-expr.result r (is_r) right)
