@@ -8,6 +8,8 @@ use Rattle.cedar_model.specs.Terms.{Text, Term, Fields, no_fields, one_field}
 use Rattle.cedar_model.specs.Shapes.{is_restricted, are_restricted, are_restricted_at}
 use Rattle.cedar_model.specs.Restricted.{Disallowed, first_disallowed}
 use Rattle.cedar_model.proofs.RestrictedAnswers.{none_disallowed}
+use Rattle.cedar_model.specs.Values.{expression_of}
+use Rattle.cedar_data.specs.Sound.{Placed, restricted-from_sound}
 use Rattle.cedar_expressions.specs.View.{terms_view}
 use Rattle.cedar_expressions.specs.Records.{put_field, put_fields, pairs_view, fields_in_order}
 use Rattle.cedar_restricted_expressions.specs.declared.restricted_expr.RestrictedExpr.{RestrictedExpr}
@@ -53,6 +55,13 @@ fields_restricted fs (r ∷ rs) h =
 pub record_restricted : (rs : List (RcStr Global × RestrictedExpr)) →
     are_restricted_at (fields_in_order (pairs_view (pairs_in rs))) ≡ true
 record_restricted rs = fields_restricted no_fields rs refl
+
+pub ruleset made = (parts_restricted, record_restricted)
+
+-- ---- values
+
+pub value_restricted : (p : Placed) → is_restricted (expression_of p.what) ≡ true
+value_restricted p = restricted-from_sound p.what p.sound
 
 -- ---- no disallowed part
 

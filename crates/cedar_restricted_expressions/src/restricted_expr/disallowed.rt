@@ -23,6 +23,7 @@ pub(crate) struct Found<'a> {
 }
 
 // That the expression is restricted, or which part is the first that may not stand in it.
+#[tactic(auto, using(crate::proofs::Made::none_found))]
 pub(crate) fn check(expr: &Expr) -> Result<(), RestrictedExpressionError>
     ensures restricted { OnOk result (is_restricted (view expr.now) ≡ true) }
     ensures refused { IfErr result (IsRefusal (first_disallowed (view expr.now))) }
