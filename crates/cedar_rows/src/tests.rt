@@ -2,4 +2,5 @@
 mod answers;
 mod program;
 pub mod reader;
+mod restricted;
 mod table;
