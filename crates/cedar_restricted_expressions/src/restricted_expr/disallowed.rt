@@ -103,8 +103,8 @@ fn first_found_at(pairs: &BTreeMap<RcStr, Expr>) -> Option<Found<'_>>
         option_map with_its_text (first_disallowed_at (fields_view pairs.now.entries)) }
 {
     'pairs: for (_, part) in pairs {
-        if let Some(found) = first_found(part) {
-            return Some(found);
+        if let Some(first) = first_found(part) {
+            return Some(first);
         }
     }
     None
