@@ -1,2 +1,4 @@
 //! Requests: who asks to do what with what, and in which context.
-pub use cedar_requests::{Context, EntityUIDEntry, Request};
+pub use cedar_requests::{
+    Context, ContextCreationError, EntityUIDEntry, IntoIter, Request, context_creation_errors,
+};

@@ -1,5 +1,6 @@
 -- What the frames of the evaluation wait for.
-use Rattle.std.specs.Prelude.{◌≡◌, ◌≢◌, ℕ, suc, ◌-◌, true, List, [], ◌∷◌, ◌++◌, length, drop, Option, Result, Ok, Err, IfOk}
+use Rattle.std.specs.Prelude.{◌≡◌, ◌≢◌, ℕ, suc, ◌-◌, true, List, [], ◌∷◌, ◌++◌, length, drop, Option, Result, Ok, Err}
+use Rattle.std.specs.Prelude.{IfOk}
 use Rattle.std.specs.declared.alloc.Global.{Global}
 use Rattle.std.specs.declared.rc.Rc.{Rc}
 use Rattle.std.specs.declared.vec.Vec.{Vec}
@@ -60,7 +61,8 @@ pub record Begun (t : Term) (loc : Option Loc) (s : NextPart) : Type 0 where
 -- unless memory is wanting
 abbrev pub Begins : Term → Option Loc → NextPart → Type 0
 Begins t loc (Wait f c) = Begun t loc (Wait f c)
-Begins t loc (Done r) = (partial_answer r ≢ fails out_of_memory → Begun t loc (Done r)) × IfOk r (λ p. partial_loc p ≡ loc)
+Begins t loc (Done r) = (partial_answer r ≢ fails out_of_memory → Begun t loc (Done r)) ×
+    IfOk r (λ p. partial_loc p ≡ loc)
 
 -- with one more answer
 pub record Continued (f : PartsFrame) (p : PartialValue) (s : NextPart) : Type 0 where
@@ -72,7 +74,8 @@ pub record Continued (f : PartsFrame) (p : PartialValue) (s : NextPart) : Type 0
 -- with the next answer: the next part, or the whole, unless memory is wanting; an error is the whole's
 abbrev pub GoesOn : PartsFrame → Result PartialValue EvaluationError → NextPart → Type 0
 GoesOn f (Ok p) (Wait g c) = Continued f p (Wait g c)
-GoesOn f (Ok p) (Done r) = (partial_answer r ≢ fails out_of_memory → Continued f p (Done r)) × IfOk r (λ q. partial_loc q ≡ f.loc)
+GoesOn f (Ok p) (Done r) = (partial_answer r ≢ fails out_of_memory → Continued f p (Done r)) ×
+    IfOk r (λ q. partial_loc q ≡ f.loc)
 GoesOn f (Err e) (Wait g c) = ⊥
 GoesOn f (Err e) (Done r) = partial_answer r ≡ fails (failure_of e)
 
@@ -81,7 +84,8 @@ GoesOn f (Err e) (Done r) = partial_answer r ≡ fails (failure_of e)
 -- the answers so far are those of the first parts
 abbrev pub HasRead : MayAnswer → Parts → Answers → Type 0
 HasRead May parts answers =
-    (ps : List model.PartialValue) × Are answers ps × SoFar May (terms_view parts.value.items) (parts_left parts answers) ps
+    (ps : List model.PartialValue) × Are answers ps ×
+    SoFar May (terms_view parts.value.items) (parts_left parts answers) ps
 
 -- in the frame the expression waits for its part, where parts have so many levels
 pub record Waits (k : ℕ) (f : PartsFrame) (t c : Expr) : Type 0 where

@@ -73,7 +73,8 @@ fn record_of(
 // The record of these values under these keys.
 fn record_value(alloc: Global, keys: Vec<RcStr>, values: Vec<Value>) -> Result<Value, AllocError>
     requires { (length keys.items ≡ length values.items) × IsStrictlySortedBy key_order keys.items }
-    ensures { IfOk result (λ v. v.what ≡ record_represented (represented_fields_of (under (texts_of keys.items) (whats values.items)))) }
+    ensures { IfOk result
+        (λ v. v.what ≡ record_represented (represented_fields_of (under (texts_of keys.items) (whats values.items)))) }
 {
     let fields = values_under(alloc, keys, values)?;
     Ok(Value::record(alloc, fields, None)?)
@@ -82,7 +83,8 @@ fn record_value(alloc: Global, keys: Vec<RcStr>, values: Vec<Value>) -> Result<V
 // The record of these expressions under these keys.
 fn record_expr(alloc: Global, keys: Vec<RcStr>, mixed: Mixed) -> Result<Expr, AllocError>
     requires { (length keys.items ≡ length mixed.exprs.items) × IsStrictlySortedBy key_order keys.items }
-    ensures view { IfOk result (λ e. view e ≡ Terms.record_of (fields_named (texts_of keys.items) (terms_view mixed.exprs.items))) }
+    ensures view { IfOk result
+        (λ e. view e ≡ Terms.record_of (fields_named (texts_of keys.items) (terms_view mixed.exprs.items))) }
     ensures unknown { IfOk result (λ e. has_unknown (view e) ≡ true) }
 {
     let fields = exprs_under(alloc, keys, mixed.into_exprs())?;

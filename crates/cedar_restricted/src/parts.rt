@@ -21,7 +21,8 @@ use std::rc::{Rc, RcStr};
 /// What comes next of a set, a record or a call: its answer, or the part that it waits for.
 pub type NextPart = Step<PartsFrame, Expr, Result<PartialValue, EvaluationError>>;
 
-/// A set, a record or a call that waits for the answer of a part: what the parts make, the parts, the answers of those before,
+/// A set, a record or a call that waits for the answer of a part: what the parts make, the parts, the answers of those
+/// before,
 /// and where it stands.
 #[derive(Drop)]
 pub struct PartsFrame {
@@ -142,8 +143,10 @@ fn keys_and_parts(
     alloc: Global,
     pairs: &BTreeMap<RcStr, Expr>,
 ) -> Result<(Vec<RcStr>, Rc<Vec<Expr>>), AllocError>
-    ensures fields { IfOk result (λ p. fields_named (texts_of p.0.items) (terms_view p.1.value.items) ≡ fields_view pairs.now.entries) }
-    ensures keys { IfOk result (λ p. (length p.0.items ≡ length p.1.value.items) × IsStrictlySortedBy key_order p.0.items) }
+    ensures fields { IfOk result
+        (λ p. fields_named (texts_of p.0.items) (terms_view p.1.value.items) ≡ fields_view pairs.now.entries) }
+    ensures keys { IfOk result
+        (λ p. (length p.0.items ≡ length p.1.value.items) × IsStrictlySortedBy key_order p.0.items) }
 {
     let mut keys: Vec<RcStr> = Vec::new(alloc);
     let mut parts: Vec<Expr> = Vec::new(alloc);

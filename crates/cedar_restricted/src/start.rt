@@ -73,7 +73,8 @@ fn literal(e: &Expr, value: &Literal) -> NextPart
 }
 
 fn unknown_left(e: &Expr, unknown: &Unknown) -> NextPart
-    requires { view e.now ≡ Terms.unknown (rc_str_bytes unknown.now.name) (option_map type_view unknown.now.type_annotation) }
+    requires { view e.now ≡
+        Terms.unknown (rc_str_bytes unknown.now.name) (option_map type_view unknown.now.type_annotation) }
     ensures { (k : ℕ) → Resumes IsRight Waits k e.now result }
 {
     Step::Done(residual_of(e))

@@ -1,11 +1,11 @@
 -- What the readers of a restricted expression find: the part that they name, where the expression is of that kind.
-use Rattle.std.specs.Prelude.{ℤ, Bool, List, Option, Some, None, option_map}
+use Rattle.std.specs.Prelude.{ℤ, Bool, List, Option, Some, None}
 use Rattle.std.specs.Option.{option_and_then}
 use Rattle.std.specs.declared.alloc.Global.{Global}
 use Rattle.std.specs.declared.rc.RcStr.{RcStr}
 use Rattle.cedar_model.specs.Terms as model
-use Rattle.cedar_model.specs.Terms.{Text, EntityName, ValueType, Term, literal, bool_literal, long_literal, text_literal}
-use Rattle.cedar_model.specs.Terms.{entity_literal, unknown, call, set_of, record_of, Terms, Fields}
+use Rattle.cedar_model.specs.Terms.{Text, EntityName, ValueType, Term, literal, bool_literal, long_literal}
+use Rattle.cedar_model.specs.Terms.{text_literal, entity_literal, unknown, call, set_of, record_of, Terms, Fields}
 use Rattle.cedar_names.specs.declared.names.EntityUID.{EntityUID}
 use Rattle.cedar_names.specs.declared.names.Name.{Name}
 use Rattle.cedar_names.specs.declared.types.Literal.{Literal}

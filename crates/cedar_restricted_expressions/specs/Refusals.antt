@@ -1,15 +1,15 @@
 -- Which part of an expression is refused, and what the refusal says.
 use Rattle.std.specs.Prelude.{◌≡◌, Option, Some, None, codes}
 use Rattle.cedar_model.specs.Terms.{Text, Term}
-use Rattle.cedar_model.specs.Restricted.{Feature, of_variable, of_slot, of_if, of_and, of_or, of_unary, of_binary, of_attribute}
-use Rattle.cedar_model.specs.Restricted.{of_has, of_like, of_is, Disallowed}
+use Rattle.cedar_model.specs.Restricted.{Feature, of_variable, of_slot, of_if, of_and, of_or, of_unary, of_binary}
+use Rattle.cedar_model.specs.Restricted.{of_attribute, of_has, of_like, of_is, Disallowed}
 use Rattle.cedar_names.specs.Texts.{unary_text, binary_text}
 use Rattle.cedar_expressions.specs.View.{view}
 use Rattle.cedar_restricted_expressions.specs.declared.restricted_expr.disallowed.Found.{Found}
-use Rattle.cedar_restricted_expressions.specs.declared.restricted_expr.errors.RestrictedExpressionError.{RestrictedExpressionError}
-use Rattle.cedar_restricted_expressions.specs.declared.restricted_expr.errors.RestrictedExpressionError.TheVariants as refusals
-use Rattle.cedar_restricted_expressions.specs.declared.restricted_expr.errors.PartialValueToRestrictedExprError.{PartialValueToRestrictedExprError}
-use Rattle.cedar_restricted_expressions.specs.declared.restricted_expr.errors.PartialValueToRestrictedExprError.TheVariants as residuals
+use Rattle.cedar_restricted_expressions.specs.declared.err.RestrictedExpressionError.{RestrictedExpressionError}
+use Rattle.cedar_restricted_expressions.specs.declared.err.RestrictedExpressionError.TheVariants as refusals
+use Rattle.cedar_restricted_expressions.specs.declared.err.PartialValueToRestrictedExprError as refused
+use Rattle.cedar_restricted_expressions.specs.declared.err.PartialValueToRestrictedExprError.TheVariants as residuals
 
 -- what a disallowed part uses, in words; of an operator its text
 abbrev pub feature_text : Feature → Text
@@ -48,6 +48,6 @@ IsRefusal first (refusals.InvalidRestrictedExpression e) = IsFirst first (e.feat
 IsRefusal first (refusals.Memory e) = Unit {0}
 
 -- the same, naming the part alone
-abbrev pub IsRefusedResidual : Option Disallowed → PartialValueToRestrictedExprError → Type 0
+abbrev pub IsRefusedResidual : Option Disallowed → refused.PartialValueToRestrictedExprError → Type 0
 IsRefusedResidual first (residuals.NontrivialResidual e) = IsFirstPart first (view e.value)
 IsRefusedResidual first (residuals.Memory e) = Unit {0}

@@ -1,7 +1,8 @@
 -- The types of restricted expressions.
 use Rattle.std.specs.Prelude.{Option, Some, None}
-use Rattle.cedar_model.specs.Terms.{Text, bool_type, long_type, string_type, set_type, record_type, entity_type, ValueType}
-use Rattle.cedar_model.specs.Terms.{Literal, bool_literal, long_literal, text_literal, entity_literal, Term, literal, unknown}
+use Rattle.cedar_model.specs.Terms.{Text, bool_type, long_type, string_type, set_type, record_type}
+use Rattle.cedar_model.specs.Terms.{entity_type, ValueType, Literal, bool_literal, long_literal, text_literal}
+use Rattle.cedar_model.specs.Terms.{entity_literal, Term, literal, unknown}
 use Rattle.cedar_model.specs.Terms.{call, set_of, record_of}
 use Rattle.cedar_values.specs.declared.extensions.Extensions.{Extensions}
 

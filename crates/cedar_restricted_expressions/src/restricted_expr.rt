@@ -9,7 +9,6 @@ mod conversions;
 mod copies;
 mod disallowed;
 mod equality;
-mod errors;
 mod kinds;
 mod made;
 mod owned;
@@ -20,9 +19,6 @@ mod texts;
 mod types;
 
 use cedar_expressions::Expr;
-pub use errors::{
-    PartialValueToRestrictedExprError, RestrictedExpressionError, restricted_expr_errors,
-};
 pub use parts::{CallArguments, RecordPairs, SetElements};
 pub use shape::RestrictedExprShapeOnly;
 

@@ -21,11 +21,10 @@ impl TryFrom<Context> for PartialValue {
     fn try_from(context: Context) -> Result<PartialValue, AllocError> {
         let alloc = context.alloc;
         match context.pairs {
-            ContextPairs::Values(pairs) => Ok(PartialValue::Value(Value::record(
-                alloc,
-                pairs,
-                None,
-            )?)),
+            ContextPairs::Values(pairs) => {
+                let value = Value::record(alloc, pairs, None)?;
+                Ok(PartialValue::Value(value))
+            }
             ContextPairs::Residual(residual) => {
                 let expr = Expr::record_map(alloc, residual.into_map())?;
                 Ok(PartialValue::Residual(ResidualExpr::new(expr)))

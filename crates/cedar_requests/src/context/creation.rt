@@ -23,7 +23,7 @@ use super::pairs::{ContextPairs, ResidualPairs};
 use crate::errors::{ContextCreationError, context_creation_errors};
 use cedar_data::{PartialValue, ResidualExpr, Value, ValueKind};
 use cedar_expressions::{Expr, ExprKind};
-use cedar_restricted::{RestrictedEvaluator, partial_interpret};
+use cedar_restricted::RestrictedEvaluator;
 use cedar_restricted_expressions::{BorrowedRestrictedExpr, RestrictedExpr};
 use cedar_values::extensions::Extensions;
 use std::alloc::{AllocError, Global};
@@ -94,7 +94,7 @@ fn of_record(
     ensures low { height (borrowed_term expr.entry) ≤ limit → IfErr result (λ e. ¬ (IsAtLimit e)) }
 {
     let evaluator = RestrictedEvaluator::new(extensions, limit);
-    match partial_interpret(alloc, &evaluator, expr.as_expr()) {
+    match evaluator.partial_interpret(alloc, expr) {
         Ok(part) => match of_part(alloc, part) {
             Ok(context) => Ok(context),
             Err(error) => Err(ContextCreationError::Memory(error)),

@@ -6,12 +6,14 @@ ghost use Rattle.cedar_expressions.specs.View.{view};
 ghost use Rattle.cedar_restricted_expressions.specs.Refusals.{IsRefusal};
 
 use super::disallowed::check;
-use super::{BorrowedRestrictedExpr, RestrictedExpr, RestrictedExpressionError};
+use super::{BorrowedRestrictedExpr, RestrictedExpr};
+use crate::err::RestrictedExpressionError;
 use cedar_expressions::Expr;
 use std::alloc::AllocError;
 
 impl<'a> BorrowedRestrictedExpr<'a> {
-    ghost use Rattle.cedar_restricted_expressions.specs.Views.{borrowed_expr, borrowed_term, borrowed_loc, restricted_term, restricted_loc};
+    ghost use Rattle.cedar_restricted_expressions.specs.Views.{borrowed_expr, borrowed_term, borrowed_loc};
+    ghost use Rattle.cedar_restricted_expressions.specs.Views.{restricted_term, restricted_loc};
 
     /// The expression, as a restricted one. Refuses as `RestrictedExpr::new` does.
     pub fn new(expr: &'a Expr) -> Result<BorrowedRestrictedExpr<'a>, RestrictedExpressionError>
@@ -19,7 +21,7 @@ impl<'a> BorrowedRestrictedExpr<'a> {
         ensures refused { IfErr result (IsRefusal (first_disallowed (view expr.now))) }
     {
         check(expr)?;
-        Ok(BorrowedRestrictedExpr { expr })
+        Ok(BorrowedRestrictedExpr::new_unchecked(expr))
     }
 
     /// The expression, which the caller knows to be restricted: `new` is the test.
@@ -37,13 +39,5 @@ impl<'a> BorrowedRestrictedExpr<'a> {
     {
         let expr: Expr = self.expr.clone()?;
         Ok(RestrictedExpr { expr })
-    }
-
-    /// The expression.
-    pub fn as_expr(&self) -> &'a Expr
-        ensures expr { result.now ≡ borrowed_expr self.now }
-        ensures restricted { is_restricted (view result.now) ≡ true }
-    {
-        self.expr
     }
 }

@@ -6,10 +6,8 @@ ghost use Rattle.cedar_data.specs.Kinds.{kind_what};
 ghost use Rattle.cedar_data.specs.Residuals.{partial_view, partial_loc, partial_term};
 ghost use Rattle.cedar_restricted_expressions.specs.Refusals.{IsRefusedResidual};
 
-use super::{
-    BorrowedRestrictedExpr, PartialValueToRestrictedExprError, RestrictedExpr,
-    RestrictedExpressionError,
-};
+use super::{BorrowedRestrictedExpr, RestrictedExpr};
+use crate::err::{PartialValueToRestrictedExprError, RestrictedExpressionError};
 use cedar_data::{PartialValue, Value, ValueKind};
 use cedar_expressions::Expr;
 use std::alloc::{AllocError, Global};
@@ -19,6 +17,7 @@ impl RestrictedExpr {
     ghost use Rattle.cedar_restricted_expressions.specs.Views.{restricted_term, restricted_loc};
 
     /// The expression of the value, with its location. Refuses only for want of memory.
+    #[tactic(auto, using(crate::proofs::Made::value_restricted))]
     pub fn try_from_value(alloc: Global, value: Value) -> Result<RestrictedExpr, AllocError>
         ensures view { IfOk result (λ r. restricted_term r ≡ expression_of value.what) }
         ensures loc { IfOk result (λ r. restricted_loc r ≡ value.loc) }
@@ -70,8 +69,8 @@ impl From<RestrictedExpr> for Expr {
 
     ghost from_gives = { λ r e. e ≡ expr_in r };
 
-    fn from(r: RestrictedExpr) -> Expr {
-        r.expr
+    fn from(restricted: RestrictedExpr) -> Expr {
+        restricted.expr
     }
 }
 
@@ -80,8 +79,8 @@ impl<'a> From<BorrowedRestrictedExpr<'a>> for &'a Expr {
 
     ghost from_gives = { λ b e. e.now ≡ borrowed_expr b };
 
-    fn from(b: BorrowedRestrictedExpr<'a>) -> &'a Expr {
-        b.expr
+    fn from(borrowed: BorrowedRestrictedExpr<'a>) -> &'a Expr {
+        borrowed.expr
     }
 }
 

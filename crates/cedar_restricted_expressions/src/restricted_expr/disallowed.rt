@@ -1,4 +1,4 @@
-#![tactic(auto, using(cedar_expressions::proofs::Levels::levels), unfolding(cedar_model::specs::Restricted::first_disallowed, cedar_model::specs::Restricted::or_else))]
+#![tactic(auto, using(crate::proofs::Levels::terms), unfolding(cedar_model::specs::Restricted::first_disallowed))]
 //! The first part of an expression that may not stand in a restricted one.
 ghost use Rattle.std.specs.Prelude.{◌≡◌, true, Some, option_map, OnOk, IfErr};
 ghost use Rattle.cedar_model.specs.Shapes.{is_restricted};
@@ -8,8 +8,8 @@ ghost use Rattle.cedar_names.specs.Texts.{unary_text, binary_text};
 ghost use Rattle.cedar_expressions.specs.View.{view, terms_view, fields_view};
 ghost use Rattle.cedar_restricted_expressions.specs.Refusals.{with_its_text, found_view, IsRefusal};
 
-use super::errors::RestrictedExpressionError;
-use super::restricted_expr_errors::InvalidRestrictedExpressionError;
+use crate::err::RestrictedExpressionError;
+use crate::err::restricted_expr_errors::InvalidRestrictedExpressionError;
 use cedar_expressions::{Expr, ExprKind};
 use cedar_names::{BinaryOp, UnaryOp};
 use std::collections::BTreeMap;
@@ -23,6 +23,7 @@ pub(crate) struct Found<'a> {
 }
 
 // That the expression is restricted, or which part is the first that may not stand in it.
+#[tactic(auto, using(crate::proofs::Made::none_found))]
 pub(crate) fn check(expr: &Expr) -> Result<(), RestrictedExpressionError>
     ensures restricted { OnOk result (is_restricted (view expr.now) ≡ true) }
     ensures refused { IfErr result (IsRefusal (first_disallowed (view expr.now))) }
@@ -82,8 +83,10 @@ fn first_found(expr: &Expr) -> Option<Found<'_>>
 }
 
 #[cycle(found)]
+#[tactic(auto, unfolding(cedar_model::specs::Restricted::first_disallowed, cedar_model::specs::Restricted::or_else))]
 fn first_found_of(parts: &Vec<Expr>) -> Option<Found<'_>>
-    ensures { option_map found_view result ≡ option_map with_its_text (first_disallowed_of (terms_view parts.now.items)) }
+    ensures { option_map found_view result ≡
+        option_map with_its_text (first_disallowed_of (terms_view parts.now.items)) }
 {
     'parts: for part in parts {
         if let Some(found) = first_found(part) {
@@ -94,12 +97,14 @@ fn first_found_of(parts: &Vec<Expr>) -> Option<Found<'_>>
 }
 
 #[cycle(found)]
+#[tactic(auto, unfolding(cedar_model::specs::Restricted::first_disallowed, cedar_model::specs::Restricted::or_else))]
 fn first_found_at(pairs: &BTreeMap<RcStr, Expr>) -> Option<Found<'_>>
-    ensures { option_map found_view result ≡ option_map with_its_text (first_disallowed_at (fields_view pairs.now.entries)) }
+    ensures { option_map found_view result ≡
+        option_map with_its_text (first_disallowed_at (fields_view pairs.now.entries)) }
 {
     'pairs: for (_, part) in pairs {
-        if let Some(found) = first_found(part) {
-            return Some(found);
+        if let Some(first) = first_found(part) {
+            return Some(first);
         }
     }
     None

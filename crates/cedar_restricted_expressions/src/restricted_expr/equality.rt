@@ -64,6 +64,6 @@ impl<'a> Hash for BorrowedRestrictedExpr<'a> {
     ghost respects_eq = { (on_Alike borrowed_term (same_Alike fed_term term_eq-decides)).fed };
 
     fn hash<H: Hasher>(&self, state: &mut H) {
-        self.expr.hash(state);
+        Hash::hash(self.expr, state);
     }
 }

@@ -1,3 +1,4 @@
+#![tactic(auto, using(crate::proofs::Made::made))]
 //! How restricted expressions are made of parts.
 ghost use Rattle.std.specs.Prelude.{◌≡◌, None, IfOk, IfErr, codes, option_map};
 ghost use Rattle.std.specs.Rc.{rc_str_bytes};
@@ -17,7 +18,8 @@ use std::alloc::{AllocError, Global};
 use std::rc::RcStr;
 
 impl RestrictedExpr {
-    ghost use Rattle.cedar_restricted_expressions.specs.Views.{expr_in, exprs_in, pairs_in, restricted_term, restricted_loc};
+    ghost use Rattle.cedar_restricted_expressions.specs.Views.{expr_in, exprs_in, pairs_in, restricted_term};
+    ghost use Rattle.cedar_restricted_expressions.specs.Views.{restricted_loc};
 
     /// A literal.
     pub fn val(value: Literal) -> RestrictedExpr
@@ -32,7 +34,8 @@ impl RestrictedExpr {
 
     /// A value that is not known yet.
     pub fn unknown(value: Unknown) -> RestrictedExpr
-        ensures view { restricted_term result ≡ unknown (rc_str_bytes value.name) (option_map type_view value.type_annotation) }
+        ensures view { restricted_term result ≡
+            unknown (rc_str_bytes value.name) (option_map type_view value.type_annotation) }
         ensures kind { node_of (expr_in result) ≡ node.Unknown value }
         ensures loc { restricted_loc result ≡ None }
     {
@@ -59,8 +62,10 @@ impl RestrictedExpr {
         function_name: Name,
         args: Vec<RestrictedExpr>,
     ) -> Result<RestrictedExpr, AllocError>
-        ensures view { IfOk result (λ r. restricted_term r ≡ call (name_text function_name) (terms_view (exprs_in args.items))) }
-        ensures kind { IfOk result (λ r. node_of (expr_in r) ≡ node.ExtensionFunctionApp function_name (exprs_in args.items)) }
+        ensures view { IfOk result
+            (λ r. restricted_term r ≡ call (name_text function_name) (terms_view (exprs_in args.items))) }
+        ensures kind { IfOk result
+            (λ r. node_of (expr_in r) ≡ node.ExtensionFunctionApp function_name (exprs_in args.items)) }
         ensures loc { IfOk result (λ r. restricted_loc r ≡ None) }
     {
         let args = exprs_of(alloc, args)?;
@@ -75,11 +80,13 @@ impl RestrictedExpr {
         alloc: Global,
         pairs: Vec<(RcStr, RestrictedExpr)>,
     ) -> Result<RestrictedExpr, ExpressionConstructionError>
-        ensures view { IfOk result (λ r. restricted_term r ≡ record_of (fields_in_order (pairs_view (pairs_in pairs.items)))) }
+        ensures view { IfOk result
+            (λ r. restricted_term r ≡ record_of (fields_in_order (pairs_view (pairs_in pairs.items)))) }
         ensures kind { IfOk result (λ r. node_of (expr_in r) ≡ node.Record (entries_in_order (pairs_in pairs.items))) }
         ensures loc { IfOk result (λ r. restricted_loc r ≡ None) }
         ensures distinct { IfOk result (λ r. first_repeated (keys_view (pairs_in pairs.items)) ≡ None) }
-        ensures refused { IfErr result (IsRefusalOf (first_repeated (keys_view (pairs_in pairs.items))) (codes "in record literal")) }
+        ensures refused { IfErr result
+            (IsRefusalOf (first_repeated (keys_view (pairs_in pairs.items))) (codes "in record literal")) }
     {
         let pairs = pairs_of(alloc, pairs)?;
         let expr = Expr::record(alloc, pairs)?;

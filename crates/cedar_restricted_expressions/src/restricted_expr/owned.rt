@@ -6,7 +6,8 @@ ghost use Rattle.cedar_expressions.specs.View.{view};
 ghost use Rattle.cedar_restricted_expressions.specs.Refusals.{IsRefusal};
 
 use super::disallowed::check;
-use super::{BorrowedRestrictedExpr, RestrictedExpr, RestrictedExpressionError};
+use super::{BorrowedRestrictedExpr, RestrictedExpr};
+use crate::err::RestrictedExpressionError;
 use cedar_expressions::Expr;
 use cedar_names::Loc;
 
@@ -14,15 +15,16 @@ impl RestrictedExpr {
     ghost use Rattle.cedar_expressions.specs.View.{expr_kind_of};
     ghost use Rattle.cedar_restricted_expressions.specs.Views.{expr_in, borrowed_expr, restricted_term, restricted_loc};
 
-    /// The expression, as a restricted one. Refuses an expression that is not restricted with `InvalidRestrictedExpression`,
-    /// which names the first part that may not stand in it (such a node at once, else its parts in order, those of a
-    /// record in byte order of the keys) and what it uses; and with `Memory` for want of memory.
+    /// The expression, as a restricted one. Refuses an expression that is not restricted with
+    /// `InvalidRestrictedExpression`, which names the first part that may not stand in it (such a node at once, else
+    /// its parts in order, those of a record in byte order of the keys) and what it uses; and with `Memory` for want of
+    /// memory.
     pub fn new(expr: Expr) -> Result<RestrictedExpr, RestrictedExpressionError>
         ensures expr { IfOk result (λ r. expr_in r ≡ expr) }
         ensures refused { IfErr result (IsRefusal (first_disallowed (view expr))) }
     {
         check(&expr)?;
-        Ok(RestrictedExpr { expr })
+        Ok(RestrictedExpr::new_unchecked(expr))
     }
 
     /// The expression, which the caller knows to be restricted: `BorrowedRestrictedExpr::new` is the test.

@@ -5,7 +5,8 @@ ghost use Rattle.cedar_names.specs.Names.{uid_name};
 ghost use Rattle.cedar_names.specs.Leaves.{type_view};
 ghost use Rattle.cedar_expressions.specs.View.{terms_view, fields_view};
 ghost use Rattle.cedar_expressions.specs.Nodes.{node_of};
-ghost use Rattle.cedar_restricted_expressions.specs.Readers.{bool_in, long_in, text_in, entity_in, unknown_in, elements_in, pairs_in_term, call_in};
+ghost use Rattle.cedar_restricted_expressions.specs.Readers.{bool_in, long_in, text_in, entity_in, unknown_in};
+ghost use Rattle.cedar_restricted_expressions.specs.Readers.{elements_in, pairs_in_term, call_in};
 ghost use Rattle.cedar_restricted_expressions.specs.Readers.{uid_at, unknown_at, elements_at, pairs_at, call_at};
 
 use super::kinds::{RestrictedKind, kind_of};
@@ -81,7 +82,8 @@ impl<'a> BorrowedRestrictedExpr<'a> {
     /// The unknown, or `None` where the expression is none.
     pub fn as_unknown(&self) -> Option<&'a Unknown>
         ensures part { option_copied result ≡ unknown_at (node_of (borrowed_expr self.now)) }
-        ensures view { option_map (λ u. (rc_str_bytes u.now.name, option_map type_view u.now.type_annotation)) result ≡ unknown_in (borrowed_term self.now) }
+        ensures view { option_map (λ u. (rc_str_bytes u.now.name, option_map type_view u.now.type_annotation)) result ≡
+            unknown_in (borrowed_term self.now) }
     {
         match kind_of(self.expr) {
             RestrictedKind::Literal(_) => None,
@@ -106,7 +108,8 @@ impl<'a> BorrowedRestrictedExpr<'a> {
         }
     }
 
-    /// The pairs of a key and a part of the record, in byte order of the keys, or `None` where the expression is no record.
+    /// The pairs of a key and a part of the record, in byte order of the keys, or `None` where the expression is no
+    /// record.
     pub fn as_record_pairs(&self) -> Option<RecordPairs<'a>>
         ensures part { option_map pairs_left result ≡ pairs_at (node_of (borrowed_expr self.now)) }
         ensures view { option_map (λ r. fields_view (pairs_left r)) result ≡ pairs_in_term (borrowed_term self.now) }
@@ -188,7 +191,8 @@ impl RestrictedExpr {
     /// The unknown, or `None` where the expression is none.
     pub fn as_unknown(&self) -> Option<&Unknown>
         ensures part { option_copied result ≡ unknown_at (node_of (expr_in self.now)) }
-        ensures view { option_map (λ u. (rc_str_bytes u.now.name, option_map type_view u.now.type_annotation)) result ≡ unknown_in (restricted_term self.now) }
+        ensures view { option_map (λ u. (rc_str_bytes u.now.name, option_map type_view u.now.type_annotation)) result ≡
+            unknown_in (restricted_term self.now) }
     {
         self.as_borrowed().as_unknown()
     }
@@ -201,7 +205,8 @@ impl RestrictedExpr {
         self.as_borrowed().as_set_elements()
     }
 
-    /// The pairs of a key and a part of the record, in byte order of the keys, or `None` where the expression is no record.
+    /// The pairs of a key and a part of the record, in byte order of the keys, or `None` where the expression is no
+    /// record.
     pub fn as_record_pairs(&self) -> Option<RecordPairs<'_>>
         ensures part { option_map pairs_left result ≡ pairs_at (node_of (expr_in self.now)) }
         ensures view { option_map (λ r. fields_view (pairs_left r)) result ≡ pairs_in_term (restricted_term self.now) }

@@ -14,10 +14,11 @@ impl<'a> BorrowedRestrictedExpr<'a> {
     ghost use Rattle.cedar_restricted_expressions.specs.Views.{borrowed_term};
 
     /// The type of the expression's value, as far as it is known without evaluation: of a literal its type, of a set
-    /// `Set`, of a record `Record`, of an unknown its annotation, and of a call the type that the function returns, where
-    /// an extension has the function. Refuses only for want of memory.
+    /// `Set`, of a record `Record`, of an unknown its annotation, and of a call the type that the function returns,
+    /// where an extension has the function. Refuses only for want of memory.
     pub fn try_type_of(&self, extensions: &Extensions<'_>) -> Result<Option<Type>, AllocError>
-        ensures { IfOk result (λ t. option_map type_view t ≡ type_in (return_types extensions.now) (borrowed_term self.now)) }
+        ensures { IfOk result
+            (λ t. option_map type_view t ≡ type_in (return_types extensions.now) (borrowed_term self.now)) }
     {
         match kind_of(self.expr) {
             RestrictedKind::Literal(literal) => Ok(Some(literal_type(literal)?)),
