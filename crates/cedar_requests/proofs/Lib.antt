@@ -5,3 +5,4 @@ pub mod Records
 pub mod Creations
 pub mod Writing
 pub mod Texts
+pub mod Walks

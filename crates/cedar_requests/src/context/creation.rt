@@ -46,7 +46,7 @@ impl Context {
         ensures place { IfErr result (NamesAt (borrowed_loc expr.entry)) }
         ensures low { height (borrowed_term expr.entry) ≤ limit → IfErr result (λ e. ¬ (IsAtLimit e)) }
     {
-        if is_record(expr.as_expr()) {
+        if is_record(expr.as_ref()) {
             of_record(alloc, expr, extensions, limit)
         } else {
             Err(not_a_record(expr))

@@ -36,13 +36,16 @@ struct ResidualIter {
 }
 
 impl IntoIterator for Context {
-    ghost use Rattle.cedar_requests.specs.Walks.{attributes_left, context_attributes};
+    ghost use Rattle.std.specs.Cmp.Lexicographic.{slice_cmp};
+    ghost use Rattle.std.specs.List.Sorted.{IsStrictlySortedBy};
+    ghost use Rattle.std.specs.Ordering.{nat_cmp};
+    ghost use Rattle.cedar_requests.specs.Walks.{attribute_names, attributes_left, context_attributes};
 
     type Item = Result<(RcStr, RestrictedExpr), AllocError>;
 
     type IntoIter = IntoIter;
 
-    ghost into_iter_gives = { λ c r. attributes_left r ≡ context_attributes c };
+    ghost into_iter_gives = { λ c r. (attributes_left r ≡ context_attributes c) × IsStrictlySortedBy (slice_cmp nat_cmp) (attribute_names (attributes_left r)) };
 
     fn into_iter(self) -> IntoIter {
         let alloc = self.alloc;
@@ -85,10 +88,14 @@ impl Iterator for IntoIter {
 
 impl ResidualIter {
     ghost use Rattle.std.specs.Iterator.{YieldsFirstBy};
-    ghost use Rattle.cedar_requests.specs.Walks.{attribute_given, expr_attribute, exprs_left};
+    ghost use Rattle.std.specs.Cmp.Lexicographic.{slice_cmp};
+    ghost use Rattle.std.specs.List.Sorted.{IsStrictlySortedBy};
+    ghost use Rattle.std.specs.Ordering.{nat_cmp};
+    ghost use Rattle.cedar_requests.specs.Walks.{attribute_given, attribute_names, expr_attribute, exprs_left};
 
     fn new(residual: ResidualPairs) -> ResidualIter
-        ensures { exprs_left result ≡ map expr_attribute (residual_map residual).entries }
+        ensures attributes { exprs_left result ≡ map expr_attribute (residual_map residual).entries }
+        ensures in_order { IsStrictlySortedBy (slice_cmp nat_cmp) (attribute_names (exprs_left result)) }
     {
         ResidualIter {
             pairs: residual.into_map().into_iter(),
