@@ -7,6 +7,7 @@ pub mod failures;
 mod missing;
 mod numbers;
 pub mod operators;
+mod residuals;
 pub mod sets;
 pub mod store;
 pub mod typed;

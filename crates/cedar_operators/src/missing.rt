@@ -7,7 +7,7 @@ ghost use Rattle.cedar_names.specs.Leaves.{texts_view};
 ghost use Rattle.cedar_data.specs.Sound.{whats_at};
 ghost use Rattle.cedar_layers.specs.Stores.{entity_view};
 ghost use Rattle.cedar_values.specs.Failures.{failure_of};
-ghost use Rattle.cedar_operators.specs.Answers.{FailsWith};
+ghost use Rattle.cedar_values.specs.Answers.{FailsWith};
 
 use cedar_layers::expressions::{EntityUID, Loc, Value};
 use cedar_layers::policies::Entity;
