@@ -20,7 +20,9 @@ ghost use Rattle.cedar_operators.specs.Paths.{container_view, StepsTo};
 
 use crate::failures::or_entity_expected;
 use crate::missing::{no_such_attribute, no_such_key};
-use crate::residuals::{path, path_from, residual_attribute, residual_has, residual_path, residual_unknown};
+use crate::residuals::{
+    path, path_from, residual_attribute, residual_has, residual_path, residual_unknown,
+};
 use crate::store::no_such_entity;
 use crate::typed::bool_part;
 use cedar_layers::expressions::{

@@ -1,46 +1,31 @@
 //! Residuals: an operator around what is not known. None stands at a location.
-ghost use Rattle.std.specs.Prelude.{◌≡◌, ◌||◌, ◌∷◌, ◌++◌, true, false, IfOk};
+ghost use Rattle.std.specs.Prelude.{◌≡◌, ◌||◌, ◌∷◌, ◌++◌, true, IfOk};
 ghost use Rattle.std.specs.Rc.{rc_str_bytes};
-ghost use Rattle.cedar_model.specs.Terms.{unary, binary, both, either, literal, bool_literal, get_attribute};
-ghost use Rattle.cedar_model.specs.Terms.{has_attribute, extended_has, like, is_of_type};
+ghost use Rattle.cedar_model.specs.Terms.{binary, get_attribute, has_attribute, extended_has};
 ghost use Rattle.cedar_model.specs.Shapes.{has_unknown};
 ghost use Rattle.cedar_model.specs.Failures.{answers_residual};
-ghost use Rattle.cedar_names.specs.Names.{type_text};
-ghost use Rattle.cedar_names.specs.Leaves.{unary_view, binary_view, pattern_view, texts_view};
+ghost use Rattle.cedar_names.specs.Leaves.{binary_view, texts_view};
 ghost use Rattle.cedar_expressions.specs.View.{view};
 ghost use Rattle.cedar_data.specs.Residuals.{residual_term};
 ghost use Rattle.cedar_values.specs.Answers.{AnswersWith};
 ghost use Rattle.cedar_operators.specs.Operands.{unknown_term};
 
 use cedar_layers::expressions::{
-    BinaryOp, EntityType, Expr, FirstRest, Literal, PartialValue, Pattern, ResidualExpr, UnaryOp,
-    Unknown,
+    BinaryOp, Expr, FirstRest, PartialValue, ResidualExpr, Unknown,
 };
 use cedar_values::evaluator::err::EvaluationError;
 use std::alloc::{AllocError, Global};
 use std::rc::RcStr;
 
-// The unknown, as a residual.
-pub(crate) fn residual_unknown(value: Unknown) -> ResidualExpr
+/// The unknown, as a residual, at no location.
+pub fn residual_unknown(value: Unknown) -> ResidualExpr
     ensures { residual_term result ≡ unknown_term value }
 {
     ResidualExpr::new(Expr::unknown(value))
 }
 
-// The operator on the residual.
-pub(crate) fn residual_unary(
-    alloc: Global,
-    op: UnaryOp,
-    part: ResidualExpr,
-) -> Result<PartialValue, EvaluationError>
-    ensures { AnswersWith result (answers_residual (unary (unary_view op) (residual_term part))) }
-{
-    let expr = Expr::unary_app(alloc, op, part.into_expr())?;
-    Ok(PartialValue::Residual(ResidualExpr::new(expr)))
-}
-
-// The operator on two expressions, of which one holds an unknown.
-pub(crate) fn residual_binary(
+/// The operator on two expressions, of which one holds an unknown, at no location. Refuses only for want of memory.
+pub fn residual_binary(
     alloc: Global,
     op: BinaryOp,
     first: Expr,
@@ -53,30 +38,8 @@ pub(crate) fn residual_binary(
     Ok(PartialValue::Residual(ResidualExpr::new(expr)))
 }
 
-// `true && part`
-pub(crate) fn residual_and(
-    alloc: Global,
-    part: ResidualExpr,
-) -> Result<PartialValue, EvaluationError>
-    ensures { AnswersWith result (answers_residual (both (literal (bool_literal true)) (residual_term part))) }
-{
-    let expr = Expr::and(alloc, Expr::val(Literal::Bool(true)), part.into_expr())?;
-    Ok(PartialValue::Residual(ResidualExpr::new(expr)))
-}
-
-// `false || part`
-pub(crate) fn residual_or(
-    alloc: Global,
-    part: ResidualExpr,
-) -> Result<PartialValue, EvaluationError>
-    ensures { AnswersWith result (answers_residual (either (literal (bool_literal false)) (residual_term part))) }
-{
-    let expr = Expr::or(alloc, Expr::val(Literal::Bool(false)), part.into_expr())?;
-    Ok(PartialValue::Residual(ResidualExpr::new(expr)))
-}
-
-// `part.attr`
-pub(crate) fn residual_attribute(
+/// `part.attr`, at no location. Refuses only for want of memory.
+pub fn residual_attribute(
     alloc: Global,
     part: ResidualExpr,
     attr: &RcStr,
@@ -88,8 +51,8 @@ pub(crate) fn residual_attribute(
     Ok(PartialValue::Residual(ResidualExpr::new(expr)))
 }
 
-// `part has attr`
-pub(crate) fn residual_has(
+/// `part has attr`, at no location. Refuses only for want of memory.
+pub fn residual_has(
     alloc: Global,
     part: ResidualExpr,
     attr: &RcStr,
@@ -101,8 +64,8 @@ pub(crate) fn residual_has(
     Ok(PartialValue::Residual(ResidualExpr::new(expr)))
 }
 
-// `part has first.other..`
-pub(crate) fn residual_path(
+/// `part has first.other..`, at no location. Refuses only for want of memory.
+pub fn residual_path(
     alloc: Global,
     part: ResidualExpr,
     attrs: FirstRest<RcStr>,
@@ -113,8 +76,8 @@ pub(crate) fn residual_path(
     Ok(PartialValue::Residual(ResidualExpr::new(expr)))
 }
 
-// The list of these texts.
-pub(crate) fn path(
+/// The attributes of an extended `has`. Refuses only for want of memory.
+pub fn path(
     alloc: Global,
     first: &RcStr,
     others: &[RcStr],
@@ -156,30 +119,4 @@ fn with_texts(mut texts: Vec<RcStr>, others: &[RcStr]) -> Result<Vec<RcStr>, All
         texts.push(other.clone()?)?;
     }
     Ok(texts)
-}
-
-// `part like pattern`
-pub(crate) fn residual_like(
-    alloc: Global,
-    part: ResidualExpr,
-    pattern: &Pattern,
-) -> Result<PartialValue, EvaluationError>
-    ensures { AnswersWith result (answers_residual (like (residual_term part) (pattern_view pattern.now))) }
-{
-    let pattern = pattern.clone()?;
-    let expr = Expr::like(alloc, part.into_expr(), pattern)?;
-    Ok(PartialValue::Residual(ResidualExpr::new(expr)))
-}
-
-// `part is entity_type`
-pub(crate) fn residual_is(
-    alloc: Global,
-    part: ResidualExpr,
-    entity_type: &EntityType,
-) -> Result<PartialValue, EvaluationError>
-    ensures { AnswersWith result (answers_residual (is_of_type (residual_term part) (type_text entity_type.now))) }
-{
-    let entity_type = entity_type.clone()?;
-    let expr = Expr::is_entity_type(alloc, part.into_expr(), entity_type)?;
-    Ok(PartialValue::Residual(ResidualExpr::new(expr)))
 }

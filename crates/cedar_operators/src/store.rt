@@ -59,11 +59,7 @@ fn is_in_any(
 }
 
 // `unknown in b`
-fn missing_in(
-    alloc: Global,
-    value: Unknown,
-    b: &Value,
-) -> Result<PartialValue, EvaluationError>
+fn missing_in(alloc: Global, value: Unknown, b: &Value) -> Result<PartialValue, EvaluationError>
     ensures { AnswersWith result (answers_residual (binary in_operator (unknown_term value) (expression_of b.now.what))) }
 {
     let set = b.to_expr(alloc)?;
@@ -155,7 +151,12 @@ fn tag_of_entity(
 {
     match entities.entity(alloc, named.0)? {
         Dereference::NoSuchEntity => Err(no_such_entity(named.0, named.1)),
-        Dereference::Residual(unknown) => missing_tag_operator(alloc, BinaryOp::GetTag, unknown, tag),
+        Dereference::Residual(unknown) => missing_tag_operator(
+            alloc,
+            BinaryOp::GetTag,
+            unknown,
+            tag,
+        ),
         Dereference::Data(entity) => stored_tag(alloc, entity, named.0, tag, loc),
     }
 }
@@ -218,7 +219,12 @@ fn entity_has_tag(
 {
     match entities.entity(alloc, uid)? {
         Dereference::NoSuchEntity => Ok(bool_part(false)),
-        Dereference::Residual(unknown) => missing_tag_operator(alloc, BinaryOp::HasTag, unknown, tag),
+        Dereference::Residual(unknown) => missing_tag_operator(
+            alloc,
+            BinaryOp::HasTag,
+            unknown,
+            tag,
+        ),
         Dereference::Data(entity) => Ok(bool_part(entity.get_tag(tag).is_some())),
     }
 }

@@ -29,19 +29,17 @@ pub fn bool_value(b: bool) -> Value
     Value::new(ValueKind::Lit(Literal::Bool(b)), None)
 }
 
-// A boolean, at no known location.
+/// A boolean, at no known location.
 #[inline(always)]
-pub(crate) fn bool_part(b: bool) -> PartialValue
+pub fn bool_part(b: bool) -> PartialValue
     ensures { partial_view result ≡ value (plain_represented (Terms.bool_literal b)) }
 {
     PartialValue::Value(bool_value(b))
 }
 
-// The answer of a call that gives a value.
+/// The same answer, of a call that gives a value, where a residual may be answered too.
 #[inline(always)]
-pub(crate) fn as_part(
-    answer: Result<Value, EvaluationError>,
-) -> Result<PartialValue, EvaluationError>
+pub fn as_part(answer: Result<Value, EvaluationError>) -> Result<PartialValue, EvaluationError>
     ensures { partial_answer result ≡ value_answer answer }
 {
     match answer {
@@ -168,9 +166,10 @@ pub(crate) fn get_as_entity(alloc: Global, value: &Value) -> Result<&Rc<EntityUI
     }
 }
 
+/// The entity, if the value is one.
 #[tactic(auto, unfolding(cedar_model::specs::Outcomes::entity_of))]
 #[inline(always)]
-fn entity_in(value: &Value) -> Option<&Rc<EntityUID>>
+pub fn entity_in(value: &Value) -> Option<&Rc<EntityUID>>
     ensures { option_map (λ (u : Rc EntityUID Global). uid_name u.value) (option_copied result) ≡ entity_of (abstract_value value.now.what) }
 {
     match value.value_kind() {

@@ -3,4 +3,4 @@ use Rattle.cedar_operators.proofs.Stored.{is_at_key}
 use Rattle.cedar_operators.proofs.attributes.has_key.Goals as goal
 
 pub returns : goal.returns
-returns c = c.is_some.ensures ∙ is_at_key _ _ _ (rw c.deref.ensures at c.get.ensures.value)
+returns c = c.is_some.ensures ∙ is_at_key _ _ _ c.get.ensures.value
