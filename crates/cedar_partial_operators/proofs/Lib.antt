@@ -1,3 +1,4 @@
+pub mod Answered
 pub mod Fields
-pub mod Kinds
+pub mod KeptErrors
 pub mod Projections

@@ -72,7 +72,7 @@ pub fn best(
 }
 
 // The original expression, or an error that is handed up.
-#[tactic(auto, using(crate::proofs::Kinds::lookups_keep, crate::proofs::Kinds::overflows_keep), unfolding(cedar_model::specs::Rules::best_of_kind, cedar_model::specs::Failures::failure_kind))]
+#[tactic(auto, using(crate::proofs::KeptErrors::lookups_keep, crate::proofs::KeptErrors::overflows_keep), unfolding(cedar_model::specs::Rules::best_of_kind, cedar_model::specs::Failures::failure_kind))]
 fn best_of_error(error: EvaluationError, original: &Expr) -> Result<Expr, EvaluationError>
     ensures { IsBest result (best_of_kind (failure_kind (failure_of error)) (failure_of error) (view original.now)) }
 {
