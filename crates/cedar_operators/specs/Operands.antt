@@ -49,6 +49,10 @@ over s store =
       resolution = s.resolution;
     }
 
+-- the setting, but over this store, with these extensions and without a map of unknowns
+abbrev pub given : Setting → Store → model.Extensions → Setting
+given s store x = over (with_extensions s x) store
+
 -- `==`, `<` and `<=`
 abbrev pub is_relation : BinaryOperator → Bool
 is_relation eq_operator = true

@@ -3,6 +3,7 @@
 #![tactic(auto)]
 
 pub mod attributes;
+pub mod binary;
 pub mod failures;
 pub mod missing;
 mod numbers;

@@ -1,8 +1,7 @@
 use Rattle.cedar_layers.specs.Stores.{store_view}
-use Rattle.cedar_operators.specs.Operands.{extensions_view, over, with_extensions}
-use Rattle.cedar_partial_operators.specs.Parts.{given}
-use Rattle.cedar_partial_operators.proofs.Answered.{as_answers}
-use Rattle.cedar_partial_operators.proofs.binary.binary_app.Goals as goal
+use Rattle.cedar_operators.specs.Operands.{extensions_view, given, over, with_extensions}
+use Rattle.cedar_operators.proofs.Answered.{as_answers}
+use Rattle.cedar_operators.proofs.binary.binary_app.Goals as goal
 
 pub returns-in-Eq : goal.returns-in-Eq
 returns-in-Eq c =

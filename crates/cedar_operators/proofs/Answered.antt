@@ -6,5 +6,6 @@ use Rattle.cedar_data.specs.declared.partial_value.PartialValue.{PartialValue}
 use Rattle.cedar_values.specs.Answers.{value_answer, partial_answer, Answers, AnswersWith}
 use Rattle.cedar_values.specs.declared.evaluator.err.EvaluationError.{EvaluationError}
 
-pub as_answers : (r : Result Placed EvaluationError) (p : Result PartialValue EvaluationError) (a : Answer) → partial_answer p ≡ value_answer r → Answers r a → AnswersWith p a
+pub as_answers : (r : Result Placed EvaluationError) (p : Result PartialValue EvaluationError) (a : Answer)
+    → partial_answer p ≡ value_answer r → Answers r a → AnswersWith p a
 as_answers r p a same is ok = same ∙ is (λ m. ok (same ∙ m))
