@@ -1,5 +1,5 @@
 -- The answer of a call that gives a value, where a residual may be answered too.
-use Rattle.std.proofs.Common.{◌≡◌, ◌≢◌, Result, ◌∙◌}
+use Rattle.std.proofs.Common.{◌≡◌, Result, ◌∙◌}
 use Rattle.cedar_model.specs.Failures.{Answer}
 use Rattle.cedar_data.specs.Sound.{Placed}
 use Rattle.cedar_data.specs.declared.partial_value.PartialValue.{PartialValue}
