@@ -13,6 +13,8 @@ use Rattle.cedar_model.specs.Responses.{decided_bool, decided, result_of}
 use Rattle.cedar_data.specs.Sound.{Placed}
 use Rattle.cedar_values.specs.declared.evaluator.err.EvaluationError.{EvaluationError}
 use Rattle.cedar_values.specs.Failures.{failure_of}
+use Rattle.cedar_data.specs.declared.partial_value.PartialValue.{PartialValue}
+use Rattle.cedar_values.specs.Answers.{partial_answer, AnswersWith}
 use Rattle.cedar_operators.specs.Answers.{answer_of, Answers, FailsWith}
 use Rattle.cedar_operators.specs.Stopping.{not_known_in, stopped}
 use Rattle.cedar_evaluator.specs.Decisions.{DecidesBy}
@@ -33,6 +35,14 @@ stopped-answer_of (Err e) = refl
 
 pub answers_stopped : (r : Result Placed EvaluationError) (a : Answer) → Answers r a → Answers r (stopped a)
 answers_stopped r a is ok = sym (stopped-answer_of r) ∙ ap stopped (is ok)
+
+-- a part that is known, or the error that it is not
+pub known_gives : (p : Result PartialValue EvaluationError) (r : Result Placed EvaluationError) (a : Answer)
+    → Answers r (stopped (partial_answer p)) → AnswersWith p a → Answers r (stopped a)
+unfolding stopped
+known_gives p r a known is ok =
+    let want : partial_answer p ≢ fails out_of_memory = λ m. ok (known ok ∙ ap stopped m) in
+    known ok ∙ ap stopped (is want)
 
 -- with no level left the limit is met
 pub at_none : (s : Setting) (n : ℕ) (t : Term) (a : Answer) → n ≡ 0 → a ≡ limit → StoppingRuns s n t a

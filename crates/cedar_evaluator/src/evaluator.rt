@@ -20,24 +20,24 @@ ghost use Rattle.cedar_expressions.specs.Nodes.{node_of};
 ghost use Rattle.cedar_expressions.specs.Nodes as node;
 ghost use Rattle.cedar_data.specs.Sound.{whats, whats_at};
 ghost use Rattle.cedar_layers.specs.Policies.{slots_view};
+ghost use Rattle.cedar_values.specs.Answers.{partial_answer};
 ghost use Rattle.cedar_values.specs.Failures.{failure_of};
 ghost use Rattle.cedar_operators.specs.Answers.{answer_of, Answers, FailsWith};
-ghost use Rattle.cedar_operators.specs.Stopping.{stopped};
+ghost use Rattle.cedar_operators.specs.Stopping.{stopped, not_known_in};
 ghost use Rattle.cedar_evaluator.specs.Stops.{StoppingRuns};
 ghost use Rattle.cedar_evaluator.specs.Evaluations.{MeetsKind, GivesParts, FailsParts, GivesFields, FailsFields, key_order, AreInOrder, AreAtPlaces, IsSetOf, HasElementsOf};
 
 use crate::request::{Context, EntityUIDEntry, Request};
 use cedar_layers::expressions::{
-    BinaryOp, EntityType, EntityUID, Expr, ExprKind, FirstRest, Literal, Loc, Name, Pattern,
-    SlotEnv, SlotId, Type, UnaryOp, Value, ValueKind, Var,
+    BinaryOp, EntityType, EntityUID, Expr, ExprKind, FirstRest, Literal, Loc, Name, PartialValue,
+    Pattern, SlotEnv, SlotId, Type, UnaryOp, Value, ValueKind, Var,
 };
 use cedar_layers::policies::{Entities, Policy};
 use cedar_operators::attributes::{attribute_of, has_attribute, has_path};
+use cedar_operators::binary::binary_app;
 use cedar_operators::failures::{non_value, type_error};
 pub use cedar_operators::operators::{binary_arith, binary_relation, unary_app};
 use cedar_operators::operators::{is_of_type, likeness};
-use cedar_operators::sets::{contains, contains_all, contains_any};
-use cedar_operators::store::{has_tag, is_in, tag_of};
 use cedar_operators::typed::{bool_in, bool_value, get_as_bool};
 use cedar_requests::shared::ContextPairs;
 pub use cedar_values::evaluator::err::{EvaluationError, evaluation_errors};
@@ -425,7 +425,7 @@ impl<'e, 'x, 'f> Evaluator<'e, 'x, 'f> {
         ensures { MeetsKind self.now slots.now left (get_attribute (view expr.now) (rc_str_bytes attr.now)) result }
     {
         match self.interpret_within(alloc, expr, slots, left) {
-            Ok(value) => attribute_of(alloc, self.entities, &value, attr, loc),
+            Ok(value) => known(attribute_of(alloc, self.entities, &value, attr, loc)),
             Err(error) => Err(error),
         }
     }
@@ -443,7 +443,7 @@ impl<'e, 'x, 'f> Evaluator<'e, 'x, 'f> {
         ensures { MeetsKind self.now slots.now left (Terms.has_attribute (view expr.now) (rc_str_bytes attr.now)) result }
     {
         match self.interpret_within(alloc, expr, slots, left) {
-            Ok(value) => has_attribute(alloc, self.entities, &value, attr),
+            Ok(value) => known(has_attribute(alloc, self.entities, &value, attr)),
             Err(error) => Err(error),
         }
     }
@@ -461,7 +461,7 @@ impl<'e, 'x, 'f> Evaluator<'e, 'x, 'f> {
         ensures { MeetsKind self.now slots.now left (extended_has (view expr.now) (rc_str_bytes attrs.now.first) (texts_view attrs.now.rest.items)) result }
     {
         match self.interpret_within(alloc, expr, slots, left) {
-            Ok(value) => has_path(alloc, self.entities, &value, attrs),
+            Ok(value) => known(has_path(alloc, self.entities, &value, attrs)),
             Err(error) => Err(error),
         }
     }
@@ -584,7 +584,6 @@ impl<'e, 'x, 'f> Evaluator<'e, 'x, 'f> {
     }
 
     // An operator on two values.
-    #[tactic(auto, unfolding(cedar_model::specs::Operators::binary_answer))]
     fn operate(
         &self,
         alloc: Global,
@@ -595,20 +594,7 @@ impl<'e, 'x, 'f> Evaluator<'e, 'x, 'f> {
     ) -> Result<Value, EvaluationError>
         ensures { (s : _) → Answers result (stopped (binary_answer (setting_of self.now s) (binary_view op) first.what second.what)) }
     {
-        match op {
-            BinaryOp::Eq => binary_relation(alloc, op, &first, &second, self.extensions),
-            BinaryOp::Less => binary_relation(alloc, op, &first, &second, self.extensions),
-            BinaryOp::LessEq => binary_relation(alloc, op, &first, &second, self.extensions),
-            BinaryOp::Add => binary_arith(alloc, op, first, second, loc),
-            BinaryOp::Sub => binary_arith(alloc, op, first, second, loc),
-            BinaryOp::Mul => binary_arith(alloc, op, first, second, loc),
-            BinaryOp::In => is_in(alloc, self.entities, &first, &second),
-            BinaryOp::Contains => contains(alloc, &first, &second),
-            BinaryOp::ContainsAll => contains_all(alloc, &first, &second),
-            BinaryOp::ContainsAny => contains_any(alloc, &first, &second),
-            BinaryOp::GetTag => tag_of(alloc, self.entities, &first, &second, loc),
-            BinaryOp::HasTag => has_tag(alloc, self.entities, &first, &second),
-        }
+        known(binary_app(alloc, self.entities, self.extensions, op, first, second, loc))
     }
 
     // The value of a variable: an entity of the request, or its context.
@@ -716,6 +702,63 @@ fn unknown_met(e: &Expr) -> Result<Value, EvaluationError>
     ensures { Answers result (fails (residual_is_left (view e.now))) }
 {
     Err(non_value(e))
+}
+
+// The value, or the error that what is not known is left.
+#[tactic(auto, unfolding(cedar_operators::specs::Stopping::stopped))]
+fn known(answer: Result<PartialValue, EvaluationError>) -> Result<Value, EvaluationError>
+    ensures { Answers result (stopped (partial_answer answer)) }
+{
+    match answer {
+        Ok(part) => match part {
+            PartialValue::Value(value) => Ok(value),
+            PartialValue::Residual(residual) => Err(non_value(not_known_in(residual.as_expr()))),
+        },
+        Err(error) => Err(error),
+    }
+}
+
+// What is not known in a residual that an operator answers: the entity that it is on, or the residual itself.
+#[tactic(auto, using(cedar_expressions::proofs::Levels::levels), unfolding(cedar_operators::specs::Stopping::not_known_in))]
+fn not_known_in(e: &Expr) -> &Expr
+    ensures { view result.now ≡ not_known_in (view e.now) }
+{
+    match e.expr_kind() {
+        ExprKind::Lit(_) => e,
+        ExprKind::Var(_) => e,
+        ExprKind::Slot(_) => e,
+        ExprKind::Unknown(_) => e,
+        ExprKind::If {
+            test_expr: _,
+            then_expr: _,
+            else_expr: _,
+        } => e,
+        ExprKind::And { left: _, right: _ } => e,
+        ExprKind::Or { left: _, right: _ } => e,
+        ExprKind::UnaryApp { op: _, arg: _ } => e,
+        ExprKind::BinaryApp {
+            op: _,
+            arg1,
+            arg2: _,
+        } => arg1,
+        ExprKind::ExtensionFunctionApp {
+            fn_name: _,
+            args: _,
+        } => e,
+        ExprKind::GetAttr { expr, attr: _ } => expr,
+        ExprKind::HasAttr { expr, attr: _ } => expr,
+        ExprKind::ExtHasAttr { expr, attrs: _ } => expr,
+        ExprKind::Like {
+            expr: _,
+            pattern: _,
+        } => e,
+        ExprKind::Is {
+            expr: _,
+            entity_type: _,
+        } => e,
+        ExprKind::Set(_) => e,
+        ExprKind::Record(_) => e,
+    }
 }
 
 // The error, at this location if it has none.

@@ -1,9 +1,9 @@
 -- A map's look-up and its keys beside the fields that its values are seen as.
 use Rattle.std.proofs.Math.Seq.{take-append_seam}
 use Rattle.std.proofs.lemmas.List.{take_all, length-map, map-append, append-nil}
-use Rattle.std.proofs.Common.{◌≡◌, ◌≤◌, ℕ, List, [], ◌∷◌, ◌++◌, length, take, map, suc, append_assoc, Option, Some, None, option_map, cond, Bool, true, false, refl, sym, ap, ◌∙◌}
+use Rattle.std.proofs.Common.{◌≡◌, ◌≤◌, ℕ, List, [], ◌∷◌, ◌++◌, length, take, map, append_assoc, Option, Some, None, option_map, cond, Bool, true, false, refl, sym, ap, ◌∙◌}
 use Rattle.std.proofs.lemmas.Map.Text.{is_eq-slice_cmp}
-use Rattle.std.specs.Ordering.{nat_cmp, is_eq}
+use Rattle.std.specs.Ordering.{nat_cmp}
 use Rattle.std.specs.Cmp.Lexicographic.{slice_cmp}
 use Rattle.std.specs.Map.{lookup, keys_of}
 use Rattle.std.specs.BTreeMap.{is_at}
@@ -54,11 +54,6 @@ pub all_shown : (ks it : List (RcStr Global)) (names : List Text) → texts_view
 all_shown ks it names all none few =
     let e : texts_view ks ≡ names = sym (append-nil (texts_view ks)) ∙ rw none at all in
     sym (take-no_more 5 (texts_view ks) (rw length-map few)) ∙ ap shown_names e
-
-pub length-represented_names : (es : List (RcStr Global × Placed)) → length (represented_names (whats_at es)) ≡ length es
-unfolding represented_names
-length-represented_names [] = refl
-length-represented_names (e ∷ es) = ap suc (length-represented_names es)
 
 -- an attribute that is found
 pub found_value : (name : Text) (es : List (RcStr Global × Placed)) (o : Option Placed) (v : Placed) (failure : Failure) → o ≡ lookup (is_at (λ k. slice_cmp nat_cmp name (rc_str_bytes k))) es → o ≡ Some v → value_or_failure (represented_at name (whats_at es)) failure ≡ answers_value v.what

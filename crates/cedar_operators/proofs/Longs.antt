@@ -1,6 +1,5 @@
 -- Longs: what fits 64 bits, and how two compare.
-use Rattle.std.proofs.Common.{int_cmp, ◌≡◌, ◌≢◌, ◌≤◌, ◌<◌, ℤ, pos, negsuc, ℕ, leb, Bool, true, false, cond, ◌&&◌, map, [], Option, Some, None, Err, refl, sym, ap, ◌∙◌, FitsSigned, w64, le-leb, leb-true, arith}
-use Rattle.std.specs.declared.cmp.Ordering.{Ordering}
+use Rattle.std.proofs.Common.{int_cmp, ◌≡◌, ◌≤◌, ℤ, pos, negsuc, ℕ, leb, Bool, true, false, cond, ◌&&◌, map, [], Option, Some, None, refl, sym, ap, ◌∙◌, FitsSigned, w64, le-leb, leb-true, arith}
 use Rattle.std.specs.Ordering.{nat_cmp}
 use Rattle.std.specs.Cmp.Lexicographic.{slice_cmp}
 use Rattle.cedar_model.specs.Terms.{long_literal, long_type, extension_type, BinaryOperator, eq_operator, less_operator, less_eq_operator, add_operator, sub_operator, mul_operator, in_operator, contains_operator, contains_all_operator, contains_any_operator, get_tag_operator, has_tag_operator}

@@ -3,10 +3,12 @@
 #![tactic(auto)]
 
 pub mod attributes;
+pub mod binary;
 pub mod failures;
-mod missing;
+pub mod missing;
 mod numbers;
 pub mod operators;
+pub mod residuals;
 pub mod sets;
 pub mod store;
 pub mod typed;

@@ -258,7 +258,7 @@ pub attribute-returns-in-Ok : goal.attribute-returns-in-Ok
 attribute-returns-in-Ok t c =
     let s = setting_of c.args.self.now (slots_view c.args.slots.now) in
     let May = StoppingRuns s c.args.left in
-    step.attribute_reads s May refl _ _ _ _ c.in-Ok.ensures.answer (c.attribute_of.ensures s)
+    step.attribute_reads s May refl _ _ _ _ c.in-Ok.ensures.answer (step.known_gives _ _ _ c.known.ensures (c.attribute_of.ensures s))
 
 pub attribute-returns-in-Err : goal.attribute-returns-in-Err
 attribute-returns-in-Err t c =
@@ -270,7 +270,7 @@ pub has-returns-in-Ok : goal.has-returns-in-Ok
 has-returns-in-Ok t c =
     let s = setting_of c.args.self.now (slots_view c.args.slots.now) in
     let May = StoppingRuns s c.args.left in
-    step.has_reads s May _ _ _ _ c.in-Ok.ensures.answer c.has_attribute.ensures
+    step.has_reads s May _ _ _ _ c.in-Ok.ensures.answer (step.known_gives _ _ _ c.known.ensures (c.has_attribute.ensures s))
 
 pub has-returns-in-Err : goal.has-returns-in-Err
 has-returns-in-Err t c =
@@ -282,7 +282,7 @@ pub extended_has-returns-in-Ok : goal.extended_has-returns-in-Ok
 extended_has-returns-in-Ok t c =
     let s = setting_of c.args.self.now (slots_view c.args.slots.now) in
     let May = StoppingRuns s c.args.left in
-    step.path_reads s May refl _ _ _ _ _ c.in-Ok.ensures.answer c.has_path.ensures
+    step.path_reads s May refl _ _ _ _ _ c.in-Ok.ensures.answer (step.known_gives _ _ _ c.known.ensures c.has_path.ensures)
 
 pub extended_has-returns-in-Err : goal.extended_has-returns-in-Err
 extended_has-returns-in-Err t c =
