@@ -1,0 +1,22 @@
+//! Extension functions, which the caller of an evaluator makes and hands in, and the extensions that have them.
+#![tactic(auto)]
+
+mod errors;
+mod extension;
+mod extensions;
+mod function;
+mod iterators;
+#[cfg(test)]
+mod tests;
+pub mod util;
+
+pub use errors::{ExtensionInitializationError, extension_initialization_errors};
+pub use extension::Extension;
+pub use extensions::Extensions;
+pub use function::{ExtensionFunction, ExtensionFunctionObject, ExtensionOutputValue};
+pub use iterators::{ExtNames, ExtTypes, OverloadingTypes};
+
+use cedar_values::extensions::ExtensionFunctionLookupError;
+
+/// What a look-up of a function answers.
+pub type Result<T> = std::result::Result<T, ExtensionFunctionLookupError>;
