@@ -1,2 +1,9 @@
 pub mod Codes
 pub mod Outcomes
+pub mod Answers
+pub mod Callees
+pub mod Types
+pub mod Functions
+pub mod Extension
+pub mod Iterators
+pub mod Extensions

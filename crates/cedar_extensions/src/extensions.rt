@@ -5,7 +5,9 @@ use crate::errors::extension_initialization_errors::{
 };
 use crate::extension::Extension;
 use crate::function::ExtensionFunction;
-use crate::iterators::{ConstructedTypes, ExtNames, ExtTypes, FunctionNames, OverloadingTypes};
+use crate::iterators::{
+    ConstructedTypes, ExtNames, ExtTypes, FunctionNames, Functions, OverloadingTypes,
+};
 use crate::util::{CollectError, collect_no_duplicates};
 use cedar_data::{PartialValue, Value};
 use cedar_names::{Loc, Name, Type};
@@ -45,12 +47,11 @@ impl<'a> Extensions<'a> {
         &self,
         name: &Name,
     ) -> Result<&'a ExtensionFunction, ExtensionFunctionLookupError> {
-        let mut rest = self.extensions;
-        'extensions: while let Some((extension, others)) = rest.split_first() {
-            if let Some(function) = extension.find(name) {
+        let mut functions = Functions::new(&[], self.extensions);
+        'functions: while let Some(function) = functions.next() {
+            if function.name() == name {
                 return Ok(function);
             }
-            rest = others;
         }
         Err(no_such_function(name))
     }

@@ -1,4 +1,6 @@
 //! Iterators over what extensions have, extensions in order.
+ghost use Rattle.std.specs.Prelude.{◌≡◌};
+
 use crate::extension::Extension;
 use crate::function::ExtensionFunction;
 use cedar_names::Name;
@@ -10,13 +12,27 @@ pub struct ExtNames<'a> {
 }
 
 impl<'a> ExtNames<'a> {
-    pub(crate) fn new(extensions: &'a [Extension]) -> ExtNames<'a> {
+    ghost use Rattle.std.specs.Prelude.{map};
+    ghost use Rattle.cedar_extensions.specs.Extension.{name_of};
+    ghost use Rattle.cedar_extensions.specs.Iterators.{names_left};
+
+    // Of these extensions.
+    pub(crate) fn new(extensions: &'a [Extension]) -> ExtNames<'a>
+        ensures { names_left result ≡ map name_of extensions.now }
+    {
         ExtNames { extensions }
     }
 }
 
 impl<'a> Iterator for ExtNames<'a> {
+    ghost use Rattle.std.specs.Iterator.{YieldsFirstRef, item_count};
+    ghost use Rattle.cedar_extensions.specs.Iterators.{names_left};
+
     type Item = &'a Name;
+
+    ghost next_gives = { YieldsFirstRef names_left };
+
+    ghost remaining = { item_count names_left };
 
     fn next(&mut self) -> Option<&'a Name> {
         match self.extensions.split_first() {
@@ -29,7 +45,7 @@ impl<'a> Iterator for ExtNames<'a> {
     }
 }
 
-// All functions of extensions.
+// Functions, and then all functions of extensions.
 #[derive(Clone, Copy)]
 pub(crate) struct Functions<'a> {
     functions: &'a [ExtensionFunction],
@@ -37,16 +53,29 @@ pub(crate) struct Functions<'a> {
 }
 
 impl<'a> Functions<'a> {
+    ghost use Rattle.std.specs.Prelude.{◌++◌};
+    ghost use Rattle.cedar_extensions.specs.Extension.{all_functions};
+    ghost use Rattle.cedar_extensions.specs.Iterators.{functions_left};
+
     pub(crate) fn new(
         functions: &'a [ExtensionFunction],
         extensions: &'a [Extension],
-    ) -> Functions<'a> {
+    ) -> Functions<'a>
+        ensures { functions_left result ≡ functions.now ++ all_functions extensions.now }
+    {
         Functions { functions, extensions }
     }
 }
 
 impl<'a> Iterator for Functions<'a> {
+    ghost use Rattle.std.specs.Iterator.{YieldsFirstRef, item_count};
+    ghost use Rattle.cedar_extensions.specs.Iterators.{functions_left};
+
     type Item = &'a ExtensionFunction;
+
+    ghost next_gives = { YieldsFirstRef functions_left };
+
+    ghost remaining = { item_count functions_left };
 
     fn next(&mut self) -> Option<&'a ExtensionFunction> {
         'extensions: loop {
@@ -72,13 +101,23 @@ pub struct ExtTypes<'a> {
 }
 
 impl<'a> ExtTypes<'a> {
-    pub(crate) fn new(extensions: &'a [Extension]) -> ExtTypes<'a> {
+    ghost use Rattle.cedar_extensions.specs.Functions.{answered_types};
+    ghost use Rattle.cedar_extensions.specs.Extension.{all_functions};
+    ghost use Rattle.cedar_extensions.specs.Iterators.{types_left};
+
+    // Of all functions of these extensions.
+    pub(crate) fn new(extensions: &'a [Extension]) -> ExtTypes<'a>
+        ensures { types_left result ≡ answered_types (all_functions extensions.now) }
+    {
         ExtTypes {
             functions: Functions::new(&[], extensions),
         }
     }
 
-    pub(crate) fn of_functions(functions: &'a [ExtensionFunction]) -> ExtTypes<'a> {
+    // Of these functions.
+    pub(crate) fn of_functions(functions: &'a [ExtensionFunction]) -> ExtTypes<'a>
+        ensures { types_left result ≡ answered_types functions.now }
+    {
         ExtTypes {
             functions: Functions::new(functions, &[]),
         }
@@ -86,7 +125,14 @@ impl<'a> ExtTypes<'a> {
 }
 
 impl<'a> Iterator for ExtTypes<'a> {
+    ghost use Rattle.std.specs.Iterator.{YieldsFirstRef, item_count};
+    ghost use Rattle.cedar_extensions.specs.Iterators.{types_left};
+
     type Item = &'a Name;
+
+    ghost next_gives = { YieldsFirstRef types_left };
+
+    ghost remaining = { item_count types_left };
 
     fn next(&mut self) -> Option<&'a Name> {
         'functions: while let Some(function) = self.functions.next() {
@@ -106,17 +152,33 @@ pub struct OverloadingTypes<'a> {
 }
 
 impl<'a> OverloadingTypes<'a> {
-    pub(crate) fn new(extensions: &'a [Extension]) -> OverloadingTypes<'a> {
+    ghost use Rattle.cedar_extensions.specs.Extension.{all_overloading_types};
+    ghost use Rattle.cedar_extensions.specs.Iterators.{overloading_left};
+
+    // Of all these extensions.
+    pub(crate) fn new(extensions: &'a [Extension]) -> OverloadingTypes<'a>
+        ensures { overloading_left result ≡ all_overloading_types extensions.now }
+    {
         OverloadingTypes { names: &[], extensions }
     }
 
-    pub(crate) fn of_names(names: &'a [Name]) -> OverloadingTypes<'a> {
+    // Of one extension.
+    pub(crate) fn of_names(names: &'a [Name]) -> OverloadingTypes<'a>
+        ensures { overloading_left result ≡ names.now }
+    {
         OverloadingTypes { names, extensions: &[] }
     }
 }
 
 impl<'a> Iterator for OverloadingTypes<'a> {
+    ghost use Rattle.std.specs.Iterator.{YieldsFirstRef, item_count};
+    ghost use Rattle.cedar_extensions.specs.Iterators.{overloading_left};
+
     type Item = &'a Name;
+
+    ghost next_gives = { YieldsFirstRef overloading_left };
+
+    ghost remaining = { item_count overloading_left };
 
     fn next(&mut self) -> Option<&'a Name> {
         'extensions: loop {
@@ -135,14 +197,22 @@ impl<'a> Iterator for OverloadingTypes<'a> {
     }
 }
 
-// The names of functions, extensions in order.
+// The names of functions, each as a key, extensions in order.
 #[derive(Clone, Copy)]
 pub(crate) struct FunctionNames<'a> {
     functions: Functions<'a>,
 }
 
 impl<'a> FunctionNames<'a> {
-    pub(crate) fn new(extensions: &'a [Extension]) -> FunctionNames<'a> {
+    ghost use Rattle.std.specs.Prelude.{map};
+    ghost use Rattle.cedar_extensions.specs.Functions.{function_name};
+    ghost use Rattle.cedar_extensions.specs.Extension.{all_functions};
+    ghost use Rattle.cedar_extensions.specs.Iterators.{function_names_left};
+
+    // Of all functions of these extensions.
+    pub(crate) fn new(extensions: &'a [Extension]) -> FunctionNames<'a>
+        ensures { function_names_left result ≡ map function_name (all_functions extensions.now) }
+    {
         FunctionNames {
             functions: Functions::new(&[], extensions),
         }
@@ -150,7 +220,14 @@ impl<'a> FunctionNames<'a> {
 }
 
 impl<'a> Iterator for FunctionNames<'a> {
+    ghost use Rattle.std.specs.Iterator.{YieldsFirstBy, item_count};
+    ghost use Rattle.cedar_extensions.specs.Iterators.{key_name, function_names_left};
+
     type Item = (&'a Name, ());
+
+    ghost next_gives = { YieldsFirstBy key_name function_names_left };
+
+    ghost remaining = { item_count function_names_left };
 
     fn next(&mut self) -> Option<(&'a Name, ())> {
         match self.functions.next() {
@@ -160,14 +237,21 @@ impl<'a> Iterator for FunctionNames<'a> {
     }
 }
 
-// The extension types of the functions that take exactly one text, extensions in order.
+// The extension types that functions make values of, each of exactly one text, each as a key, extensions in order.
 #[derive(Clone, Copy)]
 pub(crate) struct ConstructedTypes<'a> {
     functions: Functions<'a>,
 }
 
 impl<'a> ConstructedTypes<'a> {
-    pub(crate) fn new(extensions: &'a [Extension]) -> ConstructedTypes<'a> {
+    ghost use Rattle.cedar_extensions.specs.Functions.{constructed_types};
+    ghost use Rattle.cedar_extensions.specs.Extension.{all_functions};
+    ghost use Rattle.cedar_extensions.specs.Iterators.{constructed_left};
+
+    // Of all functions of these extensions.
+    pub(crate) fn new(extensions: &'a [Extension]) -> ConstructedTypes<'a>
+        ensures { constructed_left result ≡ constructed_types (all_functions extensions.now) }
+    {
         ConstructedTypes {
             functions: Functions::new(&[], extensions),
         }
@@ -175,7 +259,14 @@ impl<'a> ConstructedTypes<'a> {
 }
 
 impl<'a> Iterator for ConstructedTypes<'a> {
+    ghost use Rattle.std.specs.Iterator.{YieldsFirstBy, item_count};
+    ghost use Rattle.cedar_extensions.specs.Iterators.{key_name, constructed_left};
+
     type Item = (&'a Name, ());
+
+    ghost next_gives = { YieldsFirstBy key_name constructed_left };
+
+    ghost remaining = { item_count constructed_left };
 
     fn next(&mut self) -> Option<(&'a Name, ())> {
         'functions: while let Some(function) = self.functions.next() {
