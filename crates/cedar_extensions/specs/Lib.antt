@@ -7,3 +7,4 @@ pub mod Functions
 pub mod Extension
 pub mod Iterators
 pub mod Extensions
+pub mod Collected

@@ -1,4 +1,8 @@
 //! What extensions are checked with.
+ghost use Rattle.std.specs.Prelude.{IfOk, IfErr, IfSome};
+ghost use Rattle.std.specs.Iterator.{IsFinite};
+ghost use Rattle.cedar_extensions.specs.Collected.{AreAll, ComesAgain, duplicate};
+
 use std::alloc::{AllocError, Global};
 use std::collections::HashMap;
 use std::hash::Hash;
@@ -20,15 +24,20 @@ pub enum CollectError<K> {
 pub fn collect_no_duplicates<K: Eq + Hash + Drop, V: Drop, I: Iterator<Item = (K, V)> + Drop>(
     alloc: Global,
     pairs: I,
-) -> Result<HashMap<K, V>, CollectError<K>> {
+) -> Result<HashMap<K, V>, CollectError<K>>
+    requires can { I.can_next pairs }
+    requires finite { IsFinite (I.remaining pairs) }
+    ensures ok { IfOk result (λ m. AreAll K.eq I.next_gives pairs m.entries) }
+    ensures duplicate { IfErr result (λ e. IfSome (duplicate e) (ComesAgain K.eq I.next_gives pairs)) }
+{
     let mut map: HashMap<K, V> = HashMap::new(alloc);
     'pairs: for (key, value) in pairs {
-        if let Some((first, _)) = map.remove_entry(&key) {
-            return Err(CollectError::Duplicate(first));
-        }
-        match map.insert(key, value) {
-            Ok(_) => {}
-            Err(_) => return Err(CollectError::Memory(AllocError)),
+        match map.remove_entry(&key) {
+            Some((first, _)) => return Err(CollectError::Duplicate(first)),
+            None => match map.insert(key, value) {
+                Ok(_) => {}
+                Err(_) => return Err(CollectError::Memory(AllocError)),
+            },
         }
     }
     Ok(map)
