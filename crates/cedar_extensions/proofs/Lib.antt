@@ -1,2 +1,4 @@
+mod Checked
 mod Collecting
 mod Counted
+mod Found

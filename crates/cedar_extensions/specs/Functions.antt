@@ -62,9 +62,9 @@ abbrev pub function_among : {X : Type 0} {F : X → Type 0} {g : _} → Text →
     → Option (ExtensionFunction X F g)
 function_among n fs = find (has_name n) fs
 
--- the texts of their names
-abbrev pub function_texts : {X : Type 0} {F : X → Type 0} {g : _} → List (ExtensionFunction X F g) → List Text
-function_texts fs = map function_text fs
+-- their names
+abbrev pub function_names : {X : Type 0} {F : X → Type 0} {g : _} → List (ExtensionFunction X F g) → List Name
+function_names fs = map function_name fs
 
 -- the extension types that they answer values of: one for each that does
 abbrev pub answered_types : {X : Type 0} {F : X → Type 0} {g : _} → List (ExtensionFunction X F g) → List Name

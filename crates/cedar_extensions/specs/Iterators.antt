@@ -9,7 +9,7 @@ use Rattle.cedar_extensions.specs.declared.iterators.Functions.{Functions}
 use Rattle.cedar_extensions.specs.declared.iterators.FunctionNames.{FunctionNames}
 use Rattle.cedar_extensions.specs.declared.iterators.ConstructedTypes.{ConstructedTypes}
 use Rattle.cedar_extensions.specs.declared.iterators.OverloadingTypes.{OverloadingTypes}
-use Rattle.cedar_extensions.specs.Functions.{function_name, answered_types, constructed_types}
+use Rattle.cedar_extensions.specs.Functions.{function_names, answered_types, constructed_types}
 use Rattle.cedar_extensions.specs.Extension.{name_of, all_functions, all_overloading_types}
 
 abbrev pub names_left : {X : Type 0} {F : X → Type 0} {g : _} → ExtNames X F g → List Name
@@ -25,7 +25,7 @@ abbrev pub overloading_left : {X : Type 0} {F : X → Type 0} {g : _} → Overlo
 overloading_left i = i.names.now ++ all_overloading_types i.extensions.now
 
 abbrev pub function_names_left : {X : Type 0} {F : X → Type 0} {g : _} → FunctionNames X F g → List Name
-function_names_left i = map function_name (functions_left i.functions)
+function_names_left i = function_names (functions_left i.functions)
 
 abbrev pub constructed_left : {X : Type 0} {F : X → Type 0} {g : _} → ConstructedTypes X F g → List Name
 constructed_left i = constructed_types (functions_left i.functions)

@@ -8,3 +8,5 @@ pub mod Extension
 pub mod Iterators
 pub mod Extensions
 pub mod Collected
+pub mod Refused
+pub mod CallLaws

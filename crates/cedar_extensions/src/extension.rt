@@ -12,8 +12,9 @@ pub struct Extension {
 }
 
 impl Extension {
-    ghost use Rattle.std.specs.Prelude.{◌≡◌};
-    ghost use Rattle.cedar_extensions.specs.Functions.{answered_types};
+    ghost use Rattle.std.specs.Prelude.{◌≡◌, None, Some, MatchOption};
+    ghost use Rattle.cedar_names.specs.Names.{name_text};
+    ghost use Rattle.cedar_extensions.specs.Functions.{answered_types, function_among};
     ghost use Rattle.cedar_extensions.specs.Extension.{name_of, functions_of, overloading_types};
     ghost use Rattle.cedar_extensions.specs.Iterators.{types_left, overloading_left};
 
@@ -61,6 +62,20 @@ impl Extension {
         ensures { overloading_left result ≡ overloading_types self.now }
     {
         OverloadingTypes::of_names(&self.types_with_operator_overloading)
+    }
+
+    // The first function of this name, if there is one.
+    pub(crate) fn find(&self, name: &Name) -> Option<&ExtensionFunction>
+        ensures { MatchOption result (function_among (name_text name.now) (functions_of self.now) ≡ None) (λ f. function_among (name_text name.now) (functions_of self.now) ≡ Some f.now) }
+    {
+        let mut rest = self.functions.as_slice();
+        'functions: while let Some((function, others)) = rest.split_first() {
+            if function.name() == name {
+                return Some(function);
+            }
+            rest = others;
+        }
+        None
     }
 
     // The same, as they are held.

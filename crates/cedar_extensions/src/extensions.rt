@@ -1,30 +1,45 @@
 //! The extensions that an evaluation may use.
+ghost use Rattle.std.specs.Prelude.{◌≡◌, None};
+ghost use Rattle.std.proofs.Props.{props};
+ghost use Rattle.cedar_extensions.specs.Extension.{all_functions};
+ghost use Rattle.cedar_extensions.specs.Refused.{repeated_name, IsMissing};
+
+use crate::checks::{check_constructors, check_names};
 use crate::errors::ExtensionInitializationError;
-use crate::errors::extension_initialization_errors::{
-    FuncMultiplyDefinedError, MultipleConstructorsSameSignatureError,
-};
 use crate::extension::Extension;
 use crate::function::ExtensionFunction;
-use crate::iterators::{
-    ConstructedTypes, ExtNames, ExtTypes, FunctionNames, Functions, OverloadingTypes,
-};
-use crate::util::{CollectError, collect_no_duplicates};
+use crate::iterators::{ExtNames, ExtTypes, OverloadingTypes};
 use cedar_data::{PartialValue, Value};
-use cedar_names::{Loc, Name, Type};
+use cedar_names::{Loc, Name};
 use cedar_values::evaluator::err::EvaluationError;
 use cedar_values::extensions::ExtensionFunctionLookupError;
 use cedar_values::extensions::extension_function_lookup_errors::FuncDoesNotExistError;
-use std::alloc::{AllocError, Global};
+use std::alloc::Global;
 
 /// The extensions that an evaluation may use. No two of their functions have one name.
 #[derive(Clone, Copy)]
 pub struct Extensions<'a> {
     extensions: &'a [Extension],
+    ghost distinct: { repeated_name (all_functions extensions.now) ≡ None } by { Prim.hlevel props },
 }
 
 impl<'a> Extensions<'a> {
+    ghost use Rattle.std.specs.Prelude.{[], map, None, Some, MatchOption, IfOk, IfErr};
+    ghost use Rattle.cedar_model.specs.Rules.{Meets, LooksUp};
+    ghost use Rattle.cedar_names.specs.Names.{name_text};
+    ghost use Rattle.cedar_data.specs.Sound.{whats};
+    ghost use Rattle.cedar_extensions.specs.Answers.{call_answer};
+    ghost use Rattle.cedar_extensions.specs.Functions.{answered_types};
+    ghost use Rattle.cedar_extensions.specs.Extension.{name_of, all_overloading_types};
+    ghost use Rattle.cedar_extensions.specs.Iterators.{names_left, types_left, overloading_left};
+    ghost use Rattle.cedar_extensions.specs.Extensions.{extensions_in, func_of, extensions_view, calls_of};
+    ghost use Rattle.cedar_extensions.specs.Refused.{repeated_type, IsWhyRefused, IsMissing};
+
     /// No extension: each call of a function fails with `FuncDoesNotExist`.
-    pub fn none() -> Extensions<'a> {
+    #[tactic(auto, unfolding(cedar_model::specs::Refusals::first_repeated_after))]
+    pub fn none() -> Extensions<'a>
+        ensures { extensions_in result ≡ [] }
+    {
         Extensions { extensions: &[] }
     }
 
@@ -35,25 +50,45 @@ impl<'a> Extensions<'a> {
     pub fn specific_extensions(
         alloc: Global,
         extensions: &'a [Extension],
-    ) -> Result<Extensions<'a>, ExtensionInitializationError> {
+    ) -> Result<Extensions<'a>, ExtensionInitializationError>
+        ensures extensions { IfOk result (λ x. extensions_in x ≡ extensions.now) }
+        ensures names { IfOk result (λ x. repeated_name (all_functions extensions.now) ≡ None) }
+        ensures constructors { IfOk result (λ x. repeated_type (all_functions extensions.now) ≡ None) }
+        ensures refused { IfErr result (IsWhyRefused (all_functions extensions.now)) }
+    {
         check_names(alloc, extensions)?;
         check_constructors(alloc, extensions)?;
         Ok(Extensions { extensions })
     }
 
-    /// The function of this name. Fails with `FuncDoesNotExist`, at the location of `name`, where there is none, or for want
-    /// of memory.
+    /// The function of this name. Fails with `FuncDoesNotExist`, at the location of `name`, where there is none; only then it
+    /// takes memory, and can find none.
     pub fn func(
         &self,
         name: &Name,
-    ) -> Result<&'a ExtensionFunction, ExtensionFunctionLookupError> {
-        let mut functions = Functions::new(&[], self.extensions);
-        'functions: while let Some(function) = functions.next() {
-            if function.name() == name {
-                return Ok(function);
+    ) -> Result<&'a ExtensionFunction, ExtensionFunctionLookupError>
+        ensures found { IfOk result (λ f. func_of self.now (name_text name.now) ≡ Some f.now) }
+        ensures missing { IfErr result (λ e. func_of self.now (name_text name.now) ≡ None) }
+        ensures error { IfErr result (IsMissing name.now) }
+    {
+        match self.find(name) {
+            Some(function) => Ok(function),
+            None => Err(no_such_function(name)),
+        }
+    }
+
+    // The function of this name, if there is one.
+    fn find(&self, name: &Name) -> Option<&'a ExtensionFunction>
+        ensures { MatchOption result (func_of self.now (name_text name.now) ≡ None) (λ f. func_of self.now (name_text name.now) ≡ Some f.now) }
+    {
+        let mut rest = self.extensions;
+        'extensions: while let Some((extension, others)) = rest.split_first() {
+            match extension.find(name) {
+                Some(function) => return Some(function),
+                None => rest = others,
             }
         }
-        Err(no_such_function(name))
+        None
     }
 
     /// What the function of this name answers to these arguments. Fails as `func` does where there is none, and else as the
@@ -63,7 +98,9 @@ impl<'a> Extensions<'a> {
         alloc: Global,
         name: &Name,
         args: &[Value],
-    ) -> Result<PartialValue, EvaluationError> {
+    ) -> Result<PartialValue, EvaluationError>
+        ensures { Meets (LooksUp (calls_of self.now) ((extensions_view self.now).arity (name_text name.now)) (name_text name.now) (whats args.now)) (call_answer result) }
+    {
         match self.func(name) {
             Ok(function) => function.call(alloc, args),
             Err(error) => Err(EvaluationError::from(error)),
@@ -71,19 +108,26 @@ impl<'a> Extensions<'a> {
     }
 
     /// The names of the extensions, in order.
-    pub fn ext_names(&self) -> ExtNames<'a> {
+    pub fn ext_names(&self) -> ExtNames<'a>
+        ensures { names_left result ≡ map name_of (extensions_in self.now) }
+    {
         ExtNames::new(self.extensions)
     }
 
     /// The extension types that functions answer values of: one item a function that does, extensions in order, and the
     /// functions of each in order.
-    pub fn ext_types(&self) -> ExtTypes<'a> {
+    pub fn ext_types(&self) -> ExtTypes<'a>
+        ensures { types_left result ≡ answered_types (all_functions (extensions_in self.now)) }
+    {
         ExtTypes::new(self.extensions)
     }
 
     /// The types whose values `<` and `<=` compare: extensions in order, and the types of each in order. A type that two
     /// extensions name stands twice.
-    pub fn types_with_operator_overloading(&self) -> OverloadingTypes<'a> {
+    pub fn types_with_operator_overloading(&self) -> OverloadingTypes<'a>
+        ensures names { overloading_left result ≡ all_overloading_types (extensions_in self.now) }
+        ensures view { map name_text (overloading_left result) ≡ (extensions_view self.now).overloaded }
+    {
         OverloadingTypes::new(self.extensions)
     }
 }
@@ -91,7 +135,9 @@ impl<'a> Extensions<'a> {
 // The error that there is no function of this name, at the name's location.
 #[cold]
 #[inline(never)]
-fn no_such_function(name: &Name) -> ExtensionFunctionLookupError {
+fn no_such_function(name: &Name) -> ExtensionFunctionLookupError
+    ensures { IsMissing name.now result }
+{
     let source_loc: Option<Loc> = name.loc().copied();
     match name.clone() {
         Ok(name) => ExtensionFunctionLookupError::FuncDoesNotExist(FuncDoesNotExistError {
@@ -99,33 +145,5 @@ fn no_such_function(name: &Name) -> ExtensionFunctionLookupError {
             source_loc,
         }),
         Err(error) => ExtensionFunctionLookupError::Memory(error),
-    }
-}
-
-// Refuses the first name of a function that comes again.
-fn check_names(alloc: Global, extensions: &[Extension]) -> Result<(), ExtensionInitializationError> {
-    match collect_no_duplicates(alloc, FunctionNames::new(extensions)) {
-        Ok(_) => Ok(()),
-        Err(CollectError::Duplicate(name)) => Err(ExtensionInitializationError::FuncMultiplyDefined(
-            FuncMultiplyDefinedError { name: name.clone()? },
-        )),
-        Err(CollectError::Memory(error)) => Err(ExtensionInitializationError::Memory(error)),
-    }
-}
-
-// Refuses the first extension type whose constructor comes again.
-fn check_constructors(
-    alloc: Global,
-    extensions: &[Extension],
-) -> Result<(), ExtensionInitializationError> {
-    match collect_no_duplicates(alloc, ConstructedTypes::new(extensions)) {
-        Ok(_) => Ok(()),
-        Err(CollectError::Duplicate(name)) => {
-            let return_type = Box::new(alloc, Type::Extension { name: name.clone()? })?;
-            Err(ExtensionInitializationError::MultipleConstructorsSameSignature(
-                MultipleConstructorsSameSignatureError { return_type },
-            ))
-        }
-        Err(CollectError::Memory(error)) => Err(ExtensionInitializationError::Memory(error)),
     }
 }

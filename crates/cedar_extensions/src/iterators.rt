@@ -204,14 +204,13 @@ pub(crate) struct FunctionNames<'a> {
 }
 
 impl<'a> FunctionNames<'a> {
-    ghost use Rattle.std.specs.Prelude.{map};
-    ghost use Rattle.cedar_extensions.specs.Functions.{function_name};
+    ghost use Rattle.cedar_extensions.specs.Functions.{function_names};
     ghost use Rattle.cedar_extensions.specs.Extension.{all_functions};
     ghost use Rattle.cedar_extensions.specs.Iterators.{function_names_left};
 
     // Of all functions of these extensions.
     pub(crate) fn new(extensions: &'a [Extension]) -> FunctionNames<'a>
-        ensures { function_names_left result ≡ map function_name (all_functions extensions.now) }
+        ensures { function_names_left result ≡ function_names (all_functions extensions.now) }
     {
         FunctionNames {
             functions: Functions::new(&[], extensions),

@@ -1,6 +1,7 @@
 //! Extension functions, which the caller of an evaluator makes and hands in, and the extensions that have them.
 #![tactic(auto)]
 
+mod checks;
 mod errors;
 mod extension;
 mod extensions;
