@@ -11,4 +11,4 @@ returns-in-Some-find g c =
 
 pub extensions-preserved : goal.extensions-preserved
 extensions-preserved g c =
-    c.extensions.invariant ∙ found_in_rest (has_name (name_text c.args.name.now)) functions_of c.extensions.rest.now c.in-Some.extension.now c.in-Some.others.now c.in-Some.ensures.cases.0 c.in-None-find.ensures
+    c.extensions.invariant ∙ found_in_rest (has_name (name_text c.args.name.now)) functions_of c.extensions.rest.now c.in-Some.extension.now c.in-Some.others.now c.in-Some.ensures.cases.0 c.in-None.ensures
