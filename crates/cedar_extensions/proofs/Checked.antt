@@ -1,9 +1,9 @@
 -- Names that come again, as they are collected.
-use Rattle.std.proofs.Common.{◌≡◌, refl, sym, ap, subst, ◌∙◌, Bool, true, false, ◌||◌, true≢false, cond, List, [], ◌∷◌, ◌++◌, map, Option, Some, None, is_some, IfSome, if◌then◌else◌, ℕ}
+use Rattle.std.proofs.Common.{◌≡◌, refl, sym, ap, subst, ◌∙◌, Bool, true, false, ◌||◌, true≢false, cond, List, [], ◌∷◌, ◌++◌, map, Option, Some, None, is_some, IfSome, if◌then◌else◌}
 use Rattle.std.specs.Borrow.{Bor}
 use Rattle.std.specs.Cmp.{IsEquivalence}
 use Rattle.std.proofs.lemmas.Cmp.{on_equiv, nat_list_eq_equiv}
-use Rattle.std.specs.Iterator.{Yields, YieldsThen, Drains, YieldsFirstBy}
+use Rattle.std.specs.Iterator.{Yields, YieldsFirstBy}
 use Rattle.std.specs.List.{AllByRecursion, find, list_any, IsDistinct}
 use Rattle.std.specs.Map.{keys_of}
 use Rattle.std.specs.Option.{option_or}
@@ -107,7 +107,6 @@ texts_equivalence : IsEquivalence same_texts
 texts_equivalence = on_equiv text_of nat_list_eq_equiv
 
 module _ {I : Type 0} (rest : I → List Name) (from : I) where
-
   abbrev texts_of : List (Bor Name × Unit {0}) → List Text
   texts_of ps = map text_of (keys_of ps)
 

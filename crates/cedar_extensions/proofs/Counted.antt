@@ -1,9 +1,9 @@
 -- A call with a right or a wrong number of arguments.
-use Rattle.std.proofs.Common.{◌≡◌, refl, sym, ap, subst, ◌∙◌, ℕ, suc, Bool, true, false, List, [], ◌∷◌, length}
+use Rattle.std.proofs.Common.{◌≡◌, refl, sym, ap, subst, ◌∙◌, ℕ, suc, List, [], ◌∷◌, length}
 use Rattle.std.specs.Bool.{◌==◌}
 use Rattle.std.proofs.lemmas.Bool.{eq-eqb, ne_eqb}
 use Rattle.cedar_model.specs.Terms.{Text}
-use Rattle.cedar_model.specs.Failures.{Failure, Answer, fails, arguments_are_miscounted}
+use Rattle.cedar_model.specs.Failures.{Answer, fails, arguments_are_miscounted}
 use Rattle.cedar_model.specs.Rules.{StoredCalls, Counts}
 use Rattle.cedar_data.specs.Sound.{Placed, whats}
 

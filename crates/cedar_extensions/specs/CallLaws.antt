@@ -1,5 +1,5 @@
 -- What a look-up and a call of what is found answer, against the rule for calls.
-use Rattle.std.specs.Prelude.{◌≡◌, ◌==◌, Bool, true, false, cond, List, [], ◌∷◌, length, Option, Some, None, option_map, is_some}
+use Rattle.std.specs.Prelude.{◌≡◌, ◌==◌, Bool, true, false, cond, List, [], ◌∷◌, length, Some, option_map, is_some}
 use Rattle.std.specs.List.{find}
 use Rattle.std.proofs.Common.{refl, sym, ap, subst, ◌∙◌, true≢false}
 use Rattle.std.proofs.lemmas.Slice.Eq.{bytes_eq-Decides}

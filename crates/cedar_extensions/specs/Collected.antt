@@ -1,6 +1,6 @@
 -- Maps of pairs whose keys differ.
 use Rattle.std.specs.Prelude.{◌≡◌, Bool, List, Option, Some, None}
-use Rattle.std.specs.Iterator.{Yields, YieldsThen, Drains}
+use Rattle.std.specs.Iterator.{YieldsThen, Drains}
 use Rattle.std.specs.List.{find, IsDistinct}
 use Rattle.std.specs.List.Sorted.{IsPermutation}
 use Rattle.std.specs.Map.{keys_of}

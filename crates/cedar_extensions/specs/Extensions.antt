@@ -1,5 +1,5 @@
 -- The extensions of an evaluation as plain data, and what their functions may answer.
-use Rattle.std.specs.Prelude.{◌≡◌, ℕ, List, map, Option, Some, option_map}
+use Rattle.std.specs.Prelude.{◌≡◌, List, map, Option, Some, option_map}
 use Rattle.cedar_model.specs.Terms.{Text}
 use Rattle.cedar_model.specs.World as model
 use Rattle.cedar_model.specs.Rules.{StoredCalls}

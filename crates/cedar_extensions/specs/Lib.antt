@@ -10,3 +10,4 @@ pub mod Extensions
 pub mod Collected
 pub mod Refused
 pub mod CallLaws
+pub mod StoredLaws

@@ -4,7 +4,7 @@ use Rattle.std.specs.Borrow.{Bor}
 use Rattle.std.specs.Rc.{rc_str_bytes}
 use mathlib.Core.Bool.{Bool-set}
 use Rattle.cedar_model.specs.Values.{AbstractValue, abstract_value}
-use Rattle.cedar_model.specs.Outcomes.{ErrorKind, entity_does_not_exist, entity_attribute_does_not_exist}
+use Rattle.cedar_model.specs.Outcomes.{entity_does_not_exist, entity_attribute_does_not_exist}
 use Rattle.cedar_model.specs.Outcomes.{record_attribute_does_not_exist, function_does_not_exist, type_error}
 use Rattle.cedar_model.specs.Outcomes.{wrong_number_of_arguments, integer_overflow, unlinked_slot, function_failed}
 use Rattle.cedar_model.specs.World.{FunctionAnswer, function_gives, function_errs, function_asks}

@@ -63,9 +63,9 @@ fn name_refused(error: CollectError<&Name>) -> ExtensionInitializationError
 {
     match error {
         CollectError::Duplicate(name) => match name.clone() {
-            Ok(name) => ExtensionInitializationError::FuncMultiplyDefined(
-                FuncMultiplyDefinedError { name },
-            ),
+            Ok(name) => ExtensionInitializationError::FuncMultiplyDefined(FuncMultiplyDefinedError {
+                name,
+            }),
             Err(error) => ExtensionInitializationError::Memory(error),
         },
         CollectError::Memory(error) => ExtensionInitializationError::Memory(error),
@@ -93,6 +93,8 @@ fn type_refused(alloc: Global, error: CollectError<&Name>) -> ExtensionInitializ
 fn boxed_type(alloc: Global, name: &Name) -> Result<Box<Type>, AllocError>
     ensures { IfOk result (λ t. type_view t.value ≡ extension_type (name_text name.now)) }
 {
-    let ty = Type::Extension { name: name.clone()? };
+    let ty = Type::Extension {
+        name: name.clone()?,
+    };
     Ok(Box::new(alloc, ty)?)
 }

@@ -63,10 +63,7 @@ impl<'a> Extensions<'a> {
 
     /// The function of this name. Fails with `FuncDoesNotExist`, at the location of `name`, where there is none; only then it
     /// takes memory, and can find none.
-    pub fn func(
-        &self,
-        name: &Name,
-    ) -> Result<&'a ExtensionFunction, ExtensionFunctionLookupError>
+    pub fn func(&self, name: &Name) -> Result<&'a ExtensionFunction, ExtensionFunctionLookupError>
         ensures found { IfOk result (λ f. func_of self.now (name_text name.now) ≡ Some f.now) }
         ensures missing { IfErr result (λ e. func_of self.now (name_text name.now) ≡ None) }
         ensures error { IfErr result (IsMissing name.now) }

@@ -20,8 +20,8 @@ use cedar_values::evaluator::err::EvaluationError;
 use cedar_values::evaluator::err::evaluation_errors::WrongNumArgumentsError;
 use std::alloc::{AllocError, Global};
 use std::rc::RcStr;
-pub use stored::{ExtensionFunctionObject, ExtensionOutputValue};
 use stored::StoredFunction;
+pub use stored::{ExtensionFunctionObject, ExtensionOutputValue};
 
 /// A function of an extension: its name, how it is written at a call, the type of what it answers where that is known, and
 /// the types of its arguments.

@@ -63,7 +63,10 @@ impl<'a> Functions<'a> {
     ) -> Functions<'a>
         ensures { functions_left result ≡ functions.now ++ all_functions extensions.now }
     {
-        Functions { functions, extensions }
+        Functions {
+            functions,
+            extensions,
+        }
     }
 }
 
@@ -159,14 +162,20 @@ impl<'a> OverloadingTypes<'a> {
     pub(crate) fn new(extensions: &'a [Extension]) -> OverloadingTypes<'a>
         ensures { overloading_left result ≡ all_overloading_types extensions.now }
     {
-        OverloadingTypes { names: &[], extensions }
+        OverloadingTypes {
+            names: &[],
+            extensions,
+        }
     }
 
     // Of one extension.
     pub(crate) fn of_names(names: &'a [Name]) -> OverloadingTypes<'a>
         ensures { overloading_left result ≡ names.now }
     {
-        OverloadingTypes { names, extensions: &[] }
+        OverloadingTypes {
+            names,
+            extensions: &[],
+        }
     }
 }
 

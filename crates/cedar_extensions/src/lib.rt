@@ -7,17 +7,17 @@ mod extension;
 mod extensions;
 mod function;
 mod iterators;
+pub mod laws;
 #[cfg(test)]
 mod tests;
 pub mod util;
 
+use cedar_values::extensions::ExtensionFunctionLookupError;
 pub use errors::{ExtensionInitializationError, extension_initialization_errors};
 pub use extension::Extension;
 pub use extensions::Extensions;
 pub use function::{ExtensionFunction, ExtensionFunctionObject, ExtensionOutputValue};
 pub use iterators::{ExtNames, ExtTypes, OverloadingTypes};
-
-use cedar_values::extensions::ExtensionFunctionLookupError;
 
 /// What a look-up of a function answers.
 pub type Result<T> = std::result::Result<T, ExtensionFunctionLookupError>;

@@ -16,7 +16,9 @@ pub enum ExtensionOutputValue {
 }
 
 /// A function that a caller makes.
-pub type ExtensionFunctionObject = Box<dyn Fn(&[Value]) -> Result<ExtensionOutputValue, EvaluationError>>;
+pub type ExtensionFunctionObject = Box<
+    dyn Fn(&[Value]) -> Result<ExtensionOutputValue, EvaluationError>,
+>;
 
 // A function that a caller stores: it takes so many arguments, to equal arguments it answers one outcome at most, besides want
 // of memory, and it answers neither the recursion limit nor `NonValue`.

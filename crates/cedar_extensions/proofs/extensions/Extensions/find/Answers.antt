@@ -1,4 +1,4 @@
-use Rattle.std.proofs.Common.{◌∙◌, sym}
+use Rattle.std.proofs.Common.{◌∙◌}
 use Rattle.cedar_names.specs.Names.{name_text}
 use Rattle.cedar_extensions.proofs.Found.{found_in_first, found_in_rest}
 use Rattle.cedar_extensions.specs.Extension.{functions_of}
