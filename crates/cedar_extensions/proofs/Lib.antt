@@ -1,0 +1,4 @@
+mod Checked
+mod Collecting
+mod Counted
+mod Found
