@@ -66,9 +66,9 @@ abbrev pub elements_in : Term → Option Terms
 elements_in (set_of ts) = Some ts
 elements_in t = None
 
-abbrev pub pairs_in_term : Term → Option Fields
-pairs_in_term (record_of fs) = Some fs
-pairs_in_term t = None
+abbrev pub fields_in : Term → Option Fields
+fields_in (record_of fs) = Some fs
+fields_in t = None
 
 -- the function's name and the arguments
 abbrev pub call_in : Term → Option (Text × Terms)

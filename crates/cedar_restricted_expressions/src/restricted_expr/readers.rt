@@ -6,7 +6,7 @@ ghost use Rattle.cedar_names.specs.Leaves.{type_view};
 ghost use Rattle.cedar_expressions.specs.View.{terms_view, fields_view};
 ghost use Rattle.cedar_expressions.specs.Nodes.{node_of};
 ghost use Rattle.cedar_restricted_expressions.specs.Readers.{bool_in, long_in, text_in, entity_in, unknown_in};
-ghost use Rattle.cedar_restricted_expressions.specs.Readers.{elements_in, pairs_in_term, call_in};
+ghost use Rattle.cedar_restricted_expressions.specs.Readers.{elements_in, fields_in, call_in};
 ghost use Rattle.cedar_restricted_expressions.specs.Readers.{uid_at, unknown_at, elements_at, pairs_at, call_at};
 
 use super::kinds::{RestrictedKind, kind_of};
@@ -112,7 +112,7 @@ impl<'a> BorrowedRestrictedExpr<'a> {
     /// record.
     pub fn as_record_pairs(&self) -> Option<RecordPairs<'a>>
         ensures part { option_map pairs_left result ≡ pairs_at (node_of (borrowed_expr self.now)) }
-        ensures view { option_map (λ r. fields_view (pairs_left r)) result ≡ pairs_in_term (borrowed_term self.now) }
+        ensures view { option_map (λ r. fields_view (pairs_left r)) result ≡ fields_in (borrowed_term self.now) }
     {
         match kind_of(self.expr) {
             RestrictedKind::Literal(_) => None,
@@ -209,7 +209,7 @@ impl RestrictedExpr {
     /// record.
     pub fn as_record_pairs(&self) -> Option<RecordPairs<'_>>
         ensures part { option_map pairs_left result ≡ pairs_at (node_of (expr_in self.now)) }
-        ensures view { option_map (λ r. fields_view (pairs_left r)) result ≡ pairs_in_term (restricted_term self.now) }
+        ensures view { option_map (λ r. fields_view (pairs_left r)) result ≡ fields_in (restricted_term self.now) }
     {
         self.as_borrowed().as_record_pairs()
     }

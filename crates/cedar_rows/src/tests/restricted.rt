@@ -88,9 +88,16 @@ fn nested_sets_need_a_level_each(rt: HostRuntime) -> Result<(), Fail> {
         let answer = levels_text(alloc, &e, limit)?;
         assert_eq!(rt; answer.as_str(), want, "{depth} at {limit}");
     }
-    let e = nested(alloc, 999, RestrictedExpr::unknown(named_unknown(alloc, "x")?))?;
+    let e = nested(
+        alloc,
+        999,
+        RestrictedExpr::unknown(named_unknown(alloc, "x")?),
+    )?;
     assert_eq!(rt; levels_text(alloc, &e, 1000)?.as_str(), "residual");
-    assert_eq!(rt; levels_text(alloc, &e, 999)?.as_str(), "recursion limit reached");
+    assert_eq!(rt;
+        levels_text(alloc, &e, 999)?.as_str(),
+        "recursion limit reached"
+    );
     Ok(())
 }
 
@@ -254,7 +261,11 @@ fn read_parts(
 
 // ---- evaluation
 
-fn partly(alloc: Global, e: &RestrictedExpr, limit: usize) -> Result<PartialValue, EvaluationError> {
+fn partly(
+    alloc: Global,
+    e: &RestrictedExpr,
+    limit: usize,
+) -> Result<PartialValue, EvaluationError> {
     let extensions = Extensions::none();
     RestrictedEvaluator::new(&extensions, limit).partial_interpret(alloc, e.as_borrowed())
 }
@@ -384,7 +395,9 @@ fn record(alloc: Global, keys: &str, parts: &mut Vec<Expr>) -> Result<Expr, Fail
     }
     match Expr::record(alloc, pairs) {
         Ok(e) => Ok(e),
-        Err(ExpressionConstructionError::DuplicateKey { .. }) => Err(Fail::from("a key comes again")),
+        Err(ExpressionConstructionError::DuplicateKey { .. }) => Err(Fail::from(
+            "a key comes again",
+        )),
         Err(ExpressionConstructionError::Memory(_)) => Err(Fail::from("out of memory")),
     }
 }
