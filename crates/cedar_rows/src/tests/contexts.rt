@@ -109,11 +109,19 @@ fn contexts_are_made(rt: HostRuntime) -> Result<(), Fail> {
     Ok(())
 }
 
-// The partial value, the restricted expression and the text under a bound of 1.
-fn converted(alloc: Global, context: &Context) -> Result<String, Fail> {
+// The partial value, the restricted expression and the text under a bound of 1, and whether a copy is equal.
+fn converted(alloc: Global, written: &str) -> Result<String, Fail> {
+    match Context::from_pairs(alloc, pairs(alloc, written)?, &Extensions::none(), 9) {
+        Ok(context) => conversions(alloc, &context),
+        Err(error) => Ok(format!(in alloc; "{error}")?),
+    }
+}
+
+fn conversions(alloc: Global, context: &Context) -> Result<String, Fail> {
+    let is_same = *context == context.clone()?;
     let value = PartialValue::try_from(context.clone()?)?;
     let expr = RestrictedExpr::try_from(context.clone()?)?;
-    let mut text = format!(in alloc; "{value} ~ {expr} ~ ")?;
+    let mut text = format!(in alloc; "{value} ~ {expr} ~ {is_same} ~ ")?;
     BoundedDisplay::fmt(context, &mut text, Some(1))?;
     Ok(text)
 }
@@ -122,18 +130,13 @@ fn converted(alloc: Global, context: &Context) -> Result<String, Fail> {
 fn contexts_are_converted(rt: HostRuntime) -> Result<(), Fail> {
     let alloc = rt.alloc();
     for (written, want) in [
-        ("b=37 a=1", "{\"a\": 1, \"b\": 37} ~ {\"a\": 1, \"b\": 37} ~ {\"a\": 1, ..}"),
+        ("b=37 a=1", "{\"a\": 1, \"b\": 37} ~ {\"a\": 1, \"b\": 37} ~ true ~ {\"a\": 1, ..}"),
         (
             "b=x a=1",
-            "{\"a\": 1, \"b\": unknown(\"x\")} ~ {\"a\": 1, \"b\": unknown(\"x\")} ~ {\"a\": 1, ..}",
+            "{\"a\": 1, \"b\": unknown(\"x\")} ~ {\"a\": 1, \"b\": unknown(\"x\")} ~ true ~ {\"a\": 1, ..}",
         ),
     ] {
-        let made = Context::from_pairs(alloc, pairs(alloc, written)?, &Extensions::none(), 9);
-        let Ok(context) = made else {
-            return Err(Fail);
-        };
-        assert_eq!(rt; converted(alloc, &context)?.as_str(), want, "{written}");
-        assert!(rt; context == context.clone()?, "{written}");
+        assert_eq!(rt; converted(alloc, written)?.as_str(), want, "{written}");
     }
     Ok(())
 }
