@@ -1,11 +1,10 @@
 -- Pairs under their names that were copied one by one.
-use Rattle.std.proofs.Common.{◌≡◌, Bool, true, List, [], ◌∷◌, map, Option, Global, refl, subst, sym}
+use Rattle.std.proofs.Common.{◌≡◌, List, [], ◌∷◌, map, Global, refl}
 use Rattle.std.specs.List.{AllZip}
 use Rattle.std.specs.Rc.{rc_str_bytes}
 use Rattle.std.specs.declared.rc.RcStr.{RcStr}
 use Rattle.cedar_model.specs.Terms.{one_field}
 use Rattle.cedar_model.specs.Values.{one_represented_at}
-use Rattle.cedar_names.specs.declared.names.Loc.{Loc}
 use Rattle.cedar_expressions.specs.declared.expr.Expr.{Expr}
 use Rattle.cedar_expressions.specs.View.{view, fields_view, expr_loc}
 use Rattle.cedar_data.specs.Sound.{Placed, whats_at}

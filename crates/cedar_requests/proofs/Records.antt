@@ -1,10 +1,10 @@
 -- Records among expressions, and what they are evaluated to.
-use Rattle.std.proofs.Common.{◌≡◌, ◌⊎◌, ℕ, zero, suc, true, List, [], ◌∷◌, Option, Some, None, Result, Ok, Err, refl, sym, subst, inl, inr, ap}
+use Rattle.std.proofs.Common.{◌≡◌, ◌⊎◌, ℕ, zero, suc, true, List, Option, Some, None, Result, Ok, Err, refl, subst, inl, inr, ap}
 use Rattle.std.specs.List.{AllZip}
 use Rattle.cedar_model.specs.Terms.{Text, Term, Fields, literal, variable, slot, unknown, if_then_else, both, either, unary, binary, call, get_attribute, has_attribute, extended_has, like, is_of_type, set_of, record_of}
 use Rattle.cedar_model.specs.Values.{Represented, record_represented}
 use Rattle.cedar_model.specs.Sets.{represented_fields_of}
-use Rattle.cedar_model.specs.Failures.{PartialValue, value, residual, Answer, answers, fails}
+use Rattle.cedar_model.specs.Failures.{PartialValue, value, residual, answers}
 use Rattle.cedar_model.specs.Settings.{Setting}
 use Rattle.cedar_model.specs.Rules.{Runs, fields_of_record, fields_of_parts, record_answer, record_of_parts, values_of_field_parts}
 use Rattle.cedar_expressions.specs.View.{fields_view}

@@ -1,5 +1,5 @@
 -- The attributes of a walk are in the order of their names.
-use Rattle.std.proofs.Common.{◌≡◌, List, [], ◌∷◌, map, Option, Global, Less, Ordering}
+use Rattle.std.proofs.Common.{◌≡◌, List, [], ◌∷◌, map, Option, Global, Less}
 use Rattle.std.specs.Cmp.Lexicographic.{slice_cmp}
 use Rattle.std.specs.List.{AllByRecursion}
 use Rattle.std.specs.List.Sorted.{IsStrictlySortedBy}

@@ -40,7 +40,10 @@ fn pairs(alloc: Global, written: &str) -> Result<Vec<(RcStr, RestrictedExpr)>, A
 
 fn of_pairs(alloc: Global, written: &str, limit: usize) -> Result<String, Fail> {
     let pairs = pairs(alloc, written)?;
-    told(alloc, Context::from_pairs(alloc, pairs, &Extensions::none(), limit))
+    told(
+        alloc,
+        Context::from_pairs(alloc, pairs, &Extensions::none(), limit),
+    )
 }
 
 fn of_record(alloc: Global, written: &str, limit: usize) -> Result<String, Fail> {
@@ -51,7 +54,10 @@ fn of_record(alloc: Global, written: &str, limit: usize) -> Result<String, Fail>
 }
 
 fn of_expr(alloc: Global, expr: &RestrictedExpr, limit: usize) -> Result<String, Fail> {
-    told(alloc, Context::from_expr(alloc, expr.as_borrowed(), &Extensions::none(), limit))
+    told(
+        alloc,
+        Context::from_expr(alloc, expr.as_borrowed(), &Extensions::none(), limit),
+    )
 }
 
 fn told(alloc: Global, made: Result<Context, ContextCreationError>) -> Result<String, Fail> {
@@ -95,8 +101,16 @@ fn contexts_are_made(rt: HostRuntime) -> Result<(), Fail> {
             "{\"a\": 1, \"b\": unknown(\"x\")}, 2 keys, values false; a 1; b unknown(\"x\")",
         ),
     ] {
-        assert_eq!(rt; of_pairs(alloc, written, limit)?.as_str(), want, "pairs {written}");
-        assert_eq!(rt; of_record(alloc, written, limit)?.as_str(), want, "record {written}");
+        assert_eq!(rt;
+            of_pairs(alloc, written, limit)?.as_str(),
+            want,
+            "pairs {written}"
+        );
+        assert_eq!(rt;
+            of_record(alloc, written, limit)?.as_str(),
+            want,
+            "record {written}"
+        );
     }
     assert_eq!(rt;
         of_pairs(alloc, "foo=37 foo=37", 0)?.as_str(),
@@ -130,7 +144,10 @@ fn conversions(alloc: Global, context: &Context) -> Result<String, Fail> {
 fn contexts_are_converted(rt: HostRuntime) -> Result<(), Fail> {
     let alloc = rt.alloc();
     for (written, want) in [
-        ("b=37 a=1", "{\"a\": 1, \"b\": 37} ~ {\"a\": 1, \"b\": 37} ~ true ~ {\"a\": 1, ..}"),
+        (
+            "b=37 a=1",
+            "{\"a\": 1, \"b\": 37} ~ {\"a\": 1, \"b\": 37} ~ true ~ {\"a\": 1, ..}",
+        ),
         (
             "b=x a=1",
             "{\"a\": 1, \"b\": unknown(\"x\")} ~ {\"a\": 1, \"b\": unknown(\"x\")} ~ true ~ {\"a\": 1, ..}",

@@ -1,4 +1,4 @@
-use Rattle.std.proofs.Common.{ap, ◌∙◌, subst, sym}
+use Rattle.std.proofs.Common.{ap, ◌∙◌, subst}
 use Rattle.cedar_expressions.specs.View.{view}
 use Rattle.cedar_requests.specs.Creations.{is_record, IsOfRecord}
 use Rattle.cedar_requests.proofs.Creations.{pairs_answer}

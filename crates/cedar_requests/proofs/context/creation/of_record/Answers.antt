@@ -1,5 +1,5 @@
-use Rattle.std.proofs.Common.{◌≡◌, ◌≢◌, refl, ap, sym}
-use Rattle.cedar_model.specs.Failures.{PartialValue, Answer, answers, fails, out_of_memory}
+use Rattle.std.proofs.Common.{◌≢◌, refl, ap, sym}
+use Rattle.cedar_model.specs.Failures.{PartialValue, answers, fails, out_of_memory}
 use Rattle.cedar_data.specs.Residuals.{partial_view}
 use Rattle.cedar_restricted.specs.Evaluations.{bare}
 use Rattle.cedar_restricted_expressions.specs.Views.{borrowed_term}

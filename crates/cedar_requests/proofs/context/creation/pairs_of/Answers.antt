@@ -1,4 +1,4 @@
-use Rattle.std.proofs.Common.{◌≡◌, ap, ◌∙◌}
+use Rattle.std.proofs.Common.{ap, ◌∙◌}
 use Rattle.cedar_model.specs.Terms.{record_of}
 use Rattle.cedar_model.specs.Shapes.{is_restricted, has_unknown, are_restricted_at, have_unknown_at}
 use Rattle.cedar_expressions.specs.View.{fields_view}

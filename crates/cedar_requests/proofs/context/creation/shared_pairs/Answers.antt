@@ -1,6 +1,4 @@
-use Rattle.std.proofs.Common.{ap, ◌∙◌, sym}
-use Rattle.std.specs.declared.rc.Rc.{Rc}
-use Rattle.std.proofs.Common.{Global}
+use Rattle.std.proofs.Common.{ap, ◌∙◌}
 use Rattle.cedar_model.specs.Terms.{record_of}
 use Rattle.cedar_expressions.specs.View.{fields_view}
 use Rattle.cedar_requests.specs.Contexts.{ExprMap}

@@ -1,4 +1,4 @@
-use Rattle.std.proofs.Common.{◌∙◌, ap, sym, map}
+use Rattle.std.proofs.Common.{◌∙◌, ap, map}
 use Rattle.cedar_model.specs.Shapes.{are_restricted_at, have_unknown_at}
 use Rattle.cedar_expressions.specs.View.{fields_view, expr_loc}
 use Rattle.cedar_requests.specs.Contexts.{ExprMap}
