@@ -31,7 +31,8 @@ whats_at-copied (e ∷ es) [] h = absurd h
 whats_at-copied (e ∷ es) (f ∷ fs) h = λ i. one_represented_at (h.0.0 i) (h.0.1 i).what (whats_at-copied es fs h.1 i)
 
 -- and they stand where they stood
-pub locs-copied : (es fs : List ValuePair) → AllZip IsCopy es fs → map (λ (p : ValuePair). p.1.loc) fs ≡ map (λ (p : ValuePair). p.1.loc) es
+pub locs-copied : (es fs : List ValuePair) → AllZip IsCopy es fs → map (λ (p : ValuePair). p.1.loc) fs
+    ≡ map (λ (p : ValuePair). p.1.loc) es
 locs-copied [] [] h = refl
 locs-copied [] (f ∷ fs) h = absurd h
 locs-copied (e ∷ es) [] h = absurd h
@@ -45,7 +46,8 @@ fields_view-copied (e ∷ es) [] h = absurd h
 fields_view-copied (e ∷ es) (f ∷ fs) h = λ i. one_field (h.0.0 i) (h.0.1.0 i) (fields_view-copied es fs h.1 i)
 
 -- and they stand where they stood
-pub expr_locs-copied : (es fs : List ExprPair) → AllZip IsExprCopy es fs → map (λ (p : ExprPair). expr_loc p.1) fs ≡ map (λ (p : ExprPair). expr_loc p.1) es
+pub expr_locs-copied : (es fs : List ExprPair) → AllZip IsExprCopy es fs → map (λ (p : ExprPair). expr_loc p.1) fs
+    ≡ map (λ (p : ExprPair). expr_loc p.1) es
 expr_locs-copied [] [] h = refl
 expr_locs-copied [] (f ∷ fs) h = absurd h
 expr_locs-copied (e ∷ es) [] h = absurd h

@@ -11,4 +11,6 @@ of_record-requires c =
 
 pub returns-in-Ok-clause-created : goal.returns-in-Ok-clause-created
 returns-in-Ok-clause-created c = λ s is_bare.
-    pairs_answer s _ _ c.of_record.result c.in-Ok.ensures.distinct (subst (λ t. IsOfRecord s c.args.limit t c.of_record.result) (ap view c.as_borrowed.ensures ∙ c.in-Ok.ensures.view) (c.of_record.ensures.created s is_bare))
+    pairs_answer s _ _ c.of_record.result c.in-Ok.ensures.distinct
+    (subst (λ t. IsOfRecord s c.args.limit t c.of_record.result) (ap view c.as_borrowed.ensures
+    ∙ c.in-Ok.ensures.view) (c.of_record.ensures.created s is_bare))

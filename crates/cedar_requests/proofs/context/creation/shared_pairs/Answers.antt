@@ -7,4 +7,5 @@ use Rattle.cedar_requests.proofs.context.creation.shared_pairs.Goals as goal
 
 pub returns : goal.returns
 returns c =
-    ap (λ (m : ExprMap). record_of (fields_view m.entries)) c.in_ok-clone-in-Some.ensures.cases ∙ record_of-fields _ _ c.in-Some.ensures
+    ap (λ (m : ExprMap). record_of (fields_view m.entries)) c.in_ok-clone-in-Some.ensures.cases
+    ∙ record_of-fields _ _ c.in-Some.ensures
