@@ -1,11 +1,10 @@
 -- Pairs under their names that were copied one by one.
-use Rattle.std.proofs.Common.{◌≡◌, Bool, true, List, [], ◌∷◌, map, Option, Global, refl, subst, sym}
+use Rattle.std.proofs.Common.{◌≡◌, List, [], ◌∷◌, map, Global, refl}
 use Rattle.std.specs.List.{AllZip}
 use Rattle.std.specs.Rc.{rc_str_bytes}
 use Rattle.std.specs.declared.rc.RcStr.{RcStr}
 use Rattle.cedar_model.specs.Terms.{one_field}
 use Rattle.cedar_model.specs.Values.{one_represented_at}
-use Rattle.cedar_names.specs.declared.names.Loc.{Loc}
 use Rattle.cedar_expressions.specs.declared.expr.Expr.{Expr}
 use Rattle.cedar_expressions.specs.View.{view, fields_view, expr_loc}
 use Rattle.cedar_data.specs.Sound.{Placed, whats_at}
@@ -32,7 +31,8 @@ whats_at-copied (e ∷ es) [] h = absurd h
 whats_at-copied (e ∷ es) (f ∷ fs) h = λ i. one_represented_at (h.0.0 i) (h.0.1 i).what (whats_at-copied es fs h.1 i)
 
 -- and they stand where they stood
-pub locs-copied : (es fs : List ValuePair) → AllZip IsCopy es fs → map (λ (p : ValuePair). p.1.loc) fs ≡ map (λ (p : ValuePair). p.1.loc) es
+pub locs-copied : (es fs : List ValuePair) → AllZip IsCopy es fs → map (λ (p : ValuePair). p.1.loc) fs
+    ≡ map (λ (p : ValuePair). p.1.loc) es
 locs-copied [] [] h = refl
 locs-copied [] (f ∷ fs) h = absurd h
 locs-copied (e ∷ es) [] h = absurd h
@@ -46,7 +46,8 @@ fields_view-copied (e ∷ es) [] h = absurd h
 fields_view-copied (e ∷ es) (f ∷ fs) h = λ i. one_field (h.0.0 i) (h.0.1.0 i) (fields_view-copied es fs h.1 i)
 
 -- and they stand where they stood
-pub expr_locs-copied : (es fs : List ExprPair) → AllZip IsExprCopy es fs → map (λ (p : ExprPair). expr_loc p.1) fs ≡ map (λ (p : ExprPair). expr_loc p.1) es
+pub expr_locs-copied : (es fs : List ExprPair) → AllZip IsExprCopy es fs → map (λ (p : ExprPair). expr_loc p.1) fs
+    ≡ map (λ (p : ExprPair). expr_loc p.1) es
 expr_locs-copied [] [] h = refl
 expr_locs-copied [] (f ∷ fs) h = absurd h
 expr_locs-copied (e ∷ es) [] h = absurd h

@@ -1,5 +1,5 @@
 -- What the errors of making a context say.
-use Rattle.std.specs.Prelude.{◌≡◌, ◌≢◌, Option, None}
+use Rattle.std.specs.Prelude.{◌≡◌, ◌≢◌, Option}
 use Rattle.cedar_model.specs.Failures.{recursion_limit, out_of_memory}
 use Rattle.cedar_names.specs.declared.names.Loc.{Loc}
 use Rattle.cedar_expressions.specs.declared.errors.ExpressionConstructionError.{ExpressionConstructionError}

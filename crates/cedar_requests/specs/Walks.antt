@@ -61,7 +61,8 @@ abbrev pub attributes_left : IntoIter → List Attribute
 attributes_left s = pairs_left s.pairs
 
 -- the first of what was left is given, or an error in its place; then the others are left
-abbrev pub GivesAttribute : List Attribute → Option (Result (RcStr Global × RestrictedExpr) AllocError) → List Attribute → Type 0
+abbrev pub GivesAttribute : List Attribute → Option (Result (RcStr Global × RestrictedExpr) AllocError)
+    → List Attribute → Type 0
 GivesAttribute before None after = (before ≡ []) × (after ≡ [])
 GivesAttribute before (Some (Ok a)) after = before ≡ attribute_given a ∷ after
 GivesAttribute before (Some (Err e)) after = (a : Attribute) × (before ≡ a ∷ after)

@@ -17,7 +17,8 @@ use std::collections::BTreeMap;
 use std::rc::RcStr;
 pub use walk::IntoIter;
 
-/// The context of a request: a record of values, or a record of restricted expressions of which one or more hold an unknown.
+/// The context of a request: a record of values, or a record of restricted expressions of which one or more hold an
+/// unknown.
 #[derive(Debug, Drop)]
 pub struct Context {
     pairs: ContextPairs,
@@ -30,7 +31,8 @@ impl Context {
     ghost use Rattle.cedar_model.specs.Shapes.{are_restricted_at, have_unknown_at};
     ghost use Rattle.cedar_expressions.specs.View.{fields_view};
     ghost use Rattle.cedar_data.specs.Sound.{whats_at};
-    ghost use Rattle.cedar_requests.specs.Contexts.{context_view, context_keys, context_values, context_residual, context_pairs};
+    ghost use Rattle.cedar_requests.specs.Contexts.{context_view, context_keys, context_values, context_residual};
+    ghost use Rattle.cedar_requests.specs.Contexts.{context_pairs};
 
     /// The context with no attribute. It takes no memory.
     pub fn empty(alloc: Global) -> Context

@@ -30,8 +30,14 @@ impl Request {
         resource: (EntityUID, Option<Loc>),
         context: Context,
     ) -> Request
-        ensures view { request_view result ≡ record { principal_entry = known_entry (uid_name principal.0); action_entry = known_entry (uid_name action.0); resource_entry = known_entry (uid_name resource.0); context_part = context_view context } }
-        ensures parts { request_parts result ≡ (Known principal.0 principal.1, Known action.0 action.1, Known resource.0 resource.1, context) }
+        ensures view { request_view result ≡ record {
+          principal_entry = known_entry (uid_name principal.0);
+          action_entry = known_entry (uid_name action.0);
+          resource_entry = known_entry (uid_name resource.0);
+          context_part = context_view context;
+        } }
+        ensures parts { request_parts result ≡
+            (Known principal.0 principal.1, Known action.0 action.1, Known resource.0 resource.1, context) }
     {
         Request {
             principal: EntityUIDEntry::known(principal.0, principal.1),
@@ -76,7 +82,12 @@ impl Request {
 
     /// The request's parts: who asks, what is to be done, what with, and the context.
     pub fn into_parts(self) -> (EntityUIDEntry, EntityUIDEntry, EntityUIDEntry, Context)
-        ensures view { record { principal_entry = entry_view result.0; action_entry = entry_view result.1; resource_entry = entry_view result.2; context_part = context_view result.3 } ≡ request_view self }
+        ensures view { record {
+          principal_entry = entry_view result.0;
+          action_entry = entry_view result.1;
+          resource_entry = entry_view result.2;
+          context_part = context_view result.3;
+        } ≡ request_view self }
         ensures parts { result ≡ request_parts self }
     {
         let Request {

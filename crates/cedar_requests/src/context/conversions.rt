@@ -37,7 +37,8 @@ impl TryFrom<Context> for PartialValue {
 impl TryFrom<Context> for RestrictedExpr {
     type Error = AllocError;
 
-    ghost try_from_gives = { λ c r. IfOk r (λ e. (restricted_term e ≡ partial_term (context_part_value c)) × (restricted_loc e ≡ None)) };
+    ghost try_from_gives = { λ c r. IfOk r (λ e. (restricted_term e ≡ partial_term (context_part_value c))
+        × (restricted_loc e ≡ None)) };
 
     #[tactic(auto, unfolding(cedar_model::specs::Settings::context_value))]
     fn try_from(context: Context) -> Result<RestrictedExpr, AllocError> {

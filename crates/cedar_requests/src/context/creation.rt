@@ -16,7 +16,8 @@ ghost use Rattle.cedar_restricted_expressions.specs.Views.{borrowed_term, borrow
 ghost use Rattle.cedar_requests.specs.Contexts.{context_part_value, context_pairs, residual_fields};
 ghost use Rattle.cedar_requests.specs.declared.context.pairs.ContextPairs.TheVariants.{Residual};
 ghost use Rattle.cedar_requests.specs.Errors.{IsAtLimit, NamesAt};
-ghost use Rattle.cedar_requests.specs.Creations.{is_record, IsRecordPart, IsOfRecord, IsOfExpr, IsOfPairs, record_of_pairs};
+ghost use Rattle.cedar_requests.specs.Creations.{is_record, IsRecordPart, IsOfRecord, IsOfExpr, IsOfPairs};
+ghost use Rattle.cedar_requests.specs.Creations.{record_of_pairs};
 
 use super::Context;
 use super::pairs::{ContextPairs, ResidualPairs};
@@ -31,11 +32,11 @@ use std::collections::BTreeMap;
 use std::rc::{Rc, RcStr};
 
 impl Context {
-    /// The context that the record is evaluated to, with these extensions: of values, or of what is left where an unknown
-    /// stands in it. Refuses what is no record with `NotARecord`, before anything is evaluated. Where the evaluation fails,
-    /// `Evaluation` holds its error: the first in the order of evaluation, or `RecursionLimit` exactly where the evaluation
-    /// goes more than `limit` levels deep (the record is one level, its parts one more), which it never does for a record
-    /// that is no higher. `Memory` is want of memory.
+    /// The context that the record is evaluated to, with these extensions: of values, or of what is left where an
+    /// unknown stands in it. Refuses what is no record with `NotARecord`, before anything is evaluated. Where the
+    /// evaluation fails, `Evaluation` holds its error: the first in the order of evaluation, or `RecursionLimit`
+    /// exactly where the evaluation goes more than `limit` levels deep (the record is one level, its parts one more),
+    /// which it never does for a record that is no higher. `Memory` is want of memory.
     pub fn from_expr(
         alloc: Global,
         expr: BorrowedRestrictedExpr<'_>,
@@ -53,9 +54,9 @@ impl Context {
         }
     }
 
-    /// The context that the record of these pairs is evaluated to, as `from_expr` does. Refuses the first key that comes
-    /// again with `ExpressionConstruction`, which holds a `DuplicateKey` in the context `in context`, before anything is
-    /// evaluated.
+    /// The context that the record of these pairs is evaluated to, as `from_expr` does. Refuses the first key that
+    /// comes again with `ExpressionConstruction`, which holds a `DuplicateKey` in the context `in context`, before
+    /// anything is evaluated.
     pub fn from_pairs(
         alloc: Global,
         pairs: Vec<(RcStr, RestrictedExpr)>,

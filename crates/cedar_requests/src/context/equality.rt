@@ -1,5 +1,5 @@
-//! Equality of contexts: both of values or both residual, with the same names, and equal parts under them. Locations change
-//! nothing.
+//! Equality of contexts: both of values or both residual, with the same names, and equal parts under them. Locations
+//! change nothing.
 ghost use Rattle.std.specs.Prelude.{◌≡◌};
 ghost use Rattle.std.specs.Cmp.{on_equiv, on_per, partial_equiv_from_equiv};
 ghost use Rattle.cedar_data.specs.Compared.{partial_eq-equivalence};

@@ -110,7 +110,8 @@ fn show_exprs<W: fmt::Write>(
     bound: Option<usize>,
     f: &mut fmt::Formatter<W>,
 ) -> fmt::Result
-    ensures { WritesOnOk W.write_str_gives f.old result (shown_fields bound bound true (fields_view pairs.now.entries)) f.new }
+    ensures { WritesOnOk W.write_str_gives f.old result
+        (shown_fields bound bound true (fields_view pairs.now.entries)) f.new }
 {
     let mut left = bound;
     let mut is_first = true;
@@ -134,7 +135,8 @@ fn show_next<P: BoundedDisplay, W: fmt::Write>(
     f: &mut fmt::Formatter<W>,
 ) -> fmt::Result
     ensures { WritesOnOk W.write_str_gives f.old result
-        (separator is_first ++ (quoted (rc_str_bytes name.now) ++ (codes ": " ++ P.bounded_output part.now bound))) f.new }
+        (separator is_first ++ (quoted (rc_str_bytes name.now)
+        ++ (codes ": " ++ P.bounded_output part.now bound))) f.new }
 {
     f.write_str(separator(is_first))?;
     write_quoted(name.as_str(), f)?;

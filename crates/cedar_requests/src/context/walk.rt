@@ -14,8 +14,8 @@ use std::alloc::{AllocError, Global};
 use std::collections::btree_map;
 use std::rc::RcStr;
 
-/// The attributes of a context with their expressions, in the order of their names: a value is written as its expression.
-/// Where memory is wanting for that, an `Err` stands in the attribute's place, and the walk goes on.
+/// The attributes of a context with their expressions, in the order of their names: a value is written as its
+/// expression. Where memory is wanting for that, an `Err` stands in the attribute's place, and the walk goes on.
 #[derive(Drop)]
 pub struct IntoIter {
     pairs: PairsIter,
@@ -45,7 +45,8 @@ impl IntoIterator for Context {
 
     type IntoIter = IntoIter;
 
-    ghost into_iter_gives = { λ c r. (attributes_left r ≡ context_attributes c) × IsStrictlySortedBy (slice_cmp nat_cmp) (attribute_names (attributes_left r)) };
+    ghost into_iter_gives = { λ c r. (attributes_left r ≡ context_attributes c)
+        × IsStrictlySortedBy (slice_cmp nat_cmp) (attribute_names (attributes_left r)) };
 
     fn into_iter(self) -> IntoIter {
         let alloc = self.alloc;

@@ -40,7 +40,10 @@ fn pairs(alloc: Global, written: &str) -> Result<Vec<(RcStr, RestrictedExpr)>, A
 
 fn of_pairs(alloc: Global, written: &str, limit: usize) -> Result<String, Fail> {
     let pairs = pairs(alloc, written)?;
-    told(alloc, Context::from_pairs(alloc, pairs, &Extensions::none(), limit))
+    told(
+        alloc,
+        Context::from_pairs(alloc, pairs, &Extensions::none(), limit),
+    )
 }
 
 fn of_record(alloc: Global, written: &str, limit: usize) -> Result<String, Fail> {
@@ -51,7 +54,10 @@ fn of_record(alloc: Global, written: &str, limit: usize) -> Result<String, Fail>
 }
 
 fn of_expr(alloc: Global, expr: &RestrictedExpr, limit: usize) -> Result<String, Fail> {
-    told(alloc, Context::from_expr(alloc, expr.as_borrowed(), &Extensions::none(), limit))
+    told(
+        alloc,
+        Context::from_expr(alloc, expr.as_borrowed(), &Extensions::none(), limit),
+    )
 }
 
 fn told(alloc: Global, made: Result<Context, ContextCreationError>) -> Result<String, Fail> {
@@ -95,8 +101,16 @@ fn contexts_are_made(rt: HostRuntime) -> Result<(), Fail> {
             "{\"a\": 1, \"b\": unknown(\"x\")}, 2 keys, values false; a 1; b unknown(\"x\")",
         ),
     ] {
-        assert_eq!(rt; of_pairs(alloc, written, limit)?.as_str(), want, "pairs {written}");
-        assert_eq!(rt; of_record(alloc, written, limit)?.as_str(), want, "record {written}");
+        assert_eq!(rt;
+            of_pairs(alloc, written, limit)?.as_str(),
+            want,
+            "pairs {written}"
+        );
+        assert_eq!(rt;
+            of_record(alloc, written, limit)?.as_str(),
+            want,
+            "record {written}"
+        );
     }
     assert_eq!(rt;
         of_pairs(alloc, "foo=37 foo=37", 0)?.as_str(),
@@ -109,11 +123,19 @@ fn contexts_are_made(rt: HostRuntime) -> Result<(), Fail> {
     Ok(())
 }
 
-// The partial value, the restricted expression and the text under a bound of 1.
-fn converted(alloc: Global, context: &Context) -> Result<String, Fail> {
+// The partial value, the restricted expression and the text under a bound of 1, and whether a copy is equal.
+fn converted(alloc: Global, written: &str) -> Result<String, Fail> {
+    match Context::from_pairs(alloc, pairs(alloc, written)?, &Extensions::none(), 9) {
+        Ok(context) => conversions(alloc, &context),
+        Err(error) => Ok(format!(in alloc; "{error}")?),
+    }
+}
+
+fn conversions(alloc: Global, context: &Context) -> Result<String, Fail> {
+    let is_same = *context == context.clone()?;
     let value = PartialValue::try_from(context.clone()?)?;
     let expr = RestrictedExpr::try_from(context.clone()?)?;
-    let mut text = format!(in alloc; "{value} ~ {expr} ~ ")?;
+    let mut text = format!(in alloc; "{value} ~ {expr} ~ {is_same} ~ ")?;
     BoundedDisplay::fmt(context, &mut text, Some(1))?;
     Ok(text)
 }
@@ -122,18 +144,16 @@ fn converted(alloc: Global, context: &Context) -> Result<String, Fail> {
 fn contexts_are_converted(rt: HostRuntime) -> Result<(), Fail> {
     let alloc = rt.alloc();
     for (written, want) in [
-        ("b=37 a=1", "{\"a\": 1, \"b\": 37} ~ {\"a\": 1, \"b\": 37} ~ {\"a\": 1, ..}"),
+        (
+            "b=37 a=1",
+            "{\"a\": 1, \"b\": 37} ~ {\"a\": 1, \"b\": 37} ~ true ~ {\"a\": 1, ..}",
+        ),
         (
             "b=x a=1",
-            "{\"a\": 1, \"b\": unknown(\"x\")} ~ {\"a\": 1, \"b\": unknown(\"x\")} ~ {\"a\": 1, ..}",
+            "{\"a\": 1, \"b\": unknown(\"x\")} ~ {\"a\": 1, \"b\": unknown(\"x\")} ~ true ~ {\"a\": 1, ..}",
         ),
     ] {
-        let made = Context::from_pairs(alloc, pairs(alloc, written)?, &Extensions::none(), 9);
-        let Ok(context) = made else {
-            return Err(Fail);
-        };
-        assert_eq!(rt; converted(alloc, &context)?.as_str(), want, "{written}");
-        assert!(rt; context == context.clone()?, "{written}");
+        assert_eq!(rt; converted(alloc, written)?.as_str(), want, "{written}");
     }
     Ok(())
 }

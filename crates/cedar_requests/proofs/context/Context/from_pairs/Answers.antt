@@ -1,4 +1,4 @@
-use Rattle.std.proofs.Common.{ap, ◌∙◌, subst, sym}
+use Rattle.std.proofs.Common.{ap, ◌∙◌, subst}
 use Rattle.cedar_expressions.specs.View.{view}
 use Rattle.cedar_requests.specs.Creations.{is_record, IsOfRecord}
 use Rattle.cedar_requests.proofs.Creations.{pairs_answer}
@@ -11,4 +11,6 @@ of_record-requires c =
 
 pub returns-in-Ok-clause-created : goal.returns-in-Ok-clause-created
 returns-in-Ok-clause-created c = λ s is_bare.
-    pairs_answer s _ _ c.of_record.result c.in-Ok.ensures.distinct (subst (λ t. IsOfRecord s c.args.limit t c.of_record.result) (ap view c.as_borrowed.ensures ∙ c.in-Ok.ensures.view) (c.of_record.ensures.created s is_bare))
+    pairs_answer s _ _ c.of_record.result c.in-Ok.ensures.distinct
+    (subst (λ t. IsOfRecord s c.args.limit t c.of_record.result) (ap view c.as_borrowed.ensures
+    ∙ c.in-Ok.ensures.view) (c.of_record.ensures.created s is_bare))

@@ -9,4 +9,5 @@ abbrev pub invariant-exprs : goal.invariant-exprs
 invariant-exprs g l =
     IsPlainFormatter l.initial.f
     → (done : List ℕ) × HasWritten g.W.Write.write_str_gives l.initial.f done l.f
-    × (done ++ shown_fields l.bound l.left l.is_first (fields_view l.name-iterator) ≡ shown_fields l.bound l.bound true (fields_view l.pairs.entries))
+    × (done ++ shown_fields l.bound l.left l.is_first (fields_view l.name-iterator)
+    ≡ shown_fields l.bound l.bound true (fields_view l.pairs.entries))

@@ -10,4 +10,5 @@ abbrev pub invariant-values : goal.invariant-values
 invariant-values g l =
     IsPlainFormatter l.initial.f
     → (done : List ℕ) × HasWritten g.W.Write.write_str_gives l.initial.f done l.f
-    × (done ++ shown_fields l.bound l.left l.is_first (expressions_at (whats_at l.name-iterator)) ≡ shown_fields l.bound l.bound true (expressions_at (whats_at l.pairs.entries)))
+    × (done ++ shown_fields l.bound l.left l.is_first (expressions_at (whats_at l.name-iterator))
+    ≡ shown_fields l.bound l.bound true (expressions_at (whats_at l.pairs.entries)))

@@ -6,4 +6,13 @@ use Rattle.cedar_requests.proofs.context.copies.ContextPairsClone.clone.Goals as
 
 pub returns-in_ok-clone-in-Values : goal.returns-in_ok-clone-in-Values
 returns-in_ok-clone-in-Values c =
-    record { cases = (ap known_context (whats_at-copied c.in-Values.pairs.entries c.in_ok-clone-in-Values.field-0.entries c.in_ok-clone-in-Values.ensures.cases) ∙ sym (ap pairs_view c.in-Values.is), locs-copied c.in-Values.pairs.entries c.in_ok-clone-in-Values.field-0.entries c.in_ok-clone-in-Values.ensures.cases ∙ sym (ap pairs_locs c.in-Values.is)) }
+    let old = c.in-Values.pairs.entries in
+    let new = c.in_ok-clone-in-Values.field-0.entries in
+    let copied = whats_at-copied old new c.in_ok-clone-in-Values.ensures.cases in
+    let placed = locs-copied old new c.in_ok-clone-in-Values.ensures.cases in
+    record {
+      cases = (
+        ap known_context copied ∙ sym (ap pairs_view c.in-Values.is),
+        placed ∙ sym (ap pairs_locs c.in-Values.is),
+      );
+    }

@@ -11,7 +11,13 @@ use Rattle.cedar_requests.proofs.context.walk.ContextIntoIterator.into_iter.Goal
 pub returns-in-Values : goal.returns-in-Values
 returns-in-Values c =
     let given = rw c.in-Values.pairs-is at c.into_iter.ensures.into_iter_gives in
-    record { into_iter_gives = (ap (map value_attribute) given.0 ∙ sym (ap pairs_attributes c.in-Values.is), subst (λ es. IsStrictlySortedBy (slice_cmp nat_cmp) (attribute_names (map value_attribute es))) (sym given.0) (in_order (λ (p : ValuePair). (expression_of p.1.what, p.1.loc)) c.in-Values.pairs.entries given.5)) }
+    record {
+      into_iter_gives = (
+        ap (map value_attribute) given.0 ∙ sym (ap pairs_attributes c.in-Values.is),
+        subst (λ es. IsStrictlySortedBy (slice_cmp nat_cmp) (attribute_names (map value_attribute es))) (sym given.0)
+            (in_order (λ (p : ValuePair). (expression_of p.1.what, p.1.loc)) c.in-Values.pairs.entries given.5),
+      );
+    }
 
 pub returns-in-Residual : goal.returns-in-Residual
 returns-in-Residual c =

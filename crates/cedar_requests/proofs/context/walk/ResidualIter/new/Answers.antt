@@ -11,4 +11,5 @@ use Rattle.cedar_requests.proofs.context.walk.ResidualIter.new.Goals as goal
 pub returns-clause-in_order : goal.returns-clause-in_order
 returns-clause-in_order c =
     let given = c.into_iter.ensures.into_iter_gives in
-    subst (λ es. IsStrictlySortedBy (slice_cmp nat_cmp) (attribute_names (map expr_attribute es))) (sym given.0) (in_order (λ (p : ExprPair). (view p.1, expr_loc p.1)) c.into_map.result.entries given.5)
+    subst (λ es. IsStrictlySortedBy (slice_cmp nat_cmp) (attribute_names (map expr_attribute es))) (sym given.0)
+    (in_order (λ (p : ExprPair). (view p.1, expr_loc p.1)) c.into_map.result.entries given.5)

@@ -2,5 +2,18 @@ use Rattle.cedar_requests.proofs.request.copies.RequestClone.clone.Goals as goal
 
 pub returns : goal.returns
 returns c =
+    let principal = c.in_ok-principal.ensures in
+    let action = c.in_ok-action.ensures in
+    let resource = c.in_ok-resource.ensures in
     let context = c.in_ok-context.ensures.cases in
-    record { cases = (λ i. record { principal_entry = c.in_ok-principal.ensures.view i; action_entry = c.in_ok-action.ensures.view i; resource_entry = c.in_ok-resource.ensures.view i; context_part = context.0 i }, λ i. (c.in_ok-principal.ensures.loc i, c.in_ok-action.ensures.loc i, c.in_ok-resource.ensures.loc i, context.1 i)) }
+    record {
+      cases = (
+        λ i. record {
+          principal_entry = principal.view i;
+          action_entry = action.view i;
+          resource_entry = resource.view i;
+          context_part = context.0 i;
+        },
+        λ i. (principal.loc i, action.loc i, resource.loc i, context.1 i),
+      );
+    }
