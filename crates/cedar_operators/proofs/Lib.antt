@@ -3,3 +3,4 @@ pub mod Longs
 pub mod Expecting
 pub mod Stored
 pub mod Elements
+pub mod Orders

@@ -8,15 +8,10 @@ use Rattle.cedar_model.specs.Meaning.{entities_of, entities_of_set, some_entity}
 use Rattle.cedar_model.specs.Failures.{Failure, any_entity, wrong_type, Answer, answers_bool}
 use Rattle.cedar_model.specs.Operators.{expecting, element_failure, entities_failure}
 use Rattle.cedar_model.specs.Settings.{Store, StoredEntity, Setting, is_among}
-use Rattle.cedar_values.specs.declared.extensions.Extensions.{Extensions}
 
 -- no extension
 abbrev pub no_extensions : model.Extensions
 no_extensions = record { arity = λ f. None; overloaded = [] }
-
--- no extension is there yet
-abbrev pub extensions_view : Extensions → model.Extensions
-extensions_view x = no_extensions
 
 -- the setting, but with these extensions
 abbrev pub with_extensions : Setting → model.Extensions → Setting

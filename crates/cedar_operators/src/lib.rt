@@ -6,6 +6,7 @@ pub mod attributes;
 pub mod failures;
 mod missing;
 mod numbers;
+mod order;
 pub mod operators;
 pub mod sets;
 pub mod store;

@@ -5,14 +5,16 @@ ghost use Rattle.cedar_model.specs.Settings.{Setting};
 ghost use Rattle.cedar_model.specs.Operators.{unary_answer, binary_answer, like_answer, is_answer};
 ghost use Rattle.cedar_names.specs.Names.{type_text};
 ghost use Rattle.cedar_names.specs.Leaves.{unary_view, binary_view, pattern_view};
+ghost use Rattle.cedar_extensions.specs.Extensions.{extensions_view};
 ghost use Rattle.cedar_operators.specs.Answers.{Answers};
-ghost use Rattle.cedar_operators.specs.Operands.{extensions_view, with_extensions, is_relation, is_arithmetic};
+ghost use Rattle.cedar_operators.specs.Operands.{with_extensions, is_relation, is_arithmetic};
 
-use crate::numbers::{arithmetic, negated, order};
+use crate::numbers::{arithmetic, negated};
+use crate::order::order;
 use crate::typed::{bool_value, get_as_bool, get_as_entity, get_as_set, get_as_string};
+use cedar_extensions::Extensions;
 use cedar_layers::expressions::{BinaryOp, EntityType, Loc, Pattern, UnaryOp, Value};
 use cedar_values::evaluator::err::EvaluationError;
-use cedar_values::extensions::Extensions;
 use std::alloc::Global;
 
 /// An operator on one value: `!` of a boolean, `-` of a long, `isEmpty` of a set. A value of another type is a `TypeError` at the
@@ -33,9 +35,11 @@ pub fn unary_app(
     }
 }
 
-/// A relation of two values, as its caller hands `Eq`, `Less` or `LessEq`: `==` of any two, `<` and `<=` of two longs. Where one
-/// side is a long and the other is not, that other is a `TypeError` that expects a long; else the left is.
-/// The result is at no known location.
+/// A relation of two values, as its caller hands `Eq`, `Less` or `LessEq`: `==` of any two, `<` and `<=` of two longs, or of two
+/// extension values of one type that the extensions overload, by their keys. Others are a `TypeError`: where one side is a long, of
+/// the other side, which is expected to be a long; else where one, the left first, is of an overloaded type, of the other side,
+/// which is expected to be of that type; else of the left, which is expected to be a long or of one of the overloaded types, in
+/// their order. The result is at no known location.
 #[tactic(auto, unfolding(cedar_model::specs::Operators::binary_answer, cedar_model::specs::Operators::expecting))]
 pub fn binary_relation(
     alloc: Global,
