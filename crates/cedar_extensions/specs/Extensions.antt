@@ -1,5 +1,5 @@
 -- The extensions of an evaluation as plain data, and what their functions may answer.
-use Rattle.std.specs.Prelude.{◌≡◌, List, map, Option, Some, option_map}
+use Rattle.std.specs.Prelude.{◌≡◌, List, [], map, Option, None, Some, option_map}
 use Rattle.cedar_model.specs.Terms.{Text}
 use Rattle.cedar_model.specs.World as model
 use Rattle.cedar_model.specs.Rules.{StoredCalls}
@@ -25,6 +25,10 @@ extensions_view x =
       arity = λ n. option_map arity (func_of x n);
       overloaded = map name_text (all_overloading_types (extensions_in x));
     }
+
+-- no extension
+abbrev pub no_extensions : model.Extensions
+no_extensions = record { arity = λ n. None; overloaded = [] }
 
 -- what each function may answer, besides want of memory
 abbrev pub calls_of : {X : Type 0} {F : X → Type 0} {g : _} → Extensions X F g → StoredCalls

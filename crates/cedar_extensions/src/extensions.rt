@@ -35,13 +35,14 @@ impl<'a> Extensions<'a> {
     ghost use Rattle.cedar_extensions.specs.Functions.{answered_types};
     ghost use Rattle.cedar_extensions.specs.Extension.{name_of, all_overloading_types};
     ghost use Rattle.cedar_extensions.specs.Iterators.{names_left, types_left, overloading_left};
-    ghost use Rattle.cedar_extensions.specs.Extensions.{extensions_in, func_of, extensions_view, calls_of};
+    ghost use Rattle.cedar_extensions.specs.Extensions.{no_extensions, extensions_in, func_of, extensions_view, calls_of};
     ghost use Rattle.cedar_extensions.specs.Refused.{repeated_type, IsWhyRefused, IsMissing};
 
     /// No extension: each call of a function fails with `FuncDoesNotExist`.
     #[tactic(auto, unfolding(cedar_model::specs::Refusals::first_repeated_after))]
     pub fn none() -> Extensions<'a>
-        ensures { extensions_in result ≡ [] }
+        ensures extensions { extensions_in result ≡ [] }
+        ensures view { extensions_view result ≡ no_extensions }
     {
         Extensions { extensions: &[] }
     }

@@ -9,10 +9,6 @@ use Rattle.cedar_model.specs.Failures.{Failure, any_entity, wrong_type, Answer, 
 use Rattle.cedar_model.specs.Operators.{expecting, element_failure, entities_failure}
 use Rattle.cedar_model.specs.Settings.{Store, StoredEntity, Setting, is_among}
 
--- no extension
-abbrev pub no_extensions : model.Extensions
-no_extensions = record { arity = λ f. None; overloaded = [] }
-
 -- the setting, but with these extensions
 abbrev pub with_extensions : Setting → model.Extensions → Setting
 with_extensions s x =
