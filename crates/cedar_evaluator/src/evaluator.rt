@@ -27,6 +27,7 @@ ghost use Rattle.cedar_evaluator.specs.Stops.{StoppingRuns};
 ghost use Rattle.cedar_evaluator.specs.Evaluations.{MeetsKind, GivesParts, FailsParts, GivesFields, FailsFields, key_order, AreInOrder, AreAtPlaces, IsSetOf, HasElementsOf};
 
 use crate::request::{EntityUIDEntry, Request};
+use cedar_extensions::Extensions;
 use cedar_layers::expressions::{
     BinaryOp, EntityType, EntityUID, Expr, ExprKind, FirstRest, Literal, Loc, Name, Pattern,
     SlotEnv, SlotId, Type, UnaryOp, Value, ValueKind, Var,
@@ -35,18 +36,17 @@ use cedar_layers::policies::{Entities, Policy};
 use cedar_operators::attributes::{attribute_of, has_attribute, has_path};
 use cedar_operators::failures::{non_value, type_error};
 pub use cedar_operators::operators::{binary_arith, binary_relation, unary_app};
-use cedar_operators::operators::{is_of_type, likeness};
+use cedar_operators::operators::{is_of_type, likeness, plain_relation};
 use cedar_operators::sets::{contains, contains_all, contains_any};
 use cedar_operators::store::{has_tag, is_in, tag_of};
 use cedar_operators::typed::{bool_in, bool_value, get_as_bool};
 pub use cedar_values::evaluator::err::{EvaluationError, evaluation_errors};
-use cedar_values::extensions::{
-    ExtensionFunctionLookupError, Extensions, extension_function_lookup_errors,
-};
+use cedar_values::extensions::{ExtensionFunctionLookupError, extension_function_lookup_errors};
 use evaluation_errors::{RecursionLimitError, UnlinkedSlotError};
 use extension_function_lookup_errors::FuncDoesNotExistError;
 use std::alloc::{AllocError, Global};
 use std::collections::BTreeMap;
+use std::marker::PhantomData;
 use std::rc::{Rc, RcStr};
 
 // An entity of the request, shared by the values that stand for it.
@@ -82,7 +82,8 @@ impl SharedEntity {
     }
 }
 
-/// An evaluator: a request, a store of entities and extensions, and how many levels deep it goes.
+/// An evaluator: a request, a store of entities and extensions, and how many levels deep it goes. It uses none of the extensions
+/// yet: each call of a function fails with `FuncDoesNotExist`, and `<` and `<=` compare longs alone.
 #[derive(Drop)]
 pub struct Evaluator<'e, 'x, 'f> {
     principal: SharedEntity,
@@ -90,7 +91,7 @@ pub struct Evaluator<'e, 'x, 'f> {
     resource: SharedEntity,
     context: Rc<BTreeMap<RcStr, Value>>,
     entities: &'e Entities,
-    extensions: &'x Extensions<'f>,
+    extensions: PhantomData<(&'x (), &'f ())>,
     limit: usize,
 }
 
@@ -109,7 +110,7 @@ impl<'e, 'x, 'f> Evaluator<'e, 'x, 'f> {
         alloc: Global,
         request: Request,
         entities: &'e Entities,
-        extensions: &'x Extensions<'f>,
+        _extensions: &'x Extensions<'f>,
         limit: usize,
     ) -> Result<Evaluator<'e, 'x, 'f>, AllocError>
         ensures setting { IfOk result (λ v. (slots : _) → setting_of v slots ≡ setting_for (request_view request) (store_view entities.now) slots) }
@@ -123,7 +124,7 @@ impl<'e, 'x, 'f> Evaluator<'e, 'x, 'f> {
             resource: SharedEntity::new(alloc, resource)?,
             context,
             entities,
-            extensions,
+            extensions: PhantomData,
             limit,
         })
     }
@@ -562,9 +563,9 @@ impl<'e, 'x, 'f> Evaluator<'e, 'x, 'f> {
         ensures { (s : _) → Answers result (stopped (binary_answer (setting_of self.now s) (binary_view op) first.what second.what)) }
     {
         match op {
-            BinaryOp::Eq => binary_relation(alloc, op, &first, &second, self.extensions),
-            BinaryOp::Less => binary_relation(alloc, op, &first, &second, self.extensions),
-            BinaryOp::LessEq => binary_relation(alloc, op, &first, &second, self.extensions),
+            BinaryOp::Eq => plain_relation(alloc, op, &first, &second),
+            BinaryOp::Less => plain_relation(alloc, op, &first, &second),
+            BinaryOp::LessEq => plain_relation(alloc, op, &first, &second),
             BinaryOp::Add => binary_arith(alloc, op, first, second, loc),
             BinaryOp::Sub => binary_arith(alloc, op, first, second, loc),
             BinaryOp::Mul => binary_arith(alloc, op, first, second, loc),

@@ -3,13 +3,13 @@ use Rattle.cedar_evaluator.proofs.Steps.{answers_stopped}
 use Rattle.cedar_evaluator.proofs.evaluator.Evaluator.operate.Goals as goal
 
 pub returns-in-Eq : goal.returns-in-Eq
-returns-in-Eq c = λ s. answers_stopped _ _ (c.binary_relation.ensures (setting_of c.args.self.now s))
+returns-in-Eq c = λ s. answers_stopped _ _ (c.plain_relation.ensures (setting_of c.args.self.now s))
 
 pub returns-in-Less : goal.returns-in-Less
-returns-in-Less c = λ s. answers_stopped _ _ (c.binary_relation-in-Less.ensures (setting_of c.args.self.now s))
+returns-in-Less c = λ s. answers_stopped _ _ (c.plain_relation-in-Less.ensures (setting_of c.args.self.now s))
 
 pub returns-in-LessEq : goal.returns-in-LessEq
-returns-in-LessEq c = λ s. answers_stopped _ _ (c.binary_relation-in-LessEq.ensures (setting_of c.args.self.now s))
+returns-in-LessEq c = λ s. answers_stopped _ _ (c.plain_relation-in-LessEq.ensures (setting_of c.args.self.now s))
 
 pub returns-in-Add : goal.returns-in-Add
 returns-in-Add c = λ s. answers_stopped _ _ (c.binary_arith.ensures (setting_of c.args.self.now s))
