@@ -74,6 +74,8 @@ pub right_expected : (X : Extensions) (v w : AbstractValue) (m : ℤ) → long_o
 unfolding order_failure
 right_expected X v w m e f = λ i. order_failure X (e i) (f i) (overloaded_type X v) (overloaded_type X w) v w
 
+pub ruleset beside_longs = (left_unordered, left_expected, right_unordered, right_expected)
+
 -- two longs compare as longs
 pub longs_ordered : (X : Extensions) (v w : AbstractValue) (m n : ℤ) → long_of v ≡ Some m → long_of w ≡ Some n → comparison X v w ≡ Some (int_cmp m n)
 unfolding order_of

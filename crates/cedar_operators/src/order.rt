@@ -1,16 +1,12 @@
 //! The order of two values: of longs, and of extension values of one overloaded type.
-ghost use Rattle.std.specs.Prelude.{◌≡◌, ◌≢◌, List, [], map, Some, None, IfOk, IfErr, option_map, option_copied};
-ghost use Rattle.cedar_model.specs.Terms.{long_type, extension_type};
+ghost use Rattle.std.specs.Prelude.{◌≡◌, ◌≢◌, Some, None, IfOk, IfErr, option_map, option_copied};
 ghost use Rattle.cedar_model.specs.Values.{abstract_value};
 ghost use Rattle.cedar_model.specs.Outcomes.{long_of};
-ghost use Rattle.cedar_model.specs.Meaning.{comparison};
-ghost use Rattle.cedar_model.specs.Failures.{wrong_type, out_of_memory};
-ghost use Rattle.cedar_model.specs.Operators.{comparison_failure};
-ghost use Rattle.cedar_names.specs.Names.{name_text};
+ghost use Rattle.cedar_model.specs.Failures.{out_of_memory};
 ghost use Rattle.cedar_values.specs.Failures.{failure_of};
-ghost use Rattle.cedar_extensions.specs.Extensions.{extensions_view};
 ghost use Rattle.cedar_operators.specs.Answers.{FailsWith};
-ghost use Rattle.cedar_operators.specs.Orders.{compared_as, compared_by};
+ghost use Rattle.cedar_operators.specs.Orders.{compared_as, compared_in, ordering, ordering_failure};
+ghost use Rattle.cedar_operators.specs.Orders.{none_comparable, not_of_type};
 
 use crate::failures::type_error;
 use crate::typed::long_in;
@@ -24,16 +20,16 @@ use std::cmp::Ordering;
 // How two values compare: two longs, or two extension values of one overloaded type, by their keys. Where one side is a long,
 // the other is expected to be one; else where one, the left first, is of an overloaded type, the other is expected to be of it;
 // else the left is expected to be a long or of an overloaded type.
-#[tactic(auto, using(crate::proofs::Longs::left_unordered, crate::proofs::Longs::left_expected, crate::proofs::Longs::right_unordered, crate::proofs::Longs::right_expected))]
+#[tactic(auto, using(crate::proofs::Longs::beside_longs))]
 pub(crate) fn order(
     alloc: Global,
     a: &Value,
     b: &Value,
     extensions: &Extensions<'_>,
 ) -> Result<Ordering, EvaluationError>
-    ensures ok { IfOk result (λ o. comparison (extensions_view extensions.now) (abstract_value a.now.what) (abstract_value b.now.what) ≡ Some o) }
-    ensures no_order { IfErr result (λ e. failure_of e ≢ out_of_memory → comparison (extensions_view extensions.now) (abstract_value a.now.what) (abstract_value b.now.what) ≡ None) }
-    ensures error { IfErr result (λ e. FailsWith e (comparison_failure (extensions_view extensions.now) (abstract_value a.now.what) (abstract_value b.now.what))) }
+    ensures ok { IfOk result (λ o. ordering extensions.now a.now b.now ≡ Some o) }
+    ensures no_order { IfErr result (λ e. failure_of e ≢ out_of_memory → ordering extensions.now a.now b.now ≡ None) }
+    ensures error { IfErr result (λ e. FailsWith e (ordering_failure extensions.now a.now b.now)) }
 {
     match long_in(a) {
         Some(m) => match long_in(b) {
@@ -48,7 +44,7 @@ pub(crate) fn order(
 }
 
 // The same where neither is a long.
-#[tactic(auto, using(crate::proofs::Orders::by_keys, crate::proofs::Orders::of_two_types, crate::proofs::Orders::beside_other, crate::proofs::Orders::left_type_expected, crate::proofs::Orders::beside_right, crate::proofs::Orders::right_type_expected, crate::proofs::Orders::any_expected))]
+#[tactic(auto, using(crate::proofs::Orders::orders))]
 fn order_of_others(
     alloc: Global,
     a: &Value,
@@ -57,9 +53,9 @@ fn order_of_others(
 ) -> Result<Ordering, EvaluationError>
     requires left { long_of (abstract_value a.now.what) ≡ None }
     requires right { long_of (abstract_value b.now.what) ≡ None }
-    ensures ok { IfOk result (λ o. comparison (extensions_view extensions.now) (abstract_value a.now.what) (abstract_value b.now.what) ≡ Some o) }
-    ensures no_order { IfErr result (λ e. failure_of e ≢ out_of_memory → comparison (extensions_view extensions.now) (abstract_value a.now.what) (abstract_value b.now.what) ≡ None) }
-    ensures error { IfErr result (λ e. FailsWith e (comparison_failure (extensions_view extensions.now) (abstract_value a.now.what) (abstract_value b.now.what))) }
+    ensures ok { IfOk result (λ o. ordering extensions.now a.now b.now ≡ Some o) }
+    ensures no_order { IfErr result (λ e. failure_of e ≢ out_of_memory → ordering extensions.now a.now b.now ≡ None) }
+    ensures error { IfErr result (λ e. FailsWith e (ordering_failure extensions.now a.now b.now)) }
 {
     match overloaded_in(a, extensions) {
         Some(v) => match overloaded_in(b, extensions) {
@@ -81,7 +77,7 @@ fn order_of_others(
 
 // The extension value, if the value is one and its type is overloaded.
 fn overloaded_in<'v>(value: &'v Value, extensions: &Extensions<'_>) -> Option<&'v ExtensionValue>
-    ensures { option_map compared_as (option_copied result) ≡ compared_by (extensions_view extensions.now) (abstract_value value.now.what) }
+    ensures { option_map compared_as (option_copied result) ≡ compared_in extensions.now value.now }
 {
     match value.value_kind() {
         ValueKind::Lit(_) => None,
@@ -101,7 +97,7 @@ fn overloaded_in<'v>(value: &'v Value, extensions: &Extensions<'_>) -> Option<&'
 #[cold]
 #[inline(never)]
 fn extension_expected(alloc: Global, expected: &ExtensionValue, value: &Value) -> EvaluationError
-    ensures { FailsWith result (wrong_type (extension_type (name_text expected.now.typename)) [] (abstract_value value.now.what)) }
+    ensures { FailsWith result (not_of_type expected.now value.now) }
 {
     match expected.typename.clone() {
         Ok(name) => type_error(alloc, Type::Extension { name }, value),
@@ -113,7 +109,7 @@ fn extension_expected(alloc: Global, expected: &ExtensionValue, value: &Value) -
 #[cold]
 #[inline(never)]
 fn comparable_expected(alloc: Global, extensions: &Extensions<'_>, value: &Value) -> EvaluationError
-    ensures { FailsWith result (wrong_type long_type (map extension_type (extensions_view extensions.now).overloaded) (abstract_value value.now.what)) }
+    ensures { FailsWith result (none_comparable extensions.now value.now) }
 {
     match comparable_error(alloc, extensions, value) {
         Ok(error) => error,
@@ -127,7 +123,7 @@ fn comparable_error(
     extensions: &Extensions<'_>,
     value: &Value,
 ) -> Result<EvaluationError, AllocError>
-    ensures { IfOk result (λ e. FailsWith e (wrong_type long_type (map extension_type (extensions_view extensions.now).overloaded) (abstract_value value.now.what))) }
+    ensures { IfOk result (λ e. FailsWith e (none_comparable extensions.now value.now)) }
 {
     let actual = value.type_of()?;
     let rest = extensions.overloaded_types(alloc)?;
