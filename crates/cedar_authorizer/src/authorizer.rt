@@ -14,8 +14,9 @@ ghost use Rattle.cedar_authorizer.specs.Responding.{MayAnswerAs, has_id, respons
 pub use crate::authorizer::err::AuthorizationError;
 use cedar_evaluator::evaluator::{EvaluationError, Evaluator};
 use cedar_evaluator::request::Request;
+use cedar_extensions::Extensions;
 use cedar_layers::policies::{Effect, Entities, Policy, PolicyID, PolicySet};
-use cedar_values::extensions::{ExtensionFunctionLookupError, Extensions};
+use cedar_values::extensions::ExtensionFunctionLookupError;
 use std::alloc::{AllocError, Global};
 use std::collections::HashSet;
 
@@ -24,7 +25,8 @@ pub mod err;
 pub mod laws;
 mod texts;
 
-/// Decides requests, with these extensions and within so many levels of evaluation.
+/// Decides requests, with these extensions and within so many levels of evaluation. It uses none of the extensions yet, as the
+/// evaluator uses none.
 #[derive(Clone, Copy)]
 pub struct Authorizer<'x, 'f> {
     extensions: &'x Extensions<'f>,

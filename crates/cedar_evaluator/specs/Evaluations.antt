@@ -24,7 +24,7 @@ use Rattle.cedar_layers.specs.Policies.{SlotValues, slots_view}
 use Rattle.cedar_layers.specs.Stores.{store_view}
 use Rattle.cedar_values.specs.declared.evaluator.err.EvaluationError.{EvaluationError}
 use Rattle.cedar_operators.specs.Answers.{answer_of}
-use Rattle.cedar_operators.specs.Operands.{no_extensions}
+use Rattle.cedar_extensions.specs.Extensions.{no_extensions}
 use Rattle.cedar_evaluator.specs.declared.evaluator.Evaluator.{Evaluator}
 use Rattle.cedar_evaluator.specs.declared.evaluator.SharedContext.{SharedContext}
 use Rattle.cedar_evaluator.specs.declared.evaluator.SharedContext.TheVariants as contexts

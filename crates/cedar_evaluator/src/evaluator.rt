@@ -28,6 +28,7 @@ ghost use Rattle.cedar_evaluator.specs.Stops.{StoppingRuns};
 ghost use Rattle.cedar_evaluator.specs.Evaluations.{MeetsKind, GivesParts, FailsParts, GivesFields, FailsFields, key_order, AreInOrder, AreAtPlaces, IsSetOf, HasElementsOf};
 
 use crate::request::{Context, EntityUIDEntry, Request};
+use cedar_extensions::Extensions;
 use cedar_layers::expressions::{
     BinaryOp, EntityType, EntityUID, Expr, ExprKind, FirstRest, Literal, Loc, Name, PartialValue,
     Pattern, SlotEnv, SlotId, Type, UnaryOp, Value, ValueKind, Var,
@@ -41,13 +42,12 @@ use cedar_operators::operators::{is_of_type, likeness};
 use cedar_operators::typed::{bool_in, bool_value, get_as_bool};
 use cedar_requests::shared::ContextPairs;
 pub use cedar_values::evaluator::err::{EvaluationError, evaluation_errors};
-use cedar_values::extensions::{
-    ExtensionFunctionLookupError, Extensions, extension_function_lookup_errors,
-};
+use cedar_values::extensions::{ExtensionFunctionLookupError, extension_function_lookup_errors};
 use evaluation_errors::{RecursionLimitError, UnlinkedSlotError};
 use extension_function_lookup_errors::FuncDoesNotExistError;
 use std::alloc::{AllocError, Global};
 use std::collections::BTreeMap;
+use std::marker::PhantomData;
 use std::rc::{Rc, RcStr};
 
 // An entity of the request, shared by the values that stand for it.
@@ -116,7 +116,8 @@ impl SharedContext {
     }
 }
 
-/// An evaluator: a request, a store of entities and extensions, and how many levels deep it goes.
+/// An evaluator: a request, a store of entities and extensions, and how many levels deep it goes. It uses none of the extensions
+/// yet: each call of a function fails with `FuncDoesNotExist`, and `<` and `<=` compare longs alone.
 #[derive(Drop)]
 pub struct Evaluator<'e, 'x, 'f> {
     principal: SharedEntity,
@@ -124,7 +125,7 @@ pub struct Evaluator<'e, 'x, 'f> {
     resource: SharedEntity,
     context: SharedContext,
     entities: &'e Entities,
-    extensions: &'x Extensions<'f>,
+    extensions: PhantomData<(&'x (), &'f ())>,
     limit: usize,
 }
 
@@ -143,7 +144,7 @@ impl<'e, 'x, 'f> Evaluator<'e, 'x, 'f> {
         alloc: Global,
         request: Request,
         entities: &'e Entities,
-        extensions: &'x Extensions<'f>,
+        _extensions: &'x Extensions<'f>,
         limit: usize,
     ) -> Result<Evaluator<'e, 'x, 'f>, AllocError>
         ensures setting { IfOk result (λ v. (slots : _) → setting_of v slots ≡ setting_for (request_view request) (store_view entities.now) slots) }
@@ -157,7 +158,7 @@ impl<'e, 'x, 'f> Evaluator<'e, 'x, 'f> {
             resource: SharedEntity::new(alloc, resource)?,
             context,
             entities,
-            extensions,
+            extensions: PhantomData,
             limit,
         })
     }
@@ -594,7 +595,7 @@ impl<'e, 'x, 'f> Evaluator<'e, 'x, 'f> {
     ) -> Result<Value, EvaluationError>
         ensures { (s : _) → Answers result (stopped (binary_answer (setting_of self.now s) (binary_view op) first.what second.what)) }
     {
-        known(binary_app(alloc, self.entities, self.extensions, op, first, second, loc))
+        known(binary_app(alloc, self.entities, &Extensions::none(), op, first, second, loc))
     }
 
     // The value of a variable: an entity of the request, or its context.

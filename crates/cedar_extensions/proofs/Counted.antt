@@ -20,5 +20,6 @@ module _ (Calls : StoredCalls) (n : ℕ) (f : Text) (ps : List Placed) where
   pub counts_wrong : (a : Answer) → (length ps ≡ n → ⊥) → a ≡ fails (arguments_are_miscounted f n (length ps))
       → Counts Calls (length (whats ps) == n) n f (whats ps) a
   counts_wrong a e h =
-      subst (λ b. Counts Calls b n f (whats ps) a) (sym (ne_eqb (length (whats ps)) n (λ d. e (sym (length-whats ps) ∙ d))))
+      subst (λ b. Counts Calls b n f (whats ps) a)
+      (sym (ne_eqb (length (whats ps)) n (λ d. e (sym (length-whats ps) ∙ d))))
       (h ∙ ap (λ k. fails (arguments_are_miscounted f n k)) (sym (length-whats ps)))

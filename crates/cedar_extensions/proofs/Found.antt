@@ -10,7 +10,8 @@ module _ {A E : Type 0} (p : A → Bool) (parts : E → List A) (all : List E) (
       ap (λ (es : List E). find p (flat_map parts es)) is ∙ find-append p (parts e) (flat_map parts rest)
       ∙ ap (λ (o : Option A). option_or o (find p (flat_map parts rest))) h
 
-  pub found_in_rest : all ≡ e ∷ rest → find p (parts e) ≡ None → find p (flat_map parts all) ≡ find p (flat_map parts rest)
+  pub found_in_rest : all ≡ e ∷ rest → find p (parts e) ≡ None → find p (flat_map parts all)
+      ≡ find p (flat_map parts rest)
   found_in_rest is h =
       ap (λ (es : List E). find p (flat_map parts es)) is ∙ find-append p (parts e) (flat_map parts rest)
       ∙ ap (λ (o : Option A). option_or o (find p (flat_map parts rest))) h

@@ -14,7 +14,8 @@ or_assoc false b c = refl
 pub has_text-append : (t : Text) (us vs : List Text) → has_text t (us ++ vs) ≡ (has_text t us || has_text t vs)
 unfolding has_text
 has_text-append t [] vs = refl
-has_text-append t (u ∷ us) vs = ap (λ (b : Bool). text_eq t u || b) (has_text-append t us vs) ∙ or_assoc (text_eq t u) (has_text t us) (has_text t vs)
+has_text-append t (u ∷ us) vs = ap (λ (b : Bool). text_eq t u || b) (has_text-append t us vs)
+    ∙ or_assoc (text_eq t u) (has_text t us) (has_text t vs)
 
 -- a text is among the names of some parts where it is among those of the first, or of the others
 pub has_text-parts : {E : Type 0} (t : Text) (names : E → List Name) (all : List E) (e : E) (rest : List E) (b : Bool)

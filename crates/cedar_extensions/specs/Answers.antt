@@ -5,7 +5,8 @@ use Rattle.std.specs.Rc.{rc_str_bytes}
 use Rattle.cedar_model.specs.Terms.{string_type, unknown}
 use Rattle.cedar_model.specs.Values.{Represented, abstract_value}
 use Rattle.cedar_model.specs.Outcomes.{text_of}
-use Rattle.cedar_model.specs.Failures.{Answer, answers, fails, answers_value, answers_residual, wrong_type, out_of_memory}
+use Rattle.cedar_model.specs.Failures.{Answer, answers, fails, answers_value, answers_residual, wrong_type}
+use Rattle.cedar_model.specs.Failures.{out_of_memory}
 use Rattle.cedar_model.specs.Operators.{expecting}
 use Rattle.cedar_names.specs.Leaves.{type_view}
 use Rattle.cedar_data.specs.declared.partial_value.PartialValue.{PartialValue}
@@ -39,6 +40,10 @@ abbrev pub asks : Represented → Answer
 asks v =
     expecting (text_of (abstract_value v)) (wrong_type string_type [] (abstract_value v))
     (λ t. answers_residual (unknown t None))
+
+-- the error that the value is no text, unless it is want of memory
+abbrev pub IsTextExpected : Represented → EvaluationError → Type 0
+IsTextExpected v e = failure_of e ≢ out_of_memory → failure_of e ≡ wrong_type string_type [] (abstract_value v)
 
 -- to one argument alone
 abbrev pub AsksOf : List Represented → Answer → Type 0

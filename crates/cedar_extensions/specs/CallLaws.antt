@@ -34,10 +34,12 @@ counts_so : {X : Type 0} {F : X → Type 0} {g : _} (x : Extensions X F g) (n : 
     (vs : List Represented) (a : Answer) (b : Bool) → func_of x n ≡ Some f → function_text f ≡ n
     → Counts (λ _. CanAnswer f) b (arity f) (function_text f) vs a → Counts (calls_of x) b (arity f) n vs a
 counts_so x n f vs a true found named h = (f, found, h)
-counts_so x n f vs a false found named h = h ∙ ap (λ (t : Text). fails (arguments_are_miscounted t (arity f) (length vs))) named
+counts_so x n f vs a false found named h = h
+    ∙ ap (λ (t : Text). fails (arguments_are_miscounted t (arity f) (length vs))) named
 
 -- what the function of a name answers is what the rule reads
-pub looks_up_found : {X : Type 0} {F : X → Type 0} {g : _} (x : Extensions X F g) (n : Text) (f : ExtensionFunction X F g)
+pub looks_up_found : {X : Type 0} {F : X → Type 0} {g : _} (x : Extensions X F g) (n : Text)
+    (f : ExtensionFunction X F g)
     (vs : List Represented) (a : Answer) → func_of x n ≡ Some f
     → LooksUp (λ _. CanAnswer f) (Some (arity f)) (function_text f) vs a
     → LooksUp (calls_of x) ((extensions_view x).arity n) n vs a

@@ -1,8 +1,10 @@
 -- The extensions of an evaluation as plain data, and what their functions may answer.
-use Rattle.std.specs.Prelude.{◌≡◌, List, map, Option, Some, option_map}
+use Rattle.std.specs.Prelude.{◌≡◌, List, [], map, Option, None, Some, option_map}
 use Rattle.cedar_model.specs.Terms.{Text}
 use Rattle.cedar_model.specs.World as model
-use Rattle.cedar_model.specs.Rules.{StoredCalls}
+use Rattle.cedar_model.specs.Values.{Represented}
+use Rattle.cedar_model.specs.Failures.{PartialValue, Answer, answers}
+use Rattle.cedar_model.specs.Rules.{StoredCalls, LooksUp}
 use Rattle.cedar_names.specs.Names.{name_text}
 use Rattle.cedar_extensions.specs.declared.extension.Extension.{Extension}
 use Rattle.cedar_extensions.specs.declared.extensions.Extensions.{Extensions}
@@ -26,6 +28,19 @@ extensions_view x =
       overloaded = map name_text (all_overloading_types (extensions_in x));
     }
 
+-- no extension
+abbrev pub no_extensions : model.Extensions
+no_extensions = record { arity = λ n. None; overloaded = [] }
+
 -- what each function may answer, besides want of memory
 abbrev pub calls_of : {X : Type 0} {F : X → Type 0} {g : _} → Extensions X F g → StoredCalls
 calls_of x n vs a = (f : _) × (func_of x n ≡ Some f) × CanAnswer f vs a
+
+-- what the rule for calls reads: there is no such function, the wrong number of arguments, or what it may answer
+abbrev pub AnswersCall : {X : Type 0} {F : X → Type 0} {g : _} → Extensions X F g → Text → List Represented → Answer
+    → Type 0
+AnswersCall x n vs a = LooksUp (calls_of x) ((extensions_view x).arity n) n vs a
+
+-- so is each value or residual that functions answer
+abbrev pub EachAnswer : (PartialValue → Type 0) → StoredCalls → Type 0
+EachAnswer Is calls = (f : Text) (vs : List Represented) (p : PartialValue) → calls f vs (answers p) → Is p

@@ -1,10 +1,14 @@
 -- Extension functions as plain data.
-use Rattle.std.specs.Prelude.{ℕ, Bool, cond, List, length, map, Option, None}
+use Rattle.std.specs.Prelude.{◌≡◌, ◌≢◌, ◌↔◌, ℕ, Bool, cond, List, length, map, Option, None, Some, MatchOption}
+use Rattle.std.specs.Borrow.{Bor}
 use Rattle.std.specs.List.{find, filter_map}
 use Rattle.cedar_model.specs.Terms.{Text}
 use Rattle.cedar_model.specs.Values.{Represented}
 use Rattle.cedar_model.specs.Outcomes.{text_eq}
-use Rattle.cedar_model.specs.Failures.{Answer}
+use Rattle.cedar_model.specs.Failures.{Answer, arguments_are_miscounted, out_of_memory}
+use Rattle.cedar_model.specs.Rules.{LooksUp}
+use Rattle.cedar_values.specs.Failures.{failure_of}
+use Rattle.cedar_values.specs.declared.evaluator.err.EvaluationError.{EvaluationError}
 use Rattle.cedar_names.specs.declared.names.CallStyle.{CallStyle}
 use Rattle.cedar_names.specs.declared.names.Name.{Name}
 use Rattle.cedar_names.specs.declared.types.«Type».{«Type» as RType}
@@ -39,8 +43,25 @@ abbrev pub function_text : {X : Type 0} {F : X → Type 0} {g : _} → Extension
 function_text f = name_text (function_name f)
 
 -- what it may answer to values, besides want of memory
-abbrev pub CanAnswer : {X : Type 0} {F : X → Type 0} {g : _} → ExtensionFunction X F g → List Represented → Answer → Type 0
+abbrev pub CanAnswer : {X : Type 0} {F : X → Type 0} {g : _} → ExtensionFunction X F g → List Represented → Answer
+    → Type 0
 CanAnswer f vs a = CalleeAnswers f.callee vs a
+
+-- it may answer exactly what this says
+abbrev pub AnswersAs : {X : Type 0} {F : X → Type 0} {g : _} → ExtensionFunction X F g
+    → (List Represented → Answer → Type 0)
+    → Type 0
+AnswersAs f Says = (vs : List Represented) (a : Answer) → CanAnswer f vs a ↔ Says vs a
+
+-- what the rule for calls reads of the function alone: a wrong number of arguments, or what it may answer
+abbrev pub AnswersAlone : {X : Type 0} {F : X → Type 0} {g : _} → ExtensionFunction X F g → List Represented → Answer
+    → Type 0
+AnswersAlone f vs a = LooksUp (λ _. CanAnswer f) (Some (arity f)) (function_text f) vs a
+
+-- the error that it is called with so many arguments, unless it is want of memory
+abbrev pub IsMiscounted : {X : Type 0} {F : X → Type 0} {g : _} → ExtensionFunction X F g → ℕ → EvaluationError → Type 0
+IsMiscounted f n e =
+    failure_of e ≢ out_of_memory → failure_of e ≡ arguments_are_miscounted (function_text f) (arity f) n
 
 -- ---- extension types
 
@@ -61,6 +82,12 @@ has_name n f = text_eq (function_text f) n
 abbrev pub function_among : {X : Type 0} {F : X → Type 0} {g : _} → Text → List (ExtensionFunction X F g)
     → Option (ExtensionFunction X F g)
 function_among n fs = find (has_name n) fs
+
+-- what a look-up found
+abbrev pub IsFound : {X : Type 0} {F : X → Type 0} {g : _} → Option (ExtensionFunction X F g)
+    → Option (Bor (ExtensionFunction X F g))
+    → Type 0
+IsFound o r = MatchOption r (o ≡ None) (λ f. o ≡ Some f.now)
 
 -- their names
 abbrev pub function_names : {X : Type 0} {F : X → Type 0} {g : _} → List (ExtensionFunction X F g) → List Name

@@ -1,5 +1,6 @@
 -- What a stored function answers, and what it keeps. Locations and representations are no part of an outcome.
-use Rattle.std.specs.Prelude.{◌≡◌, ℕ, Bool, true, false, List, length, map, Option, Some, None, option_map, Result, Ok, Err}
+use Rattle.std.specs.Prelude.{◌≡◌, ℕ, Bool, true, false, List, length, map, Option, Some, None, option_map, Result, Ok}
+use Rattle.std.specs.Prelude.{Err}
 use Rattle.std.specs.Borrow.{Bor}
 use Rattle.std.specs.Rc.{rc_str_bytes}
 use mathlib.Core.Bool.{Bool-set}
@@ -73,11 +74,13 @@ TakesArity pre n = (a : Bor (List Placed)) → length a.now ≡ n → pre a
 -- to n arguments of these abstract values it allows the outcome o
 abbrev pub AllowsBy : ℕ → (Bor (List Placed) → Returned → Type 0) → List AbstractValue → FunctionAnswer → Type 0
 AllowsBy n post xs o =
-    (a : Bor (List Placed)) × (r : Returned) × (length a.now ≡ n) × (abstracts a.now ≡ xs) × post a r × (outcome r ≡ Some o)
+    (a : Bor (List Placed)) × (r : Returned) × (length a.now ≡ n) × (abstracts a.now ≡ xs) × post a r
+    × (outcome r ≡ Some o)
 
 -- to equal arguments it allows one outcome at most, besides want of memory
 abbrev pub AtMostOne : ℕ → (Bor (List Placed) → Returned → Type 0) → Type 0
-AtMostOne n post = (xs : List AbstractValue) (o p : FunctionAnswer) → AllowsBy n post xs o → AllowsBy n post xs p → o ≡ p
+AtMostOne n post = (xs : List AbstractValue) (o p : FunctionAnswer) → AllowsBy n post xs o → AllowsBy n post xs p → o
+    ≡ p
 
 -- it answers neither the recursion limit nor a residual
 abbrev pub OnlyLawful : ℕ → (Bor (List Placed) → Returned → Type 0) → Type 0

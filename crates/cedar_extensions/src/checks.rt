@@ -4,7 +4,8 @@ ghost use Rattle.cedar_model.specs.Terms.{extension_type};
 ghost use Rattle.cedar_names.specs.Names.{name_text};
 ghost use Rattle.cedar_names.specs.Leaves.{type_view};
 ghost use Rattle.cedar_extensions.specs.Extension.{all_functions};
-ghost use Rattle.cedar_extensions.specs.Refused.{repeated_name, repeated_type, repeated_text, IsNameRefused, IsTypeRefused};
+ghost use Rattle.cedar_extensions.specs.Refused.{repeated_name, repeated_type, repeated_text, IsNameRefused};
+ghost use Rattle.cedar_extensions.specs.Refused.{IsTypeRefused};
 
 use crate::errors::ExtensionInitializationError;
 use crate::errors::extension_initialization_errors::{
@@ -36,7 +37,8 @@ pub(crate) fn check_names(
     Ok(())
 }
 
-// Refuses the first extension type that comes again among those that functions make values of, each of exactly one text.
+// Refuses the first extension type that comes again among those that functions make values of, each of exactly one
+// text.
 pub(crate) fn check_constructors(
     alloc: Global,
     extensions: &[Extension],

@@ -13,17 +13,16 @@ pub struct Extension {
 }
 
 impl Extension {
-    ghost use Rattle.std.specs.Prelude.{◌≡◌, ◌++◌, map, None, Some, MatchOption, OnOk};
-    ghost use Rattle.cedar_model.specs.Terms.{extension_type};
+    ghost use Rattle.std.specs.Prelude.{◌≡◌, ◌++◌, map, OnOk};
     ghost use Rattle.cedar_model.specs.Outcomes.{has_text};
     ghost use Rattle.cedar_names.specs.Leaves.{type_view};
     ghost use Rattle.cedar_names.specs.Names.{name_text};
-    ghost use Rattle.cedar_extensions.specs.Functions.{answered_types, function_among};
-    ghost use Rattle.cedar_extensions.specs.Extension.{name_of, functions_of, overloading_types};
+    ghost use Rattle.cedar_extensions.specs.Functions.{answered_types, function_among, IsFound};
+    ghost use Rattle.cedar_extensions.specs.Extension.{name_of, functions_of, overloading_types, types_named};
     ghost use Rattle.cedar_extensions.specs.Iterators.{types_left, overloading_left};
 
-    /// The extension of this name, with these functions. `<` and `<=` compare the values of each of these types, by their
-    /// keys.
+    /// The extension of this name, with these functions. `<` and `<=` compare the values of each of these types, by
+    /// their keys.
     pub fn new(
         name: Name,
         functions: Vec<ExtensionFunction>,
@@ -70,7 +69,7 @@ impl Extension {
 
     // The first function of this name, if there is one.
     pub(crate) fn find(&self, name: &Name) -> Option<&ExtensionFunction>
-        ensures { MatchOption result (function_among (name_text name.now) (functions_of self.now) ≡ None) (λ f. function_among (name_text name.now) (functions_of self.now) ≡ Some f.now) }
+        ensures { IsFound (function_among (name_text name.now) (functions_of self.now)) result }
     {
         let mut rest = self.functions.as_slice();
         'functions: while let Some((function, others)) = rest.split_first() {
@@ -99,11 +98,13 @@ impl Extension {
 
     // Adds the types whose values the order compares, in order.
     pub(crate) fn push_types(&self, types: &mut Vec<Type>) -> Result<(), AllocError>
-        ensures { OnOk result (map type_view types.new.items ≡ map type_view types.old.items ++ map extension_type (map name_text (overloading_types self.now))) }
+        ensures { OnOk result (map type_view types.new.items ≡ map type_view types.old.items ++ types_named (overloading_types self.now)) }
     {
         let mut rest = self.types_with_operator_overloading.as_slice();
         'types: while let Some((name, others)) = rest.split_first() {
-            types.push(Type::Extension { name: name.clone()? })?;
+            types.push(Type::Extension {
+                name: name.clone()?,
+            })?;
             rest = others;
         }
         Ok(())

@@ -24,32 +24,33 @@ pub struct Extensions<'a> {
 }
 
 impl<'a> Extensions<'a> {
-    ghost use Rattle.std.specs.Prelude.{[], map, None, Some, MatchOption, IfOk, IfErr};
+    ghost use Rattle.std.specs.Prelude.{[], map, None, Some, IfOk, IfErr};
     ghost use Rattle.cedar_model.specs.Outcomes.{has_text};
-    ghost use Rattle.cedar_model.specs.Rules.{Meets, LooksUp};
-    ghost use Rattle.cedar_model.specs.Terms.{extension_type};
+    ghost use Rattle.cedar_model.specs.Rules.{Meets};
     ghost use Rattle.cedar_names.specs.Names.{name_text};
     ghost use Rattle.cedar_names.specs.Leaves.{type_view};
     ghost use Rattle.cedar_data.specs.Sound.{whats};
     ghost use Rattle.cedar_extensions.specs.Answers.{call_answer};
-    ghost use Rattle.cedar_extensions.specs.Functions.{answered_types};
-    ghost use Rattle.cedar_extensions.specs.Extension.{name_of, all_overloading_types};
+    ghost use Rattle.cedar_extensions.specs.Functions.{answered_types, IsFound};
+    ghost use Rattle.cedar_extensions.specs.Extension.{name_of, all_overloading_types, types_named};
     ghost use Rattle.cedar_extensions.specs.Iterators.{names_left, types_left, overloading_left};
-    ghost use Rattle.cedar_extensions.specs.Extensions.{extensions_in, func_of, extensions_view, calls_of};
+    ghost use Rattle.cedar_extensions.specs.Extensions.{no_extensions, extensions_in, func_of, extensions_view};
+    ghost use Rattle.cedar_extensions.specs.Extensions.{AnswersCall};
     ghost use Rattle.cedar_extensions.specs.Refused.{repeated_type, IsWhyRefused, IsMissing};
 
     /// No extension: each call of a function fails with `FuncDoesNotExist`.
     #[tactic(auto, unfolding(cedar_model::specs::Refusals::first_repeated_after))]
     pub fn none() -> Extensions<'a>
-        ensures { extensions_in result ≡ [] }
+        ensures extensions { extensions_in result ≡ [] }
+        ensures view { extensions_view result ≡ no_extensions }
     {
         Extensions { extensions: &[] }
     }
 
-    /// These extensions. Refuses with `FuncMultiplyDefined` where two functions, of one extension or of two, have one name,
-    /// and names the first that comes again; else with `MultipleConstructorsSameSignature` where two functions that take
-    /// exactly one text answer values of one extension type, and names the first type that comes again; else only for want
-    /// of memory.
+    /// These extensions. Refuses with `FuncMultiplyDefined` where two functions, of one extension or of two, have one
+    /// name, and names the first that comes again; else with `MultipleConstructorsSameSignature` where two functions
+    /// that take exactly one text answer values of one extension type, and names the first type that comes again; else
+    /// only for want of memory.
     pub fn specific_extensions(
         alloc: Global,
         extensions: &'a [Extension],
@@ -64,8 +65,8 @@ impl<'a> Extensions<'a> {
         Ok(Extensions { extensions })
     }
 
-    /// The function of this name. Fails with `FuncDoesNotExist`, at the location of `name`, where there is none; only then it
-    /// takes memory, and can find none.
+    /// The function of this name. Fails with `FuncDoesNotExist`, at the location of `name`, where there is none; only
+    /// then it takes memory, and can find none.
     pub fn func(&self, name: &Name) -> Result<&'a ExtensionFunction, ExtensionFunctionLookupError>
         ensures found { IfOk result (λ f. func_of self.now (name_text name.now) ≡ Some f.now) }
         ensures missing { IfErr result (λ e. func_of self.now (name_text name.now) ≡ None) }
@@ -79,7 +80,7 @@ impl<'a> Extensions<'a> {
 
     // The function of this name, if there is one.
     fn find(&self, name: &Name) -> Option<&'a ExtensionFunction>
-        ensures { MatchOption result (func_of self.now (name_text name.now) ≡ None) (λ f. func_of self.now (name_text name.now) ≡ Some f.now) }
+        ensures { IsFound (func_of self.now (name_text name.now)) result }
     {
         let mut rest = self.extensions;
         'extensions: while let Some((extension, others)) = rest.split_first() {
@@ -91,15 +92,15 @@ impl<'a> Extensions<'a> {
         None
     }
 
-    /// What the function of this name answers to these arguments. Fails as `func` does where there is none, and else as the
-    /// call of the function does.
+    /// What the function of this name answers to these arguments. Fails as `func` does where there is none, and else as
+    /// the call of the function does.
     pub fn call(
         &self,
         alloc: Global,
         name: &Name,
         args: &[Value],
     ) -> Result<PartialValue, EvaluationError>
-        ensures { Meets (LooksUp (calls_of self.now) ((extensions_view self.now).arity (name_text name.now)) (name_text name.now) (whats args.now)) (call_answer result) }
+        ensures { Meets (AnswersCall self.now (name_text name.now) (whats args.now)) (call_answer result) }
     {
         match self.func(name) {
             Ok(function) => function.call(alloc, args),
@@ -139,7 +140,7 @@ impl<'a> Extensions<'a> {
 
     /// The extension types whose values `<` and `<=` compare, as types. Refuses only for want of memory.
     pub fn overloaded_types(&self, alloc: Global) -> Result<Vec<Type>, AllocError>
-        ensures { IfOk result (λ ts. map type_view ts.items ≡ map extension_type (extensions_view self.now).overloaded) }
+        ensures { IfOk result (λ ts. map type_view ts.items ≡ types_named (all_overloading_types (extensions_in self.now))) }
     {
         let mut types = Vec::new(alloc);
         let mut rest = self.extensions;
@@ -150,8 +151,8 @@ impl<'a> Extensions<'a> {
         Ok(types)
     }
 
-    /// The types whose values `<` and `<=` compare: extensions in order, and the types of each in order. A type that two
-    /// extensions name stands twice.
+    /// The types whose values `<` and `<=` compare: extensions in order, and the types of each in order. A type that
+    /// two extensions name stands twice.
     pub fn types_with_operator_overloading(&self) -> OverloadingTypes<'a>
         ensures names { overloading_left result ≡ all_overloading_types (extensions_in self.now) }
         ensures view { map name_text (overloading_left result) ≡ (extensions_view self.now).overloaded }

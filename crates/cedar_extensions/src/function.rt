@@ -23,8 +23,8 @@ use std::rc::RcStr;
 use stored::StoredFunction;
 pub use stored::{ExtensionFunctionObject, ExtensionOutputValue};
 
-/// A function of an extension: its name, how it is written at a call, the type of what it answers where that is known, and
-/// the types of its arguments.
+/// A function of an extension: its name, how it is written at a call, the type of what it answers where that is known,
+/// and the types of its arguments.
 #[derive(Drop)]
 pub struct ExtensionFunction {
     name: Name,
@@ -40,18 +40,20 @@ impl ExtensionFunction {
     ghost use Rattle.cedar_model.specs.Terms.{string_type};
     ghost use Rattle.cedar_model.specs.Values.{Represented};
     ghost use Rattle.cedar_model.specs.Failures.{Answer};
-    ghost use Rattle.cedar_model.specs.Rules.{Meets, LooksUp};
+    ghost use Rattle.cedar_model.specs.Rules.{Meets};
     ghost use Rattle.cedar_names.specs.Leaves.{type_view};
     ghost use Rattle.cedar_names.specs.declared.names.CallStyle.TheVariants.{FunctionStyle};
     ghost use Rattle.cedar_data.specs.Sound.{whats};
     ghost use Rattle.cedar_values.specs.Failures.{failure_of};
     ghost use Rattle.cedar_extensions.specs.Answers.{AnswersBy, AsksOf, call_answer};
-    ghost use Rattle.cedar_extensions.specs.Functions.{function_name, function_style, function_returns, function_takes, function_text, arity, CanAnswer, answered_type, constructed_type};
+    ghost use Rattle.cedar_extensions.specs.Functions.{function_name, function_style, function_returns, function_takes};
+    ghost use Rattle.cedar_extensions.specs.Functions.{function_text, arity, CanAnswer, AnswersAs, AnswersAlone};
+    ghost use Rattle.cedar_extensions.specs.Functions.{IsMiscounted, answered_type, constructed_type};
 
-    /// The function that calls `func`. It asks its caller for three facts: `func` may be called on every list of as many
-    /// values as there are `arg_types` (of whatever types); to equal arguments it answers, besides want of memory, one
-    /// outcome at most (a value, the kind of an error, or an unknown with its annotation); and it answers neither the
-    /// recursion limit nor `NonValue`.
+    /// The function that calls `func`. It asks its caller for three facts: `func` may be called on every list of as
+    /// many values as there are `arg_types` (of whatever types); to equal arguments it answers, besides want of memory,
+    /// one outcome at most (a value, the kind of an error, or an unknown with its annotation); and it answers neither
+    /// the recursion limit nor `NonValue`.
     pub fn new(
         name: Name,
         style: CallStyle,
@@ -66,7 +68,7 @@ impl ExtensionFunction {
         ensures style { function_style result ≡ style }
         ensures returns { function_returns result ≡ return_type }
         ensures takes { function_takes result ≡ arg_types.items }
-        ensures answers { (vs : List Represented) (a : Answer) → CanAnswer result vs a ↔ AnswersBy (length arg_types.items) (λ a r. post func a r) vs a }
+        ensures answers { AnswersAs result (AnswersBy (length arg_types.items) (λ a r. post func a r)) }
     {
         let arity = arg_types.len();
         ExtensionFunction {
@@ -78,14 +80,14 @@ impl ExtensionFunction {
         }
     }
 
-    /// The built-in function `unknown`: of a text it makes the untyped unknown of that name, and another value is a type
-    /// error that expects a text. Refuses only for want of memory.
+    /// The built-in function `unknown`: of a text it makes the untyped unknown of that name, and another value is a
+    /// type error that expects a text. Refuses only for want of memory.
     pub fn unknown(alloc: Global) -> Result<ExtensionFunction, AllocError>
         ensures name { IfOk result (λ f. function_text f ≡ codes "unknown") }
         ensures style { IfOk result (λ f. function_style f ≡ FunctionStyle) }
         ensures returns { IfOk result (λ f. function_returns f ≡ None) }
         ensures takes { IfOk result (λ f. map type_view (function_takes f) ≡ string_type ∷ []) }
-        ensures answers { IfOk result (λ f. (vs : List Represented) (a : Answer) → CanAnswer f vs a ↔ AsksOf vs a) }
+        ensures answers { IfOk result (λ f. AnswersAs f AsksOf) }
     {
         let name = RcStr::from_str(alloc, "unknown")?;
         let mut arg_types = Vec::with_capacity(alloc, 1)?;
@@ -131,7 +133,7 @@ impl ExtensionFunction {
     /// `WrongNumArguments`, at no location, where there are more or fewer than it takes, and does not call it then.
     #[tactic(auto, using(crate::proofs::Counted::counts_right, crate::proofs::Counted::counts_wrong))]
     pub fn call(&self, alloc: Global, args: &[Value]) -> Result<PartialValue, EvaluationError>
-        ensures { Meets (LooksUp (λ _. CanAnswer self.now) (Some (arity self.now)) (function_text self.now) (whats args.now)) (call_answer result) }
+        ensures { Meets (AnswersAlone self.now (whats args.now)) (call_answer result) }
     {
         if args.len() == self.arg_types.len() {
             self.answer(alloc, args)
@@ -155,7 +157,7 @@ impl ExtensionFunction {
     #[cold]
     #[inline(never)]
     fn miscounted(&self, actual: usize) -> EvaluationError
-        ensures { failure_of result ≢ out_of_memory → failure_of result ≡ arguments_are_miscounted (function_text self.now) (arity self.now) actual }
+        ensures { IsMiscounted self.now actual result }
     {
         match self.name.clone() {
             Ok(function_name) => EvaluationError::WrongNumArguments(WrongNumArgumentsError {

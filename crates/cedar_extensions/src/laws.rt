@@ -9,7 +9,7 @@ ghost use Rattle.cedar_model.specs.LevelLaws.{FunctionsMeetNoLimit, FunctionsFin
 ghost use Rattle.cedar_model.specs.Restricted.{IsSoundPart};
 ghost use Rattle.cedar_model.specs.RestrictedLaws.{HoldsUnknown};
 ghost use Rattle.cedar_extensions.specs.Answers.{returned_answer};
-ghost use Rattle.cedar_extensions.specs.Extensions.{calls_of};
+ghost use Rattle.cedar_extensions.specs.Extensions.{calls_of, EachAnswer};
 ghost use Rattle.cedar_extensions.specs.Outcomes.{Returned, outcome};
 
 use crate::extensions::Extensions;
@@ -19,12 +19,12 @@ pub fn outcomes_are_those_of_the_model()
     ensures { (r : Returned) → outcome r ≡ function_answer (returned_answer r) }
 {}
 
-/// The functions of extensions answer alike to equal arguments, and never the recursion limit or want of memory. Each value
-/// that they answer is sound, and each residual is restricted and holds an unknown.
+/// The functions of extensions answer alike to equal arguments, and never the recursion limit or want of memory. Each
+/// value that they answer is sound, and each residual is restricted and holds an unknown.
 pub fn stored_functions_are_lawful(extensions: &Extensions<'_>)
     ensures functional { AreFunctional (calls_of extensions.now) }
     ensures limit { FunctionsMeetNoLimit (calls_of extensions.now) }
     ensures memory { FunctionsFindMemory (calls_of extensions.now) }
-    ensures sound { (f : Text) (vs : List Represented) (p : PartialValue) → calls_of extensions.now f vs (answers p) → IsSoundPart p }
-    ensures unknown { (f : Text) (vs : List Represented) (p : PartialValue) → calls_of extensions.now f vs (answers p) → HoldsUnknown p }
+    ensures sound { EachAnswer IsSoundPart (calls_of extensions.now) }
+    ensures unknown { EachAnswer HoldsUnknown (calls_of extensions.now) }
 {}

@@ -19,8 +19,8 @@ pub enum CollectError<K> {
     Memory(AllocError),
 }
 
-/// The map of these pairs. Refuses with `Duplicate` where a key comes again: it has the key as it came first. Else refuses
-/// only for want of memory.
+/// The map of these pairs. Refuses with `Duplicate` where a key comes again: it has the key as it came first. Else
+/// refuses only for want of memory.
 pub fn collect_no_duplicates<K: Eq + Hash + Drop, V: Drop, I: Iterator<Item = (K, V)> + Drop>(
     alloc: Global,
     pairs: I,

@@ -4,3 +4,4 @@ pub mod Expecting
 pub mod Stored
 pub mod Elements
 pub mod Answered
+pub mod Orders

@@ -7,6 +7,7 @@ pub mod binary;
 pub mod failures;
 pub mod missing;
 mod numbers;
+mod order;
 pub mod operators;
 pub mod residuals;
 pub mod sets;

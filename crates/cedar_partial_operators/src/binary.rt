@@ -10,7 +10,8 @@ ghost use Rattle.cedar_expressions.specs.View.{view};
 ghost use Rattle.cedar_data.specs.Residuals.{partial_view};
 ghost use Rattle.cedar_layers.specs.Stores.{store_view};
 ghost use Rattle.cedar_values.specs.Answers.{AnswersWith};
-ghost use Rattle.cedar_operators.specs.Operands.{extensions_view, given};
+ghost use Rattle.cedar_extensions.specs.Extensions.{extensions_view};
+ghost use Rattle.cedar_operators.specs.Operands.{given};
 
 use crate::shapes::type_in_part;
 use cedar_layers::expressions::{BinaryOp, Expr, Loc, PartialValue};
@@ -19,7 +20,7 @@ use cedar_operators::binary::binary_app;
 use cedar_operators::residuals::residual_binary;
 use cedar_operators::typed::bool_part;
 use cedar_values::evaluator::err::EvaluationError;
-use cedar_values::extensions::Extensions;
+use cedar_extensions::Extensions;
 use std::alloc::{AllocError, Global};
 
 /// An operator on two parts: of two values as `binary_app` answers; where one is a residual, the operator around both

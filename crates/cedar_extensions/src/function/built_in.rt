@@ -6,7 +6,7 @@ ghost use Rattle.cedar_model.specs.Values.{abstract_value};
 ghost use Rattle.cedar_model.specs.Outcomes.{text_of};
 ghost use Rattle.cedar_model.specs.Failures.{fails, wrong_type, out_of_memory};
 ghost use Rattle.cedar_values.specs.Failures.{failure_of};
-ghost use Rattle.cedar_extensions.specs.Answers.{returned_answer, asks};
+ghost use Rattle.cedar_extensions.specs.Answers.{returned_answer, asks, IsTextExpected};
 
 use super::stored::ExtensionOutputValue;
 use cedar_data::{Value, ValueKind};
@@ -52,7 +52,7 @@ fn text_in(value: &Value) -> Option<&RcStr>
 #[cold]
 #[inline(never)]
 fn text_expected(alloc: Global, value: &Value) -> EvaluationError
-    ensures { failure_of result ≢ out_of_memory → failure_of result ≡ wrong_type string_type [] (abstract_value value.now.what) }
+    ensures { IsTextExpected value.now.what result }
 {
     match value.type_of() {
         Ok(actual) => EvaluationError::TypeError(TypeError {

@@ -1,6 +1,7 @@
 //! A function that a caller stores, beside what it keeps.
 ghost use Rattle.std.specs.Prelude.{◌≡◌, length, true};
-ghost use Rattle.cedar_extensions.specs.Outcomes.{TakesArity, AtMostOne, OnlyLawful, AtMostOne-prop, OnlyLawful-prop, is_lawful};
+ghost use Rattle.cedar_extensions.specs.Outcomes.{TakesArity, AtMostOne, OnlyLawful, AtMostOne-prop, OnlyLawful-prop};
+ghost use Rattle.cedar_extensions.specs.Outcomes.{is_lawful};
 
 use cedar_data::Value;
 use cedar_names::Unknown;
@@ -20,8 +21,8 @@ pub type ExtensionFunctionObject = Box<
     dyn Fn(&[Value]) -> Result<ExtensionOutputValue, EvaluationError>,
 >;
 
-// A function that a caller stores: it takes so many arguments, to equal arguments it answers one outcome at most, besides want
-// of memory, and it answers neither the recursion limit nor `NonValue`.
+// A function that a caller stores: it takes so many arguments, to equal arguments it answers one outcome at most,
+// besides want of memory, and it answers neither the recursion limit nor `NonValue`.
 #[derive(Drop)]
 pub(crate) struct StoredFunction {
     func: ExtensionFunctionObject,

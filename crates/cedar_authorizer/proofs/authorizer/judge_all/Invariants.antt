@@ -8,5 +8,5 @@ use Rattle.cedar_authorizer.proofs.Noting.{IsJudgedSoFar}
 use Rattle.cedar_authorizer.proofs.authorizer.judge_all.Given as goal
 
 abbrev pub invariant-policies : goal.invariant-policies
-invariant-policies l =
+invariant-policies g l =
     IsJudgedSoFar (MayAnswerAs (authorization_of (request_view l.fn.request) (store_view l.fn.entities)) l.fn.limit) (deciding l.fn.policies) l.sheet (map decides_as (map policy_view (policies_left l.policy-iterator)))

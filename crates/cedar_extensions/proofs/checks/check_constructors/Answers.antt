@@ -11,8 +11,12 @@ use Rattle.cedar_extensions.proofs.checks.check_constructors.Goals as goal
 
 pub returns-clause-ok : goal.returns-clause-ok
 returns-clause-ok g c =
-    ap (λ (ns : List Name). first_repeated (map name_text ns)) (sym c.new.ensures) ∙ none_repeated constructed_left c.new.result c.in-Ok.types.entries c.in-Ok.ensures.ok
+    ap (λ (ns : List Name). first_repeated (map name_text ns)) (sym c.new.ensures)
+    ∙ none_repeated constructed_left c.new.result c.in-Ok.types.entries c.in-Ok.ensures.ok
 
 pub returns-in-Err-clause-refused : goal.returns-in-Err-clause-refused
 returns-in-Err-clause-refused g c =
-    so_of_repeated constructed_left c.new.result (λ (o : Option Text). IsTypeRefused o c.type_refused.result) (repeated_type (all_functions c.args.extensions.now)) c.in-Err.error (ap (λ (ns : List Name). first_repeated (map name_text ns)) c.new.ensures) c.in-Err.ensures.duplicate (no_type (repeated_type (all_functions c.args.extensions.now)) c.type_refused.result) c.type_refused.ensures
+    so_of_repeated constructed_left c.new.result (λ (o : Option Text). IsTypeRefused o c.type_refused.result)
+    (repeated_type (all_functions c.args.extensions.now)) c.in-Err.error
+    (ap (λ (ns : List Name). first_repeated (map name_text ns)) c.new.ensures) c.in-Err.ensures.duplicate
+    (no_type (repeated_type (all_functions c.args.extensions.now)) c.type_refused.result) c.type_refused.ensures

@@ -1,4 +1,5 @@
-use Rattle.cedar_extensions.specs.StoredLaws.{calls_functional, calls_meet_no_limit, calls_find_memory, calls_sound, calls_hold_unknowns}
+use Rattle.cedar_extensions.specs.StoredLaws.{calls_functional, calls_meet_no_limit, calls_find_memory, calls_sound}
+use Rattle.cedar_extensions.specs.StoredLaws.{calls_hold_unknowns}
 use Rattle.cedar_extensions.proofs.laws.stored_functions_are_lawful.Goals as goal
 
 pub returns-clause-functional : goal.returns-clause-functional

@@ -1,5 +1,6 @@
 use Rattle.cedar_layers.specs.Stores.{store_view}
-use Rattle.cedar_operators.specs.Operands.{extensions_view, given, over, with_extensions}
+use Rattle.cedar_operators.specs.Operands.{given, over, with_extensions}
+use Rattle.cedar_extensions.specs.Extensions.{extensions_view}
 use Rattle.cedar_operators.proofs.Answered.{as_answers}
 use Rattle.cedar_operators.proofs.binary.binary_app.Goals as goal
 

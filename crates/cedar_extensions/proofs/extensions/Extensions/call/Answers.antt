@@ -6,4 +6,5 @@ use Rattle.cedar_extensions.proofs.extensions.Extensions.call.Goals as goal
 
 pub returns-in-Ok : goal.returns-in-Ok
 returns-in-Ok g c = λ ok.
-    looks_up_found c.args.self.now (name_text c.args.name.now) c.in-Ok.function.now (whats c.args.args.now) (call_answer c.call.result) c.in-Ok.ensures.found (c.call.ensures ok)
+    looks_up_found c.args.self.now (name_text c.args.name.now) c.in-Ok.function.now (whats c.args.args.now)
+    (call_answer c.call.result) c.in-Ok.ensures.found (c.call.ensures ok)
