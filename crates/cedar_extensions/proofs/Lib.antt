@@ -2,3 +2,4 @@ mod Checked
 mod Collecting
 mod Counted
 mod Found
+mod Texts

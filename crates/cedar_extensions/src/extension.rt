@@ -1,7 +1,8 @@
 //! An extension: functions, and types whose values the order compares.
 use crate::function::ExtensionFunction;
 use crate::iterators::{ExtTypes, OverloadingTypes};
-use cedar_names::Name;
+use cedar_names::{Name, Type};
+use std::alloc::AllocError;
 
 /// An extension: its name, its functions, and the extension types whose values `<` and `<=` compare.
 #[derive(Drop)]
@@ -12,7 +13,10 @@ pub struct Extension {
 }
 
 impl Extension {
-    ghost use Rattle.std.specs.Prelude.{◌≡◌, None, Some, MatchOption};
+    ghost use Rattle.std.specs.Prelude.{◌≡◌, ◌++◌, map, None, Some, MatchOption, OnOk};
+    ghost use Rattle.cedar_model.specs.Terms.{extension_type};
+    ghost use Rattle.cedar_model.specs.Outcomes.{has_text};
+    ghost use Rattle.cedar_names.specs.Leaves.{type_view};
     ghost use Rattle.cedar_names.specs.Names.{name_text};
     ghost use Rattle.cedar_extensions.specs.Functions.{answered_types, function_among};
     ghost use Rattle.cedar_extensions.specs.Extension.{name_of, functions_of, overloading_types};
@@ -78,7 +82,34 @@ impl Extension {
         None
     }
 
-    // The same, as they are held.
+    // Whether the type of this name is among those whose values the order compares.
+    #[tactic(auto, unfolding(cedar_model::specs::Outcomes::has_text))]
+    pub(crate) fn overloads(&self, name: &Name) -> bool
+        ensures { result ≡ has_text (name_text name.now) (map name_text (overloading_types self.now)) }
+    {
+        let mut rest = self.types_with_operator_overloading.as_slice();
+        'types: while let Some((ty, others)) = rest.split_first() {
+            if name == ty {
+                return true;
+            }
+            rest = others;
+        }
+        false
+    }
+
+    // Adds the types whose values the order compares, in order.
+    pub(crate) fn push_types(&self, types: &mut Vec<Type>) -> Result<(), AllocError>
+        ensures { OnOk result (map type_view types.new.items ≡ map type_view types.old.items ++ map extension_type (map name_text (overloading_types self.now))) }
+    {
+        let mut rest = self.types_with_operator_overloading.as_slice();
+        'types: while let Some((name, others)) = rest.split_first() {
+            types.push(Type::Extension { name: name.clone()? })?;
+            rest = others;
+        }
+        Ok(())
+    }
+
+    // The types whose values the order compares, as they are held.
     pub(crate) fn overloaded(&self) -> &[Name]
         ensures { result.now ≡ overloading_types self.now }
     {

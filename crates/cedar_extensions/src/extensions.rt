@@ -10,11 +10,11 @@ use crate::extension::Extension;
 use crate::function::ExtensionFunction;
 use crate::iterators::{ExtNames, ExtTypes, OverloadingTypes};
 use cedar_data::{PartialValue, Value};
-use cedar_names::{Loc, Name};
+use cedar_names::{Loc, Name, Type};
 use cedar_values::evaluator::err::EvaluationError;
 use cedar_values::extensions::ExtensionFunctionLookupError;
 use cedar_values::extensions::extension_function_lookup_errors::FuncDoesNotExistError;
-use std::alloc::Global;
+use std::alloc::{AllocError, Global};
 
 /// The extensions that an evaluation may use. No two of their functions have one name.
 #[derive(Clone, Copy)]
@@ -25,8 +25,11 @@ pub struct Extensions<'a> {
 
 impl<'a> Extensions<'a> {
     ghost use Rattle.std.specs.Prelude.{[], map, None, Some, MatchOption, IfOk, IfErr};
+    ghost use Rattle.cedar_model.specs.Outcomes.{has_text};
     ghost use Rattle.cedar_model.specs.Rules.{Meets, LooksUp};
+    ghost use Rattle.cedar_model.specs.Terms.{extension_type};
     ghost use Rattle.cedar_names.specs.Names.{name_text};
+    ghost use Rattle.cedar_names.specs.Leaves.{type_view};
     ghost use Rattle.cedar_data.specs.Sound.{whats};
     ghost use Rattle.cedar_extensions.specs.Answers.{call_answer};
     ghost use Rattle.cedar_extensions.specs.Functions.{answered_types};
@@ -117,6 +120,34 @@ impl<'a> Extensions<'a> {
         ensures { types_left result ≡ answered_types (all_functions (extensions_in self.now)) }
     {
         ExtTypes::new(self.extensions)
+    }
+
+    /// Whether `<` and `<=` compare the values of the type of this name.
+    #[tactic(auto, unfolding(cedar_model::specs::Outcomes::has_text))]
+    pub fn overloads(&self, name: &Name) -> bool
+        ensures { result ≡ has_text (name_text name.now) (extensions_view self.now).overloaded }
+    {
+        let mut rest = self.extensions;
+        'extensions: while let Some((extension, others)) = rest.split_first() {
+            if extension.overloads(name) {
+                return true;
+            }
+            rest = others;
+        }
+        false
+    }
+
+    /// The extension types whose values `<` and `<=` compare, as types. Refuses only for want of memory.
+    pub fn overloaded_types(&self, alloc: Global) -> Result<Vec<Type>, AllocError>
+        ensures { IfOk result (λ ts. map type_view ts.items ≡ map extension_type (extensions_view self.now).overloaded) }
+    {
+        let mut types = Vec::new(alloc);
+        let mut rest = self.extensions;
+        'extensions: while let Some((extension, others)) = rest.split_first() {
+            extension.push_types(&mut types)?;
+            rest = others;
+        }
+        Ok(types)
     }
 
     /// The types whose values `<` and `<=` compare: extensions in order, and the types of each in order. A type that two
