@@ -3,12 +3,15 @@ ghost use Rattle.std.specs.Prelude.{◌≡◌, ℕ, ◌+◌, ◌^◌, true, fals
 ghost use Rattle.std.specs.Rc.{rc_str_bytes};
 ghost use Rattle.cedar_model.specs.Terms as Terms;
 ghost use Rattle.cedar_model.specs.Failures.{answers, value, residual};
+ghost use Rattle.cedar_model.specs.Rules.{StoredCalls};
 ghost use Rattle.cedar_model.specs.Shapes.{is_restricted, has_unknown};
 ghost use Rattle.cedar_model.specs.Values.{plain_represented};
+ghost use Rattle.cedar_model.specs.World as world;
 ghost use Rattle.cedar_names.specs.Names.{name_text};
 ghost use Rattle.cedar_names.specs.Leaves.{literal_view, type_view};
 ghost use Rattle.cedar_expressions.specs.View.{view, terms_view, fields_view, expr_loc};
 ghost use Rattle.cedar_data.specs.Residuals.{partial_loc};
+ghost use Rattle.cedar_extensions.specs.Extensions.{extensions_view, calls_of};
 ghost use Rattle.cedar_frames.specs.Frames.{Resumes, Below};
 ghost use Rattle.cedar_restricted.specs.Evaluations.{AnswersWith};
 ghost use Rattle.cedar_restricted.specs.Frames.{Waits, IsRight, left_of};
@@ -16,6 +19,7 @@ ghost use Rattle.cedar_restricted.specs.Frames.{Waits, IsRight, left_of};
 use crate::parts::{NextPart, PartsFrame};
 use cedar_data::{PartialValue, ResidualExpr, Value, ValueKind};
 use cedar_expressions::{Expr, ExprKind};
+use cedar_extensions::Extensions;
 use cedar_frames::Step;
 use cedar_names::{Literal, Loc, Name, Unknown};
 use cedar_values::evaluator::err::{EvaluationError, evaluation_errors};
@@ -26,16 +30,17 @@ use std::rc::{Rc, RcStr};
 
 // Looks at an expression: a literal is its value, an unknown is left, and the others have parts.
 #[tactic(auto, using(cedar_expressions::proofs::Levels::levels, crate::specs::Laws::below_any))]
-pub(crate) fn start(alloc: Global, e: &Expr) -> NextPart
-    ensures right { (k : ℕ) → Resumes IsRight Waits k e.now result }
+pub(crate) fn start(alloc: Global, extensions: &Extensions<'_>, e: &Expr) -> NextPart
+    ensures right { (k : ℕ) → Resumes (IsRight (extensions_view extensions.now) (calls_of extensions.now))
+        (Waits (extensions_view extensions.now) (calls_of extensions.now)) k e.now result }
     ensures below { Below left_of (2 ^ 64 + 1) result }
 {
     match e.expr_kind() {
         ExprKind::Lit(value) => literal(e, value),
         ExprKind::Unknown(unknown) => unknown_left(e, unknown),
-        ExprKind::Set(parts) => set(alloc, e, parts),
-        ExprKind::Record(pairs) => record(alloc, e, pairs),
-        ExprKind::ExtensionFunctionApp { fn_name, args } => call(alloc, e, fn_name, args),
+        ExprKind::Set(parts) => set(alloc, extensions, e, parts),
+        ExprKind::Record(pairs) => record(alloc, extensions, e, pairs),
+        ExprKind::ExtensionFunctionApp { fn_name, args } => call(alloc, extensions, e, fn_name, args),
         ExprKind::Var(_) => not_restricted(e),
         ExprKind::Slot(_) => not_restricted(e),
         ExprKind::If {
@@ -67,7 +72,8 @@ pub(crate) fn start(alloc: Global, e: &Expr) -> NextPart
 
 fn literal(e: &Expr, value: &Literal) -> NextPart
     requires { view e.now ≡ Terms.literal (literal_view value.now) }
-    ensures { (k : ℕ) → Resumes IsRight Waits k e.now result }
+    ensures { (x : world.Extensions) → (calls : StoredCalls) → (k : ℕ) →
+        Resumes (IsRight x calls) (Waits x calls) k e.now result }
 {
     Step::Done(literal_value(value, e.source_loc().copied()))
 }
@@ -75,30 +81,34 @@ fn literal(e: &Expr, value: &Literal) -> NextPart
 fn unknown_left(e: &Expr, unknown: &Unknown) -> NextPart
     requires { view e.now ≡
         Terms.unknown (rc_str_bytes unknown.now.name) (option_map type_view unknown.now.type_annotation) }
-    ensures { (k : ℕ) → Resumes IsRight Waits k e.now result }
+    ensures { (x : world.Extensions) → (calls : StoredCalls) → (k : ℕ) →
+        Resumes (IsRight x calls) (Waits x calls) k e.now result }
 {
     Step::Done(residual_of(e))
 }
 
-fn set(alloc: Global, e: &Expr, parts: &Rc<Vec<Expr>>) -> NextPart
+fn set(alloc: Global, extensions: &Extensions<'_>, e: &Expr, parts: &Rc<Vec<Expr>>) -> NextPart
     requires { view e.now ≡ Terms.set_of (terms_view parts.now.value.items) }
-    ensures { (k : ℕ) → Resumes IsRight Waits k e.now result }
+    ensures { (k : ℕ) → Resumes (IsRight (extensions_view extensions.now) (calls_of extensions.now))
+        (Waits (extensions_view extensions.now) (calls_of extensions.now)) k e.now result }
 {
-    PartsFrame::set(alloc, parts, e.source_loc().copied())
+    PartsFrame::set(alloc, extensions, parts, e.source_loc().copied())
 }
 
-fn record(alloc: Global, e: &Expr, pairs: &BTreeMap<RcStr, Expr>) -> NextPart
+fn record(alloc: Global, extensions: &Extensions<'_>, e: &Expr, pairs: &BTreeMap<RcStr, Expr>) -> NextPart
     requires { view e.now ≡ Terms.record_of (fields_view pairs.now.entries) }
-    ensures { (k : ℕ) → Resumes IsRight Waits k e.now result }
+    ensures { (k : ℕ) → Resumes (IsRight (extensions_view extensions.now) (calls_of extensions.now))
+        (Waits (extensions_view extensions.now) (calls_of extensions.now)) k e.now result }
 {
-    PartsFrame::record(alloc, pairs, e.source_loc().copied())
+    PartsFrame::record(alloc, extensions, pairs, e.source_loc().copied())
 }
 
-fn call(alloc: Global, e: &Expr, fn_name: &Name, args: &Rc<Vec<Expr>>) -> NextPart
+fn call(alloc: Global, extensions: &Extensions<'_>, e: &Expr, fn_name: &Name, args: &Rc<Vec<Expr>>) -> NextPart
     requires { view e.now ≡ Terms.call (name_text fn_name.now) (terms_view args.now.value.items) }
-    ensures { (k : ℕ) → Resumes IsRight Waits k e.now result }
+    ensures { (k : ℕ) → Resumes (IsRight (extensions_view extensions.now) (calls_of extensions.now))
+        (Waits (extensions_view extensions.now) (calls_of extensions.now)) k e.now result }
 {
-    PartsFrame::call(alloc, fn_name, args, e.source_loc().copied())
+    PartsFrame::call(alloc, extensions, fn_name, args, e.source_loc().copied())
 }
 
 // The error that this expression is left. No part of a restricted expression comes here.
@@ -106,7 +116,8 @@ fn call(alloc: Global, e: &Expr, fn_name: &Name, args: &Rc<Vec<Expr>>) -> NextPa
 #[inline(never)]
 fn not_restricted(e: &Expr) -> NextPart
     requires { is_restricted (view e.now) ≡ false }
-    ensures { (k : ℕ) → Resumes IsRight Waits k e.now result }
+    ensures { (x : world.Extensions) → (calls : StoredCalls) → (k : ℕ) →
+        Resumes (IsRight x calls) (Waits x calls) k e.now result }
 {
     match e.clone() {
         Ok(expr) => {
