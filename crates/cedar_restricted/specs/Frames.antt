@@ -17,6 +17,7 @@ use Rattle.cedar_data.specs.declared.partial_value.PartialValue.{PartialValue}
 use Rattle.cedar_data.specs.Residuals.{partial_view, partial_loc}
 use Rattle.cedar_values.specs.declared.evaluator.err.EvaluationError.{EvaluationError}
 use Rattle.cedar_values.specs.Failures.{failure_of}
+use Rattle.cedar_frames.specs.Frames.{Resumes}
 use Rattle.cedar_frames.specs.declared.machine.Step.{Step}
 use Rattle.cedar_frames.specs.declared.machine.Step.TheVariants.{Done, Wait}
 use Rattle.cedar_restricted.specs.declared.answers.Answers.{Answers}
@@ -99,6 +100,10 @@ pub record Waits (x : world.Extensions) (calls : StoredCalls) (k : ℕ) (f : Par
 pub record IsRight (x : world.Extensions) (calls : StoredCalls) (k : ℕ) (t : Expr) (r : Result PartialValue EvaluationError) : Type 0 where
   pub answer : is_restricted (view t) ≡ true → Meets (Runs (bare x) calls k (view t)) (partial_answer r)
   pub place : IfOk r (λ p. partial_loc p ≡ expr_loc t)
+
+-- the next step of an expression leads to right answers
+abbrev pub Leads : world.Extensions → StoredCalls → ℕ → Expr → NextPart → Type 0
+Leads x calls k t s = Resumes (IsRight x calls) (Waits x calls) k t s
 
 -- how many parts have not answered yet, the one that the frame waits for included
 abbrev pub left_of : PartsFrame → ℕ

@@ -47,7 +47,7 @@ impl<'x, 'f> Machine for Restricted<'x, 'f> {
     ghost at_want = { Err want_error };
 
     fn start(&self, alloc: Global, part: &Expr) -> NextPart {
-        crate::start::start(alloc, self.extensions, part)
+        self.first(alloc, part)
     }
 
     fn resume(
