@@ -32,7 +32,7 @@ impl<'x, 'f> RestrictedEvaluator<'x, 'f> {
     /// The evaluator with these extensions. Evaluation goes at most `limit` levels deep: an expression is one level,
     /// its parts one more.
     pub fn new(extensions: &'x Extensions<'f>, limit: usize) -> RestrictedEvaluator<'x, 'f>
-        ensures extensions { result.extensions ≡ extensions }
+        ensures extensions { result.extensions.now ≡ extensions.now }
         ensures limit { result.limit ≡ limit }
     {
         RestrictedEvaluator { extensions, limit }

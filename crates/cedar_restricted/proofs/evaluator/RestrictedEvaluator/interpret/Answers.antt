@@ -24,7 +24,7 @@ returns-in-Ok-Residual-clause-answer g c s b ok =
     let levels = c.args.self.now.limit in
     let t = borrowed_term c.args.e in
     let is = c.in-Ok-Residual.is ∙ ap Ok c.in-Ok-Residual.field-0-is in
-    residual_within s levels t (residual_term c.in-Ok-Residual.residual)
+    residual_within s calls levels t (residual_term c.in-Ok-Residual.residual)
     (failure_of c.residual_left.result)
     c.residual_left.ensures (subst (λ r. Meets (IsAnswerWithin s calls levels t) (partial_answer r)) is
     (c.partial_interpret.ensures.answer s b))
