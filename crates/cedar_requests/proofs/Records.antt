@@ -9,11 +9,10 @@ use Rattle.cedar_model.specs.Values.{Represented, record_represented}
 use Rattle.cedar_model.specs.Sets.{represented_fields_of}
 use Rattle.cedar_model.specs.Failures.{PartialValue, value, residual, answers}
 use Rattle.cedar_model.specs.Settings.{Setting}
-use Rattle.cedar_model.specs.Rules.{Runs, fields_of_record, fields_of_parts, record_answer, record_of_parts}
+use Rattle.cedar_model.specs.Rules.{StoredCalls, Runs, fields_of_record, fields_of_parts, record_answer, record_of_parts}
 use Rattle.cedar_model.specs.Rules.{values_of_field_parts}
 use Rattle.cedar_expressions.specs.View.{fields_view}
 use Rattle.cedar_data.specs.Sound.{whats_at}
-use Rattle.cedar_restricted.specs.Evaluations.{NoCalls}
 use Rattle.cedar_requests.specs.Contexts.{ValueMap, ExprMap}
 use Rattle.cedar_requests.specs.Creations.{is_record, IsRecordPart}
 use Rattle.cedar_requests.proofs.Copies.{IsCopy, IsExprCopy, whats_at-copied, fields_view-copied}
@@ -74,24 +73,24 @@ answered_record (Ok ps) p e = made_record (values_of_field_parts ps) ps p e
 answered_record (Err f) p e = absurd (cc)
 
 -- what a record answers is a record
-pub record_part : (s : Setting) (n : ℕ) (t : Term) (p : PartialValue) → is_record t ≡ true
-    → Runs s NoCalls n t (answers p) → IsRecordPart p
+pub record_part : (s : Setting) (calls : StoredCalls) (n : ℕ) (t : Term) (p : PartialValue) → is_record t ≡ true
+    → Runs s calls n t (answers p) → IsRecordPart p
 unfolding fields_of_record
-record_part s n (literal l) p is runs = absurd (cc)
-record_part s n (variable v) p is runs = absurd (cc)
-record_part s n (slot i) p is runs = absurd (cc)
-record_part s m (unknown n o) p is runs = absurd (cc)
-record_part s n (if_then_else c a b) p is runs = absurd (cc)
-record_part s n (both a b) p is runs = absurd (cc)
-record_part s n (either a b) p is runs = absurd (cc)
-record_part s n (unary op a) p is runs = absurd (cc)
-record_part s n (binary op a b) p is runs = absurd (cc)
-record_part s n (call f ts) p is runs = absurd (cc)
-record_part s n (get_attribute a k) p is runs = absurd (cc)
-record_part s n (has_attribute a k) p is runs = absurd (cc)
-record_part s n (extended_has a k ks) p is runs = absurd (cc)
-record_part s n (like a q) p is runs = absurd (cc)
-record_part s n (is_of_type a u) p is runs = absurd (cc)
-record_part s n (set_of ts) p is runs = absurd (cc)
-record_part s zero (record_of fs) p is runs = absurd (cc)
-record_part s (suc n) (record_of fs) p is (r, parts, made) = answered_record r p made
+record_part s calls n (literal l) p is runs = absurd (cc)
+record_part s calls n (variable v) p is runs = absurd (cc)
+record_part s calls n (slot i) p is runs = absurd (cc)
+record_part s calls m (unknown n o) p is runs = absurd (cc)
+record_part s calls n (if_then_else c a b) p is runs = absurd (cc)
+record_part s calls n (both a b) p is runs = absurd (cc)
+record_part s calls n (either a b) p is runs = absurd (cc)
+record_part s calls n (unary op a) p is runs = absurd (cc)
+record_part s calls n (binary op a b) p is runs = absurd (cc)
+record_part s calls n (call f ts) p is runs = absurd (cc)
+record_part s calls n (get_attribute a k) p is runs = absurd (cc)
+record_part s calls n (has_attribute a k) p is runs = absurd (cc)
+record_part s calls n (extended_has a k ks) p is runs = absurd (cc)
+record_part s calls n (like a q) p is runs = absurd (cc)
+record_part s calls n (is_of_type a u) p is runs = absurd (cc)
+record_part s calls n (set_of ts) p is runs = absurd (cc)
+record_part s calls zero (record_of fs) p is runs = absurd (cc)
+record_part s calls (suc n) (record_of fs) p is (r, parts, made) = answered_record r p made

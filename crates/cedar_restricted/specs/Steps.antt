@@ -8,11 +8,10 @@ use Rattle.cedar_model.specs.Terms.{Text, Term, call, set_of, record_of, Terms, 
 use Rattle.cedar_model.specs.Values.{Represented}
 use Rattle.cedar_model.specs.Shapes.{is_restricted, are_restricted, are_restricted_at}
 use Rattle.cedar_model.specs.Failures as model
-use Rattle.cedar_model.specs.Failures.{Failure, function_is_missing, value, residual, Answer, answers, fails}
+use Rattle.cedar_model.specs.Failures.{Failure, value, residual, Answer, answers, fails}
 use Rattle.cedar_model.specs.Failures.{answers_value, answers_residual, part_expression}
 use Rattle.cedar_model.specs.Settings.{Setting}
-use Rattle.cedar_model.specs.Rules
-use Rattle.cedar_model.specs.Rules.{MayAnswer, Rule, Parts, FieldParts, AfterFieldPart, part_then, field_part_then}
+use Rattle.cedar_model.specs.Rules.{StoredCalls, MayAnswer, Rule, Parts, FieldParts, AfterValues, part_then, field_part_then}
 use Rattle.cedar_model.specs.Rules.{add_value, add_value_at, values_of_parts, values_of_field_parts, terms_of_parts}
 use Rattle.cedar_model.specs.Rules.{fields_of_parts, set_answer, set_of_parts, record_answer, record_of_parts}
 use Rattle.cedar_names.specs.Names.{name_text}
@@ -24,8 +23,7 @@ use Rattle.cedar_restricted.specs.declared.whole.Whole.TheVariants as wholes
 use Rattle.cedar_restricted.specs.declared.answers.Answers.{Answers}
 use Rattle.cedar_restricted.specs.declared.answers.Answers.TheVariants as answereds
 use Rattle.cedar_restricted.specs.Keys.{texts_of, fields_named, under}
-use Rattle.cedar_restricted.specs.Evaluations.{NoCalls}
-use Rattle.cedar_restricted.specs.Parts.{whole_term, HasKeys, count, all_values, Are, made, parts_after, SoFar}
+use Rattle.cedar_restricted.specs.Parts.{whole_term, HasKeys, count, all_values, Are, Makes, parts_after, SoFar}
 
 abbrev Found : Type 0
 Found = Result (List model.PartialValue) Failure
@@ -143,10 +141,10 @@ none-under (k ∷ ks) (residual r ∷ ps) have h = refl
 
 -- ---- wholes
 
-module _ (s : Setting) (no_functions : (f : Text) → s.extensions.arity f ≡ None) (May : MayAnswer) where
+module _ (s : Setting) (calls : StoredCalls) (May : MayAnswer) where
   -- a part that fails is the whole's failure
   pub whole_fails : (w : Whole) (es : List Expr) (e : Failure) → HasKeys w (length es) →
-      Parts May (terms_view es) (Err e) → Rule s NoCalls May (whole_term w (terms_view es)) (fails e)
+      Parts May (terms_view es) (Err e) → Rule s calls May (whole_term w (terms_view es)) (fails e)
   unfolding set_answer record_answer
   whole_fails wholes.Set es e keys h = (Err e, h, refl)
   whole_fails (wholes.Record ks) es e keys h =
@@ -154,52 +152,46 @@ module _ (s : Setting) (no_functions : (f : Text) → s.extensions.arity f ≡ N
   whole_fails (wholes.Call f) es e keys h = (Err e, h, refl)
 
   -- what all parts make
-  pub whole_answers : (w : Whole) (es : List Expr) (a : Answers) (ps : List model.PartialValue) →
+  pub whole_answers : (w : Whole) (es : List Expr) (a : Answers) (ps : List model.PartialValue) (b : Answer) →
       HasKeys w (length es) → count a ≡ length es → Are a ps → Parts May (terms_view es) (Ok ps) →
-      Rule s NoCalls May (whole_term w (terms_view es)) (made w a)
+      Makes s.extensions calls w a b → Rule s calls May (whole_term w (terms_view es)) b
   unfolding set_answer set_of_parts record_answer record_of_parts
-  whole_answers wholes.Set es (answereds.Values vs) ps keys counted are h = (
+  whole_answers wholes.Set es (answereds.Values vs) ps b keys counted are h made = (
     Ok ps,
     h,
-    sym (ap (λ qs. set_of_parts (values_of_parts qs) qs) are ∙
+    made ∙ sym (ap (λ qs. set_of_parts (values_of_parts qs) qs) are ∙
         ap (λ o. set_of_parts o (all_values (whats vs.items))) (values-all (whats vs.items))),
   )
-  whole_answers wholes.Set es (answereds.Mixed m) ps keys counted are h =
-      (Ok ps, h, sym (ap (λ o. set_of_parts o ps) are.1 ∙ ap (λ ts. answers_residual (set_of ts)) are.0))
-  whole_answers (wholes.Record ks) es (answereds.Values vs) ps keys counted are h =
+  whole_answers wholes.Set es (answereds.Mixed m) ps b keys counted are h made =
+      (Ok ps, h, made ∙ sym (ap (λ o. set_of_parts o ps) are.1 ∙ ap (λ ts. answers_residual (set_of ts)) are.0))
+  whole_answers (wholes.Record ks) es (answereds.Values vs) ps b keys counted are h made =
       let kt = texts_of ks.items in (
         Ok (under kt ps),
         field_parts May kt (terms_view es) (Ok ps) (have_keys ks.items es keys.0) h,
-        sym (ap (λ qs. record_of_parts (values_of_field_parts (under kt qs)) (under kt qs)) are ∙
+        made ∙ sym (ap (λ qs. record_of_parts (values_of_field_parts (under kt qs)) (under kt qs)) are ∙
             ap (λ o. record_of_parts o (under kt (all_values (whats vs.items)))) (values-under kt (whats vs.items))),
       )
-  whole_answers (wholes.Record ks) es (answereds.Mixed m) ps keys counted are h =
+  whole_answers (wholes.Record ks) es (answereds.Mixed m) ps b keys counted are h made =
       let kt = texts_of ks.items in
       let have : HaveKeys kt (terms_of_parts ps) =
       subst (HaveKeys kt) (sym are.0) (have_keys ks.items m.exprs.items (keys.0 ∙ sym counted)) in (
         Ok (under kt ps),
         field_parts May kt (terms_view es) (Ok ps) (have_keys ks.items es keys.0) h,
-        sym (ap (λ o. record_of_parts o (under kt ps)) (none-under kt ps have are.1) ∙
+        made ∙ sym (ap (λ o. record_of_parts o (under kt ps)) (none-under kt ps have are.1) ∙
             ap (λ fs. answers_residual (record_of fs)) (terms-under kt ps) ∙
             ap (λ ts. answers_residual (record_of (fields_named kt ts))) are.0),
       )
-  whole_answers (wholes.Call f) es (answereds.Values vs) ps keys counted are h =
-      let all : values_of_parts ps ≡ Some (whats vs.items) = ap values_of_parts are ∙ values-all (whats vs.items) in
-      let looked : Rules.LooksUp NoCalls (s.extensions.arity (name_text f)) (name_text f) (whats vs.items)
-      (fails (function_is_missing (name_text f))) =
-      subst (λ o. Rules.LooksUp NoCalls o (name_text f) (whats vs.items)
-      (fails (function_is_missing (name_text f)))) (sym (no_functions (name_text f))) refl in (
+  whole_answers (wholes.Call f) es (answereds.Values vs) ps b keys counted are h made =
+      let all : values_of_parts ps ≡ Some (whats vs.items) = ap values_of_parts are ∙ values-all (whats vs.items) in (
         Ok ps,
         h,
-        subst (λ o. Rules.AfterValues NoCalls s.extensions.arity o (name_text f) ps
-            (fails (function_is_missing (name_text f)))) (sym all) looked,
+        subst (λ o. AfterValues calls s.extensions.arity o (name_text f) ps b) (sym all) made,
       )
-  whole_answers (wholes.Call f) es (answereds.Mixed m) ps keys counted are h = (
+  whole_answers (wholes.Call f) es (answereds.Mixed m) ps b keys counted are h made = (
     Ok ps,
     h,
-    subst (λ o. Rules.AfterValues NoCalls s.extensions.arity o (name_text f) ps
-        (answers_residual (call (name_text f) (terms_view m.exprs.items)))) (sym are.1)
-        (ap (λ ts. answers_residual (call (name_text f) ts)) (sym are.0)),
+    subst (λ o. AfterValues calls s.extensions.arity o (name_text f) ps b) (sym are.1)
+        (made ∙ ap (λ ts. answers_residual (call (name_text f) ts)) (sym are.0)),
   )
 
 -- ---- restricted wholes have restricted parts

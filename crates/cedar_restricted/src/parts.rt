@@ -11,6 +11,7 @@ use crate::made::whole_of;
 use crate::whole::Whole;
 use cedar_data::PartialValue;
 use cedar_expressions::Expr;
+use cedar_extensions::Extensions;
 use cedar_frames::Step;
 use cedar_names::{Loc, Name};
 use cedar_values::evaluator::err::EvaluationError;
@@ -37,15 +38,17 @@ pub struct PartsFrame {
 impl PartsFrame {
     ghost use Rattle.cedar_model.specs.Terms.{set_of, record_of, call};
     ghost use Rattle.cedar_names.specs.Names.{name_text};
+    ghost use Rattle.cedar_extensions.specs.Extensions.{extensions_view, calls_of};
     ghost use Rattle.cedar_restricted.specs.Frames.{Begins, GoesOn, Reads};
 
     /// A set at this location, before any part has answered.
-    pub fn set(alloc: Global, parts: &Rc<Vec<Expr>>, loc: Option<Loc>) -> NextPart
-        ensures { Begins (set_of (terms_view parts.now.value.items)) loc result }
+    pub fn set(alloc: Global, extensions: &Extensions<'_>, parts: &Rc<Vec<Expr>>, loc: Option<Loc>) -> NextPart
+        ensures { Begins (extensions_view extensions.now) (calls_of extensions.now) (set_of (terms_view parts.now.value.items)) loc result }
     {
         match parts.clone() {
             Ok(parts) => PartsFrame::read(
                 alloc,
+                extensions,
                 Whole::Set,
                 parts,
                 Answers::Values(Vec::new(alloc)),
@@ -55,14 +58,16 @@ impl PartsFrame {
         }
     }
 
-    /// A call of this function at this location, before any argument has answered.
-    pub fn call(alloc: Global, fn_name: &Name, args: &Rc<Vec<Expr>>, loc: Option<Loc>) -> NextPart
-        ensures { Begins (call (name_text fn_name.now) (terms_view args.now.value.items)) loc result }
+    /// A call of this function at this location, before any argument has answered. The function is looked up after
+    /// all of them, and only where each is a value.
+    pub fn call(alloc: Global, extensions: &Extensions<'_>, fn_name: &Name, args: &Rc<Vec<Expr>>, loc: Option<Loc>) -> NextPart
+        ensures { Begins (extensions_view extensions.now) (calls_of extensions.now) (call (name_text fn_name.now) (terms_view args.now.value.items)) loc result }
     {
         match fn_name.clone() {
             Ok(fn_name) => match args.clone() {
                 Ok(args) => PartsFrame::read(
                     alloc,
+                    extensions,
                     Whole::Call(fn_name),
                     args,
                     Answers::Values(Vec::new(alloc)),
@@ -75,12 +80,13 @@ impl PartsFrame {
     }
 
     /// A record at this location, before any field has answered.
-    pub fn record(alloc: Global, pairs: &BTreeMap<RcStr, Expr>, loc: Option<Loc>) -> NextPart
-        ensures { Begins (record_of (fields_view pairs.now.entries)) loc result }
+    pub fn record(alloc: Global, extensions: &Extensions<'_>, pairs: &BTreeMap<RcStr, Expr>, loc: Option<Loc>) -> NextPart
+        ensures { Begins (extensions_view extensions.now) (calls_of extensions.now) (record_of (fields_view pairs.now.entries)) loc result }
     {
         match keys_and_parts(alloc, pairs) {
             Ok((keys, parts)) => PartsFrame::read(
                 alloc,
+                extensions,
                 Whole::Record(keys),
                 parts,
                 Answers::Values(Vec::new(alloc)),
@@ -91,12 +97,12 @@ impl PartsFrame {
     }
 
     /// The same after the answer of the part that it waits for: an error is its own, at its location if it has none.
-    pub fn answered(self, alloc: Global, answer: Result<PartialValue, EvaluationError>) -> NextPart
-        ensures { GoesOn self answer result }
+    pub fn answered(self, alloc: Global, extensions: &Extensions<'_>, answer: Result<PartialValue, EvaluationError>) -> NextPart
+        ensures { GoesOn (extensions_view extensions.now) (calls_of extensions.now) self answer result }
     {
         match answer {
             Ok(part) => match self.answers.with(alloc, part) {
-                Ok(answers) => PartsFrame::read(alloc, self.whole, self.parts, answers, self.loc),
+                Ok(answers) => PartsFrame::read(alloc, extensions, self.whole, self.parts, answers, self.loc),
                 Err(error) => Step::Done(Err(EvaluationError::Memory(error))),
             },
             Err(error) => Step::Done(Err(with_enclosing_loc(error, self.loc))),
@@ -106,6 +112,7 @@ impl PartsFrame {
     // The next part, or what all answers make.
     fn read(
         alloc: Global,
+        extensions: &Extensions<'_>,
         whole: Whole,
         parts: Rc<Vec<Expr>>,
         answers: Answers,
@@ -113,7 +120,7 @@ impl PartsFrame {
     ) -> NextPart
         requires keys { HasKeys whole (length parts.value.items) }
         requires no_more { count answers ≤ length parts.value.items }
-        ensures { Reads whole parts answers loc result }
+        ensures { Reads (extensions_view extensions.now) (calls_of extensions.now) whole parts answers loc result }
     {
         let done = answers.len();
         if done < parts.len() {
@@ -130,7 +137,7 @@ impl PartsFrame {
                 Err(error) => Step::Done(Err(EvaluationError::Memory(error))),
             }
         } else {
-            match whole_of(alloc, whole, answers) {
+            match whole_of(alloc, extensions, whole, answers) {
                 Ok(answer) => Step::Done(Ok(answer.with_maybe_source_loc(loc))),
                 Err(error) => Step::Done(Err(with_enclosing_loc(error, loc))),
             }

@@ -3,5 +3,5 @@ mod answers;
 mod contexts;
 mod program;
 pub mod reader;
-mod restricted;
+pub mod restricted;
 mod table;

@@ -1,5 +1,5 @@
 //! How contexts are made of restricted expressions.
-ghost use Rattle.std.specs.Prelude.{◌≡◌, ◌≤◌, ℕ, true, false, Err, IfOk, IfErr, option_map};
+ghost use Rattle.std.specs.Prelude.{◌≡◌, ◌≤◌, true, false, IfOk, IfErr, option_map};
 ghost use Rattle.cedar_model.specs.Terms.{record_of};
 ghost use Rattle.cedar_model.specs.Values.{record_represented};
 ghost use Rattle.cedar_model.specs.Shapes.{is_restricted};
@@ -11,12 +11,13 @@ ghost use Rattle.cedar_model.specs.Restricted.{IsSoundPart};
 ghost use Rattle.cedar_expressions.specs.View.{view, fields_view};
 ghost use Rattle.cedar_data.specs.Sound.{whats_at};
 ghost use Rattle.cedar_data.specs.Residuals.{partial_view, residual_term};
+ghost use Rattle.cedar_extensions.specs.Extensions.{extensions_view, calls_of};
 ghost use Rattle.cedar_restricted.specs.Evaluations.{IsBare};
 ghost use Rattle.cedar_restricted_expressions.specs.Views.{borrowed_term, borrowed_loc, pairs_in};
 ghost use Rattle.cedar_requests.specs.Contexts.{context_part_value, context_pairs, residual_fields};
 ghost use Rattle.cedar_requests.specs.declared.context.pairs.ContextPairs.TheVariants.{Residual};
 ghost use Rattle.cedar_requests.specs.Errors.{IsAtLimit, NamesAt};
-ghost use Rattle.cedar_requests.specs.Creations.{is_record, IsRecordPart, IsOfRecord, IsOfExpr, IsOfPairs};
+ghost use Rattle.cedar_requests.specs.Creations.{is_record, IsRecordPart, IsNoRecord, IsOfRecord, IsOfExpr, IsOfPairs};
 ghost use Rattle.cedar_requests.specs.Creations.{record_of_pairs};
 
 use super::Context;
@@ -24,9 +25,9 @@ use super::pairs::{ContextPairs, ResidualPairs};
 use crate::errors::{ContextCreationError, context_creation_errors};
 use cedar_data::{PartialValue, ResidualExpr, Value, ValueKind};
 use cedar_expressions::{Expr, ExprKind};
+use cedar_extensions::Extensions;
 use cedar_restricted::RestrictedEvaluator;
 use cedar_restricted_expressions::{BorrowedRestrictedExpr, RestrictedExpr};
-use cedar_values::extensions::Extensions;
 use std::alloc::{AllocError, Global};
 use std::collections::BTreeMap;
 use std::rc::{Rc, RcStr};
@@ -43,7 +44,8 @@ impl Context {
         extensions: &Extensions<'_>,
         limit: usize,
     ) -> Result<Context, ContextCreationError>
-        ensures created { (s : Setting) → IsBare s → IsOfExpr s limit (borrowed_term expr.entry) result }
+        ensures created { (s : Setting) → IsBare (extensions_view extensions.now) s →
+            IsOfExpr s (calls_of extensions.now) limit (borrowed_term expr.entry) result }
         ensures place { IfErr result (NamesAt (borrowed_loc expr.entry)) }
         ensures low { height (borrowed_term expr.entry) ≤ limit → IfErr result (λ e. ¬ (IsAtLimit e)) }
     {
@@ -63,7 +65,8 @@ impl Context {
         extensions: &Extensions<'_>,
         limit: usize,
     ) -> Result<Context, ContextCreationError>
-        ensures created { (s : Setting) → IsBare s → IsOfPairs s limit (pairs_in pairs.items) result }
+        ensures created { (s : Setting) → IsBare (extensions_view extensions.now) s →
+            IsOfPairs s (calls_of extensions.now) limit (pairs_in pairs.items) result }
         ensures low { height (record_of_pairs (pairs_in pairs.items)) ≤ limit → IfErr result (λ e. ¬ (IsAtLimit e)) }
     {
         match RestrictedExpr::record(alloc, pairs) {
@@ -91,7 +94,8 @@ fn of_record(
     limit: usize,
 ) -> Result<Context, ContextCreationError>
     requires { is_record (borrowed_term expr) ≡ true }
-    ensures created { (s : Setting) → IsBare s → IsOfRecord s limit (borrowed_term expr.entry) result }
+    ensures created { (s : Setting) → IsBare (extensions_view extensions.now) s →
+        IsOfRecord s (calls_of extensions.now) limit (borrowed_term expr.entry) result }
     ensures low { height (borrowed_term expr.entry) ≤ limit → IfErr result (λ e. ¬ (IsAtLimit e)) }
 {
     let evaluator = RestrictedEvaluator::new(extensions, limit);
@@ -108,7 +112,7 @@ fn of_record(
 #[cold]
 fn not_a_record(expr: BorrowedRestrictedExpr<'_>) -> ContextCreationError
     requires { is_record (borrowed_term expr) ≡ false }
-    ensures created { (s : Setting) → (n : ℕ) → IsOfExpr s n (borrowed_term expr.entry) (Err result) }
+    ensures created { IsNoRecord (borrowed_term expr.entry) result }
     ensures place { NamesAt (borrowed_loc expr.entry) result }
 {
     match expr.to_owned() {

@@ -1,16 +1,18 @@
 //! Contexts that are made of restricted expressions: what they print as, and what is refused.
+use super::restricted::asking;
 use cedar_evaluator::request::{Context, ContextCreationError};
-use cedar_layers::expressions::{BoundedDisplay, Literal, PartialValue, Unknown};
+use cedar_extensions::Extensions;
+use cedar_layers::expressions::{BoundedDisplay, Literal, Name, PartialValue, Unknown};
 use cedar_restricted_expressions::RestrictedExpr;
-use cedar_values::extensions::Extensions;
 use std::alloc::{AllocError, Global};
 use std::rc::RcStr;
 use std::test::Fail;
 
-// `x` is an unknown, `[1]` a set, and any other word 37.
+// `x` is an unknown, `unknown(x)` a call, `[1]` a set, and any other word 37.
 fn part(alloc: Global, word: &str) -> Result<RestrictedExpr, AllocError> {
     match word {
         "x" => Ok(RestrictedExpr::unknown(Unknown::new_untyped(RcStr::from_str(alloc, word)?))),
+        "unknown(x)" => call_of_unknown(alloc),
         "[1]" => set_of_one(alloc),
         "1" => Ok(number(1)),
         _ => Ok(number(37)),
@@ -25,6 +27,14 @@ fn set_of_one(alloc: Global) -> Result<RestrictedExpr, AllocError> {
     let mut elements: Vec<RestrictedExpr> = Vec::new(alloc);
     elements.push(number(1))?;
     Ok(RestrictedExpr::set(alloc, elements)?)
+}
+
+// The call of `unknown` on the text `x`.
+fn call_of_unknown(alloc: Global) -> Result<RestrictedExpr, AllocError> {
+    let name = Name::new(RcStr::from_str(alloc, "unknown")?, None);
+    let mut arguments: Vec<RestrictedExpr> = Vec::new(alloc);
+    arguments.push(RestrictedExpr::val(Literal::String(RcStr::from_str(alloc, "x")?)))?;
+    Ok(RestrictedExpr::call_extension_fn(alloc, name, arguments)?)
 }
 
 // The pairs of `b=x a=1`, in that order. `none` has none.
@@ -119,6 +129,23 @@ fn contexts_are_made(rt: HostRuntime) -> Result<(), Fail> {
     assert_eq!(rt;
         of_expr(alloc, &number(1), 0)?.as_str(),
         "NotARecord: expression is not a record: 1"
+    );
+    Ok(())
+}
+
+#[test]
+fn context_of_a_call_that_answers_an_unknown(rt: HostRuntime) -> Result<(), Fail> {
+    let alloc = rt.alloc();
+    let asking = asking(alloc)?;
+    let extensions = Extensions::specific_extensions(alloc, asking.as_slice())?;
+    let made = Context::from_pairs(alloc, pairs(alloc, "a=unknown(x)")?, &extensions, 9);
+    assert_eq!(rt;
+        told(alloc, made)?.as_str(),
+        "{\"a\": unknown(\"x\")}, 1 keys, values false; a unknown(\"x\")"
+    );
+    assert_eq!(rt;
+        of_pairs(alloc, "a=unknown(x)", 9)?.as_str(),
+        "Evaluation: extension function `unknown` does not exist"
     );
     Ok(())
 }

@@ -4,6 +4,7 @@
 //! `V:principal` the principal; `not`, `and`, `less` and `if` take the parts before them, as do `set:2`, `record:a,b` and
 //! `call:f:1`; `@` puts the part before it at the place 1-2.
 use cedar_data::{PartialValue, ResidualExpr, Value};
+use cedar_extensions::{Extension, ExtensionFunction, Extensions};
 use cedar_layers::expressions::{
     BinaryOp, Expr, ExpressionConstructionError, Literal, Loc, Name, Type, UnaryOp, Unknown, Var,
 };
@@ -13,7 +14,6 @@ use cedar_restricted_expressions::{
     RestrictedExprShapeOnly, RestrictedExpressionError,
 };
 use cedar_values::evaluator::err::EvaluationError;
-use cedar_values::extensions::Extensions;
 use std::alloc::{AllocError, Global};
 use std::hash::{FoldHasher, Hash, Hasher};
 use std::rc::RcStr;
@@ -58,6 +58,15 @@ value: U:x set:1 => [unknown("x")]
 value: L:1 call:f:1 => extension function `f` does not exist
 wholly: L:1 L:2 record:a,b => {"a": 1, "b": 2}
 wholly: U:x set:1 => the expression contains unknown(s): `[unknown("x")]`
+asking: T:x call:unknown:1 => unknown("x")
+asking: T:x call:unknown:1 L:1 set:2 => [unknown("x"), 1]
+asking: T:x call:nosuch:1 => extension function `nosuch` does not exist
+asking: L:1 call:unknown:1 call:nosuch:1 => type error: expected string, got long
+asking: T:x call:unknown:1 call:nosuch:1 => nosuch(unknown("x"))
+asking: T:x call:unknown:1 T:y call:unknown:2 => unknown(unknown("x"), "y")
+asking: T:x T:y call:unknown:2 => wrong number of arguments provided to extension function `unknown`: expected 1, got 2
+asking: call:unknown:0 => wrong number of arguments provided to extension function `unknown`: expected 1, got 0
+asking-type: T:x call:unknown:1 => none
 "#;
 
 #[test]
@@ -124,9 +133,11 @@ fn answer(alloc: Global, question: &str, words: &str) -> Result<String, Fail> {
 
 fn of_restricted(alloc: Global, question: &str, e: &RestrictedExpr) -> Result<String, Fail> {
     match question {
-        "type" => Ok(type_text(alloc, e)?),
+        "type" => Ok(type_text(alloc, e, &Extensions::none())?),
         "read" => read_text(alloc, e.as_borrowed()),
         "value" => Ok(part_text(alloc, e, 1000)?),
+        "asking" => asking_text(alloc, e),
+        "asking-type" => asking_type(alloc, e),
         "wholly" => Ok(value_text(alloc, e, 1000)?),
         _ => Err(Fail::from("no such question")),
     }
@@ -188,8 +199,12 @@ fn pairs_text(alloc: Global, pairs: Vec<(RcStr, RestrictedExpr)>) -> Result<Stri
 
 // ---- types, shapes, readers
 
-fn type_text(alloc: Global, e: &RestrictedExpr) -> Result<String, AllocError> {
-    match e.as_borrowed().try_type_of(&Extensions::none())? {
+fn type_text(
+    alloc: Global,
+    e: &RestrictedExpr,
+    extensions: &Extensions<'_>,
+) -> Result<String, AllocError> {
+    match e.as_borrowed().try_type_of(extensions)? {
         Some(ty) => ty.to_string(alloc),
         None => String::from_str(alloc, "none"),
     }
@@ -276,10 +291,43 @@ fn wholly(alloc: Global, e: &RestrictedExpr, limit: usize) -> Result<Value, Eval
 }
 
 fn part_text(alloc: Global, e: &RestrictedExpr, limit: usize) -> Result<String, AllocError> {
-    match partly(alloc, e, limit) {
+    answer_text(alloc, partly(alloc, e, limit))
+}
+
+fn answer_text(
+    alloc: Global,
+    answer: Result<PartialValue, EvaluationError>,
+) -> Result<String, AllocError> {
+    match answer {
         Ok(part) => part.to_string(alloc),
         Err(error) => error.to_string(alloc),
     }
+}
+
+// What is answered where an extension has the function `unknown`.
+fn asking_text(alloc: Global, e: &RestrictedExpr) -> Result<String, Fail> {
+    let asking = asking(alloc)?;
+    let extensions = Extensions::specific_extensions(alloc, asking.as_slice())?;
+    let evaluator = RestrictedEvaluator::new(&extensions, 1000);
+    let answer = evaluator.partial_interpret(alloc, e.as_borrowed());
+    Ok(answer_text(alloc, answer)?)
+}
+
+// The type that is known where an extension has the function `unknown`.
+fn asking_type(alloc: Global, e: &RestrictedExpr) -> Result<String, Fail> {
+    let asking = asking(alloc)?;
+    let extensions = Extensions::specific_extensions(alloc, asking.as_slice())?;
+    Ok(type_text(alloc, e, &extensions)?)
+}
+
+// An extension that has the function `unknown`.
+pub fn asking(alloc: Global) -> Result<Vec<Extension>, AllocError> {
+    let mut functions = Vec::new(alloc);
+    functions.push(ExtensionFunction::unknown(alloc)?)?;
+    let name = Name::new(RcStr::from_str(alloc, "partial_evaluation")?, None);
+    let mut extensions = Vec::new(alloc);
+    extensions.push(Extension::new(name, functions, Vec::new(alloc)))?;
+    Ok(extensions)
 }
 
 fn value_text(alloc: Global, e: &RestrictedExpr, limit: usize) -> Result<String, AllocError> {

@@ -12,4 +12,4 @@ pub returns : goal.returns
 returns c = λ s.
     let before = setting_of c.args.self.now s in
     let store = store_view c.args.self.now.entities.now in
-    known_gives _ _ _ c.known.ensures (subst (λ x. AnswersWith c.binary_app.result (binary_answer (given before store x) (binary_view c.args.op) c.args.first.what c.args.second.what)) c.none.ensures (c.binary_app.ensures before))
+    known_gives _ _ _ c.known.ensures (subst (λ x. AnswersWith c.binary_app.result (binary_answer (given before store x) (binary_view c.args.op) c.args.first.what c.args.second.what)) c.none.ensures.view (c.binary_app.ensures before))

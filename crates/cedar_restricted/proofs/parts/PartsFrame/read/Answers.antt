@@ -7,7 +7,7 @@ use Rattle.cedar_restricted.specs.Steps.{next_is}
 use Rattle.cedar_restricted.proofs.parts.PartsFrame.read.Goals as goal
 
 pub returns-in-Ok : goal.returns-in-Ok
-returns-in-Ok c =
+returns-in-Ok g c =
     let items = c.args.parts.value.items in
     let n = count c.args.answers in
     let below : n < length items = grind (arith, common_steps) in
