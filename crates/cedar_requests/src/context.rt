@@ -82,7 +82,7 @@ impl Context {
         }
     }
 
-    /// The pairs.
+    /// The attributes, by value: values, or the expressions of a residual.
     pub fn into_pairs(self) -> ContextPairs
         ensures { result ≡ context_pairs self }
     {
