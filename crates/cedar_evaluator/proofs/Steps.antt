@@ -4,7 +4,7 @@ use Rattle.cedar_model.specs.Terms.{Text, bool_type, Literal, Variable, UnaryOpe
 use Rattle.cedar_model.specs.Values.{Represented, plain_represented, set_represented, record_represented, abstract_value}
 use Rattle.cedar_model.specs.Sets.{canonical_set, represented_fields_of}
 use Rattle.cedar_model.specs.Outcomes.{bool_of}
-use Rattle.cedar_model.specs.Failures.{function_is_missing, out_of_memory, residual_is_left, value, residual, Answer, answers, fails, answers_value, answers_bool, limit, wrong_type}
+use Rattle.cedar_model.specs.Failures.{function_is_missing, out_of_memory, residual_is_left, value, Answer, answers, fails, answers_value, answers_bool, limit, wrong_type}
 use Rattle.cedar_model.specs.Settings.{shallow, Setting, variable_part}
 use Rattle.cedar_model.specs.Operators.{slot_answer, unary_answer, binary_answer, attribute_answer, has_answer, path_answer, like_answer, is_answer, mapped, attribute_residual}
 use Rattle.cedar_model.specs.Rules

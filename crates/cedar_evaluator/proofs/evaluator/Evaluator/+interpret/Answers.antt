@@ -4,7 +4,7 @@ use Rattle.std.proofs.lemmas.List.{drop_all}
 use Rattle.std.specs.Rc.{rc_str_bytes}
 use Rattle.cedar_values.specs.Failures.{failure_of}
 use Rattle.cedar_expressions.specs.View.{view, terms_view, fields_view}
-use Rattle.cedar_model.specs.Failures.{fails, answers_value}
+use Rattle.cedar_model.specs.Failures.{answers_value}
 use Rattle.cedar_expressions.proofs.Levels.{kind_view-Lit, kind_view-Var, kind_view-Slot, kind_view-Unknown}
 use Rattle.cedar_expressions.proofs.NodeLevels.{kind_node-Lit, kind_node-Var, kind_node-Slot, kind_node-Unknown, kind_node-If, kind_node-And, kind_node-Or, kind_node-UnaryApp, kind_node-BinaryApp, kind_node-ExtensionFunctionApp, kind_node-GetAttr, kind_node-HasAttr, kind_node-ExtHasAttr, kind_node-Like, kind_node-Is, kind_node-Set, kind_node-Record}
 use Rattle.cedar_layers.specs.Policies.{slots_view}
