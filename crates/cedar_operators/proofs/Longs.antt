@@ -1,9 +1,6 @@
 -- Longs: what fits 64 bits, and how two compare.
-use Rattle.std.proofs.Common.{int_cmp, ◌≡◌, ◌≢◌, ◌≤◌, ◌<◌, ℤ, pos, negsuc, ℕ, leb, Bool, true, false, true≢false, cond, [], Some, None, is_some, refl, sym, ap, ◌∙◌, FitsSigned, w64, le-leb, leb-true, arith}
-use Rattle.std.specs.declared.cmp.Ordering.{Ordering}
-use Rattle.std.specs.Ordering.{nat_cmp}
-use Rattle.std.specs.Cmp.Lexicographic.{slice_cmp}
-use Rattle.cedar_model.specs.Terms.{long_literal, long_type, extension_type, BinaryOperator, eq_operator, less_operator, less_eq_operator, add_operator, sub_operator, mul_operator, in_operator, contains_operator, contains_all_operator, contains_any_operator, get_tag_operator, has_tag_operator}
+use Rattle.std.proofs.Common.{int_cmp, ◌≡◌, ◌≤◌, ℤ, pos, negsuc, ℕ, leb, Bool, true, false, true≢false, cond, [], Some, None, is_some, refl, sym, ap, ◌∙◌, FitsSigned, w64, le-leb, leb-true, arith}
+use Rattle.cedar_model.specs.Terms.{long_literal, long_type, BinaryOperator, eq_operator, less_operator, less_eq_operator, add_operator, sub_operator, mul_operator, in_operator, contains_operator, contains_all_operator, contains_any_operator, get_tag_operator, has_tag_operator}
 use Rattle.cedar_model.specs.Settings.{Setting}
 use Rattle.cedar_model.specs.Values.{Represented, AbstractValue, plain, set_value, record_value, extension_value, plain_represented}
 use Rattle.cedar_model.specs.Outcomes.{long_of, is_long}

@@ -1,10 +1,9 @@
 -- How extension values compare, and what is expected beside them.
 use Rattle.std.proofs.Common.{◌≡◌, ℕ, Bool, true, false, true≢false, ◌&&◌, cond, List, [], map, Option, Some, None}
-use Rattle.std.proofs.Common.{option_map, is_some, refl, sym, ap, ◌∙◌}
+use Rattle.std.proofs.Common.{option_map, refl, sym, ap, ◌∙◌}
 use Rattle.std.proofs.lemmas.Slice.Eq.{bytes_eq-Decides}
 use Rattle.std.specs.Ordering.{nat_cmp}
 use Rattle.std.specs.Cmp.Lexicographic.{slice_cmp}
-use Rattle.std.specs.declared.cmp.Ordering.{Ordering}
 use Rattle.cedar_model.specs.Terms.{Text, long_type, extension_type}
 use Rattle.cedar_model.specs.Values.{AbstractValue, plain, set_value, record_value, extension_value}
 use Rattle.cedar_model.specs.Outcomes.{long_of, text_eq, has_text}
