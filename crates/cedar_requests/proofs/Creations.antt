@@ -1,19 +1,21 @@
 -- How the answers of making a context follow from those of an evaluation.
-use Rattle.std.proofs.Common.{◌≡◌, ℕ, true, List, Option, None, IfErr, Result, Ok, Err, Global, refl, subst}
+use Rattle.std.proofs.Common.{◌≡◌, ℕ, true, List, Option, None, IfErr, Result, Ok, Err, Global, refl, sym, ap, ◌∙◌, subst}
 use Rattle.std.specs.declared.rc.RcStr.{RcStr}
 use Rattle.cedar_model.specs.Terms.{Term}
-use Rattle.cedar_model.specs.Failures.{Answer}
-use Rattle.cedar_model.specs.Rules.{StoredCalls}
+use Rattle.cedar_model.specs.Failures.{Failure, Answer, fails, out_of_memory}
+use Rattle.cedar_model.specs.Rules.{StoredCalls, Meets}
 use Rattle.cedar_model.specs.Settings.{Setting}
 use Rattle.cedar_model.specs.World as world
 use Rattle.cedar_names.specs.declared.names.Loc.{Loc}
 use Rattle.cedar_expressions.specs.declared.expr.Expr.{Expr}
 use Rattle.cedar_expressions.specs.Records.{first_repeated, keys_view}
+use Rattle.cedar_values.specs.Failures.{failure_of}
+use Rattle.cedar_values.specs.declared.evaluator.err.EvaluationError.{EvaluationError}
 use Rattle.cedar_restricted.specs.Evaluations.{IsBare, bare, IsAnswerWithin}
 use Rattle.cedar_requests.specs.declared.context.Context.{Context}
 use Rattle.cedar_requests.specs.declared.errors.ContextCreationError.{ContextCreationError}
 use Rattle.cedar_requests.specs.declared.errors.ContextCreationError.TheVariants as refusals
-use Rattle.cedar_requests.specs.Errors.{IsAtLimit, NamesAt}
+use Rattle.cedar_requests.specs.Errors.{IsAtLimit, IsEvaluationRefusal, NamesAt}
 use Rattle.cedar_requests.specs.Creations.{is_record, IsNoRecord, IsOfRecord, IsOfExpr, IsOfPairs, record_of_pairs}
 
 abbrev Pairs : Type 0
@@ -28,6 +30,9 @@ pub same_answer : (s : Setting) (calls : StoredCalls) (m n : ℕ) (t u : Term) (
 same_answer s calls m n t u a b e f g h =
     subst (λ y. IsAnswerWithin s calls y u b) e
     (subst (λ y. IsAnswerWithin s calls m y b) f (subst (λ y. IsAnswerWithin s calls m t y) g h))
+
+one_failure : (e : Failure) → fails e ≡ fails out_of_memory → e ≡ out_of_memory
+one_failure e h = cc
 
 module _ (s : Setting) (calls : StoredCalls) (n : ℕ) where
   -- where no key comes again the record is answered
@@ -47,6 +52,18 @@ module _ (s : Setting) (calls : StoredCalls) (n : ℕ) where
   expr_answer t (Err (refusals.Evaluation e)) is h = (is, h)
   expr_answer t (Err (refusals.ExpressionConstruction e)) is h = absurd h
   expr_answer t (Err (refusals.Memory e)) is h = tt
+
+  -- an error of the evaluation is refused as it is
+  pub refused_answer : (t : Term) (e : EvaluationError) (r : ContextCreationError) → IsEvaluationRefusal e r
+      → Meets (IsAnswerWithin s calls n t) (fails (failure_of e)) → IsOfRecord s calls n t (Err r)
+  refused_answer t e (refusals.NotARecord r) refusal h = absurd refusal
+  refused_answer t e (refusals.Evaluation f) refusal h =
+      let same : failure_of f ≡ failure_of e = ap failure_of refusal.0 in (
+        subst (λ y. IsAnswerWithin s calls n t (fails y)) (sym same) (h (λ w. refusal.1 (one_failure (failure_of e) w))),
+        λ w. refusal.1 (sym same ∙ w),
+      )
+  refused_answer t e (refusals.ExpressionConstruction r) refusal h = absurd refusal
+  refused_answer t e (refusals.Memory r) refusal h = tt
 
   -- it is never named as no record
   pub record_place : (t : Term) (loc : Option Loc) (r : Result Context ContextCreationError)

@@ -67,6 +67,11 @@ asking: T:x call:unknown:1 T:y call:unknown:2 => unknown(unknown("x"), "y")
 asking: T:x T:y call:unknown:2 => wrong number of arguments provided to extension function `unknown`: expected 1, got 2
 asking: call:unknown:0 => wrong number of arguments provided to extension function `unknown`: expected 1, got 0
 asking-type: T:x call:unknown:1 => none
+asking-place: T:x call:unknown:1 @ => 1-2
+asking-place: T:x call:nosuch:1 @ => 1-2
+asking-place: L:1 call:unknown:1 @ => 1-2
+asking-place: L:1 @ call:unknown:1 => 1-2
+asking-place: L:1 call:unknown:1 => none
 "#;
 
 #[test]
@@ -138,6 +143,7 @@ fn of_restricted(alloc: Global, question: &str, e: &RestrictedExpr) -> Result<St
         "value" => Ok(part_text(alloc, e, 1000)?),
         "asking" => asking_text(alloc, e),
         "asking-type" => asking_type(alloc, e),
+        "asking-place" => asking_place(alloc, e),
         "wholly" => Ok(value_text(alloc, e, 1000)?),
         _ => Err(Fail::from("no such question")),
     }
@@ -305,12 +311,34 @@ fn answer_text(
 }
 
 // What is answered where an extension has the function `unknown`.
-fn asking_text(alloc: Global, e: &RestrictedExpr) -> Result<String, Fail> {
+fn asked(
+    alloc: Global,
+    e: &RestrictedExpr,
+) -> Result<Result<PartialValue, EvaluationError>, Fail> {
     let asking = asking(alloc)?;
     let extensions = Extensions::specific_extensions(alloc, asking.as_slice())?;
     let evaluator = RestrictedEvaluator::new(&extensions, 1000);
-    let answer = evaluator.partial_interpret(alloc, e.as_borrowed());
-    Ok(answer_text(alloc, answer)?)
+    Ok(evaluator.partial_interpret(alloc, e.as_borrowed()))
+}
+
+fn asking_text(alloc: Global, e: &RestrictedExpr) -> Result<String, Fail> {
+    Ok(answer_text(alloc, asked(alloc, e)?)?)
+}
+
+// Where the answer stands, a residual or an error.
+fn asking_place(alloc: Global, e: &RestrictedExpr) -> Result<String, Fail> {
+    match asked(alloc, e)? {
+        Ok(PartialValue::Value(_)) => Ok(String::from_str(alloc, "a value")?),
+        Ok(PartialValue::Residual(residual)) => place(alloc, residual.as_expr().source_loc()),
+        Err(error) => place(alloc, error.source_loc()),
+    }
+}
+
+fn place(alloc: Global, loc: Option<&Loc>) -> Result<String, Fail> {
+    match loc {
+        Some(loc) => Ok(format!(in alloc; "{}-{}", loc.start, loc.end)?),
+        None => Ok(String::from_str(alloc, "none")?),
+    }
 }
 
 // The type that is known where an extension has the function `unknown`.
