@@ -1,4 +1,7 @@
 //! What the modules of the program share: names, arguments, and how answers print.
+ghost use Rattle.std.specs.Prelude.{◌≡◌, IfOk};
+ghost use Rattle.cedar_names.specs.Names.{name_text};
+
 use cedar_layers::expressions::{Name, PartialValue, Type, Value};
 use cedar_values::evaluator::err::EvaluationError;
 use std::alloc::{AllocError, Global};
@@ -7,7 +10,9 @@ use std::io::Write;
 use std::rc::RcStr;
 
 /// The name of this text.
-pub fn name(alloc: Global, text: &str) -> Result<Name, AllocError> {
+pub fn name(alloc: Global, text: &str) -> Result<Name, AllocError>
+    ensures { IfOk result (λ n. name_text n ≡ text.now) }
+{
     Ok(Name::new(RcStr::from_str(alloc, text)?, None))
 }
 
