@@ -595,7 +595,15 @@ impl<'e, 'x, 'f> Evaluator<'e, 'x, 'f> {
     ) -> Result<Value, EvaluationError>
         ensures { (s : _) → Answers result (stopped (binary_answer (setting_of self.now s) (binary_view op) first.what second.what)) }
     {
-        known(binary_app(alloc, self.entities, &Extensions::none(), op, first, second, loc))
+        known(binary_app(
+            alloc,
+            self.entities,
+            &Extensions::none(),
+            op,
+            first,
+            second,
+            loc,
+        ))
     }
 
     // The value of a variable: an entity of the request, or its context.

@@ -32,7 +32,7 @@ overloaded_keys X (extension_value t k) = overloaded_here (has_text t X.overload
 order_here : (os : List Text) (s t : Text) (j k : List ℕ) (e a b : Bool) → text_eq s t ≡ e → has_text s os ≡ a
     → has_text t os ≡ b
     → cond (e && a) (Some (slice_cmp nat_cmp j k)) None
-        ≡ keys_order (cond a (Some (s, j)) None) (cond b (Some (t, k)) None)
+    ≡ keys_order (cond a (Some (s, j)) None) (cond b (Some (t, k)) None)
 order_here os s t j k true true true is x y = sym (ap (λ (c : Bool). cond c (Some (slice_cmp nat_cmp j k)) None) is)
 order_here os s t j k true true false is x y =
     absurd (true≢false (sym x ∙ ap (λ (u : Text). has_text u os) ((bytes_eq-Decides s t).0 is) ∙ y))
@@ -63,14 +63,14 @@ module _ (X : Extensions) (v w : AbstractValue) (o p : Option (Text × List ℕ)
   unfolding order_of
   ordered_by none left right =
       ap (λ m. order_of m (long_of w) (extension_order X v w)) none ∙ order_keys X v w
-          ∙ (λ i. keys_order (sym left i) (sym right i))
+      ∙ (λ i. keys_order (sym left i) (sym right i))
 
   -- where neither is a long
   failing_by : long_of v ≡ None → long_of w ≡ None → o ≡ compared_by X v → p ≡ compared_by X w
       → comparison_failure X v w ≡ order_failure X None None (option_map type_of o) (option_map type_of p) v w
   failing_by e f left right =
       λ i. order_failure X (e i) (f i) ((overloaded_keys X v ∙ ap (option_map type_of) (sym left)) i)
-          ((overloaded_keys X w ∙ ap (option_map type_of) (sym right)) i) v w
+      ((overloaded_keys X w ∙ ap (option_map type_of) (sym right)) i) v w
 
 -- ---- one lemma a case
 
@@ -81,7 +81,7 @@ module _ (X : Extensions) (v w : AbstractValue) where
       → text_eq s t ≡ true → comparison X v w ≡ Some (slice_cmp nat_cmp j k)
   by_keys s t j k none left right is =
       ordered_by X v w (Some (s, j)) (Some (t, k)) none left right
-          ∙ ap (λ (c : Bool). cond c (Some (slice_cmp nat_cmp j k)) None) is
+      ∙ ap (λ (c : Bool). cond c (Some (slice_cmp nat_cmp j k)) None) is
 
   -- of two types
   pub of_two_types : (s t : Text) (j k : List ℕ) → long_of v ≡ None → Some (s, j) ≡ compared_by X v → Some (t, k)
@@ -89,7 +89,7 @@ module _ (X : Extensions) (v w : AbstractValue) where
       → text_eq s t ≡ false → comparison X v w ≡ None
   of_two_types s t j k none left right is =
       ordered_by X v w (Some (s, j)) (Some (t, k)) none left right
-          ∙ ap (λ (c : Bool). cond c (Some (slice_cmp nat_cmp j k)) None) is
+      ∙ ap (λ (c : Bool). cond c (Some (slice_cmp nat_cmp j k)) None) is
 
   -- the left alone
   pub beside_other : (s : Text) (j : List ℕ) → long_of v ≡ None → Some (s, j) ≡ compared_by X v → None ≡ compared_by X w

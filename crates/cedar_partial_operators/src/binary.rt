@@ -14,13 +14,13 @@ ghost use Rattle.cedar_extensions.specs.Extensions.{extensions_view};
 ghost use Rattle.cedar_operators.specs.Operands.{given};
 
 use crate::shapes::type_in_part;
+use cedar_extensions::Extensions;
 use cedar_layers::expressions::{BinaryOp, Expr, Loc, PartialValue};
 use cedar_layers::policies::Entities;
 use cedar_operators::binary::binary_app;
 use cedar_operators::residuals::residual_binary;
 use cedar_operators::typed::bool_part;
 use cedar_values::evaluator::err::EvaluationError;
-use cedar_extensions::Extensions;
 use std::alloc::{AllocError, Global};
 
 /// An operator on two parts: of two values as `binary_app` answers; where one is a residual, the operator around both
