@@ -14,5 +14,5 @@ mod whole;
 
 pub use answers::{Answers, Mixed};
 pub use evaluator::{RestrictedEvaluator, interpret, partial_interpret};
-pub use parts::PartsFrame;
+pub use parts::{NextPart, PartsFrame};
 pub use whole::Whole;

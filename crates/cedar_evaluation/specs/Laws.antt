@@ -1,0 +1,190 @@
+-- The laws of the evaluation over frames.
+use Rattle.std.specs.Prelude.{◌≡◌, ◌≢◌, ℕ, suc, ◌+◌, ◌^◌, ◌<◌, ◌≤◌, true, List, Option, None, Result, Ok, Err, IfOk}
+use Rattle.std.proofs.Common.{refl, sym, ap, ◌∙◌, subst, arith}
+use Rattle.cedar_model.specs.Terms.{Text, Term}
+use Rattle.cedar_model.specs.Failures as model
+use Rattle.cedar_model.specs.Failures.{Answer, fails, limit, out_of_memory, failure_kind}
+use Rattle.cedar_model.specs.Settings.{RequestPart, Store, Resolution, shallow, deep, Setting}
+use Rattle.cedar_model.specs.Rules.{MayAnswer, Runs, Meets, Resolves, AtPath, best, best_of_kind, joined, on_part, beside_residual, binary_beside, has_part, is_part}
+use Rattle.cedar_names.specs.declared.names.Loc.{Loc}
+use Rattle.cedar_expressions.specs.View.{view, expr_loc}
+use Rattle.cedar_data.specs.declared.partial_value.PartialValue.{PartialValue}
+use Rattle.cedar_data.specs.Residuals.{partial_view, partial_loc}
+use Rattle.cedar_frames.specs.declared.machine.Step.TheVariants.{Done, Wait}
+use Rattle.cedar_frames.specs.Frames.{Resumes, Fewer, Below}
+use Rattle.cedar_restricted.specs.Evaluations.{NoCalls}
+use Rattle.cedar_restricted.specs.Laws.{left_below}
+use Rattle.cedar_evaluation.specs.declared.evaluation.Evaluation.{Evaluation}
+use Rattle.cedar_evaluation.specs.declared.frame.Frame.{Frame}
+use Rattle.cedar_evaluation.specs.declared.frame.Pending.{Pending}
+use Rattle.cedar_evaluation.specs.declared.frame.Pending.TheVariants as pendings
+use Rattle.cedar_evaluation.specs.declared.frame.Task.{Task}
+use Rattle.cedar_evaluation.specs.declared.frame.Task.TheVariants as tasks
+use Rattle.cedar_evaluation.specs.declared.part.Part.{Part}
+use Rattle.cedar_evaluation.specs.declared.stopped.Stopped.{Stopped}
+use Rattle.cedar_evaluation.specs.declared.stopped.Stopped.TheVariants as stops
+use Rattle.cedar_evaluation.specs.Parts.{part_expr, part_term}
+use Rattle.cedar_evaluation.specs.Endings.{outcome_answer}
+use Rattle.cedar_evaluation.specs.Settings.{Speaks, setting_of}
+use Rattle.cedar_evaluation.specs.Tasks.{Next, Uses, WaitsFor, Begins, GoesOn, Leads, LeftFewer, pending_left, task_left, calls_of}
+use Rattle.cedar_evaluation.specs.Frames.{Placed, IsRight, Waits, IsPlaced, ends_all, left_of}
+use Rattle.cedar_evaluation.specs.PartsLaws.{parts_fail}
+
+limit_no_want : limit ≢ fails out_of_memory
+limit_no_want h = cc
+
+-- ---- on with an answer
+
+-- what waited for a part other than one of a set, a record or a call
+pub goes_on_leads : (s : Setting) (k : ℕ) (p : Pending) (x : Answer) (n : Next) → x ≢ fails out_of_memory → GoesOn s calls_of k p x n → Leads s calls_of k (tasks.Other p) x n
+goes_on_leads s k p x (Done r) no_want goes t c waits meets = λ ok. waits x (outcome_answer r) (meets no_want) (goes ok)
+goes_on_leads s k p x (Wait (tasks.Parts f) d) no_want goes t c waits meets = absurd goes
+goes_on_leads s k p x (Wait (tasks.Other q) d) no_want goes t c waits meets = λ y a runs uses. waits x a (meets no_want) (goes.1 y a runs uses)
+
+pub goes_on_fewer : (s : Setting) (k : ℕ) (p : Pending) (x : Answer) (n : Next) → GoesOn s calls_of k p x n → LeftFewer (tasks.Other p) n
+goes_on_fewer s k p x (Done r) goes = tt
+goes_on_fewer s k p x (Wait (tasks.Parts f) d) goes = absurd goes
+goes_on_fewer s k p x (Wait (tasks.Other q) d) goes = goes.0
+
+resolved : (May : MayAnswer) (q : Resolution) (a : Answer) → Resolves May q None a a
+resolved May shallow a = refl
+resolved May deep a = refl
+
+path_limit : (May : MayAnswer) (q : Resolution) (store : Store) (l : Text) (ls : List Text) → AtPath May q store limit l ls limit
+unfolding on_part
+path_limit May shallow store l ls = refl
+path_limit May deep store l ls = refl
+
+-- the recursion limit of a part is the whole's
+uses_limit : (s : Setting) (May : MayAnswer) (p : Pending) → Uses s May p limit limit
+unfolding best best_of_kind joined on_part binary_beside beside_residual has_part is_part failure_kind
+uses_limit s May pendings.Passed = refl
+uses_limit s May (pendings.Guard t e) = refl
+uses_limit s May (pendings.Then g t e) = refl
+uses_limit s May (pendings.Else g t e) = refl
+uses_limit s May (pendings.AndLeft r) = refl
+uses_limit s May pendings.AndRight = refl
+uses_limit s May (pendings.AndKept l r) = refl
+uses_limit s May (pendings.OrLeft r) = refl
+uses_limit s May pendings.OrRight = refl
+uses_limit s May (pendings.OrKept l r) = refl
+uses_limit s May (pendings.Unary op) = refl
+uses_limit s May (pendings.BinaryLeft op r) = refl
+uses_limit s May (pendings.BinaryRight op l) = resolved May s.resolution limit
+uses_limit s May (pendings.GetAttr k) = refl
+uses_limit s May (pendings.HasAttr k) = refl
+uses_limit s May (pendings.ExtHasAttr ks) = path_limit May s.resolution s.store _ _
+uses_limit s May (pendings.Like p) = refl
+uses_limit s May (pendings.Is t) = refl
+
+-- ---- the loop
+
+pub start_right : (e : Evaluation) (k : ℕ) (p : Part) (n : Next) (l : Option Loc) (x : Placed) →
+    ((r : RequestPart) → Speaks r e → Begins (setting_of r e) calls_of k (part_term p) n) → l ≡ expr_loc (part_expr p) →
+    IsPlaced n l x → Resumes (IsRight e) (Waits e) k p x
+start_right e k p (Done o) l (Done r) begins place (same, at) = record {
+  answer = λ q speaks ok.
+      let is : outcome_answer r ≡ outcome_answer o = same ok in
+      subst (Runs (setting_of q e) calls_of (suc k) (part_term p)) (sym is) (begins q speaks (λ w. ok (is ∙ w)));
+  place = subst (λ y. IfOk r (λ v. partial_loc v ≡ y)) place at;
+}
+start_right e k p (Done o) l (Wait f c) begins place x = absurd x
+start_right e k p (Wait t d) l (Wait f c) begins place (task, at, part) = record {
+  waits = λ q speaks. subst (λ y. WaitsFor (setting_of q e) calls_of k y (part_term p) (part_term c)) (sym task) (subst (λ y. WaitsFor (setting_of q e) calls_of k t (part_term p) (part_term y)) (sym part) (begins q speaks));
+  place = at ∙ place;
+}
+start_right e k p (Wait t d) l (Done r) begins place x = absurd x
+
+pub resume_right : (e : Evaluation) (k : ℕ) (f : Frame) (p c : Part) (y : Result PartialValue Stopped) (n : Next) (x : Placed) →
+    Waits e k f p c → IsRight e k c y →
+    ((r : RequestPart) (j : ℕ) → Speaks r e → Leads (setting_of r e) calls_of j f.task (outcome_answer y) n) →
+    IsPlaced n f.loc x → Resumes (IsRight e) (Waits e) k p x
+resume_right e k f p c y n x waits right leads placed =
+    start_right e k p n f.loc x (λ q speaks. leads q k speaks (part_term p) (part_term c) (waits.waits q speaks) (right.answer q speaks)) waits.place placed
+
+pub right_limit : (e : Evaluation) (p : Part) → IsRight e 0 p (Err stops.Limit)
+right_limit e p = record { answer = λ q speaks ok. refl; place = tt }
+
+pub right_want : (e : Evaluation) (k : ℕ) (p : Part) → IsRight e k p (Err stops.Memory)
+right_want e k p = record { answer = λ q speaks ok. absurd (ok refl); place = tt }
+
+-- the recursion limit of what is waited for is that of what waits
+pub limit_upward : (s : Setting) (k : ℕ) (task : Task) (t c : Term) → ((f : _) → s.extensions.arity f ≡ None) → WaitsFor s calls_of k task t c → Runs s calls_of k c limit → Runs s calls_of (suc k) t limit
+limit_upward s k (tasks.Parts f) t c none waits runs = parts_fail s none k t f c waits model.recursion_limit runs
+limit_upward s k (tasks.Other p) t c none waits runs = waits limit limit runs (uses_limit s (Runs s calls_of k) p)
+
+pub right_upward : (e : Evaluation) (k : ℕ) (f : Frame) (p c : Part) (a : Result PartialValue Stopped) → ends_all a ≡ true → Waits e k f p c → IsRight e k c a → IsRight e (suc k) p a
+right_upward e k f p c (Ok v) ends waits right = absurd (cc)
+right_upward e k f p c (Err stops.Memory) ends waits right = right_want e (suc k) p
+right_upward e k f p c (Err stops.Limit) ends waits right = record {
+  answer = λ q speaks ok. limit_upward (setting_of q e) k f.task (part_term p) (part_term c) (λ g. refl) (waits.waits q speaks) (right.answer q speaks limit_no_want);
+  place = tt;
+}
+right_upward e k f p c (Err (stops.Failed x)) ends waits right = absurd (cc)
+
+pub some_pending : (p : Pending) → 1 ≤ pending_left p
+some_pending pendings.Passed = omega arith
+some_pending (pendings.Guard t e) = omega arith
+some_pending (pendings.Then g t e) = omega arith
+some_pending (pendings.Else g t e) = omega arith
+some_pending (pendings.AndLeft r) = omega arith
+some_pending pendings.AndRight = omega arith
+some_pending (pendings.AndKept l r) = omega arith
+some_pending (pendings.OrLeft r) = omega arith
+some_pending pendings.OrRight = omega arith
+some_pending (pendings.OrKept l r) = omega arith
+some_pending (pendings.Unary op) = omega arith
+some_pending (pendings.BinaryLeft op r) = omega arith
+some_pending (pendings.BinaryRight op l) = omega arith
+some_pending (pendings.GetAttr k) = omega arith
+some_pending (pendings.HasAttr k) = omega arith
+some_pending (pendings.ExtHasAttr ks) = omega arith
+some_pending (pendings.Like p) = omega arith
+some_pending (pendings.Is t) = omega arith
+
+pub some_left : (f : Frame) → 1 ≤ left_of f
+some_left f = some_task f.task
+  where
+    some_task : (t : Task) → 1 ≤ task_left t
+    some_task (tasks.Parts g) = Rattle.cedar_restricted.specs.Laws.some_left g
+    some_task (tasks.Other p) = some_pending p
+
+few_pending : (p : Pending) → pending_left p < 2 ^ 64 + 1
+few_pending pendings.Passed = omega arith
+few_pending (pendings.Guard t e) = omega arith
+few_pending (pendings.Then g t e) = omega arith
+few_pending (pendings.Else g t e) = omega arith
+few_pending (pendings.AndLeft r) = omega arith
+few_pending pendings.AndRight = omega arith
+few_pending (pendings.AndKept l r) = omega arith
+few_pending (pendings.OrLeft r) = omega arith
+few_pending pendings.OrRight = omega arith
+few_pending (pendings.OrKept l r) = omega arith
+few_pending (pendings.Unary op) = omega arith
+few_pending (pendings.BinaryLeft op r) = omega arith
+few_pending (pendings.BinaryRight op l) = omega arith
+few_pending (pendings.GetAttr k) = omega arith
+few_pending (pendings.HasAttr k) = omega arith
+few_pending (pendings.ExtHasAttr ks) = omega arith
+few_pending (pendings.Like p) = omega arith
+few_pending (pendings.Is t) = omega arith
+
+few_task : (t : Task) → task_left t < 2 ^ 64 + 1
+few_task (tasks.Parts g) = left_below g
+few_task (tasks.Other p) = few_pending p
+
+pub below_any : (x : Placed) → Below left_of (2 ^ 64 + 1) x
+below_any (Done r) = tt
+below_any (Wait f c) = few_task f.task
+
+pub placed_fewer : (f : Frame) (n : Next) (l : Option Loc) (x : Placed) → LeftFewer f.task n → IsPlaced n l x → Fewer left_of f x
+placed_fewer f (Done o) l (Done r) fewer at = tt
+placed_fewer f (Done o) l (Wait g c) fewer at = absurd at
+placed_fewer f (Wait t d) l (Wait g c) fewer (task, at, part) = subst (λ y. task_left y < task_left f.task) (sym task) fewer
+placed_fewer f (Wait t d) l (Done r) fewer at = absurd at
+
+pub limit_ends : ends_all (Err stops.Limit) ≡ true
+limit_ends = refl
+
+pub some_most : 1 ≤ 2 ^ 64 + 1
+some_most = omega arith
