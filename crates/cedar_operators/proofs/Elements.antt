@@ -10,7 +10,7 @@ use Rattle.cedar_model.specs.Operators.{expecting, unless_entity, element_failur
 use Rattle.cedar_data.specs.Sound.{Placed, whats}
 use Rattle.cedar_values.specs.declared.evaluator.err.EvaluationError.{EvaluationError}
 use Rattle.cedar_values.specs.Failures.{failure_of}
-use Rattle.cedar_operators.specs.Answers.{FailsWith}
+use Rattle.cedar_values.specs.Answers.{FailsWith}
 
 -- the elements of a list
 abbrev pub elements_in : List Placed → AbstractValues

@@ -55,11 +55,6 @@ all_shown ks it names all none few =
     let e : texts_view ks ≡ names = sym (append-nil (texts_view ks)) ∙ rw none at all in
     sym (take-no_more 5 (texts_view ks) (rw length-map few)) ∙ ap shown_names e
 
-pub length-represented_names : (es : List (RcStr Global × Placed)) → length (represented_names (whats_at es)) ≡ length es
-unfolding represented_names
-length-represented_names [] = refl
-length-represented_names (e ∷ es) = ap suc (length-represented_names es)
-
 -- an attribute that is found
 pub found_value : (name : Text) (es : List (RcStr Global × Placed)) (o : Option Placed) (v : Placed) (failure : Failure) → o ≡ lookup (is_at (λ k. slice_cmp nat_cmp name (rc_str_bytes k))) es → o ≡ Some v → value_or_failure (represented_at name (whats_at es)) failure ≡ answers_value v.what
 unfolding value_or_failure

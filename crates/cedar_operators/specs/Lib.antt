@@ -1,3 +1,4 @@
 pub mod Answers
 pub mod Stopping
 pub mod Operands
+pub mod Paths

@@ -1,6 +1,7 @@
 -- What the operators are given, as plain data, and which operators there are.
-use Rattle.std.specs.Prelude.{ℤ, ◌+ℤ◌, ◌-ℤ◌, ◌*ℤ◌, Bool, true, false, ◌||◌, [], ◌∷◌, Option, Some, None}
-use Rattle.cedar_model.specs.Terms.{EntityName, set_type, BinaryOperator, eq_operator, less_operator, less_eq_operator, add_operator, sub_operator, mul_operator, in_operator, contains_operator, contains_all_operator, contains_any_operator, get_tag_operator, has_tag_operator}
+use Rattle.std.specs.Prelude.{ℤ, ◌+ℤ◌, ◌-ℤ◌, ◌*ℤ◌, Bool, true, false, ◌||◌, [], ◌∷◌, Option, Some, None, option_map}
+use Rattle.std.specs.Rc.{rc_str_bytes}
+use Rattle.cedar_model.specs.Terms.{Term, unknown, EntityName, set_type, BinaryOperator, eq_operator, less_operator, less_eq_operator, add_operator, sub_operator, mul_operator, in_operator, contains_operator, contains_all_operator, contains_any_operator, get_tag_operator, has_tag_operator}
 use Rattle.cedar_model.specs.Values.{AbstractValue, AbstractValues, Represented, abstract_value}
 use Rattle.cedar_model.specs.Outcomes.{elements_of, entity_eq}
 use Rattle.cedar_model.specs.World as model
@@ -8,7 +9,13 @@ use Rattle.cedar_model.specs.Meaning.{entities_of, entities_of_set, some_entity}
 use Rattle.cedar_model.specs.Failures.{Failure, any_entity, wrong_type, Answer, answers_bool}
 use Rattle.cedar_model.specs.Operators.{expecting, element_failure, entities_failure}
 use Rattle.cedar_model.specs.Settings.{Store, StoredEntity, Setting, is_among}
+use Rattle.cedar_names.specs.declared.types.Unknown.{Unknown}
+use Rattle.cedar_names.specs.Leaves.{type_view}
 use Rattle.cedar_values.specs.declared.extensions.Extensions.{Extensions}
+
+-- the expression of an unknown
+abbrev pub unknown_term : Unknown → Term
+unknown_term u = unknown (rc_str_bytes u.name) (option_map type_view u.type_annotation)
 
 -- no extension
 abbrev pub no_extensions : model.Extensions

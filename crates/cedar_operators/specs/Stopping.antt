@@ -1,8 +1,6 @@
 -- An evaluator that stops at the first unknown: where the rules leave a residual, it answers the error `NonValue` with what is not known.
-use Rattle.std.specs.Prelude.{◌≡◌}
 use Rattle.cedar_model.specs.Terms.{Term, literal, variable, slot, unknown, if_then_else, both, either, unary, binary, call, get_attribute, has_attribute, extended_has, like, is_of_type, set_of, record_of}
-use Rattle.cedar_model.specs.Failures.{Failure, residual_is_left, value, residual, Answer, answers, fails}
-use Rattle.cedar_model.specs.Operators.{Step, walks_on, stops}
+use Rattle.cedar_model.specs.Failures.{residual_is_left, value, residual, Answer, answers, fails}
 
 -- what is not known in a residual that an operator on an entity leaves: the entity. Any other is itself not known
 unfoldable pub not_known_in : Term → Term
@@ -29,8 +27,3 @@ unfoldable pub stopped : Answer → Answer
 stopped (answers (value v)) = answers (value v)
 stopped (answers (residual r)) = fails (residual_is_left (not_known_in r))
 stopped (fails e) = fails e
-
--- a step of an extended `has` stops with this error
-abbrev pub StepFails : Failure → Step → Type 0
-StepFails f (walks_on v) = ⊥
-StepFails f (stops a) = stopped a ≡ fails f

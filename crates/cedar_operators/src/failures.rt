@@ -6,7 +6,7 @@ ghost use Rattle.cedar_model.specs.Failures.{wrong_type, residual_is_left};
 ghost use Rattle.cedar_names.specs.Leaves.{type_view};
 ghost use Rattle.cedar_expressions.specs.View.{view};
 ghost use Rattle.cedar_values.specs.Failures.{failure_of};
-ghost use Rattle.cedar_operators.specs.Answers.{FailsWith};
+ghost use Rattle.cedar_values.specs.Answers.{FailsWith};
 
 use cedar_layers::expressions::{EntityType, Expr, FirstRest, Loc, Name, Type, Value};
 use cedar_values::evaluator::err::{EvaluationError, evaluation_errors};

@@ -4,9 +4,10 @@
 
 pub mod attributes;
 pub mod failures;
-mod missing;
+pub mod missing;
 mod numbers;
 pub mod operators;
+pub mod residuals;
 pub mod sets;
 pub mod store;
 pub mod typed;

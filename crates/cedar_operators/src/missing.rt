@@ -1,15 +1,15 @@
 //! Errors about attributes and tags that are not there: they show the first five names that are.
 ghost use Rattle.std.specs.Prelude.{◌≡◌, IfOk, map};
+ghost use Rattle.std.specs.Map.{keys_of};
 ghost use Rattle.std.specs.Rc.{rc_str_bytes};
-ghost use Rattle.cedar_model.specs.Operators.{key_is_missing, represented_names, shown_names, tag_is_missing, attribute_is_missing};
+ghost use Rattle.cedar_model.specs.Operators.{key_is_missing, shown_names, tag_is_missing, attribute_is_missing};
 ghost use Rattle.cedar_names.specs.Names.{uid_name};
 ghost use Rattle.cedar_names.specs.Leaves.{texts_view};
-ghost use Rattle.cedar_data.specs.Sound.{whats_at};
 ghost use Rattle.cedar_layers.specs.Stores.{entity_view};
 ghost use Rattle.cedar_values.specs.Failures.{failure_of};
-ghost use Rattle.cedar_operators.specs.Answers.{FailsWith};
+ghost use Rattle.cedar_values.specs.Answers.{FailsWith};
 
-use cedar_layers::expressions::{EntityUID, Loc, Value};
+use cedar_layers::expressions::{EntityUID, Loc};
 use cedar_layers::policies::Entity;
 use cedar_values::evaluator::err::{EvaluationError, evaluation_errors};
 use evaluation_errors::{EntityAttrDoesNotExistError, RecordAttrDoesNotExistError};
@@ -103,16 +103,17 @@ fn missing_tag(
     }))
 }
 
-// The error that the record has no such key, at this location.
+/// The error that the record has no such key, at this location. It shows the first five keys that are there, by bytes, and how many
+/// there are.
 #[cold]
 #[inline(never)]
-pub(crate) fn no_such_key(
+pub fn no_such_key<V>(
     alloc: Global,
-    pairs: &BTreeMap<RcStr, Value>,
+    pairs: &BTreeMap<RcStr, V>,
     attr: &RcStr,
     loc: Option<&Loc>,
 ) -> EvaluationError
-    ensures { FailsWith result (key_is_missing (rc_str_bytes attr.now) (represented_names (whats_at pairs.now.entries))) }
+    ensures { FailsWith result (key_is_missing (rc_str_bytes attr.now) (map rc_str_bytes (keys_of pairs.now.entries))) }
 {
     match missing_key(alloc, pairs, attr, loc) {
         Ok(error) => error,
@@ -120,13 +121,13 @@ pub(crate) fn no_such_key(
     }
 }
 
-fn missing_key(
+fn missing_key<V>(
     alloc: Global,
-    pairs: &BTreeMap<RcStr, Value>,
+    pairs: &BTreeMap<RcStr, V>,
     attr: &RcStr,
     loc: Option<&Loc>,
 ) -> Result<EvaluationError, AllocError>
-    ensures { IfOk result (λ e. failure_of e ≡ key_is_missing (rc_str_bytes attr.now) (represented_names (whats_at pairs.now.entries))) }
+    ensures { IfOk result (λ e. failure_of e ≡ key_is_missing (rc_str_bytes attr.now) (map rc_str_bytes (keys_of pairs.now.entries))) }
 {
     let attr = attr.clone()?;
     let available_attrs = first_names(alloc, pairs.keys())?;

@@ -9,7 +9,7 @@ ghost use Rattle.cedar_model.specs.Failures as Failures;
 ghost use Rattle.cedar_model.specs.Operators.{arithmetic_answer, comparison_failure, unary_answer};
 ghost use Rattle.cedar_names.specs.Leaves.{binary_view};
 ghost use Rattle.cedar_values.specs.Failures.{failure_of};
-ghost use Rattle.cedar_operators.specs.Answers.{Answers, FailsWith};
+ghost use Rattle.cedar_values.specs.Answers.{Answers, FailsWith};
 ghost use Rattle.cedar_operators.specs.Operands.{extensions_view, is_arithmetic, arithmetic_of};
 
 use crate::typed::{get_as_long, long_value};

@@ -5,7 +5,7 @@ ghost use Rattle.cedar_model.specs.Settings.{Setting};
 ghost use Rattle.cedar_model.specs.Operators.{unary_answer, binary_answer, like_answer, is_answer};
 ghost use Rattle.cedar_names.specs.Names.{type_text};
 ghost use Rattle.cedar_names.specs.Leaves.{unary_view, binary_view, pattern_view};
-ghost use Rattle.cedar_operators.specs.Answers.{Answers};
+ghost use Rattle.cedar_values.specs.Answers.{Answers};
 ghost use Rattle.cedar_operators.specs.Operands.{extensions_view, with_extensions, is_relation, is_arithmetic};
 
 use crate::numbers::{arithmetic, negated, order};

@@ -2,7 +2,7 @@
 ghost use Rattle.cedar_model.specs.Terms.{contains_operator, contains_all_operator, contains_any_operator};
 ghost use Rattle.cedar_model.specs.Settings.{Setting};
 ghost use Rattle.cedar_model.specs.Operators.{binary_answer};
-ghost use Rattle.cedar_operators.specs.Answers.{Answers};
+ghost use Rattle.cedar_values.specs.Answers.{Answers};
 
 use crate::typed::{bool_value, get_as_set};
 use cedar_layers::expressions::Value;

@@ -1,25 +1,24 @@
-//! Operators that ask the store: `in`, `getTag` and `hasTag`. For now an entity that a partial store lacks, and a stored residual,
-//! are answered by the error `NonValue` with the unknown or the residual.
-ghost use Rattle.std.specs.Prelude.{◌≡◌, true, option_map, option_copied};
+//! Operators that ask the store: `in`, `getTag` and `hasTag`. Where a partial store lacks the entity, the answer is the operator
+//! around the unknown that stands for it; a stored residual is answered as it is stored.
+ghost use Rattle.std.specs.Prelude.{◌≡◌, option_map, option_copied};
 ghost use Rattle.std.specs.Rc.{rc_str_bytes};
-ghost use Rattle.cedar_model.specs.Terms.{get_tag_operator, has_tag_operator};
-ghost use Rattle.cedar_model.specs.Values.{abstract_values, set_value};
-ghost use Rattle.cedar_model.specs.Failures.{answers, entity_is_missing};
+ghost use Rattle.cedar_model.specs.Terms.{binary, literal, text_literal, in_operator, get_tag_operator, has_tag_operator};
+ghost use Rattle.cedar_model.specs.Values.{abstract_values, set_value, expression_of};
+ghost use Rattle.cedar_model.specs.Failures.{answers_residual, entity_is_missing};
 ghost use Rattle.cedar_model.specs.Settings.{Setting, look_up, found};
 ghost use Rattle.cedar_model.specs.Operators.{binary_answer, in_answer, in_found, tag_found, has_tag_found};
 ghost use Rattle.cedar_names.specs.Names.{uid_name};
-ghost use Rattle.cedar_data.specs.Residuals.{partial_view};
+ghost use Rattle.cedar_names.specs.Leaves.{binary_view};
 ghost use Rattle.cedar_layers.specs.Stores.{store_view, entity_view};
-ghost use Rattle.cedar_layers.specs.Parts.{is_restricted_part};
-ghost use Rattle.cedar_operators.specs.Answers.{Answers, FailsWith};
-ghost use Rattle.cedar_operators.specs.Stopping.{stopped};
-ghost use Rattle.cedar_operators.specs.Operands.{over, is_within, element_answer, right_answer, right_expected};
+ghost use Rattle.cedar_values.specs.Answers.{Answers, AnswersWith, FailsWith};
+ghost use Rattle.cedar_operators.specs.Operands.{over, unknown_term, is_within, element_answer, right_answer, right_expected};
 
-use crate::failures::{expression_left, non_value, or_entity_expected};
+use crate::failures::or_entity_expected;
 use crate::missing::no_such_tag;
-use crate::typed::{bool_value, get_as_entity, get_as_string};
+use crate::residuals::residual_binary;
+use crate::typed::{as_part, bool_part, bool_value, get_as_entity, get_as_string};
 use cedar_layers::expressions::{
-    EntityUID, Expr, Literal, Loc, PartialValue, Set, Type, Value, ValueKind,
+    BinaryOp, EntityUID, Expr, Literal, Loc, PartialValue, Set, Type, Unknown, Value, ValueKind,
 };
 use cedar_layers::policies::{Dereference, Entities, Entity};
 use cedar_values::evaluator::err::{EvaluationError, evaluation_errors};
@@ -29,34 +28,42 @@ use std::rc::{Rc, RcStr};
 
 /// `a in b`: whether the entity equals an entity on the right, or has it among its ancestors in the store. A type error where the
 /// left is no entity, where the right is neither an entity nor a set, or for the first element of the set that is no entity.
-#[tactic(auto, unfolding(crate::specs::Stopping::stopped, cedar_model::specs::Operators::expecting))]
+#[tactic(auto, unfolding(cedar_model::specs::Operators::expecting))]
 pub fn is_in(
     alloc: Global,
     entities: &Entities,
     a: &Value,
     b: &Value,
-) -> Result<Value, EvaluationError>
-    ensures { Answers result (stopped (in_answer (store_view entities.now) a.now.what b.now.what)) }
+) -> Result<PartialValue, EvaluationError>
+    ensures { AnswersWith result (in_answer (store_view entities.now) a.now.what b.now.what) }
 {
     let uid = get_as_entity(alloc, a)?;
     is_in_any(alloc, entities, uid, b)
 }
 
 // Whether the entity is in the entity or the set on the right.
-#[tactic(auto, unfolding(crate::specs::Stopping::stopped, crate::specs::Stopping::not_known_in, cedar_model::specs::Operators::in_found))]
+#[tactic(auto, unfolding(cedar_model::specs::Operators::in_found))]
 fn is_in_any(
     alloc: Global,
     entities: &Entities,
     uid: &EntityUID,
     b: &Value,
-) -> Result<Value, EvaluationError>
-    ensures { Answers result (stopped (in_found (look_up (store_view entities.now) (uid_name uid.now)) (uid_name uid.now) b.now.what)) }
+) -> Result<PartialValue, EvaluationError>
+    ensures { AnswersWith result (in_found (look_up (store_view entities.now) (uid_name uid.now)) (uid_name uid.now) b.now.what) }
 {
     match entities.entity(alloc, uid)? {
-        Dereference::NoSuchEntity => in_right(alloc, uid, None, b),
-        Dereference::Residual(unknown) => Err(expression_left(Expr::unknown(unknown))),
-        Dereference::Data(entity) => in_right(alloc, uid, Some(entity), b),
+        Dereference::NoSuchEntity => as_part(in_right(alloc, uid, None, b)),
+        Dereference::Residual(unknown) => missing_in(alloc, unknown, b),
+        Dereference::Data(entity) => as_part(in_right(alloc, uid, Some(entity), b)),
     }
+}
+
+// `unknown in b`
+fn missing_in(alloc: Global, value: Unknown, b: &Value) -> Result<PartialValue, EvaluationError>
+    ensures { AnswersWith result (answers_residual (binary in_operator (unknown_term value) (expression_of b.now.what))) }
+{
+    let set = b.to_expr(alloc)?;
+    residual_binary(alloc, BinaryOp::In, Expr::unknown(value), set)
 }
 
 // Whether the entity, of which these facts are known, is in the entity or the set on the right.
@@ -116,15 +123,15 @@ fn is_in_one(uid: &EntityUID, entity: Option<&Entity>, other: &EntityUID) -> boo
 /// `a.getTag(b)`: the entity's tag. A type error where the left is no entity or then the right no text;
 /// `EntityDoesNotExist`, at the location of the entity, where a concrete store lacks it; `EntityAttrDoesNotExist` at this location where
 /// the entity lacks the tag.
-#[tactic(auto, unfolding(crate::specs::Stopping::stopped, cedar_model::specs::Operators::binary_answer, cedar_model::specs::Operators::expecting))]
+#[tactic(auto, unfolding(cedar_model::specs::Operators::binary_answer, cedar_model::specs::Operators::expecting))]
 pub fn tag_of(
     alloc: Global,
     entities: &Entities,
     a: &Value,
     b: &Value,
     loc: Option<&Loc>,
-) -> Result<Value, EvaluationError>
-    ensures { (s : Setting) → Answers result (stopped (binary_answer (over s (store_view entities.now)) get_tag_operator a.now.what b.now.what)) }
+) -> Result<PartialValue, EvaluationError>
+    ensures { (s : Setting) → AnswersWith result (binary_answer (over s (store_view entities.now)) get_tag_operator a.now.what b.now.what) }
 {
     let uid = get_as_entity(alloc, a)?;
     let tag = get_as_string(alloc, b)?;
@@ -132,50 +139,68 @@ pub fn tag_of(
 }
 
 // The tag of the entity, which is named at a location.
-#[tactic(auto, unfolding(crate::specs::Stopping::stopped, crate::specs::Stopping::not_known_in, cedar_model::specs::Operators::tag_found))]
+#[tactic(auto, unfolding(cedar_model::specs::Operators::tag_found))]
 fn tag_of_entity(
     alloc: Global,
     entities: &Entities,
     named: (&Rc<EntityUID>, Option<&Loc>),
     tag: &RcStr,
     loc: Option<&Loc>,
-) -> Result<Value, EvaluationError>
-    ensures { Answers result (stopped (tag_found (look_up (store_view entities.now) (uid_name named.entry.0.now.value)) (uid_name named.entry.0.now.value) (rc_str_bytes tag.now))) }
+) -> Result<PartialValue, EvaluationError>
+    ensures { AnswersWith result (tag_found (look_up (store_view entities.now) (uid_name named.entry.0.now.value)) (uid_name named.entry.0.now.value) (rc_str_bytes tag.now)) }
 {
     match entities.entity(alloc, named.0)? {
         Dereference::NoSuchEntity => Err(no_such_entity(named.0, named.1)),
-        Dereference::Residual(unknown) => Err(expression_left(Expr::unknown(unknown))),
+        Dereference::Residual(unknown) => missing_tag_operator(
+            alloc,
+            BinaryOp::GetTag,
+            unknown,
+            tag,
+        ),
         Dereference::Data(entity) => stored_tag(alloc, entity, named.0, tag, loc),
     }
 }
 
+// The operator on the unknown and the tag.
+fn missing_tag_operator(
+    alloc: Global,
+    op: BinaryOp,
+    value: Unknown,
+    tag: &RcStr,
+) -> Result<PartialValue, EvaluationError>
+    ensures { AnswersWith result (answers_residual (binary (binary_view op) (unknown_term value) (literal (text_literal (rc_str_bytes tag.now))))) }
+{
+    let tag = Expr::val(Literal::String(tag.clone()?));
+    residual_binary(alloc, op, Expr::unknown(value), tag)
+}
+
 // The tag as it is stored.
-#[tactic(auto, unfolding(crate::specs::Stopping::stopped, cedar_model::specs::Operators::tag_found, cedar_model::specs::Operators::stored_tag))]
+#[tactic(auto, unfolding(cedar_model::specs::Operators::tag_found, cedar_model::specs::Operators::stored_tag))]
 fn stored_tag(
     alloc: Global,
     entity: &Entity,
     uid: &Rc<EntityUID>,
     tag: &RcStr,
     loc: Option<&Loc>,
-) -> Result<Value, EvaluationError>
-    ensures { Answers result (stopped (tag_found (found (entity_view entity.now)) (uid_name uid.now.value) (rc_str_bytes tag.now))) }
+) -> Result<PartialValue, EvaluationError>
+    ensures { AnswersWith result (tag_found (found (entity_view entity.now)) (uid_name uid.now.value) (rc_str_bytes tag.now)) }
 {
     match entity.get_tag(tag) {
-        Some(part) => stored_part(part),
+        Some(part) => Ok(part.clone()?),
         None => Err(no_such_tag(alloc, entity, uid, tag, loc)),
     }
 }
 
 /// `a.hasTag(b)`: whether the entity has the tag; one that a concrete store lacks has none. A type error where the left is no
 /// entity or then the right no text.
-#[tactic(auto, unfolding(crate::specs::Stopping::stopped, cedar_model::specs::Operators::binary_answer, cedar_model::specs::Operators::expecting))]
+#[tactic(auto, unfolding(cedar_model::specs::Operators::binary_answer, cedar_model::specs::Operators::expecting))]
 pub fn has_tag(
     alloc: Global,
     entities: &Entities,
     a: &Value,
     b: &Value,
-) -> Result<Value, EvaluationError>
-    ensures { (s : Setting) → Answers result (stopped (binary_answer (over s (store_view entities.now)) has_tag_operator a.now.what b.now.what)) }
+) -> Result<PartialValue, EvaluationError>
+    ensures { (s : Setting) → AnswersWith result (binary_answer (over s (store_view entities.now)) has_tag_operator a.now.what b.now.what) }
 {
     let uid = get_as_entity(alloc, a)?;
     let tag = get_as_string(alloc, b)?;
@@ -183,31 +208,24 @@ pub fn has_tag(
 }
 
 // Whether the entity has the tag.
-#[tactic(auto, unfolding(crate::specs::Stopping::stopped, crate::specs::Stopping::not_known_in, cedar_model::specs::Operators::has_tag_found))]
+#[tactic(auto, unfolding(cedar_model::specs::Operators::has_tag_found))]
 fn entity_has_tag(
     alloc: Global,
     entities: &Entities,
     uid: &EntityUID,
     tag: &RcStr,
-) -> Result<Value, EvaluationError>
-    ensures { Answers result (stopped (has_tag_found (look_up (store_view entities.now) (uid_name uid.now)) (uid_name uid.now) (rc_str_bytes tag.now))) }
+) -> Result<PartialValue, EvaluationError>
+    ensures { AnswersWith result (has_tag_found (look_up (store_view entities.now) (uid_name uid.now)) (uid_name uid.now) (rc_str_bytes tag.now)) }
 {
     match entities.entity(alloc, uid)? {
-        Dereference::NoSuchEntity => Ok(bool_value(false)),
-        Dereference::Residual(unknown) => Err(expression_left(Expr::unknown(unknown))),
-        Dereference::Data(entity) => Ok(bool_value(entity.get_tag(tag).is_some())),
-    }
-}
-
-// The stored value, or the error that this residual is left.
-#[tactic(auto, unfolding(crate::specs::Stopping::stopped))]
-pub(crate) fn stored_part(part: &PartialValue) -> Result<Value, EvaluationError>
-    requires { is_restricted_part (partial_view part.now) ≡ true }
-    ensures { Answers result (stopped (answers (partial_view part.now))) }
-{
-    match part {
-        PartialValue::Value(value) => Ok(value.clone()?),
-        PartialValue::Residual(residual) => Err(non_value(residual.as_expr())),
+        Dereference::NoSuchEntity => Ok(bool_part(false)),
+        Dereference::Residual(unknown) => missing_tag_operator(
+            alloc,
+            BinaryOp::HasTag,
+            unknown,
+            tag,
+        ),
+        Dereference::Data(entity) => Ok(bool_part(entity.get_tag(tag).is_some())),
     }
 }
 

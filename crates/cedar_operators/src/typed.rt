@@ -5,17 +5,18 @@ ghost use Rattle.cedar_model.specs.Terms.{bool_type, long_type, string_type, set
 ghost use Rattle.cedar_model.specs.Terms as Terms;
 ghost use Rattle.cedar_model.specs.Values.{abstract_value, abstract_values, plain_represented};
 ghost use Rattle.cedar_model.specs.Outcomes.{bool_of, long_of, text_of, entity_of, elements_of};
-ghost use Rattle.cedar_model.specs.Failures.{wrong_type, any_entity, out_of_memory};
+ghost use Rattle.cedar_model.specs.Failures.{value, wrong_type, any_entity, out_of_memory};
 ghost use Rattle.cedar_names.specs.Names.{uid_name};
 ghost use Rattle.cedar_names.specs.declared.names.EntityUID.{EntityUID};
 ghost use Rattle.std.specs.declared.rc.Rc.{Rc};
 ghost use Rattle.std.specs.declared.alloc.Global.{Global};
+ghost use Rattle.cedar_data.specs.Residuals.{partial_view};
 ghost use Rattle.cedar_data.specs.Sound.{Elements};
 ghost use Rattle.cedar_values.specs.Failures.{failure_of};
-ghost use Rattle.cedar_operators.specs.Answers.{FailsWith};
+ghost use Rattle.cedar_values.specs.Answers.{value_answer, partial_answer, FailsWith};
 
 use crate::failures::{entity_expected, type_error};
-use cedar_layers::expressions::{EntityUID, Literal, Set, Type, Value, ValueKind};
+use cedar_layers::expressions::{EntityUID, Literal, PartialValue, Set, Type, Value, ValueKind};
 use cedar_values::evaluator::err::EvaluationError;
 use std::alloc::Global;
 use std::rc::{Rc, RcStr};
@@ -26,6 +27,25 @@ pub fn bool_value(b: bool) -> Value
     ensures { result.what ≡ plain_represented (Terms.bool_literal b) }
 {
     Value::new(ValueKind::Lit(Literal::Bool(b)), None)
+}
+
+/// A boolean, at no known location.
+#[inline(always)]
+pub fn bool_part(b: bool) -> PartialValue
+    ensures { partial_view result ≡ value (plain_represented (Terms.bool_literal b)) }
+{
+    PartialValue::Value(bool_value(b))
+}
+
+/// The same answer, of a call that gives a value, where a residual may be answered too.
+#[inline(always)]
+pub fn as_part(answer: Result<Value, EvaluationError>) -> Result<PartialValue, EvaluationError>
+    ensures { partial_answer result ≡ value_answer answer }
+{
+    match answer {
+        Ok(value) => Ok(PartialValue::Value(value)),
+        Err(error) => Err(error),
+    }
 }
 
 // A long, at no known location.
@@ -146,9 +166,10 @@ pub(crate) fn get_as_entity(alloc: Global, value: &Value) -> Result<&Rc<EntityUI
     }
 }
 
+/// The entity, if the value is one.
 #[tactic(auto, unfolding(cedar_model::specs::Outcomes::entity_of))]
 #[inline(always)]
-fn entity_in(value: &Value) -> Option<&Rc<EntityUID>>
+pub fn entity_in(value: &Value) -> Option<&Rc<EntityUID>>
     ensures { option_map (λ (u : Rc EntityUID Global). uid_name u.value) (option_copied result) ≡ entity_of (abstract_value value.now.what) }
 {
     match value.value_kind() {

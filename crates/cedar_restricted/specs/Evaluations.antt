@@ -6,25 +6,9 @@ use Rattle.cedar_model.specs.Failures.{residual_is_left, Answer, value, residual
 use Rattle.cedar_model.specs.Settings.{shallow, Setting, unknown_entry, absent_context}
 use Rattle.cedar_model.specs.Rules.{StoredCalls, Runs, Allows, Exceeds}
 use Rattle.cedar_data.specs.declared.partial_value.PartialValue.{PartialValue}
-use Rattle.cedar_data.specs.Residuals.{partial_view}
-use Rattle.cedar_data.specs.Sound.{Placed}
 use Rattle.cedar_values.specs.declared.evaluator.err.EvaluationError.{EvaluationError}
 use Rattle.cedar_values.specs.declared.evaluator.err.EvaluationError.TheVariants as errors
-use Rattle.cedar_values.specs.Failures.{failure_of}
-
--- the answer of a call that gives a value or a residual
-abbrev pub partial_answer : Result PartialValue EvaluationError → Answer
-partial_answer (Ok p) = answers (partial_view p)
-partial_answer (Err e) = fails (failure_of e)
-
--- the answer of a call that gives a value
-abbrev pub value_answer : Result Placed EvaluationError → Answer
-value_answer (Ok v) = answers (value v.what)
-value_answer (Err e) = fails (failure_of e)
-
--- a call answers this, unless it finds no memory
-abbrev pub AnswersWith : Result PartialValue EvaluationError → Answer → Type 0
-AnswersWith r a = partial_answer r ≢ fails out_of_memory → partial_answer r ≡ a
+pub use Rattle.cedar_values.specs.Answers.{partial_answer, value_answer, AnswersWith}
 
 -- where a value is asked for, a residual that is left is an error
 unfoldable pub only_values : Answer → Answer

@@ -1,0 +1,4 @@
+pub mod Answered
+pub mod Fields
+pub mod KeptErrors
+pub mod Projections

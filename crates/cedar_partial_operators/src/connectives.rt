@@ -1,0 +1,100 @@
+//! The right side of `&&` and `||`, and best effort.
+ghost use Rattle.std.specs.Prelude.{true, false};
+ghost use Rattle.cedar_model.specs.Terms.{both, either, literal, bool_literal};
+ghost use Rattle.cedar_model.specs.Values.{abstract_value};
+ghost use Rattle.cedar_model.specs.Outcomes.{bool_of};
+ghost use Rattle.cedar_model.specs.Failures.{answers, failure_kind};
+ghost use Rattle.cedar_model.specs.Rules as Rules;
+ghost use Rattle.cedar_model.specs.Rules.{joined, bool_or_failure, best_of_kind};
+ghost use Rattle.cedar_expressions.specs.View.{view};
+ghost use Rattle.cedar_data.specs.Residuals.{partial_view};
+ghost use Rattle.cedar_values.specs.Answers.{partial_answer, AnswersWith};
+ghost use Rattle.cedar_values.specs.Failures.{failure_of};
+ghost use Rattle.cedar_partial_operators.specs.Parts.{IsBest};
+
+use crate::binary::into_expr;
+use crate::residuals::{residual_and, residual_or};
+use cedar_layers::expressions::{Expr, PartialValue, Type, Value};
+use cedar_operators::failures::type_error;
+use cedar_operators::typed::{bool_in, bool_part};
+use cedar_values::evaluator::err::EvaluationError;
+use std::alloc::Global;
+
+/// `true && part`: a boolean as it is, a `TypeError` that expects one for another value, and `true && part` itself of a residual,
+/// which may be no boolean. The result is at no location.
+#[tactic(auto, unfolding(cedar_model::specs::Rules::joined))]
+pub fn true_and(alloc: Global, part: PartialValue) -> Result<PartialValue, EvaluationError>
+    ensures { AnswersWith result (joined (both (literal (bool_literal true))) (answers (partial_view part))) }
+{
+    match part {
+        PartialValue::Value(value) => as_bool(alloc, &value),
+        PartialValue::Residual(residual) => residual_and(alloc, residual),
+    }
+}
+
+/// `false || part`: a boolean as it is, a `TypeError` that expects one for another value, and `false || part` itself of a residual,
+/// which may be no boolean. The result is at no location.
+#[tactic(auto, unfolding(cedar_model::specs::Rules::joined))]
+pub fn false_or(alloc: Global, part: PartialValue) -> Result<PartialValue, EvaluationError>
+    ensures { AnswersWith result (joined (either (literal (bool_literal false))) (answers (partial_view part))) }
+{
+    match part {
+        PartialValue::Value(value) => as_bool(alloc, &value),
+        PartialValue::Residual(residual) => residual_or(alloc, residual),
+    }
+}
+
+// The boolean, or a type error that expects one.
+#[tactic(auto, unfolding(cedar_model::specs::Rules::bool_or_failure))]
+fn as_bool(alloc: Global, value: &Value) -> Result<PartialValue, EvaluationError>
+    ensures { AnswersWith result (bool_or_failure (bool_of (abstract_value value.now.what)) value.now.what) }
+{
+    match bool_in(value) {
+        Some(b) => Ok(bool_part(b)),
+        None => Err(type_error(alloc, Type::Bool, value)),
+    }
+}
+
+/// What is kept beside a residual of an expression that answered this: the value or the residual as an expression, and the original
+/// expression where it failed. `RecursionLimit` and `Memory` are handed up.
+#[tactic(auto, unfolding(cedar_model::specs::Rules::best))]
+pub fn best(
+    alloc: Global,
+    answer: Result<PartialValue, EvaluationError>,
+    original: &Expr,
+) -> Result<Expr, EvaluationError>
+    ensures { IsBest result (Rules.best (partial_answer answer) (view original.now)) }
+{
+    match answer {
+        Ok(part) => Ok(into_expr(alloc, part)?),
+        Err(error) => best_of_error(error, original),
+    }
+}
+
+// The original expression, or an error that is handed up.
+#[tactic(auto, using(crate::proofs::KeptErrors::lookups_keep, crate::proofs::KeptErrors::overflows_keep), unfolding(cedar_model::specs::Rules::best_of_kind, cedar_model::specs::Failures::failure_kind))]
+fn best_of_error(error: EvaluationError, original: &Expr) -> Result<Expr, EvaluationError>
+    ensures { IsBest result (best_of_kind (failure_kind (failure_of error)) (failure_of error) (view original.now)) }
+{
+    match error {
+        EvaluationError::EntityDoesNotExist(_) => kept(original),
+        EvaluationError::EntityAttrDoesNotExist(_) => kept(original),
+        EvaluationError::RecordAttrDoesNotExist(_) => kept(original),
+        EvaluationError::FailedExtensionFunctionLookup(_) => kept(original),
+        EvaluationError::TypeError(_) => kept(original),
+        EvaluationError::WrongNumArguments(_) => kept(original),
+        EvaluationError::IntegerOverflow(_) => kept(original),
+        EvaluationError::UnlinkedSlot(_) => kept(original),
+        EvaluationError::FailedExtensionFunctionExecution(_) => kept(original),
+        EvaluationError::NonValue(_) => kept(original),
+        EvaluationError::RecursionLimit(limit) => Err(EvaluationError::RecursionLimit(limit)),
+        EvaluationError::Memory(want) => Err(EvaluationError::Memory(want)),
+    }
+}
+
+// A copy of the original expression.
+fn kept(original: &Expr) -> Result<Expr, EvaluationError>
+    ensures { IsBest result (Rules.kept (view original.now)) }
+{
+    Ok(original.clone()?)
+}
