@@ -1,6 +1,7 @@
 -- The laws of the evaluation over frames.
 use Rattle.std.specs.Prelude.{◌≡◌, ◌≢◌, ℕ, suc, ◌+◌, ◌^◌, ◌<◌, ◌≤◌, true, List, Option, None, Result, Ok, Err, IfOk}
 use Rattle.std.proofs.Common.{refl, sym, ap, ◌∙◌, subst, arith}
+use Rattle.std.specs.declared.alloc.AllocError.{AllocError}
 use Rattle.cedar_model.specs.Terms.{Text, Term}
 use Rattle.cedar_model.specs.Failures as model
 use Rattle.cedar_model.specs.Failures.{Answer, fails, limit, out_of_memory, failure_kind}
@@ -26,7 +27,7 @@ use Rattle.cedar_evaluation.specs.declared.stopped.Stopped.TheVariants as stops
 use Rattle.cedar_evaluation.specs.Parts.{part_expr, part_term}
 use Rattle.cedar_evaluation.specs.Endings.{outcome_answer}
 use Rattle.cedar_evaluation.specs.Settings.{Speaks, setting_of}
-use Rattle.cedar_evaluation.specs.Tasks.{Next, Uses, WaitsFor, Begins, GoesOn, Leads, LeftFewer, pending_left, task_left, calls_of}
+use Rattle.cedar_evaluation.specs.Tasks.{Next, Uses, WaitsFor, Begins, Gives, GoesOn, Leads, LeftFewer, pending_left, task_left, calls_of}
 use Rattle.cedar_evaluation.specs.Frames.{Placed, IsRight, Waits, IsPlaced, ends_all, left_of}
 use Rattle.cedar_evaluation.specs.PartsLaws.{parts_fail}
 
@@ -34,6 +35,18 @@ limit_no_want : limit ≢ fails out_of_memory
 limit_no_want h = cc
 
 -- ---- on with an answer
+
+-- what is given is what the rules make of the part's answer
+pub gives_goes_on : (s : Setting) (k : ℕ) (p : Pending) (x b : Answer) (n : Next) →
+    ((a : Answer) → a ≢ fails out_of_memory → a ≡ b → Uses s (Runs s calls_of k) p x a) → Gives n b → GoesOn s calls_of k p x n
+gives_goes_on s k p x b (Done r) uses gives = λ ok. uses (outcome_answer r) ok (gives ok)
+gives_goes_on s k p x b (Wait task c) uses gives = absurd gives
+
+-- the same, where memory may be wanting for the next step
+pub some_goes_on : (s : Setting) (k : ℕ) (p : Pending) (x b : Answer) (n : Result Next AllocError) →
+    ((a : Answer) → a ≢ fails out_of_memory → a ≡ b → Uses s (Runs s calls_of k) p x a) → IfOk n (λ m. Gives m b) → IfOk n (GoesOn s calls_of k p x)
+some_goes_on s k p x b (Ok n) uses gives = gives_goes_on s k p x b n uses gives
+some_goes_on s k p x b (Err e) uses gives = tt
 
 -- what waited for a part other than one of a set, a record or a call
 pub goes_on_leads : (s : Setting) (k : ℕ) (p : Pending) (x : Answer) (n : Next) → x ≢ fails out_of_memory → GoesOn s calls_of k p x n → Leads s calls_of k (tasks.Other p) x n

@@ -5,7 +5,7 @@ ghost use Rattle.cedar_model.specs.Rules.{bool_expected};
 ghost use Rattle.cedar_model.specs.Shapes.{has_unknown};
 ghost use Rattle.cedar_expressions.specs.View.{view};
 ghost use Rattle.cedar_data.specs.Residuals.{partial_view};
-ghost use Rattle.cedar_restricted.specs.Evaluations.{AnswersWith};
+ghost use Rattle.cedar_values.specs.Answers.{AnswersWith};
 ghost use Rattle.cedar_evaluation.specs.Tasks.{Gives};
 
 use crate::frame::Next;

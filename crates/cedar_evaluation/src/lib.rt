@@ -8,11 +8,13 @@ mod evaluation;
 mod failed;
 mod frame;
 mod guards;
+mod interpreted;
 mod machine;
 mod operators;
 mod part;
 mod start;
 mod stopped;
+mod stored;
 
 pub use evaluation::{Evaluation, Given, Mapper};
 pub use frame::{Next, Pending, Task};

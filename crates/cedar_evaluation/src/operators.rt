@@ -7,14 +7,20 @@ ghost use Rattle.cedar_evaluation.specs.Settings.{setting_of};
 ghost use Rattle.cedar_evaluation.specs.Tasks.{GoesOn, calls_of};
 ghost use Rattle.cedar_evaluation.specs.declared.frame.Pending.TheVariants as pendings;
 
+use crate::answers::answered;
 use crate::evaluation::Evaluation;
 use crate::frame::{Next, Pending, Task};
 use crate::part::Part;
-use crate::stopped::Stopped;
+use crate::stored::stored;
 use cedar_data::PartialValue;
 use cedar_expressions::Expr;
 use cedar_frames::Step;
 use cedar_names::{BinaryOp, EntityType, FirstRest, Pattern, UnaryOp};
+use cedar_partial_operators::attributes::{
+    Projected, attribute_of_part, extended_has_of_part, has_of_part,
+};
+use cedar_partial_operators::binary::binary_of_parts;
+use cedar_partial_operators::unary::{is_of_part, like_of_part, unary_of_part};
 use std::alloc::{AllocError, Global};
 use std::rc::{Rc, RcStr};
 
@@ -28,7 +34,7 @@ impl<'e, 'g, 'f> Evaluation<'e, 'g, 'f> {
     ) -> Result<Next, AllocError>
         ensures { (r : RequestPart) (k : ℕ) → IfOk result (GoesOn (setting_of r self.now) calls_of k (pendings.Unary op) (answers (partial_view operand))) }
     {
-        Ok(Step::Done(Err(Stopped::Memory)))
+        Ok(answered(alloc, unary_of_part(alloc, op, operand, None)))
     }
 
     // The right operand, after the left one.
@@ -53,7 +59,9 @@ impl<'e, 'g, 'f> Evaluation<'e, 'g, 'f> {
     ) -> Result<Next, AllocError>
         ensures { (r : RequestPart) (k : ℕ) → IfOk result (GoesOn (setting_of r self.now) calls_of k (pendings.BinaryRight op left) (answers (partial_view right))) }
     {
-        Ok(Step::Done(Err(Stopped::Memory)))
+        let entities = self.given.entities;
+        let extensions = self.given.extensions;
+        Ok(answered(alloc, binary_of_parts(alloc, entities, extensions, op, left, right, None)))
     }
 
     // The attribute; that of a projectable record is evaluated again.
@@ -65,7 +73,10 @@ impl<'e, 'g, 'f> Evaluation<'e, 'g, 'f> {
     ) -> Result<Next, AllocError>
         ensures { (r : RequestPart) (k : ℕ) → IfOk result (GoesOn (setting_of r self.now) calls_of k (pendings.GetAttr attr) (answers (partial_view container))) }
     {
-        Ok(Step::Done(Err(Stopped::Memory)))
+        match attribute_of_part(alloc, self.given.entities, container, &attr, None) {
+            Projected::Answer(answer) => stored(alloc, &self.given.mapper, answer),
+            Projected::Part(part) => Ok(Step::Wait(Task::Other(Pending::Passed), Part::Own(part))),
+        }
     }
 
     // Whether there is the attribute.
@@ -77,7 +88,7 @@ impl<'e, 'g, 'f> Evaluation<'e, 'g, 'f> {
     ) -> Result<Next, AllocError>
         ensures { (r : RequestPart) (k : ℕ) → IfOk result (GoesOn (setting_of r self.now) calls_of k (pendings.HasAttr attr) (answers (partial_view container))) }
     {
-        Ok(Step::Done(Err(Stopped::Memory)))
+        Ok(answered(alloc, has_of_part(alloc, self.given.entities, container, &attr)))
     }
 
     // Whether there are the attributes, one in the other.
@@ -89,7 +100,7 @@ impl<'e, 'g, 'f> Evaluation<'e, 'g, 'f> {
     ) -> Result<Next, AllocError>
         ensures { (r : RequestPart) (k : ℕ) → IfOk result (GoesOn (setting_of r self.now) calls_of k (pendings.ExtHasAttr attrs) (answers (partial_view container))) }
     {
-        Ok(Step::Done(Err(Stopped::Memory)))
+        Ok(answered(alloc, extended_has_of_part(alloc, self.given.entities, container, &attrs)))
     }
 
     // Whether the text matches.
@@ -101,7 +112,7 @@ impl<'e, 'g, 'f> Evaluation<'e, 'g, 'f> {
     ) -> Result<Next, AllocError>
         ensures { (r : RequestPart) (k : ℕ) → IfOk result (GoesOn (setting_of r self.now) calls_of k (pendings.Like pattern) (answers (partial_view text))) }
     {
-        Ok(Step::Done(Err(Stopped::Memory)))
+        Ok(answered(alloc, like_of_part(alloc, text, &pattern)))
     }
 
     // Whether the entity is of the type.
@@ -113,6 +124,6 @@ impl<'e, 'g, 'f> Evaluation<'e, 'g, 'f> {
     ) -> Result<Next, AllocError>
         ensures { (r : RequestPart) (k : ℕ) → IfOk result (GoesOn (setting_of r self.now) calls_of k (pendings.Is entity_type) (answers (partial_view entity))) }
     {
-        Ok(Step::Done(Err(Stopped::Memory)))
+        Ok(answered(alloc, is_of_part(alloc, entity, &entity_type)))
     }
 }

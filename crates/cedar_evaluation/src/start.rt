@@ -1,36 +1,31 @@
 //! What comes first of an expression.
-ghost use Rattle.std.specs.Prelude.{◌≡◌, ℕ, true, [], Some, option_map, option_copied, IfOk};
+ghost use Rattle.std.specs.Prelude.{◌≡◌, ℕ, option_map, IfOk};
 ghost use Rattle.std.specs.Rc.{rc_str_bytes};
 ghost use Rattle.cedar_model.specs.Terms as Terms;
 ghost use Rattle.cedar_model.specs.Settings.{RequestPart};
-ghost use Rattle.cedar_model.specs.Values.{abstract_value};
-ghost use Rattle.cedar_model.specs.Shapes.{has_unknown};
-ghost use Rattle.cedar_model.specs.Failures.{fails, answers_residual, slot_is_unlinked, wrong_type};
-ghost use Rattle.cedar_model.specs.Outcomes.{type_eq};
-ghost use Rattle.cedar_model.specs.Operators.{slot_answer, unknown_answer, typed_value};
+ghost use Rattle.cedar_model.specs.Failures.{fails, slot_is_unlinked};
+ghost use Rattle.cedar_model.specs.Operators.{slot_answer};
 ghost use Rattle.cedar_names.specs.Names.{name_text, type_text};
 ghost use Rattle.cedar_names.specs.Leaves.{literal_view, variable_view, slot_view, type_view, unary_view, binary_view, pattern_view, texts_view};
 ghost use Rattle.cedar_expressions.specs.View.{view, terms_view, fields_view};
-ghost use Rattle.cedar_data.specs.Sound.{Placed};
 ghost use Rattle.cedar_layers.specs.Policies.{slots_view};
-ghost use Rattle.cedar_evaluation.specs.Settings.{Speaks, setting_of, mapper_view};
+ghost use Rattle.cedar_evaluation.specs.Settings.{Speaks, setting_of};
 ghost use Rattle.cedar_evaluation.specs.Tasks.{Begins, Gives, calls_of};
 ghost use Rattle.cedar_evaluation.specs.PartsLaws.{IsTaken};
 
 use crate::answers::answered;
-use crate::evaluation::{Evaluation, Mapper};
+use crate::evaluation::Evaluation;
 use crate::frame::{Next, Pending, Task};
 use crate::part::Part;
 use crate::stopped::Stopped;
-use cedar_data::{PartialValue, ResidualExpr, Value, ValueKind};
+use crate::stored::mapped;
+use cedar_data::{PartialValue, Value, ValueKind};
 use cedar_expressions::{Expr, ExprKind};
 use cedar_frames::Step;
 use cedar_layers::expressions::SlotEnv;
 use cedar_names::{
     BinaryOp, EntityType, FirstRest, Literal, Loc, Name, Pattern, SlotId, Type, UnaryOp, Unknown, Var,
 };
-use cedar_names::laws::leaves_are_equal_by_view;
-use cedar_operators::failures::type_error;
 use cedar_restricted::{NextPart, PartsFrame};
 use cedar_values::evaluator::err::{EvaluationError, evaluation_errors};
 use evaluation_errors::UnlinkedSlotError;
@@ -205,73 +200,6 @@ fn slot_unlinked(alloc: Global, slot: SlotId) -> Next
         source_loc: None,
     });
     Step::Done(Err(Stopped::of(alloc, error, None)))
-}
-
-// The map's value for the unknown, if it is of the annotated type; without one the unknown is left.
-#[tactic(auto, unfolding(cedar_model::specs::Operators::mapped, cedar_model::specs::Operators::typed_value))]
-fn mapped(
-    alloc: Global,
-    mapper: &Mapper<'_>,
-    e: &Expr,
-    unknown: &Unknown,
-) -> Result<Next, AllocError>
-    requires { view e.now ≡ Terms.unknown (rc_str_bytes unknown.now.name) (option_map type_view unknown.now.type_annotation) }
-    ensures { IfOk result (λ n. Gives n (unknown_answer (mapper_view mapper.now) (rc_str_bytes unknown.now.name) (option_map type_view unknown.now.type_annotation))) }
-{
-    match value_of(mapper, &unknown.name) {
-        Some(value) => match &unknown.type_annotation {
-            Some(ty) => of_type(alloc, value, ty),
-            None => Ok(Step::Done(Ok(PartialValue::Value(value.clone()?)))),
-        },
-        None => Ok(left(e.clone()?)),
-    }
-}
-
-// The value of the unknown of this name, if there is one.
-fn value_of<'v>(mapper: &Mapper<'v>, name: &RcStr) -> Option<&'v Value>
-    ensures { option_map (λ (v : Placed). v.what) (option_copied result) ≡ mapper_view mapper.now (rc_str_bytes name.now) }
-{
-    match mapper {
-        Mapper::Empty => None,
-        Mapper::Values(map) => map.get(name),
-    }
-}
-
-// The value, if it is of this type.
-#[tactic(auto, unfolding(cedar_model::specs::Operators::typed_value))]
-fn of_type(alloc: Global, value: &Value, ty: &Type) -> Result<Next, AllocError>
-    ensures { IfOk result (λ n. Gives n (typed_value (Some (type_view ty.now)) value.now.what)) }
-{
-    if same_type(&value.type_of()?, ty) {
-        Ok(Step::Done(Ok(PartialValue::Value(value.clone()?))))
-    } else {
-        Ok(wrong_type(alloc, ty.clone()?, value))
-    }
-}
-
-// Whether both types are the same.
-fn same_type(ty: &Type, other: &Type) -> bool
-    ensures { result ≡ type_eq (type_view ty.now) (type_view other.now) }
-{
-    leaves_are_equal_by_view();
-    ty == other
-}
-
-// That a value of this type is expected.
-#[cold]
-#[inline(never)]
-fn wrong_type(alloc: Global, ty: Type, value: &Value) -> Next
-    ensures { Gives result (fails (wrong_type (type_view ty) [] (abstract_value value.now.what))) }
-{
-    Step::Done(Err(Stopped::of(alloc, type_error(alloc, ty, value), None)))
-}
-
-// The unknown is left.
-fn left(e: Expr) -> Next
-    requires { has_unknown (view e) ≡ true }
-    ensures { Gives result (answers_residual (view e)) }
-{
-    Step::Done(Ok(PartialValue::Residual(ResidualExpr::new(e))))
 }
 
 // What comes next of a set, a record or a call.
