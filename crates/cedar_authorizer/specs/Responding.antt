@@ -19,7 +19,7 @@ use Rattle.cedar_layers.specs.declared.policies.policy_set.PolicySet.{PolicySet}
 use Rattle.cedar_layers.specs.Policies.{policy_id_text, decides_as}
 use Rattle.cedar_layers.specs.PolicySets.{policies_view}
 use Rattle.cedar_values.specs.Failures.{failure_of}
-use Rattle.cedar_operators.specs.Operands.{no_extensions}
+use Rattle.cedar_extensions.specs.Extensions.{no_extensions}
 use Rattle.cedar_evaluator.specs.Evaluations.{setting_for}
 use Rattle.cedar_evaluator.specs.Stops.{StoppingRuns}
 use Rattle.cedar_authorizer.specs.declared.authorizer.Decision.{Decision}

@@ -5,7 +5,7 @@ ghost use Rattle.cedar_model.specs.Failures.{out_of_memory};
 ghost use Rattle.cedar_layers.specs.Policies.{effect_view, policy_id_text, policy_view, condition_term};
 ghost use Rattle.cedar_layers.specs.Stores.{store_view};
 ghost use Rattle.cedar_values.specs.Failures.{failure_of};
-ghost use Rattle.cedar_evaluator.specs.Requests.{request_view};
+ghost use Rattle.cedar_requests.specs.Requests.{request_view};
 ghost use Rattle.cedar_evaluator.specs.Evaluations.{setting_of, limit_of};
 ghost use Rattle.cedar_evaluator.specs.Stops.{StoppingRuns};
 ghost use Rattle.cedar_authorizer.specs.Sheets.{has_some_id, IsJudged};
@@ -14,8 +14,9 @@ ghost use Rattle.cedar_authorizer.specs.Responding.{MayAnswerAs, has_id, respons
 pub use crate::authorizer::err::AuthorizationError;
 use cedar_evaluator::evaluator::{EvaluationError, Evaluator};
 use cedar_evaluator::request::Request;
+use cedar_extensions::Extensions;
 use cedar_layers::policies::{Effect, Entities, Policy, PolicyID, PolicySet};
-use cedar_values::extensions::{ExtensionFunctionLookupError, Extensions};
+use cedar_values::extensions::ExtensionFunctionLookupError;
 use std::alloc::{AllocError, Global};
 use std::collections::HashSet;
 
@@ -24,7 +25,8 @@ pub mod err;
 pub mod laws;
 mod texts;
 
-/// Decides requests, with these extensions and within so many levels of evaluation.
+/// Decides requests, with these extensions and within so many levels of evaluation. It uses none of the extensions yet, as the
+/// evaluator uses none.
 #[derive(Clone, Copy)]
 pub struct Authorizer<'x, 'f> {
     extensions: &'x Extensions<'f>,

@@ -2,4 +2,3 @@ pub mod Steps
 pub mod Parts
 pub mod Elements
 pub mod Knowing
-pub mod Copies

@@ -4,7 +4,7 @@ use Rattle.cedar_model.specs.Terms.{Text, bool_type, Literal, Variable, UnaryOpe
 use Rattle.cedar_model.specs.Values.{Represented, plain_represented, set_represented, record_represented, abstract_value}
 use Rattle.cedar_model.specs.Sets.{canonical_set, represented_fields_of}
 use Rattle.cedar_model.specs.Outcomes.{bool_of}
-use Rattle.cedar_model.specs.Failures.{function_is_missing, out_of_memory, residual_is_left, value, residual, Answer, answers, fails, answers_value, answers_bool, limit, wrong_type}
+use Rattle.cedar_model.specs.Failures.{function_is_missing, out_of_memory, residual_is_left, value, Answer, answers, fails, answers_value, answers_bool, limit, wrong_type}
 use Rattle.cedar_model.specs.Settings.{shallow, Setting, variable_part}
 use Rattle.cedar_model.specs.Operators.{slot_answer, unary_answer, binary_answer, attribute_answer, has_answer, path_answer, like_answer, is_answer, mapped, attribute_residual}
 use Rattle.cedar_model.specs.Rules
@@ -13,6 +13,8 @@ use Rattle.cedar_model.specs.Responses.{decided_bool, decided, result_of}
 use Rattle.cedar_data.specs.Sound.{Placed}
 use Rattle.cedar_values.specs.declared.evaluator.err.EvaluationError.{EvaluationError}
 use Rattle.cedar_values.specs.Failures.{failure_of}
+use Rattle.cedar_data.specs.declared.partial_value.PartialValue.{PartialValue}
+use Rattle.cedar_values.specs.Answers.{partial_answer, AnswersWith}
 use Rattle.cedar_operators.specs.Answers.{answer_of, Answers, FailsWith}
 use Rattle.cedar_operators.specs.Stopping.{not_known_in, stopped}
 use Rattle.cedar_evaluator.specs.Decisions.{DecidesBy}
@@ -33,6 +35,14 @@ stopped-answer_of (Err e) = refl
 
 pub answers_stopped : (r : Result Placed EvaluationError) (a : Answer) → Answers r a → Answers r (stopped a)
 answers_stopped r a is ok = sym (stopped-answer_of r) ∙ ap stopped (is ok)
+
+-- a part that is known, or the error that it is not
+pub known_gives : (p : Result PartialValue EvaluationError) (r : Result Placed EvaluationError) (a : Answer)
+    → Answers r (stopped (partial_answer p)) → AnswersWith p a → Answers r (stopped a)
+unfolding stopped
+known_gives p r a known is ok =
+    let want : partial_answer p ≢ fails out_of_memory = λ m. ok (known ok ∙ ap stopped m) in
+    known ok ∙ ap stopped (is want)
 
 -- with no level left the limit is met
 pub at_none : (s : Setting) (n : ℕ) (t : Term) (a : Answer) → n ≡ 0 → a ≡ limit → StoppingRuns s n t a
@@ -63,8 +73,8 @@ module _ (s : Setting) (May : MayAnswer) where
   pub literal_gives : (l : Literal) (r : Result Placed EvaluationError) → Answers r (answers_value (plain_represented l)) → Gives (literal l) r
   literal_gives l r is ok = (answers_value (plain_represented l), refl, answers_stopped r _ is ok)
 
-  pub variable_gives : (v : Variable) (r : Result Placed EvaluationError) → Answers r (answers (variable_part s.request v)) → Gives (variable v) r
-  variable_gives v r is ok = (answers (variable_part s.request v), refl, answers_stopped r _ is ok)
+  pub variable_gives : (v : Variable) (r : Result Placed EvaluationError) → Answers r (stopped (answers (variable_part s.request v))) → Gives (variable v) r
+  variable_gives v r is ok = (answers (variable_part s.request v), refl, is ok)
 
   pub slot_gives : (i : Slot) (r : Result Placed EvaluationError) → Answers r (slot_answer i (s.slots i)) → Gives (slot i) r
   slot_gives i r is ok = (slot_answer i (s.slots i), refl, answers_stopped r _ is ok)

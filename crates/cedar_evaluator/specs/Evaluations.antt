@@ -13,7 +13,7 @@ use Rattle.cedar_model.specs.Values.{Represented, set_represented}
 use Rattle.cedar_model.specs.Sets.{canonical_set}
 use Rattle.cedar_model.specs.World.{Slots}
 use Rattle.cedar_model.specs.Failures.{Failure, PartialValue, value}
-use Rattle.cedar_model.specs.Settings.{Entry, known_entry, RequestPart, Store, shallow, Setting, known_context}
+use Rattle.cedar_model.specs.Settings.{Entry, known_entry, RequestPart, ContextPart, known_context, residual_context, Store, shallow, Setting}
 use Rattle.cedar_model.specs.Rules.{Meets, Parts, FieldParts}
 use Rattle.cedar_expressions.specs.declared.expr.Expr.{Expr}
 use Rattle.cedar_expressions.specs.View.{terms_view, fields_view, expr_loc}
@@ -24,8 +24,10 @@ use Rattle.cedar_layers.specs.Policies.{SlotValues, slots_view}
 use Rattle.cedar_layers.specs.Stores.{store_view}
 use Rattle.cedar_values.specs.declared.evaluator.err.EvaluationError.{EvaluationError}
 use Rattle.cedar_operators.specs.Answers.{answer_of}
-use Rattle.cedar_operators.specs.Operands.{no_extensions}
+use Rattle.cedar_extensions.specs.Extensions.{no_extensions}
 use Rattle.cedar_evaluator.specs.declared.evaluator.Evaluator.{Evaluator}
+use Rattle.cedar_evaluator.specs.declared.evaluator.SharedContext.{SharedContext}
+use Rattle.cedar_evaluator.specs.declared.evaluator.SharedContext.TheVariants as contexts
 use Rattle.cedar_evaluator.specs.declared.evaluator.SharedEntity.{SharedEntity}
 use Rattle.cedar_evaluator.specs.Stops.{StoppingRule, StoppingRuns}
 
@@ -45,10 +47,15 @@ setting_for r s slots =
 abbrev pub shared_entry : SharedEntity → Entry
 shared_entry s = known_entry (uid_name s.uid.value)
 
+-- what a shared context says
+abbrev pub shared_context : SharedContext → ContextPart
+shared_context (contexts.Values m) = known_context (whats_at m.value.entries)
+shared_context (contexts.Residual m) = residual_context (fields_view m.entries)
+
 -- what the evaluator is given
 abbrev pub setting_of : Evaluator → Slots → Setting
 setting_of v slots =
-    setting_for record { principal_entry = shared_entry v.principal; action_entry = shared_entry v.action; resource_entry = shared_entry v.resource; context_part = known_context (whats_at v.context.value.entries) } (store_view v.entities.now) slots
+    setting_for record { principal_entry = shared_entry v.principal; action_entry = shared_entry v.action; resource_entry = shared_entry v.resource; context_part = shared_context v.context } (store_view v.entities.now) slots
 
 -- how many levels deep it goes
 abbrev pub limit_of : Evaluator → ℕ

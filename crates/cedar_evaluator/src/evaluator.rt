@@ -9,7 +9,7 @@ ghost use Rattle.cedar_model.specs.Values.{plain_represented, set_represented, r
 ghost use Rattle.cedar_model.specs.Sets.{canonical_set};
 ghost use Rattle.cedar_model.specs.Outcomes.{bool_of};
 ghost use Rattle.cedar_model.specs.Failures as Failures;
-ghost use Rattle.cedar_model.specs.Failures.{answers, answers_value, fails, limit, function_is_missing, out_of_memory, residual_is_left};
+ghost use Rattle.cedar_model.specs.Failures.{answers, answers_value, answers_residual, fails, limit, function_is_missing, out_of_memory, residual_is_left};
 ghost use Rattle.cedar_model.specs.Settings.{variable_part};
 ghost use Rattle.cedar_model.specs.Operators.{binary_answer, slot_answer};
 ghost use Rattle.cedar_model.specs.Rules.{Meets, bool_expected, bool_or_failure};
@@ -20,33 +20,34 @@ ghost use Rattle.cedar_expressions.specs.Nodes.{node_of};
 ghost use Rattle.cedar_expressions.specs.Nodes as node;
 ghost use Rattle.cedar_data.specs.Sound.{whats, whats_at};
 ghost use Rattle.cedar_layers.specs.Policies.{slots_view};
+ghost use Rattle.cedar_values.specs.Answers.{partial_answer};
 ghost use Rattle.cedar_values.specs.Failures.{failure_of};
 ghost use Rattle.cedar_operators.specs.Answers.{answer_of, Answers, FailsWith};
-ghost use Rattle.cedar_operators.specs.Stopping.{stopped};
+ghost use Rattle.cedar_operators.specs.Stopping.{stopped, not_known_in};
 ghost use Rattle.cedar_evaluator.specs.Stops.{StoppingRuns};
 ghost use Rattle.cedar_evaluator.specs.Evaluations.{MeetsKind, GivesParts, FailsParts, GivesFields, FailsFields, key_order, AreInOrder, AreAtPlaces, IsSetOf, HasElementsOf};
 
-use crate::request::{EntityUIDEntry, Request};
+use crate::request::{Context, EntityUIDEntry, Request};
+use cedar_extensions::Extensions;
 use cedar_layers::expressions::{
-    BinaryOp, EntityType, EntityUID, Expr, ExprKind, FirstRest, Literal, Loc, Name, Pattern,
-    SlotEnv, SlotId, Type, UnaryOp, Value, ValueKind, Var,
+    BinaryOp, EntityType, EntityUID, Expr, ExprKind, FirstRest, Literal, Loc, Name, PartialValue,
+    Pattern, SlotEnv, SlotId, Type, UnaryOp, Value, ValueKind, Var,
 };
 use cedar_layers::policies::{Entities, Policy};
 use cedar_operators::attributes::{attribute_of, has_attribute, has_path};
+use cedar_operators::binary::binary_app;
 use cedar_operators::failures::{non_value, type_error};
 pub use cedar_operators::operators::{binary_arith, binary_relation, unary_app};
 use cedar_operators::operators::{is_of_type, likeness};
-use cedar_operators::sets::{contains, contains_all, contains_any};
-use cedar_operators::store::{has_tag, is_in, tag_of};
 use cedar_operators::typed::{bool_in, bool_value, get_as_bool};
+use cedar_requests::shared::ContextPairs;
 pub use cedar_values::evaluator::err::{EvaluationError, evaluation_errors};
-use cedar_values::extensions::{
-    ExtensionFunctionLookupError, Extensions, extension_function_lookup_errors,
-};
+use cedar_values::extensions::{ExtensionFunctionLookupError, extension_function_lookup_errors};
 use evaluation_errors::{RecursionLimitError, UnlinkedSlotError};
 use extension_function_lookup_errors::FuncDoesNotExistError;
 use std::alloc::{AllocError, Global};
 use std::collections::BTreeMap;
+use std::marker::PhantomData;
 use std::rc::{Rc, RcStr};
 
 // An entity of the request, shared by the values that stand for it.
@@ -58,7 +59,7 @@ struct SharedEntity {
 
 impl SharedEntity {
     ghost use Rattle.cedar_model.specs.Terms.{entity_literal};
-    ghost use Rattle.cedar_evaluator.specs.Requests.{entry_view};
+    ghost use Rattle.cedar_requests.specs.Requests.{entry_view};
     ghost use Rattle.cedar_evaluator.specs.Evaluations.{shared_entry};
 
     fn new(alloc: Global, entry: EntityUIDEntry) -> Result<SharedEntity, AllocError>
@@ -82,15 +83,49 @@ impl SharedEntity {
     }
 }
 
-/// An evaluator: a request, a store of entities and extensions, and how many levels deep it goes.
+// The context of the request, whose values are shared by the values that stand for it.
+#[derive(Drop)]
+enum SharedContext {
+    Values(Rc<BTreeMap<RcStr, Value>>),
+    Residual(BTreeMap<RcStr, Expr>),
+}
+
+impl SharedContext {
+    ghost use Rattle.cedar_model.specs.Settings.{context_value};
+    ghost use Rattle.cedar_requests.specs.Contexts.{context_view};
+    ghost use Rattle.cedar_evaluator.specs.Evaluations.{shared_context};
+
+    fn new(alloc: Global, context: Context) -> Result<SharedContext, AllocError>
+        ensures { IfOk result (λ c. shared_context c ≡ context_view context) }
+    {
+        match context.into_pairs() {
+            ContextPairs::Values(pairs) => Ok(SharedContext::Values(Rc::new(alloc, pairs)?)),
+            ContextPairs::Residual(residual) => Ok(SharedContext::Residual(residual.into_map())),
+        }
+    }
+
+    // The record of the values, or that the context is left.
+    #[tactic(auto, unfolding(cedar_model::specs::Settings::context_value, cedar_operators::specs::Stopping::stopped))]
+    fn value(&self, alloc: Global) -> Result<Value, EvaluationError>
+        ensures { Answers result (stopped (answers (context_value (shared_context self.now)))) }
+    {
+        match self {
+            SharedContext::Values(pairs) => Ok(Value::new(ValueKind::Record(pairs.clone()?), None)),
+            SharedContext::Residual(pairs) => residual_met(alloc, pairs),
+        }
+    }
+}
+
+/// An evaluator: a request, a store of entities and extensions, and how many levels deep it goes. It uses none of the extensions
+/// yet: each call of a function fails with `FuncDoesNotExist`, and `<` and `<=` compare longs alone.
 #[derive(Drop)]
 pub struct Evaluator<'e, 'x, 'f> {
     principal: SharedEntity,
     action: SharedEntity,
     resource: SharedEntity,
-    context: Rc<BTreeMap<RcStr, Value>>,
+    context: SharedContext,
     entities: &'e Entities,
-    extensions: &'x Extensions<'f>,
+    extensions: PhantomData<(&'x (), &'f ())>,
     limit: usize,
 }
 
@@ -98,7 +133,7 @@ impl<'e, 'x, 'f> Evaluator<'e, 'x, 'f> {
     ghost use Rattle.cedar_model.specs.Terms.{variable};
     ghost use Rattle.cedar_layers.specs.Policies.{condition_term, policy_view};
     ghost use Rattle.cedar_layers.specs.Stores.{store_view};
-    ghost use Rattle.cedar_evaluator.specs.Requests.{request_view};
+    ghost use Rattle.cedar_requests.specs.Requests.{request_view};
     ghost use Rattle.cedar_evaluator.specs.Evaluations.{setting_for, setting_of, limit_of};
     ghost use Rattle.cedar_evaluator.specs.Stops.{IsKnownExactly, IsDecidedExactly};
     ghost use Rattle.cedar_evaluator.specs.Decisions.{decision_of, DecidesBy};
@@ -109,21 +144,21 @@ impl<'e, 'x, 'f> Evaluator<'e, 'x, 'f> {
         alloc: Global,
         request: Request,
         entities: &'e Entities,
-        extensions: &'x Extensions<'f>,
+        _extensions: &'x Extensions<'f>,
         limit: usize,
     ) -> Result<Evaluator<'e, 'x, 'f>, AllocError>
         ensures setting { IfOk result (λ v. (slots : _) → setting_of v slots ≡ setting_for (request_view request) (store_view entities.now) slots) }
         ensures limit { IfOk result (λ v. limit_of v ≡ limit) }
     {
         let (principal, action, resource, context) = request.into_parts();
-        let context = Rc::new(alloc, context.into_map())?;
+        let context = SharedContext::new(alloc, context)?;
         Ok(Evaluator {
             principal: SharedEntity::new(alloc, principal)?,
             action: SharedEntity::new(alloc, action)?,
             resource: SharedEntity::new(alloc, resource)?,
             context,
             entities,
-            extensions,
+            extensions: PhantomData,
             limit,
         })
     }
@@ -206,7 +241,7 @@ impl<'e, 'x, 'f> Evaluator<'e, 'x, 'f> {
     {
         match e.expr_kind() {
             ExprKind::Lit(value) => literal_value(value),
-            ExprKind::Var(var) => self.variable(*var),
+            ExprKind::Var(var) => self.variable(alloc, *var),
             ExprKind::Slot(slot) => slot_value(alloc, slots, *slot),
             ExprKind::Unknown(_) => unknown_met(e),
             ExprKind::If {
@@ -391,7 +426,7 @@ impl<'e, 'x, 'f> Evaluator<'e, 'x, 'f> {
         ensures { MeetsKind self.now slots.now left (get_attribute (view expr.now) (rc_str_bytes attr.now)) result }
     {
         match self.interpret_within(alloc, expr, slots, left) {
-            Ok(value) => attribute_of(alloc, self.entities, &value, attr, loc),
+            Ok(value) => known(attribute_of(alloc, self.entities, &value, attr, loc)),
             Err(error) => Err(error),
         }
     }
@@ -409,7 +444,7 @@ impl<'e, 'x, 'f> Evaluator<'e, 'x, 'f> {
         ensures { MeetsKind self.now slots.now left (Terms.has_attribute (view expr.now) (rc_str_bytes attr.now)) result }
     {
         match self.interpret_within(alloc, expr, slots, left) {
-            Ok(value) => has_attribute(alloc, self.entities, &value, attr),
+            Ok(value) => known(has_attribute(alloc, self.entities, &value, attr)),
             Err(error) => Err(error),
         }
     }
@@ -427,7 +462,7 @@ impl<'e, 'x, 'f> Evaluator<'e, 'x, 'f> {
         ensures { MeetsKind self.now slots.now left (extended_has (view expr.now) (rc_str_bytes attrs.now.first) (texts_view attrs.now.rest.items)) result }
     {
         match self.interpret_within(alloc, expr, slots, left) {
-            Ok(value) => has_path(alloc, self.entities, &value, attrs),
+            Ok(value) => known(has_path(alloc, self.entities, &value, attrs)),
             Err(error) => Err(error),
         }
     }
@@ -550,7 +585,6 @@ impl<'e, 'x, 'f> Evaluator<'e, 'x, 'f> {
     }
 
     // An operator on two values.
-    #[tactic(auto, unfolding(cedar_model::specs::Operators::binary_answer))]
     fn operate(
         &self,
         alloc: Global,
@@ -561,32 +595,19 @@ impl<'e, 'x, 'f> Evaluator<'e, 'x, 'f> {
     ) -> Result<Value, EvaluationError>
         ensures { (s : _) → Answers result (stopped (binary_answer (setting_of self.now s) (binary_view op) first.what second.what)) }
     {
-        match op {
-            BinaryOp::Eq => binary_relation(alloc, op, &first, &second, self.extensions),
-            BinaryOp::Less => binary_relation(alloc, op, &first, &second, self.extensions),
-            BinaryOp::LessEq => binary_relation(alloc, op, &first, &second, self.extensions),
-            BinaryOp::Add => binary_arith(alloc, op, first, second, loc),
-            BinaryOp::Sub => binary_arith(alloc, op, first, second, loc),
-            BinaryOp::Mul => binary_arith(alloc, op, first, second, loc),
-            BinaryOp::In => is_in(alloc, self.entities, &first, &second),
-            BinaryOp::Contains => contains(alloc, &first, &second),
-            BinaryOp::ContainsAll => contains_all(alloc, &first, &second),
-            BinaryOp::ContainsAny => contains_any(alloc, &first, &second),
-            BinaryOp::GetTag => tag_of(alloc, self.entities, &first, &second, loc),
-            BinaryOp::HasTag => has_tag(alloc, self.entities, &first, &second),
-        }
+        known(binary_app(alloc, self.entities, &Extensions::none(), op, first, second, loc))
     }
 
     // The value of a variable: an entity of the request, or its context.
-    #[tactic(auto, unfolding(cedar_model::specs::Settings::variable_part, cedar_model::specs::Settings::entry_part, cedar_model::specs::Settings::context_value))]
-    fn variable(&self, var: Var) -> Result<Value, EvaluationError>
-        ensures { (s : _) → Answers result (answers (variable_part (setting_of self.now s).request (variable_view var))) }
+    #[tactic(auto, unfolding(cedar_model::specs::Settings::variable_part, cedar_model::specs::Settings::entry_part, cedar_operators::specs::Stopping::stopped))]
+    fn variable(&self, alloc: Global, var: Var) -> Result<Value, EvaluationError>
+        ensures { (s : _) → Answers result (stopped (answers (variable_part (setting_of self.now s).request (variable_view var)))) }
     {
         match var {
             Var::Principal => Ok(self.principal.value()?),
             Var::Action => Ok(self.action.value()?),
             Var::Resource => Ok(self.resource.value()?),
-            Var::Context => Ok(Value::new(ValueKind::Record(self.context.clone()?), None)),
+            Var::Context => self.context.value(alloc),
         }
     }
 }
@@ -665,6 +686,16 @@ fn limit_met() -> Result<Value, EvaluationError>
     Err(EvaluationError::RecursionLimit(RecursionLimitError { source_loc: None }))
 }
 
+// That a context of these expressions is left.
+#[cold]
+#[inline(never)]
+fn residual_met(alloc: Global, pairs: &BTreeMap<RcStr, Expr>) -> Result<Value, EvaluationError>
+    ensures { Answers result (stopped (answers_residual (record_of (fields_view pairs.now.entries)))) }
+{
+    let record = Expr::record_map(alloc, pairs.clone()?)?;
+    Err(non_value(&record))
+}
+
 // That the unknown is left.
 #[cold]
 #[inline(never)]
@@ -672,6 +703,63 @@ fn unknown_met(e: &Expr) -> Result<Value, EvaluationError>
     ensures { Answers result (fails (residual_is_left (view e.now))) }
 {
     Err(non_value(e))
+}
+
+// The value, or the error that what is not known is left.
+#[tactic(auto, unfolding(cedar_operators::specs::Stopping::stopped))]
+fn known(answer: Result<PartialValue, EvaluationError>) -> Result<Value, EvaluationError>
+    ensures { Answers result (stopped (partial_answer answer)) }
+{
+    match answer {
+        Ok(part) => match part {
+            PartialValue::Value(value) => Ok(value),
+            PartialValue::Residual(residual) => Err(non_value(not_known_in(residual.as_expr()))),
+        },
+        Err(error) => Err(error),
+    }
+}
+
+// What is not known in a residual that an operator answers: the entity that it is on, or the residual itself.
+#[tactic(auto, using(cedar_expressions::proofs::Levels::levels), unfolding(cedar_operators::specs::Stopping::not_known_in))]
+fn not_known_in(e: &Expr) -> &Expr
+    ensures { view result.now ≡ not_known_in (view e.now) }
+{
+    match e.expr_kind() {
+        ExprKind::Lit(_) => e,
+        ExprKind::Var(_) => e,
+        ExprKind::Slot(_) => e,
+        ExprKind::Unknown(_) => e,
+        ExprKind::If {
+            test_expr: _,
+            then_expr: _,
+            else_expr: _,
+        } => e,
+        ExprKind::And { left: _, right: _ } => e,
+        ExprKind::Or { left: _, right: _ } => e,
+        ExprKind::UnaryApp { op: _, arg: _ } => e,
+        ExprKind::BinaryApp {
+            op: _,
+            arg1,
+            arg2: _,
+        } => arg1,
+        ExprKind::ExtensionFunctionApp {
+            fn_name: _,
+            args: _,
+        } => e,
+        ExprKind::GetAttr { expr, attr: _ } => expr,
+        ExprKind::HasAttr { expr, attr: _ } => expr,
+        ExprKind::ExtHasAttr { expr, attrs: _ } => expr,
+        ExprKind::Like {
+            expr: _,
+            pattern: _,
+        } => e,
+        ExprKind::Is {
+            expr: _,
+            entity_type: _,
+        } => e,
+        ExprKind::Set(_) => e,
+        ExprKind::Record(_) => e,
+    }
 }
 
 // The error, at this location if it has none.

@@ -3,3 +3,5 @@ pub mod Longs
 pub mod Expecting
 pub mod Stored
 pub mod Elements
+pub mod Answered
+pub mod Orders

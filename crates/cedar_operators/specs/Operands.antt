@@ -11,19 +11,10 @@ use Rattle.cedar_model.specs.Operators.{expecting, element_failure, entities_fai
 use Rattle.cedar_model.specs.Settings.{Store, StoredEntity, Setting, is_among}
 use Rattle.cedar_names.specs.declared.types.Unknown.{Unknown}
 use Rattle.cedar_names.specs.Leaves.{type_view}
-use Rattle.cedar_values.specs.declared.extensions.Extensions.{Extensions}
 
 -- the expression of an unknown
 abbrev pub unknown_term : Unknown → Term
 unknown_term u = unknown (rc_str_bytes u.name) (option_map type_view u.type_annotation)
-
--- no extension
-abbrev pub no_extensions : model.Extensions
-no_extensions = record { arity = λ f. None; overloaded = [] }
-
--- no extension is there yet
-abbrev pub extensions_view : Extensions → model.Extensions
-extensions_view x = no_extensions
 
 -- the setting, but with these extensions
 abbrev pub with_extensions : Setting → model.Extensions → Setting
@@ -48,6 +39,10 @@ over s store =
       extensions = s.extensions;
       resolution = s.resolution;
     }
+
+-- the setting, but over this store, with these extensions and without a map of unknowns
+abbrev pub given : Setting → Store → model.Extensions → Setting
+given s store x = over (with_extensions s x) store
 
 -- `==`, `<` and `<=`
 abbrev pub is_relation : BinaryOperator → Bool

@@ -3,9 +3,11 @@
 #![tactic(auto)]
 
 pub mod attributes;
+pub mod binary;
 pub mod failures;
 pub mod missing;
 mod numbers;
+mod order;
 pub mod operators;
 pub mod residuals;
 pub mod sets;

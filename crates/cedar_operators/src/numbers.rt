@@ -1,24 +1,20 @@
-//! Longs: arithmetic within 64 bits, and the order of two values.
-ghost use Rattle.std.specs.Prelude.{◌≡◌, ◌≢◌, true, Some, None, IfOk, IfErr, FitsSigned};
+//! Longs: arithmetic within 64 bits.
+ghost use Rattle.std.specs.Prelude.{◌≡◌, true, FitsSigned};
 ghost use Rattle.std.specs.Int.{w64};
 ghost use Rattle.std.specs.Option.{SomeIff};
 ghost use Rattle.cedar_model.specs.Terms.{neg_operator};
-ghost use Rattle.cedar_model.specs.Values.{abstract_value};
-ghost use Rattle.cedar_model.specs.Meaning.{comparison};
 ghost use Rattle.cedar_model.specs.Failures as Failures;
-ghost use Rattle.cedar_model.specs.Operators.{arithmetic_answer, comparison_failure, unary_answer};
+ghost use Rattle.cedar_model.specs.Operators.{arithmetic_answer, unary_answer};
 ghost use Rattle.cedar_names.specs.Leaves.{binary_view};
 ghost use Rattle.cedar_values.specs.Failures.{failure_of};
-ghost use Rattle.cedar_values.specs.Answers.{Answers, FailsWith};
-ghost use Rattle.cedar_operators.specs.Operands.{extensions_view, is_arithmetic, arithmetic_of};
+ghost use Rattle.cedar_values.specs.Answers.{Answers};
+ghost use Rattle.cedar_operators.specs.Operands.{is_arithmetic, arithmetic_of};
 
 use crate::typed::{get_as_long, long_value};
 use cedar_layers::expressions::{BinaryOp, Loc, UnaryOp, Value};
 use cedar_values::evaluator::err::{EvaluationError, evaluation_errors};
-use cedar_values::extensions::Extensions;
 use evaluation_errors::{BinaryOpOverflowError, IntegerOverflowError, UnaryOpOverflowError};
 use std::alloc::Global;
-use std::cmp::Ordering;
 
 // `-arg`: a type error where it is no long, an overflow at this location where the result needs more than 64 bits.
 #[tactic(auto, unfolding(cedar_model::specs::Operators::unary_answer, cedar_model::specs::Operators::expecting))]
@@ -76,23 +72,6 @@ fn checked(op: BinaryOp, m: i64, n: i64) -> Option<i64>
         BinaryOp::GetTag => unreachable!(),
         BinaryOp::HasTag => unreachable!(),
     }
-}
-
-// How two longs compare. Where one side is a long and the other is not, that other is expected to be one, else the left.
-#[tactic(auto, using(crate::proofs::Longs::left_unordered, crate::proofs::Longs::left_expected, crate::proofs::Longs::right_unordered, crate::proofs::Longs::right_expected, crate::proofs::Longs::longs_ordered))]
-pub(crate) fn order(
-    alloc: Global,
-    a: &Value,
-    b: &Value,
-    extensions: &Extensions<'_>,
-) -> Result<Ordering, EvaluationError>
-    ensures ok { IfOk result (λ o. comparison (extensions_view extensions.now) (abstract_value a.now.what) (abstract_value b.now.what) ≡ Some o) }
-    ensures no_order { IfErr result (λ e. failure_of e ≢ Failures.out_of_memory → comparison (extensions_view extensions.now) (abstract_value a.now.what) (abstract_value b.now.what) ≡ None) }
-    ensures error { IfErr result (λ e. FailsWith e (comparison_failure (extensions_view extensions.now) (abstract_value a.now.what) (abstract_value b.now.what))) }
-{
-    let m = get_as_long(alloc, a)?;
-    let n = get_as_long(alloc, b)?;
-    Ok(m.cmp(&n))
 }
 
 #[cold]

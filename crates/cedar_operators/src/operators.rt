@@ -6,13 +6,15 @@ ghost use Rattle.cedar_model.specs.Operators.{unary_answer, binary_answer, like_
 ghost use Rattle.cedar_names.specs.Names.{type_text};
 ghost use Rattle.cedar_names.specs.Leaves.{unary_view, binary_view, pattern_view};
 ghost use Rattle.cedar_values.specs.Answers.{Answers};
-ghost use Rattle.cedar_operators.specs.Operands.{extensions_view, with_extensions, is_relation, is_arithmetic};
+ghost use Rattle.cedar_extensions.specs.Extensions.{no_extensions, extensions_view};
+ghost use Rattle.cedar_operators.specs.Operands.{with_extensions, is_relation, is_arithmetic};
 
-use crate::numbers::{arithmetic, negated, order};
+use crate::numbers::{arithmetic, negated};
+use crate::order::order;
 use crate::typed::{bool_value, get_as_bool, get_as_entity, get_as_set, get_as_string};
+use cedar_extensions::Extensions;
 use cedar_layers::expressions::{BinaryOp, EntityType, Loc, Pattern, UnaryOp, Value};
 use cedar_values::evaluator::err::EvaluationError;
-use cedar_values::extensions::Extensions;
 use std::alloc::Global;
 
 /// An operator on one value: `!` of a boolean, `-` of a long, `isEmpty` of a set. A value of another type is a `TypeError` at the
@@ -33,9 +35,11 @@ pub fn unary_app(
     }
 }
 
-/// A relation of two values, as its caller hands `Eq`, `Less` or `LessEq`: `==` of any two, `<` and `<=` of two longs. Where one
-/// side is a long and the other is not, that other is a `TypeError` that expects a long; else the left is.
-/// The result is at no known location.
+/// A relation of two values, as its caller hands `Eq`, `Less` or `LessEq`: `==` of any two, `<` and `<=` of two longs, or of two
+/// extension values of one type that the extensions overload, by their keys. Others are a `TypeError`: where one side is a long, of
+/// the other side, which is expected to be a long; else where one, the left first, is of an overloaded type, of the other side,
+/// which is expected to be of that type; else of the left, which is expected to be a long or of one of the overloaded types, in
+/// their order. The result is at no known location.
 #[tactic(auto, unfolding(cedar_model::specs::Operators::binary_answer, cedar_model::specs::Operators::expecting))]
 pub fn binary_relation(
     alloc: Global,
@@ -61,6 +65,20 @@ pub fn binary_relation(
         BinaryOp::GetTag => unreachable!(),
         BinaryOp::HasTag => unreachable!(),
     }
+}
+
+/// The same with no extension: `<` and `<=` of two longs alone.
+pub fn plain_relation(
+    alloc: Global,
+    op: BinaryOp,
+    a: &Value,
+    b: &Value,
+) -> Result<Value, EvaluationError>
+    requires { is_relation (binary_view op) ≡ true }
+    ensures { (s : Setting) → Answers result (binary_answer (with_extensions s no_extensions) (binary_view op) a.now.what b.now.what) }
+{
+    let none = Extensions::none();
+    binary_relation(alloc, op, a, b, &none)
 }
 
 /// Arithmetic of two values, as its caller hands `Add`, `Sub` or `Mul`. An operand, the left first, that is no long is a

@@ -10,9 +10,7 @@ ghost use Rattle.cedar_data.specs.Residuals.{residual_term};
 ghost use Rattle.cedar_values.specs.Answers.{AnswersWith};
 ghost use Rattle.cedar_operators.specs.Operands.{unknown_term};
 
-use cedar_layers::expressions::{
-    BinaryOp, Expr, FirstRest, PartialValue, ResidualExpr, Unknown,
-};
+use cedar_layers::expressions::{BinaryOp, Expr, FirstRest, PartialValue, ResidualExpr, Unknown};
 use cedar_values::evaluator::err::EvaluationError;
 use std::alloc::{AllocError, Global};
 use std::rc::RcStr;
@@ -70,18 +68,15 @@ pub fn residual_path(
     part: ResidualExpr,
     attrs: FirstRest<RcStr>,
 ) -> Result<PartialValue, EvaluationError>
-    ensures { AnswersWith result (answers_residual (extended_has (residual_term part) (rc_str_bytes attrs.first) (texts_view attrs.rest.items))) }
+    ensures { AnswersWith result (answers_residual (extended_has (residual_term part) (rc_str_bytes attrs.first)
+        (texts_view attrs.rest.items))) }
 {
     let expr = Expr::ext_has_attr(alloc, part.into_expr(), attrs)?;
     Ok(PartialValue::Residual(ResidualExpr::new(expr)))
 }
 
 /// The attributes of an extended `has`. Refuses only for want of memory.
-pub fn path(
-    alloc: Global,
-    first: &RcStr,
-    others: &[RcStr],
-) -> Result<FirstRest<RcStr>, AllocError>
+pub fn path(alloc: Global, first: &RcStr, others: &[RcStr]) -> Result<FirstRest<RcStr>, AllocError>
     ensures first { IfOk result (λ p. rc_str_bytes p.first ≡ rc_str_bytes first.now) }
     ensures rest { IfOk result (λ p. texts_view p.rest.items ≡ texts_view others.now) }
 {

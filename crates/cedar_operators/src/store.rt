@@ -26,8 +26,10 @@ use evaluation_errors::EntityDoesNotExistError;
 use std::alloc::Global;
 use std::rc::{Rc, RcStr};
 
-/// `a in b`: whether the entity equals an entity on the right, or has it among its ancestors in the store. A type error where the
-/// left is no entity, where the right is neither an entity nor a set, or for the first element of the set that is no entity.
+/// `a in b`: whether the entity equals an entity on the right, or has it among its ancestors in the store; where a partial store
+/// lacks it, `u in b` of the unknown `u` that stands for it, whatever stands right. A `TypeError`, at the value's location, where
+/// the left is no entity, where the right is neither an entity nor a set, or for the first element of the set that is no entity.
+/// The result is at no location.
 #[tactic(auto, unfolding(cedar_model::specs::Operators::expecting))]
 pub fn is_in(
     alloc: Global,
@@ -120,9 +122,10 @@ fn is_in_one(uid: &EntityUID, entity: Option<&Entity>, other: &EntityUID) -> boo
     }
 }
 
-/// `a.getTag(b)`: the entity's tag. A type error where the left is no entity or then the right no text;
-/// `EntityDoesNotExist`, at the location of the entity, where a concrete store lacks it; `EntityAttrDoesNotExist` at this location where
-/// the entity lacks the tag.
+/// `a.getTag(b)`: the entity's tag, as it is stored, at its own location; where a partial store lacks the entity, `u.getTag(b)`, at
+/// no location, of the unknown `u` that stands for it. A `TypeError`, at the value's location, where the left is no entity or then
+/// the right no text; `EntityDoesNotExist`, at the location of the entity, where a concrete store lacks it; `EntityAttrDoesNotExist`,
+/// at the location handed in, where the entity lacks the tag.
 #[tactic(auto, unfolding(cedar_model::specs::Operators::binary_answer, cedar_model::specs::Operators::expecting))]
 pub fn tag_of(
     alloc: Global,
@@ -191,8 +194,9 @@ fn stored_tag(
     }
 }
 
-/// `a.hasTag(b)`: whether the entity has the tag; one that a concrete store lacks has none. A type error where the left is no
-/// entity or then the right no text.
+/// `a.hasTag(b)`: whether the entity has the tag; one that a concrete store lacks has none, and where a partial store lacks it the
+/// answer is `u.hasTag(b)` of the unknown `u` that stands for it. A `TypeError`, at the value's location, where the left is no
+/// entity or then the right no text. The result is at no location.
 #[tactic(auto, unfolding(cedar_model::specs::Operators::binary_answer, cedar_model::specs::Operators::expecting))]
 pub fn has_tag(
     alloc: Global,

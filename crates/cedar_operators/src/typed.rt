@@ -102,9 +102,10 @@ pub(crate) fn get_as_long(alloc: Global, value: &Value) -> Result<i64, Evaluatio
     }
 }
 
+// The long, if the value is one.
 #[tactic(auto, unfolding(cedar_model::specs::Outcomes::long_of))]
 #[inline(always)]
-fn long_in(value: &Value) -> Option<i64>
+pub(crate) fn long_in(value: &Value) -> Option<i64>
     ensures { result ≡ long_of (abstract_value value.now.what) }
 {
     match value.value_kind() {

@@ -1,4 +1,3 @@
-pub mod Answered
 pub mod Fields
 pub mod KeptErrors
 pub mod Projections

@@ -1,4 +1,4 @@
--- The attribute of a part by the rules: what a projection answers is what they allow, and nothing else.
+-- The attribute of a part by the rules: what a projection comes to, they allow.
 use Rattle.std.proofs.Common.{◌≡◌, Bool, true, false, Option, None, Some}
 use Rattle.cedar_model.specs.Terms.{Text, Term, Fields}
 use Rattle.cedar_model.specs.Failures.{PartialValue, value, residual, Answer, answers}
@@ -10,18 +10,21 @@ use Rattle.cedar_model.specs.Rules.{MayAnswer, Resolves, AtKey, AtFields, AtAttr
 use Rattle.cedar_partial_operators.specs.Parts.{Projects, projected, projection_of, projection_at, projection}
 
 module _ (May : MayAnswer) where
-  projects : (b : Bool) (r : Term) (k : Text) (part : Term) (a : Answer) → Projects May (projected b r k part) a → Rules.Projects May b r k part a
+  projects : (b : Bool) (r : Term) (k : Text) (part : Term) (a : Answer) → Projects May (projected b r k part) a
+      → Rules.Projects May b r k part a
   unfolding projected
   projects true r k part a is = is
   projects false r k part a is = is
 
-  at_key : (o : Option Term) (fs : Fields) (r : Term) (k : Text) (a : Answer) → Projects May (projection_of o fs r k) a → AtKey May o fs r k a
+  at_key : (o : Option Term) (fs : Fields) (r : Term) (k : Text) (a : Answer)
+      → Projects May (projection_of o fs r k) a → AtKey May o fs r k a
   unfolding projection_of
   at_key None fs r k a is = is
   at_key (Some part) fs r k a is = projects (is_projectable r) r k part a is
 
   -- of a residual
-  pub at_fields : (o : Option Fields) (r : Term) (k : Text) (a : Answer) → Projects May (projection_at o r k) a → AtFields May o r k a
+  pub at_fields : (o : Option Fields) (r : Term) (k : Text) (a : Answer) → Projects May (projection_at o r k) a
+      → AtFields May o r k a
   unfolding projection_at
   at_fields None r k a is = is
   at_fields (Some fs) r k a is = at_key (term_at k fs) fs r k a is
@@ -31,7 +34,9 @@ module _ (May : MayAnswer) where
   resolves deep o b a is same = absurd (cc)
 
   -- of a part, where stored residuals are answered as they are stored
-  pub at_attribute : (s : Setting) (p : PartialValue) (k : Text) (a : Answer) → s.resolution ≡ shallow → Projects May (projection s p k) a → AtAttribute May s (answers p) k a
+  pub at_attribute : (s : Setting) (p : PartialValue) (k : Text) (a : Answer) → s.resolution ≡ shallow
+      → Projects May (projection s p k) a → AtAttribute May s (answers p) k a
   unfolding projection
-  at_attribute s (value v) k a shallowly is = resolves s.resolution (attribute_residual s.store v k) (attribute_answer s v k) a shallowly is
+  at_attribute s (value v) k a shallowly is = resolves s.resolution (attribute_residual s.store v k)
+      (attribute_answer s v k) a shallowly is
   at_attribute s (residual r) k a shallowly is = at_fields (fields_of_record r) r k a is

@@ -1,25 +1,19 @@
 -- What operators beside residuals are given and answer, as plain data.
-use Rattle.std.specs.Prelude.{◌≡◌, ◌≢◌, Bool, true, false, List, Option, None, Some, Result, Ok, Err}
+use Rattle.std.specs.Prelude.{◌≡◌, ◌≢◌, Bool, true, false, Option, None, Some, Result, Ok, Err}
 use Rattle.cedar_model.specs.Terms.{Text, Term, get_attribute, Fields}
-use Rattle.cedar_model.specs.World.{Extensions}
 use Rattle.cedar_model.specs.Shapes.{is_projectable}
 use Rattle.cedar_model.specs.Failures as model
 use Rattle.cedar_model.specs.Failures.{out_of_memory, value, residual, Answer, answers, fails, answers_residual}
-use Rattle.cedar_model.specs.Settings.{Store, shallow, Setting}
+use Rattle.cedar_model.specs.Settings.{Setting}
 use Rattle.cedar_model.specs.Operators.{attribute_answer, term_at, field_names, key_is_missing}
-use Rattle.cedar_model.specs.Rules.{MayAnswer, AtAttribute, Best, kept, handed_up, fields_of_record}
+use Rattle.cedar_model.specs.Rules.{MayAnswer, Best, kept, handed_up, fields_of_record}
 use Rattle.cedar_expressions.specs.declared.expr.Expr.{Expr}
 use Rattle.cedar_expressions.specs.View.{view}
 use Rattle.cedar_values.specs.Answers.{partial_answer}
 use Rattle.cedar_values.specs.declared.evaluator.err.EvaluationError.{EvaluationError}
 use Rattle.cedar_values.specs.Failures.{failure_of}
-use Rattle.cedar_operators.specs.Operands.{over, with_extensions}
 use Rattle.cedar_partial_operators.specs.declared.attributes.Projected.{Projected}
 use Rattle.cedar_partial_operators.specs.declared.attributes.Projected.TheVariants as projections
-
--- the setting, but over this store, with these extensions and without a map of unknowns
-abbrev pub given : Setting → Store → Extensions → Setting
-given s store x = over (with_extensions s x) store
 
 -- ---- an attribute of a part
 

@@ -36,9 +36,9 @@ pub enum Projected {
     Part(Expr),
 }
 
-/// `part.attr`: of a value as `attribute_of` answers. Of a residual that is a projectable record the part at this key, which is to be
-/// interpreted again; of a residual that is another record, or none, `.attr` around it, at no location. A record that lacks the key
-/// is a `RecordAttrDoesNotExist` at the location handed in.
+/// `part.attr`: of a value as `attribute_of` answers. Of a residual that is a projectable record the part at this
+/// key, which is to be interpreted again; of a residual that is another record, or none, `.attr` around it, at no
+/// location. A record that lacks the key is a `RecordAttrDoesNotExist` at the location handed in.
 #[tactic(auto, unfolding(crate::specs::Parts::projection))]
 pub fn attribute_of_part(
     alloc: Global,
@@ -47,7 +47,8 @@ pub fn attribute_of_part(
     attr: &RcStr,
     loc: Option<&Loc>,
 ) -> Projected
-    ensures { (s : Setting) → ProjectsTo result (projection (over s (store_view entities.now)) (partial_view part) (rc_str_bytes attr.now)) }
+    ensures { (s : Setting) → ProjectsTo result (projection (over s (store_view entities.now)) (partial_view part)
+        (rc_str_bytes attr.now)) }
 {
     match part {
         PartialValue::Value(value) => {
@@ -65,7 +66,8 @@ fn attribute_of_residual(
     attr: &RcStr,
     loc: Option<&Loc>,
 ) -> Projected
-    ensures { ProjectsTo result (projection_at (fields_of_record (residual_term residual)) (residual_term residual) (rc_str_bytes attr.now)) }
+    ensures { ProjectsTo result (projection_at (fields_of_record (residual_term residual)) (residual_term residual)
+        (rc_str_bytes attr.now)) }
 {
     match fields_in(residual.as_expr()) {
         Some(pairs) => match pairs.get(attr) {
@@ -92,8 +94,8 @@ fn again(part: &Expr) -> Projected
     }
 }
 
-/// `part has attr`: of a value as `has_attribute` answers; of a residual that is a projectable record whether it has the key; of
-/// another residual `has` around it. A result that is made here is at no location.
+/// `part has attr`: of a value as `has_attribute` answers; of a residual that is a projectable record whether it has
+/// the key; of another residual `has` around it. A result that is made here is at no location.
 #[tactic(auto, unfolding(cedar_model::specs::Rules::has_part))]
 pub fn has_of_part(
     alloc: Global,
@@ -101,7 +103,8 @@ pub fn has_of_part(
     part: PartialValue,
     attr: &RcStr,
 ) -> Result<PartialValue, EvaluationError>
-    ensures { (s : Setting) → AnswersWith result (has_part (over s (store_view entities.now)) (rc_str_bytes attr.now) (answers (partial_view part))) }
+    ensures { (s : Setting) → AnswersWith result (has_part (over s (store_view entities.now)) (rc_str_bytes attr.now)
+        (answers (partial_view part))) }
 {
     match part {
         PartialValue::Value(value) => has_attribute(alloc, entities, &value, attr),
@@ -116,7 +119,8 @@ fn has_of_residual(
     residual: ResidualExpr,
     attr: &RcStr,
 ) -> Result<PartialValue, EvaluationError>
-    ensures { AnswersWith result (has_in_fields (fields_of_record (residual_term residual)) (is_projectable (residual_term residual)) (residual_term residual) (rc_str_bytes attr.now)) }
+    ensures { AnswersWith result (has_in_fields (fields_of_record (residual_term residual)) (is_projectable
+        (residual_term residual)) (residual_term residual) (rc_str_bytes attr.now)) }
 {
     match fields_in(residual.as_expr()) {
         Some(pairs) => {
@@ -145,7 +149,9 @@ pub fn extended_has_of_part(
     part: PartialValue,
     attrs: &FirstRest<RcStr>,
 ) -> Result<PartialValue, EvaluationError>
-    ensures { AnswersWith result (on_part (λ v. path_answer (store_view entities.now) v (rc_str_bytes attrs.now.first) (texts_view attrs.now.rest.items)) (λ r. extended_has r (rc_str_bytes attrs.now.first) (texts_view attrs.now.rest.items)) (answers (partial_view part))) }
+    ensures { AnswersWith result (on_part (λ v. path_answer (store_view entities.now) v
+        (rc_str_bytes attrs.now.first) (texts_view attrs.now.rest.items)) (λ r. extended_has r
+        (rc_str_bytes attrs.now.first) (texts_view attrs.now.rest.items)) (answers (partial_view part))) }
 {
     match part {
         PartialValue::Value(value) => has_path(alloc, entities, &value, attrs),
@@ -159,7 +165,8 @@ fn path_of_residual(
     residual: ResidualExpr,
     attrs: &FirstRest<RcStr>,
 ) -> Result<PartialValue, EvaluationError>
-    ensures { AnswersWith result (answers_residual (extended_has (residual_term residual) (rc_str_bytes attrs.now.first) (texts_view attrs.now.rest.items))) }
+    ensures { AnswersWith result (answers_residual (extended_has (residual_term residual)
+        (rc_str_bytes attrs.now.first) (texts_view attrs.now.rest.items))) }
 {
     let attrs = path(alloc, &attrs.first, attrs.rest.as_slice())?;
     residual_path(alloc, residual, attrs)

@@ -3,7 +3,6 @@ ghost use Rattle.std.specs.Prelude.{◌≡◌, ◌||◌, true, IfOk};
 ghost use Rattle.cedar_model.specs.Failures.{part_expression};
 ghost use Rattle.cedar_model.specs.Settings.{Setting};
 ghost use Rattle.cedar_model.specs.Shapes.{has_unknown};
-ghost use Rattle.cedar_model.specs.Operators.{binary_answer};
 ghost use Rattle.cedar_model.specs.Rules as Rules;
 ghost use Rattle.cedar_model.specs.Rules.{kept_binary, differ_by_type, are_apart, entity_type_of};
 ghost use Rattle.cedar_names.specs.Leaves.{binary_view};
@@ -11,54 +10,22 @@ ghost use Rattle.cedar_expressions.specs.View.{view};
 ghost use Rattle.cedar_data.specs.Residuals.{partial_view};
 ghost use Rattle.cedar_layers.specs.Stores.{store_view};
 ghost use Rattle.cedar_values.specs.Answers.{AnswersWith};
-ghost use Rattle.cedar_operators.specs.Operands.{extensions_view};
-ghost use Rattle.cedar_partial_operators.specs.Parts.{given};
+ghost use Rattle.cedar_extensions.specs.Extensions.{extensions_view};
+ghost use Rattle.cedar_operators.specs.Operands.{given};
 
 use crate::shapes::type_in_part;
-use cedar_layers::expressions::{BinaryOp, Expr, Loc, PartialValue, Value};
+use cedar_layers::expressions::{BinaryOp, Expr, Loc, PartialValue};
 use cedar_layers::policies::Entities;
-use cedar_operators::operators::{binary_arith, binary_relation};
+use cedar_operators::binary::binary_app;
 use cedar_operators::residuals::residual_binary;
-use cedar_operators::sets::{contains, contains_all, contains_any};
-use cedar_operators::store::{has_tag, is_in, tag_of};
-use cedar_operators::typed::{as_part, bool_part};
+use cedar_operators::typed::bool_part;
 use cedar_values::evaluator::err::EvaluationError;
-use cedar_values::extensions::Extensions;
+use cedar_extensions::Extensions;
 use std::alloc::{AllocError, Global};
 
-/// An operator on two values, over this store and with these extensions: what `binary_relation`, `binary_arith`, `contains`,
-/// `contains_all`, `contains_any`, `is_in`, `tag_of` or `has_tag` answers.
-#[tactic(auto, unfolding(cedar_model::specs::Operators::binary_answer))]
-pub fn binary_app(
-    alloc: Global,
-    entities: &Entities,
-    extensions: &Extensions<'_>,
-    op: BinaryOp,
-    first: Value,
-    second: Value,
-    loc: Option<&Loc>,
-) -> Result<PartialValue, EvaluationError>
-    ensures { (s : Setting) → AnswersWith result (binary_answer (given s (store_view entities.now) (extensions_view extensions.now)) (binary_view op) first.what second.what) }
-{
-    match op {
-        BinaryOp::Eq => as_part(binary_relation(alloc, op, &first, &second, extensions)),
-        BinaryOp::Less => as_part(binary_relation(alloc, op, &first, &second, extensions)),
-        BinaryOp::LessEq => as_part(binary_relation(alloc, op, &first, &second, extensions)),
-        BinaryOp::Add => as_part(binary_arith(alloc, op, first, second, loc)),
-        BinaryOp::Sub => as_part(binary_arith(alloc, op, first, second, loc)),
-        BinaryOp::Mul => as_part(binary_arith(alloc, op, first, second, loc)),
-        BinaryOp::In => is_in(alloc, entities, &first, &second),
-        BinaryOp::Contains => as_part(contains(alloc, &first, &second)),
-        BinaryOp::ContainsAll => as_part(contains_all(alloc, &first, &second)),
-        BinaryOp::ContainsAny => as_part(contains_any(alloc, &first, &second)),
-        BinaryOp::GetTag => tag_of(alloc, entities, &first, &second, loc),
-        BinaryOp::HasTag => has_tag(alloc, entities, &first, &second),
-    }
-}
-
-/// An operator on two parts: of two values as `binary_app` answers; where one is a residual, the operator around both as
-/// expressions, but `false` for `==` of parts whose entity types are known and differ: an entity's, or that which an unknown is
-/// annotated with. A result that is made here is at no location.
+/// An operator on two parts: of two values as `binary_app` answers; where one is a residual, the operator around both
+/// as expressions, but `false` for `==` of parts whose entity types are known and differ: an entity's, or that which
+/// an unknown is annotated with. A result that is made here is at no location.
 #[tactic(auto, unfolding(cedar_model::specs::Rules::binary_of_parts, cedar_model::specs::Failures::part_expression))]
 pub fn binary_of_parts(
     alloc: Global,
@@ -69,7 +36,8 @@ pub fn binary_of_parts(
     second: PartialValue,
     loc: Option<&Loc>,
 ) -> Result<PartialValue, EvaluationError>
-    ensures { (s : Setting) → AnswersWith result (Rules.binary_of_parts (given s (store_view entities.now) (extensions_view extensions.now)) (binary_view op) (partial_view first) (partial_view second)) }
+    ensures { (s : Setting) → AnswersWith result (Rules.binary_of_parts (given s (store_view entities.now)
+        (extensions_view extensions.now)) (binary_view op) (partial_view first) (partial_view second)) }
 {
     match first {
         PartialValue::Value(a) => match second {
@@ -83,7 +51,12 @@ pub fn binary_of_parts(
                 kept(alloc, op, PartialValue::Residual(q), PartialValue::Value(b))
             }
             PartialValue::Residual(r) => {
-                kept(alloc, op, PartialValue::Residual(q), PartialValue::Residual(r))
+                kept(
+                    alloc,
+                    op,
+                    PartialValue::Residual(q),
+                    PartialValue::Residual(r),
+                )
             }
         },
     }
@@ -96,7 +69,8 @@ fn kept(
     first: PartialValue,
     second: PartialValue,
 ) -> Result<PartialValue, EvaluationError>
-    requires { has_unknown (part_expression (partial_view first)) || has_unknown (part_expression (partial_view second)) ≡ true }
+    requires { has_unknown (part_expression (partial_view first)) || has_unknown (part_expression
+        (partial_view second)) ≡ true }
     ensures { AnswersWith result (kept_binary (binary_view op) (partial_view first) (partial_view second)) }
 {
     if differ_by_type(op, &first, &second) {

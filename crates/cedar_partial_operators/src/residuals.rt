@@ -26,7 +26,7 @@ pub(crate) fn residual_unary(
 }
 
 // `true && part`
-pub(crate) fn residual_and(
+pub(crate) fn true_and_residual(
     alloc: Global,
     part: ResidualExpr,
 ) -> Result<PartialValue, EvaluationError>
@@ -37,7 +37,7 @@ pub(crate) fn residual_and(
 }
 
 // `false || part`
-pub(crate) fn residual_or(
+pub(crate) fn false_or_residual(
     alloc: Global,
     part: ResidualExpr,
 ) -> Result<PartialValue, EvaluationError>

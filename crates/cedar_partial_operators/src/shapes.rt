@@ -16,7 +16,8 @@ use std::rc::RcStr;
 // The parts of a record under their keys, if the expression is one.
 #[tactic(auto, using(cedar_expressions::proofs::Levels::levels), unfolding(cedar_model::specs::Rules::fields_of_record))]
 pub(crate) fn fields_in(e: &Expr) -> Option<&BTreeMap<RcStr, Expr>>
-    ensures { MatchOption result (fields_of_record (view e.now) ≡ None) (λ m. fields_of_record (view e.now) ≡ Some (fields_view m.now.entries)) }
+    ensures { MatchOption result (fields_of_record (view e.now) ≡ None) (λ m. fields_of_record (view e.now)
+        ≡ Some (fields_view m.now.entries)) }
 {
     match e.expr_kind() {
         ExprKind::Lit(_) => None,
@@ -59,7 +60,8 @@ pub(crate) fn fields_in(e: &Expr) -> Option<&BTreeMap<RcStr, Expr>>
 // The entity type that an unknown is annotated with, if the expression is one.
 #[tactic(auto, using(cedar_expressions::proofs::Levels::levels), unfolding(cedar_model::specs::Rules::entity_type_of_residual))]
 pub(crate) fn type_in_residual(e: &Expr) -> Option<&EntityType>
-    ensures { MatchOption result (entity_type_of_residual (view e.now) ≡ None) (λ t. entity_type_of_residual (view e.now) ≡ Some (type_text t.now)) }
+    ensures { MatchOption result (entity_type_of_residual (view e.now)
+        ≡ None) (λ t. entity_type_of_residual (view e.now) ≡ Some (type_text t.now)) }
 {
     match e.expr_kind() {
         ExprKind::Lit(_) => None,
@@ -102,7 +104,8 @@ pub(crate) fn type_in_residual(e: &Expr) -> Option<&EntityType>
 // The entity type that the unknown is annotated with.
 #[tactic(auto, unfolding(cedar_model::specs::Rules::annotated_type))]
 fn annotated_type(unknown: &Unknown) -> Option<&EntityType>
-    ensures { MatchOption result (annotated_type (option_map type_view unknown.now.type_annotation) ≡ None) (λ t. annotated_type (option_map type_view unknown.now.type_annotation) ≡ Some (type_text t.now)) }
+    ensures { MatchOption result (annotated_type (option_map type_view unknown.now.type_annotation)
+        ≡ None) (λ t. annotated_type (option_map type_view unknown.now.type_annotation) ≡ Some (type_text t.now)) }
 {
     match &unknown.type_annotation {
         Some(annotation) => match annotation {
@@ -121,7 +124,8 @@ fn annotated_type(unknown: &Unknown) -> Option<&EntityType>
 // The entity type of a part: an entity's, or that which an unknown is annotated with.
 #[tactic(auto, unfolding(cedar_model::specs::Rules::entity_type_of, cedar_model::specs::Rules::type_of_entity))]
 pub(crate) fn type_in_part(part: &PartialValue) -> Option<&EntityType>
-    ensures { MatchOption result (entity_type_of (partial_view part.now) ≡ None) (λ t. entity_type_of (partial_view part.now) ≡ Some (type_text t.now)) }
+    ensures { MatchOption result (entity_type_of (partial_view part.now)
+        ≡ None) (λ t. entity_type_of (partial_view part.now) ≡ Some (type_text t.now)) }
 {
     match part {
         PartialValue::Value(value) => match entity_in(value) {

@@ -16,7 +16,8 @@ use cedar_operators::typed::{as_part, bool_part};
 use cedar_values::evaluator::err::EvaluationError;
 use std::alloc::Global;
 
-/// An operator on one part: of a value as `unary_app` answers, of a residual the operator around it. The result is at no location.
+/// An operator on one part: of a value as `unary_app` answers, of a residual the operator around it. The result is at
+/// no location.
 #[tactic(auto, unfolding(cedar_model::specs::Rules::on_part))]
 pub fn unary_of_part(
     alloc: Global,
@@ -24,7 +25,8 @@ pub fn unary_of_part(
     part: PartialValue,
     loc: Option<&Loc>,
 ) -> Result<PartialValue, EvaluationError>
-    ensures { AnswersWith result (on_part (unary_answer (unary_view op)) (unary (unary_view op)) (answers (partial_view part))) }
+    ensures { AnswersWith result (on_part (unary_answer (unary_view op)) (unary (unary_view op)) (answers
+        (partial_view part))) }
 {
     match part {
         PartialValue::Value(value) => as_part(unary_app(alloc, op, value, loc)),
@@ -32,15 +34,16 @@ pub fn unary_of_part(
     }
 }
 
-/// `part like pattern`: of a value whether the text is one of the pattern's, or a `TypeError` where it is no text; of a residual
-/// `like` around it. The result is at no location.
+/// `part like pattern`: of a value whether the text is one of the pattern's, or a `TypeError` where it is no text; of
+/// a residual `like` around it. The result is at no location.
 #[tactic(auto, unfolding(cedar_model::specs::Rules::on_part))]
 pub fn like_of_part(
     alloc: Global,
     part: PartialValue,
     pattern: &Pattern,
 ) -> Result<PartialValue, EvaluationError>
-    ensures { AnswersWith result (on_part (like_answer (pattern_view pattern.now)) (λ r. like r (pattern_view pattern.now)) (answers (partial_view part))) }
+    ensures { AnswersWith result (on_part (like_answer (pattern_view pattern.now)) (λ r. like r
+        (pattern_view pattern.now)) (answers (partial_view part))) }
 {
     match part {
         PartialValue::Value(value) => as_part(likeness(alloc, &value, pattern)),
@@ -48,8 +51,9 @@ pub fn like_of_part(
     }
 }
 
-/// `part is entity_type`: of a value whether the entity is of the type, or a `TypeError` where it is no entity; of an unknown that is
-/// annotated with an entity type whether that type is this one; of another residual `is` around it. The result is at no location.
+/// `part is entity_type`: of a value whether the entity is of the type, or a `TypeError` where it is no entity; of an
+/// unknown that is annotated with an entity type whether that type is this one; of another residual `is` around it.
+/// The result is at no location.
 #[tactic(auto, unfolding(cedar_model::specs::Rules::is_part))]
 pub fn is_of_part(
     alloc: Global,
@@ -71,7 +75,8 @@ fn is_of_residual(
     residual: ResidualExpr,
     entity_type: &EntityType,
 ) -> Result<PartialValue, EvaluationError>
-    ensures { AnswersWith result (is_annotated (entity_type_of_residual (residual_term residual)) (residual_term residual) (type_text entity_type.now)) }
+    ensures { AnswersWith result (is_annotated (entity_type_of_residual (residual_term residual))
+        (residual_term residual) (type_text entity_type.now)) }
 {
     match type_in_residual(residual.as_expr()) {
         Some(annotated) => Ok(bool_part(annotated == entity_type)),

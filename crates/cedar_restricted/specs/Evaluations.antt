@@ -1,5 +1,5 @@
 -- What a restricted expression may answer, as plain data.
-use Rattle.std.specs.Prelude.{◌≡◌, ◌≢◌, ◌↔◌, ℕ, Bool, true, false, [], None, Result, Ok, Err, alloc_error}
+use Rattle.std.specs.Prelude.{◌≡◌, ◌≢◌, ◌↔◌, ℕ, Bool, true, false, None, Result, Ok, Err, alloc_error}
 use Rattle.cedar_model.specs.Terms.{Term}
 use Rattle.cedar_model.specs.World as model
 use Rattle.cedar_model.specs.Failures.{residual_is_left, Answer, value, residual, answers, fails, limit, out_of_memory}
@@ -18,22 +18,14 @@ only_values (fails e) = fails e
 
 -- ---- what is given
 
--- no function is stored
-abbrev pub NoCalls : StoredCalls
-NoCalls f vs a = ⊥
-
--- no extension
-abbrev pub no_functions : model.Extensions
-no_functions = record { arity = λ f. None; overloaded = [] }
-
--- there is neither a map nor an extension; what else is given is not read
-pub record IsBare (s : Setting) : Type 0 where
+-- these extensions, and no map; what else is given is not read
+pub record IsBare (x : model.Extensions) (s : Setting) : Type 0 where
   pub no_map : s.map ≡ (λ n. None)
-  pub no_extensions : s.extensions ≡ no_functions
+  pub has_extensions : s.extensions ≡ x
 
 -- the least that is given
-abbrev pub bare : Setting
-bare =
+abbrev pub bare : model.Extensions → Setting
+bare x =
     record {
       request = record {
         principal_entry = unknown_entry None;
@@ -44,21 +36,22 @@ bare =
       store = record { entity = λ e. None; is_partial = false };
       map = λ n. None;
       slots = λ i. None;
-      extensions = no_functions;
+      extensions = x;
       resolution = shallow;
     }
 
 -- ---- what is answered
 
--- with so many levels: the recursion limit exactly where the need is above them, else what the rules allow
-pub record IsAnswerWithin (s : Setting) (levels : ℕ) (t : Term) (a : Answer) : Type 0 where
-  pub runs : Runs s NoCalls levels t a
-  pub limited : a ≡ limit ↔ Exceeds s NoCalls t levels
-  pub allowed : a ≢ limit → Allows s NoCalls t a
+-- with so many levels, where stored functions may answer this: the recursion limit exactly where the need is above
+-- them, else what the rules allow
+pub record IsAnswerWithin (s : Setting) (calls : StoredCalls) (levels : ℕ) (t : Term) (a : Answer) : Type 0 where
+  pub runs : Runs s calls levels t a
+  pub limited : a ≡ limit ↔ Exceeds s calls t levels
+  pub allowed : a ≢ limit → Allows s calls t a
 
 -- and of a residual the error that it is left
-abbrev pub IsValueWithin : Setting → ℕ → Term → Answer → Type 0
-IsValueWithin s levels t a = (b : Answer) × IsAnswerWithin s levels t b × (a ≡ only_values b)
+abbrev pub IsValueWithin : Setting → StoredCalls → ℕ → Term → Answer → Type 0
+IsValueWithin s calls levels t a = (b : Answer) × IsAnswerWithin s calls levels t b × (a ≡ only_values b)
 
 -- ---- errors that end an evaluation at once
 

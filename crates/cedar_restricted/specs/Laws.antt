@@ -1,5 +1,6 @@
 -- The laws of the evaluation over frames.
-use Rattle.std.specs.Prelude.{◌≡◌, ◌≢◌, ℕ, suc, ◌+◌, ◌-◌, ◌^◌, ◌<◌, ◌≤◌, true, false, List, [], ◌∷◌, ◌++◌, length, drop, Option, Result, Ok, Err, IfOk}
+use Rattle.std.specs.Prelude.{◌≡◌, ◌≢◌, ℕ, suc, ◌+◌, ◌-◌, ◌^◌, ◌<◌, ◌≤◌, true, false, List, [], ◌∷◌, ◌++◌, length, drop}
+use Rattle.std.specs.Prelude.{Option, Result, Ok, Err, IfOk}
 use Rattle.std.proofs.Common.{refl, sym, ap, ◌∙◌, subst, arith}
 use Rattle.cedar_model.specs.Terms.{Text, Term, Literal, ValueType, literal, unknown}
 use Rattle.cedar_model.specs.Values.{plain_represented}
@@ -7,7 +8,8 @@ use Rattle.cedar_model.specs.Operators.{mapped}
 use Rattle.cedar_model.specs.Failures as model
 use Rattle.cedar_model.specs.Failures.{Failure, Answer, answers, fails, out_of_memory}
 use Rattle.cedar_model.specs.Shapes.{is_restricted}
-use Rattle.cedar_model.specs.Rules.{Rule, Runs, Parts}
+use Rattle.cedar_model.specs.Rules.{StoredCalls, Rule, Runs, Parts}
+use Rattle.cedar_model.specs.World as world
 use Rattle.cedar_names.specs.declared.names.Loc.{Loc}
 use Rattle.cedar_expressions.specs.declared.expr.Expr.{Expr}
 use Rattle.cedar_expressions.specs.View.{view, terms_view, expr_loc}
@@ -20,12 +22,15 @@ use Rattle.cedar_frames.specs.Frames.{Resumes, Fewer, Below}
 use Rattle.cedar_restricted.specs.declared.answers.Answers.{Answers}
 use Rattle.cedar_restricted.specs.declared.parts.PartsFrame.{PartsFrame}
 use Rattle.cedar_restricted.specs.declared.whole.Whole.{Whole}
-use Rattle.cedar_restricted.specs.Evaluations.{partial_answer, AnswersWith, NoCalls, bare, ends_all, limit_error, want_error}
+use Rattle.cedar_restricted.specs.Evaluations.{partial_answer, AnswersWith, bare, ends_all, limit_error}
+use Rattle.cedar_restricted.specs.Evaluations.{want_error}
 use Rattle.cedar_restricted.specs.Parts as shapes
-use Rattle.cedar_restricted.specs.Parts.{whole_term, HasKeys, count, Are, made}
-use Rattle.cedar_restricted.specs.Frames.{NextPart, Reads, Begun, Begins, Continued, GoesOn, HasRead, IsNext, Waits, IsRight, left_of}
+use Rattle.cedar_restricted.specs.Parts.{whole_term, HasKeys, count, Are, Makes}
+use Rattle.cedar_restricted.specs.Frames.{NextPart, Reads, Begun, Begins, Continued, GoesOn, HasRead, IsNext, Waits}
+use Rattle.cedar_restricted.specs.Frames.{IsRight, left_of}
 use Rattle.cedar_restricted.specs.Frames as frames
-use Rattle.cedar_restricted.specs.Steps.{so_far_none, so_far_more, so_far_all, so_far_fails, whole_fails, whole_answers, parts_restricted, next_restricted, left_after, none_left}
+use Rattle.cedar_restricted.specs.Steps.{so_far_none, so_far_more, so_far_all, so_far_fails, whole_fails, whole_answers}
+use Rattle.cedar_restricted.specs.Steps.{parts_restricted, next_restricted, left_after, none_left}
 
 no_fail : (p : model.PartialValue) (e : Failure) → answers p ≢ fails e
 no_fail p e h = cc
@@ -33,60 +38,78 @@ no_fail p e h = cc
 same_failure : (e : Failure) → fails e ≢ fails out_of_memory → e ≢ out_of_memory
 same_failure e h is = h (ap fails is)
 
-no_place : (l : Option Loc) (r : Result PartialValue EvaluationError) (e : Failure) → partial_answer r ≡ fails e → IfOk r (λ p. partial_loc p ≡ l)
+no_place : (l : Option Loc) (r : Result PartialValue EvaluationError) (e : Failure) → partial_answer r ≡ fails e →
+    IfOk r (λ p. partial_loc p ≡ l)
 no_place l (Ok p) e h = absurd (no_fail (partial_view p) e h)
 no_place l (Err x) e h = tt
 
 -- ---- the next part, or the whole
 
-module _ (k : ℕ) (t : Expr) where
+module _ (x : world.Extensions) (calls : StoredCalls) (k : ℕ) (t : Expr) where
   pub reads_right : (whole : Whole) (parts : frames.Parts) (a : Answers) (loc : Option Loc) (s : NextPart) →
-      whole_term whole (terms_view parts.value.items) ≡ view t → HasKeys whole (length parts.value.items) → loc ≡ expr_loc t →
-      (is_restricted (view t) ≡ true → HasRead (Runs bare NoCalls k) parts a) → Reads whole parts a loc s →
-      Resumes IsRight Waits k t s
+      whole_term whole (terms_view parts.value.items) ≡ view t → HasKeys whole (length parts.value.items) → loc ≡
+      expr_loc t →
+      (is_restricted (view t) ≡ true → HasRead (Runs (bare x) calls k) parts a) → Reads x calls whole parts a loc s →
+      Resumes (IsRight x calls) (Waits x calls) k t s
   reads_right whole parts a loc (Wait f c) term keys place read (w, p, b, l, n) = record {
-    term = ap (λ x. whole_term x (terms_view f.parts.value.items)) w ∙ ap (λ x. whole_term whole (terms_view x.value.items)) p ∙ term;
+    term = ap (λ y. whole_term y (terms_view f.parts.value.items)) w ∙
+        ap (λ y. whole_term whole (terms_view y.value.items)) p ∙ term;
     place = l ∙ place;
-    next = subst (λ x. IsNext x f.answers c) (sym p) (subst (λ x. IsNext parts x c) (sym b) n);
-    read = λ is_r. subst (λ x. HasRead (Runs bare NoCalls k) x f.answers) (sym p) (subst (λ x. HasRead (Runs bare NoCalls k) parts x) (sym b) (read is_r));
+    next = subst (λ y. IsNext y f.answers c) (sym p) (subst (λ y. IsNext parts y c) (sym b) n);
+    read = λ is_r. subst (λ y. HasRead (Runs (bare x) calls k) y f.answers) (sym p)
+        (subst (λ y. HasRead (Runs (bare x) calls k) parts y) (sym b) (read is_r));
   }
   reads_right whole parts a loc (Done r) term keys place read (h, l) = record {
     answer = λ is_r ok. finished is_r (h ok);
-    place = subst (λ x. IfOk r (λ p. partial_loc p ≡ x)) place l;
+    place = subst (λ y. IfOk r (λ p. partial_loc p ≡ y)) place l;
   }
     where
-      finished : is_restricted (view t) ≡ true → (count a ≡ length parts.value.items) × (partial_answer r ≡ made whole a) → Runs bare NoCalls (suc k) (view t) (partial_answer r)
-      finished is_r x =
+      finished : is_restricted (view t) ≡ true → (count a ≡ length parts.value.items) ×
+          Makes x calls whole a (partial_answer r) → Runs (bare x) calls (suc k) (view t) (partial_answer r)
+      finished is_r all_made =
           let so_far = read is_r in
           let items = parts.value.items in
-          let all : Parts (Runs bare NoCalls k) (terms_view items) (Ok so_far.0) = so_far_all (Runs bare NoCalls k) (terms_view items) _ so_far.0 so_far.2 (none_left items (count a) x.0) in
-          let rule : Rule bare NoCalls (Runs bare NoCalls k) (whole_term whole (terms_view items)) (made whole a) = whole_answers bare (λ f. refl) (Runs bare NoCalls k) whole items a so_far.0 keys x.0 so_far.1 all in
-          subst (λ b. Runs bare NoCalls (suc k) (view t) b) (sym x.1) (subst (λ u. Runs bare NoCalls (suc k) u (made whole a)) term rule)
+          let all : Parts (Runs (bare x) calls k) (terms_view items) (Ok so_far.0) =
+          so_far_all (Runs (bare x) calls k) (terms_view items) _ so_far.0 so_far.2
+          (none_left items (count a) all_made.0) in
+          let rule : Rule (bare x) calls (Runs (bare x) calls k) (whole_term whole (terms_view items))
+          (partial_answer r) =
+          whole_answers (bare x) calls (Runs (bare x) calls k) whole items a so_far.0 (partial_answer r)
+          keys all_made.0 so_far.1 all all_made.1 in
+          subst (λ u. Runs (bare x) calls (suc k) u (partial_answer r)) term rule
 
-  begun_read : (parts : frames.Parts) (a : Answers) → Are a [] → count a ≡ 0 → HasRead (Runs bare NoCalls k) parts a
-  begun_read parts a none zero_count =
-      ([], none, subst (λ n. shapes.SoFar (Runs bare NoCalls k) (terms_view parts.value.items) (terms_view (drop n parts.value.items)) []) (sym zero_count) (so_far_none (Runs bare NoCalls k) (terms_view parts.value.items)))
+  begun_read : (parts : frames.Parts) (a : Answers) → Are a [] → count a ≡ 0 → HasRead (Runs (bare x) calls k) parts a
+  begun_read parts a none zero_count = (
+    [],
+    none,
+    subst (λ n. shapes.SoFar (Runs (bare x) calls k) (terms_view parts.value.items)
+        (terms_view (drop n parts.value.items)) []) (sym zero_count)
+        (so_far_none (Runs (bare x) calls k) (terms_view parts.value.items)),
+  )
 
-  begun_right : (loc : Option Loc) (s : NextPart) → loc ≡ expr_loc t → Begun (view t) loc s → Resumes IsRight Waits k t s
+  begun_right : (loc : Option Loc) (s : NextPart) → loc ≡ expr_loc t → Begun x calls (view t) loc s →
+      Resumes (IsRight x calls) (Waits x calls) k t s
   begun_right loc s place b =
-      reads_right b.whole b.parts b.answers loc s b.term b.keys place (λ is_r. begun_read b.parts b.answers b.none.0 b.none.1) b.reads
+      reads_right b.whole b.parts b.answers loc s b.term b.keys place
+      (λ is_r. begun_read b.parts b.answers b.none.0 b.none.1) b.reads
 
   -- an expression that begins
-  pub begins_right : (loc : Option Loc) (s : NextPart) → loc ≡ expr_loc t → Begins (view t) loc s → Resumes IsRight Waits k t s
+  pub begins_right : (loc : Option Loc) (s : NextPart) → loc ≡ expr_loc t → Begins x calls (view t) loc s →
+      Resumes (IsRight x calls) (Waits x calls) k t s
   begins_right loc (Wait f c) place b = begun_right loc (Wait f c) place b
   begins_right loc (Done r) place (b, l) = record {
     answer = λ is_r ok. (begun_right loc (Done r) place (b ok)).answer is_r ok;
-    place = subst (λ x. IfOk r (λ p. partial_loc p ≡ x)) place l;
+    place = subst (λ y. IfOk r (λ p. partial_loc p ≡ y)) place l;
   }
 
 -- ---- on with an answer
 
 -- this failure of the part is right
-abbrev pub IsRightFailure : ℕ → Expr → Failure → Type 0
-IsRightFailure k c e =
-    is_restricted (view c) ≡ true → fails e ≢ fails out_of_memory → Runs bare NoCalls k (view c) (fails e)
+abbrev pub IsRightFailure : world.Extensions → StoredCalls → ℕ → Expr → Failure → Type 0
+IsRightFailure x calls k c e =
+    is_restricted (view c) ≡ true → fails e ≢ fails out_of_memory → Runs (bare x) calls k (view c) (fails e)
 
-module _ (k : ℕ) (f : PartsFrame) (t c : Expr) (w : Waits k f t c) where
+module _ (x : world.Extensions) (calls : StoredCalls) (k : ℕ) (f : PartsFrame) (t c : Expr) (w : Waits x calls k f t c) where
   part_restricted : is_restricted (view t) ≡ true → is_restricted (view c) ≡ true
   part_restricted is_r =
       let items = f.parts.value.items in
@@ -94,59 +117,78 @@ module _ (k : ℕ) (f : PartsFrame) (t c : Expr) (w : Waits k f t c) where
       next_restricted items (count f.answers) (view c) w.next.0 (parts_restricted f.whole items f.keys whole) w.next.1
 
   -- the failure of a part is the whole's
-  pub failure_upward : (e : Failure) (r : Result PartialValue EvaluationError) → IsRightFailure k c e → partial_answer r ≡ fails e → IsRight (suc k) t r
+  pub failure_upward : (e : Failure) (r : Result PartialValue EvaluationError) → IsRightFailure x calls k c e →
+      partial_answer r ≡ fails e → IsRight x calls (suc k) t r
   failure_upward e r right is = record {
     answer = λ is_r ok.
-        let no_memory : fails e ≢ fails out_of_memory = λ x. ok (is ∙ x) in
+        let no_memory : fails e ≢ fails out_of_memory = λ y. ok (is ∙ y) in
         let items = f.parts.value.items in
         let so_far = w.read is_r in
-        let parts : Parts (Runs bare NoCalls k) (terms_view items) (Err e) = so_far_fails (Runs bare NoCalls k) (terms_view items) _ w.next.0 (view c) so_far.0 e so_far.2 w.next.1 (right (part_restricted is_r) no_memory) in
-        let rule : Rule bare NoCalls (Runs bare NoCalls k) (whole_term f.whole (terms_view items)) (fails e) = whole_fails bare (λ g. refl) (Runs bare NoCalls k) f.whole items e f.keys parts in
-        subst (λ b. Runs bare NoCalls (suc k) (view t) b) (sym is) (subst (λ u. Runs bare NoCalls (suc k) u (fails e)) w.term rule);
+        let parts : Parts (Runs (bare x) calls k) (terms_view items) (Err e) =
+        so_far_fails (Runs (bare x) calls k)
+        (terms_view items) _ w.next.0 (view c) so_far.0 e
+        so_far.2 w.next.1 (right (part_restricted is_r) no_memory) in
+        let rule : Rule (bare x) calls (Runs (bare x) calls k) (whole_term f.whole (terms_view items)) (fails e) =
+        whole_fails (bare x) calls (Runs (bare x) calls k) f.whole items e f.keys parts in
+        subst (λ b. Runs (bare x) calls (suc k) (view t) b) (sym is)
+        (subst (λ u. Runs (bare x) calls (suc k) u (fails e)) w.term rule);
     place = no_place (expr_loc t) r e is;
   }
 
-  continued_read : (p : PartialValue) (a : Answers) → IsRight k c (Ok p) →
-      ((ps : List model.PartialValue) → Are f.answers ps → Are a (ps ++ partial_view p ∷ [])) → count a ≡ suc (count f.answers) →
-      is_restricted (view t) ≡ true → HasRead (Runs bare NoCalls k) f.parts a
+  continued_read : (p : PartialValue) (a : Answers) → IsRight x calls k c (Ok p) →
+      ((ps : List model.PartialValue) → Are f.answers ps → Are a (ps ++ partial_view p ∷ [])) → count a ≡
+      suc (count f.answers) →
+      is_restricted (view t) ≡ true → HasRead (Runs (bare x) calls k) f.parts a
   continued_read p a right one_more counted is_r =
       let items = f.parts.value.items in
       let so_far = w.read is_r in
-      let gives : Runs bare NoCalls k (view c) (answers (partial_view p)) = right.answer (part_restricted is_r) (no_fail (partial_view p) out_of_memory) in
-      let rest : terms_view (drop (count a) items) ≡ w.next.0 = ap (λ n. terms_view (drop n items)) counted ∙ left_after items (count f.answers) (view c) w.next.0 w.next.1 in
-      (so_far.0 ++ partial_view p ∷ [], one_more so_far.0 so_far.1, subst (λ ts. shapes.SoFar (Runs bare NoCalls k) (terms_view items) ts (so_far.0 ++ partial_view p ∷ [])) (sym rest) (so_far_more (Runs bare NoCalls k) (terms_view items) _ w.next.0 (view c) so_far.0 (partial_view p) so_far.2 w.next.1 gives))
+      let gives : Runs (bare x) calls k (view c) (answers (partial_view p)) =
+      right.answer (part_restricted is_r) (no_fail (partial_view p) out_of_memory) in
+      let rest : terms_view (drop (count a) items) ≡ w.next.0 = ap (λ n. terms_view (drop n items)) counted ∙
+      left_after items (count f.answers) (view c) w.next.0 w.next.1 in (
+        so_far.0 ++ partial_view p ∷ [],
+        one_more so_far.0 so_far.1,
+        subst (λ ts. shapes.SoFar (Runs (bare x) calls k) (terms_view items) ts (so_far.0 ++ partial_view p ∷ []))
+            (sym rest) (so_far_more (Runs (bare x) calls k)
+            (terms_view items) _ w.next.0 (view c) so_far.0 (partial_view p) so_far.2 w.next.1 gives),
+      )
 
-  continued_right : (p : PartialValue) (s : NextPart) → IsRight k c (Ok p) → Continued f p s → Resumes IsRight Waits k t s
-  continued_right p s right x =
-      reads_right k t f.whole f.parts x.answers f.loc s w.term f.keys w.place (continued_read p x.answers right x.one_more x.counted) x.reads
+  continued_right : (p : PartialValue) (s : NextPart) → IsRight x calls k c (Ok p) → Continued x calls f p s →
+      Resumes (IsRight x calls) (Waits x calls) k t s
+  continued_right p s right more =
+      reads_right x calls k t f.whole f.parts more.answers f.loc s
+      w.term f.keys w.place (continued_read p more.answers right more.one_more more.counted) more.reads
 
-  pub goes_on_right : (y : Result PartialValue EvaluationError) (s : NextPart) → IsRight k c y → GoesOn f y s → Resumes IsRight Waits k t s
-  goes_on_right (Ok p) (Wait g d) right x = continued_right p (Wait g d) right x
-  goes_on_right (Ok p) (Done r) right (x, l) = record {
-    answer = λ is_r ok. (continued_right p (Done r) right (x ok)).answer is_r ok;
+  pub goes_on_right : (y : Result PartialValue EvaluationError) (s : NextPart) → IsRight x calls k c y →
+      GoesOn x calls f y s → Resumes (IsRight x calls) (Waits x calls) k t s
+  goes_on_right (Ok p) (Wait g d) right more = continued_right p (Wait g d) right more
+  goes_on_right (Ok p) (Done r) right (more, l) = record {
+    answer = λ is_r ok. (continued_right p (Done r) right (more ok)).answer is_r ok;
     place = subst (λ z. IfOk r (λ q. partial_loc q ≡ z)) w.place l;
   }
-  goes_on_right (Err e) (Wait g d) right x = absurd x
-  goes_on_right (Err e) (Done r) right x = failure_upward (failure_of e) r right.answer x
+  goes_on_right (Err e) (Wait g d) right more = absurd more
+  goes_on_right (Err e) (Done r) right more = failure_upward (failure_of e) r right.answer more
 
 -- ---- the laws of the loop
 
 limit_no_memory : fails model.recursion_limit ≢ fails out_of_memory
 limit_no_memory h = cc
 
-pub right_limit : (t : Expr) → IsRight 0 t (Err limit_error)
-right_limit t = record { answer = λ is_r ok. refl; place = tt }
+pub right_limit : (x : world.Extensions) (calls : StoredCalls) (t : Expr) → IsRight x calls 0 t (Err limit_error)
+right_limit x calls t = record { answer = λ is_r ok. refl; place = tt }
 
-pub right_want : (k : ℕ) (t : Expr) → IsRight k t (Err want_error)
-right_want k t = record { answer = λ is_r ok. absurd (ok refl); place = tt }
+pub right_want : (x : world.Extensions) (calls : StoredCalls) (k : ℕ) (t : Expr) → IsRight x calls k t (Err want_error)
+right_want x calls k t = record { answer = λ is_r ok. absurd (ok refl); place = tt }
 
 pub limit_ends : ends_all (Err limit_error) ≡ true
 limit_ends = refl
 
-pub right_upward : (k : ℕ) (f : PartsFrame) (t c : Expr) (a : Result PartialValue EvaluationError) →
-    ends_all a ≡ true → Waits k f t c → IsRight k c a → IsRight (suc k) t a
-right_upward k f t c (Ok p) ends w right = absurd (cc)
-right_upward k f t c (Err e) ends w right = failure_upward k f t c w (failure_of e) (Err e) right.answer refl
+pub right_upward : (x : world.Extensions) (calls : StoredCalls) (k : ℕ) (f : PartsFrame) (t c : Expr)
+    (a : Result PartialValue EvaluationError) → ends_all a ≡ true → Waits x calls k f t c → IsRight x calls k c a →
+    IsRight x calls (suc k) t a
+right_upward x calls k f t c (Ok p) ends w right = absurd (cc)
+right_upward x calls k f t c (Err e) ends w right =
+    failure_upward x calls k f t c w (failure_of e) (Err e) right.answer refl
 
 pub some_left : (f : PartsFrame) → 1 ≤ left_of f
 some_left f = let h = f.waits in omega arith
@@ -165,50 +207,61 @@ below_any (Wait f c) = left_below f
 fewer_after : (len before after : ℕ) → before < len → after ≡ suc before → len - after < len - before
 fewer_after len before after h is = omega (arith, h, is)
 
-pub goes_on_fewer : (f : PartsFrame) (y : Result PartialValue EvaluationError) (s : NextPart) → GoesOn f y s → Fewer left_of f s
-goes_on_fewer f (Ok p) (Done r) x = tt
-goes_on_fewer f (Ok p) (Wait g c) x =
-    let (w, parts, now, l, n) = x.reads in
-    let counted : count g.answers ≡ suc (count f.answers) = ap count now ∙ x.counted in
-    subst (λ v. length v.value.items - count g.answers < length f.parts.value.items - count f.answers) (sym parts) (fewer_after (length f.parts.value.items) (count f.answers) (count g.answers) f.waits counted)
-goes_on_fewer f (Err e) (Wait g c) x = absurd x
-goes_on_fewer f (Err e) (Done r) x = tt
+-- with whatever is stored
+module _ (x : world.Extensions) (calls : StoredCalls) where
+  pub goes_on_fewer : (f : PartsFrame) (y : Result PartialValue EvaluationError) (s : NextPart) → GoesOn x calls f y s →
+      Fewer left_of f s
+  goes_on_fewer f (Ok p) (Done r) more = tt
+  goes_on_fewer f (Ok p) (Wait g c) more =
+      let (w, parts, now, l, n) = more.reads in
+      let counted : count g.answers ≡ suc (count f.answers) = ap count now ∙ more.counted in
+      subst (λ v. length v.value.items - count g.answers < length f.parts.value.items - count f.answers) (sym parts)
+      (fewer_after (length f.parts.value.items) (count f.answers) (count g.answers) f.waits counted)
+  goes_on_fewer f (Err e) (Wait g c) more = absurd more
+  goes_on_fewer f (Err e) (Done r) more = tt
 
--- ---- what the steps say
+  -- ---- what the steps say
 
-pub begins : (whole : Whole) (parts : frames.Parts) (a : Answers) (loc : Option Loc) (t : Term) (s : NextPart) →
-    whole_term whole (terms_view parts.value.items) ≡ t → HasKeys whole (length parts.value.items) →
-    Are a [] × (count a ≡ 0) → Reads whole parts a loc s → Begins t loc s
-begins whole parts a loc t (Wait f c) term keys none reads =
-    record { whole = whole; parts = parts; answers = a; term = term; keys = keys; none = none; reads = reads }
-begins whole parts a loc t (Done r) term keys none reads =
-    (λ ok. record { whole = whole; parts = parts; answers = a; term = term; keys = keys; none = none; reads = reads }, reads.1)
+  pub begins : (whole : Whole) (parts : frames.Parts) (a : Answers) (loc : Option Loc) (t : Term) (s : NextPart) →
+      whole_term whole (terms_view parts.value.items) ≡ t → HasKeys whole (length parts.value.items) →
+      Are a [] × (count a ≡ 0) → Reads x calls whole parts a loc s → Begins x calls t loc s
+  begins whole parts a loc t (Wait f c) term keys none reads =
+      record { whole = whole; parts = parts; answers = a; term = term; keys = keys; none = none; reads = reads }
+  begins whole parts a loc t (Done r) term keys none reads = (
+    λ ok. record { whole = whole; parts = parts; answers = a; term = term; keys = keys; none = none; reads = reads },
+    reads.1,
+  )
 
-pub continues : (f : PartsFrame) (p : PartialValue) (a : Answers) (s : NextPart) →
-    ((ps : List model.PartialValue) → Are f.answers ps → Are a (ps ++ partial_view p ∷ [])) → count a ≡ suc (count f.answers) →
-    Reads f.whole f.parts a f.loc s → GoesOn f (Ok p) s
-continues f p a (Wait g c) one_more counted reads =
-    record { answers = a; one_more = one_more; counted = counted; reads = reads }
-continues f p a (Done r) one_more counted reads =
-    (λ ok. record { answers = a; one_more = one_more; counted = counted; reads = reads }, reads.1)
+  pub continues : (f : PartsFrame) (p : PartialValue) (a : Answers) (s : NextPart) →
+      ((ps : List model.PartialValue) → Are f.answers ps → Are a (ps ++ partial_view p ∷ [])) → count a ≡
+      suc (count f.answers) →
+      Reads x calls f.whole f.parts a f.loc s → GoesOn x calls f (Ok p) s
+  continues f p a (Wait g c) one_more counted reads =
+      record { answers = a; one_more = one_more; counted = counted; reads = reads }
+  continues f p a (Done r) one_more counted reads =
+      (λ ok. record { answers = a; one_more = one_more; counted = counted; reads = reads }, reads.1)
 
 -- ---- expressions without parts
 
-pub literal_right : (k : ℕ) (t : Expr) (l : Literal) (r : Result PartialValue EvaluationError) → view t ≡ literal l →
-    AnswersWith r (answers (model.value (plain_represented l))) → IfOk r (λ p. partial_loc p ≡ expr_loc t) → IsRight (suc k) t r
-literal_right k t l r is answer place = record {
-  answer = λ is_r ok. subst (λ u. Runs bare NoCalls (suc k) u (partial_answer r)) (sym is) (answer ok);
+pub literal_right : (x : world.Extensions) (calls : StoredCalls) (k : ℕ) (t : Expr) (l : Literal) (r : Result PartialValue EvaluationError) → view t ≡ literal l →
+    AnswersWith r (answers (model.value (plain_represented l))) → IfOk r (λ p. partial_loc p ≡ expr_loc t) →
+    IsRight x calls (suc k) t r
+literal_right x calls k t l r is answer place = record {
+  answer = λ is_r ok. subst (λ u. Runs (bare x) calls (suc k) u (partial_answer r)) (sym is) (answer ok);
   place = place;
 }
 
-pub unknown_right : (k : ℕ) (t : Expr) (n : Text) (ty : Option ValueType) (r : Result PartialValue EvaluationError) →
-    view t ≡ unknown n ty → AnswersWith r (answers (model.residual (view t))) → IfOk r (λ p. partial_loc p ≡ expr_loc t) →
-    IsRight (suc k) t r
+pub unknown_right : (x : world.Extensions) (calls : StoredCalls) (k : ℕ) (t : Expr) (n : Text) (ty : Option ValueType) (r : Result PartialValue EvaluationError) →
+    view t ≡ unknown n ty → AnswersWith r (answers (model.residual (view t))) →
+    IfOk r (λ p. partial_loc p ≡ expr_loc t) →
+    IsRight x calls (suc k) t r
 unfolding mapped
-unknown_right k t n ty r is answer place = record {
-  answer = λ is_r ok. subst (λ u. Runs bare NoCalls (suc k) u (partial_answer r)) (sym is) (answer ok ∙ ap (λ u. answers (model.residual u)) is);
+unknown_right x calls k t n ty r is answer place = record {
+  answer = λ is_r ok. subst (λ u. Runs (bare x) calls (suc k) u (partial_answer r)) (sym is)
+      (answer ok ∙ ap (λ u. answers (model.residual u)) is);
   place = place;
 }
 
-pub not_restricted_right : (k : ℕ) (t : Expr) (e : EvaluationError) → is_restricted (view t) ≡ false → IsRight (suc k) t (Err e)
-not_restricted_right k t e not = record { answer = λ is_r. absurd (cc); place = tt }
+pub not_restricted_right : (x : world.Extensions) (calls : StoredCalls) (k : ℕ) (t : Expr) (e : EvaluationError) → is_restricted (view t) ≡ false →
+    IsRight x calls (suc k) t (Err e)
+not_restricted_right x calls k t e not = record { answer = λ is_r. absurd (cc); place = tt }

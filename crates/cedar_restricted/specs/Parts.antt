@@ -3,13 +3,17 @@ use Rattle.std.specs.Prelude.{◌≡◌, ℕ, List, [], ◌∷◌, length, map, 
 use native.Mathlib.Nat.{ℕ_set}
 use Rattle.std.proofs.lemmas.Map.Keys.{IsStrictlySortedBy-prop}
 use Rattle.std.specs.List.Sorted.{IsStrictlySortedBy}
+use Rattle.std.specs.declared.alloc.Global.{Global}
+use Rattle.std.specs.declared.rc.RcStr.{RcStr}
+use Rattle.std.specs.declared.vec.Vec.{Vec}
 use Rattle.cedar_model.specs.Terms.{Term, call, set_of, record_of, Terms}
 use Rattle.cedar_model.specs.Values.{Represented, set_represented, record_represented}
 use Rattle.cedar_model.specs.Sets.{canonical_set, represented_fields_of}
 use Rattle.cedar_model.specs.Failures as model
-use Rattle.cedar_model.specs.Failures.{Failure, function_is_missing, value, Answer, fails, answers_value}
-use Rattle.cedar_model.specs.Failures.{answers_residual}
-use Rattle.cedar_model.specs.Rules.{MayAnswer, Parts, part_then, values_of_parts, terms_of_parts}
+use Rattle.cedar_model.specs.Failures.{Failure, value, Answer, answers_value, answers_residual}
+use Rattle.cedar_model.specs.Rules.{MayAnswer, Parts, StoredCalls, LooksUp, part_then, values_of_parts, terms_of_parts}
+use Rattle.cedar_model.specs.World as world
+use Rattle.cedar_names.specs.declared.names.Name.{Name}
 use Rattle.cedar_names.specs.Names.{name_text}
 use Rattle.cedar_expressions.specs.View.{terms_view}
 use Rattle.cedar_data.specs.Sound.{whats}
@@ -57,16 +61,28 @@ Are (answereds.Mixed m) ps = (terms_of_parts ps ≡ terms_view m.exprs.items) ×
 abbrev pub AreNone : Answers → Type 0
 AreNone a = Are a [] × (count a ≡ 0)
 
--- what they make together. No function is stored
-abbrev pub made : Whole → Answers → Answer
-made wholes.Set (answereds.Values vs) = answers_value (set_represented (canonical_set (whats vs.items)))
-made wholes.Set (answereds.Mixed m) = answers_residual (set_of (terms_view m.exprs.items))
-made (wholes.Record ks) (answereds.Values vs) =
+-- what they make as a set
+abbrev pub set_made : Answers → Answer
+set_made (answereds.Values vs) = answers_value (set_represented (canonical_set (whats vs.items)))
+set_made (answereds.Mixed m) = answers_residual (set_of (terms_view m.exprs.items))
+
+-- what they make as a record, under these keys
+abbrev pub record_made : Vec (RcStr Global) Global → Answers → Answer
+record_made ks (answereds.Values vs) =
     answers_value (record_represented (represented_fields_of (under (texts_of ks.items) (whats vs.items))))
-made (wholes.Record ks) (answereds.Mixed m) =
+record_made ks (answereds.Mixed m) =
     answers_residual (record_of (fields_named (texts_of ks.items) (terms_view m.exprs.items)))
-made (wholes.Call f) (answereds.Values vs) = fails (function_is_missing (name_text f))
-made (wholes.Call f) (answereds.Mixed m) = answers_residual (call (name_text f) (terms_view m.exprs.items))
+
+-- what a call of them may answer: the function is looked up where all are values
+abbrev pub CallMakes : world.Extensions → StoredCalls → Name → Answers → Answer → Type 0
+CallMakes x calls f (answereds.Values vs) a = LooksUp calls (x.arity (name_text f)) (name_text f) (whats vs.items) a
+CallMakes x calls f (answereds.Mixed m) a = a ≡ answers_residual (call (name_text f) (terms_view m.exprs.items))
+
+-- what they may make together, with these extensions, where stored functions may answer this
+abbrev pub Makes : world.Extensions → StoredCalls → Whole → Answers → Answer → Type 0
+Makes x calls wholes.Set answers a = a ≡ set_made answers
+Makes x calls (wholes.Record ks) answers a = a ≡ record_made ks answers
+Makes x calls (wholes.Call f) answers a = CallMakes x calls f answers a
 
 -- ---- in turn
 

@@ -45,7 +45,8 @@ impl Answers {
     /// These and one more. Refuses only for want of memory.
     pub fn with(self, alloc: Global, answer: PartialValue) -> Result<Answers, AllocError>
         ensures count { IfOk result (λ a. count a ≡ suc (count self)) }
-        ensures answers { IfOk result (λ a. (ps : List model.PartialValue) → Are self ps → Are a (ps ++ partial_view answer ∷ [])) }
+        ensures answers { IfOk result
+            (λ a. (ps : List model.PartialValue) → Are self ps → Are a (ps ++ partial_view answer ∷ [])) }
     {
         match self {
             Answers::Values(values) => match answer {
@@ -96,7 +97,8 @@ fn with_value(mut values: Vec<Value>, value: Value) -> Result<Vec<Value>, AllocE
 
 // The expressions, and the first residual behind them.
 fn first_residual(mut exprs: Vec<Expr>, residual: ResidualExpr) -> Result<Mixed, AllocError>
-    ensures { IfOk result (λ m. (e : Expr) × (m.exprs.items ≡ exprs.items ++ e ∷ []) × (view e ≡ residual_term residual)) }
+    ensures { IfOk result
+        (λ m. (e : Expr) × (m.exprs.items ≡ exprs.items ++ e ∷ []) × (view e ≡ residual_term residual)) }
 {
     exprs.push(residual.into_expr())?;
     Ok(Mixed { exprs })

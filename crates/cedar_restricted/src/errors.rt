@@ -1,17 +1,14 @@
 //! Errors of an evaluation.
 ghost use Rattle.std.specs.Prelude.{◌≡◌};
-ghost use Rattle.cedar_model.specs.Failures.{function_is_missing, residual_is_left};
-ghost use Rattle.cedar_names.specs.Names.{name_text};
+ghost use Rattle.cedar_model.specs.Failures.{residual_is_left};
 ghost use Rattle.cedar_data.specs.Residuals.{residual_term};
 ghost use Rattle.cedar_values.specs.Failures.{failure_of};
 ghost use Rattle.cedar_restricted.specs.Evaluations.{is_final};
 
 use cedar_data::ResidualExpr;
-use cedar_names::{Loc, Name};
+use cedar_names::Loc;
 use cedar_values::evaluator::err::{EvaluationError, evaluation_errors};
-use cedar_values::extensions::{ExtensionFunctionLookupError, extension_function_lookup_errors};
 use evaluation_errors::NonValueError;
-use extension_function_lookup_errors::FuncDoesNotExistError;
 
 // The error, at this location if it has none.
 #[inline(always)]
@@ -23,18 +20,6 @@ pub(crate) fn with_enclosing_loc(error: EvaluationError, loc: Option<Loc>) -> Ev
     } else {
         error
     }
-}
-
-// The error that no extension has the function, at the location of its name.
-#[cold]
-#[inline(never)]
-pub(crate) fn no_such_function(name: Name) -> EvaluationError
-    ensures { failure_of result ≡ function_is_missing (name_text name) }
-{
-    let source_loc: Option<Loc> = name.loc().copied();
-    EvaluationError::FailedExtensionFunctionLookup(ExtensionFunctionLookupError::FuncDoesNotExist(
-        FuncDoesNotExistError { name, source_loc },
-    ))
 }
 
 // The error that this residual is left, at the residual's location.

@@ -8,11 +8,9 @@ mod machine;
 mod made;
 mod parts;
 mod start;
-#[cfg(test)]
-mod tests;
 mod whole;
 
 pub use answers::{Answers, Mixed};
-pub use evaluator::{RestrictedEvaluator, interpret, partial_interpret};
+pub use evaluator::RestrictedEvaluator;
 pub use parts::{NextPart, PartsFrame};
 pub use whole::Whole;

@@ -2,6 +2,7 @@
 ghost use Rattle.std.specs.Prelude.{◌≡◌, ℕ, ◌+◌, ◌^◌, Err};
 ghost use Rattle.cedar_expressions.specs.declared.expr.Expr.{Expr};
 ghost use Rattle.cedar_values.specs.declared.evaluator.err.EvaluationError.TheVariants as errors;
+ghost use Rattle.cedar_extensions.specs.Extensions.{extensions_view, calls_of};
 ghost use Rattle.cedar_frames.specs.Frames.{Resumes, Fewer, Below};
 ghost use Rattle.cedar_restricted.specs.Evaluations.{ends_all, limit_error, want_error};
 ghost use Rattle.cedar_restricted.specs.Frames.{Waits, IsRight, left_of};
@@ -11,26 +12,29 @@ use crate::errors::is_final;
 use crate::parts::{NextPart, PartsFrame};
 use cedar_data::{PartialValue, ResidualExpr, Value, ValueKind};
 use cedar_expressions::{Expr, ExprKind};
+use cedar_extensions::Extensions;
 use cedar_frames::{Machine, Step};
 use cedar_names::{Literal, Loc};
 use cedar_values::evaluator::err::{EvaluationError, evaluation_errors};
 use evaluation_errors::RecursionLimitError;
 use std::alloc::{AllocError, Global};
 
-/// The evaluation of restricted expressions.
+/// The evaluation of restricted expressions, with these extensions.
 #[derive(Drop)]
-pub(crate) struct Restricted;
+pub(crate) struct Restricted<'x, 'f> {
+    pub(crate) extensions: &'x Extensions<'f>,
+}
 
-impl Machine for Restricted {
+impl<'x, 'f> Machine for Restricted<'x, 'f> {
     type Frame = PartsFrame;
 
     type Part = Expr;
 
     type Answer = Result<PartialValue, EvaluationError>;
 
-    ghost right = { λ s k t a. IsRight k t a };
+    ghost right = { λ s k t a. IsRight (extensions_view s.extensions.now) (calls_of s.extensions.now) k t a };
 
-    ghost waits = { λ s k f t c. Waits k f t c };
+    ghost waits = { λ s k f t c. Waits (extensions_view s.extensions.now) (calls_of s.extensions.now) k f t c };
 
     ghost left_of = { left_of };
 
@@ -43,7 +47,7 @@ impl Machine for Restricted {
     ghost at_want = { Err want_error };
 
     fn start(&self, alloc: Global, part: &Expr) -> NextPart {
-        crate::start::start(alloc, part)
+        self.first(alloc, part)
     }
 
     fn resume(
@@ -52,7 +56,7 @@ impl Machine for Restricted {
         frame: PartsFrame,
         answer: Result<PartialValue, EvaluationError>,
     ) -> NextPart {
-        frame.answered(alloc, answer)
+        frame.answered(alloc, self.extensions, answer)
     }
 
     fn ends(&self, answer: &Result<PartialValue, EvaluationError>) -> bool {
@@ -70,13 +74,13 @@ impl Machine for Restricted {
         Err(EvaluationError::Memory(AllocError))
     }
 
-    ghost right_limit = { λ s t. right_limit t };
+    ghost right_limit = { λ s t. right_limit (extensions_view s.extensions.now) (calls_of s.extensions.now) t };
 
-    ghost right_want = { λ s k t. right_want k t };
+    ghost right_want = { λ s k t. right_want (extensions_view s.extensions.now) (calls_of s.extensions.now) k t };
 
     ghost limit_ends = { limit_ends };
 
-    ghost right_upward = { λ s k f t c a. right_upward k f t c a };
+    ghost right_upward = { λ s k f t c a. right_upward (extensions_view s.extensions.now) (calls_of s.extensions.now) k f t c a };
 
     ghost some_left = { some_left };
 

@@ -6,43 +6,48 @@ ghost use Rattle.std.specs.BTreeMap.{IsFromIterResult};
 ghost use Rattle.cedar_model.specs.Terms as Terms;
 ghost use Rattle.cedar_model.specs.Values.{record_represented};
 ghost use Rattle.cedar_model.specs.Sets.{represented_fields_of};
+ghost use Rattle.cedar_model.specs.Rules.{LooksUp, Meets};
 ghost use Rattle.cedar_model.specs.Shapes.{has_unknown};
+ghost use Rattle.cedar_names.specs.Names.{name_text};
 ghost use Rattle.cedar_expressions.specs.View.{view, terms_view};
 ghost use Rattle.cedar_data.specs.Sound.{whats};
-ghost use Rattle.cedar_restricted.specs.Evaluations.{AnswersWith};
+ghost use Rattle.cedar_extensions.specs.Extensions.{extensions_view, calls_of};
+ghost use Rattle.cedar_restricted.specs.Evaluations.{AnswersWith, partial_answer};
 ghost use Rattle.cedar_restricted.specs.declared.whole.Whole.TheVariants as wholes;
-ghost use Rattle.cedar_restricted.specs.Parts.{HasKeys, count, made};
+ghost use Rattle.cedar_restricted.specs.Parts.{HasKeys, count, set_made, record_made, CallMakes, Makes};
 ghost use Rattle.cedar_restricted.specs.Keys.{key_order, texts_of, fields_named, under};
 
 use crate::answers::{Answers, Mixed};
-use crate::errors::no_such_function;
 use crate::whole::Whole;
 use cedar_data::{PartialValue, ResidualExpr, Value};
 use cedar_expressions::Expr;
+use cedar_extensions::Extensions;
 use cedar_names::Name;
 use cedar_values::evaluator::err::EvaluationError;
 use std::alloc::{AllocError, Global};
 use std::collections::BTreeMap;
 use std::rc::RcStr;
 
-// What the answers make.
+// What the answers make, with these extensions.
 pub(crate) fn whole_of(
     alloc: Global,
+    extensions: &Extensions<'_>,
     whole: Whole,
     answers: Answers,
 ) -> Result<PartialValue, EvaluationError>
     requires { HasKeys whole (count answers) }
-    ensures { AnswersWith result (made whole answers) }
+    ensures { Meets (Makes (extensions_view extensions.now) (calls_of extensions.now) whole answers)
+        (partial_answer result) }
 {
     match whole {
         Whole::Set => set_of(alloc, answers),
         Whole::Record(keys) => record_of(alloc, keys, answers),
-        Whole::Call(fn_name) => call_of(alloc, fn_name, answers),
+        Whole::Call(fn_name) => call_of(alloc, extensions, fn_name, answers),
     }
 }
 
 fn set_of(alloc: Global, answers: Answers) -> Result<PartialValue, EvaluationError>
-    ensures { AnswersWith result (made wholes.Set answers) }
+    ensures { AnswersWith result (set_made answers) }
 {
     match answers {
         Answers::Values(values) => Ok(PartialValue::Value(Value::set(alloc, values, None)?)),
@@ -59,7 +64,7 @@ fn record_of(
     answers: Answers,
 ) -> Result<PartialValue, EvaluationError>
     requires { HasKeys (wholes.Record keys) (count answers) }
-    ensures { AnswersWith result (made (wholes.Record keys) answers) }
+    ensures { AnswersWith result (record_made keys answers) }
 {
     match answers {
         Answers::Values(values) => Ok(PartialValue::Value(record_value(alloc, keys, values)?)),
@@ -70,10 +75,46 @@ fn record_of(
     }
 }
 
+// Only of values a function is looked up and called.
+fn call_of(
+    alloc: Global,
+    extensions: &Extensions<'_>,
+    fn_name: Name,
+    answers: Answers,
+) -> Result<PartialValue, EvaluationError>
+    ensures { Meets (CallMakes (extensions_view extensions.now) (calls_of extensions.now) fn_name answers)
+        (partial_answer result) }
+{
+    match answers {
+        Answers::Values(values) => called(alloc, extensions, &fn_name, values.as_slice()),
+        Answers::Mixed(mixed) => {
+            let expr = Expr::call_extension_fn(alloc, fn_name, mixed.into_exprs())?;
+            Ok(PartialValue::Residual(ResidualExpr::new(expr)))
+        }
+    }
+}
+
+// What the function of this name answers to these values.
+fn called(
+    alloc: Global,
+    extensions: &Extensions<'_>,
+    fn_name: &Name,
+    args: &[Value],
+) -> Result<PartialValue, EvaluationError>
+    ensures { Meets (LooksUp (calls_of extensions.now) ((extensions_view extensions.now).arity (name_text fn_name.now))
+        (name_text fn_name.now) (whats args.now)) (partial_answer result) }
+{
+    match extensions.call(alloc, fn_name, args) {
+        Ok(part) => Ok(part),
+        Err(error) => Err(error),
+    }
+}
+
 // The record of these values under these keys.
 fn record_value(alloc: Global, keys: Vec<RcStr>, values: Vec<Value>) -> Result<Value, AllocError>
     requires { (length keys.items ≡ length values.items) × IsStrictlySortedBy key_order keys.items }
-    ensures { IfOk result (λ v. v.what ≡ record_represented (represented_fields_of (under (texts_of keys.items) (whats values.items)))) }
+    ensures { IfOk result
+        (λ v. v.what ≡ record_represented (represented_fields_of (under (texts_of keys.items) (whats values.items)))) }
 {
     let fields = values_under(alloc, keys, values)?;
     Ok(Value::record(alloc, fields, None)?)
@@ -82,23 +123,12 @@ fn record_value(alloc: Global, keys: Vec<RcStr>, values: Vec<Value>) -> Result<V
 // The record of these expressions under these keys.
 fn record_expr(alloc: Global, keys: Vec<RcStr>, mixed: Mixed) -> Result<Expr, AllocError>
     requires { (length keys.items ≡ length mixed.exprs.items) × IsStrictlySortedBy key_order keys.items }
-    ensures view { IfOk result (λ e. view e ≡ Terms.record_of (fields_named (texts_of keys.items) (terms_view mixed.exprs.items))) }
+    ensures view { IfOk result
+        (λ e. view e ≡ Terms.record_of (fields_named (texts_of keys.items) (terms_view mixed.exprs.items))) }
     ensures unknown { IfOk result (λ e. has_unknown (view e) ≡ true) }
 {
     let fields = exprs_under(alloc, keys, mixed.into_exprs())?;
     Ok(Expr::record_map(alloc, fields)?)
-}
-
-fn call_of(alloc: Global, fn_name: Name, answers: Answers) -> Result<PartialValue, EvaluationError>
-    ensures { AnswersWith result (made (wholes.Call fn_name) answers) }
-{
-    match answers {
-        Answers::Values(_) => Err(no_such_function(fn_name)),
-        Answers::Mixed(mixed) => {
-            let expr = Expr::call_extension_fn(alloc, fn_name, mixed.into_exprs())?;
-            Ok(PartialValue::Residual(ResidualExpr::new(expr)))
-        }
-    }
 }
 
 // The map of the values under the keys, in turn.

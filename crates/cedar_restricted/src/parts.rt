@@ -11,6 +11,7 @@ use crate::made::whole_of;
 use crate::whole::Whole;
 use cedar_data::PartialValue;
 use cedar_expressions::Expr;
+use cedar_extensions::Extensions;
 use cedar_frames::Step;
 use cedar_names::{Loc, Name};
 use cedar_values::evaluator::err::EvaluationError;
@@ -21,7 +22,8 @@ use std::rc::{Rc, RcStr};
 /// What comes next of a set, a record or a call: its answer, or the part that it waits for.
 pub type NextPart = Step<PartsFrame, Expr, Result<PartialValue, EvaluationError>>;
 
-/// A set, a record or a call that waits for the answer of a part: what the parts make, the parts, the answers of those before,
+/// A set, a record or a call that waits for the answer of a part: what the parts make, the parts, the answers of those
+/// before,
 /// and where it stands.
 #[derive(Drop)]
 pub struct PartsFrame {
@@ -36,15 +38,17 @@ pub struct PartsFrame {
 impl PartsFrame {
     ghost use Rattle.cedar_model.specs.Terms.{set_of, record_of, call};
     ghost use Rattle.cedar_names.specs.Names.{name_text};
+    ghost use Rattle.cedar_extensions.specs.Extensions.{extensions_view, calls_of};
     ghost use Rattle.cedar_restricted.specs.Frames.{Begins, GoesOn, Reads};
 
     /// A set at this location, before any part has answered.
-    pub fn set(alloc: Global, parts: &Rc<Vec<Expr>>, loc: Option<Loc>) -> NextPart
-        ensures { Begins (set_of (terms_view parts.now.value.items)) loc result }
+    pub fn set(alloc: Global, extensions: &Extensions<'_>, parts: &Rc<Vec<Expr>>, loc: Option<Loc>) -> NextPart
+        ensures { Begins (extensions_view extensions.now) (calls_of extensions.now) (set_of (terms_view parts.now.value.items)) loc result }
     {
         match parts.clone() {
             Ok(parts) => PartsFrame::read(
                 alloc,
+                extensions,
                 Whole::Set,
                 parts,
                 Answers::Values(Vec::new(alloc)),
@@ -54,14 +58,16 @@ impl PartsFrame {
         }
     }
 
-    /// A call of this function at this location, before any argument has answered.
-    pub fn call(alloc: Global, fn_name: &Name, args: &Rc<Vec<Expr>>, loc: Option<Loc>) -> NextPart
-        ensures { Begins (call (name_text fn_name.now) (terms_view args.now.value.items)) loc result }
+    /// A call of this function at this location, before any argument has answered. The function is looked up after
+    /// all of them, and only where each is a value.
+    pub fn call(alloc: Global, extensions: &Extensions<'_>, fn_name: &Name, args: &Rc<Vec<Expr>>, loc: Option<Loc>) -> NextPart
+        ensures { Begins (extensions_view extensions.now) (calls_of extensions.now) (call (name_text fn_name.now) (terms_view args.now.value.items)) loc result }
     {
         match fn_name.clone() {
             Ok(fn_name) => match args.clone() {
                 Ok(args) => PartsFrame::read(
                     alloc,
+                    extensions,
                     Whole::Call(fn_name),
                     args,
                     Answers::Values(Vec::new(alloc)),
@@ -74,12 +80,13 @@ impl PartsFrame {
     }
 
     /// A record at this location, before any field has answered.
-    pub fn record(alloc: Global, pairs: &BTreeMap<RcStr, Expr>, loc: Option<Loc>) -> NextPart
-        ensures { Begins (record_of (fields_view pairs.now.entries)) loc result }
+    pub fn record(alloc: Global, extensions: &Extensions<'_>, pairs: &BTreeMap<RcStr, Expr>, loc: Option<Loc>) -> NextPart
+        ensures { Begins (extensions_view extensions.now) (calls_of extensions.now) (record_of (fields_view pairs.now.entries)) loc result }
     {
         match keys_and_parts(alloc, pairs) {
             Ok((keys, parts)) => PartsFrame::read(
                 alloc,
+                extensions,
                 Whole::Record(keys),
                 parts,
                 Answers::Values(Vec::new(alloc)),
@@ -90,12 +97,12 @@ impl PartsFrame {
     }
 
     /// The same after the answer of the part that it waits for: an error is its own, at its location if it has none.
-    pub fn answered(self, alloc: Global, answer: Result<PartialValue, EvaluationError>) -> NextPart
-        ensures { GoesOn self answer result }
+    pub fn answered(self, alloc: Global, extensions: &Extensions<'_>, answer: Result<PartialValue, EvaluationError>) -> NextPart
+        ensures { GoesOn (extensions_view extensions.now) (calls_of extensions.now) self answer result }
     {
         match answer {
             Ok(part) => match self.answers.with(alloc, part) {
-                Ok(answers) => PartsFrame::read(alloc, self.whole, self.parts, answers, self.loc),
+                Ok(answers) => PartsFrame::read(alloc, extensions, self.whole, self.parts, answers, self.loc),
                 Err(error) => Step::Done(Err(EvaluationError::Memory(error))),
             },
             Err(error) => Step::Done(Err(with_enclosing_loc(error, self.loc))),
@@ -105,6 +112,7 @@ impl PartsFrame {
     // The next part, or what all answers make.
     fn read(
         alloc: Global,
+        extensions: &Extensions<'_>,
         whole: Whole,
         parts: Rc<Vec<Expr>>,
         answers: Answers,
@@ -112,7 +120,7 @@ impl PartsFrame {
     ) -> NextPart
         requires keys { HasKeys whole (length parts.value.items) }
         requires no_more { count answers ≤ length parts.value.items }
-        ensures { Reads whole parts answers loc result }
+        ensures { Reads (extensions_view extensions.now) (calls_of extensions.now) whole parts answers loc result }
     {
         let done = answers.len();
         if done < parts.len() {
@@ -129,7 +137,7 @@ impl PartsFrame {
                 Err(error) => Step::Done(Err(EvaluationError::Memory(error))),
             }
         } else {
-            match whole_of(alloc, whole, answers) {
+            match whole_of(alloc, extensions, whole, answers) {
                 Ok(answer) => Step::Done(Ok(answer.with_maybe_source_loc(loc))),
                 Err(error) => Step::Done(Err(with_enclosing_loc(error, loc))),
             }
@@ -142,8 +150,10 @@ fn keys_and_parts(
     alloc: Global,
     pairs: &BTreeMap<RcStr, Expr>,
 ) -> Result<(Vec<RcStr>, Rc<Vec<Expr>>), AllocError>
-    ensures fields { IfOk result (λ p. fields_named (texts_of p.0.items) (terms_view p.1.value.items) ≡ fields_view pairs.now.entries) }
-    ensures keys { IfOk result (λ p. (length p.0.items ≡ length p.1.value.items) × IsStrictlySortedBy key_order p.0.items) }
+    ensures fields { IfOk result
+        (λ p. fields_named (texts_of p.0.items) (terms_view p.1.value.items) ≡ fields_view pairs.now.entries) }
+    ensures keys { IfOk result
+        (λ p. (length p.0.items ≡ length p.1.value.items) × IsStrictlySortedBy key_order p.0.items) }
 {
     let mut keys: Vec<RcStr> = Vec::new(alloc);
     let mut parts: Vec<Expr> = Vec::new(alloc);

@@ -9,10 +9,10 @@ ghost use Rattle.cedar_names.specs.Names.{name_text};
 ghost use Rattle.cedar_names.specs.Leaves.{literal_view, type_view};
 ghost use Rattle.cedar_expressions.specs.View.{view, terms_view, fields_view, expr_loc};
 ghost use Rattle.cedar_data.specs.Residuals.{partial_loc};
-ghost use Rattle.cedar_frames.specs.Frames.{Resumes, Below};
+ghost use Rattle.cedar_frames.specs.Frames.{Below};
 ghost use Rattle.cedar_restricted.specs.Evaluations.{AnswersWith};
-ghost use Rattle.cedar_restricted.specs.Frames.{Waits, IsRight, left_of};
 
+use crate::machine::Restricted;
 use crate::parts::{NextPart, PartsFrame};
 use cedar_data::{PartialValue, ResidualExpr, Value, ValueKind};
 use cedar_expressions::{Expr, ExprKind};
@@ -24,95 +24,108 @@ use std::alloc::Global;
 use std::collections::BTreeMap;
 use std::rc::{Rc, RcStr};
 
-// Looks at an expression: a literal is its value, an unknown is left, and the others have parts.
-#[tactic(auto, using(cedar_expressions::proofs::Levels::levels, crate::specs::Laws::below_any))]
-pub(crate) fn start(alloc: Global, e: &Expr) -> NextPart
-    ensures right { (k : ℕ) → Resumes IsRight Waits k e.now result }
-    ensures below { Below left_of (2 ^ 64 + 1) result }
-{
-    match e.expr_kind() {
-        ExprKind::Lit(value) => literal(e, value),
-        ExprKind::Unknown(unknown) => unknown_left(e, unknown),
-        ExprKind::Set(parts) => set(alloc, e, parts),
-        ExprKind::Record(pairs) => record(alloc, e, pairs),
-        ExprKind::ExtensionFunctionApp { fn_name, args } => call(alloc, e, fn_name, args),
-        ExprKind::Var(_) => not_restricted(e),
-        ExprKind::Slot(_) => not_restricted(e),
-        ExprKind::If {
-            test_expr: _,
-            then_expr: _,
-            else_expr: _,
-        } => not_restricted(e),
-        ExprKind::And { left: _, right: _ } => not_restricted(e),
-        ExprKind::Or { left: _, right: _ } => not_restricted(e),
-        ExprKind::UnaryApp { op: _, arg: _ } => not_restricted(e),
-        ExprKind::BinaryApp {
-            op: _,
-            arg1: _,
-            arg2: _,
-        } => not_restricted(e),
-        ExprKind::GetAttr { expr: _, attr: _ } => not_restricted(e),
-        ExprKind::HasAttr { expr: _, attr: _ } => not_restricted(e),
-        ExprKind::ExtHasAttr { expr: _, attrs: _ } => not_restricted(e),
-        ExprKind::Like {
-            expr: _,
-            pattern: _,
-        } => not_restricted(e),
-        ExprKind::Is {
-            expr: _,
-            entity_type: _,
-        } => not_restricted(e),
-    }
-}
+impl<'x, 'f> Restricted<'x, 'f> {
+    ghost use Rattle.cedar_extensions.specs.Extensions.{extensions_view, calls_of};
+    ghost use Rattle.cedar_restricted.specs.Frames.{Leads, left_of};
 
-fn literal(e: &Expr, value: &Literal) -> NextPart
-    requires { view e.now ≡ Terms.literal (literal_view value.now) }
-    ensures { (k : ℕ) → Resumes IsRight Waits k e.now result }
-{
-    Step::Done(literal_value(value, e.source_loc().copied()))
-}
-
-fn unknown_left(e: &Expr, unknown: &Unknown) -> NextPart
-    requires { view e.now ≡ Terms.unknown (rc_str_bytes unknown.now.name) (option_map type_view unknown.now.type_annotation) }
-    ensures { (k : ℕ) → Resumes IsRight Waits k e.now result }
-{
-    Step::Done(residual_of(e))
-}
-
-fn set(alloc: Global, e: &Expr, parts: &Rc<Vec<Expr>>) -> NextPart
-    requires { view e.now ≡ Terms.set_of (terms_view parts.now.value.items) }
-    ensures { (k : ℕ) → Resumes IsRight Waits k e.now result }
-{
-    PartsFrame::set(alloc, parts, e.source_loc().copied())
-}
-
-fn record(alloc: Global, e: &Expr, pairs: &BTreeMap<RcStr, Expr>) -> NextPart
-    requires { view e.now ≡ Terms.record_of (fields_view pairs.now.entries) }
-    ensures { (k : ℕ) → Resumes IsRight Waits k e.now result }
-{
-    PartsFrame::record(alloc, pairs, e.source_loc().copied())
-}
-
-fn call(alloc: Global, e: &Expr, fn_name: &Name, args: &Rc<Vec<Expr>>) -> NextPart
-    requires { view e.now ≡ Terms.call (name_text fn_name.now) (terms_view args.now.value.items) }
-    ensures { (k : ℕ) → Resumes IsRight Waits k e.now result }
-{
-    PartsFrame::call(alloc, fn_name, args, e.source_loc().copied())
-}
-
-// The error that this expression is left. No part of a restricted expression comes here.
-#[cold]
-#[inline(never)]
-fn not_restricted(e: &Expr) -> NextPart
-    requires { is_restricted (view e.now) ≡ false }
-    ensures { (k : ℕ) → Resumes IsRight Waits k e.now result }
-{
-    match e.clone() {
-        Ok(expr) => {
-            let source_loc: Option<Loc> = expr.source_loc().copied();
-            Step::Done(Err(EvaluationError::NonValue(NonValueError { expr, source_loc })))
+    // Looks at an expression: a literal is its value, an unknown is left, and the others have parts.
+    #[tactic(auto, using(cedar_expressions::proofs::Levels::levels, crate::specs::Laws::below_any))]
+    pub(crate) fn first(&self, alloc: Global, e: &Expr) -> NextPart
+        ensures right { (k : ℕ) → Leads (extensions_view self.now.extensions.now)
+            (calls_of self.now.extensions.now) k e.now result }
+        ensures below { Below left_of (2 ^ 64 + 1) result }
+    {
+        match e.expr_kind() {
+            ExprKind::Lit(value) => self.literal(e, value),
+            ExprKind::Unknown(unknown) => self.unknown_left(e, unknown),
+            ExprKind::Set(parts) => self.set(alloc, e, parts),
+            ExprKind::Record(pairs) => self.record(alloc, e, pairs),
+            ExprKind::ExtensionFunctionApp { fn_name, args } => self.call(alloc, e, fn_name, args),
+            ExprKind::Var(_) => self.not_restricted(e),
+            ExprKind::Slot(_) => self.not_restricted(e),
+            ExprKind::If {
+                test_expr: _,
+                then_expr: _,
+                else_expr: _,
+            } => self.not_restricted(e),
+            ExprKind::And { left: _, right: _ } => self.not_restricted(e),
+            ExprKind::Or { left: _, right: _ } => self.not_restricted(e),
+            ExprKind::UnaryApp { op: _, arg: _ } => self.not_restricted(e),
+            ExprKind::BinaryApp {
+                op: _,
+                arg1: _,
+                arg2: _,
+            } => self.not_restricted(e),
+            ExprKind::GetAttr { expr: _, attr: _ } => self.not_restricted(e),
+            ExprKind::HasAttr { expr: _, attr: _ } => self.not_restricted(e),
+            ExprKind::ExtHasAttr { expr: _, attrs: _ } => self.not_restricted(e),
+            ExprKind::Like {
+                expr: _,
+                pattern: _,
+            } => self.not_restricted(e),
+            ExprKind::Is {
+                expr: _,
+                entity_type: _,
+            } => self.not_restricted(e),
         }
-        Err(error) => Step::Done(Err(EvaluationError::Memory(error))),
+    }
+
+    fn literal(&self, e: &Expr, value: &Literal) -> NextPart
+        requires { view e.now ≡ Terms.literal (literal_view value.now) }
+        ensures { (k : ℕ) → Leads (extensions_view self.now.extensions.now)
+            (calls_of self.now.extensions.now) k e.now result }
+    {
+        Step::Done(literal_value(value, e.source_loc().copied()))
+    }
+
+    fn unknown_left(&self, e: &Expr, unknown: &Unknown) -> NextPart
+        requires { view e.now ≡
+            Terms.unknown (rc_str_bytes unknown.now.name) (option_map type_view unknown.now.type_annotation) }
+        ensures { (k : ℕ) → Leads (extensions_view self.now.extensions.now)
+            (calls_of self.now.extensions.now) k e.now result }
+    {
+        Step::Done(residual_of(e))
+    }
+
+    fn set(&self, alloc: Global, e: &Expr, parts: &Rc<Vec<Expr>>) -> NextPart
+        requires { view e.now ≡ Terms.set_of (terms_view parts.now.value.items) }
+        ensures { (k : ℕ) → Leads (extensions_view self.now.extensions.now)
+            (calls_of self.now.extensions.now) k e.now result }
+    {
+        PartsFrame::set(alloc, self.extensions, parts, e.source_loc().copied())
+    }
+
+    fn record(&self, alloc: Global, e: &Expr, pairs: &BTreeMap<RcStr, Expr>) -> NextPart
+        requires { view e.now ≡ Terms.record_of (fields_view pairs.now.entries) }
+        ensures { (k : ℕ) → Leads (extensions_view self.now.extensions.now)
+            (calls_of self.now.extensions.now) k e.now result }
+    {
+        PartsFrame::record(alloc, self.extensions, pairs, e.source_loc().copied())
+    }
+
+    fn call(&self, alloc: Global, e: &Expr, fn_name: &Name, args: &Rc<Vec<Expr>>) -> NextPart
+        requires { view e.now ≡ Terms.call (name_text fn_name.now) (terms_view args.now.value.items) }
+        ensures { (k : ℕ) → Leads (extensions_view self.now.extensions.now)
+            (calls_of self.now.extensions.now) k e.now result }
+    {
+        PartsFrame::call(alloc, self.extensions, fn_name, args, e.source_loc().copied())
+    }
+
+    // The error that this expression is left. No part of a restricted expression comes here.
+    #[cold]
+    #[inline(never)]
+    fn not_restricted(&self, e: &Expr) -> NextPart
+        requires { is_restricted (view e.now) ≡ false }
+        ensures { (k : ℕ) → Leads (extensions_view self.now.extensions.now)
+            (calls_of self.now.extensions.now) k e.now result }
+    {
+        match e.clone() {
+            Ok(expr) => {
+                let source_loc: Option<Loc> = expr.source_loc().copied();
+                Step::Done(Err(EvaluationError::NonValue(NonValueError { expr, source_loc })))
+            }
+            Err(error) => Step::Done(Err(EvaluationError::Memory(error))),
+        }
     }
 }
 

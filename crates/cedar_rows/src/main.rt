@@ -9,7 +9,7 @@ mod rows;
 mod tests;
 
 use arguments::arguments;
-use cedar_values::extensions::Extensions;
+use cedar_extensions::Extensions;
 use lines::{Stop, print_line};
 use rows::{ROWS, Row, row_named};
 use std::alloc::Global;

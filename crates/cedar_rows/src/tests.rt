@@ -1,5 +1,7 @@
 //! What no clause says: the printed lines, the statuses, and that calls succeed where there is memory.
 mod answers;
+mod contexts;
 mod program;
 pub mod reader;
+pub mod restricted;
 mod table;

@@ -5,7 +5,7 @@ use crate::requests::Asked;
 use crate::stop::Stop;
 use cedar_authorizer::authorizer::{AuthorizationError, Authorizer, Decision, Response};
 use cedar_layers::policies::{Dereference, Entities, Entity, PolicyID, PolicySet};
-use cedar_values::extensions::Extensions;
+use cedar_extensions::Extensions;
 use std::alloc::{AllocError, Global};
 use std::collections::HashSet;
 use std::io::Write;

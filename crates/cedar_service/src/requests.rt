@@ -74,5 +74,5 @@ impl Asked {
 fn context(alloc: Global, hour: i64) -> Result<Context, AllocError> {
     let mut pairs: BTreeMap<RcStr, Value> = BTreeMap::new(alloc);
     pairs.insert(RcStr::from_str(alloc, "hour")?, Value::from(hour))?;
-    Ok(Context::from_values(pairs))
+    Ok(Context::from_values(alloc, pairs))
 }

@@ -1,6 +1,6 @@
 //! The lines and statuses of the program.
 use crate::{NOT_WRITTEN, OUT_OF_MEMORY, run};
-use cedar_values::extensions::Extensions;
+use cedar_extensions::Extensions;
 use std::alloc::{AllocError, Global};
 use std::io;
 use std::io::Write;

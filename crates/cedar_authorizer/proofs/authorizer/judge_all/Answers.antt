@@ -7,16 +7,16 @@ use Rattle.cedar_authorizer.proofs.Noting.{judged_none, judged_more, judged_all}
 use Rattle.cedar_authorizer.proofs.authorizer.judge_all.Goals as goal
 
 pub policies-init : goal.policies-init
-policies-init c =
+policies-init g c =
     judged_none _ _ c.new-sheet.result _ c.new-sheet.ensures.reflects c.new-sheet.ensures.errors (sym (ap (λ it. map decides_as (map policy_view (policies_left it))) c.into_iter-policy-iterator.ensures.into_iter_gives ∙ ap (map decides_as) c.policies-policy-items.ensures.view))
 
 pub policies-preserved : goal.policies-preserved
-policies-preserved c =
+policies-preserved g c =
     let z = c.in_ok-judge.ensures in
     let slots = (policy_view c.in-Some.policy.now).slots in
     let term = condition_term (policy_view c.in-Some.policy.now) in
     judged_more _ _ c.policies.sheet c.judge.new.self (decides_as (policy_view c.in-Some.policy.now)) _ _ (ap (λ ps. map decides_as (map policy_view ps)) c.in-Some.ensures.steps) c.policies.invariant (z.0, subst (λ s. StoppingRuns s c.args.limit term z.0) (c.in_ok-evaluator.ensures.setting slots) (subst (λ n. StoppingRuns (setting_of c.in_ok-evaluator.evaluator slots) n term z.0) c.in_ok-evaluator.ensures.limit z.1), z.2)
 
 pub returns : goal.returns
-returns c =
+returns g c =
     judged_all _ _ c.policies.sheet _ (ap (λ ps. map decides_as (map policy_view ps)) c.in-None.ensures.steps.0) c.policies.invariant

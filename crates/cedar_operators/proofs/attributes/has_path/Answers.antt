@@ -12,4 +12,4 @@ returns-in-Stops c =
 
 pub returns : goal.returns
 returns c =
-    λ ok. c.has_last.ensures ok ∙ sym (path_ends _ _ _) ∙ rw (texts_of_none _ c.in_default.ensures.cases) at c.steps.invariant
+    λ ok. c.has_last.ensures ok ∙ sym (path_ends _ _ _) ∙ rw (texts_of_none c.steps.others.now c.in_default.ensures.cases) at c.steps.invariant

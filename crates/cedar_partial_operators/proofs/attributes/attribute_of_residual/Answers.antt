@@ -6,12 +6,18 @@ use Rattle.cedar_partial_operators.proofs.attributes.attribute_of_residual.Goals
 
 pub returns-then-is_projectable : goal.returns-then-is_projectable
 returns-then-is_projectable c =
-    λ ok. c.again.ensures ok ∙ projects_field _ _ _ _ (rw c.as_expr.ensures.view at c.in-Some.ensures) c.in-Some-get.ensures.value (rw c.as_expr-in-Some-get.ensures.view at (sym c.is_projectable.ensures ∙ c.if-is_projectable.true))
+    λ ok. c.again.ensures ok ∙ projects_field _ _ _ _
+    (rw c.as_expr.ensures.view at c.in-Some.ensures) c.in-Some-get.ensures.value
+    (rw c.as_expr-in-Some-get.ensures.view at (sym c.is_projectable.ensures ∙ c.if-is_projectable.true))
 
 pub returns-else-is_projectable : goal.returns-else-is_projectable
 returns-else-is_projectable c =
-    λ ok. ap answered (c.residual_attribute.ensures (λ m. ok (ap answered m))) ∙ keeps_field _ _ _ _ (rw c.as_expr.ensures.view at c.in-Some.ensures) c.in-Some-get.ensures.value (rw c.as_expr-in-Some-get.ensures.view at (sym c.is_projectable.ensures ∙ c.if-is_projectable.false))
+    λ ok. ap answered (c.residual_attribute.ensures (λ m. ok (ap answered m)))
+    ∙ keeps_field _ _ _ _ (rw c.as_expr.ensures.view at c.in-Some.ensures) c.in-Some-get.ensures.value
+    (rw c.as_expr-in-Some-get.ensures.view at (sym c.is_projectable.ensures ∙ c.if-is_projectable.false))
 
 pub returns-in-None-get : goal.returns-in-None-get
 returns-in-None-get c =
-    λ ok. ap (λ (f : Failure). answered (fails f)) (c.no_such_key.ensures (λ m. ok (ap (λ (f : Failure). answered (fails f)) m))) ∙ lacks_field _ _ _ (rw c.as_expr.ensures.view at c.in-Some.ensures) c.in-None-get.ensures.value
+    let fail = λ (f : Failure). answered (fails f) in
+    λ ok. ap fail (c.no_such_key.ensures (λ m. ok (ap fail m)))
+    ∙ lacks_field _ _ _ (rw c.as_expr.ensures.view at c.in-Some.ensures) c.in-None-get.ensures.value

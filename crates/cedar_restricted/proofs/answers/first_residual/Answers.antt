@@ -6,5 +6,6 @@ use Rattle.cedar_restricted.proofs.answers.first_residual.Goals as goal
 
 pub invariant_of-result : goal.invariant_of-result
 invariant_of-result c = record {
-  unknown = subst (λ es. have_unknown (terms_view es) ≡ true) (sym c.in_ok-push.ensures.items) (unknown_last c.args.exprs.items c.into_expr.result c.into_expr.ensures.unknown);
+  unknown = subst (λ es. have_unknown (terms_view es) ≡ true) (sym c.in_ok-push.ensures.items)
+      (unknown_last c.args.exprs.items c.into_expr.result c.into_expr.ensures.unknown);
 }

@@ -12,10 +12,18 @@ pub returns-clause-view : goal.returns-clause-view
 returns-clause-view c =
     let same = ap (λ v. v.items) c.into_exprs.ensures.exprs in
     let lengths = c.requires.0 ∙ sym (ap length same) in
-    c.in_ok-record_map.ensures.view ∙ ap record_of (exprs_of_map c.args.keys.items c.into_exprs.result.items c.in_ok-fields.fields (lengths, c.requires.1) c.in_ok-fields.ensures) ∙ ap (λ es. record_of (fields_named (texts_of c.args.keys.items) (terms_view es))) same
+    c.in_ok-record_map.ensures.view ∙
+    ap record_of (exprs_of_map
+    c.args.keys.items c.into_exprs.result.items c.in_ok-fields.fields (lengths, c.requires.1)
+    c.in_ok-fields.ensures) ∙ ap (λ es. record_of (fields_named (texts_of c.args.keys.items) (terms_view es))) same
 
 pub returns-clause-unknown : goal.returns-clause-unknown
 returns-clause-unknown c =
     let same = ap (λ v. v.items) c.into_exprs.ensures.exprs in
     let lengths = c.requires.0 ∙ sym (ap length same) in
-    ap has_unknown (c.in_ok-record_map.ensures.view ∙ ap record_of (exprs_of_map c.args.keys.items c.into_exprs.result.items c.in_ok-fields.fields (lengths, c.requires.1) c.in_ok-fields.ensures)) ∙ unknown_named (texts_of c.args.keys.items) (terms_view c.into_exprs.result.items) (have_keys c.args.keys.items c.into_exprs.result.items lengths) ∙ c.into_exprs.ensures.unknown
+    ap has_unknown (c.in_ok-record_map.ensures.view ∙
+    ap record_of (exprs_of_map
+    c.args.keys.items c.into_exprs.result.items c.in_ok-fields.fields (lengths, c.requires.1)
+    c.in_ok-fields.ensures)) ∙
+    unknown_named (texts_of c.args.keys.items) (terms_view c.into_exprs.result.items)
+    (have_keys c.args.keys.items c.into_exprs.result.items lengths) ∙ c.into_exprs.ensures.unknown

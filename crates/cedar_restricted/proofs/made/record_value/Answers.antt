@@ -5,4 +5,6 @@ use Rattle.cedar_restricted.proofs.made.record_value.Goals as goal
 
 pub returns : goal.returns
 returns c =
-    c.in_ok-record.ensures.what ∙ ap record_represented (values_of_map c.args.keys.items c.args.values.items c.in_ok-fields.fields c.requires c.in_ok-fields.ensures)
+    c.in_ok-record.ensures.what ∙
+    ap record_represented
+    (values_of_map c.args.keys.items c.args.values.items c.in_ok-fields.fields c.requires c.in_ok-fields.ensures)

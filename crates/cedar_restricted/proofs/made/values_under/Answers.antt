@@ -9,6 +9,9 @@ pub returns : goal.returns
 returns c =
     let first = c.zip.ensures.first in
     let second = c.zip.ensures.second in
-    let keys = YieldsList-from_vec {s = c.zip.result.a} c.args.keys.items (ap (λ i. i.rest.items) first ∙ c.into_iter.ensures.rest) (ap (λ i. i.rest.len) first ∙ c.into_iter.ensures.len ∙ c.args.keys.ok.0) in
+    let keys = YieldsList-from_vec {s = c.zip.result.a}
+    c.args.keys.items (ap (λ i. i.rest.items) first ∙ c.into_iter.ensures.rest)
+    (ap (λ i. i.rest.len) first ∙ c.into_iter.ensures.len ∙ c.args.keys.ok.0) in
     let parts = YieldsList-from_vec {s = c.zip.result.b} c.args.values.items second.0 (second.1 ∙ c.args.values.ok.0) in
-    fact_from_collect (IsFromIterResult key_order) c.collect.result c.collect.ensures.ran (YieldsList-from_zip keys parts)
+    fact_from_collect (IsFromIterResult key_order)
+    c.collect.result c.collect.ensures.ran (YieldsList-from_zip keys parts)

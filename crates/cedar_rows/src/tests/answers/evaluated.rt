@@ -5,7 +5,7 @@ use crate::tests::reader::expressions::expression;
 use crate::tests::reader::settings::Setting;
 use cedar_evaluator::evaluator::{EvaluationError, Evaluator};
 use cedar_layers::expressions::{Expr, Value};
-use cedar_values::extensions::Extensions;
+use cedar_extensions::Extensions;
 use std::alloc::{AllocError, Global};
 use std::test::Fail;
 

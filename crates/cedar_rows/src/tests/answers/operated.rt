@@ -6,7 +6,7 @@ use crate::tests::reader::leaves::{place, unary};
 use crate::tests::reader::values::values;
 use cedar_evaluator::evaluator::{EvaluationError, binary_arith, binary_relation, unary_app};
 use cedar_layers::expressions::{BinaryOp, Loc, Value};
-use cedar_values::extensions::Extensions;
+use cedar_extensions::Extensions;
 use std::alloc::{AllocError, Global};
 use std::test::Fail;
 

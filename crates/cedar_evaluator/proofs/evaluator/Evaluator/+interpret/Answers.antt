@@ -4,7 +4,7 @@ use Rattle.std.proofs.lemmas.List.{drop_all}
 use Rattle.std.specs.Rc.{rc_str_bytes}
 use Rattle.cedar_values.specs.Failures.{failure_of}
 use Rattle.cedar_expressions.specs.View.{view, terms_view, fields_view}
-use Rattle.cedar_model.specs.Failures.{fails, answers_value}
+use Rattle.cedar_model.specs.Failures.{answers_value}
 use Rattle.cedar_expressions.proofs.Levels.{kind_view-Lit, kind_view-Var, kind_view-Slot, kind_view-Unknown}
 use Rattle.cedar_expressions.proofs.NodeLevels.{kind_node-Lit, kind_node-Var, kind_node-Slot, kind_node-Unknown, kind_node-If, kind_node-And, kind_node-Or, kind_node-UnaryApp, kind_node-BinaryApp, kind_node-ExtensionFunctionApp, kind_node-GetAttr, kind_node-HasAttr, kind_node-ExtHasAttr, kind_node-Like, kind_node-Is, kind_node-Set, kind_node-Record}
 use Rattle.cedar_layers.specs.Policies.{slots_view}
@@ -258,7 +258,7 @@ pub attribute-returns-in-Ok : goal.attribute-returns-in-Ok
 attribute-returns-in-Ok t c =
     let s = setting_of c.args.self.now (slots_view c.args.slots.now) in
     let May = StoppingRuns s c.args.left in
-    step.attribute_reads s May refl _ _ _ _ c.in-Ok.ensures.answer (c.attribute_of.ensures s)
+    step.attribute_reads s May refl _ _ _ _ c.in-Ok.ensures.answer (step.known_gives _ _ _ c.known.ensures (c.attribute_of.ensures s))
 
 pub attribute-returns-in-Err : goal.attribute-returns-in-Err
 attribute-returns-in-Err t c =
@@ -270,7 +270,7 @@ pub has-returns-in-Ok : goal.has-returns-in-Ok
 has-returns-in-Ok t c =
     let s = setting_of c.args.self.now (slots_view c.args.slots.now) in
     let May = StoppingRuns s c.args.left in
-    step.has_reads s May _ _ _ _ c.in-Ok.ensures.answer c.has_attribute.ensures
+    step.has_reads s May _ _ _ _ c.in-Ok.ensures.answer (step.known_gives _ _ _ c.known.ensures (c.has_attribute.ensures s))
 
 pub has-returns-in-Err : goal.has-returns-in-Err
 has-returns-in-Err t c =
@@ -282,7 +282,7 @@ pub extended_has-returns-in-Ok : goal.extended_has-returns-in-Ok
 extended_has-returns-in-Ok t c =
     let s = setting_of c.args.self.now (slots_view c.args.slots.now) in
     let May = StoppingRuns s c.args.left in
-    step.path_reads s May refl _ _ _ _ _ c.in-Ok.ensures.answer c.has_path.ensures
+    step.path_reads s May refl _ _ _ _ _ c.in-Ok.ensures.answer (step.known_gives _ _ _ c.known.ensures c.has_path.ensures)
 
 pub extended_has-returns-in-Err : goal.extended_has-returns-in-Err
 extended_has-returns-in-Err t c =

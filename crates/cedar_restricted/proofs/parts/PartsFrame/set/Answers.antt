@@ -2,6 +2,7 @@ use Rattle.std.proofs.Common.{sym, ap, length}
 use Rattle.cedar_model.specs.Terms.{set_of}
 use Rattle.cedar_expressions.specs.View.{terms_view}
 use Rattle.cedar_data.specs.Sound.{whats}
+use Rattle.cedar_extensions.specs.Extensions.{extensions_view, calls_of}
 use Rattle.cedar_restricted.specs.declared.whole.Whole.TheVariants as wholes
 use Rattle.cedar_restricted.specs.declared.answers.Answers.TheVariants as answereds
 use Rattle.cedar_restricted.specs.Parts.{all_values}
@@ -9,5 +10,8 @@ use Rattle.cedar_restricted.specs.Laws.{begins}
 use Rattle.cedar_restricted.proofs.parts.PartsFrame.set.Goals as goal
 
 pub returns-in-Ok : goal.returns-in-Ok
-returns-in-Ok c =
-    begins wholes.Set c.in-Ok.parts (answereds.Values c.new.result) c.args.loc (set_of (terms_view c.args.parts.now.value.items)) c.read.result (ap (λ v. set_of (terms_view v.items)) c.in-Ok.ensures.cases) tt (ap (λ l. all_values (whats l)) (sym c.new.ensures.items), ap length c.new.ensures.items) c.read.ensures
+returns-in-Ok g c =
+    begins (extensions_view c.args.extensions.now) (calls_of c.args.extensions.now) wholes.Set c.in-Ok.parts (answereds.Values c.new.result)
+    c.args.loc (set_of (terms_view c.args.parts.now.value.items))
+    c.read.result (ap (λ v. set_of (terms_view v.items)) c.in-Ok.ensures.cases) tt
+    (ap (λ l. all_values (whats l)) (sym c.new.ensures.items), ap length c.new.ensures.items) c.read.ensures

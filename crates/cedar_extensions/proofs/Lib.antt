@@ -1,0 +1,5 @@
+mod Checked
+mod Collecting
+mod Counted
+mod Found
+mod Texts

@@ -1,0 +1,13 @@
+pub mod Codes
+pub mod Outcomes
+pub mod Answers
+pub mod Callees
+pub mod Types
+pub mod Functions
+pub mod Extension
+pub mod Iterators
+pub mod Extensions
+pub mod Collected
+pub mod Refused
+pub mod CallLaws
+pub mod StoredLaws

@@ -1,0 +1,86 @@
+//! Why extensions can't be used together.
+use extension_initialization_errors::{
+    FuncMultiplyDefinedError, MultipleConstructorsSameSignatureError,
+};
+use std::alloc::{AllocError, AllocFailed};
+use thiserror::Error;
+
+/// Why extensions can't be used together.
+#[derive(Debug, Clone, PartialEq, Eq, Drop, Error)]
+pub enum ExtensionInitializationError {
+    /// Two functions, of one extension or of two, have one name.
+    #[error(transparent)]
+    FuncMultiplyDefined(FuncMultiplyDefinedError),
+    /// Two functions, of one extension or of two, make the values of one extension type, each of one text.
+    #[error(transparent)]
+    MultipleConstructorsSameSignature(MultipleConstructorsSameSignatureError),
+    /// Memory was wanting.
+    #[error("out of memory")]
+    Memory(AllocError),
+}
+
+/// The structs of `ExtensionInitializationError`.
+pub mod extension_initialization_errors {
+    use cedar_names::{Name, Type};
+    use thiserror::Error;
+
+    /// Two functions, of one extension or of two, have one name.
+    #[derive(Debug, Clone, PartialEq, Eq, Drop, Error)]
+    #[error("extension function `{name}` is defined multiple times")]
+    pub struct FuncMultiplyDefinedError {
+        /// The name.
+        pub name: Name,
+    }
+
+    /// Two functions, of one extension or of two, make the values of one extension type, each of one text.
+    #[derive(Debug, Clone, PartialEq, Eq, Drop, Error)]
+    #[error("multiple extension constructors for the same extension type {return_type}")]
+    pub struct MultipleConstructorsSameSignatureError {
+        /// The extension type.
+        pub return_type: Box<Type>,
+    }
+}
+
+impl From<FuncMultiplyDefinedError> for ExtensionInitializationError {
+    ghost use Rattle.std.specs.Prelude.{◌≡◌};
+    ghost use Rattle.cedar_extensions.specs.declared.errors.ExtensionInitializationError.TheVariants.{FuncMultiplyDefined};
+
+    ghost from_gives = { λ e r. r ≡ FuncMultiplyDefined e };
+
+    fn from(e: FuncMultiplyDefinedError) -> ExtensionInitializationError {
+        ExtensionInitializationError::FuncMultiplyDefined(e)
+    }
+}
+
+impl From<MultipleConstructorsSameSignatureError> for ExtensionInitializationError {
+    ghost use Rattle.std.specs.Prelude.{◌≡◌};
+    ghost use Rattle.cedar_extensions.specs.declared.errors.ExtensionInitializationError.TheVariants.{MultipleConstructorsSameSignature};
+
+    ghost from_gives = { λ e r. r ≡ MultipleConstructorsSameSignature e };
+
+    fn from(e: MultipleConstructorsSameSignatureError) -> ExtensionInitializationError {
+        ExtensionInitializationError::MultipleConstructorsSameSignature(e)
+    }
+}
+
+impl From<AllocError> for ExtensionInitializationError {
+    ghost use Rattle.std.specs.Prelude.{◌≡◌};
+    ghost use Rattle.cedar_extensions.specs.declared.errors.ExtensionInitializationError.TheVariants.{Memory};
+
+    ghost from_gives = { λ e r. r ≡ Memory e };
+
+    fn from(e: AllocError) -> ExtensionInitializationError {
+        ExtensionInitializationError::Memory(e)
+    }
+}
+
+impl<T: Drop> From<AllocFailed<T>> for ExtensionInitializationError {
+    ghost use Rattle.std.specs.Prelude.{◌≡◌, alloc_error};
+    ghost use Rattle.cedar_extensions.specs.declared.errors.ExtensionInitializationError.TheVariants.{Memory};
+
+    ghost from_gives = { λ _ r. r ≡ Memory alloc_error };
+
+    fn from(_e: AllocFailed<T>) -> ExtensionInitializationError {
+        ExtensionInitializationError::Memory(AllocError)
+    }
+}

@@ -1,0 +1,23 @@
+//! Extension functions, which the caller of an evaluator makes and hands in, and the extensions that have them.
+#![tactic(auto)]
+
+mod checks;
+mod errors;
+mod extension;
+mod extensions;
+mod function;
+mod iterators;
+pub mod laws;
+#[cfg(test)]
+mod tests;
+pub mod util;
+
+use cedar_values::extensions::ExtensionFunctionLookupError;
+pub use errors::{ExtensionInitializationError, extension_initialization_errors};
+pub use extension::Extension;
+pub use extensions::Extensions;
+pub use function::{ExtensionFunction, ExtensionFunctionObject, ExtensionOutputValue};
+pub use iterators::{ExtNames, ExtTypes, OverloadingTypes};
+
+/// What a look-up of a function answers.
+pub type Result<T> = std::result::Result<T, ExtensionFunctionLookupError>;

@@ -1,0 +1,44 @@
+//! What extensions are checked with.
+ghost use Rattle.std.specs.Prelude.{IfOk, IfErr, IfSome};
+ghost use Rattle.std.specs.Iterator.{IsFinite};
+ghost use Rattle.cedar_extensions.specs.Collected.{AreAll, ComesAgain, duplicate};
+
+use std::alloc::{AllocError, Global};
+use std::collections::HashMap;
+use std::hash::Hash;
+use thiserror::Error;
+
+/// Why pairs can't be put into one map.
+#[derive(Debug, Clone, PartialEq, Eq, Drop, Error)]
+pub enum CollectError<K> {
+    /// This key comes more than once.
+    #[error("duplicate key")]
+    Duplicate(K),
+    /// Memory was wanting.
+    #[error("out of memory")]
+    Memory(AllocError),
+}
+
+/// The map of these pairs. Refuses with `Duplicate` where a key comes again: it has the key as it came first. Else
+/// refuses only for want of memory.
+pub fn collect_no_duplicates<K: Eq + Hash + Drop, V: Drop, I: Iterator<Item = (K, V)> + Drop>(
+    alloc: Global,
+    pairs: I,
+) -> Result<HashMap<K, V>, CollectError<K>>
+    requires can { I.can_next pairs }
+    requires finite { IsFinite (I.remaining pairs) }
+    ensures ok { IfOk result (λ m. AreAll K.eq I.next_gives pairs m.entries) }
+    ensures duplicate { IfErr result (λ e. IfSome (duplicate e) (ComesAgain K.eq I.next_gives pairs)) }
+{
+    let mut map: HashMap<K, V> = HashMap::new(alloc);
+    'pairs: for (key, value) in pairs {
+        match map.remove_entry(&key) {
+            Some((first, _)) => return Err(CollectError::Duplicate(first)),
+            None => match map.insert(key, value) {
+                Ok(_) => {}
+                Err(_) => return Err(CollectError::Memory(AllocError)),
+            },
+        }
+    }
+    Ok(map)
+}

@@ -1,0 +1,5 @@
+pub mod Contexts
+pub mod Requests
+pub mod Errors
+pub mod Creations
+pub mod Walks

@@ -1,0 +1,68 @@
+-- The walk over the attributes of a context.
+use Rattle.std.specs.Prelude.{◌≡◌, List, [], ◌∷◌, map, Option, Some, None, Result, Ok, Err}
+use Rattle.std.specs.Rc.{rc_str_bytes}
+use Rattle.std.specs.declared.alloc.AllocError.{AllocError}
+use Rattle.std.specs.declared.alloc.Global.{Global}
+use Rattle.std.specs.declared.rc.RcStr.{RcStr}
+use Rattle.cedar_model.specs.Terms.{Text, Term}
+use Rattle.cedar_model.specs.Values.{expression_of}
+use Rattle.cedar_names.specs.declared.names.Loc.{Loc}
+use Rattle.cedar_expressions.specs.declared.expr.Expr.{Expr}
+use Rattle.cedar_expressions.specs.View.{view, expr_loc}
+use Rattle.cedar_data.specs.Sound.{Placed}
+use Rattle.cedar_restricted_expressions.specs.declared.restricted_expr.RestrictedExpr.{RestrictedExpr}
+use Rattle.cedar_restricted_expressions.specs.Views.{restricted_term, restricted_loc}
+use Rattle.cedar_requests.specs.declared.context.Context.{Context}
+use Rattle.cedar_requests.specs.declared.context.pairs.ContextPairs.{ContextPairs}
+use Rattle.cedar_requests.specs.declared.context.pairs.ContextPairs.TheVariants as kinds
+use Rattle.cedar_requests.specs.declared.context.walk.IntoIter.{IntoIter}
+use Rattle.cedar_requests.specs.declared.context.walk.PairsIter.{PairsIter}
+use Rattle.cedar_requests.specs.declared.context.walk.PairsIter.TheVariants as walks
+use Rattle.cedar_requests.specs.declared.context.walk.ResidualIter.{ResidualIter}
+use Rattle.cedar_requests.specs.Contexts.{residual_map}
+
+-- an attribute: its name, its expression, and where that stands
+abbrev pub Attribute : Type 0
+Attribute = Text × (Term × Option Loc)
+
+abbrev pub attribute_given : RcStr Global × RestrictedExpr → Attribute
+attribute_given a = (rc_str_bytes a.0, (restricted_term a.1, restricted_loc a.1))
+
+-- a value is written as its expression
+abbrev pub value_attribute : RcStr Global × Placed → Attribute
+value_attribute a = (rc_str_bytes a.0, (expression_of a.1.what, a.1.loc))
+
+abbrev pub expr_attribute : RcStr Global × Expr → Attribute
+expr_attribute a = (rc_str_bytes a.0, (view a.1, expr_loc a.1))
+
+-- ---- what a context has, in the order of its map
+
+abbrev pub pairs_attributes : ContextPairs → List Attribute
+pairs_attributes (kinds.Values m) = map value_attribute m.entries
+pairs_attributes (kinds.Residual r) = map expr_attribute (residual_map r).entries
+
+abbrev pub context_attributes : Context → List Attribute
+context_attributes c = pairs_attributes c.pairs
+
+-- the names of attributes
+abbrev pub attribute_names : List Attribute → List Text
+attribute_names = map (λ a. a.0)
+
+-- ---- what a walk has still to give
+
+abbrev pub exprs_left : ResidualIter → List Attribute
+exprs_left r = map expr_attribute r.pairs
+
+abbrev pub pairs_left : PairsIter → List Attribute
+pairs_left (walks.Values ps) = map value_attribute ps
+pairs_left (walks.Residual r) = exprs_left r
+
+abbrev pub attributes_left : IntoIter → List Attribute
+attributes_left s = pairs_left s.pairs
+
+-- the first of what was left is given, or an error in its place; then the others are left
+abbrev pub GivesAttribute : List Attribute → Option (Result (RcStr Global × RestrictedExpr) AllocError)
+    → List Attribute → Type 0
+GivesAttribute before None after = (before ≡ []) × (after ≡ [])
+GivesAttribute before (Some (Ok a)) after = before ≡ attribute_given a ∷ after
+GivesAttribute before (Some (Err e)) after = (a : Attribute) × (before ≡ a ∷ after)

@@ -1,0 +1,91 @@
+//! Contexts of requests.
+ghost use Rattle.std.specs.Prelude.{◌≡◌, Some, None, option_copied, IfSome, true, length};
+
+mod conversions;
+mod copies;
+mod creation;
+mod equality;
+pub(crate) mod pairs;
+mod texts;
+mod walk;
+
+use cedar_data::Value;
+use cedar_expressions::Expr;
+use pairs::ContextPairs;
+use std::alloc::Global;
+use std::collections::BTreeMap;
+use std::rc::RcStr;
+pub use walk::IntoIter;
+
+/// The context of a request: a record of values, or a record of restricted expressions of which one or more hold an
+/// unknown.
+#[derive(Debug, Drop)]
+pub struct Context {
+    pairs: ContextPairs,
+    alloc: Global,
+}
+
+impl Context {
+    ghost use Rattle.cedar_model.specs.Values.{no_represented_at};
+    ghost use Rattle.cedar_model.specs.Settings.{known_context};
+    ghost use Rattle.cedar_model.specs.Shapes.{are_restricted_at, have_unknown_at};
+    ghost use Rattle.cedar_expressions.specs.View.{fields_view};
+    ghost use Rattle.cedar_data.specs.Sound.{whats_at};
+    ghost use Rattle.cedar_requests.specs.Contexts.{context_view, context_keys, context_values, context_residual};
+    ghost use Rattle.cedar_requests.specs.Contexts.{context_pairs};
+
+    /// The context with no attribute. It takes no memory.
+    pub fn empty(alloc: Global) -> Context
+        ensures { context_view result ≡ known_context no_represented_at }
+    {
+        Context::from_values(alloc, BTreeMap::new(alloc))
+    }
+
+    /// The context of these attributes with their values. It takes no memory: `alloc` is for the expressions that the
+    /// context is walked as.
+    pub fn from_values(alloc: Global, pairs: BTreeMap<RcStr, Value>) -> Context
+        ensures view { context_view result ≡ known_context (whats_at pairs.entries) }
+        ensures map { context_values result ≡ Some pairs }
+    {
+        Context {
+            pairs: ContextPairs::Values(pairs),
+            alloc,
+        }
+    }
+
+    /// How many attributes the context has.
+    pub fn num_keys(&self) -> usize
+        ensures { result ≡ length (context_keys (context_view self.now)) }
+    {
+        self.pairs.len()
+    }
+
+    /// The attributes with their values, where all values are known: `None` of a residual.
+    pub fn as_value(&self) -> Option<&BTreeMap<RcStr, Value>>
+        ensures { option_copied result ≡ context_values self.now }
+    {
+        match &self.pairs {
+            ContextPairs::Values(pairs) => Some(pairs),
+            ContextPairs::Residual(_) => None,
+        }
+    }
+
+    /// The attributes with their expressions, where one or more hold an unknown: `None` of a context of values.
+    pub fn as_residual(&self) -> Option<&BTreeMap<RcStr, Expr>>
+        ensures map { option_copied result ≡ context_residual self.now }
+        ensures restricted { IfSome result (λ m. are_restricted_at (fields_view m.now.entries) ≡ true) }
+        ensures unknown { IfSome result (λ m. have_unknown_at (fields_view m.now.entries) ≡ true) }
+    {
+        match &self.pairs {
+            ContextPairs::Values(_) => None,
+            ContextPairs::Residual(residual) => Some(residual.as_map()),
+        }
+    }
+
+    /// The attributes, by value: values, or the expressions of a residual.
+    pub fn into_pairs(self) -> ContextPairs
+        ensures { result ≡ context_pairs self }
+    {
+        self.pairs
+    }
+}

@@ -1,0 +1,57 @@
+//! The partial value and the restricted expression that a context is.
+ghost use Rattle.std.specs.Prelude.{◌≡◌, None, IfOk};
+ghost use Rattle.cedar_data.specs.Residuals.{partial_view, partial_loc, partial_term};
+ghost use Rattle.cedar_restricted_expressions.specs.Views.{restricted_term, restricted_loc};
+ghost use Rattle.cedar_requests.specs.Contexts.{context_part_value};
+
+use super::Context;
+use super::pairs::ContextPairs;
+use cedar_data::{PartialValue, ResidualExpr, Value};
+use cedar_expressions::Expr;
+use cedar_restricted_expressions::RestrictedExpr;
+use std::alloc::AllocError;
+
+/// The record of the context's values, or the residual of its expressions, at no location.
+impl TryFrom<Context> for PartialValue {
+    type Error = AllocError;
+
+    ghost try_from_gives = { λ c r. IfOk r (λ p. (partial_view p ≡ context_part_value c) × (partial_loc p ≡ None)) };
+
+    #[tactic(auto, unfolding(cedar_model::specs::Settings::context_value))]
+    fn try_from(context: Context) -> Result<PartialValue, AllocError> {
+        let alloc = context.alloc;
+        match context.pairs {
+            ContextPairs::Values(pairs) => {
+                let value = Value::record(alloc, pairs, None)?;
+                Ok(PartialValue::Value(value))
+            }
+            ContextPairs::Residual(residual) => {
+                let expr = Expr::record_map(alloc, residual.into_map())?;
+                Ok(PartialValue::Residual(ResidualExpr::new(expr)))
+            }
+        }
+    }
+}
+
+/// The record of the context's attributes, values written as expressions, at no location.
+impl TryFrom<Context> for RestrictedExpr {
+    type Error = AllocError;
+
+    ghost try_from_gives = { λ c r. IfOk r (λ e. (restricted_term e ≡ partial_term (context_part_value c))
+        × (restricted_loc e ≡ None)) };
+
+    #[tactic(auto, unfolding(cedar_model::specs::Settings::context_value))]
+    fn try_from(context: Context) -> Result<RestrictedExpr, AllocError> {
+        let alloc = context.alloc;
+        match context.pairs {
+            ContextPairs::Values(pairs) => {
+                let record = Value::record(alloc, pairs, None)?;
+                Ok(RestrictedExpr::try_from_value(alloc, record)?)
+            }
+            ContextPairs::Residual(residual) => {
+                let expr = Expr::record_map(alloc, residual.into_map())?;
+                Ok(RestrictedExpr::new_unchecked(expr))
+            }
+        }
+    }
+}

@@ -1,0 +1,206 @@
+//! How contexts are made of restricted expressions.
+ghost use Rattle.std.specs.Prelude.{◌≡◌, ◌≤◌, true, false, IfOk, IfErr, option_map};
+ghost use Rattle.cedar_model.specs.Terms.{record_of};
+ghost use Rattle.cedar_model.specs.Values.{record_represented};
+ghost use Rattle.cedar_model.specs.Shapes.{is_restricted};
+ghost use Rattle.cedar_model.specs.Failures.{value};
+ghost use Rattle.cedar_model.specs.Settings.{Setting};
+ghost use Rattle.cedar_model.specs.Rules.{fields_of_record};
+ghost use Rattle.cedar_model.specs.Agreement.{height};
+ghost use Rattle.cedar_model.specs.Restricted.{IsSoundPart};
+ghost use Rattle.cedar_expressions.specs.View.{view, fields_view};
+ghost use Rattle.cedar_data.specs.Sound.{whats_at};
+ghost use Rattle.cedar_data.specs.Residuals.{partial_view, residual_term};
+ghost use Rattle.cedar_extensions.specs.Extensions.{extensions_view, calls_of};
+ghost use Rattle.cedar_restricted.specs.Evaluations.{IsBare};
+ghost use Rattle.cedar_restricted_expressions.specs.Views.{borrowed_term, borrowed_loc, pairs_in};
+ghost use Rattle.cedar_requests.specs.Contexts.{context_part_value, context_pairs, residual_fields};
+ghost use Rattle.cedar_requests.specs.declared.context.pairs.ContextPairs.TheVariants.{Residual};
+ghost use Rattle.cedar_requests.specs.Errors.{IsAtLimit, NamesAt};
+ghost use Rattle.cedar_requests.specs.Creations.{is_record, IsRecordPart, IsNoRecord, IsOfRecord, IsOfExpr, IsOfPairs};
+ghost use Rattle.cedar_requests.specs.Creations.{record_of_pairs};
+
+use super::Context;
+use super::pairs::{ContextPairs, ResidualPairs};
+use crate::errors::{ContextCreationError, context_creation_errors};
+use cedar_data::{PartialValue, ResidualExpr, Value, ValueKind};
+use cedar_expressions::{Expr, ExprKind};
+use cedar_extensions::Extensions;
+use cedar_restricted::RestrictedEvaluator;
+use cedar_restricted_expressions::{BorrowedRestrictedExpr, RestrictedExpr};
+use std::alloc::{AllocError, Global};
+use std::collections::BTreeMap;
+use std::rc::{Rc, RcStr};
+
+impl Context {
+    /// The context that the record is evaluated to, with these extensions: of values, or of what is left where an
+    /// unknown stands in it. Refuses what is no record with `NotARecord`, before anything is evaluated. Where the
+    /// evaluation fails, `Evaluation` holds its error: the first in the order of evaluation, or `RecursionLimit`
+    /// exactly where the evaluation goes more than `limit` levels deep (the record is one level, its parts one more),
+    /// which it never does for a record that is no higher. `Memory` is want of memory.
+    pub fn from_expr(
+        alloc: Global,
+        expr: BorrowedRestrictedExpr<'_>,
+        extensions: &Extensions<'_>,
+        limit: usize,
+    ) -> Result<Context, ContextCreationError>
+        ensures created { (s : Setting) → IsBare (extensions_view extensions.now) s →
+            IsOfExpr s (calls_of extensions.now) limit (borrowed_term expr.entry) result }
+        ensures place { IfErr result (NamesAt (borrowed_loc expr.entry)) }
+        ensures low { height (borrowed_term expr.entry) ≤ limit → IfErr result (λ e. ¬ (IsAtLimit e)) }
+    {
+        if is_record(expr.as_ref()) {
+            of_record(alloc, expr, extensions, limit)
+        } else {
+            Err(not_a_record(expr))
+        }
+    }
+
+    /// The context that the record of these pairs is evaluated to, as `from_expr` does. Refuses the first key that
+    /// comes again with `ExpressionConstruction`, which holds a `DuplicateKey` in the context `in context`, before
+    /// anything is evaluated.
+    pub fn from_pairs(
+        alloc: Global,
+        pairs: Vec<(RcStr, RestrictedExpr)>,
+        extensions: &Extensions<'_>,
+        limit: usize,
+    ) -> Result<Context, ContextCreationError>
+        ensures created { (s : Setting) → IsBare (extensions_view extensions.now) s →
+            IsOfPairs s (calls_of extensions.now) limit (pairs_in pairs.items) result }
+        ensures low { height (record_of_pairs (pairs_in pairs.items)) ≤ limit → IfErr result (λ e. ¬ (IsAtLimit e)) }
+    {
+        match RestrictedExpr::record(alloc, pairs) {
+            Ok(record) => of_record(alloc, record.as_borrowed(), extensions, limit),
+            Err(error) => Err(ContextCreationError::from(error.with_context("in context"))),
+        }
+    }
+
+    // The context of these pairs, of which one or more hold an unknown.
+    fn of_residual(alloc: Global, residual: ResidualPairs) -> Context
+        ensures { context_pairs result ≡ Residual residual }
+    {
+        Context {
+            pairs: ContextPairs::Residual(residual),
+            alloc,
+        }
+    }
+}
+
+// The context that the record is evaluated to.
+fn of_record(
+    alloc: Global,
+    expr: BorrowedRestrictedExpr<'_>,
+    extensions: &Extensions<'_>,
+    limit: usize,
+) -> Result<Context, ContextCreationError>
+    requires { is_record (borrowed_term expr) ≡ true }
+    ensures created { (s : Setting) → IsBare (extensions_view extensions.now) s →
+        IsOfRecord s (calls_of extensions.now) limit (borrowed_term expr.entry) result }
+    ensures low { height (borrowed_term expr.entry) ≤ limit → IfErr result (λ e. ¬ (IsAtLimit e)) }
+{
+    let evaluator = RestrictedEvaluator::new(extensions, limit);
+    match evaluator.partial_interpret(alloc, expr) {
+        Ok(part) => match of_part(alloc, part) {
+            Ok(context) => Ok(context),
+            Err(error) => Err(ContextCreationError::Memory(error)),
+        },
+        Err(error) => Err(ContextCreationError::from(error)),
+    }
+}
+
+// The error that the expression is no record.
+#[cold]
+fn not_a_record(expr: BorrowedRestrictedExpr<'_>) -> ContextCreationError
+    requires { is_record (borrowed_term expr) ≡ false }
+    ensures created { IsNoRecord (borrowed_term expr.entry) result }
+    ensures place { NamesAt (borrowed_loc expr.entry) result }
+{
+    match expr.to_owned() {
+        Ok(owned) => ContextCreationError::NotARecord(context_creation_errors::NotARecord {
+            expr: Expr::from(owned),
+        }),
+        Err(error) => ContextCreationError::Memory(error),
+    }
+}
+
+// The context of a record of values, or of a residual that is a record.
+#[tactic(auto, unfolding(cedar_model::specs::Settings::context_value))]
+fn of_part(alloc: Global, part: PartialValue) -> Result<Context, AllocError>
+    requires record { IsRecordPart (partial_view part) }
+    requires restricted { IsSoundPart (partial_view part) }
+    ensures { IfOk result (λ c. context_part_value c ≡ partial_view part) }
+{
+    match part {
+        PartialValue::Value(value) => Ok(Context::from_values(alloc, values_in(value)?)),
+        PartialValue::Residual(residual) => Ok(Context::of_residual(alloc, pairs_of(residual)?)),
+    }
+}
+
+// The values of the record.
+fn values_in(whole: Value) -> Result<BTreeMap<RcStr, Value>, AllocError>
+    requires { IsRecordPart (value whole.what) }
+    ensures { IfOk result (λ m. record_represented (whats_at m.entries) ≡ whole.what) }
+{
+    match whole.value {
+        ValueKind::Record(pairs) => Ok(Rc::unwrap_or_clone(pairs)?),
+        ValueKind::Lit(_) => unreachable!(),
+        ValueKind::Set(_) => unreachable!(),
+        ValueKind::ExtensionValue(_) => unreachable!(),
+    }
+}
+
+// The expressions of the residual, which is a record.
+fn pairs_of(residual: ResidualExpr) -> Result<ResidualPairs, AllocError>
+    requires record { is_record (residual_term residual) ≡ true }
+    requires restricted { is_restricted (residual_term residual) ≡ true }
+    ensures { IfOk result (λ r. record_of (residual_fields r) ≡ residual_term residual) }
+{
+    let expr = residual.into_expr();
+    let shared = shared_pairs(&expr)?;
+    drop(expr);
+    Ok(ResidualPairs::new(Rc::unwrap_or_clone(shared)?))
+}
+
+// The parts of the record, shared.
+fn shared_pairs(expr: &Expr) -> Result<Rc<BTreeMap<RcStr, Expr>>, AllocError>
+    requires { is_record (view expr.now) ≡ true }
+    ensures { IfOk result (λ m. record_of (fields_view m.value.entries) ≡ view expr.now) }
+{
+    match record_in(expr) {
+        Some(pairs) => Ok(pairs.clone()?),
+        None => unreachable!(),
+    }
+}
+
+// Whether the expression is a record.
+fn is_record(expr: &Expr) -> bool
+    ensures { result ≡ is_record (view expr.now) }
+{
+    record_in(expr).is_some()
+}
+
+// The parts of a record.
+#[tactic(auto, using(cedar_expressions::proofs::Levels::levels), unfolding(cedar_model::specs::Rules::fields_of_record))]
+fn record_in(expr: &Expr) -> Option<&Rc<BTreeMap<RcStr, Expr>>>
+    ensures { option_map (λ m. fields_view m.now.value.entries) result ≡ fields_of_record (view expr.now) }
+{
+    match expr.expr_kind() {
+        ExprKind::Record(pairs) => Some(pairs),
+        ExprKind::Lit(_) => None,
+        ExprKind::Var(_) => None,
+        ExprKind::Slot(_) => None,
+        ExprKind::Unknown(_) => None,
+        ExprKind::If { .. } => None,
+        ExprKind::And { .. } => None,
+        ExprKind::Or { .. } => None,
+        ExprKind::UnaryApp { .. } => None,
+        ExprKind::BinaryApp { .. } => None,
+        ExprKind::ExtensionFunctionApp { .. } => None,
+        ExprKind::GetAttr { .. } => None,
+        ExprKind::HasAttr { .. } => None,
+        ExprKind::ExtHasAttr { .. } => None,
+        ExprKind::Like { .. } => None,
+        ExprKind::Is { .. } => None,
+        ExprKind::Set(_) => None,
+    }
+}

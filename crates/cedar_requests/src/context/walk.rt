@@ -1,0 +1,127 @@
+//! The walk over the attributes of a context, in the order of their names.
+ghost use Rattle.std.specs.Prelude.{◌≡◌, true, map, length, IfOk};
+ghost use Rattle.cedar_model.specs.Shapes.{are_restricted_at};
+ghost use Rattle.cedar_expressions.specs.View.{fields_view};
+ghost use Rattle.cedar_requests.specs.Contexts.{residual_map};
+ghost use mathlib.Core.Bool.{Bool-set};
+
+use super::Context;
+use super::pairs::{ContextPairs, ResidualPairs};
+use cedar_data::Value;
+use cedar_expressions::Expr;
+use cedar_restricted_expressions::RestrictedExpr;
+use std::alloc::{AllocError, Global};
+use std::collections::btree_map;
+use std::rc::RcStr;
+
+/// The attributes of a context with their expressions, in the order of their names: a value is written as its
+/// expression. Where memory is wanting for that, an `Err` stands in the attribute's place, and the walk goes on.
+#[derive(Drop)]
+pub struct IntoIter {
+    pairs: PairsIter,
+    alloc: Global,
+}
+
+#[derive(Drop)]
+enum PairsIter {
+    Values(btree_map::IntoIter<RcStr, Value>),
+    Residual(ResidualIter),
+}
+
+// Restricted expressions under their names.
+#[derive(Drop)]
+struct ResidualIter {
+    pairs: btree_map::IntoIter<RcStr, Expr>,
+    ghost restricted: { are_restricted_at (fields_view pairs) ≡ true } by { Bool-set _ _ },
+}
+
+impl IntoIterator for Context {
+    ghost use Rattle.std.specs.Cmp.Lexicographic.{slice_cmp};
+    ghost use Rattle.std.specs.List.Sorted.{IsStrictlySortedBy};
+    ghost use Rattle.std.specs.Ordering.{nat_cmp};
+    ghost use Rattle.cedar_requests.specs.Walks.{attribute_names, attributes_left, context_attributes};
+
+    type Item = Result<(RcStr, RestrictedExpr), AllocError>;
+
+    type IntoIter = IntoIter;
+
+    ghost into_iter_gives = { λ c r. (attributes_left r ≡ context_attributes c)
+        × IsStrictlySortedBy (slice_cmp nat_cmp) (attribute_names (attributes_left r)) };
+
+    fn into_iter(self) -> IntoIter {
+        let alloc = self.alloc;
+        match self.pairs {
+            ContextPairs::Values(pairs) => IntoIter {
+                pairs: PairsIter::Values(pairs.into_iter()),
+                alloc,
+            },
+            ContextPairs::Residual(residual) => IntoIter {
+                pairs: PairsIter::Residual(ResidualIter::new(residual)),
+                alloc,
+            },
+        }
+    }
+}
+
+impl Iterator for IntoIter {
+    ghost use Rattle.std.specs.Iterator.{at_most};
+    ghost use Rattle.cedar_requests.specs.Walks.{attributes_left, GivesAttribute};
+
+    type Item = Result<(RcStr, RestrictedExpr), AllocError>;
+
+    ghost next_gives = { λ s r t. GivesAttribute (attributes_left s) r (attributes_left t) };
+
+    ghost remaining = { λ s. at_most (length (attributes_left s)) };
+
+    fn next(&mut self) -> Option<Result<(RcStr, RestrictedExpr), AllocError>> {
+        match &mut self.pairs {
+            PairsIter::Values(pairs) => {
+                let (name, value) = pairs.next()?;
+                Some(IntoIter::written(self.alloc, name, value))
+            }
+            PairsIter::Residual(residual) => {
+                let attribute = residual.next()?;
+                Some(Ok(attribute))
+            }
+        }
+    }
+}
+
+impl ResidualIter {
+    ghost use Rattle.std.specs.Iterator.{YieldsFirstBy};
+    ghost use Rattle.std.specs.Cmp.Lexicographic.{slice_cmp};
+    ghost use Rattle.std.specs.List.Sorted.{IsStrictlySortedBy};
+    ghost use Rattle.std.specs.Ordering.{nat_cmp};
+    ghost use Rattle.cedar_requests.specs.Walks.{attribute_given, attribute_names, expr_attribute, exprs_left};
+
+    fn new(residual: ResidualPairs) -> ResidualIter
+        ensures attributes { exprs_left result ≡ map expr_attribute (residual_map residual).entries }
+        ensures in_order { IsStrictlySortedBy (slice_cmp nat_cmp) (attribute_names (exprs_left result)) }
+    {
+        ResidualIter {
+            pairs: residual.into_map().into_iter(),
+        }
+    }
+
+    fn next(&mut self) -> Option<(RcStr, RestrictedExpr)>
+        ensures { YieldsFirstBy attribute_given exprs_left self.old result self.new }
+    {
+        let (name, expr) = self.pairs.next()?;
+        Some((name, RestrictedExpr::new_unchecked(expr)))
+    }
+}
+
+impl IntoIter {
+    ghost use Rattle.cedar_requests.specs.Walks.{attribute_given, value_attribute};
+
+    // The value as an expression, under its name.
+    fn written(
+        alloc: Global,
+        name: RcStr,
+        value: Value,
+    ) -> Result<(RcStr, RestrictedExpr), AllocError>
+        ensures { IfOk result (λ a. attribute_given a ≡ value_attribute (name, value)) }
+    {
+        Ok((name, RestrictedExpr::try_from_value(alloc, value)?))
+    }
+}

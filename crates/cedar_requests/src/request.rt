@@ -1,0 +1,101 @@
+//! Requests.
+ghost use Rattle.std.specs.Prelude.{◌≡◌, Some, option_copied, IfSome, IsSome};
+
+mod copies;
+
+use crate::context::Context;
+use crate::entry::EntityUIDEntry;
+use cedar_names::{EntityUID, Loc};
+
+/// A request: who asks to do what with what, and in which context.
+#[derive(Debug, Drop)]
+pub struct Request {
+    principal: EntityUIDEntry,
+    action: EntityUIDEntry,
+    resource: EntityUIDEntry,
+    context: Context,
+}
+
+impl Request {
+    ghost use Rattle.cedar_model.specs.Settings.{known_entry};
+    ghost use Rattle.cedar_names.specs.Names.{uid_name};
+    ghost use Rattle.cedar_requests.specs.declared.entry.EntityUIDEntry.TheVariants.{Known};
+    ghost use Rattle.cedar_requests.specs.Requests.{entry_view, request_view, request_parts};
+    ghost use Rattle.cedar_requests.specs.Contexts.{context_view};
+
+    /// The request of these entities, each named at its location, in this context.
+    pub fn new(
+        principal: (EntityUID, Option<Loc>),
+        action: (EntityUID, Option<Loc>),
+        resource: (EntityUID, Option<Loc>),
+        context: Context,
+    ) -> Request
+        ensures view { request_view result ≡ record {
+          principal_entry = known_entry (uid_name principal.0);
+          action_entry = known_entry (uid_name action.0);
+          resource_entry = known_entry (uid_name resource.0);
+          context_part = context_view context;
+        } }
+        ensures parts { request_parts result ≡
+            (Known principal.0 principal.1, Known action.0 action.1, Known resource.0 resource.1, context) }
+    {
+        Request {
+            principal: EntityUIDEntry::known(principal.0, principal.1),
+            action: EntityUIDEntry::known(action.0, action.1),
+            resource: EntityUIDEntry::known(resource.0, resource.1),
+            context,
+        }
+    }
+
+    /// Who asks.
+    pub fn principal(&self) -> &EntityUIDEntry
+        ensures view { entry_view result.now ≡ (request_view self.now).principal_entry }
+        ensures entry { result.now ≡ (request_parts self.now).0 }
+    {
+        &self.principal
+    }
+
+    /// What is to be done.
+    pub fn action(&self) -> &EntityUIDEntry
+        ensures view { entry_view result.now ≡ (request_view self.now).action_entry }
+        ensures entry { result.now ≡ (request_parts self.now).1 }
+    {
+        &self.action
+    }
+
+    /// What it is to be done with.
+    pub fn resource(&self) -> &EntityUIDEntry
+        ensures view { entry_view result.now ≡ (request_view self.now).resource_entry }
+        ensures entry { result.now ≡ (request_parts self.now).2 }
+    {
+        &self.resource
+    }
+
+    /// The context, where there is one.
+    pub fn context(&self) -> Option<&Context>
+        ensures context { IfSome result (λ c. context_view c.now ≡ (request_view self.now).context_part) }
+        ensures given { IsSome result }
+        ensures whole { option_copied result ≡ Some (request_parts self.now).3 }
+    {
+        Some(&self.context)
+    }
+
+    /// The request's parts: who asks, what is to be done, what with, and the context.
+    pub fn into_parts(self) -> (EntityUIDEntry, EntityUIDEntry, EntityUIDEntry, Context)
+        ensures view { record {
+          principal_entry = entry_view result.0;
+          action_entry = entry_view result.1;
+          resource_entry = entry_view result.2;
+          context_part = context_view result.3;
+        } ≡ request_view self }
+        ensures parts { result ≡ request_parts self }
+    {
+        let Request {
+            principal,
+            action,
+            resource,
+            context,
+        } = self;
+        (principal, action, resource, context)
+    }
+}

@@ -1,0 +1,33 @@
+//! Copies of requests.
+ghost use Rattle.std.specs.Prelude.{◌≡◌, IfOk};
+ghost use Rattle.cedar_requests.specs.Requests.{entry_view, entry_loc};
+
+use super::Request;
+use crate::entry::EntityUIDEntry;
+use std::alloc::AllocError;
+
+impl Clone for Request {
+    ghost use Rattle.cedar_requests.specs.Requests.{request_view, request_locs};
+
+    ghost is_clone = { λ r copy. (request_view copy ≡ request_view r) × (request_locs copy ≡ request_locs r) };
+
+    fn clone(&self) -> Result<Request, AllocError> {
+        let principal = copied(&self.principal)?;
+        let action = copied(&self.action)?;
+        let resource = copied(&self.resource)?;
+        let context = self.context.clone()?;
+        Ok(Request {
+            principal,
+            action,
+            resource,
+            context,
+        })
+    }
+}
+
+fn copied(entry: &EntityUIDEntry) -> Result<EntityUIDEntry, AllocError>
+    ensures view { IfOk result (λ e. entry_view e ≡ entry_view entry.now) }
+    ensures loc { IfOk result (λ e. entry_loc e ≡ entry_loc entry.now) }
+{
+    Ok(entry.clone()?)
+}

@@ -1,0 +1,36 @@
+-- The types of restricted expressions.
+use Rattle.std.specs.Prelude.{Option, Some, None, option_map}
+use Rattle.cedar_model.specs.Terms.{Text, bool_type, long_type, string_type, set_type, record_type}
+use Rattle.cedar_model.specs.Terms.{entity_type, ValueType, Literal, bool_literal, long_literal, text_literal}
+use Rattle.cedar_model.specs.Terms.{entity_literal, Term, literal, unknown}
+use Rattle.cedar_model.specs.Terms.{call, set_of, record_of}
+use Rattle.cedar_names.specs.Leaves.{type_view}
+use Rattle.cedar_extensions.specs.declared.extensions.Extensions.{Extensions}
+use Rattle.cedar_extensions.specs.declared.function.ExtensionFunction.{ExtensionFunction}
+use Rattle.cedar_extensions.specs.Extensions.{func_of}
+use Rattle.cedar_extensions.specs.Functions.{function_returns}
+
+abbrev pub literal_type : Literal → ValueType
+literal_type (bool_literal b) = bool_type
+literal_type (long_literal n) = long_type
+literal_type (text_literal t) = string_type
+literal_type (entity_literal e) = entity_type e.type_name
+
+-- the type of a restricted expression, as far as it is known before it is evaluated, where functions return values of
+-- these types
+abbrev pub type_in : (Text → Option ValueType) → Term → Option ValueType
+type_in returned (literal l) = Some (literal_type l)
+type_in returned (unknown n t) = t
+type_in returned (set_of ts) = Some set_type
+type_in returned (record_of fs) = Some record_type
+type_in returned (call f ts) = returned f
+type_in returned t = None
+
+-- the type that this function returns, if there is one and the type is known
+abbrev pub returned_by : {X : Type 0} {F : X → Type 0} {g : _} → Option (ExtensionFunction X F g) → Option ValueType
+returned_by None = None
+returned_by (Some f) = option_map type_view (function_returns f)
+
+-- the types that the extensions' functions return
+abbrev pub return_types : {X : Type 0} {F : X → Type 0} {g : _} → Extensions X F g → Text → Option ValueType
+return_types x n = returned_by (func_of x n)
