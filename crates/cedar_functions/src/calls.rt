@@ -4,7 +4,7 @@ ghost use Rattle.cedar_extensions.specs.Outcomes.{ComesTo, is_lawful, abstracts}
 ghost use Rattle.cedar_functions.specs.Stored.{even_of};
 
 use crate::functions::even;
-use crate::names::{name, print_answer, text};
+use crate::names::{name, one, print_answer, text, two};
 use cedar_extensions::{
     Extension, ExtensionFunction, ExtensionFunctionObject, ExtensionOutputValue, Extensions,
 };
@@ -23,64 +23,88 @@ pub fn print<W: Write>(alloc: Global, out: &mut W) -> io::Result<()> {
             ensures lawful { is_lawful result ≡ true }
         { even(alloc, args) },
     )?;
-    let mut arg_types = Vec::with_capacity(alloc, 1)?;
-    arg_types.push(Type::Long)?;
-    let mut functions = Vec::with_capacity(alloc, 2)?;
-    functions.push(ExtensionFunction::new(
+    let even = ExtensionFunction::new(
         name(alloc, "even")?,
         CallStyle::FunctionStyle,
         func,
         Some(Type::Bool),
-        arg_types,
-    ))?;
-    functions.push(ExtensionFunction::unknown(alloc)?)?;
-    let mut all = Vec::with_capacity(alloc, 1)?;
-    all.push(Extension::new(name(alloc, "numbers")?, functions, Vec::new(alloc)))?;
+        one(alloc, Type::Long)?,
+    );
+    print_with(alloc, even, out)
+}
+
+fn print_with<W: Write>(alloc: Global, even: ExtensionFunction, out: &mut W) -> io::Result<()> {
+    let functions = two(alloc, even, ExtensionFunction::unknown(alloc)?)?;
+    let numbers = Extension::new(name(alloc, "numbers")?, functions, Vec::new(alloc));
+    let all = one(alloc, numbers)?;
     match Extensions::specific_extensions(alloc, &all) {
-        Ok(extensions) => print_calls(alloc, &extensions, out),
+        Ok(extensions) => {
+            print_evens(alloc, &extensions, out)?;
+            print_unknowns(alloc, &extensions, out)
+        }
         Err(error) => writeln!(out, "{error}"),
     }
 }
 
-fn print_calls<W: Write>(
+fn print_evens<W: Write>(
     alloc: Global,
     extensions: &Extensions<'_>,
     out: &mut W,
 ) -> io::Result<()> {
-    let even = name(alloc, "even")?;
-    let unknown = name(alloc, "unknown")?;
     let four = Value::from(4);
-    let five = Value::from(5);
-    let a = text(alloc, "a")?;
-    print_answer(
-        "even(4)",
-        extensions.call(alloc, &even, &[four.clone()?]),
-        out,
-    )?;
-    print_answer(
-        "even(5)",
-        extensions.call(alloc, &even, &[five.clone()?]),
-        out,
-    )?;
-    print_answer(
+    print_call(alloc, "even(4)", extensions, "even", &[Value::from(4)], out)?;
+    print_call(alloc, "even(5)", extensions, "even", &[Value::from(5)], out)?;
+    print_call(
+        alloc,
         "even(\"a\")",
-        extensions.call(alloc, &even, &[a.clone()?]),
+        extensions,
+        "even",
+        &[text(alloc, "a")?],
         out,
     )?;
-    print_answer(
+    print_call(
+        alloc,
         "even(4, 5)",
-        extensions.call(alloc, &even, &[four.clone()?, five]),
+        extensions,
+        "even",
+        &[four, Value::from(5)],
         out,
     )?;
-    print_answer(
-        "odd(4)",
-        extensions.call(alloc, &name(alloc, "odd")?, &[four.clone()?]),
-        out,
-    )?;
-    print_answer(
+    print_call(alloc, "odd(4)", extensions, "odd", &[Value::from(4)], out)
+}
+
+fn print_unknowns<W: Write>(
+    alloc: Global,
+    extensions: &Extensions<'_>,
+    out: &mut W,
+) -> io::Result<()> {
+    print_call(
+        alloc,
         "unknown(\"a\")",
-        extensions.call(alloc, &unknown, &[a]),
+        extensions,
+        "unknown",
+        &[text(alloc, "a")?],
         out,
     )?;
-    print_answer("unknown(4)", extensions.call(alloc, &unknown, &[four]), out)
+    print_call(
+        alloc,
+        "unknown(4)",
+        extensions,
+        "unknown",
+        &[Value::from(4)],
+        out,
+    )
+}
+
+// `CALL: ANSWER`
+fn print_call<W: Write>(
+    alloc: Global,
+    call: &str,
+    extensions: &Extensions<'_>,
+    function: &str,
+    args: &[Value],
+    out: &mut W,
+) -> io::Result<()> {
+    let function = name(alloc, function)?;
+    print_answer(call, extensions.call(alloc, &function, args), out)
 }

@@ -4,11 +4,11 @@ ghost use Rattle.cedar_extensions.specs.Outcomes.{ComesTo, is_lawful, abstracts}
 ghost use Rattle.cedar_functions.specs.Stored.{made_of};
 
 use crate::functions::made;
-use crate::names::{name, print_value, text};
+use crate::names::{name, one, print_value, text, two, type_t};
 use cedar_extensions::{
     Extension, ExtensionFunction, ExtensionFunctionObject, ExtensionOutputValue, Extensions,
 };
-use cedar_layers::expressions::{BinaryOp, CallStyle, PartialValue, Type, Value};
+use cedar_layers::expressions::{BinaryOp, CallStyle, PartialValue, Value};
 use cedar_operators::operators::binary_relation;
 use cedar_values::evaluator::err::EvaluationError;
 use std::alloc::Global;
@@ -31,74 +31,92 @@ pub fn print<W: Write>(alloc: Global, overloaded: &str, out: &mut W) -> io::Resu
             ensures lawful { is_lawful result ≡ true }
         { made(alloc, args, 2) },
     )?;
-    let t = Type::Extension {
-        name: name(alloc, "T")?,
-    };
     let style = CallStyle::FunctionStyle;
-    let mut functions = Vec::with_capacity(alloc, 2)?;
-    functions.push(ExtensionFunction::new(
-        name(alloc, "one")?,
-        style,
-        one,
-        Some(t.clone()?),
-        Vec::new(alloc),
-    ))?;
-    functions.push(ExtensionFunction::new(
-        name(alloc, "two")?,
-        style,
-        two,
-        Some(t),
-        Vec::new(alloc),
-    ))?;
-    let mut types = Vec::with_capacity(alloc, 1)?;
-    types.push(name(alloc, overloaded)?)?;
-    let mut all = Vec::with_capacity(alloc, 1)?;
-    all.push(Extension::new(name(alloc, "made")?, functions, types))?;
+    let (t, u) = (type_t(alloc)?, type_t(alloc)?);
+    let one = ExtensionFunction::new(name(alloc, "one")?, style, one, Some(t), Vec::new(alloc));
+    let two = ExtensionFunction::new(name(alloc, "two")?, style, two, Some(u), Vec::new(alloc));
+    print_with(alloc, overloaded, one, two, out)
+}
+
+fn print_with<W: Write>(
+    alloc: Global,
+    overloaded: &str,
+    first: ExtensionFunction,
+    second: ExtensionFunction,
+    out: &mut W,
+) -> io::Result<()> {
+    let functions = two(alloc, first, second)?;
+    let types = one(alloc, name(alloc, overloaded)?)?;
+    let all = one(
+        alloc,
+        Extension::new(name(alloc, "made")?, functions, types),
+    )?;
+    writeln!(out, "{overloaded} is overloaded")?;
     match Extensions::specific_extensions(alloc, &all) {
-        Ok(extensions) => print_comparisons(alloc, overloaded, &extensions, out),
+        Ok(extensions) => print_comparisons(alloc, &extensions, out),
         Err(error) => writeln!(out, "{error}"),
     }
 }
 
 fn print_comparisons<W: Write>(
     alloc: Global,
-    overloaded: &str,
     extensions: &Extensions<'_>,
     out: &mut W,
 ) -> io::Result<()> {
-    writeln!(out, "{overloaded} is overloaded")?;
     let one = value_of(alloc, "one", extensions)?;
     let two = value_of(alloc, "two", extensions)?;
-    let long = Value::from(1);
     let text = text(alloc, "a")?;
+    print_ordered(alloc, &one, &two, extensions, out)?;
+    print_mixed(alloc, &one, &text, extensions, out)
+}
+
+fn print_ordered<W: Write>(
+    alloc: Global,
+    one: &Value,
+    two: &Value,
+    extensions: &Extensions<'_>,
+    out: &mut W,
+) -> io::Result<()> {
+    let (less, less_eq) = (BinaryOp::Less, BinaryOp::LessEq);
     print_value(
         "one() < two()",
-        binary_relation(alloc, BinaryOp::Less, &one, &two, extensions),
+        binary_relation(alloc, less, one, two, extensions),
         out,
     )?;
     print_value(
         "two() <= one()",
-        binary_relation(alloc, BinaryOp::LessEq, &two, &one, extensions),
+        binary_relation(alloc, less_eq, two, one, extensions),
         out,
     )?;
     print_value(
         "one() <= one()",
-        binary_relation(alloc, BinaryOp::LessEq, &one, &one, extensions),
+        binary_relation(alloc, less_eq, one, one, extensions),
         out,
-    )?;
+    )
+}
+
+fn print_mixed<W: Write>(
+    alloc: Global,
+    one: &Value,
+    text: &Value,
+    extensions: &Extensions<'_>,
+    out: &mut W,
+) -> io::Result<()> {
+    let less = BinaryOp::Less;
+    let long = Value::from(1);
     print_value(
         "one() < \"a\"",
-        binary_relation(alloc, BinaryOp::Less, &one, &text, extensions),
+        binary_relation(alloc, less, one, text, extensions),
         out,
     )?;
     print_value(
         "\"a\" < one()",
-        binary_relation(alloc, BinaryOp::Less, &text, &one, extensions),
+        binary_relation(alloc, less, text, one, extensions),
         out,
     )?;
     print_value(
         "one() < 1",
-        binary_relation(alloc, BinaryOp::Less, &one, &long, extensions),
+        binary_relation(alloc, less, one, &long, extensions),
         out,
     )
 }

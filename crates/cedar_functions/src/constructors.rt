@@ -4,14 +4,14 @@ ghost use Rattle.cedar_extensions.specs.Outcomes.{ComesTo, is_lawful, abstracts}
 ghost use Rattle.cedar_functions.specs.Stored.{made_of};
 
 use crate::functions::made;
-use crate::names::name;
+use crate::names::{name, one, two, type_t};
 use cedar_extensions::util::{CollectError, collect_no_duplicates};
 use cedar_extensions::{
     Extension, ExtensionFunction, ExtensionFunctionObject, ExtensionOutputValue, Extensions,
 };
 use cedar_layers::expressions::{CallStyle, Type, Value};
 use cedar_values::evaluator::err::EvaluationError;
-use std::alloc::{AllocError, Global};
+use std::alloc::Global;
 use std::io;
 use std::io::Write;
 
@@ -24,49 +24,42 @@ pub fn print_all<W: Write>(alloc: Global, out: &mut W) -> io::Result<()> {
 
 // Beside `make`, which takes a text, a function of this name in another extension, which takes an argument of this type.
 fn print<W: Write>(alloc: Global, second: &str, takes: Type, out: &mut W) -> io::Result<()> {
-    let one: ExtensionFunctionObject = Box::new(
+    let first: ExtensionFunctionObject = Box::new(
         alloc,
         move |args: &[Value]| -> Result<ExtensionOutputValue, EvaluationError>
             ensures computes { ComesTo result (made_of 1 (abstracts args.now)) }
             ensures lawful { is_lawful result ≡ true }
         { made(alloc, args, 1) },
     )?;
-    let two: ExtensionFunctionObject = Box::new(
+    let last: ExtensionFunctionObject = Box::new(
         alloc,
         move |args: &[Value]| -> Result<ExtensionOutputValue, EvaluationError>
             ensures computes { ComesTo result (made_of 2 (abstracts args.now)) }
             ensures lawful { is_lawful result ≡ true }
         { made(alloc, args, 2) },
     )?;
-    let t = Type::Extension {
-        name: name(alloc, "T")?,
-    };
     let style = CallStyle::FunctionStyle;
-    let texts = types(alloc, Type::String)?;
-    let others = types(alloc, takes)?;
-    let mut functions = Vec::with_capacity(alloc, 1)?;
-    functions.push(ExtensionFunction::new(
-        name(alloc, "make")?,
-        style,
-        one,
-        Some(t.clone()?),
-        texts,
-    ))?;
-    let mut more = Vec::with_capacity(alloc, 1)?;
-    more.push(ExtensionFunction::new(name(alloc, second)?, style, two, Some(t), others))?;
-    let mut all = Vec::with_capacity(alloc, 2)?;
-    all.push(Extension::new(name(alloc, "first")?, functions, Vec::new(alloc)))?;
-    all.push(Extension::new(name(alloc, "second")?, more, Vec::new(alloc)))?;
+    let (t, u) = (type_t(alloc)?, type_t(alloc)?);
+    let (texts, others) = (one(alloc, Type::String)?, one(alloc, takes)?);
+    let make = ExtensionFunction::new(name(alloc, "make")?, style, first, Some(t), texts);
+    let other = ExtensionFunction::new(name(alloc, second)?, style, last, Some(u), others);
+    print_with(alloc, second, make, other, out)
+}
+
+fn print_with<W: Write>(
+    alloc: Global,
+    second: &str,
+    make: ExtensionFunction,
+    other: ExtensionFunction,
+    out: &mut W,
+) -> io::Result<()> {
+    let makes = Extension::new(name(alloc, "makes")?, one(alloc, make)?, Vec::new(alloc));
+    let others = Extension::new(name(alloc, "others")?, one(alloc, other)?, Vec::new(alloc));
+    let all = two(alloc, makes, others)?;
     match Extensions::specific_extensions(alloc, &all) {
         Ok(_) => writeln!(out, "make and {second}: accepted"),
         Err(error) => writeln!(out, "make and {second}: {error}"),
     }
-}
-
-fn types(alloc: Global, ty: Type) -> Result<Vec<Type>, AllocError> {
-    let mut types = Vec::with_capacity(alloc, 1)?;
-    types.push(ty)?;
-    Ok(types)
 }
 
 /// Prints which key of some pairs comes again.

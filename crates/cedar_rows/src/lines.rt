@@ -5,8 +5,8 @@ ghost use Rattle.cedar_rows.specs.Ids.{ids_of};
 
 use crate::rows::{Row, request};
 use cedar_authorizer::authorizer::{AuthorizationError, Authorizer, Decision, Response};
-use cedar_layers::policies::{Entities, Policy, PolicyID, PolicySet, PolicySetError};
 use cedar_extensions::Extensions;
+use cedar_layers::policies::{Entities, Policy, PolicyID, PolicySet, PolicySetError};
 use std::alloc::{AllocError, AllocFailed, Global};
 use std::collections::HashSet;
 use std::io;

@@ -4,8 +4,8 @@ use super::described::described;
 use crate::tests::reader::expressions::expression;
 use crate::tests::reader::settings::Setting;
 use cedar_evaluator::evaluator::{EvaluationError, Evaluator};
-use cedar_layers::expressions::{Expr, Value};
 use cedar_extensions::Extensions;
+use cedar_layers::expressions::{Expr, Value};
 use std::alloc::{AllocError, Global};
 use std::test::Fail;
 

@@ -7,9 +7,9 @@ use crate::tests::reader::policies::{policies, policy};
 use crate::tests::reader::settings::Setting;
 use cedar_authorizer::authorizer::{AuthorizationError, Authorizer, Response};
 use cedar_evaluator::evaluator::{EvaluationError, Evaluator};
+use cedar_extensions::Extensions;
 use cedar_layers::expressions::{Expr, ExprKind};
 use cedar_layers::policies::{Effect, Policy, PolicySet};
-use cedar_extensions::Extensions;
 use std::alloc::{AllocError, Global};
 use std::test::Fail;
 

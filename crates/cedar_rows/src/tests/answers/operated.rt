@@ -5,8 +5,8 @@ use crate::tests::reader::errors::error;
 use crate::tests::reader::leaves::{place, unary};
 use crate::tests::reader::values::values;
 use cedar_evaluator::evaluator::{EvaluationError, binary_arith, binary_relation, unary_app};
-use cedar_layers::expressions::{BinaryOp, Loc, Value};
 use cedar_extensions::Extensions;
+use cedar_layers::expressions::{BinaryOp, Loc, Value};
 use std::alloc::{AllocError, Global};
 use std::test::Fail;
 
