@@ -6,16 +6,14 @@ use Rattle.cedar_model.specs.Terms.{Text, Term}
 use Rattle.cedar_model.specs.Failures as model
 use Rattle.cedar_model.specs.Failures.{Answer, fails, limit, out_of_memory, failure_kind}
 use Rattle.cedar_model.specs.Settings.{RequestPart, Store, Resolution, shallow, deep, Setting}
-use Rattle.cedar_model.specs.Rules.{MayAnswer, Runs, Meets, Resolves, AtPath, best, best_of_kind, joined, on_part, beside_residual, binary_beside, has_part, is_part}
+use Rattle.cedar_model.specs.Rules.{MayAnswer, StoredCalls, Runs, Meets, Resolves, AtPath, best, best_of_kind, joined, on_part, beside_residual, binary_beside, has_part, is_part}
 use Rattle.cedar_names.specs.declared.names.Loc.{Loc}
 use Rattle.cedar_expressions.specs.View.{view, expr_loc}
 use Rattle.cedar_data.specs.declared.partial_value.PartialValue.{PartialValue}
 use Rattle.cedar_data.specs.Residuals.{partial_view, partial_loc}
 use Rattle.cedar_frames.specs.declared.machine.Step.TheVariants.{Done, Wait}
 use Rattle.cedar_frames.specs.Frames.{Resumes, Fewer, Below}
-use Rattle.cedar_restricted.specs.Evaluations.{NoCalls}
 use Rattle.cedar_restricted.specs.Laws.{left_below}
-use Rattle.cedar_evaluation.specs.declared.evaluation.Evaluation.{Evaluation}
 use Rattle.cedar_evaluation.specs.declared.frame.Frame.{Frame}
 use Rattle.cedar_evaluation.specs.declared.frame.Pending.{Pending}
 use Rattle.cedar_evaluation.specs.declared.frame.Pending.TheVariants as pendings
@@ -26,8 +24,7 @@ use Rattle.cedar_evaluation.specs.declared.stopped.Stopped.{Stopped}
 use Rattle.cedar_evaluation.specs.declared.stopped.Stopped.TheVariants as stops
 use Rattle.cedar_evaluation.specs.Parts.{part_expr, part_term}
 use Rattle.cedar_evaluation.specs.Endings.{outcome_answer}
-use Rattle.cedar_evaluation.specs.Settings.{Speaks, setting_of}
-use Rattle.cedar_evaluation.specs.Tasks.{Next, Uses, WaitsFor, Begins, Gives, GoesOn, Leads, LeftFewer, pending_left, task_left, calls_of}
+use Rattle.cedar_evaluation.specs.Tasks.{Next, Uses, WaitsFor, Begins, Gives, GoesOn, Leads, LeftFewer, pending_left, task_left}
 use Rattle.cedar_evaluation.specs.Frames.{Placed, IsRight, Waits, IsPlaced, ends_all, left_of}
 use Rattle.cedar_evaluation.specs.PartsLaws.{parts_fail}
 
@@ -37,27 +34,27 @@ limit_no_want h = cc
 -- ---- on with an answer
 
 -- what is given is what the rules make of the part's answer
-pub gives_goes_on : (s : Setting) (k : ℕ) (p : Pending) (x b : Answer) (n : Next) →
-    ((a : Answer) → a ≢ fails out_of_memory → a ≡ b → Uses s (Runs s calls_of k) p x a) → Gives n b → GoesOn s calls_of k p x n
-gives_goes_on s k p x b (Done r) uses gives = λ ok. uses (outcome_answer r) ok (gives ok)
-gives_goes_on s k p x b (Wait task c) uses gives = absurd gives
+pub gives_goes_on : (s : Setting) (calls : StoredCalls) (k : ℕ) (p : Pending) (x b : Answer) (n : Next) →
+    ((a : Answer) → a ≢ fails out_of_memory → a ≡ b → Uses s (Runs s calls k) p x a) → Gives n b → GoesOn s calls k p x n
+gives_goes_on s calls k p x b (Done r) uses gives = λ ok. uses (outcome_answer r) ok (gives ok)
+gives_goes_on s calls k p x b (Wait task c) uses gives = absurd gives
 
 -- the same, where memory may be wanting for the next step
-pub some_goes_on : (s : Setting) (k : ℕ) (p : Pending) (x b : Answer) (n : Result Next AllocError) →
-    ((a : Answer) → a ≢ fails out_of_memory → a ≡ b → Uses s (Runs s calls_of k) p x a) → IfOk n (λ m. Gives m b) → IfOk n (GoesOn s calls_of k p x)
-some_goes_on s k p x b (Ok n) uses gives = gives_goes_on s k p x b n uses gives
-some_goes_on s k p x b (Err e) uses gives = tt
+pub some_goes_on : (s : Setting) (calls : StoredCalls) (k : ℕ) (p : Pending) (x b : Answer) (n : Result Next AllocError) →
+    ((a : Answer) → a ≢ fails out_of_memory → a ≡ b → Uses s (Runs s calls k) p x a) → IfOk n (λ m. Gives m b) → IfOk n (GoesOn s calls k p x)
+some_goes_on s calls k p x b (Ok n) uses gives = gives_goes_on s calls k p x b n uses gives
+some_goes_on s calls k p x b (Err e) uses gives = tt
 
 -- what waited for a part other than one of a set, a record or a call
-pub goes_on_leads : (s : Setting) (k : ℕ) (p : Pending) (x : Answer) (n : Next) → x ≢ fails out_of_memory → GoesOn s calls_of k p x n → Leads s calls_of k (tasks.Other p) x n
-goes_on_leads s k p x (Done r) no_want goes t c waits meets = λ ok. waits x (outcome_answer r) (meets no_want) (goes ok)
-goes_on_leads s k p x (Wait (tasks.Parts f) d) no_want goes t c waits meets = absurd goes
-goes_on_leads s k p x (Wait (tasks.Other q) d) no_want goes t c waits meets = λ y a runs uses. waits x a (meets no_want) (goes.1 y a runs uses)
+pub goes_on_leads : (s : Setting) (calls : StoredCalls) (k : ℕ) (p : Pending) (x : Answer) (n : Next) → x ≢ fails out_of_memory → GoesOn s calls k p x n → Leads s calls k (tasks.Other p) x n
+goes_on_leads s calls k p x (Done r) no_want goes t c waits meets = λ ok. waits x (outcome_answer r) (meets no_want) (goes ok)
+goes_on_leads s calls k p x (Wait (tasks.Parts f) d) no_want goes t c waits meets = absurd goes
+goes_on_leads s calls k p x (Wait (tasks.Other q) d) no_want goes t c waits meets = λ y a runs uses. waits x a (meets no_want) (goes.1 y a runs uses)
 
-pub goes_on_fewer : (s : Setting) (k : ℕ) (p : Pending) (x : Answer) (n : Next) → GoesOn s calls_of k p x n → LeftFewer (tasks.Other p) n
-goes_on_fewer s k p x (Done r) goes = tt
-goes_on_fewer s k p x (Wait (tasks.Parts f) d) goes = absurd goes
-goes_on_fewer s k p x (Wait (tasks.Other q) d) goes = goes.0
+pub goes_on_fewer : (s : Setting) (calls : StoredCalls) (k : ℕ) (p : Pending) (x : Answer) (n : Next) → GoesOn s calls k p x n → LeftFewer (tasks.Other p) n
+goes_on_fewer s calls k p x (Done r) goes = tt
+goes_on_fewer s calls k p x (Wait (tasks.Parts f) d) goes = absurd goes
+goes_on_fewer s calls k p x (Wait (tasks.Other q) d) goes = goes.0
 
 resolved : (May : MayAnswer) (q : Resolution) (a : Answer) → Resolves May q None a a
 resolved May shallow a = refl
@@ -92,48 +89,49 @@ uses_limit s May (pendings.Is t) = refl
 
 -- ---- the loop
 
-pub start_right : (e : Evaluation) (k : ℕ) (p : Part) (n : Next) (l : Option Loc) (x : Placed) →
-    ((r : RequestPart) → Speaks r e → Begins (setting_of r e) calls_of k (part_term p) n) → l ≡ expr_loc (part_expr p) →
-    IsPlaced n l x → Resumes (IsRight e) (Waits e) k p x
-start_right e k p (Done o) l (Done r) begins place (same, at) = record {
-  answer = λ q speaks ok.
-      let is : outcome_answer r ≡ outcome_answer o = same ok in
-      subst (Runs (setting_of q e) calls_of (suc k) (part_term p)) (sym is) (begins q speaks (λ w. ok (is ∙ w)));
-  place = subst (λ y. IfOk r (λ v. partial_loc v ≡ y)) place at;
-}
-start_right e k p (Done o) l (Wait f c) begins place x = absurd x
-start_right e k p (Wait t d) l (Wait f c) begins place (task, at, part) = record {
-  waits = λ q speaks. subst (λ y. WaitsFor (setting_of q e) calls_of k y (part_term p) (part_term c)) (sym task) (subst (λ y. WaitsFor (setting_of q e) calls_of k t (part_term p) (part_term y)) (sym part) (begins q speaks));
-  place = at ∙ place;
-}
-start_right e k p (Wait t d) l (Done r) begins place x = absurd x
+module _ (Says : RequestPart → Type 0) (setting : RequestPart → Setting) (calls : StoredCalls) where
+  pub start_right : (k : ℕ) (p : Part) (n : Next) (l : Option Loc) (x : Placed) →
+      ((r : RequestPart) → Says r → Begins (setting r) calls k (part_term p) n) → l ≡ expr_loc (part_expr p) →
+      IsPlaced n l x → Resumes (IsRight Says setting calls) (Waits Says setting calls) k p x
+  start_right k p (Done o) l (Done r) begins place (same, at) = record {
+    answer = λ q speaks ok.
+        let is : outcome_answer r ≡ outcome_answer o = same ok in
+        subst (Runs (setting q) calls (suc k) (part_term p)) (sym is) (begins q speaks (λ w. ok (is ∙ w)));
+    place = subst (λ y. IfOk r (λ v. partial_loc v ≡ y)) place at;
+  }
+  start_right k p (Done o) l (Wait f c) begins place x = absurd x
+  start_right k p (Wait t d) l (Wait f c) begins place (task, at, part) = record {
+    waits = λ q speaks. subst (λ y. WaitsFor (setting q) calls k y (part_term p) (part_term c)) (sym task) (subst (λ y. WaitsFor (setting q) calls k t (part_term p) (part_term y)) (sym part) (begins q speaks));
+    place = at ∙ place;
+  }
+  start_right k p (Wait t d) l (Done r) begins place x = absurd x
 
-pub resume_right : (e : Evaluation) (k : ℕ) (f : Frame) (p c : Part) (y : Result PartialValue Stopped) (n : Next) (x : Placed) →
-    Waits e k f p c → IsRight e k c y →
-    ((r : RequestPart) (j : ℕ) → Speaks r e → Leads (setting_of r e) calls_of j f.task (outcome_answer y) n) →
-    IsPlaced n f.loc x → Resumes (IsRight e) (Waits e) k p x
-resume_right e k f p c y n x waits right leads placed =
-    start_right e k p n f.loc x (λ q speaks. leads q k speaks (part_term p) (part_term c) (waits.waits q speaks) (right.answer q speaks)) waits.place placed
+  pub resume_right : (k : ℕ) (f : Frame) (p c : Part) (y : Result PartialValue Stopped) (n : Next) (x : Placed) →
+      Waits Says setting calls k f p c → IsRight Says setting calls k c y →
+      ((r : RequestPart) (j : ℕ) → Says r → Leads (setting r) calls j f.task (outcome_answer y) n) →
+      IsPlaced n f.loc x → Resumes (IsRight Says setting calls) (Waits Says setting calls) k p x
+  resume_right k f p c y n x waits right leads placed =
+      start_right k p n f.loc x (λ q speaks. leads q k speaks (part_term p) (part_term c) (waits.waits q speaks) (right.answer q speaks)) waits.place placed
 
-pub right_limit : (e : Evaluation) (p : Part) → IsRight e 0 p (Err stops.Limit)
-right_limit e p = record { answer = λ q speaks ok. refl; place = tt }
+  pub right_limit : (p : Part) → IsRight Says setting calls 0 p (Err stops.Limit)
+  right_limit p = record { answer = λ q speaks ok. refl; place = tt }
 
-pub right_want : (e : Evaluation) (k : ℕ) (p : Part) → IsRight e k p (Err stops.Memory)
-right_want e k p = record { answer = λ q speaks ok. absurd (ok refl); place = tt }
+  pub right_want : (k : ℕ) (p : Part) → IsRight Says setting calls k p (Err stops.Memory)
+  right_want k p = record { answer = λ q speaks ok. absurd (ok refl); place = tt }
 
--- the recursion limit of what is waited for is that of what waits
-pub limit_upward : (s : Setting) (k : ℕ) (task : Task) (t c : Term) → ((f : _) → s.extensions.arity f ≡ None) → WaitsFor s calls_of k task t c → Runs s calls_of k c limit → Runs s calls_of (suc k) t limit
-limit_upward s k (tasks.Parts f) t c none waits runs = parts_fail s none k t f c waits model.recursion_limit runs
-limit_upward s k (tasks.Other p) t c none waits runs = waits limit limit runs (uses_limit s (Runs s calls_of k) p)
+  -- the recursion limit of what is waited for is that of what waits
+  pub limit_upward : (s : Setting) (k : ℕ) (task : Task) (t c : Term) → WaitsFor s calls k task t c → Runs s calls k c limit → Runs s calls (suc k) t limit
+  limit_upward s k (tasks.Parts f) t c waits runs = parts_fail s calls k t f c waits model.recursion_limit runs
+  limit_upward s k (tasks.Other p) t c waits runs = waits limit limit runs (uses_limit s (Runs s calls k) p)
 
-pub right_upward : (e : Evaluation) (k : ℕ) (f : Frame) (p c : Part) (a : Result PartialValue Stopped) → ends_all a ≡ true → Waits e k f p c → IsRight e k c a → IsRight e (suc k) p a
-right_upward e k f p c (Ok v) ends waits right = absurd (cc)
-right_upward e k f p c (Err stops.Memory) ends waits right = right_want e (suc k) p
-right_upward e k f p c (Err stops.Limit) ends waits right = record {
-  answer = λ q speaks ok. limit_upward (setting_of q e) k f.task (part_term p) (part_term c) (λ g. refl) (waits.waits q speaks) (right.answer q speaks limit_no_want);
-  place = tt;
-}
-right_upward e k f p c (Err (stops.Failed x)) ends waits right = absurd (cc)
+  pub right_upward : (k : ℕ) (f : Frame) (p c : Part) (a : Result PartialValue Stopped) → ends_all a ≡ true → Waits Says setting calls k f p c → IsRight Says setting calls k c a → IsRight Says setting calls (suc k) p a
+  right_upward k f p c (Ok v) ends waits right = absurd (cc)
+  right_upward k f p c (Err stops.Memory) ends waits right = right_want (suc k) p
+  right_upward k f p c (Err stops.Limit) ends waits right = record {
+    answer = λ q speaks ok. limit_upward (setting q) k f.task (part_term p) (part_term c) (waits.waits q speaks) (right.answer q speaks limit_no_want);
+    place = tt;
+  }
+  right_upward k f p c (Err (stops.Failed x)) ends waits right = absurd (cc)
 
 pub some_pending : (p : Pending) → 1 ≤ pending_left p
 some_pending pendings.Passed = omega arith

@@ -96,7 +96,7 @@ of_fields map (Some fs) r k = of_key map (term_at k fs) fs r k
 
 pub of_projection : (s : Setting) (p : PartialValue) (k : Text) → projection s p k ≡ remapped_projection s.map (projection (over s s.store) p k)
 unfolding projection remapped_projection
-of_projection s (value v) k i = answered (of_value s v k i)
+of_projection s (value v) k = ap answered (of_value s v k)
 of_projection s (residual r) k = of_fields s.map (fields_of_record r) r k
 
 module _ (May : MayAnswer) (s : Setting) (is_shallow : s.resolution ≡ shallow) (p : PartialValue) (k : Text) where

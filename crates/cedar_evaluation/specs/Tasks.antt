@@ -16,7 +16,6 @@ use Rattle.cedar_frames.specs.declared.machine.Step.{Step}
 use Rattle.cedar_frames.specs.declared.machine.Step.TheVariants.{Done, Wait}
 use Rattle.cedar_restricted.specs.declared.parts.PartsFrame.{PartsFrame}
 use Rattle.cedar_restricted.specs.Parts.{whole_term}
-use Rattle.cedar_restricted.specs.Evaluations.{NoCalls}
 use Rattle.cedar_restricted.specs.Frames.{HasRead, parts_left, left_of}
 use Rattle.cedar_evaluation.specs.declared.frame.Pending.{Pending}
 use Rattle.cedar_evaluation.specs.declared.frame.Pending.TheVariants as pendings
@@ -63,10 +62,6 @@ Uses s May (pendings.Like p) x a = a ≡ on_part (like_answer (pattern_view p)) 
 Uses s May (pendings.Is t) x a = a ≡ is_part (type_text t) x
 
 -- ---- what is waited for
-
--- no function is stored yet
-abbrev pub calls_of : StoredCalls
-calls_of = NoCalls
 
 -- a set, a record or a call waits for its next part
 pub record WaitsForPart (s : Setting) (Calls : StoredCalls) (k : ℕ) (f : PartsFrame) (t c : Term) : Type 0 where

@@ -8,8 +8,8 @@ ghost use Rattle.cedar_model.specs.Rules.{best, kept};
 ghost use Rattle.cedar_expressions.specs.View.{view};
 ghost use Rattle.cedar_data.specs.Residuals.{partial_view};
 ghost use Rattle.cedar_values.specs.Failures.{failure_of};
-ghost use Rattle.cedar_evaluation.specs.Settings.{setting_of};
-ghost use Rattle.cedar_evaluation.specs.Tasks.{GoesOn, calls_of};
+ghost use Rattle.cedar_evaluation.specs.Settings.{setting_of, calls_in};
+ghost use Rattle.cedar_evaluation.specs.Tasks.{GoesOn};
 
 use crate::evaluation::Evaluation;
 use crate::frame::{Next, Pending};
@@ -29,7 +29,7 @@ impl<'e, 'g, 'f> Evaluation<'e, 'g, 'f> {
         pending: Pending,
         answer: PartialValue,
     ) -> Result<Next, AllocError>
-        ensures { (r : RequestPart) (k : ℕ) → IfOk result (GoesOn (setting_of r self.now) calls_of k pending (answers (partial_view answer))) }
+        ensures { (r : RequestPart) (k : ℕ) → IfOk result (GoesOn (setting_of r self.now) (calls_in self.now) k pending (answers (partial_view answer))) }
     {
         match pending {
             Pending::Passed => Ok(Step::Done(Ok(answer))),
@@ -77,7 +77,7 @@ impl<'e, 'g, 'f> Evaluation<'e, 'g, 'f> {
         pending: Pending,
         failed: Box<Failed>,
     ) -> Result<Next, AllocError>
-        ensures { (r : RequestPart) (k : ℕ) → IfOk result (GoesOn (setting_of r self.now) calls_of k pending (fails (failure_of failed.value.error))) }
+        ensures { (r : RequestPart) (k : ℕ) → IfOk result (GoesOn (setting_of r self.now) (calls_in self.now) k pending (fails (failure_of failed.value.error))) }
     {
         match pending {
             Pending::Then {

@@ -11,8 +11,8 @@ ghost use Rattle.cedar_model.specs.Settings.{RequestPart};
 ghost use Rattle.cedar_expressions.specs.View.{view};
 ghost use Rattle.cedar_expressions.specs.declared.expr.Expr.{Expr};
 ghost use Rattle.cedar_data.specs.Residuals.{partial_view};
-ghost use Rattle.cedar_evaluation.specs.Settings.{setting_of};
-ghost use Rattle.cedar_evaluation.specs.Tasks.{Begins, GoesOn, Gives, calls_of};
+ghost use Rattle.cedar_evaluation.specs.Settings.{setting_of, calls_in};
+ghost use Rattle.cedar_evaluation.specs.Tasks.{Begins, GoesOn, Gives};
 ghost use Rattle.cedar_evaluation.specs.declared.frame.Pending.TheVariants as pendings;
 
 use crate::answers::{bool_answer, no_bool, residual_answer};
@@ -30,7 +30,7 @@ use std::rc::Rc;
 impl<'e, 'g, 'f> Evaluation<'e, 'g, 'f> {
     // `&&` waits for its left side.
     pub(crate) fn conjunction(&self, left: &Rc<Expr>, right: &Rc<Expr>) -> Result<Next, AllocError>
-        ensures { (r : RequestPart) (k : ℕ) → IfOk result (Begins (setting_of r self.now) calls_of k (both (view left.now.value) (view right.now.value))) }
+        ensures { (r : RequestPart) (k : ℕ) → IfOk result (Begins (setting_of r self.now) (calls_in self.now) k (both (view left.now.value) (view right.now.value))) }
     {
         let pending = Pending::AndLeft {
             right: right.clone()?,
@@ -40,7 +40,7 @@ impl<'e, 'g, 'f> Evaluation<'e, 'g, 'f> {
 
     // `||` waits for its left side.
     pub(crate) fn disjunction(&self, left: &Rc<Expr>, right: &Rc<Expr>) -> Result<Next, AllocError>
-        ensures { (r : RequestPart) (k : ℕ) → IfOk result (Begins (setting_of r self.now) calls_of k (either (view left.now.value) (view right.now.value))) }
+        ensures { (r : RequestPart) (k : ℕ) → IfOk result (Begins (setting_of r self.now) (calls_in self.now) k (either (view left.now.value) (view right.now.value))) }
     {
         let pending = Pending::OrLeft {
             right: right.clone()?,
@@ -55,7 +55,7 @@ impl<'e, 'g, 'f> Evaluation<'e, 'g, 'f> {
         right: Rc<Expr>,
         left: PartialValue,
     ) -> Result<Next, AllocError>
-        ensures { (r : RequestPart) (k : ℕ) → IfOk result (GoesOn (setting_of r self.now) calls_of k (pendings.AndLeft right) (answers (partial_view left))) }
+        ensures { (r : RequestPart) (k : ℕ) → IfOk result (GoesOn (setting_of r self.now) (calls_in self.now) k (pendings.AndLeft right) (answers (partial_view left))) }
     {
         match left {
             PartialValue::Value(value) => match bool_in(&value) {
@@ -77,7 +77,7 @@ impl<'e, 'g, 'f> Evaluation<'e, 'g, 'f> {
         right: Rc<Expr>,
         left: PartialValue,
     ) -> Result<Next, AllocError>
-        ensures { (r : RequestPart) (k : ℕ) → IfOk result (GoesOn (setting_of r self.now) calls_of k (pendings.OrLeft right) (answers (partial_view left))) }
+        ensures { (r : RequestPart) (k : ℕ) → IfOk result (GoesOn (setting_of r self.now) (calls_in self.now) k (pendings.OrLeft right) (answers (partial_view left))) }
     {
         match left {
             PartialValue::Value(value) => match bool_in(&value) {
@@ -95,7 +95,7 @@ impl<'e, 'g, 'f> Evaluation<'e, 'g, 'f> {
     // After the right side of `true && ..`: it must be a boolean.
     #[tactic(auto, unfolding(cedar_model::specs::Rules::joined))]
     pub(crate) fn after_and_right(&self, alloc: Global, right: PartialValue) -> Result<Next, AllocError>
-        ensures { (r : RequestPart) (k : ℕ) → IfOk result (GoesOn (setting_of r self.now) calls_of k pendings.AndRight (answers (partial_view right))) }
+        ensures { (r : RequestPart) (k : ℕ) → IfOk result (GoesOn (setting_of r self.now) (calls_in self.now) k pendings.AndRight (answers (partial_view right))) }
     {
         match right {
             PartialValue::Value(value) => Ok(bool_or_failure(alloc, &value)),
@@ -109,7 +109,7 @@ impl<'e, 'g, 'f> Evaluation<'e, 'g, 'f> {
     // After the right side of `false || ..`: it must be a boolean.
     #[tactic(auto, unfolding(cedar_model::specs::Rules::joined))]
     pub(crate) fn after_or_right(&self, alloc: Global, right: PartialValue) -> Result<Next, AllocError>
-        ensures { (r : RequestPart) (k : ℕ) → IfOk result (GoesOn (setting_of r self.now) calls_of k pendings.OrRight (answers (partial_view right))) }
+        ensures { (r : RequestPart) (k : ℕ) → IfOk result (GoesOn (setting_of r self.now) (calls_in self.now) k pendings.OrRight (answers (partial_view right))) }
     {
         match right {
             PartialValue::Value(value) => Ok(bool_or_failure(alloc, &value)),
@@ -127,7 +127,7 @@ impl<'e, 'g, 'f> Evaluation<'e, 'g, 'f> {
         left: ResidualExpr,
         right: Expr,
     ) -> Result<Next, AllocError>
-        ensures { (r : RequestPart) (k : ℕ) (x : Answer) (t : Rc Expr Global) → best x (view t.value) ≡ kept (view right) → IfOk result (GoesOn (setting_of r self.now) calls_of k (pendings.AndKept left t) x) }
+        ensures { (r : RequestPart) (k : ℕ) (x : Answer) (t : Rc Expr Global) → best x (view t.value) ≡ kept (view right) → IfOk result (GoesOn (setting_of r self.now) (calls_in self.now) k (pendings.AndKept left t) x) }
     {
         Ok(residual_answer(Expr::and(alloc, left.into_expr(), right)?))
     }
@@ -139,7 +139,7 @@ impl<'e, 'g, 'f> Evaluation<'e, 'g, 'f> {
         left: ResidualExpr,
         right: Expr,
     ) -> Result<Next, AllocError>
-        ensures { (r : RequestPart) (k : ℕ) (x : Answer) (t : Rc Expr Global) → best x (view t.value) ≡ kept (view right) → IfOk result (GoesOn (setting_of r self.now) calls_of k (pendings.OrKept left t) x) }
+        ensures { (r : RequestPart) (k : ℕ) (x : Answer) (t : Rc Expr Global) → best x (view t.value) ≡ kept (view right) → IfOk result (GoesOn (setting_of r self.now) (calls_in self.now) k (pendings.OrKept left t) x) }
     {
         Ok(residual_answer(Expr::or(alloc, left.into_expr(), right)?))
     }

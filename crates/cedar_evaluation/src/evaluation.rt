@@ -2,7 +2,7 @@
 use cedar_data::{PartialValue, Value};
 use cedar_layers::expressions::SlotEnv;
 use cedar_layers::policies::Entities;
-use cedar_values::extensions::Extensions;
+use cedar_extensions::Extensions;
 use std::collections::HashMap;
 use std::rc::RcStr;
 

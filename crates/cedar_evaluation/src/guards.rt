@@ -9,8 +9,8 @@ ghost use Rattle.cedar_data.specs.Residuals.{partial_view};
 ghost use Rattle.cedar_expressions.specs.declared.expr.Expr.{Expr};
 ghost use Rattle.std.specs.declared.alloc.Global.{Global};
 ghost use Rattle.std.specs.declared.rc.Rc.{Rc};
-ghost use Rattle.cedar_evaluation.specs.Settings.{setting_of};
-ghost use Rattle.cedar_evaluation.specs.Tasks.{Begins, GoesOn, calls_of};
+ghost use Rattle.cedar_evaluation.specs.Settings.{setting_of, calls_in};
+ghost use Rattle.cedar_evaluation.specs.Tasks.{Begins, GoesOn};
 ghost use Rattle.cedar_evaluation.specs.declared.frame.Pending.TheVariants as pendings;
 
 use crate::answers::{no_bool, residual_answer};
@@ -32,7 +32,7 @@ impl<'e, 'g, 'f> Evaluation<'e, 'g, 'f> {
         then_expr: &Rc<Expr>,
         else_expr: &Rc<Expr>,
     ) -> Result<Next, AllocError>
-        ensures { (r : RequestPart) (k : ℕ) → IfOk result (Begins (setting_of r self.now) calls_of k (if_then_else (view test_expr.now.value) (view then_expr.now.value) (view else_expr.now.value))) }
+        ensures { (r : RequestPart) (k : ℕ) → IfOk result (Begins (setting_of r self.now) (calls_in self.now) k (if_then_else (view test_expr.now.value) (view then_expr.now.value) (view else_expr.now.value))) }
     {
         let pending = Pending::Guard {
             then_expr: then_expr.clone()?,
@@ -49,7 +49,7 @@ impl<'e, 'g, 'f> Evaluation<'e, 'g, 'f> {
         else_expr: Rc<Expr>,
         guard: PartialValue,
     ) -> Result<Next, AllocError>
-        ensures { (r : RequestPart) (k : ℕ) → IfOk result (GoesOn (setting_of r self.now) calls_of k (pendings.Guard then_expr else_expr) (answers (partial_view guard))) }
+        ensures { (r : RequestPart) (k : ℕ) → IfOk result (GoesOn (setting_of r self.now) (calls_in self.now) k (pendings.Guard then_expr else_expr) (answers (partial_view guard))) }
     {
         match guard {
             PartialValue::Value(value) => match bool_in(&value) {
@@ -76,7 +76,7 @@ impl<'e, 'g, 'f> Evaluation<'e, 'g, 'f> {
         then_expr: Expr,
         else_expr: Rc<Expr>,
     ) -> Result<Next, AllocError>
-        ensures { (r : RequestPart) (k : ℕ) (x : Answer) (t : Rc Expr Global) → best x (view t.value) ≡ kept (view then_expr) → IfOk result (GoesOn (setting_of r self.now) calls_of k (pendings.Then guard t else_expr) x) }
+        ensures { (r : RequestPart) (k : ℕ) (x : Answer) (t : Rc Expr Global) → best x (view t.value) ≡ kept (view then_expr) → IfOk result (GoesOn (setting_of r self.now) (calls_in self.now) k (pendings.Then guard t else_expr) x) }
     {
         let part = else_expr.clone()?;
         let pending = Pending::Else {
@@ -95,7 +95,7 @@ impl<'e, 'g, 'f> Evaluation<'e, 'g, 'f> {
         then_expr: Expr,
         else_expr: Expr,
     ) -> Result<Next, AllocError>
-        ensures { (r : RequestPart) (k : ℕ) (x : Answer) (e : Rc Expr Global) → best x (view e.value) ≡ kept (view else_expr) → IfOk result (GoesOn (setting_of r self.now) calls_of k (pendings.Else guard then_expr e) x) }
+        ensures { (r : RequestPart) (k : ℕ) (x : Answer) (e : Rc Expr Global) → best x (view e.value) ≡ kept (view else_expr) → IfOk result (GoesOn (setting_of r self.now) (calls_in self.now) k (pendings.Else guard then_expr e) x) }
     {
         Ok(residual_answer(Expr::ite(alloc, guard.into_expr(), then_expr, else_expr)?))
     }

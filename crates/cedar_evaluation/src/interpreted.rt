@@ -6,7 +6,7 @@ ghost use Rattle.cedar_model.specs.Settings.{RequestPart};
 ghost use Rattle.cedar_expressions.specs.View.{view, expr_loc};
 ghost use Rattle.cedar_data.specs.Residuals.{partial_view, partial_loc};
 ghost use Rattle.cedar_values.specs.Answers.{partial_answer};
-ghost use Rattle.cedar_evaluation.specs.Settings.{Speaks, setting_of};
+ghost use Rattle.cedar_evaluation.specs.Settings.{Speaks, setting_of, calls_in};
 ghost use Rattle.cedar_evaluation.specs.Promises.{IsPromised};
 
 use crate::evaluation::Evaluation;
@@ -21,7 +21,7 @@ impl<'e, 'g, 'f> Evaluation<'e, 'g, 'f> {
     /// expression is one level and its parts one more. Fails with the first error in the order of evaluation, and with
     /// `RecursionLimit` where it would go deeper.
     pub fn interpret(&self, alloc: Global, e: &Expr, limit: usize) -> Result<PartialValue, EvaluationError>
-        ensures promised { (r : RequestPart) → Speaks r self.now → Meets (IsPromised (setting_of r self.now) limit (view e.now)) (partial_answer result) }
+        ensures promised { (r : RequestPart) → Speaks r self.now → Meets (IsPromised (setting_of r self.now) (calls_in self.now) limit (view e.now)) (partial_answer result) }
         ensures place { IfOk result (λ p. partial_loc p ≡ expr_loc e.now) }
         ensures unknown { IfOk result (λ p. HoldsUnknown (partial_view p)) }
     {

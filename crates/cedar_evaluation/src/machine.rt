@@ -7,8 +7,8 @@ ghost use Rattle.cedar_values.specs.Failures.{failure_of};
 ghost use Rattle.cedar_evaluation.specs.declared.stopped.Stopped.TheVariants as stops;
 ghost use Rattle.cedar_evaluation.specs.Parts.{part_term};
 ghost use Rattle.cedar_evaluation.specs.Endings.{outcome_answer};
-ghost use Rattle.cedar_evaluation.specs.Settings.{Speaks, setting_of};
-ghost use Rattle.cedar_evaluation.specs.Tasks.{Begins, Leads, LeftFewer, calls_of};
+ghost use Rattle.cedar_evaluation.specs.Settings.{Speaks, setting_of, calls_in};
+ghost use Rattle.cedar_evaluation.specs.Tasks.{Begins, Leads, LeftFewer};
 ghost use Rattle.cedar_evaluation.specs.Frames.{IsRight, Waits, IsPlaced, left_of, ends_all};
 ghost use Rattle.cedar_evaluation.specs.Laws.{right_limit, right_want, right_upward, limit_ends, some_left, some_most};
 
@@ -30,9 +30,9 @@ impl<'e, 'g, 'f> Machine for Evaluation<'e, 'g, 'f> {
 
     type Answer = Outcome;
 
-    ghost right = { λ s k t a. IsRight s k t a };
+    ghost right = { λ s k t a. IsRight (λ r. Speaks r s) (λ r. setting_of r s) (calls_in s) k t a };
 
-    ghost waits = { λ s k f t c. Waits s k f t c };
+    ghost waits = { λ s k f t c. Waits (λ r. Speaks r s) (λ r. setting_of r s) (calls_in s) k f t c };
 
     ghost left_of = { left_of };
 
@@ -72,13 +72,13 @@ impl<'e, 'g, 'f> Machine for Evaluation<'e, 'g, 'f> {
         Err(Stopped::Memory)
     }
 
-    ghost right_limit = { λ s t. right_limit s t };
+    ghost right_limit = { λ s t. right_limit (λ r. Speaks r s) (λ r. setting_of r s) (calls_in s) t };
 
-    ghost right_want = { λ s k t. right_want s k t };
+    ghost right_want = { λ s k t. right_want (λ r. Speaks r s) (λ r. setting_of r s) (calls_in s) k t };
 
     ghost limit_ends = { limit_ends };
 
-    ghost right_upward = { λ s k f t c a. right_upward s k f t c a };
+    ghost right_upward = { λ s k f t c a. right_upward (λ r. Speaks r s) (λ r. setting_of r s) (calls_in s) k f t c a };
 
     ghost some_left = { some_left };
 
@@ -88,7 +88,7 @@ impl<'e, 'g, 'f> Machine for Evaluation<'e, 'g, 'f> {
 impl<'e, 'g, 'f> Evaluation<'e, 'g, 'f> {
     // What comes first of an expression.
     fn first(&self, alloc: Global, part: &Part) -> Next
-        ensures { (r : RequestPart) (k : ℕ) → Speaks r self.now → Begins (setting_of r self.now) calls_of k (part_term part.now) result }
+        ensures { (r : RequestPart) (k : ℕ) → Speaks r self.now → Begins (setting_of r self.now) (calls_in self.now) k (part_term part.now) result }
     {
         match self.begin(alloc, part.as_expr()) {
             Ok(next) => next,
@@ -98,7 +98,7 @@ impl<'e, 'g, 'f> Evaluation<'e, 'g, 'f> {
 
     // What comes next of what waited, after this answer.
     fn resumed(&self, alloc: Global, task: Task, answer: Outcome) -> Next
-        ensures leads { (r : RequestPart) (k : ℕ) → Speaks r self.now → Leads (setting_of r self.now) calls_of k task (outcome_answer answer) result }
+        ensures leads { (r : RequestPart) (k : ℕ) → Speaks r self.now → Leads (setting_of r self.now) (calls_in self.now) k task (outcome_answer answer) result }
         ensures fewer { LeftFewer task result }
     {
         match answer {
@@ -111,11 +111,11 @@ impl<'e, 'g, 'f> Evaluation<'e, 'g, 'f> {
 
     // The same after a value or a residual.
     fn valued(&self, alloc: Global, task: Task, value: PartialValue) -> Next
-        ensures leads { (r : RequestPart) (k : ℕ) → Speaks r self.now → Leads (setting_of r self.now) calls_of k task (answers (partial_view value)) result }
+        ensures leads { (r : RequestPart) (k : ℕ) → Speaks r self.now → Leads (setting_of r self.now) (calls_in self.now) k task (answers (partial_view value)) result }
         ensures fewer { LeftFewer task result }
     {
         match task {
-            Task::Parts(frame) => taken(alloc, frame.answered(alloc, Ok(value))),
+            Task::Parts(frame) => taken(alloc, frame.answered(alloc, self.given.extensions, Ok(value))),
             Task::Other(pending) => match self.after(alloc, pending, value) {
                 Ok(next) => next,
                 Err(_) => Step::Done(Err(Stopped::Memory)),
@@ -125,7 +125,7 @@ impl<'e, 'g, 'f> Evaluation<'e, 'g, 'f> {
 
     // The same after an error.
     fn kept_or_failed(&self, alloc: Global, task: Task, failed: Box<Failed>) -> Next
-        ensures leads { (r : RequestPart) (k : ℕ) → Speaks r self.now → Leads (setting_of r self.now) calls_of k task (fails (failure_of failed.value.error)) result }
+        ensures leads { (r : RequestPart) (k : ℕ) → Speaks r self.now → Leads (setting_of r self.now) (calls_in self.now) k task (fails (failure_of failed.value.error)) result }
         ensures fewer { LeftFewer task result }
     {
         match task {

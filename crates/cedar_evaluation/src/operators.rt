@@ -3,8 +3,8 @@ ghost use Rattle.std.specs.Prelude.{◌≡◌, ℕ, IfOk};
 ghost use Rattle.cedar_model.specs.Failures.{answers};
 ghost use Rattle.cedar_model.specs.Settings.{RequestPart};
 ghost use Rattle.cedar_data.specs.Residuals.{partial_view};
-ghost use Rattle.cedar_evaluation.specs.Settings.{setting_of};
-ghost use Rattle.cedar_evaluation.specs.Tasks.{GoesOn, calls_of};
+ghost use Rattle.cedar_evaluation.specs.Settings.{setting_of, calls_in};
+ghost use Rattle.cedar_evaluation.specs.Tasks.{GoesOn};
 ghost use Rattle.cedar_evaluation.specs.declared.frame.Pending.TheVariants as pendings;
 
 use crate::answers::answered;
@@ -32,7 +32,7 @@ impl<'e, 'g, 'f> Evaluation<'e, 'g, 'f> {
         op: UnaryOp,
         operand: PartialValue,
     ) -> Result<Next, AllocError>
-        ensures { (r : RequestPart) (k : ℕ) → IfOk result (GoesOn (setting_of r self.now) calls_of k (pendings.Unary op) (answers (partial_view operand))) }
+        ensures { (r : RequestPart) (k : ℕ) → IfOk result (GoesOn (setting_of r self.now) (calls_in self.now) k (pendings.Unary op) (answers (partial_view operand))) }
     {
         Ok(answered(alloc, unary_of_part(alloc, op, operand, None)))
     }
@@ -44,7 +44,7 @@ impl<'e, 'g, 'f> Evaluation<'e, 'g, 'f> {
         right: Rc<Expr>,
         left: PartialValue,
     ) -> Result<Next, AllocError>
-        ensures { (r : RequestPart) (k : ℕ) → IfOk result (GoesOn (setting_of r self.now) calls_of k (pendings.BinaryLeft op right) (answers (partial_view left))) }
+        ensures { (r : RequestPart) (k : ℕ) → IfOk result (GoesOn (setting_of r self.now) (calls_in self.now) k (pendings.BinaryLeft op right) (answers (partial_view left))) }
     {
         Ok(Step::Wait(Task::Other(Pending::BinaryRight { op, left }), Part::Shared(right)))
     }
@@ -57,7 +57,7 @@ impl<'e, 'g, 'f> Evaluation<'e, 'g, 'f> {
         left: PartialValue,
         right: PartialValue,
     ) -> Result<Next, AllocError>
-        ensures { (r : RequestPart) (k : ℕ) → IfOk result (GoesOn (setting_of r self.now) calls_of k (pendings.BinaryRight op left) (answers (partial_view right))) }
+        ensures { (r : RequestPart) (k : ℕ) → IfOk result (GoesOn (setting_of r self.now) (calls_in self.now) k (pendings.BinaryRight op left) (answers (partial_view right))) }
     {
         let entities = self.given.entities;
         let extensions = self.given.extensions;
@@ -71,7 +71,7 @@ impl<'e, 'g, 'f> Evaluation<'e, 'g, 'f> {
         attr: RcStr,
         container: PartialValue,
     ) -> Result<Next, AllocError>
-        ensures { (r : RequestPart) (k : ℕ) → IfOk result (GoesOn (setting_of r self.now) calls_of k (pendings.GetAttr attr) (answers (partial_view container))) }
+        ensures { (r : RequestPart) (k : ℕ) → IfOk result (GoesOn (setting_of r self.now) (calls_in self.now) k (pendings.GetAttr attr) (answers (partial_view container))) }
     {
         match attribute_of_part(alloc, self.given.entities, container, &attr, None) {
             Projected::Answer(answer) => stored(alloc, &self.given.mapper, answer),
@@ -86,7 +86,7 @@ impl<'e, 'g, 'f> Evaluation<'e, 'g, 'f> {
         attr: RcStr,
         container: PartialValue,
     ) -> Result<Next, AllocError>
-        ensures { (r : RequestPart) (k : ℕ) → IfOk result (GoesOn (setting_of r self.now) calls_of k (pendings.HasAttr attr) (answers (partial_view container))) }
+        ensures { (r : RequestPart) (k : ℕ) → IfOk result (GoesOn (setting_of r self.now) (calls_in self.now) k (pendings.HasAttr attr) (answers (partial_view container))) }
     {
         Ok(answered(alloc, has_of_part(alloc, self.given.entities, container, &attr)))
     }
@@ -98,7 +98,7 @@ impl<'e, 'g, 'f> Evaluation<'e, 'g, 'f> {
         attrs: Rc<FirstRest<RcStr>>,
         container: PartialValue,
     ) -> Result<Next, AllocError>
-        ensures { (r : RequestPart) (k : ℕ) → IfOk result (GoesOn (setting_of r self.now) calls_of k (pendings.ExtHasAttr attrs) (answers (partial_view container))) }
+        ensures { (r : RequestPart) (k : ℕ) → IfOk result (GoesOn (setting_of r self.now) (calls_in self.now) k (pendings.ExtHasAttr attrs) (answers (partial_view container))) }
     {
         Ok(answered(alloc, extended_has_of_part(alloc, self.given.entities, container, &attrs)))
     }
@@ -110,7 +110,7 @@ impl<'e, 'g, 'f> Evaluation<'e, 'g, 'f> {
         pattern: Pattern,
         text: PartialValue,
     ) -> Result<Next, AllocError>
-        ensures { (r : RequestPart) (k : ℕ) → IfOk result (GoesOn (setting_of r self.now) calls_of k (pendings.Like pattern) (answers (partial_view text))) }
+        ensures { (r : RequestPart) (k : ℕ) → IfOk result (GoesOn (setting_of r self.now) (calls_in self.now) k (pendings.Like pattern) (answers (partial_view text))) }
     {
         Ok(answered(alloc, like_of_part(alloc, text, &pattern)))
     }
@@ -122,7 +122,7 @@ impl<'e, 'g, 'f> Evaluation<'e, 'g, 'f> {
         entity_type: EntityType,
         entity: PartialValue,
     ) -> Result<Next, AllocError>
-        ensures { (r : RequestPart) (k : ℕ) → IfOk result (GoesOn (setting_of r self.now) calls_of k (pendings.Is entity_type) (answers (partial_view entity))) }
+        ensures { (r : RequestPart) (k : ℕ) → IfOk result (GoesOn (setting_of r self.now) (calls_in self.now) k (pendings.Is entity_type) (answers (partial_view entity))) }
     {
         Ok(answered(alloc, is_of_part(alloc, entity, &entity_type)))
     }

@@ -9,8 +9,8 @@ ghost use Rattle.cedar_names.specs.Names.{name_text, type_text};
 ghost use Rattle.cedar_names.specs.Leaves.{literal_view, variable_view, slot_view, type_view, unary_view, binary_view, pattern_view, texts_view};
 ghost use Rattle.cedar_expressions.specs.View.{view, terms_view, fields_view};
 ghost use Rattle.cedar_layers.specs.Policies.{slots_view};
-ghost use Rattle.cedar_evaluation.specs.Settings.{Speaks, setting_of};
-ghost use Rattle.cedar_evaluation.specs.Tasks.{Begins, Gives, calls_of};
+ghost use Rattle.cedar_evaluation.specs.Settings.{Speaks, setting_of, calls_in};
+ghost use Rattle.cedar_evaluation.specs.Tasks.{Begins, Gives};
 ghost use Rattle.cedar_evaluation.specs.PartsLaws.{IsTaken};
 
 use crate::answers::answered;
@@ -35,8 +35,9 @@ use std::rc::{Rc, RcStr};
 
 impl<'e, 'g, 'f> Evaluation<'e, 'g, 'f> {
     // Looks at an expression: answers it, or waits for its first part.
+    #[tactic(auto, using(cedar_expressions::proofs::Levels::levels))]
     pub(crate) fn begin(&self, alloc: Global, e: &Expr) -> Result<Next, AllocError>
-        ensures { (r : RequestPart) (k : ℕ) → Speaks r self.now → IfOk result (Begins (setting_of r self.now) calls_of k (view e.now)) }
+        ensures { (r : RequestPart) (k : ℕ) → Speaks r self.now → IfOk result (Begins (setting_of r self.now) (calls_in self.now) k (view e.now)) }
     {
         match e.expr_kind() {
             ExprKind::Lit(value) => self.literal(value),
@@ -66,14 +67,14 @@ impl<'e, 'g, 'f> Evaluation<'e, 'g, 'f> {
     }
 
     fn literal(&self, value: &Literal) -> Result<Next, AllocError>
-        ensures { (r : RequestPart) (k : ℕ) → IfOk result (Begins (setting_of r self.now) calls_of k (Terms.literal (literal_view value.now))) }
+        ensures { (r : RequestPart) (k : ℕ) → IfOk result (Begins (setting_of r self.now) (calls_in self.now) k (Terms.literal (literal_view value.now))) }
     {
         let literal = Value::new(ValueKind::Lit(value.clone()?), None);
         Ok(Step::Done(Ok(PartialValue::Value(literal))))
     }
 
     fn variable(&self, var: Var) -> Result<Next, AllocError>
-        ensures { (r : RequestPart) (k : ℕ) → Speaks r self.now → IfOk result (Begins (setting_of r self.now) calls_of k (Terms.variable (variable_view var))) }
+        ensures { (r : RequestPart) (k : ℕ) → Speaks r self.now → IfOk result (Begins (setting_of r self.now) (calls_in self.now) k (Terms.variable (variable_view var))) }
     {
         match var {
             Var::Principal => Ok(Step::Done(Ok(self.given.principal.clone()?))),
@@ -84,70 +85,70 @@ impl<'e, 'g, 'f> Evaluation<'e, 'g, 'f> {
     }
 
     fn slot(&self, alloc: Global, slot: SlotId) -> Result<Next, AllocError>
-        ensures { (r : RequestPart) (k : ℕ) → IfOk result (Begins (setting_of r self.now) calls_of k (Terms.slot (slot_view slot))) }
+        ensures { (r : RequestPart) (k : ℕ) → IfOk result (Begins (setting_of r self.now) (calls_in self.now) k (Terms.slot (slot_view slot))) }
     {
         slot_answer(alloc, self.slots, slot)
     }
 
     fn unknown(&self, alloc: Global, e: &Expr, unknown: &Unknown) -> Result<Next, AllocError>
         requires { view e.now ≡ Terms.unknown (rc_str_bytes unknown.now.name) (option_map type_view unknown.now.type_annotation) }
-        ensures { (r : RequestPart) (k : ℕ) → IfOk result (Begins (setting_of r self.now) calls_of k (view e.now)) }
+        ensures { (r : RequestPart) (k : ℕ) → IfOk result (Begins (setting_of r self.now) (calls_in self.now) k (view e.now)) }
     {
         mapped(alloc, &self.given.mapper, e, unknown)
     }
 
     fn operand(&self, op: UnaryOp, arg: &Rc<Expr>) -> Result<Next, AllocError>
-        ensures { (r : RequestPart) (k : ℕ) → IfOk result (Begins (setting_of r self.now) calls_of k (Terms.unary (unary_view op) (view arg.now.value))) }
+        ensures { (r : RequestPart) (k : ℕ) → IfOk result (Begins (setting_of r self.now) (calls_in self.now) k (Terms.unary (unary_view op) (view arg.now.value))) }
     {
         Ok(Step::Wait(Task::Other(Pending::Unary(op)), Part::Shared(arg.clone()?)))
     }
 
     fn operands(&self, op: BinaryOp, left: &Rc<Expr>, right: &Rc<Expr>) -> Result<Next, AllocError>
-        ensures { (r : RequestPart) (k : ℕ) → IfOk result (Begins (setting_of r self.now) calls_of k (Terms.binary (binary_view op) (view left.now.value) (view right.now.value))) }
+        ensures { (r : RequestPart) (k : ℕ) → IfOk result (Begins (setting_of r self.now) (calls_in self.now) k (Terms.binary (binary_view op) (view left.now.value) (view right.now.value))) }
     {
         let right = right.clone()?;
         Ok(Step::Wait(Task::Other(Pending::BinaryLeft { op, right }), Part::Shared(left.clone()?)))
     }
 
     fn attribute(&self, expr: &Rc<Expr>, attr: &RcStr) -> Result<Next, AllocError>
-        ensures { (r : RequestPart) (k : ℕ) → IfOk result (Begins (setting_of r self.now) calls_of k (Terms.get_attribute (view expr.now.value) (rc_str_bytes attr.now))) }
+        ensures { (r : RequestPart) (k : ℕ) → IfOk result (Begins (setting_of r self.now) (calls_in self.now) k (Terms.get_attribute (view expr.now.value) (rc_str_bytes attr.now))) }
     {
         let attr = attr.clone()?;
         Ok(Step::Wait(Task::Other(Pending::GetAttr(attr)), Part::Shared(expr.clone()?)))
     }
 
     fn tested(&self, expr: &Rc<Expr>, attr: &RcStr) -> Result<Next, AllocError>
-        ensures { (r : RequestPart) (k : ℕ) → IfOk result (Begins (setting_of r self.now) calls_of k (Terms.has_attribute (view expr.now.value) (rc_str_bytes attr.now))) }
+        ensures { (r : RequestPart) (k : ℕ) → IfOk result (Begins (setting_of r self.now) (calls_in self.now) k (Terms.has_attribute (view expr.now.value) (rc_str_bytes attr.now))) }
     {
         let attr = attr.clone()?;
         Ok(Step::Wait(Task::Other(Pending::HasAttr(attr)), Part::Shared(expr.clone()?)))
     }
 
     fn walked(&self, expr: &Rc<Expr>, attrs: &Rc<FirstRest<RcStr>>) -> Result<Next, AllocError>
-        ensures { (r : RequestPart) (k : ℕ) → IfOk result (Begins (setting_of r self.now) calls_of k (Terms.extended_has (view expr.now.value) (rc_str_bytes attrs.now.value.first) (texts_view attrs.now.value.rest.items))) }
+        ensures { (r : RequestPart) (k : ℕ) → IfOk result (Begins (setting_of r self.now) (calls_in self.now) k (Terms.extended_has (view expr.now.value) (rc_str_bytes attrs.now.value.first) (texts_view attrs.now.value.rest.items))) }
     {
         let attrs = attrs.clone()?;
         Ok(Step::Wait(Task::Other(Pending::ExtHasAttr(attrs)), Part::Shared(expr.clone()?)))
     }
 
     fn likeness(&self, expr: &Rc<Expr>, pattern: &Pattern) -> Result<Next, AllocError>
-        ensures { (r : RequestPart) (k : ℕ) → IfOk result (Begins (setting_of r self.now) calls_of k (Terms.like (view expr.now.value) (pattern_view pattern.now))) }
+        ensures { (r : RequestPart) (k : ℕ) → IfOk result (Begins (setting_of r self.now) (calls_in self.now) k (Terms.like (view expr.now.value) (pattern_view pattern.now))) }
     {
         let pattern = pattern.clone()?;
         Ok(Step::Wait(Task::Other(Pending::Like(pattern)), Part::Shared(expr.clone()?)))
     }
 
     fn typed(&self, expr: &Rc<Expr>, entity_type: &EntityType) -> Result<Next, AllocError>
-        ensures { (r : RequestPart) (k : ℕ) → IfOk result (Begins (setting_of r self.now) calls_of k (Terms.is_of_type (view expr.now.value) (type_text entity_type.now))) }
+        ensures { (r : RequestPart) (k : ℕ) → IfOk result (Begins (setting_of r self.now) (calls_in self.now) k (Terms.is_of_type (view expr.now.value) (type_text entity_type.now))) }
     {
         let entity_type = entity_type.clone()?;
         Ok(Step::Wait(Task::Other(Pending::Is(entity_type)), Part::Shared(expr.clone()?)))
     }
 
     fn set(&self, alloc: Global, parts: &Rc<Vec<Expr>>, loc: Option<Loc>) -> Result<Next, AllocError>
-        ensures { (r : RequestPart) (k : ℕ) → IfOk result (Begins (setting_of r self.now) calls_of k (Terms.set_of (terms_view parts.now.value.items))) }
+        ensures { (r : RequestPart) (k : ℕ) → IfOk result (Begins (setting_of r self.now) (calls_in self.now) k (Terms.set_of (terms_view parts.now.value.items))) }
     {
-        Ok(taken(alloc, PartsFrame::set(alloc, parts, loc)))
+        Ok(taken(alloc, PartsFrame::set(alloc, self.given.extensions, parts, loc)))
     }
 
     fn record(
@@ -156,9 +157,9 @@ impl<'e, 'g, 'f> Evaluation<'e, 'g, 'f> {
         pairs: &BTreeMap<RcStr, Expr>,
         loc: Option<Loc>,
     ) -> Result<Next, AllocError>
-        ensures { (r : RequestPart) (k : ℕ) → IfOk result (Begins (setting_of r self.now) calls_of k (Terms.record_of (fields_view pairs.now.entries))) }
+        ensures { (r : RequestPart) (k : ℕ) → IfOk result (Begins (setting_of r self.now) (calls_in self.now) k (Terms.record_of (fields_view pairs.now.entries))) }
     {
-        Ok(taken(alloc, PartsFrame::record(alloc, pairs, loc)))
+        Ok(taken(alloc, PartsFrame::record(alloc, self.given.extensions, pairs, loc)))
     }
 
     fn call(
@@ -168,9 +169,9 @@ impl<'e, 'g, 'f> Evaluation<'e, 'g, 'f> {
         args: &Rc<Vec<Expr>>,
         loc: Option<Loc>,
     ) -> Result<Next, AllocError>
-        ensures { (r : RequestPart) (k : ℕ) → IfOk result (Begins (setting_of r self.now) calls_of k (Terms.call (name_text fn_name.now) (terms_view args.now.value.items))) }
+        ensures { (r : RequestPart) (k : ℕ) → IfOk result (Begins (setting_of r self.now) (calls_in self.now) k (Terms.call (name_text fn_name.now) (terms_view args.now.value.items))) }
     {
-        Ok(taken(alloc, PartsFrame::call(alloc, fn_name, args, loc)))
+        Ok(taken(alloc, PartsFrame::call(alloc, self.given.extensions, fn_name, args, loc)))
     }
 }
 
