@@ -1,5 +1,6 @@
 -- How the answers of making a context follow from those of an evaluation.
-use Rattle.std.proofs.Common.{◌≡◌, ℕ, true, List, Option, None, IfErr, Result, Ok, Err, Global, refl, sym, ap, ◌∙◌, subst}
+use Rattle.std.proofs.Common.{◌≡◌, ℕ, true, List, Option, None, IfErr, Result, Ok, Err, Global, refl, sym, ap}
+use Rattle.std.proofs.Common.{◌∙◌, subst}
 use Rattle.std.specs.declared.rc.RcStr.{RcStr}
 use Rattle.cedar_model.specs.Terms.{Term}
 use Rattle.cedar_model.specs.Failures.{Failure, Answer, fails, out_of_memory}
@@ -59,7 +60,8 @@ module _ (s : Setting) (calls : StoredCalls) (n : ℕ) where
   refused_answer t e (refusals.NotARecord r) refusal h = absurd refusal
   refused_answer t e (refusals.Evaluation f) refusal h =
       let same : failure_of f ≡ failure_of e = ap failure_of refusal.0 in (
-        subst (λ y. IsAnswerWithin s calls n t (fails y)) (sym same) (h (λ w. refusal.1 (one_failure (failure_of e) w))),
+        subst (λ y. IsAnswerWithin s calls n t (fails y)) (sym same)
+            (h (λ w. refusal.1 (one_failure (failure_of e) w))),
         λ w. refusal.1 (sym same ∙ w),
       )
   refused_answer t e (refusals.ExpressionConstruction r) refusal h = absurd refusal

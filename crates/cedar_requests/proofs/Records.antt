@@ -9,7 +9,8 @@ use Rattle.cedar_model.specs.Values.{Represented, record_represented}
 use Rattle.cedar_model.specs.Sets.{represented_fields_of}
 use Rattle.cedar_model.specs.Failures.{PartialValue, value, residual, answers}
 use Rattle.cedar_model.specs.Settings.{Setting}
-use Rattle.cedar_model.specs.Rules.{StoredCalls, Runs, fields_of_record, fields_of_parts, record_answer, record_of_parts}
+use Rattle.cedar_model.specs.Rules.{StoredCalls, Runs, fields_of_record, fields_of_parts, record_answer}
+use Rattle.cedar_model.specs.Rules.{record_of_parts}
 use Rattle.cedar_model.specs.Rules.{values_of_field_parts}
 use Rattle.cedar_expressions.specs.View.{fields_view}
 use Rattle.cedar_data.specs.Sound.{whats_at}

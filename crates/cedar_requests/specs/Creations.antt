@@ -67,7 +67,8 @@ NamesKey ps (constructions.DuplicateKey key context) =
 NamesKey ps (constructions.Memory e) = ⊥
 
 -- the first key that comes again is refused; else the record is answered by what it is evaluated to
-abbrev pub IsOfPairs : Setting → StoredCalls → ℕ → List (RcStr Global × Expr) → Result Context ContextCreationError → Type 0
+abbrev pub IsOfPairs : Setting → StoredCalls → ℕ → List (RcStr Global × Expr) → Result Context ContextCreationError →
+    Type 0
 IsOfPairs s calls n ps (Ok c) =
     (first_repeated (keys_view ps) ≡ None) × IsOfRecord s calls n (record_of_pairs ps) (Ok c)
 IsOfPairs s calls n ps (Err (refusals.NotARecord e)) = ⊥

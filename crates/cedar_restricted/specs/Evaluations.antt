@@ -2,7 +2,7 @@
 use Rattle.std.specs.Prelude.{◌≡◌, ◌≢◌, ◌↔◌, ℕ, Bool, true, false, None, Result, Ok, Err, alloc_error}
 use Rattle.cedar_model.specs.Terms.{Term}
 use Rattle.cedar_model.specs.World as model
-use Rattle.cedar_model.specs.Failures.{residual_is_left, Answer, value, residual, answers, fails, limit, out_of_memory}
+use Rattle.cedar_model.specs.Failures.{residual_is_left, Answer, value, residual, answers, fails, limit}
 use Rattle.cedar_model.specs.Settings.{shallow, Setting, unknown_entry, absent_context}
 use Rattle.cedar_model.specs.Rules.{StoredCalls, Runs, Allows, Exceeds}
 use Rattle.cedar_data.specs.declared.partial_value.PartialValue.{PartialValue}

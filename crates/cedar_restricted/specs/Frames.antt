@@ -51,7 +51,8 @@ Reads x calls whole parts answers loc (Done r) =
     IfOk r (λ p. partial_loc p ≡ loc)
 
 -- the whole t stands at this place: its parts are read from the first on
-pub record Begun (x : world.Extensions) (calls : StoredCalls) (t : Term) (loc : Option Loc) (s : NextPart) : Type 0 where
+pub record Begun (x : world.Extensions) (calls : StoredCalls) (t : Term) (loc : Option Loc) (s : NextPart) :
+    Type 0 where
   pub whole : Whole
   pub parts : Parts
   pub answers : Answers
@@ -67,14 +68,16 @@ Begins x calls t loc (Done r) = (partial_answer r ≢ fails out_of_memory → Be
     IfOk r (λ p. partial_loc p ≡ loc)
 
 -- with one more answer
-pub record Continued (x : world.Extensions) (calls : StoredCalls) (f : PartsFrame) (p : PartialValue) (s : NextPart) : Type 0 where
+pub record Continued (x : world.Extensions) (calls : StoredCalls) (f : PartsFrame) (p : PartialValue) (s : NextPart) :
+    Type 0 where
   pub answers : Answers
   pub one_more : (ps : List model.PartialValue) → Are f.answers ps → Are answers (ps ++ partial_view p ∷ [])
   pub counted : count answers ≡ suc (count f.answers)
   pub reads : Reads x calls f.whole f.parts answers f.loc s
 
 -- with the next answer: the next part, or the whole, unless memory is wanting; an error is the whole's
-abbrev pub GoesOn : world.Extensions → StoredCalls → PartsFrame → Result PartialValue EvaluationError → NextPart → Type 0
+abbrev pub GoesOn : world.Extensions → StoredCalls → PartsFrame → Result PartialValue EvaluationError → NextPart →
+    Type 0
 GoesOn x calls f (Ok p) (Wait g c) = Continued x calls f p (Wait g c)
 GoesOn x calls f (Ok p) (Done r) = (partial_answer r ≢ fails out_of_memory → Continued x calls f p (Done r)) ×
     IfOk r (λ q. partial_loc q ≡ f.loc)
@@ -97,7 +100,8 @@ pub record Waits (x : world.Extensions) (calls : StoredCalls) (k : ℕ) (f : Par
   pub read : is_restricted (view t) ≡ true → HasRead (Runs (bare x) calls k) f.parts f.answers
 
 -- the answer is right, with so many levels, and at the expression's location
-pub record IsRight (x : world.Extensions) (calls : StoredCalls) (k : ℕ) (t : Expr) (r : Result PartialValue EvaluationError) : Type 0 where
+pub record IsRight (x : world.Extensions) (calls : StoredCalls) (k : ℕ) (t : Expr)
+    (r : Result PartialValue EvaluationError) : Type 0 where
   pub answer : is_restricted (view t) ≡ true → Meets (Runs (bare x) calls k (view t)) (partial_answer r)
   pub place : IfOk r (λ p. partial_loc p ≡ expr_loc t)
 

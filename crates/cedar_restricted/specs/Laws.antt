@@ -109,7 +109,8 @@ abbrev pub IsRightFailure : world.Extensions → StoredCalls → ℕ → Expr �
 IsRightFailure x calls k c e =
     is_restricted (view c) ≡ true → fails e ≢ fails out_of_memory → Runs (bare x) calls k (view c) (fails e)
 
-module _ (x : world.Extensions) (calls : StoredCalls) (k : ℕ) (f : PartsFrame) (t c : Expr) (w : Waits x calls k f t c) where
+module _ (x : world.Extensions) (calls : StoredCalls) (k : ℕ) (f : PartsFrame) (t c : Expr)
+    (w : Waits x calls k f t c) where
   part_restricted : is_restricted (view t) ≡ true → is_restricted (view c) ≡ true
   part_restricted is_r =
       let items = f.parts.value.items in
@@ -243,7 +244,8 @@ module _ (x : world.Extensions) (calls : StoredCalls) where
 
 -- ---- expressions without parts
 
-pub literal_right : (x : world.Extensions) (calls : StoredCalls) (k : ℕ) (t : Expr) (l : Literal) (r : Result PartialValue EvaluationError) → view t ≡ literal l →
+pub literal_right : (x : world.Extensions) (calls : StoredCalls) (k : ℕ) (t : Expr) (l : Literal)
+    (r : Result PartialValue EvaluationError) → view t ≡ literal l →
     AnswersWith r (answers (model.value (plain_represented l))) → IfOk r (λ p. partial_loc p ≡ expr_loc t) →
     IsRight x calls (suc k) t r
 literal_right x calls k t l r is answer place = record {
@@ -251,7 +253,8 @@ literal_right x calls k t l r is answer place = record {
   place = place;
 }
 
-pub unknown_right : (x : world.Extensions) (calls : StoredCalls) (k : ℕ) (t : Expr) (n : Text) (ty : Option ValueType) (r : Result PartialValue EvaluationError) →
+pub unknown_right : (x : world.Extensions) (calls : StoredCalls) (k : ℕ) (t : Expr) (n : Text)
+    (ty : Option ValueType) (r : Result PartialValue EvaluationError) →
     view t ≡ unknown n ty → AnswersWith r (answers (model.residual (view t))) →
     IfOk r (λ p. partial_loc p ≡ expr_loc t) →
     IsRight x calls (suc k) t r
@@ -262,6 +265,7 @@ unknown_right x calls k t n ty r is answer place = record {
   place = place;
 }
 
-pub not_restricted_right : (x : world.Extensions) (calls : StoredCalls) (k : ℕ) (t : Expr) (e : EvaluationError) → is_restricted (view t) ≡ false →
+pub not_restricted_right : (x : world.Extensions) (calls : StoredCalls) (k : ℕ) (t : Expr) (e : EvaluationError) →
+    is_restricted (view t) ≡ false →
     IsRight x calls (suc k) t (Err e)
 not_restricted_right x calls k t e not = record { answer = λ is_r. absurd (cc); place = tt }

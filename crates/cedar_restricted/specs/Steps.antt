@@ -11,7 +11,8 @@ use Rattle.cedar_model.specs.Failures as model
 use Rattle.cedar_model.specs.Failures.{Failure, value, residual, Answer, answers, fails}
 use Rattle.cedar_model.specs.Failures.{answers_value, answers_residual, part_expression}
 use Rattle.cedar_model.specs.Settings.{Setting}
-use Rattle.cedar_model.specs.Rules.{StoredCalls, MayAnswer, Rule, Parts, FieldParts, AfterValues, part_then, field_part_then}
+use Rattle.cedar_model.specs.Rules.{StoredCalls, MayAnswer, Rule, Parts, FieldParts, AfterValues, part_then}
+use Rattle.cedar_model.specs.Rules.{field_part_then}
 use Rattle.cedar_model.specs.Rules.{add_value, add_value_at, values_of_parts, values_of_field_parts, terms_of_parts}
 use Rattle.cedar_model.specs.Rules.{fields_of_parts, set_answer, set_of_parts, record_answer, record_of_parts}
 use Rattle.cedar_names.specs.Names.{name_text}

@@ -51,7 +51,8 @@ impl<'x, 'f> RestrictedEvaluator<'x, 'f> {
         e: BorrowedRestrictedExpr<'_>,
     ) -> Result<PartialValue, EvaluationError>
         ensures answer { (s : Setting) → IsBare (extensions_view self.now.extensions.now) s →
-            Meets (IsAnswerWithin s (calls_of self.now.extensions.now) self.now.limit (borrowed_term e.entry)) (partial_answer result) }
+            Meets (IsAnswerWithin s (calls_of self.now.extensions.now) self.now.limit (borrowed_term e.entry))
+            (partial_answer result) }
         ensures place { IfOk result (λ p. partial_loc p ≡ borrowed_loc e.entry) }
         ensures restricted { IfOk result (λ p. IsSoundPart (partial_view p)) }
         ensures unknown { IfOk result (λ p. HoldsUnknown (partial_view p)) }
@@ -60,7 +61,9 @@ impl<'x, 'f> RestrictedEvaluator<'x, 'f> {
         match e.to_owned() {
             Ok(restricted) => {
                 let expr = Expr::from(restricted);
-                let machine = Restricted { extensions: self.extensions };
+                let machine = Restricted {
+                    extensions: self.extensions,
+                };
                 cedar_frames::interpret(&machine, alloc, expr, self.limit)
             }
             Err(error) => Err(EvaluationError::Memory(error)),
@@ -75,7 +78,8 @@ impl<'x, 'f> RestrictedEvaluator<'x, 'f> {
         e: BorrowedRestrictedExpr<'_>,
     ) -> Result<Value, EvaluationError>
         ensures answer { (s : Setting) → IsBare (extensions_view self.now.extensions.now) s →
-            Meets (IsValueWithin s (calls_of self.now.extensions.now) self.now.limit (borrowed_term e.entry)) (value_answer result) }
+            Meets (IsValueWithin s (calls_of self.now.extensions.now) self.now.limit (borrowed_term e.entry))
+            (value_answer result) }
         ensures place { IfOk result (λ v. v.loc ≡ borrowed_loc e.entry) }
         ensures low { height (borrowed_term e.entry) ≤ self.now.limit → value_answer result ≢ limit }
     {

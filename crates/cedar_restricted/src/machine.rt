@@ -80,7 +80,8 @@ impl<'x, 'f> Machine for Restricted<'x, 'f> {
 
     ghost limit_ends = { limit_ends };
 
-    ghost right_upward = { λ s k f t c a. right_upward (extensions_view s.extensions.now) (calls_of s.extensions.now) k f t c a };
+    ghost right_upward = { λ s k f t c a.
+        right_upward (extensions_view s.extensions.now) (calls_of s.extensions.now) k f t c a };
 
     ghost some_left = { some_left };
 

@@ -42,8 +42,14 @@ impl PartsFrame {
     ghost use Rattle.cedar_restricted.specs.Frames.{Begins, GoesOn, Reads};
 
     /// A set at this location, before any part has answered.
-    pub fn set(alloc: Global, extensions: &Extensions<'_>, parts: &Rc<Vec<Expr>>, loc: Option<Loc>) -> NextPart
-        ensures { Begins (extensions_view extensions.now) (calls_of extensions.now) (set_of (terms_view parts.now.value.items)) loc result }
+    pub fn set(
+        alloc: Global,
+        extensions: &Extensions<'_>,
+        parts: &Rc<Vec<Expr>>,
+        loc: Option<Loc>,
+    ) -> NextPart
+        ensures { Begins (extensions_view extensions.now) (calls_of extensions.now)
+            (set_of (terms_view parts.now.value.items)) loc result }
     {
         match parts.clone() {
             Ok(parts) => PartsFrame::read(
@@ -60,8 +66,15 @@ impl PartsFrame {
 
     /// A call of this function at this location, before any argument has answered. The function is looked up after
     /// all of them, and only where each is a value.
-    pub fn call(alloc: Global, extensions: &Extensions<'_>, fn_name: &Name, args: &Rc<Vec<Expr>>, loc: Option<Loc>) -> NextPart
-        ensures { Begins (extensions_view extensions.now) (calls_of extensions.now) (call (name_text fn_name.now) (terms_view args.now.value.items)) loc result }
+    pub fn call(
+        alloc: Global,
+        extensions: &Extensions<'_>,
+        fn_name: &Name,
+        args: &Rc<Vec<Expr>>,
+        loc: Option<Loc>,
+    ) -> NextPart
+        ensures { Begins (extensions_view extensions.now) (calls_of extensions.now)
+            (call (name_text fn_name.now) (terms_view args.now.value.items)) loc result }
     {
         match fn_name.clone() {
             Ok(fn_name) => match args.clone() {
@@ -80,8 +93,14 @@ impl PartsFrame {
     }
 
     /// A record at this location, before any field has answered.
-    pub fn record(alloc: Global, extensions: &Extensions<'_>, pairs: &BTreeMap<RcStr, Expr>, loc: Option<Loc>) -> NextPart
-        ensures { Begins (extensions_view extensions.now) (calls_of extensions.now) (record_of (fields_view pairs.now.entries)) loc result }
+    pub fn record(
+        alloc: Global,
+        extensions: &Extensions<'_>,
+        pairs: &BTreeMap<RcStr, Expr>,
+        loc: Option<Loc>,
+    ) -> NextPart
+        ensures { Begins (extensions_view extensions.now) (calls_of extensions.now)
+            (record_of (fields_view pairs.now.entries)) loc result }
     {
         match keys_and_parts(alloc, pairs) {
             Ok((keys, parts)) => PartsFrame::read(
@@ -97,12 +116,19 @@ impl PartsFrame {
     }
 
     /// The same after the answer of the part that it waits for: an error is its own, at its location if it has none.
-    pub fn answered(self, alloc: Global, extensions: &Extensions<'_>, answer: Result<PartialValue, EvaluationError>) -> NextPart
+    pub fn answered(
+        self,
+        alloc: Global,
+        extensions: &Extensions<'_>,
+        answer: Result<PartialValue, EvaluationError>,
+    ) -> NextPart
         ensures { GoesOn (extensions_view extensions.now) (calls_of extensions.now) self answer result }
     {
         match answer {
             Ok(part) => match self.answers.with(alloc, part) {
-                Ok(answers) => PartsFrame::read(alloc, extensions, self.whole, self.parts, answers, self.loc),
+                Ok(answers) => PartsFrame::read(
+                    alloc, extensions, self.whole, self.parts, answers, self.loc,
+                ),
                 Err(error) => Step::Done(Err(EvaluationError::Memory(error))),
             },
             Err(error) => Step::Done(Err(with_enclosing_loc(error, self.loc))),

@@ -108,7 +108,13 @@ impl<'x, 'f> Restricted<'x, 'f> {
         ensures { (k : ℕ) → Leads (extensions_view self.now.extensions.now)
             (calls_of self.now.extensions.now) k e.now result }
     {
-        PartsFrame::call(alloc, self.extensions, fn_name, args, e.source_loc().copied())
+        PartsFrame::call(
+            alloc,
+            self.extensions,
+            fn_name,
+            args,
+            e.source_loc().copied(),
+        )
     }
 
     // The error that this expression is left. No part of a restricted expression comes here.

@@ -1,24 +1,8 @@
-//! Extensions: functions that the caller of the evaluator makes and hands in.
+//! Why a function that a caller stores was not found.
 use cedar_names::Loc;
 use extension_function_lookup_errors::FuncDoesNotExistError;
 use std::alloc::AllocError;
-use std::marker::PhantomData;
 use thiserror::Error;
-
-/// The extensions that an evaluation may use.
-#[derive(Clone, Copy)]
-pub struct Extensions<'a> {
-    extensions: PhantomData<&'a ()>,
-}
-
-impl<'a> Extensions<'a> {
-    /// No extension: each call of a function fails with `FuncDoesNotExist`.
-    pub fn none() -> Extensions<'a> {
-        Extensions {
-            extensions: PhantomData,
-        }
-    }
-}
 
 /// Why no extension function was found.
 #[derive(Debug, Clone, PartialEq, Eq, Drop, Error)]

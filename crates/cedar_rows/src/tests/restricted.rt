@@ -311,10 +311,7 @@ fn answer_text(
 }
 
 // What is answered where an extension has the function `unknown`.
-fn asked(
-    alloc: Global,
-    e: &RestrictedExpr,
-) -> Result<Result<PartialValue, EvaluationError>, Fail> {
+fn asked(alloc: Global, e: &RestrictedExpr) -> Result<Result<PartialValue, EvaluationError>, Fail> {
     let asking = asking(alloc)?;
     let extensions = Extensions::specific_extensions(alloc, asking.as_slice())?;
     let evaluator = RestrictedEvaluator::new(&extensions, 1000);

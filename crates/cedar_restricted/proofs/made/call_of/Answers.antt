@@ -1,4 +1,4 @@
-use Rattle.std.proofs.Common.{sym, ap, subst}
+use Rattle.std.proofs.Common.{sym, subst}
 use Rattle.cedar_model.specs.Rules.{LooksUp}
 use Rattle.cedar_names.specs.Names.{name_text}
 use Rattle.cedar_data.specs.Sound.{whats}

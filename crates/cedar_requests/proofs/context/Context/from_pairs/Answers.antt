@@ -13,5 +13,6 @@ of_record-requires g c =
 pub returns-in-Ok-clause-created : goal.returns-in-Ok-clause-created
 returns-in-Ok-clause-created g c = λ s is_bare.
     pairs_answer s (calls_of c.args.extensions.now) _ _ c.of_record.result c.in-Ok.ensures.distinct
-    (subst (λ t. IsOfRecord s (calls_of c.args.extensions.now) c.args.limit t c.of_record.result) (ap view c.as_borrowed.ensures
+    (subst (λ t. IsOfRecord s (calls_of c.args.extensions.now) c.args.limit t c.of_record.result)
+    (ap view c.as_borrowed.ensures
     ∙ c.in-Ok.ensures.view) (c.of_record.ensures.created s is_bare))

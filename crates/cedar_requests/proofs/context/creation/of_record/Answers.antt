@@ -43,5 +43,5 @@ returns-in-Err-clause-created g c = λ s is_bare.
     subst (λ e. IsBare (extensions_view e) s) (sym same) is_bare in
     subst (λ n. IsOfRecord s (calls_of c.args.extensions.now) n t refused) made.ensures.limit
     (subst (λ e. IsOfRecord s (calls_of e) made.result.limit t refused) same
-    (refused_answer s (calls_of made.result.extensions.now) made.result.limit t c.in-Err.error c.from.result c.from.ensures
-    (c.in-Err.ensures.answer s bare_of)))
+    (refused_answer s (calls_of made.result.extensions.now) made.result.limit t c.in-Err.error c.from.result
+    c.from.ensures (c.in-Err.ensures.answer s bare_of)))

@@ -14,7 +14,8 @@ pub returns-in-Ok-clone : goal.returns-in-Ok-clone
 returns-in-Ok-clone g c =
     let name : name_text c.in-Ok.fn_name ≡ name_text c.args.fn_name.now = search rules in
     let args = c.in-Ok-clone.ensures.cases in
-    begins (extensions_view c.args.extensions.now) (calls_of c.args.extensions.now) (wholes.Call c.in-Ok.fn_name) c.in-Ok-clone.args (answereds.Values c.new.result)
+    begins (extensions_view c.args.extensions.now) (calls_of c.args.extensions.now)
+    (wholes.Call c.in-Ok.fn_name) c.in-Ok-clone.args (answereds.Values c.new.result)
     c.args.loc (call (name_text c.args.fn_name.now) (terms_view c.args.args.now.value.items))
     c.read.result (λ i. call (name i) (terms_view (args i).items)) tt
     (ap (λ l. all_values (whats l)) (sym c.new.ensures.items), ap length c.new.ensures.items) c.read.ensures

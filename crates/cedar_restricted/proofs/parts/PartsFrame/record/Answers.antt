@@ -11,7 +11,8 @@ use Rattle.cedar_restricted.proofs.parts.PartsFrame.record.Goals as goal
 
 pub returns-in-Ok : goal.returns-in-Ok
 returns-in-Ok g c =
-    begins (extensions_view c.args.extensions.now) (calls_of c.args.extensions.now) (wholes.Record c.in-Ok.keys) c.in-Ok.parts (answereds.Values c.new.result)
+    begins (extensions_view c.args.extensions.now) (calls_of c.args.extensions.now)
+    (wholes.Record c.in-Ok.keys) c.in-Ok.parts (answereds.Values c.new.result)
     c.args.loc (record_of (fields_view c.args.pairs.now.entries))
     c.read.result (ap record_of c.in-Ok.ensures.fields)
     c.in-Ok.ensures.keys (ap (λ l. all_values (whats l)) (sym c.new.ensures.items), ap length c.new.ensures.items)

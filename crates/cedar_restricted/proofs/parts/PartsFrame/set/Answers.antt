@@ -11,7 +11,8 @@ use Rattle.cedar_restricted.proofs.parts.PartsFrame.set.Goals as goal
 
 pub returns-in-Ok : goal.returns-in-Ok
 returns-in-Ok g c =
-    begins (extensions_view c.args.extensions.now) (calls_of c.args.extensions.now) wholes.Set c.in-Ok.parts (answereds.Values c.new.result)
+    begins (extensions_view c.args.extensions.now) (calls_of c.args.extensions.now)
+    wholes.Set c.in-Ok.parts (answereds.Values c.new.result)
     c.args.loc (set_of (terms_view c.args.parts.now.value.items))
     c.read.result (ap (λ v. set_of (terms_view v.items)) c.in-Ok.ensures.cases) tt
     (ap (λ l. all_values (whats l)) (sym c.new.ensures.items), ap length c.new.ensures.items) c.read.ensures
