@@ -1,18 +1,18 @@
 //! What the operators answer that users call by themselves, and errors that are made from their fields.
 use super::evaluated::{outcome_place, outcome_text};
 use super::written::same_text;
-use crate::tests::reader::errors::error;
-use crate::tests::reader::leaves::{place, unary};
-use crate::tests::reader::values::values;
+use crate::reader::errors::error;
+use crate::reader::leaves::{place, unary};
+use crate::reader::values::values;
 use cedar_evaluator::evaluator::{EvaluationError, binary_arith, binary_relation, unary_app};
 use cedar_layers::expressions::{BinaryOp, Loc, Value};
 use cedar_values::extensions::Extensions;
 use std::alloc::{AllocError, Global};
-use std::test::Fail;
+use crate::Wrong;
 
 /// The value or the error of the operator, and where it stands.
-pub fn answer(alloc: Global, ends: &str, words: &str) -> Result<String, Fail> {
-    let (words, operator) = words.rsplit_once(' ').ok_or("an operator has operands")?;
+pub fn answer(alloc: Global, ends: &str, words: &str) -> Result<String, Wrong> {
+    let (words, operator) = words.rsplit_once(' ').ok_or(Wrong("an operator has operands"))?;
     let values = values(alloc, words)?;
     let place = place(ends)?;
     let outcome = applied(alloc, operator, values, place.as_ref())?;
@@ -26,18 +26,18 @@ fn applied(
     operator: &str,
     mut values: Vec<Value>,
     place: Option<&Loc>,
-) -> Result<Result<Value, EvaluationError>, Fail> {
-    let right = values.pop().ok_or("an operand is missing")?;
+) -> Result<Result<Value, EvaluationError>, Wrong> {
+    let right = values.pop().ok_or(Wrong("an operand is missing"))?;
     if let Some(op) = unary(operator) {
         return Ok(unary_app(alloc, op, right, place));
     }
-    let left = values.pop().ok_or("an operand is missing")?;
+    let left = values.pop().ok_or(Wrong("an operand is missing"))?;
     match operator {
         "eq" | "less" | "lessEq" => related(alloc, operator, &left, &right),
         "add" => Ok(binary_arith(alloc, BinaryOp::Add, left, right, place)),
         "sub" => Ok(binary_arith(alloc, BinaryOp::Sub, left, right, place)),
         "mul" => Ok(binary_arith(alloc, BinaryOp::Mul, left, right, place)),
-        _ => Err(Fail::from("no such operator")),
+        _ => Err(Wrong("no such operator")),
     }
 }
 
@@ -46,7 +46,7 @@ fn related(
     operator: &str,
     left: &Value,
     right: &Value,
-) -> Result<Result<Value, EvaluationError>, Fail> {
+) -> Result<Result<Value, EvaluationError>, Wrong> {
     let none = Extensions::none();
     match operator {
         "eq" => Ok(binary_relation(alloc, BinaryOp::Eq, left, right, &none)),
@@ -56,7 +56,7 @@ fn related(
 }
 
 /// The text of the error, once it is put at the place, and where it stands; a copy of it is equal.
-pub fn built_error(alloc: Global, ends: &str, words: &str) -> Result<String, Fail> {
+pub fn built_error(alloc: Global, ends: &str, words: &str) -> Result<String, Wrong> {
     let error = error(alloc, words)?.with_maybe_source_loc(place(ends)?);
     Ok(error_copy(alloc, &error)?)
 }

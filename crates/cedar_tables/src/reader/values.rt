@@ -1,25 +1,25 @@
 //! Reads values: literals, sets and records, as words alike. `@1-2` puts the value before it at this place. `X:decimal:1.5` is the extension value of
 //! this type that a function of the type's name makes of the text, which is its key.
-use super::leaves::{literal, name, place, text};
+use super::leaves::{literal, name, number, place, text};
 use super::{Parts, mapped};
 use cedar_layers::expressions::{
     Expr, ExtensionValue, Literal, Name, Representation, Value, ValueKind,
 };
 use std::alloc::{AllocError, Global};
 use std::rc::{Rc, RcStr};
-use std::test::Fail;
+use crate::Wrong;
 
 /// The value that these words write.
-pub fn value(alloc: Global, words: &str) -> Result<Value, Fail> {
+pub fn value(alloc: Global, words: &str) -> Result<Value, Wrong> {
     read_all(alloc, words)?.only()
 }
 
 /// The values that these words write.
-pub fn values(alloc: Global, words: &str) -> Result<Vec<Value>, Fail> {
+pub fn values(alloc: Global, words: &str) -> Result<Vec<Value>, Wrong> {
     read_all(alloc, words)?.all()
 }
 
-fn read_all(alloc: Global, words: &str) -> Result<Parts<Value>, Fail> {
+fn read_all(alloc: Global, words: &str) -> Result<Parts<Value>, Wrong> {
     let mut parts: Parts<Value> = Parts::new(alloc);
     for word in words.split(' ') {
         read(alloc, word, &mut parts)?;
@@ -27,20 +27,20 @@ fn read_all(alloc: Global, words: &str) -> Result<Parts<Value>, Fail> {
     Ok(parts)
 }
 
-fn read(alloc: Global, word: &str, parts: &mut Parts<Value>) -> Result<(), Fail> {
+fn read(alloc: Global, word: &str, parts: &mut Parts<Value>) -> Result<(), Wrong> {
     let value = part(alloc, word, parts)?;
     Ok(parts.push(value)?)
 }
 
 // The value that the word makes of those before it.
-fn part(alloc: Global, word: &str, parts: &mut Parts<Value>) -> Result<Value, Fail> {
+fn part(alloc: Global, word: &str, parts: &mut Parts<Value>) -> Result<Value, Wrong> {
     if let Some(ends) = word.strip_prefix('@') {
         let place = place(ends)?;
         return Ok(popped(parts).with_maybe_source_loc(place));
     }
     match word.split_once(':') {
         Some(("set", count)) => {
-            let count = count.parse::<usize>()?;
+            let count = number(count)?;
             Ok(Value::set(alloc, parts.last(count)?, None)?)
         }
         Some(("record", keys)) => {
@@ -49,7 +49,7 @@ fn part(alloc: Global, word: &str, parts: &mut Parts<Value>) -> Result<Value, Fa
         }
         Some(("X", rest)) => extension(alloc, rest),
         Some((kind, rest)) => Ok(Value::from(literal(alloc, kind, rest)?)),
-        None => Err(Fail::from("a word that is no value")),
+        None => Err(Wrong("a word that is no value")),
     }
 }
 
@@ -57,13 +57,13 @@ fn popped(parts: &mut Parts<Value>) -> Value {
     parts.pop(Value::from(Literal::Bool(false)))
 }
 
-fn extension(alloc: Global, written: &str) -> Result<Value, Fail> {
-    let (ty, argument) = written.split_once(':').ok_or("a type and a text")?;
+fn extension(alloc: Global, written: &str) -> Result<Value, Wrong> {
+    let (ty, argument) = written.split_once(':').ok_or(Wrong("a type and a text"))?;
     let value = extension_value(alloc, ty, argument)?;
     Ok(Value::new(ValueKind::ExtensionValue(Rc::new(alloc, value)?), None))
 }
 
-fn extension_value(alloc: Global, ty: &str, argument: &str) -> Result<ExtensionValue, Fail> {
+fn extension_value(alloc: Global, ty: &str, argument: &str) -> Result<ExtensionValue, Wrong> {
     let mut key: Vec<u8> = Vec::new(alloc);
     key.extend_from_slice(argument.as_bytes())?;
     let representation = representation(alloc, name(alloc, ty)?, text(alloc, argument)?)?;

@@ -1,28 +1,28 @@
 //! Reads errors of evaluation: `TypeError Bool Long,String` has the type that was given and those that were expected, `WrongNumArguments f 2 1` the
 //! function, the count that it takes and the count that it was given, `FailedExtensionFunctionExecution f text` the extension and what it says.
 use super::headed;
-use super::leaves::{name, named_type, text};
+use super::leaves::{name, named_type, number, text};
 use cedar_evaluator::evaluator::EvaluationError;
 use cedar_layers::expressions::{FirstRest, Type};
 use cedar_values::evaluator::err::evaluation_errors::{
     ExtensionFunctionExecutionError, TypeError, WrongNumArgumentsError,
 };
 use std::alloc::Global;
-use std::test::Fail;
+use crate::Wrong;
 
 /// The error that these words write, at no known place.
-pub fn error(alloc: Global, words: &str) -> Result<EvaluationError, Fail> {
+pub fn error(alloc: Global, words: &str) -> Result<EvaluationError, Wrong> {
     let (kind, rest) = headed(words);
     let (first, rest) = headed(rest);
     match kind {
         "TypeError" => type_error(alloc, first, rest),
         "WrongNumArguments" => wrong_count(alloc, first, rest),
         "FailedExtensionFunctionExecution" => failed_execution(alloc, first, rest),
-        _ => Err(Fail::from("no such error")),
+        _ => Err(Wrong("no such error")),
     }
 }
 
-fn type_error(alloc: Global, actual: &str, expected: &str) -> Result<EvaluationError, Fail> {
+fn type_error(alloc: Global, actual: &str, expected: &str) -> Result<EvaluationError, Wrong> {
     let expected = types(alloc, expected)?;
     let actual = named_type(alloc, actual)?;
     Ok(EvaluationError::from(TypeError {
@@ -32,7 +32,7 @@ fn type_error(alloc: Global, actual: &str, expected: &str) -> Result<EvaluationE
     }))
 }
 
-fn types(alloc: Global, written: &str) -> Result<FirstRest<Type>, Fail> {
+fn types(alloc: Global, written: &str) -> Result<FirstRest<Type>, Wrong> {
     let (first, others) = match written.split_once(',') {
         Some((first, others)) => (first, Some(others)),
         None => (written, None),
@@ -49,9 +49,9 @@ fn types(alloc: Global, written: &str) -> Result<FirstRest<Type>, Fail> {
     })
 }
 
-fn wrong_count(alloc: Global, function: &str, counts: &str) -> Result<EvaluationError, Fail> {
+fn wrong_count(alloc: Global, function: &str, counts: &str) -> Result<EvaluationError, Wrong> {
     let (expected, actual) = headed(counts);
-    let (expected, actual) = (expected.parse::<usize>()?, actual.parse::<usize>()?);
+    let (expected, actual) = (number(expected)?, number(actual)?);
     let function_name = name(alloc, function)?;
     let error = WrongNumArgumentsError {
         function_name,
@@ -62,7 +62,7 @@ fn wrong_count(alloc: Global, function: &str, counts: &str) -> Result<Evaluation
     Ok(EvaluationError::from(error))
 }
 
-fn failed_execution(alloc: Global, extension: &str, says: &str) -> Result<EvaluationError, Fail> {
+fn failed_execution(alloc: Global, extension: &str, says: &str) -> Result<EvaluationError, Wrong> {
     let msg = String::from_str(alloc, text(alloc, says)?.as_str())?;
     let extension_name = name(alloc, extension)?;
     let error = ExtensionFunctionExecutionError {

@@ -12,10 +12,10 @@ use cedar_layers::expressions::{Expr, Literal};
 use cedar_layers::policies::{Annotations, Effect, Policy, PolicyID};
 use std::alloc::{AllocError, Global};
 use std::rc::Rc;
-use std::test::Fail;
+use crate::Wrong;
 
 /// The policies of these ids, in order.
-pub fn policies(alloc: Global, setting: &str, ids: &str) -> Result<Vec<Policy>, Fail> {
+pub fn policies(alloc: Global, setting: &str, ids: &str) -> Result<Vec<Policy>, Wrong> {
     let mut policies: Vec<Policy> = Vec::new(alloc);
     for id in ids.split(' ') {
         let policy = policy(alloc, setting, id)?;
@@ -25,11 +25,11 @@ pub fn policies(alloc: Global, setting: &str, ids: &str) -> Result<Vec<Policy>, 
 }
 
 /// The policy of this id.
-pub fn policy(alloc: Global, setting: &str, id: &str) -> Result<Policy, Fail> {
+pub fn policy(alloc: Global, setting: &str, id: &str) -> Result<Policy, Wrong> {
     match stated(setting, "clause", id) {
         Some(rest) => clause(alloc, setting, id, rest),
         None => {
-            let rest = stated(setting, "policy", id).ok_or("no such policy")?;
+            let rest = stated(setting, "policy", id).ok_or(Wrong("no such policy"))?;
             of_parts(alloc, setting, id, rest)
         }
     }
@@ -44,7 +44,7 @@ fn stated<'a>(setting: &'a str, keyword: &str, id: &str) -> Option<&'a str> {
     None
 }
 
-fn clause(alloc: Global, setting: &str, id: &str, stated: &str) -> Result<Policy, Fail> {
+fn clause(alloc: Global, setting: &str, id: &str, stated: &str) -> Result<Policy, Wrong> {
     let (effect_name, rest) = headed(stated);
     let (ends, words) = headed(rest);
     let (effect, place) = (effect(effect_name)?, place(ends)?);
@@ -54,7 +54,7 @@ fn clause(alloc: Global, setting: &str, id: &str, stated: &str) -> Result<Policy
     Ok(Policy::from_when_clause_annos(alloc, effect, clause, id, place, annotations)?)
 }
 
-fn of_parts(alloc: Global, setting: &str, id: &str, stated: &str) -> Result<Policy, Fail> {
+fn of_parts(alloc: Global, setting: &str, id: &str, stated: &str) -> Result<Policy, Wrong> {
     let (effect_name, words) = headed(stated);
     let effect = effect(effect_name)?;
     let annotations = annotations(alloc, setting, id)?;
@@ -77,7 +77,7 @@ fn of_parts(alloc: Global, setting: &str, id: &str, stated: &str) -> Result<Poli
 }
 
 // The constraints on the principal, the action and the resource, if they are written, and the when clause.
-fn conjuncts(alloc: Global, words: &str) -> Result<Parts<Expr>, Fail> {
+fn conjuncts(alloc: Global, words: &str) -> Result<Parts<Expr>, Wrong> {
     let mut parts: Parts<Expr> = Parts::new(alloc);
     for part in words.split(" | ") {
         read(alloc, part, &mut parts)?;
@@ -85,7 +85,7 @@ fn conjuncts(alloc: Global, words: &str) -> Result<Parts<Expr>, Fail> {
     Ok(parts)
 }
 
-fn read(alloc: Global, words: &str, parts: &mut Parts<Expr>) -> Result<(), Fail> {
+fn read(alloc: Global, words: &str, parts: &mut Parts<Expr>) -> Result<(), Wrong> {
     let expr = expression(alloc, words)?;
     Ok(parts.push(expr)?)
 }
@@ -95,7 +95,7 @@ fn part(parts: &mut Parts<Expr>) -> Expr {
     parts.pop(Expr::val(Literal::Bool(true)))
 }
 
-fn annotations(alloc: Global, setting: &str, id: &str) -> Result<Annotations, Fail> {
+fn annotations(alloc: Global, setting: &str, id: &str) -> Result<Annotations, Wrong> {
     let mut annotations = Annotations::new(alloc);
     for line in setting.lines() {
         if let Some(rest) = fact_of(line, "annotation", id) {
@@ -112,10 +112,10 @@ fn policy_id(alloc: Global, id: &str) -> Result<PolicyID, AllocError> {
     Ok(PolicyID::from_string(text(alloc, id)?))
 }
 
-fn effect(word: &str) -> Result<Effect, Fail> {
+fn effect(word: &str) -> Result<Effect, Wrong> {
     match word {
         "permit" => Ok(Effect::Permit),
         "forbid" => Ok(Effect::Forbid),
-        _ => Err(Fail::from("no such effect")),
+        _ => Err(Wrong("no such effect")),
     }
 }

@@ -22,7 +22,7 @@ use cedar_layers::policies::{Entities, Entity};
 use std::alloc::{AllocError, Global};
 use std::collections::{BTreeMap, HashSet};
 use std::rc::RcStr;
-use std::test::Fail;
+use crate::Wrong;
 
 /// Values and unknowns under their names, as an entity has them.
 #[derive(Drop)]
@@ -58,25 +58,27 @@ impl StoredParts {
 
 /// What rows are answered in.
 #[derive(Drop)]
-pub struct Setting {
+pub struct Setting<'a> {
+    pub facts: &'a str,
     pub request: Request,
     pub slots: SlotEnv,
     pub entities: Entities,
 }
 
 /// The setting of these facts.
-pub fn setting_of(alloc: Global, facts: &str) -> Result<Setting, Fail> {
+pub fn setting_of(alloc: Global, facts: &str) -> Result<Setting<'_>, Wrong> {
     let slots = slots(alloc, facts)?;
     let request = request(alloc, facts)?;
     let entities = stored(alloc, facts)?;
     Ok(Setting {
+        facts,
         request,
         slots,
         entities,
     })
 }
 
-fn request(alloc: Global, setting: &str) -> Result<Request, Fail> {
+fn request(alloc: Global, setting: &str) -> Result<Request, Wrong> {
     let principal = entry(alloc, setting, "principal")?;
     let action = entry(alloc, setting, "action")?;
     let resource = entry(alloc, setting, "resource")?;
@@ -84,13 +86,13 @@ fn request(alloc: Global, setting: &str) -> Result<Request, Fail> {
 }
 
 // The entity that stands for this variable, and its place.
-fn entry(alloc: Global, setting: &str, variable: &str) -> Result<(EntityUID, Option<Loc>), Fail> {
-    let (name, ends) = headed(first_fact(setting, variable).ok_or("no such entity")?);
+fn entry(alloc: Global, setting: &str, variable: &str) -> Result<(EntityUID, Option<Loc>), Wrong> {
+    let (name, ends) = headed(first_fact(setting, variable).ok_or(Wrong("no such entity"))?);
     Ok((uid(alloc, name)?, place(ends)?))
 }
 
 /// The entities of the slots that are linked.
-pub fn slots(alloc: Global, setting: &str) -> Result<SlotEnv, Fail> {
+pub fn slots(alloc: Global, setting: &str) -> Result<SlotEnv, Wrong> {
     let mut slots = SlotEnv::new(alloc);
     for line in setting.lines() {
         if let Some(rest) = fact(line, "slot") {
@@ -101,13 +103,13 @@ pub fn slots(alloc: Global, setting: &str) -> Result<SlotEnv, Fail> {
     Ok(slots)
 }
 
-fn stored(alloc: Global, setting: &str) -> Result<Entities, Fail> {
+fn stored(alloc: Global, setting: &str) -> Result<Entities, Wrong> {
     let is_partial = first_fact(setting, "store") == Some("partial");
     let entities = entities(alloc, setting)?;
     Ok(Entities::with(alloc, entities, is_partial)?)
 }
 
-fn entities(alloc: Global, setting: &str) -> Result<Vec<Entity>, Fail> {
+fn entities(alloc: Global, setting: &str) -> Result<Vec<Entity>, Wrong> {
     let mut entities: Vec<Entity> = Vec::new(alloc);
     for line in setting.lines() {
         if let Some(rest) = fact(line, "entity") {
@@ -118,7 +120,7 @@ fn entities(alloc: Global, setting: &str) -> Result<Vec<Entity>, Fail> {
 }
 
 // The entity that is declared so.
-fn entity(alloc: Global, setting: &str, declared: &str) -> Result<Entity, Fail> {
+fn entity(alloc: Global, setting: &str, declared: &str) -> Result<Entity, Wrong> {
     let (name, called) = headed(declared);
     let called = if called.is_empty() { name } else { called };
     let ancestors = ancestors(alloc, setting, called)?;
@@ -127,7 +129,7 @@ fn entity(alloc: Global, setting: &str, declared: &str) -> Result<Entity, Fail> 
     Ok(Entity::new(uid(alloc, name)?, attributes.parts, ancestors, tags.parts))
 }
 
-fn ancestors(alloc: Global, setting: &str, called: &str) -> Result<HashSet<EntityUID>, Fail> {
+fn ancestors(alloc: Global, setting: &str, called: &str) -> Result<HashSet<EntityUID>, Wrong> {
     let mut ancestors: HashSet<EntityUID> = HashSet::new(alloc);
     for line in setting.lines() {
         if let Some(above) = fact_of(line, "ancestor", called) {
@@ -143,7 +145,7 @@ fn parts_of(
     setting: &str,
     keyword: &str,
     called: &str,
-) -> Result<StoredParts, Fail> {
+) -> Result<StoredParts, Wrong> {
     let mut parts = StoredParts::new(alloc);
     for line in setting.lines() {
         if let Some(rest) = fact_of(line, keyword, called) {
@@ -153,7 +155,7 @@ fn parts_of(
     Ok(parts)
 }
 
-fn with_part(alloc: Global, parts: StoredParts, named: &str) -> Result<StoredParts, Fail> {
+fn with_part(alloc: Global, parts: StoredParts, named: &str) -> Result<StoredParts, Wrong> {
     let (name, words) = headed(named);
     let name = text(alloc, name)?;
     match words.strip_prefix("U:") {

@@ -5,7 +5,7 @@ use cedar_layers::expressions::{
 };
 use std::alloc::{AllocError, Global};
 use std::rc::{Rc, RcStr};
-use std::test::Fail;
+use crate::Wrong;
 
 const UNARY: [(&str, UnaryOp); 3] = [
     ("not", UnaryOp::Not),
@@ -51,30 +51,45 @@ pub fn binary(word: &str) -> Option<BinaryOp> {
 }
 
 /// The variable of this name.
-pub fn variable(word: &str) -> Result<Var, Fail> {
-    Ok(found(&VARIABLES, word).ok_or("no such variable")?)
+pub fn variable(word: &str) -> Result<Var, Wrong> {
+    Ok(found(&VARIABLES, word).ok_or(Wrong("no such variable"))?)
 }
 
 /// The slot of this name.
-pub fn slot(word: &str) -> Result<SlotId, Fail> {
-    Ok(found(&SLOTS, word).ok_or("no such slot")?)
+pub fn slot(word: &str) -> Result<SlotId, Wrong> {
+    Ok(found(&SLOTS, word).ok_or(Wrong("no such slot"))?)
 }
 
 /// The place with these ends, as `1-2`; the empty text and `-` are no place.
-pub fn place(text: &str) -> Result<Option<Loc>, Fail> {
+pub fn place(text: &str) -> Result<Option<Loc>, Wrong> {
     if text == "-" {
         return Ok(None);
     }
     match text.split_once('-') {
         Some((start, end)) => {
-            let (start, end) = (start.parse::<usize>()?, end.parse::<usize>()?);
+            let (start, end) = (number(start)?, number(end)?);
             Ok(Some(Loc { start, end }))
         }
         None => if text.is_empty() {
             Ok(None)
         } else {
-            Err(Fail::from("a place has two ends"))
+            Err(Wrong("a place has two ends"))
         },
+    }
+}
+
+/// The number that is written so.
+pub fn number(written: &str) -> Result<usize, Wrong> {
+    match written.parse::<usize>() {
+        Ok(number) => Ok(number),
+        Err(_) => Err(Wrong("no number")),
+    }
+}
+
+fn long(written: &str) -> Result<i64, Wrong> {
+    match written.parse::<i64>() {
+        Ok(number) => Ok(number),
+        Err(_) => Err(Wrong("no long")),
     }
 }
 
@@ -85,7 +100,7 @@ pub fn text(alloc: Global, written: &str) -> Result<RcStr, AllocError> {
 }
 
 /// The name, written with its place behind `@` where it has one.
-pub fn name(alloc: Global, written: &str) -> Result<Name, Fail> {
+pub fn name(alloc: Global, written: &str) -> Result<Name, Wrong> {
     match written.split_once('@') {
         Some((name, ends)) => Ok(Name::new(text(alloc, name)?, place(ends)?)),
         None => Ok(Name::new(text(alloc, written)?, None)),
@@ -93,37 +108,37 @@ pub fn name(alloc: Global, written: &str) -> Result<Name, Fail> {
 }
 
 /// The type of entities of this name.
-pub fn entity_type(alloc: Global, written: &str) -> Result<EntityType, Fail> {
+pub fn entity_type(alloc: Global, written: &str) -> Result<EntityType, Wrong> {
     Ok(EntityType::new(name(alloc, written)?))
 }
 
 /// The name of an entity, written as its type, a colon and its id.
-pub fn uid(alloc: Global, written: &str) -> Result<EntityUID, Fail> {
+pub fn uid(alloc: Global, written: &str) -> Result<EntityUID, Wrong> {
     let (ty, id) = written
         .rsplit_once(':')
-        .ok_or("an entity has a type and an id")?;
+        .ok_or(Wrong("an entity has a type and an id"))?;
     let ty = entity_type(alloc, ty)?;
     Ok(EntityUID::new(ty, text(alloc, id)?, None))
 }
 
 /// The literal of this kind: `B`, `L`, `T` or `E`.
-pub fn literal(alloc: Global, kind: &str, written: &str) -> Result<Literal, Fail> {
+pub fn literal(alloc: Global, kind: &str, written: &str) -> Result<Literal, Wrong> {
     match kind {
-        "B" => Ok(Literal::Bool(written.parse::<bool>()?)),
-        "L" => Ok(Literal::Long(written.parse::<i64>()?)),
+        "B" => Ok(Literal::Bool(written == "true")),
+        "L" => Ok(Literal::Long(long(written)?)),
         "T" => Ok(Literal::String(text(alloc, written)?)),
         "E" => entity(alloc, written),
-        _ => Err(Fail::from("a kind of word that there is not")),
+        _ => Err(Wrong("a kind of word that there is not")),
     }
 }
 
-fn entity(alloc: Global, written: &str) -> Result<Literal, Fail> {
+fn entity(alloc: Global, written: &str) -> Result<Literal, Wrong> {
     let uid = uid(alloc, written)?;
     Ok(Literal::EntityUID(Rc::new(alloc, uid)?))
 }
 
 /// The type, as `Long`, `Entity:User` or `Extension:ipaddr`.
-pub fn named_type(alloc: Global, written: &str) -> Result<Type, Fail> {
+pub fn named_type(alloc: Global, written: &str) -> Result<Type, Wrong> {
     match written.split_once(':') {
         Some(("Entity", ty)) => Ok(Type::Entity {
             ty: entity_type(alloc, ty)?,
@@ -131,8 +146,8 @@ pub fn named_type(alloc: Global, written: &str) -> Result<Type, Fail> {
         Some(("Extension", name_of)) => Ok(Type::Extension {
             name: name(alloc, name_of)?,
         }),
-        Some(_) => Err(Fail::from("no such type")),
-        None => Ok(plain_type(written).ok_or("no such type")?),
+        Some(_) => Err(Wrong("no such type")),
+        None => Ok(plain_type(written).ok_or(Wrong("no such type"))?),
     }
 }
 
@@ -148,7 +163,7 @@ fn plain_type(written: &str) -> Option<Type> {
 }
 
 /// The unknown of this name, as `x`, or with the type that it should have, as `x:Long`.
-pub fn unknown(alloc: Global, written: &str) -> Result<Unknown, Fail> {
+pub fn unknown(alloc: Global, written: &str) -> Result<Unknown, Wrong> {
     match written.split_once(':') {
         Some((name, ty)) => {
             let ty = named_type(alloc, ty)?;

@@ -1,37 +1,10 @@
-//! The lines and statuses of the program.
-use crate::{NOT_WRITTEN, OUT_OF_MEMORY, run};
+//! Writers that fail.
+use cedar_lines::{NOT_WRITTEN, OUT_OF_MEMORY, run};
 use cedar_values::extensions::Extensions;
-use std::alloc::{AllocError, Global};
+use std::alloc::Global;
 use std::io;
 use std::io::Write;
 use std::test::Fail;
-
-/// The status, and the lines with `;` behind each, of a run with these arguments. `none` is no argument, and `''` an
-/// empty one.
-pub fn answer(alloc: Global, written: &str) -> Result<String, Fail> {
-    let arguments = arguments(alloc, written)?;
-    let mut out: Vec<u8> = Vec::new(alloc);
-    let status = run(alloc, &arguments, &Extensions::none(), &mut out);
-    answered(alloc, status, out.as_slice())
-}
-
-fn arguments(alloc: Global, written: &str) -> Result<Vec<String>, AllocError> {
-    let mut arguments: Vec<String> = Vec::new(alloc);
-    for word in written.split(' ') {
-        match word {
-            "none" => {}
-            "''" => arguments.push(String::new(alloc))?,
-            _ => arguments.push(String::from_str(alloc, word)?)?,
-        }
-    }
-    Ok(arguments)
-}
-
-fn answered(alloc: Global, status: u8, out: &[u8]) -> Result<String, Fail> {
-    let text = str::from_utf8(out)?;
-    let lines = text.replace(alloc, '\n', ";")?;
-    Ok(format!(in alloc; "{status} {lines}")?)
-}
 
 /// A writer that takes so many writes and then fails in this way.
 #[derive(Drop)]

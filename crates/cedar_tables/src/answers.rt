@@ -8,31 +8,30 @@
 //! - of the ids of policies: `decide LIMIT`, `decide-texts LIMIT` (the errors' own texts), `decide-copy LIMIT` (whether a copy
 //!   is equal), `evaluate LIMIT`, `set`, `set-debug`, `policy` and `condition`;
 //! - of the setting: `request` and `entity`;
-//! - of the arguments of the program: `run`.
+//! - of the arguments of the program `cedar_rows`: `run`.
 pub mod described;
 mod evaluated;
 mod judged;
 mod operated;
+mod program;
 mod stored;
 mod written;
 
-use super::program;
-use super::reader::headed;
-use super::reader::settings::Setting;
+use crate::reader::headed;
+use crate::reader::settings::Setting;
 use cedar_layers::expressions::Loc;
 use std::alloc::Global;
 use std::fmt;
-use std::test::Fail;
+use crate::Wrong;
 
-/// What is answered to these words, where the answer that is wanted is this one. The facts are those of the setting.
+/// What is answered to these words, where the answer that is wanted is this one.
 pub fn answer(
     alloc: Global,
-    facts: &str,
-    setting: &Setting,
+    setting: &Setting<'_>,
     question: &str,
     words: &str,
     want: &str,
-) -> Result<String, Fail> {
+) -> Result<String, Wrong> {
     let (kind, argument) = headed(question);
     match kind {
         "value" | "place" | "error" => evaluated::answer(alloc, setting, kind, argument, words),
@@ -41,11 +40,11 @@ pub fn answer(
         "operator" => operated::answer(alloc, argument, words),
         "built-error" => operated::built_error(alloc, argument, words),
         "decide" | "decide-texts" | "decide-copy" | "evaluate" => judged::answer(
-            alloc, facts, setting, kind, argument, words,
+            alloc, setting, kind, argument, words,
         ),
-        "set" | "set-debug" | "policy" | "condition" => judged::listed(alloc, facts, kind, words),
-        "request" | "entity" => stored::answer(alloc, setting, kind, words),
+        "set" | "set-debug" | "policy" | "condition" => judged::listed(alloc, setting, kind, words),
         "run" => program::answer(alloc, words),
+        "request" | "entity" => stored::answer(alloc, setting, kind, words),
         _ => written::other(alloc, kind, argument, words),
     }
 }

@@ -2,41 +2,40 @@
 use super::Place;
 use super::described::described;
 use super::evaluated::{limit, or_fail};
-use crate::lines::{decision_text, joined, reasons_text};
-use crate::tests::reader::policies::{policies, policy};
-use crate::tests::reader::settings::Setting;
+use cedar_lines::lines::{decision_text, joined, reasons_text};
+use crate::reader::policies::{policies, policy};
+use crate::reader::settings::Setting;
 use cedar_authorizer::authorizer::{AuthorizationError, Authorizer, Response};
 use cedar_evaluator::evaluator::{EvaluationError, Evaluator};
 use cedar_layers::expressions::{Expr, ExprKind};
 use cedar_layers::policies::{Effect, Policy, PolicySet};
 use cedar_values::extensions::Extensions;
 use std::alloc::{AllocError, Global};
-use std::test::Fail;
+use crate::Wrong;
 
 /// What the policies decide for the request, or what the condition of the one policy comes out as.
 pub fn answer(
     alloc: Global,
-    facts: &str,
-    setting: &Setting,
+    setting: &Setting<'_>,
     kind: &str,
     limit_text: &str,
     ids: &str,
-) -> Result<String, Fail> {
+) -> Result<String, Wrong> {
     let limit = limit(limit_text)?;
     if kind == "evaluate" {
-        let policy = policy(alloc, facts, ids)?;
+        let policy = policy(alloc, setting.facts, ids)?;
         return or_fail(truth_text(alloc, &evaluated(alloc, setting, limit, &policy)));
     }
-    let policies = PolicySet::try_from_iter(alloc, policies(alloc, facts, ids)?)?;
+    let policies = set_of(alloc, policies(alloc, setting.facts, ids)?)?;
     or_fail(decided(alloc, setting, kind, limit, &policies))
 }
 
 /// What the set of the policies holds, or the one policy, or its condition.
-pub fn listed(alloc: Global, facts: &str, kind: &str, ids: &str) -> Result<String, Fail> {
+pub fn listed(alloc: Global, setting: &Setting<'_>, kind: &str, ids: &str) -> Result<String, Wrong> {
     if kind == "set" || kind == "set-debug" {
-        return or_fail(set_text(alloc, kind, policies(alloc, facts, ids)?));
+        return or_fail(set_text(alloc, kind, policies(alloc, setting.facts, ids)?));
     }
-    let policy = policy(alloc, facts, ids)?;
+    let policy = policy(alloc, setting.facts, ids)?;
     if kind == "policy" {
         or_fail(policy_text(alloc, &policy))
     } else {
@@ -46,7 +45,7 @@ pub fn listed(alloc: Global, facts: &str, kind: &str, ids: &str) -> Result<Strin
 
 fn decided(
     alloc: Global,
-    setting: &Setting,
+    setting: &Setting<'_>,
     kind: &str,
     limit: usize,
     policies: &PolicySet,
@@ -62,6 +61,13 @@ fn decided(
     }
 }
 
+fn set_of(alloc: Global, policies: Vec<Policy>) -> Result<PolicySet, Wrong> {
+    match PolicySet::try_from_iter(alloc, policies) {
+        Ok(set) => Ok(set),
+        Err(_) => Err(Wrong("no set of policies")),
+    }
+}
+
 // Whether a copy of the response is equal to it.
 fn copy_text(alloc: Global, response: &Response) -> Result<String, AllocError> {
     let copy = response.clone()?;
@@ -74,7 +80,7 @@ fn truth(alloc: Global, is_true: bool) -> Result<String, AllocError> {
 
 fn evaluated(
     alloc: Global,
-    setting: &Setting,
+    setting: &Setting<'_>,
     limit: usize,
     policy: &Policy,
 ) -> Result<bool, EvaluationError> {

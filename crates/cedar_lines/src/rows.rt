@@ -1,7 +1,7 @@
 //! The built-in rows: their policies and requests.
 ghost use Rattle.std.specs.Prelude.{◌≡◌, None, IfOk};
 ghost use Rattle.cedar_layers.specs.Policies.{policy_view, policy_id_text, first_repeated};
-ghost use Rattle.cedar_rows.specs.Ids.{ids_of, skipped_permit_ids, skipped_forbid_ids, forbidden_ids};
+ghost use Rattle.cedar_lines.specs.Ids.{ids_of, skipped_permit_ids, skipped_forbid_ids, forbidden_ids};
 
 use cedar_evaluator::request::{Context, Request};
 use cedar_layers::expressions::{

@@ -12,7 +12,7 @@ use leaves::text;
 use std::alloc::{AllocError, Global};
 use std::collections::BTreeMap;
 use std::rc::RcStr;
-use std::test::Fail;
+use crate::Wrong;
 
 /// The fact of this keyword that the line states, if it states one.
 pub fn fact<'a>(line: &'a str, keyword: &str) -> Option<&'a str> {
@@ -101,24 +101,24 @@ impl<T: Drop> Parts<T> {
     }
 
     /// The parts, in their order.
-    pub fn all(self) -> Result<Vec<T>, Fail> {
+    pub fn all(self) -> Result<Vec<T>, Wrong> {
         if self.lacks_one {
-            Err(Fail::from("a part is missing"))
+            Err(Wrong("a part is missing"))
         } else {
             Ok(self.parts)
         }
     }
 
     /// The only part.
-    pub fn only(self) -> Result<T, Fail> {
+    pub fn only(self) -> Result<T, Wrong> {
         let mut parts = self.all()?;
         match parts.pop() {
             Some(part) => if parts.is_empty() {
                 Ok(part)
             } else {
-                Err(Fail::from("more than one part is left"))
+                Err(Wrong("more than one part is left"))
             },
-            None => Err(Fail::from("no part is left")),
+            None => Err(Wrong("no part is left")),
         }
     }
 }

@@ -1,7 +1,7 @@
 //! The line of a row.
 ghost use Rattle.std.specs.Prelude.{◌≡◌, None};
 ghost use Rattle.cedar_layers.specs.Policies.{first_repeated};
-ghost use Rattle.cedar_rows.specs.Ids.{ids_of};
+ghost use Rattle.cedar_lines.specs.Ids.{ids_of};
 
 use crate::rows::{Row, request};
 use cedar_authorizer::authorizer::{AuthorizationError, Authorizer, Decision, Response};

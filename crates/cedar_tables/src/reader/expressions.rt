@@ -6,16 +6,16 @@
 //! - `set:3` takes three parts, `record:k,l` and `fields:k,l` a part for each key, and `call:f:2` two arguments; `call:f@1-2:2` has its name at a place.
 //! - `@1-2` puts the part before it at this place.
 use super::leaves::{
-    attributes, binary, entity_type, literal, name, pattern, place, slot, text, unary, unknown,
+    attributes, binary, entity_type, literal, name, number, pattern, place, slot, text, unary, unknown,
     variable,
 };
 use super::{Parts, mapped};
 use cedar_layers::expressions::{Expr, Literal};
 use std::alloc::Global;
-use std::test::Fail;
+use crate::Wrong;
 
 /// The expression that these words write.
-pub fn expression(alloc: Global, words: &str) -> Result<Expr, Fail> {
+pub fn expression(alloc: Global, words: &str) -> Result<Expr, Wrong> {
     let mut parts: Parts<Expr> = Parts::new(alloc);
     for word in words.split(' ') {
         read(alloc, word, &mut parts)?;
@@ -23,7 +23,7 @@ pub fn expression(alloc: Global, words: &str) -> Result<Expr, Fail> {
     parts.only()
 }
 
-fn read(alloc: Global, word: &str, parts: &mut Parts<Expr>) -> Result<(), Fail> {
+fn read(alloc: Global, word: &str, parts: &mut Parts<Expr>) -> Result<(), Wrong> {
     let expr = part(alloc, word, parts)?;
     Ok(parts.push(expr)?)
 }
@@ -33,7 +33,7 @@ fn popped(parts: &mut Parts<Expr>) -> Expr {
 }
 
 // The part that the word makes of those before it: an operation, a leaf, a list, or a word on the part before it.
-fn part(alloc: Global, word: &str, parts: &mut Parts<Expr>) -> Result<Expr, Fail> {
+fn part(alloc: Global, word: &str, parts: &mut Parts<Expr>) -> Result<Expr, Wrong> {
     if let Some(ends) = word.strip_prefix('@') {
         let place = place(ends)?;
         return Ok(popped(parts).with_maybe_source_loc(place));
@@ -43,7 +43,7 @@ fn part(alloc: Global, word: &str, parts: &mut Parts<Expr>) -> Result<Expr, Fail
         Some(("S", rest)) => Ok(Expr::slot(slot(rest)?)),
         Some(("U", rest)) => Ok(Expr::unknown(unknown(alloc, rest)?)),
         Some(("set", rest)) => listed(alloc, rest, parts),
-        Some(("record", keys)) => Ok(Expr::record(alloc, parts.named(alloc, keys)?)?),
+        Some(("record", keys)) => record(alloc, keys, parts),
         Some(("fields", keys)) => {
             let map = mapped(alloc, parts.named(alloc, keys)?)?;
             Ok(Expr::record_map(alloc, map)?)
@@ -54,22 +54,29 @@ fn part(alloc: Global, word: &str, parts: &mut Parts<Expr>) -> Result<Expr, Fail
     }
 }
 
-fn listed(alloc: Global, count: &str, parts: &mut Parts<Expr>) -> Result<Expr, Fail> {
-    let count = count.parse::<usize>()?;
+fn listed(alloc: Global, count: &str, parts: &mut Parts<Expr>) -> Result<Expr, Wrong> {
+    let count = number(count)?;
     Ok(Expr::set(alloc, parts.last(count)?)?)
 }
 
-fn call(alloc: Global, rest: &str, parts: &mut Parts<Expr>) -> Result<Expr, Fail> {
+fn record(alloc: Global, keys: &str, parts: &mut Parts<Expr>) -> Result<Expr, Wrong> {
+    match Expr::record(alloc, parts.named(alloc, keys)?) {
+        Ok(expr) => Ok(expr),
+        Err(_) => Err(Wrong("a record that can't be made")),
+    }
+}
+
+fn call(alloc: Global, rest: &str, parts: &mut Parts<Expr>) -> Result<Expr, Wrong> {
     let (function, count) = rest
         .rsplit_once(':')
-        .ok_or("a call has a name and a count")?;
-    let count = count.parse::<usize>()?;
+        .ok_or(Wrong("a call has a name and a count"))?;
+    let count = number(count)?;
     let function = name(alloc, function)?;
     Ok(Expr::call_extension_fn(alloc, function, parts.last(count)?)?)
 }
 
 // A word on the part before it, and else a literal.
-fn on_one(alloc: Global, kind: &str, rest: &str, parts: &mut Parts<Expr>) -> Result<Expr, Fail> {
+fn on_one(alloc: Global, kind: &str, rest: &str, parts: &mut Parts<Expr>) -> Result<Expr, Wrong> {
     match kind {
         "get" => {
             let attribute = text(alloc, rest)?;
@@ -96,7 +103,7 @@ fn on_one(alloc: Global, kind: &str, rest: &str, parts: &mut Parts<Expr>) -> Res
 }
 
 // A word alone: an operation on the parts before it.
-fn operation(alloc: Global, word: &str, parts: &mut Parts<Expr>) -> Result<Expr, Fail> {
+fn operation(alloc: Global, word: &str, parts: &mut Parts<Expr>) -> Result<Expr, Wrong> {
     let right = popped(parts);
     if let Some(op) = unary(word) {
         return Ok(Expr::unary_app(alloc, op, right)?);
@@ -109,6 +116,6 @@ fn operation(alloc: Global, word: &str, parts: &mut Parts<Expr>) -> Result<Expr,
         "and" => Ok(Expr::and(alloc, left, right)?),
         "or" => Ok(Expr::or(alloc, left, right)?),
         "if" => Ok(Expr::ite(alloc, popped(parts), left, right)?),
-        _ => Err(Fail::from("no such operation")),
+        _ => Err(Wrong("no such operation")),
     }
 }

@@ -1,11 +1,11 @@
 //! Expressions, values and leaves as they are printed, copied and changed.
 use super::Place;
-use crate::tests::reader::expressions::expression;
-use crate::tests::reader::headed;
-use crate::tests::reader::leaves::{
-    binary, entity_type, name, named_type, slot, uid, unary, unknown, variable,
+use crate::reader::expressions::expression;
+use crate::reader::headed;
+use crate::reader::leaves::{
+    binary, entity_type, name, named_type, number, slot, uid, unary, unknown, variable,
 };
-use crate::tests::reader::values::{value, values};
+use crate::reader::values::{value, values};
 use cedar_layers::expressions::{
     BoundedDisplay, Expr, ExpressionConstructionError, Literal, Loc, PartialValue, ResidualExpr,
     Value, ValueKind,
@@ -15,15 +15,15 @@ use std::cmp::Ordering;
 use std::collections::HashMap;
 use std::fmt;
 use std::rc::RcStr;
-use std::test::Fail;
+use crate::Wrong;
 
 /// The text of the expression, under a bound, of a copy with its place, or what it is like.
-pub fn answer(alloc: Global, kind: &str, bound: &str, words: &str) -> Result<String, Fail> {
+pub fn answer(alloc: Global, kind: &str, bound: &str, words: &str) -> Result<String, Wrong> {
     let expr = expression(alloc, words)?;
     of_expression(alloc, kind, bound, &expr)
 }
 
-fn of_expression(alloc: Global, kind: &str, bound: &str, expr: &Expr) -> Result<String, Fail> {
+fn of_expression(alloc: Global, kind: &str, bound: &str, expr: &Expr) -> Result<String, Wrong> {
     match kind {
         "text" => Ok(expr.to_string(alloc)?),
         "cut" => cut(alloc, expr, bound),
@@ -33,15 +33,17 @@ fn of_expression(alloc: Global, kind: &str, bound: &str, expr: &Expr) -> Result<
 }
 
 // The text under the bound.
-fn cut<T: BoundedDisplay>(alloc: Global, shown: &T, bound: &str) -> Result<String, Fail> {
+fn cut<T: BoundedDisplay>(alloc: Global, shown: &T, bound: &str) -> Result<String, Wrong> {
     let bound = if bound == "all" {
         None
     } else {
-        Some(bound.parse::<usize>()?)
+        Some(number(bound)?)
     };
     let mut text = String::new(alloc);
-    BoundedDisplay::fmt(shown, &mut text, bound)?;
-    Ok(text)
+    match BoundedDisplay::fmt(shown, &mut text, bound) {
+        Ok(()) => Ok(text),
+        Err(_) => Err(Wrong("out of memory")),
+    }
 }
 
 fn copy_text(alloc: Global, expr: &Expr) -> Result<String, AllocError> {
@@ -68,7 +70,7 @@ fn shape_text(alloc: Global, expr: &Expr) -> Result<String, AllocError> {
 
 /// The words that are wanted, where the expression that they write is the one that substitution answers, else the text of that one.
 /// The map has a value at the first word, or nothing.
-pub fn substituted(alloc: Global, map: &str, words: &str, want: &str) -> Result<String, Fail> {
+pub fn substituted(alloc: Global, map: &str, words: &str, want: &str) -> Result<String, Wrong> {
     let map = mapping(alloc, map)?;
     substituted_by(alloc, &map, words, want)
 }
@@ -78,21 +80,21 @@ fn substituted_by(
     map: &HashMap<RcStr, Value>,
     words: &str,
     want: &str,
-) -> Result<String, Fail> {
+) -> Result<String, Wrong> {
     let expr = expression(alloc, words)?;
     match expr.substitute(alloc, map) {
         Ok(replaced) => wanted_or_text(alloc, &replaced, want),
-        Err(_) => Err(Fail::from("out of memory")),
+        Err(_) => Err(Wrong("out of memory")),
     }
 }
 
-fn wanted_or_text(alloc: Global, replaced: &Expr, want: &str) -> Result<String, Fail> {
+fn wanted_or_text(alloc: Global, replaced: &Expr, want: &str) -> Result<String, Wrong> {
     let wanted = expression(alloc, want)?;
     shown_or(alloc, replaced, wanted == *replaced, want)
 }
 
 // What is wanted, where it is met, and else the text of the expression.
-fn shown_or(alloc: Global, expr: &Expr, is_met: bool, want: &str) -> Result<String, Fail> {
+fn shown_or(alloc: Global, expr: &Expr, is_met: bool, want: &str) -> Result<String, Wrong> {
     if is_met {
         Ok(String::from_str(alloc, want)?)
     } else {
@@ -100,7 +102,7 @@ fn shown_or(alloc: Global, expr: &Expr, is_met: bool, want: &str) -> Result<Stri
     }
 }
 
-fn mapping(alloc: Global, written: &str) -> Result<HashMap<RcStr, Value>, Fail> {
+fn mapping(alloc: Global, written: &str) -> Result<HashMap<RcStr, Value>, Wrong> {
     let mut map: HashMap<RcStr, Value> = HashMap::new(alloc);
     if !written.is_empty() {
         let (name, words) = headed(written);
@@ -110,7 +112,7 @@ fn mapping(alloc: Global, written: &str) -> Result<HashMap<RcStr, Value>, Fail> 
 }
 
 /// The text of a value, of a partial value or of a leaf.
-pub fn other(alloc: Global, kind: &str, bound: &str, words: &str) -> Result<String, Fail> {
+pub fn other(alloc: Global, kind: &str, bound: &str, words: &str) -> Result<String, Wrong> {
     match kind {
         "leaf" => leaf(alloc, words),
         "equal" => equal(alloc, words),
@@ -127,7 +129,7 @@ pub fn other(alloc: Global, kind: &str, bound: &str, words: &str) -> Result<Stri
     }
 }
 
-fn of_part(alloc: Global, kind: &str, bound: &str, part: &PartialValue) -> Result<String, Fail> {
+fn of_part(alloc: Global, kind: &str, bound: &str, part: &PartialValue) -> Result<String, Wrong> {
     match kind {
         "part-text" => Ok(part.to_string(alloc)?),
         "part-cut" => cut(alloc, part, bound),
@@ -147,36 +149,36 @@ fn value_expression(alloc: Global, value: &Value) -> Result<String, AllocError> 
 }
 
 // Whether the two expressions are equal.
-fn equal(alloc: Global, words: &str) -> Result<String, Fail> {
-    let (left, right) = words.split_once(" ~ ").ok_or("equality is of two")?;
+fn equal(alloc: Global, words: &str) -> Result<String, Wrong> {
+    let (left, right) = words.split_once(" ~ ").ok_or(Wrong("equality is of two"))?;
     let left = expression(alloc, left)?;
     equal_to(alloc, &left, right)
 }
 
 // Whether the expression equals the one of these words, in either order.
-fn equal_to(alloc: Global, left: &Expr, words: &str) -> Result<String, Fail> {
+fn equal_to(alloc: Global, left: &Expr, words: &str) -> Result<String, Wrong> {
     let right = expression(alloc, words)?;
     truths(alloc, *left == right, right == *left)
 }
 
-fn truths(alloc: Global, is_equal: bool, is_equal_turned: bool) -> Result<String, Fail> {
+fn truths(alloc: Global, is_equal: bool, is_equal_turned: bool) -> Result<String, Wrong> {
     if is_equal == is_equal_turned {
         Ok(is_equal.to_string(alloc)?)
     } else {
-        Err(Fail::from("equality has no order"))
+        Err(Wrong("equality has no order"))
     }
 }
 
 // How the first value stands to the second one, and whether they are equal.
-fn ordered(alloc: Global, words: &str) -> Result<String, Fail> {
+fn ordered(alloc: Global, words: &str) -> Result<String, Wrong> {
     let values = values(alloc, words)?;
     match values.as_slice() {
         [left, right] => order_text(alloc, left.cmp(right), left == right),
-        _ => Err(Fail::from("an order is of two")),
+        _ => Err(Wrong("an order is of two")),
     }
 }
 
-fn order_text(alloc: Global, order: Ordering, is_equal: bool) -> Result<String, Fail> {
+fn order_text(alloc: Global, order: Ordering, is_equal: bool) -> Result<String, Wrong> {
     Ok(format!(in alloc; "{order:?}, equal {is_equal}")?)
 }
 
@@ -205,7 +207,7 @@ fn error_in_context(
     Ok(text)
 }
 
-fn of_value(alloc: Global, kind: &str, bound: &str, value: &Value) -> Result<String, Fail> {
+fn of_value(alloc: Global, kind: &str, bound: &str, value: &Value) -> Result<String, Wrong> {
     match kind {
         "value-text" => Ok(value.to_string(alloc)?),
         "value-cut" => cut(alloc, value, bound),
@@ -213,7 +215,7 @@ fn of_value(alloc: Global, kind: &str, bound: &str, value: &Value) -> Result<Str
         "value-expression" => Ok(value_expression(alloc, value)?),
         "value-copy" => Ok(value_copy(alloc, value)?),
         "value-elements" => Ok(elements_text(alloc, value)?),
-        _ => Err(Fail::from("no such question")),
+        _ => Err(Wrong("no such question")),
     }
 }
 
@@ -239,7 +241,7 @@ fn put_element(alloc: Global, text: &mut String, element: &Value) -> Result<(), 
 }
 
 // The value that the words write, or the unknown.
-fn partial(alloc: Global, words: &str) -> Result<PartialValue, Fail> {
+fn partial(alloc: Global, words: &str) -> Result<PartialValue, Wrong> {
     match words.strip_prefix("U:") {
         Some(rest) => {
             let unknown = unknown(alloc, rest)?;
@@ -254,8 +256,8 @@ fn part_copy(alloc: Global, part: &PartialValue) -> Result<String, AllocError> {
     same_text(alloc, &copy, part, None)
 }
 
-fn leaf(alloc: Global, words: &str) -> Result<String, Fail> {
-    let (kind, rest) = words.split_once(':').ok_or("a leaf has a kind")?;
+fn leaf(alloc: Global, words: &str) -> Result<String, Wrong> {
+    let (kind, rest) = words.split_once(':').ok_or(Wrong("a leaf has a kind"))?;
     match kind {
         "name" => shown(alloc, name(alloc, rest)),
         "entity-type" => shown(alloc, entity_type(alloc, rest)),
@@ -265,21 +267,21 @@ fn leaf(alloc: Global, words: &str) -> Result<String, Fail> {
         "slot" => shown(alloc, slot(rest)),
         "unary" => shown(alloc, known(unary(rest))),
         "binary" => shown(alloc, known(binary(rest))),
-        _ => Err(Fail::from("no such leaf")),
+        _ => Err(Wrong("no such leaf")),
     }
 }
 
 // The text of what was read.
-fn shown<T: fmt::Display + Drop>(alloc: Global, read: Result<T, Fail>) -> Result<String, Fail> {
+fn shown<T: fmt::Display + Drop>(alloc: Global, read: Result<T, Wrong>) -> Result<String, Wrong> {
     match read {
         Ok(leaf) => Ok(leaf.to_string(alloc)?),
         Err(error) => Err(error),
     }
 }
 
-fn known<T: Drop>(leaf: Option<T>) -> Result<T, Fail> {
+fn known<T: Drop>(leaf: Option<T>) -> Result<T, Wrong> {
     match leaf {
         Some(leaf) => Ok(leaf),
-        None => Err(Fail::from("no such leaf")),
+        None => Err(Wrong("no such leaf")),
     }
 }

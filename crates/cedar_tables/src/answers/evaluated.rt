@@ -1,13 +1,14 @@
 //! What an expression evaluates to in the setting.
 use super::Place;
 use super::described::described;
-use crate::tests::reader::expressions::expression;
-use crate::tests::reader::settings::Setting;
+use crate::reader::expressions::expression;
+use crate::reader::leaves::number;
+use crate::reader::settings::Setting;
 use cedar_evaluator::evaluator::{EvaluationError, Evaluator};
 use cedar_layers::expressions::{Expr, Value};
 use cedar_values::extensions::Extensions;
 use std::alloc::{AllocError, Global};
-use std::test::Fail;
+use crate::Wrong;
 
 /// More levels than any expression of a row has.
 const LIMIT: usize = 1000;
@@ -15,18 +16,18 @@ const LIMIT: usize = 1000;
 /// What the expression evaluates to: its value or its error, the place of either, or the error's own text.
 pub fn answer(
     alloc: Global,
-    setting: &Setting,
+    setting: &Setting<'_>,
     kind: &str,
     limit_text: &str,
     words: &str,
-) -> Result<String, Fail> {
+) -> Result<String, Wrong> {
     let limit = limit(limit_text)?;
     let expr = expression(alloc, words)?;
     or_fail(asked(alloc, kind, &outcome(alloc, setting, limit, &expr)))
 }
 
 /// The text, or that memory was wanting.
-pub fn or_fail(text: Result<String, AllocError>) -> Result<String, Fail> {
+pub fn or_fail(text: Result<String, AllocError>) -> Result<String, Wrong> {
     Ok(text?)
 }
 
@@ -43,17 +44,17 @@ fn asked(
 }
 
 /// The limit that is written so.
-pub fn limit(written: &str) -> Result<usize, Fail> {
+pub fn limit(written: &str) -> Result<usize, Wrong> {
     if written.is_empty() {
         Ok(LIMIT)
     } else {
-        Ok(written.parse::<usize>()?)
+        number(written)
     }
 }
 
 fn outcome(
     alloc: Global,
-    setting: &Setting,
+    setting: &Setting<'_>,
     limit: usize,
     expr: &Expr,
 ) -> Result<Value, EvaluationError> {

@@ -1,23 +1,23 @@
 //! What a request and a store hold.
 use super::Place;
-use crate::tests::reader::leaves::uid;
-use crate::tests::reader::settings::Setting;
+use crate::reader::leaves::uid;
+use crate::reader::settings::Setting;
 use cedar_evaluator::request::{Context, EntityUIDEntry, Request};
 use cedar_layers::expressions::{EntityUID, PartialValue, Unknown};
 use cedar_layers::policies::{Dereference, Entity};
 use std::alloc::{AllocError, Global};
 use std::rc::RcStr;
-use std::test::Fail;
+use crate::Wrong;
 
 /// The part of the request of this name, or what the store has of the entity of this name.
-pub fn answer(alloc: Global, setting: &Setting, kind: &str, name: &str) -> Result<String, Fail> {
+pub fn answer(alloc: Global, setting: &Setting<'_>, kind: &str, name: &str) -> Result<String, Wrong> {
     match kind {
         "request" => asked(alloc, &setting.request, name),
         _ => Ok(found(alloc, setting, &uid(alloc, name)?)?),
     }
 }
 
-fn asked(alloc: Global, request: &Request, name: &str) -> Result<String, Fail> {
+fn asked(alloc: Global, request: &Request, name: &str) -> Result<String, Wrong> {
     match name {
         "principal" => Ok(entry_text(alloc, request.principal())?),
         "action" => Ok(entry_text(alloc, request.action())?),
@@ -49,7 +49,7 @@ fn context_text(alloc: Global, context: &Context) -> Result<String, AllocError> 
     )
 }
 
-fn found(alloc: Global, setting: &Setting, uid: &EntityUID) -> Result<String, AllocError> {
+fn found(alloc: Global, setting: &Setting<'_>, uid: &EntityUID) -> Result<String, AllocError> {
     match setting.entities.entity(alloc, uid)? {
         Dereference::NoSuchEntity => String::from_str(alloc, "no such entity"),
         Dereference::Residual(unknown) => unknown_text(alloc, &unknown),

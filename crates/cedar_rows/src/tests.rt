@@ -1,5 +1,0 @@
-//! What no clause says: the printed lines, the statuses, and that calls succeed where there is memory.
-mod answers;
-mod program;
-pub mod reader;
-mod table;

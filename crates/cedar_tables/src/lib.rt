@@ -1,0 +1,78 @@
+//! Tables of tests, which are texts with a row a line. A row has words, ` => ` and the answer that is wanted. A line `ask QUESTION` says what is
+//! asked of the rows below it, and `answers` which questions there are; before the first one it is what expressions evaluate to. A line that begins
+//! with `#` is a title. Each table is answered in a setting, which is such a text of facts too: `reader::settings` says which.
+#![tactic(auto)]
+
+mod answers;
+mod reader;
+
+use answers::answer;
+use reader::fact;
+use reader::settings::{Setting, setting_of};
+use std::alloc::{AllocError, AllocFailed, Global};
+
+/// Why a table was not answered: what is wrong with its text or its setting, or `out of memory`.
+#[derive(Debug, Clone, Copy)]
+pub struct Wrong(pub &'static str);
+
+impl From<AllocError> for Wrong {
+    fn from(_error: AllocError) -> Wrong {
+        Wrong("out of memory")
+    }
+}
+
+impl<T: Drop> From<AllocFailed<T>> for Wrong {
+    fn from(_error: AllocFailed<T>) -> Wrong {
+        Wrong("out of memory")
+    }
+}
+
+/// The rows of these tables that have another answer than the wanted one in the setting of these facts, each as the line
+/// `QUESTION: WORDS => ANSWER, not WANTED`.
+pub fn differences(alloc: Global, facts: &str, tables: &[&str]) -> Result<String, Wrong> {
+    let setting = setting_of(alloc, facts)?;
+    let mut differences = String::new(alloc);
+    for rows in tables {
+        compare(alloc, &setting, *rows, &mut differences)?;
+    }
+    Ok(differences)
+}
+
+// Adds the rows of the table that have another answer.
+fn compare(
+    alloc: Global,
+    setting: &Setting<'_>,
+    rows: &str,
+    differences: &mut String,
+) -> Result<(), Wrong> {
+    let mut question = "value";
+    for line in rows.lines() {
+        match fact(line, "ask") {
+            Some(asked) => question = asked,
+            None => compare_line(alloc, setting, question, line, differences)?,
+        }
+    }
+    Ok(())
+}
+
+// Adds the line where it is a row that has another answer.
+fn compare_line(
+    alloc: Global,
+    setting: &Setting<'_>,
+    question: &str,
+    line: &str,
+    differences: &mut String,
+) -> Result<(), Wrong> {
+    if line.is_empty() || line.starts_with('#') {
+        return Ok(());
+    }
+    let (words, want) = line
+        .split_once(" => ")
+        .ok_or(Wrong("a row without an answer"))?;
+    let answer = answer(alloc, setting, question, words, want)?;
+    if answer.as_str() != want {
+        let difference = format!(in alloc; "{question}: {words} => {answer}, not {want}\n")?;
+        differences.push_str(difference.as_str())?;
+    }
+    Ok(())
+}
