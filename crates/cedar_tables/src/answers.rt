@@ -9,6 +9,7 @@
 //!   is equal), `evaluate LIMIT`, `set`, `set-debug`, `policy` and `condition`;
 //! - of the setting: `request` and `entity`;
 //! - of the arguments of the program `cedar_rows`: `run`.
+mod copied;
 pub mod described;
 mod evaluated;
 mod judged;

@@ -11,7 +11,7 @@ pub mod values;
 use leaves::text;
 use std::alloc::{AllocError, Global};
 use std::collections::BTreeMap;
-use std::rc::RcStr;
+use std::rc::{Rc, RcStr};
 use crate::Wrong;
 
 /// The fact of this keyword that the line states, if it states one.
@@ -100,6 +100,15 @@ impl<T: Drop> Parts<T> {
         Ok(pairs)
     }
 
+    /// That no part is left, and none was missing.
+    pub fn none(self) -> Result<(), Wrong> {
+        if self.all()?.is_empty() {
+            Ok(())
+        } else {
+            Err(Wrong("a part is left"))
+        }
+    }
+
     /// The parts, in their order.
     pub fn all(self) -> Result<Vec<T>, Wrong> {
         if self.lacks_one {
@@ -107,6 +116,12 @@ impl<T: Drop> Parts<T> {
         } else {
             Ok(self.parts)
         }
+    }
+
+    /// The only part, to be shared.
+    pub fn shared(self, alloc: Global) -> Result<Rc<T>, Wrong> {
+        let part = self.only()?;
+        Ok(Rc::new(alloc, part)?)
     }
 
     /// The only part.

@@ -1,6 +1,7 @@
 //! What an expression evaluates to in the setting.
 use super::Place;
 use super::described::described;
+use crate::Wrong;
 use crate::reader::expressions::expression;
 use crate::reader::leaves::number;
 use crate::reader::settings::Setting;
@@ -8,7 +9,8 @@ use cedar_evaluator::evaluator::{EvaluationError, Evaluator};
 use cedar_layers::expressions::{Expr, Value};
 use cedar_values::extensions::Extensions;
 use std::alloc::{AllocError, Global};
-use crate::Wrong;
+use std::fmt;
+use std::rc::Rc;
 
 /// More levels than any expression of a row has.
 const LIMIT: usize = 1000;
@@ -23,12 +25,8 @@ pub fn answer(
 ) -> Result<String, Wrong> {
     let limit = limit(limit_text)?;
     let expr = expression(alloc, words)?;
-    or_fail(asked(alloc, kind, &outcome(alloc, setting, limit, &expr)))
-}
-
-/// The text, or that memory was wanting.
-pub fn or_fail(text: Result<String, AllocError>) -> Result<String, Wrong> {
-    Ok(text?)
+    let outcome = Rc::new(alloc, outcome(alloc, setting, limit, expr.as_ref()))?;
+    Ok(asked(alloc, kind, outcome.as_ref())?)
 }
 
 fn asked(
@@ -64,10 +62,10 @@ fn outcome(
     evaluator.interpret(alloc, expr, &setting.slots)
 }
 
-/// The value, or the error with all its fields but the place.
-pub fn outcome_text(
+/// What came out, or the error with all its fields but the place.
+pub fn outcome_text<T: fmt::Display>(
     alloc: Global,
-    outcome: &Result<Value, EvaluationError>,
+    outcome: &Result<T, EvaluationError>,
 ) -> Result<String, AllocError> {
     match outcome {
         Ok(value) => value.to_string(alloc),

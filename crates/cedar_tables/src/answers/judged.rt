@@ -1,17 +1,19 @@
 //! What policies decide, and what a policy holds.
 use super::Place;
+use super::copied::{copied, shared};
 use super::described::described;
-use super::evaluated::{limit, or_fail};
-use cedar_lines::lines::{decision_text, joined, reasons_text};
-use crate::reader::policies::{policies, policy};
+use super::evaluated::{limit, outcome_text};
+use crate::Wrong;
+use crate::reader::policies::policies;
 use crate::reader::settings::Setting;
 use cedar_authorizer::authorizer::{AuthorizationError, Authorizer, Response};
 use cedar_evaluator::evaluator::{EvaluationError, Evaluator};
 use cedar_layers::expressions::{Expr, ExprKind};
 use cedar_layers::policies::{Effect, Policy, PolicySet};
+use cedar_lines::lines::{decision_text, joined, reasons_text};
 use cedar_values::extensions::Extensions;
 use std::alloc::{AllocError, Global};
-use crate::Wrong;
+use std::rc::Rc;
 
 /// What the policies decide for the request, or what the condition of the one policy comes out as.
 pub fn answer(
@@ -22,24 +24,28 @@ pub fn answer(
     ids: &str,
 ) -> Result<String, Wrong> {
     let limit = limit(limit_text)?;
+    let policies = policies(alloc, setting.facts, ids)?;
     if kind == "evaluate" {
-        let policy = policy(alloc, setting.facts, ids)?;
-        return or_fail(truth_text(alloc, &evaluated(alloc, setting, limit, &policy)));
+        let policy = policies.shared(alloc)?;
+        let outcome = Rc::new(alloc, evaluated(alloc, setting, limit, policy.as_ref()))?;
+        Ok(outcome_text(alloc, outcome.as_ref())?)
+    } else {
+        let policies = set_of(alloc, policies.all()?)?;
+        Ok(decided(alloc, setting, kind, limit, policies.as_ref())?)
     }
-    let policies = set_of(alloc, policies(alloc, setting.facts, ids)?)?;
-    or_fail(decided(alloc, setting, kind, limit, &policies))
 }
 
 /// What the set of the policies holds, or the one policy, or its condition.
 pub fn listed(alloc: Global, setting: &Setting<'_>, kind: &str, ids: &str) -> Result<String, Wrong> {
+    let policies = policies(alloc, setting.facts, ids)?;
     if kind == "set" || kind == "set-debug" {
-        return or_fail(set_text(alloc, kind, policies(alloc, setting.facts, ids)?));
+        return Ok(set_text(alloc, kind, policies.all()?)?);
     }
-    let policy = policy(alloc, setting.facts, ids)?;
+    let policy = policies.shared(alloc)?;
     if kind == "policy" {
-        or_fail(policy_text(alloc, &policy))
+        Ok(policy_text(alloc, policy.as_ref())?)
     } else {
-        or_fail(condition_text(alloc, &policy))
+        Ok(condition_text(alloc, policy.as_ref())?)
     }
 }
 
@@ -61,21 +67,18 @@ fn decided(
     }
 }
 
-fn set_of(alloc: Global, policies: Vec<Policy>) -> Result<PolicySet, Wrong> {
+fn set_of(alloc: Global, policies: Vec<Policy>) -> Result<Rc<PolicySet>, Wrong> {
     match PolicySet::try_from_iter(alloc, policies) {
-        Ok(set) => Ok(set),
+        Ok(set) => Ok(Rc::new(alloc, set)?),
         Err(_) => Err(Wrong("no set of policies")),
     }
 }
 
 // Whether a copy of the response is equal to it.
 fn copy_text(alloc: Global, response: &Response) -> Result<String, AllocError> {
-    let copy = response.clone()?;
-    truth(alloc, copy == *response)
-}
-
-fn truth(alloc: Global, is_true: bool) -> Result<String, AllocError> {
-    is_true.to_string(alloc)
+    let copy = copied(alloc, response)?;
+    let is_same = *copy.as_ref() == *response;
+    is_same.to_string(alloc)
 }
 
 fn evaluated(
@@ -88,16 +91,6 @@ fn evaluated(
     let request = setting.request.clone()?;
     let evaluator = Evaluator::new(alloc, request, &setting.entities, &extensions, limit)?;
     evaluator.evaluate(alloc, policy)
-}
-
-fn truth_text(
-    alloc: Global,
-    outcome: &Result<bool, EvaluationError>,
-) -> Result<String, AllocError> {
-    match outcome {
-        Ok(is_true) => is_true.to_string(alloc),
-        Err(error) => described(alloc, error),
-    }
 }
 
 // `Allow [reasons] [errors]`, with each error behind its policy, and its place; or the errors' own texts, of copies
@@ -124,7 +117,8 @@ fn error_line(alloc: Global, error: &AuthorizationError) -> Result<String, Alloc
 }
 
 fn copied_line(alloc: Global, error: &AuthorizationError) -> Result<String, AllocError> {
-    error.clone()?.to_string(alloc)
+    let copy = copied(alloc, error)?;
+    copy.as_ref().to_string(alloc)
 }
 
 // The ids with their effects, in order, or why there is no such set.
@@ -157,7 +151,7 @@ fn effect_text(effect: Effect) -> &'static str {
 
 // The effect, the id, the annotations and the slots of a copy of the policy.
 fn policy_text(alloc: Global, policy: &Policy) -> Result<String, AllocError> {
-    let copy = policy.clone()?;
+    let copy = copied(alloc, policy)?;
     let effect = effect_text(copy.effect());
     let annotations = &copy.annotations_rc().0;
     format!(in alloc; "{effect} {} {annotations:?} {:?}", copy.id(), copy.env())
@@ -165,8 +159,10 @@ fn policy_text(alloc: Global, policy: &Policy) -> Result<String, AllocError> {
 
 // The condition of a copy of the policy, where each of its conjunctions stands, and where the first constraint does.
 fn condition_text(alloc: Global, policy: &Policy) -> Result<String, AllocError> {
-    let condition = policy.clone()?.condition(alloc)?;
-    let both = left_of(&condition);
+    let copy = copied(alloc, policy)?;
+    let condition = shared(alloc, copy.condition(alloc))?;
+    let condition = condition.as_ref();
+    let both = left_of(condition);
     let scope = left_of(both);
     let first = left_of(scope);
     format!(in alloc;

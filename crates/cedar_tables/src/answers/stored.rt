@@ -1,5 +1,6 @@
 //! What a request and a store hold.
 use super::Place;
+use super::copied::shared;
 use crate::reader::leaves::uid;
 use crate::reader::settings::Setting;
 use cedar_evaluator::request::{Context, EntityUIDEntry, Request};
@@ -31,7 +32,8 @@ fn asked(alloc: Global, request: &Request, name: &str) -> Result<String, Wrong> 
 
 // The entity, the value that stands for it, and where that stands.
 fn entry_text(alloc: Global, entry: &EntityUIDEntry) -> Result<String, AllocError> {
-    let value = entry.evaluate(alloc)?;
+    let value = shared(alloc, entry.evaluate(alloc))?;
+    let value = value.as_ref();
     let place = Place(value.source_loc());
     match entry.uid() {
         Some(uid) => format!(in alloc; "{uid}, {value} {place}"),

@@ -1,29 +1,26 @@
 //! Expressions, values and leaves as they are printed, copied and changed.
-use super::Place;
+use super::copied::{copy_text, shared, text_of};
+use crate::Wrong;
 use crate::reader::expressions::expression;
 use crate::reader::headed;
 use crate::reader::leaves::{
     binary, entity_type, name, named_type, number, slot, uid, unary, unknown, variable,
 };
-use crate::reader::values::{value, values};
+use crate::reader::values::{shared_value, value, values};
 use cedar_layers::expressions::{
-    BoundedDisplay, Expr, ExpressionConstructionError, Literal, Loc, PartialValue, ResidualExpr,
-    Value, ValueKind,
+    BoundedDisplay, Expr, ExpressionConstructionError, Literal, PartialValue, ResidualExpr, Value,
+    ValueKind,
 };
 use std::alloc::{AllocError, Global};
 use std::cmp::Ordering;
 use std::collections::HashMap;
 use std::fmt;
-use std::rc::RcStr;
-use crate::Wrong;
+use std::rc::{Rc, RcStr};
 
 /// The text of the expression, under a bound, of a copy with its place, or what it is like.
 pub fn answer(alloc: Global, kind: &str, bound: &str, words: &str) -> Result<String, Wrong> {
     let expr = expression(alloc, words)?;
-    of_expression(alloc, kind, bound, &expr)
-}
-
-fn of_expression(alloc: Global, kind: &str, bound: &str, expr: &Expr) -> Result<String, Wrong> {
+    let expr = expr.as_ref();
     match kind {
         "text" => Ok(expr.to_string(alloc)?),
         "cut" => cut(alloc, expr, bound),
@@ -46,22 +43,6 @@ fn cut<T: BoundedDisplay>(alloc: Global, shown: &T, bound: &str) -> Result<Strin
     }
 }
 
-fn copy_text(alloc: Global, expr: &Expr) -> Result<String, AllocError> {
-    let copy = expr.clone()?;
-    same_text(alloc, &copy, expr, copy.source_loc())
-}
-
-/// The copy, where it stands, and whether it is equal to what it was made from.
-pub fn same_text<T: fmt::Display + PartialEq>(
-    alloc: Global,
-    copy: &T,
-    original: &T,
-    place: Option<&Loc>,
-) -> Result<String, AllocError> {
-    let is_same = copy == original;
-    format!(in alloc; "{copy}, {}, the same {is_same}", Place(place))
-}
-
 fn shape_text(alloc: Global, expr: &Expr) -> Result<String, AllocError> {
     let has_unknown = expr.has_unknown();
     let is_projectable = expr.is_projectable();
@@ -71,43 +52,37 @@ fn shape_text(alloc: Global, expr: &Expr) -> Result<String, AllocError> {
 /// The words that are wanted, where the expression that they write is the one that substitution answers, else the text of that one.
 /// The map has a value at the first word, or nothing.
 pub fn substituted(alloc: Global, map: &str, words: &str, want: &str) -> Result<String, Wrong> {
-    let map = mapping(alloc, map)?;
-    substituted_by(alloc, &map, words, want)
+    let map = Rc::new(alloc, mapping(alloc, map)?)?;
+    let replaced = replaced(alloc, map.as_ref(), words)?;
+    let wanted = expression(alloc, want)?;
+    if *wanted.as_ref() == *replaced.as_ref() {
+        Ok(String::from_str(alloc, want)?)
+    } else {
+        Ok(replaced.as_ref().to_string(alloc)?)
+    }
 }
 
-fn substituted_by(
-    alloc: Global,
-    map: &HashMap<RcStr, Value>,
-    words: &str,
-    want: &str,
-) -> Result<String, Wrong> {
+fn replaced(alloc: Global, map: &HashMap<RcStr, Value>, words: &str) -> Result<Rc<Expr>, Wrong> {
     let expr = expression(alloc, words)?;
     match expr.substitute(alloc, map) {
-        Ok(replaced) => wanted_or_text(alloc, &replaced, want),
+        Ok(replaced) => Ok(Rc::new(alloc, replaced)?),
         Err(_) => Err(Wrong("out of memory")),
     }
 }
 
-fn wanted_or_text(alloc: Global, replaced: &Expr, want: &str) -> Result<String, Wrong> {
-    let wanted = expression(alloc, want)?;
-    shown_or(alloc, replaced, wanted == *replaced, want)
-}
-
-// What is wanted, where it is met, and else the text of the expression.
-fn shown_or(alloc: Global, expr: &Expr, is_met: bool, want: &str) -> Result<String, Wrong> {
-    if is_met {
-        Ok(String::from_str(alloc, want)?)
-    } else {
-        Ok(expr.to_string(alloc)?)
-    }
-}
-
 fn mapping(alloc: Global, written: &str) -> Result<HashMap<RcStr, Value>, Wrong> {
-    let mut map: HashMap<RcStr, Value> = HashMap::new(alloc);
-    if !written.is_empty() {
-        let (name, words) = headed(written);
-        map.insert(RcStr::from_str(alloc, name)?, value(alloc, words)?)?;
+    if written.is_empty() {
+        return Ok(HashMap::new(alloc));
     }
+    let (name, words) = headed(written);
+    let name = RcStr::from_str(alloc, name)?;
+    Ok(alone(alloc, name, value(alloc, words)?)?)
+}
+
+// The map that has this at the name, and nothing else.
+fn alone<T: Drop>(alloc: Global, name: RcStr, held: T) -> Result<HashMap<RcStr, T>, AllocError> {
+    let mut map: HashMap<RcStr, T> = HashMap::new(alloc);
+    map.insert(name, held)?;
     Ok(map)
 }
 
@@ -118,47 +93,36 @@ pub fn other(alloc: Global, kind: &str, bound: &str, words: &str) -> Result<Stri
         "equal" => equal(alloc, words),
         "keys" => Ok(keyed(alloc, words)?),
         "order" => ordered(alloc, words),
-        "part-text" | "part-cut" | "part-copy" | "part-expression" => {
-            let part = partial(alloc, words)?;
-            of_part(alloc, kind, bound, &part)
-        }
-        _ => {
-            let value = value(alloc, words)?;
-            of_value(alloc, kind, bound, &value)
-        }
+        "part-text" | "part-cut" | "part-copy" | "part-expression" => of_part(
+            alloc, kind, bound, words,
+        ),
+        _ => of_value(alloc, kind, bound, words),
     }
 }
 
-fn of_part(alloc: Global, kind: &str, bound: &str, part: &PartialValue) -> Result<String, Wrong> {
+fn of_part(alloc: Global, kind: &str, bound: &str, words: &str) -> Result<String, Wrong> {
+    let part = partial(alloc, words)?;
+    let part = part.as_ref();
     match kind {
         "part-text" => Ok(part.to_string(alloc)?),
         "part-cut" => cut(alloc, part, bound),
-        "part-copy" => Ok(part_copy(alloc, part)?),
-        _ => Ok(part_expression(alloc, part)?),
+        "part-copy" => Ok(copy_text(alloc, part)?),
+        _ => Ok(text_of(alloc, part.as_expr(alloc))?),
     }
 }
 
-fn part_expression(alloc: Global, part: &PartialValue) -> Result<String, AllocError> {
-    let expr = part.as_expr(alloc)?;
-    expr.to_string(alloc)
-}
-
 fn value_expression(alloc: Global, value: &Value) -> Result<String, AllocError> {
-    let expr = value.to_expr(alloc)?;
-    copy_text(alloc, &expr)
+    let expr = shared(alloc, value.to_expr(alloc))?;
+    copy_text(alloc, expr.as_ref())
 }
 
 // Whether the two expressions are equal.
 fn equal(alloc: Global, words: &str) -> Result<String, Wrong> {
     let (left, right) = words.split_once(" ~ ").ok_or(Wrong("equality is of two"))?;
     let left = expression(alloc, left)?;
-    equal_to(alloc, &left, right)
-}
-
-// Whether the expression equals the one of these words, in either order.
-fn equal_to(alloc: Global, left: &Expr, words: &str) -> Result<String, Wrong> {
-    let right = expression(alloc, words)?;
-    truths(alloc, *left == right, right == *left)
+    let right = expression(alloc, right)?;
+    let (left, right) = (left.as_ref(), right.as_ref());
+    truths(alloc, *left == *right, *right == *left)
 }
 
 fn truths(alloc: Global, is_equal: bool, is_equal_turned: bool) -> Result<String, Wrong> {
@@ -171,7 +135,7 @@ fn truths(alloc: Global, is_equal: bool, is_equal_turned: bool) -> Result<String
 
 // How the first value stands to the second one, and whether they are equal.
 fn ordered(alloc: Global, words: &str) -> Result<String, Wrong> {
-    let values = values(alloc, words)?;
+    let values = values(alloc, words)?.all()?;
     match values.as_slice() {
         [left, right] => order_text(alloc, left.cmp(right), left == right),
         _ => Err(Wrong("an order is of two")),
@@ -185,7 +149,7 @@ fn order_text(alloc: Global, order: Ordering, is_equal: bool) -> Result<String, 
 // The record of `true` under these keys, or the text of its error as it is and in another context.
 fn keyed(alloc: Global, keys: &str) -> Result<String, AllocError> {
     match Expr::record(alloc, true_under(alloc, keys)?) {
-        Ok(expr) => expr.to_string(alloc),
+        Ok(expr) => text_of(alloc, Ok(expr)),
         Err(error) => error_in_context(alloc, error),
     }
 }
@@ -203,25 +167,22 @@ fn error_in_context(
     error: ExpressionConstructionError,
 ) -> Result<String, AllocError> {
     let mut text = format!(in alloc; "{error}, ")?;
-    text.push_str(error.with_context("in a row").to_string(alloc)?.as_str())?;
+    text.push_str(text_of(alloc, Ok(error.with_context("in a row")))?.as_str())?;
     Ok(text)
 }
 
-fn of_value(alloc: Global, kind: &str, bound: &str, value: &Value) -> Result<String, Wrong> {
+fn of_value(alloc: Global, kind: &str, bound: &str, words: &str) -> Result<String, Wrong> {
+    let value = shared_value(alloc, words)?;
+    let value = value.as_ref();
     match kind {
         "value-text" => Ok(value.to_string(alloc)?),
         "value-cut" => cut(alloc, value, bound),
         "value-type" => Ok(value.type_of()?.to_string(alloc)?),
         "value-expression" => Ok(value_expression(alloc, value)?),
-        "value-copy" => Ok(value_copy(alloc, value)?),
+        "value-copy" => Ok(copy_text(alloc, value)?),
         "value-elements" => Ok(elements_text(alloc, value)?),
         _ => Err(Wrong("no such question")),
     }
-}
-
-fn value_copy(alloc: Global, value: &Value) -> Result<String, AllocError> {
-    let copy = value.clone()?;
-    same_text(alloc, &copy, value, copy.source_loc())
 }
 
 // The elements of a set, in order.
@@ -241,19 +202,18 @@ fn put_element(alloc: Global, text: &mut String, element: &Value) -> Result<(), 
 }
 
 // The value that the words write, or the unknown.
-fn partial(alloc: Global, words: &str) -> Result<PartialValue, Wrong> {
+fn partial(alloc: Global, words: &str) -> Result<Rc<PartialValue>, Wrong> {
     match words.strip_prefix("U:") {
         Some(rest) => {
             let unknown = unknown(alloc, rest)?;
-            Ok(PartialValue::Residual(ResidualExpr::new(Expr::unknown(unknown))))
+            let residual = ResidualExpr::new(Expr::unknown(unknown));
+            Ok(Rc::new(alloc, PartialValue::Residual(residual))?)
         }
-        None => Ok(PartialValue::Value(value(alloc, words)?)),
+        None => {
+            let value = value(alloc, words)?;
+            Ok(Rc::new(alloc, PartialValue::Value(value))?)
+        }
     }
-}
-
-fn part_copy(alloc: Global, part: &PartialValue) -> Result<String, AllocError> {
-    let copy = part.clone()?;
-    same_text(alloc, &copy, part, None)
 }
 
 fn leaf(alloc: Global, words: &str) -> Result<String, Wrong> {

@@ -3,15 +3,26 @@
 use super::headed;
 use super::leaves::{name, named_type, number, text};
 use cedar_evaluator::evaluator::EvaluationError;
-use cedar_layers::expressions::{FirstRest, Type};
+use cedar_layers::expressions::{FirstRest, Loc, Type};
 use cedar_values::evaluator::err::evaluation_errors::{
     ExtensionFunctionExecutionError, TypeError, WrongNumArgumentsError,
 };
 use std::alloc::Global;
+use std::rc::Rc;
 use crate::Wrong;
 
-/// The error that these words write, at no known place.
-pub fn error(alloc: Global, words: &str) -> Result<EvaluationError, Wrong> {
+/// The error that these words write, at this place.
+pub fn error(
+    alloc: Global,
+    words: &str,
+    place: Option<Loc>,
+) -> Result<Rc<EvaluationError>, Wrong> {
+    let error = unplaced(alloc, words)?;
+    Ok(Rc::new(alloc, error.with_maybe_source_loc(place))?)
+}
+
+// The error that these words write, at no known place.
+fn unplaced(alloc: Global, words: &str) -> Result<EvaluationError, Wrong> {
     let (kind, rest) = headed(words);
     let (first, rest) = headed(rest);
     match kind {

@@ -12,15 +12,22 @@ use super::leaves::{
 use super::{Parts, mapped};
 use cedar_layers::expressions::{Expr, Literal};
 use std::alloc::Global;
+use std::rc::Rc;
 use crate::Wrong;
 
 /// The expression that these words write.
-pub fn expression(alloc: Global, words: &str) -> Result<Expr, Wrong> {
+pub fn expression(alloc: Global, words: &str) -> Result<Rc<Expr>, Wrong> {
     let mut parts: Parts<Expr> = Parts::new(alloc);
+    read_into(alloc, words, &mut parts)?;
+    parts.shared(alloc)
+}
+
+/// Reads the expressions that these words write, and puts them behind the others.
+pub fn read_into(alloc: Global, words: &str, parts: &mut Parts<Expr>) -> Result<(), Wrong> {
     for word in words.split(' ') {
-        read(alloc, word, &mut parts)?;
+        read(alloc, word, parts)?;
     }
-    parts.only()
+    Ok(())
 }
 
 fn read(alloc: Global, word: &str, parts: &mut Parts<Expr>) -> Result<(), Wrong> {
@@ -104,18 +111,27 @@ fn on_one(alloc: Global, kind: &str, rest: &str, parts: &mut Parts<Expr>) -> Res
 
 // A word alone: an operation on the parts before it.
 fn operation(alloc: Global, word: &str, parts: &mut Parts<Expr>) -> Result<Expr, Wrong> {
-    let right = popped(parts);
     if let Some(op) = unary(word) {
-        return Ok(Expr::unary_app(alloc, op, right)?);
+        return Ok(Expr::unary_app(alloc, op, popped(parts))?);
     }
-    let left = popped(parts);
     if let Some(op) = binary(word) {
-        return Ok(Expr::binary_app(alloc, op, left, right)?);
+        let right = popped(parts);
+        return Ok(Expr::binary_app(alloc, op, popped(parts), right)?);
     }
     match word {
-        "and" => Ok(Expr::and(alloc, left, right)?),
-        "or" => Ok(Expr::or(alloc, left, right)?),
-        "if" => Ok(Expr::ite(alloc, popped(parts), left, right)?),
+        "and" => {
+            let right = popped(parts);
+            Ok(Expr::and(alloc, popped(parts), right)?)
+        }
+        "or" => {
+            let right = popped(parts);
+            Ok(Expr::or(alloc, popped(parts), right)?)
+        }
+        "if" => {
+            let right = popped(parts);
+            let left = popped(parts);
+            Ok(Expr::ite(alloc, popped(parts), left, right)?)
+        }
         _ => Err(Wrong("no such operation")),
     }
 }

@@ -4,7 +4,7 @@
 //! - `policy p permit WORDS | WORDS | WORDS | WORDS` has these constraints on the principal, the action and the resource, and this when clause.
 //! - `clause p forbid 3-5 WORDS` is a policy made from its when clause alone, at a place.
 //! - `annotation p key text` is an annotation of a policy.
-use super::expressions::expression;
+use super::expressions::{expression, read_into};
 use super::leaves::{place, text};
 use super::settings::{fact_of, slots};
 use super::{Parts, headed};
@@ -15,17 +15,25 @@ use std::rc::Rc;
 use crate::Wrong;
 
 /// The policies of these ids, in order.
-pub fn policies(alloc: Global, setting: &str, ids: &str) -> Result<Vec<Policy>, Wrong> {
-    let mut policies: Vec<Policy> = Vec::new(alloc);
+pub fn policies(alloc: Global, setting: &str, ids: &str) -> Result<Parts<Policy>, Wrong> {
+    let mut policies: Parts<Policy> = Parts::new(alloc);
     for id in ids.split(' ') {
-        let policy = policy(alloc, setting, id)?;
-        policies.push(policy)?;
+        read_policy(alloc, setting, id, &mut policies)?;
     }
     Ok(policies)
 }
 
-/// The policy of this id.
-pub fn policy(alloc: Global, setting: &str, id: &str) -> Result<Policy, Wrong> {
+fn read_policy(
+    alloc: Global,
+    setting: &str,
+    id: &str,
+    policies: &mut Parts<Policy>,
+) -> Result<(), Wrong> {
+    let policy = policy(alloc, setting, id)?;
+    Ok(policies.push(policy)?)
+}
+
+fn policy(alloc: Global, setting: &str, id: &str) -> Result<Policy, Wrong> {
     match stated(setting, "clause", id) {
         Some(rest) => clause(alloc, setting, id, rest),
         None => {
@@ -49,7 +57,7 @@ fn clause(alloc: Global, setting: &str, id: &str, stated: &str) -> Result<Policy
     let (ends, words) = headed(rest);
     let (effect, place) = (effect(effect_name)?, place(ends)?);
     let annotations = Rc::new(alloc, annotations(alloc, setting, id)?)?;
-    let clause = Rc::new(alloc, expression(alloc, words)?)?;
+    let clause = expression(alloc, words)?;
     let id = policy_id(alloc, id)?;
     Ok(Policy::from_when_clause_annos(alloc, effect, clause, id, place, annotations)?)
 }
@@ -80,14 +88,9 @@ fn of_parts(alloc: Global, setting: &str, id: &str, stated: &str) -> Result<Poli
 fn conjuncts(alloc: Global, words: &str) -> Result<Parts<Expr>, Wrong> {
     let mut parts: Parts<Expr> = Parts::new(alloc);
     for part in words.split(" | ") {
-        read(alloc, part, &mut parts)?;
+        read_into(alloc, part, &mut parts)?;
     }
     Ok(parts)
-}
-
-fn read(alloc: Global, words: &str, parts: &mut Parts<Expr>) -> Result<(), Wrong> {
-    let expr = expression(alloc, words)?;
-    Ok(parts.push(expr)?)
 }
 
 // The last part; a constraint that is not written is `true`.

@@ -8,7 +8,8 @@
 //! - `ancestor User:a Group:g`.
 //! - `policies` reads those on policies.
 ghost use Rattle.std.specs.Prelude.{◌≡◌, true};
-ghost use Rattle.cedar_layers.specs.Parts.{parts_view, are_restricted_parts};
+ghost use Rattle.cedar_data.specs.Residuals.{partial_view};
+ghost use Rattle.cedar_layers.specs.Parts.{parts_view, is_restricted_part, are_restricted_parts};
 ghost use mathlib.Core.Bool.{Bool-set};
 
 use super::leaves::{place, slot, text, uid, unknown};
@@ -16,7 +17,7 @@ use super::values::value;
 use super::{fact, first_fact, headed};
 use cedar_evaluator::request::{Context, Request};
 use cedar_layers::expressions::{
-    EntityUID, Expr, Loc, PartialValue, ResidualExpr, SlotEnv, Unknown, Value,
+    EntityUID, Expr, Loc, PartialValue, ResidualExpr, SlotEnv,
 };
 use cedar_layers::policies::{Entities, Entity};
 use std::alloc::{AllocError, Global};
@@ -38,20 +39,13 @@ impl StoredParts {
         }
     }
 
-    // The parts, and this value under its name.
+    // The parts, and this one under its name.
     #[tactic(auto, using(crate::proofs::StoredValues::restricted_insert))]
-    fn with(self, name: RcStr, value: Value) -> Result<StoredParts, AllocError> {
+    fn with(self, name: RcStr, part: PartialValue) -> Result<StoredParts, AllocError>
+        requires { is_restricted_part (partial_view part) ≡ true }
+    {
         let mut parts = self.parts;
-        parts.insert(name, PartialValue::Value(value))?;
-        Ok(StoredParts { parts })
-    }
-
-    // The parts, and this unknown under its name.
-    #[tactic(auto, using(crate::proofs::StoredValues::restricted_insert))]
-    fn with_unknown(self, name: RcStr, unknown: Unknown) -> Result<StoredParts, AllocError> {
-        let mut parts = self.parts;
-        let residual = ResidualExpr::new(Expr::unknown(unknown));
-        parts.insert(name, PartialValue::Residual(residual))?;
+        parts.insert(name, part)?;
         Ok(StoredParts { parts })
     }
 }
@@ -159,8 +153,14 @@ fn with_part(alloc: Global, parts: StoredParts, named: &str) -> Result<StoredPar
     let (name, words) = headed(named);
     let name = text(alloc, name)?;
     match words.strip_prefix("U:") {
-        Some(rest) => Ok(parts.with_unknown(name, unknown(alloc, rest)?)?),
-        None => Ok(parts.with(name, value(alloc, words)?)?),
+        Some(rest) => {
+            let residual = ResidualExpr::new(Expr::unknown(unknown(alloc, rest)?));
+            Ok(parts.with(name, PartialValue::Residual(residual))?)
+        }
+        None => {
+            let value = value(alloc, words)?;
+            Ok(parts.with(name, PartialValue::Value(value))?)
+        }
     }
 }
 

@@ -11,15 +11,16 @@ use crate::Wrong;
 
 /// The value that these words write.
 pub fn value(alloc: Global, words: &str) -> Result<Value, Wrong> {
-    read_all(alloc, words)?.only()
+    values(alloc, words)?.only()
+}
+
+/// The value that these words write, to be shared.
+pub fn shared_value(alloc: Global, words: &str) -> Result<Rc<Value>, Wrong> {
+    values(alloc, words)?.shared(alloc)
 }
 
 /// The values that these words write.
-pub fn values(alloc: Global, words: &str) -> Result<Vec<Value>, Wrong> {
-    read_all(alloc, words)?.all()
-}
-
-fn read_all(alloc: Global, words: &str) -> Result<Parts<Value>, Wrong> {
+pub fn values(alloc: Global, words: &str) -> Result<Parts<Value>, Wrong> {
     let mut parts: Parts<Value> = Parts::new(alloc);
     for word in words.split(' ') {
         read(alloc, word, &mut parts)?;
@@ -53,7 +54,8 @@ fn part(alloc: Global, word: &str, parts: &mut Parts<Value>) -> Result<Value, Wr
     }
 }
 
-fn popped(parts: &mut Parts<Value>) -> Value {
+/// The latest value.
+pub fn popped(parts: &mut Parts<Value>) -> Value {
     parts.pop(Value::from(Literal::Bool(false)))
 }
 
