@@ -18,12 +18,12 @@ mod program;
 mod stored;
 mod written;
 
+use crate::Wrong;
 use crate::reader::headed;
 use crate::reader::settings::Setting;
 use cedar_layers::expressions::Loc;
 use std::alloc::Global;
 use std::fmt;
-use crate::Wrong;
 
 /// What is answered to these words, where the answer that is wanted is this one.
 pub fn answer(

@@ -8,11 +8,12 @@ pub mod policies;
 pub mod settings;
 pub mod values;
 
+use crate::Wrong;
+use cedar_layers::expressions::FirstRest;
 use leaves::text;
 use std::alloc::{AllocError, Global};
 use std::collections::BTreeMap;
 use std::rc::{Rc, RcStr};
-use crate::Wrong;
 
 /// The fact of this keyword that the line states, if it states one.
 pub fn fact<'a>(line: &'a str, keyword: &str) -> Option<&'a str> {
@@ -98,6 +99,17 @@ impl<T: Drop> Parts<T> {
             }
         }
         Ok(pairs)
+    }
+
+    /// The parts, of which there must be one.
+    pub fn first_rest(self) -> Result<FirstRest<T>, Wrong> {
+        let mut rest = self.all()?;
+        if rest.is_empty() {
+            Err(Wrong("a part is missing"))
+        } else {
+            let first = rest.remove(0);
+            Ok(FirstRest { first, rest })
+        }
     }
 
     /// That no part is left, and none was missing.

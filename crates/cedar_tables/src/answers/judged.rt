@@ -36,7 +36,12 @@ pub fn answer(
 }
 
 /// What the set of the policies holds, or the one policy, or its condition.
-pub fn listed(alloc: Global, setting: &Setting<'_>, kind: &str, ids: &str) -> Result<String, Wrong> {
+pub fn listed(
+    alloc: Global,
+    setting: &Setting<'_>,
+    kind: &str,
+    ids: &str,
+) -> Result<String, Wrong> {
     let policies = policies(alloc, setting.facts, ids)?;
     if kind == "set" || kind == "set-debug" {
         return Ok(set_text(alloc, kind, policies.all()?)?);

@@ -1,6 +1,7 @@
 //! What a request and a store hold.
 use super::Place;
 use super::copied::shared;
+use crate::Wrong;
 use crate::reader::leaves::uid;
 use crate::reader::settings::Setting;
 use cedar_evaluator::request::{Context, EntityUIDEntry, Request};
@@ -8,10 +9,14 @@ use cedar_layers::expressions::{EntityUID, PartialValue, Unknown};
 use cedar_layers::policies::{Dereference, Entity};
 use std::alloc::{AllocError, Global};
 use std::rc::RcStr;
-use crate::Wrong;
 
 /// The part of the request of this name, or what the store has of the entity of this name.
-pub fn answer(alloc: Global, setting: &Setting<'_>, kind: &str, name: &str) -> Result<String, Wrong> {
+pub fn answer(
+    alloc: Global,
+    setting: &Setting<'_>,
+    kind: &str,
+    name: &str,
+) -> Result<String, Wrong> {
     match kind {
         "request" => asked(alloc, &setting.request, name),
         _ => Ok(found(alloc, setting, &uid(alloc, name)?)?),

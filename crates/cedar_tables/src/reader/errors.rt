@@ -1,7 +1,8 @@
 //! Reads errors of evaluation: `TypeError Bool Long,String` has the type that was given and those that were expected, `WrongNumArguments f 2 1` the
 //! function, the count that it takes and the count that it was given, `FailedExtensionFunctionExecution f text` the extension and what it says.
-use super::headed;
 use super::leaves::{name, named_type, number, text};
+use super::{Parts, headed};
+use crate::Wrong;
 use cedar_evaluator::evaluator::EvaluationError;
 use cedar_layers::expressions::{FirstRest, Loc, Type};
 use cedar_values::evaluator::err::evaluation_errors::{
@@ -9,14 +10,9 @@ use cedar_values::evaluator::err::evaluation_errors::{
 };
 use std::alloc::Global;
 use std::rc::Rc;
-use crate::Wrong;
 
 /// The error that these words write, at this place.
-pub fn error(
-    alloc: Global,
-    words: &str,
-    place: Option<Loc>,
-) -> Result<Rc<EvaluationError>, Wrong> {
+pub fn error(alloc: Global, words: &str, place: Option<Loc>) -> Result<Rc<EvaluationError>, Wrong> {
     let error = unplaced(alloc, words)?;
     Ok(Rc::new(alloc, error.with_maybe_source_loc(place))?)
 }
@@ -44,20 +40,11 @@ fn type_error(alloc: Global, actual: &str, expected: &str) -> Result<EvaluationE
 }
 
 fn types(alloc: Global, written: &str) -> Result<FirstRest<Type>, Wrong> {
-    let (first, others) = match written.split_once(',') {
-        Some((first, others)) => (first, Some(others)),
-        None => (written, None),
-    };
-    let mut rest: Vec<Type> = Vec::new(alloc);
-    if let Some(others) = others {
-        for other in others.split(',') {
-            rest.push(named_type(alloc, other)?)?;
-        }
+    let mut types: Parts<Type> = Parts::new(alloc);
+    for name in written.split(',') {
+        types.push(named_type(alloc, name)?)?;
     }
-    Ok(FirstRest {
-        first: named_type(alloc, first)?,
-        rest,
-    })
+    types.first_rest()
 }
 
 fn wrong_count(alloc: Global, function: &str, counts: &str) -> Result<EvaluationError, Wrong> {

@@ -6,14 +6,14 @@
 //! - `set:3` takes three parts, `record:k,l` and `fields:k,l` a part for each key, and `call:f:2` two arguments; `call:f@1-2:2` has its name at a place.
 //! - `@1-2` puts the part before it at this place.
 use super::leaves::{
-    attributes, binary, entity_type, literal, name, number, pattern, place, slot, text, unary, unknown,
-    variable,
+    attributes, binary, entity_type, literal, name, number, pattern, place, slot, text, unary,
+    unknown, variable,
 };
 use super::{Parts, mapped};
+use crate::Wrong;
 use cedar_layers::expressions::{Expr, Literal};
 use std::alloc::Global;
 use std::rc::Rc;
-use crate::Wrong;
 
 /// The expression that these words write.
 pub fn expression(alloc: Global, words: &str) -> Result<Rc<Expr>, Wrong> {

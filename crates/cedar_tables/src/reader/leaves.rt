@@ -1,11 +1,12 @@
 //! Reads leaves: places, texts, names, types, literals, patterns and operators.
+use super::Parts;
+use crate::Wrong;
 use cedar_layers::expressions::{
     BinaryOp, EntityType, EntityUID, FirstRest, Literal, Loc, Name, Pattern, PatternElem, SlotId,
     Type, UnaryOp, Unknown, Var,
 };
 use std::alloc::{AllocError, Global};
 use std::rc::{Rc, RcStr};
-use crate::Wrong;
 
 const UNARY: [(&str, UnaryOp); 3] = [
     ("not", UnaryOp::Not),
@@ -174,19 +175,12 @@ pub fn unknown(alloc: Global, written: &str) -> Result<Unknown, Wrong> {
 }
 
 /// The attributes of a path, as `k.l`.
-pub fn attributes(alloc: Global, written: &str) -> Result<FirstRest<RcStr>, AllocError> {
-    let (first, others) = match written.split_once('.') {
-        Some((first, others)) => (first, Some(others)),
-        None => (written, None),
-    };
-    let first = text(alloc, first)?;
-    let mut rest: Vec<RcStr> = Vec::new(alloc);
-    if let Some(others) = others {
-        for attribute in others.split('.') {
-            rest.push(text(alloc, attribute)?)?;
-        }
+pub fn attributes(alloc: Global, written: &str) -> Result<FirstRest<RcStr>, Wrong> {
+    let mut attributes: Parts<RcStr> = Parts::new(alloc);
+    for attribute in written.split('.') {
+        attributes.push(text(alloc, attribute)?)?;
     }
-    Ok(FirstRest { first, rest })
+    attributes.first_rest()
 }
 
 /// The pattern. A `\` goes before a character that stands for itself.

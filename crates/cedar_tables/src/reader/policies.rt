@@ -8,11 +8,11 @@ use super::expressions::{expression, read_into};
 use super::leaves::{place, text};
 use super::settings::{fact_of, slots};
 use super::{Parts, headed};
+use crate::Wrong;
 use cedar_layers::expressions::{Expr, Literal};
 use cedar_layers::policies::{Annotations, Effect, Policy, PolicyID};
 use std::alloc::{AllocError, Global};
 use std::rc::Rc;
-use crate::Wrong;
 
 /// The policies of these ids, in order.
 pub fn policies(alloc: Global, setting: &str, ids: &str) -> Result<Parts<Policy>, Wrong> {

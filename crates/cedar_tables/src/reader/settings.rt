@@ -15,15 +15,13 @@ ghost use mathlib.Core.Bool.{Bool-set};
 use super::leaves::{place, slot, text, uid, unknown};
 use super::values::value;
 use super::{fact, first_fact, headed};
+use crate::Wrong;
 use cedar_evaluator::request::{Context, Request};
-use cedar_layers::expressions::{
-    EntityUID, Expr, Loc, PartialValue, ResidualExpr, SlotEnv,
-};
+use cedar_layers::expressions::{EntityUID, Expr, Loc, PartialValue, ResidualExpr, SlotEnv};
 use cedar_layers::policies::{Entities, Entity};
 use std::alloc::{AllocError, Global};
 use std::collections::{BTreeMap, HashSet};
 use std::rc::RcStr;
-use crate::Wrong;
 
 /// Values and unknowns under their names, as an entity has them.
 #[derive(Drop)]

@@ -2,12 +2,12 @@
 //! this type that a function of the type's name makes of the text, which is its key.
 use super::leaves::{literal, name, number, place, text};
 use super::{Parts, mapped};
+use crate::Wrong;
 use cedar_layers::expressions::{
     Expr, ExtensionValue, Literal, Name, Representation, Value, ValueKind,
 };
 use std::alloc::{AllocError, Global};
 use std::rc::{Rc, RcStr};
-use crate::Wrong;
 
 /// The value that these words write.
 pub fn value(alloc: Global, words: &str) -> Result<Value, Wrong> {
