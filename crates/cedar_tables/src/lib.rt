@@ -10,6 +10,7 @@ use answers::answer;
 use reader::fact;
 use reader::settings::{Setting, setting_of};
 use std::alloc::{AllocError, AllocFailed, Global};
+use std::rc::RcStr;
 
 /// Why a table was not answered: what is wrong with its text or its setting, or `out of memory`.
 #[derive(Debug, Clone, Copy)]
@@ -28,7 +29,7 @@ impl<T: Drop> From<AllocFailed<T>> for Wrong {
 }
 
 /// The rows of these tables that have another answer than the wanted one in the setting of these facts, each as the line
-/// `QUESTION: WORDS => ANSWER, not WANTED`.
+/// `QUESTION: WORDS => ANSWER, not WANTED`. What is wrong with the words of a row stands there as its answer.
 pub fn differences(alloc: Global, facts: &str, tables: &[&str]) -> Result<String, Wrong> {
     let setting = setting_of(alloc, facts)?;
     let mut differences = String::new(alloc);
@@ -45,11 +46,11 @@ fn compare(
     rows: &str,
     differences: &mut String,
 ) -> Result<(), Wrong> {
-    let mut question = "value";
+    let mut question = RcStr::from_str(alloc, "value")?;
     for line in rows.lines() {
         match fact(line, "ask") {
-            Some(asked) => question = asked,
-            None => compare_line(alloc, setting, question, line, differences)?,
+            Some(asked) => question = RcStr::from_str(alloc, asked)?,
+            None => compare_line(alloc, setting, question.as_str(), line, differences)?,
         }
     }
     Ok(())
@@ -69,10 +70,26 @@ fn compare_line(
     let (words, want) = line
         .split_once(" => ")
         .ok_or(Wrong("a row without an answer"))?;
-    let answer = answer(alloc, setting, question, words, want)?;
-    if answer.as_str() != want {
-        let difference = format!(in alloc; "{question}: {words} => {answer}, not {want}\n")?;
-        differences.push_str(difference.as_str())?;
+    match answer(alloc, setting, question, words, want) {
+        Ok(answer) => if answer.as_str() == want {
+            Ok(())
+        } else {
+            note(differences, question, words, answer.as_str(), want)
+        },
+        Err(Wrong(why)) => note(differences, question, words, why, want),
+    }
+}
+
+// Adds the line of a row that is answered otherwise, or not at all.
+fn note(
+    differences: &mut String,
+    question: &str,
+    words: &str,
+    answer: &str,
+    want: &str,
+) -> Result<(), Wrong> {
+    for piece in [question, ": ", words, " => ", answer, ", not ", want, "\n"] {
+        differences.push_str(piece)?;
     }
     Ok(())
 }
