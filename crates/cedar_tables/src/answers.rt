@@ -18,10 +18,9 @@ mod program;
 mod stored;
 mod written;
 
-use crate::Wrong;
-use crate::reader::headed;
-use crate::reader::settings::Setting;
 use cedar_layers::expressions::Loc;
+use cedar_reader::settings::Setting;
+use cedar_reader::{Wrong, headed};
 use std::alloc::Global;
 use std::fmt;
 

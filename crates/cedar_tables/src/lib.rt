@@ -1,40 +1,24 @@
 //! Tables of tests, which are texts with a row a line. A row has words, ` => ` and the answer that is wanted. A line `ask QUESTION` says what is
 //! asked of the rows below it, and `answers` which questions there are; before the first one it is what expressions evaluate to. A line that begins
-//! with `#` is a title. Each table is answered in a setting, which is such a text of facts too: `reader::settings` says which.
+//! with `#` is a title. Each table is answered in a setting, which is such a text of facts too: `cedar_reader::settings` says which.
 #![tactic(auto)]
 
 mod answers;
-mod reader;
 
 use answers::answer;
-use reader::fact;
-use reader::settings::{Setting, setting_of};
-use std::alloc::{AllocError, AllocFailed, Global};
-use std::rc::RcStr;
-
-/// Why a table was not answered: what is wrong with its text or its setting, or `out of memory`.
-#[derive(Debug, Clone, Copy)]
-pub struct Wrong(pub &'static str);
-
-impl From<AllocError> for Wrong {
-    fn from(_error: AllocError) -> Wrong {
-        Wrong("out of memory")
-    }
-}
-
-impl<T: Drop> From<AllocFailed<T>> for Wrong {
-    fn from(_error: AllocFailed<T>) -> Wrong {
-        Wrong("out of memory")
-    }
-}
+pub use cedar_reader::Wrong;
+use cedar_reader::fact;
+use cedar_reader::settings::{Setting, setting_of};
+use std::alloc::Global;
+use std::rc::{Rc, RcStr};
 
 /// The rows of these tables that have another answer than the wanted one in the setting of these facts, each as the line
 /// `QUESTION: WORDS => ANSWER, not WANTED`. What is wrong with the words of a row stands there as its answer.
 pub fn differences(alloc: Global, facts: &str, tables: &[&str]) -> Result<String, Wrong> {
-    let setting = setting_of(alloc, facts)?;
+    let setting = Rc::new(alloc, setting_of(alloc, facts)?)?;
     let mut differences = String::new(alloc);
     for rows in tables {
-        compare(alloc, &setting, *rows, &mut differences)?;
+        compare(alloc, setting.as_ref(), *rows, &mut differences)?;
     }
     Ok(differences)
 }

@@ -1,12 +1,12 @@
 //! What an expression evaluates to in the setting.
 use super::Place;
 use super::described::described;
-use crate::Wrong;
-use crate::reader::expressions::expression;
-use crate::reader::leaves::number;
-use crate::reader::settings::Setting;
 use cedar_evaluator::evaluator::{EvaluationError, Evaluator};
 use cedar_layers::expressions::{Expr, Value};
+use cedar_reader::Wrong;
+use cedar_reader::expressions::expression;
+use cedar_reader::leaves::number;
+use cedar_reader::settings::Setting;
 use cedar_values::extensions::Extensions;
 use std::alloc::{AllocError, Global};
 use std::fmt;

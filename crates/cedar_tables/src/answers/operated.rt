@@ -1,13 +1,12 @@
 //! What the operators answer that users call by themselves, and errors that are made from their fields.
 use super::copied::copy_text;
 use super::evaluated::{outcome_place, outcome_text};
-use crate::Wrong;
-use crate::reader::Parts;
-use crate::reader::errors::error;
-use crate::reader::leaves::{place, unary};
-use crate::reader::values::{popped, values};
 use cedar_evaluator::evaluator::{EvaluationError, binary_arith, binary_relation, unary_app};
 use cedar_layers::expressions::{BinaryOp, Loc, Value};
+use cedar_reader::errors::error;
+use cedar_reader::leaves::{place, unary};
+use cedar_reader::values::{popped, values};
+use cedar_reader::{Parts, Wrong};
 use cedar_values::extensions::Extensions;
 use std::alloc::{AllocError, Global};
 use std::rc::Rc;
@@ -52,14 +51,25 @@ fn of_two(
     right: Value,
     place: Option<&Loc>,
 ) -> Result<Value, EvaluationError> {
-    let none = Extensions::none();
     match operator {
-        "eq" => binary_relation(alloc, BinaryOp::Eq, &left, &right, &none),
-        "less" => binary_relation(alloc, BinaryOp::Less, &left, &right, &none),
-        "lessEq" => binary_relation(alloc, BinaryOp::LessEq, &left, &right, &none),
         "add" => binary_arith(alloc, BinaryOp::Add, left, right, place),
         "sub" => binary_arith(alloc, BinaryOp::Sub, left, right, place),
-        _ => binary_arith(alloc, BinaryOp::Mul, left, right, place),
+        "mul" => binary_arith(alloc, BinaryOp::Mul, left, right, place),
+        _ => related(alloc, operator, &left, &right),
+    }
+}
+
+fn related(
+    alloc: Global,
+    operator: &str,
+    left: &Value,
+    right: &Value,
+) -> Result<Value, EvaluationError> {
+    let none = Extensions::none();
+    match operator {
+        "eq" => binary_relation(alloc, BinaryOp::Eq, left, right, &none),
+        "less" => binary_relation(alloc, BinaryOp::Less, left, right, &none),
+        _ => binary_relation(alloc, BinaryOp::LessEq, left, right, &none),
     }
 }
 

@@ -1,6 +1,6 @@
 //! The lines and statuses of the program.
-use crate::Wrong;
 use cedar_lines::run;
+use cedar_reader::Wrong;
 use cedar_values::extensions::Extensions;
 use std::alloc::{AllocError, Global};
 

@@ -1,12 +1,12 @@
 //! What a request and a store hold.
 use super::Place;
 use super::copied::shared;
-use crate::Wrong;
-use crate::reader::leaves::uid;
-use crate::reader::settings::Setting;
 use cedar_evaluator::request::{Context, EntityUIDEntry, Request};
 use cedar_layers::expressions::{EntityUID, PartialValue, Unknown};
 use cedar_layers::policies::{Dereference, Entity};
+use cedar_reader::Wrong;
+use cedar_reader::leaves::uid;
+use cedar_reader::settings::Setting;
 use std::alloc::{AllocError, Global};
 use std::rc::RcStr;
 

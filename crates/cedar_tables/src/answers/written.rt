@@ -1,16 +1,15 @@
 //! Expressions, values and leaves as they are printed, copied and changed.
 use super::copied::{copy_text, shared, text_of};
-use crate::Wrong;
-use crate::reader::expressions::expression;
-use crate::reader::headed;
-use crate::reader::leaves::{
-    binary, entity_type, name, named_type, number, slot, uid, unary, unknown, variable,
-};
-use crate::reader::values::{shared_value, value, values};
 use cedar_layers::expressions::{
     BoundedDisplay, Expr, ExpressionConstructionError, Literal, PartialValue, ResidualExpr, Value,
     ValueKind,
 };
+use cedar_reader::expressions::expression;
+use cedar_reader::leaves::{
+    binary, entity_type, name, named_type, number, slot, uid, unary, unknown, variable,
+};
+use cedar_reader::values::{shared_value, value, values};
+use cedar_reader::{Wrong, headed};
 use std::alloc::{AllocError, Global};
 use std::cmp::Ordering;
 use std::collections::HashMap;

@@ -1,6 +1,8 @@
 //! Reads what a line of a table says: expressions and values as words, policies, and the setting that rows are answered in.
 //!
 //! A text stands in a word as it is, but for `␣`, which stands for a space. A place is written as its ends, `1-2`.
+#![tactic(auto)]
+
 pub mod errors;
 pub mod expressions;
 pub mod leaves;
@@ -8,12 +10,27 @@ pub mod policies;
 pub mod settings;
 pub mod values;
 
-use crate::Wrong;
 use cedar_layers::expressions::FirstRest;
 use leaves::text;
-use std::alloc::{AllocError, Global};
+use std::alloc::{AllocError, AllocFailed, Global};
 use std::collections::BTreeMap;
 use std::rc::{Rc, RcStr};
+
+/// What is wrong with a text, or `out of memory`.
+#[derive(Debug, Clone, Copy)]
+pub struct Wrong(pub &'static str);
+
+impl From<AllocError> for Wrong {
+    fn from(_error: AllocError) -> Wrong {
+        Wrong("out of memory")
+    }
+}
+
+impl<T: Drop> From<AllocFailed<T>> for Wrong {
+    fn from(_error: AllocFailed<T>) -> Wrong {
+        Wrong("out of memory")
+    }
+}
 
 /// The fact of this keyword that the line states, if it states one.
 pub fn fact<'a>(line: &'a str, keyword: &str) -> Option<&'a str> {

@@ -3,8 +3,8 @@
 use super::leaves::{name, named_type, number, text};
 use super::{Parts, headed};
 use crate::Wrong;
-use cedar_evaluator::evaluator::EvaluationError;
 use cedar_layers::expressions::{FirstRest, Loc, Type};
+use cedar_values::evaluator::err::EvaluationError;
 use cedar_values::evaluator::err::evaluation_errors::{
     ExtensionFunctionExecutionError, TypeError, WrongNumArgumentsError,
 };
