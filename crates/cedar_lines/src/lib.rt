@@ -19,9 +19,9 @@ pub const WRONG_ARGUMENTS: u8 = 2;
 /// Memory was wanting.
 pub const OUT_OF_MEMORY: u8 = 3;
 
-/// Prints the lines of all rows, or of the row that the one argument names, and answers the exit status: `DONE`; `WRONG_ARGUMENTS`
-/// after `usage: cedar_rows [NAME]` where there is more than one argument, and after `no such row: NAME` where no row has that name;
-/// `OUT_OF_MEMORY` where memory was wanting; `NOT_WRITTEN` where the writer failed.
+/// Prints the lines of all rows, or of the row that the one argument names, and answers the exit status: `DONE`;
+/// `WRONG_ARGUMENTS` after `usage: cedar_rows [NAME]` where there is more than one argument, and after `no such row:
+/// NAME` where no row has that name; `OUT_OF_MEMORY` where memory was wanting; `NOT_WRITTEN` where the writer failed.
 pub fn run<W: Write>(
     alloc: Global,
     arguments: &[String],

@@ -1,4 +1,5 @@
-//! Reads what a line of a table says: expressions and values as words, policies, and the setting that rows are answered in.
+//! Reads what a line of a table says: expressions and values as words, policies, and the setting that rows are answered
+//! in.
 //!
 //! A text stands in a word as it is, but for `␣`, which stands for a space. A place is written as its ends, `1-2`.
 #![tactic(auto)]

@@ -1,6 +1,7 @@
 //! Reads the setting of a table. Each line states a fact; a line that states none says nothing.
 //!
-//! - `principal User:a`, `action Action:view` and `resource Photo:p 1-2` are the request's entities, each with its place if it has one.
+//! - `principal User:a`, `action Action:view` and `resource Photo:p 1-2` are the request's entities, each with its
+//!   place if it has one.
 //! - `slot resource Photo:p` links a slot.
 //! - `store partial`: an entity that the store lacks is not known.
 //! - `entity User:a` is an entity of the store; with `entity User:a second` the facts on it name it `second`.

@@ -1,12 +1,15 @@
 //! What is answered to a row, as text, under the question that is asked of it.
 //!
-//! - of the words of an expression: `value LIMIT`, `place LIMIT` and `error LIMIT` (what it evaluates to, where that or its error stands, and the error's text; with no limit as many levels as it needs),
-//!   `text`, `cut BOUND` (`all` for no bound), `copy`, `shape`, and `substitute x WORDS`, which is answered by the words of an expression;
+//! - of the words of an expression: `value LIMIT`, `place LIMIT` and `error LIMIT` (what it evaluates to, where that or
+//!   its error stands, and the error's text; with no limit as many levels as it needs), `text`, `cut BOUND` (`all` for
+//!   no bound), `copy`, `shape`, and `substitute x WORDS`, which is answered by the words of an expression;
 //! - of the words of a value: `operator PLACE` (values and then an operator), `value-text`, `value-cut BOUND`,
-//!   `value-expression`, `value-type`, `value-copy`, `value-elements`, `part-text`, `part-cut BOUND`, `part-copy` and `part-expression`;
-//! - of two expressions with ` ~ ` between them: `equal`; of the keys of a record: `keys`; of two values: `order`; of a leaf: `leaf`; of the words of an error: `built-error PLACE`;
-//! - of the ids of policies: `decide LIMIT`, `decide-texts LIMIT` (the errors' own texts), `decide-copy LIMIT` (whether a copy
-//!   is equal), `evaluate LIMIT`, `set`, `set-debug`, `policy` and `condition`;
+//!   `value-expression`, `value-type`, `value-copy`, `value-elements`, `part-text`, `part-cut BOUND`, `part-copy` and
+//!   `part-expression`;
+//! - of two expressions with ` ~ ` between them: `equal`; of the keys of a record: `keys`; of two values: `order`; of a
+//!   leaf: `leaf`; of the words of an error: `built-error PLACE`;
+//! - of the ids of policies: `decide LIMIT`, `decide-texts LIMIT` (the errors' own texts), `decide-copy LIMIT` (whether
+//!   a copy is equal), `evaluate LIMIT`, `set`, `set-debug`, `policy` and `condition`;
 //! - of the setting: `request` and `entity`;
 //! - of the arguments of the program `cedar_rows`: `run`.
 mod copied;

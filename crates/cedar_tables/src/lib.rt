@@ -1,6 +1,7 @@
-//! Tables of tests, which are texts with a row a line. A row has words, ` => ` and the answer that is wanted. A line `ask QUESTION` says what is
-//! asked of the rows below it, and `answers` which questions there are; before the first one it is what expressions evaluate to. A line that begins
-//! with `#` is a title. Each table is answered in a setting, which is such a text of facts too: `cedar_reader::settings` says which.
+//! Tables of tests, which are texts with a row a line. A row has words, ` => ` and the answer that is wanted. A line
+//! `ask QUESTION` says what is asked of the rows below it, and `answers` which questions there are; before the first
+//! one it is what expressions evaluate to. A line that begins with `#` is a title. Each table is answered in a setting,
+//! which is such a text of facts too: `cedar_reader::settings` says which.
 #![tactic(auto)]
 
 mod answers;
@@ -12,8 +13,8 @@ use cedar_reader::settings::{Setting, setting_of};
 use std::alloc::Global;
 use std::rc::{Rc, RcStr};
 
-/// The rows of these tables that have another answer than the wanted one in the setting of these facts, each as the line
-/// `QUESTION: WORDS => ANSWER, not WANTED`. What is wrong with the words of a row stands there as its answer.
+/// The rows of these tables that have another answer than the wanted one in the setting of these facts, each as the
+/// line `QUESTION: WORDS => ANSWER, not WANTED`. What is wrong with the words of a row stands there as its answer.
 pub fn differences(alloc: Global, facts: &str, tables: &[&str]) -> Result<String, Wrong> {
     let setting = Rc::new(alloc, setting_of(alloc, facts)?)?;
     let mut differences = String::new(alloc);

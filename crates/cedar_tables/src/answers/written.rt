@@ -48,8 +48,8 @@ fn shape_text(alloc: Global, expr: &Expr) -> Result<String, AllocError> {
     format!(in alloc; "unknown {has_unknown}, projectable {is_projectable}")
 }
 
-/// The words that are wanted, where the expression that they write is the one that substitution answers, else the text of that one.
-/// The map has a value at the first word, or nothing.
+/// The words that are wanted, where the expression that they write is the one that substitution answers, else the text
+/// of that one. The map has a value at the first word, or nothing.
 pub fn substituted(alloc: Global, map: &str, words: &str, want: &str) -> Result<String, Wrong> {
     let map = Rc::new(alloc, mapping(alloc, map)?)?;
     let replaced = replaced(alloc, map.as_ref(), words)?;
