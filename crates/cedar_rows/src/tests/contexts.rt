@@ -1,7 +1,7 @@
 //! Contexts that are made of restricted expressions: what they print as, and what is refused.
-use super::restricted::asking;
+use super::restricted::asking_name;
 use cedar_evaluator::request::{Context, ContextCreationError};
-use cedar_extensions::Extensions;
+use cedar_extensions::{Extension, ExtensionFunction, Extensions};
 use cedar_layers::expressions::{BoundedDisplay, Literal, Name, PartialValue, Unknown};
 use cedar_restricted_expressions::RestrictedExpr;
 use std::alloc::{AllocError, Global};
@@ -136,7 +136,8 @@ fn contexts_are_made(rt: HostRuntime) -> Result<(), Fail> {
 #[test]
 fn context_of_a_call_that_answers_an_unknown(rt: HostRuntime) -> Result<(), Fail> {
     let alloc = rt.alloc();
-    let asking = asking(alloc)?;
+    let functions = vec![in alloc; ExtensionFunction::unknown(alloc)?]?;
+    let asking = vec![in alloc; Extension::new(asking_name(alloc)?, functions, Vec::new(alloc))]?;
     let extensions = Extensions::specific_extensions(alloc, asking.as_slice())?;
     let made = Context::from_pairs(alloc, pairs(alloc, "a=unknown(x)")?, &extensions, 9);
     assert_eq!(rt;

@@ -312,7 +312,8 @@ fn answer_text(
 
 // What is answered where an extension has the function `unknown`.
 fn asked(alloc: Global, e: &RestrictedExpr) -> Result<Result<PartialValue, EvaluationError>, Fail> {
-    let asking = asking(alloc)?;
+    let functions = vec![in alloc; ExtensionFunction::unknown(alloc)?]?;
+    let asking = vec![in alloc; Extension::new(asking_name(alloc)?, functions, Vec::new(alloc))]?;
     let extensions = Extensions::specific_extensions(alloc, asking.as_slice())?;
     let evaluator = RestrictedEvaluator::new(&extensions, 1000);
     Ok(evaluator.partial_interpret(alloc, e.as_borrowed()))
@@ -340,19 +341,15 @@ fn place(alloc: Global, loc: Option<&Loc>) -> Result<String, Fail> {
 
 // The type that is known where an extension has the function `unknown`.
 fn asking_type(alloc: Global, e: &RestrictedExpr) -> Result<String, Fail> {
-    let asking = asking(alloc)?;
+    let functions = vec![in alloc; ExtensionFunction::unknown(alloc)?]?;
+    let asking = vec![in alloc; Extension::new(asking_name(alloc)?, functions, Vec::new(alloc))]?;
     let extensions = Extensions::specific_extensions(alloc, asking.as_slice())?;
     Ok(type_text(alloc, e, &extensions)?)
 }
 
-// An extension that has the function `unknown`.
-pub fn asking(alloc: Global) -> Result<Vec<Extension>, AllocError> {
-    let mut functions = Vec::new(alloc);
-    functions.push(ExtensionFunction::unknown(alloc)?)?;
-    let name = Name::new(RcStr::from_str(alloc, "partial_evaluation")?, None);
-    let mut extensions = Vec::new(alloc);
-    extensions.push(Extension::new(name, functions, Vec::new(alloc)))?;
-    Ok(extensions)
+// The name of an extension that has the function `unknown`.
+pub fn asking_name(alloc: Global) -> Result<Name, AllocError> {
+    Ok(Name::new(RcStr::from_str(alloc, "partial_evaluation")?, None))
 }
 
 fn value_text(alloc: Global, e: &RestrictedExpr, limit: usize) -> Result<String, AllocError> {
