@@ -1,48 +1,21 @@
 //! Contexts that are made of restricted expressions: what they print as, and what is refused.
+use super::reader::expressions::restricted;
 use super::restricted::asking_name;
 use cedar_evaluator::request::{Context, ContextCreationError};
 use cedar_extensions::{Extension, ExtensionFunction, Extensions};
-use cedar_layers::expressions::{BoundedDisplay, Literal, Name, PartialValue, Unknown};
+use cedar_layers::expressions::{BoundedDisplay, PartialValue};
 use cedar_restricted_expressions::RestrictedExpr;
-use std::alloc::{AllocError, Global};
+use std::alloc::Global;
 use std::rc::RcStr;
 use std::test::Fail;
 
-// `x` is an unknown, `unknown(x)` a call, `[1]` a set, and any other word 37.
-fn part(alloc: Global, word: &str) -> Result<RestrictedExpr, AllocError> {
-    match word {
-        "x" => Ok(RestrictedExpr::unknown(Unknown::new_untyped(RcStr::from_str(alloc, word)?))),
-        "unknown(x)" => call_of_unknown(alloc),
-        "[1]" => set_of_one(alloc),
-        "1" => Ok(number(1)),
-        _ => Ok(number(37)),
-    }
-}
-
-fn number(value: i64) -> RestrictedExpr {
-    RestrictedExpr::val(Literal::Long(value))
-}
-
-fn set_of_one(alloc: Global) -> Result<RestrictedExpr, AllocError> {
-    let mut elements: Vec<RestrictedExpr> = Vec::new(alloc);
-    elements.push(number(1))?;
-    Ok(RestrictedExpr::set(alloc, elements)?)
-}
-
-// The call of `unknown` on the text `x`.
-fn call_of_unknown(alloc: Global) -> Result<RestrictedExpr, AllocError> {
-    let name = Name::new(RcStr::from_str(alloc, "unknown")?, None);
-    let mut arguments: Vec<RestrictedExpr> = Vec::new(alloc);
-    arguments.push(RestrictedExpr::val(Literal::String(RcStr::from_str(alloc, "x")?)))?;
-    Ok(RestrictedExpr::call_extension_fn(alloc, name, arguments)?)
-}
-
-// The pairs of `b=x a=1`, in that order. `none` has none.
-fn pairs(alloc: Global, written: &str) -> Result<Vec<(RcStr, RestrictedExpr)>, AllocError> {
+// The pairs of `b=U:x, a=L:1 set:1`, in that order: names, and the words of a restricted expression. `none` has none.
+fn pairs(alloc: Global, written: &str) -> Result<Vec<(RcStr, RestrictedExpr)>, Fail> {
     let mut pairs: Vec<(RcStr, RestrictedExpr)> = Vec::new(alloc);
-    'words: for word in written.split(' ') {
-        if let Some((name, value)) = word.split_once('=') {
-            pairs.push((RcStr::from_str(alloc, name)?, part(alloc, value)?))?;
+    'pairs: for pair in written.split(", ") {
+        if let Some((name, words)) = pair.split_once('=') {
+            let value = restricted(alloc, words)?;
+            pairs.push((RcStr::from_str(alloc, name)?, value))?;
         }
     }
     Ok(pairs)
@@ -101,12 +74,12 @@ fn walked(alloc: Global, context: Context) -> Result<String, Fail> {
 fn contexts_are_made(rt: HostRuntime) -> Result<(), Fail> {
     let alloc = rt.alloc();
     for (written, limit, want) in [
-        ("a=[1]", 3, "{\"a\": [1]}, 1 keys, values true; a [1]"),
-        ("a=[1]", 2, "Evaluation: recursion limit reached"),
+        ("a=L:1 set:1", 3, "{\"a\": [1]}, 1 keys, values true; a [1]"),
+        ("a=L:1 set:1", 2, "Evaluation: recursion limit reached"),
         ("none", 1, "{}, 0 keys, values true"),
         ("none", 0, "Evaluation: recursion limit reached"),
         (
-            "b=x a=1",
+            "b=U:x, a=L:1",
             9,
             "{\"a\": 1, \"b\": unknown(\"x\")}, 2 keys, values false; a 1; b unknown(\"x\")",
         ),
@@ -123,11 +96,11 @@ fn contexts_are_made(rt: HostRuntime) -> Result<(), Fail> {
         );
     }
     assert_eq!(rt;
-        of_pairs(alloc, "foo=37 foo=37", 0)?.as_str(),
+        of_pairs(alloc, "foo=L:37, foo=L:37", 0)?.as_str(),
         "ExpressionConstruction: duplicate key `foo` in context"
     );
     assert_eq!(rt;
-        of_expr(alloc, &number(1), 0)?.as_str(),
+        of_expr(alloc, &restricted(alloc, "L:1")?, 0)?.as_str(),
         "NotARecord: expression is not a record: 1"
     );
     Ok(())
@@ -139,13 +112,13 @@ fn context_of_a_call_that_answers_an_unknown(rt: HostRuntime) -> Result<(), Fail
     let functions = vec![in alloc; ExtensionFunction::unknown(alloc)?]?;
     let asking = vec![in alloc; Extension::new(asking_name(alloc)?, functions, Vec::new(alloc))]?;
     let extensions = Extensions::specific_extensions(alloc, asking.as_slice())?;
-    let made = Context::from_pairs(alloc, pairs(alloc, "a=unknown(x)")?, &extensions, 9);
+    let made = Context::from_pairs(alloc, pairs(alloc, "a=T:x call:unknown:1")?, &extensions, 9);
     assert_eq!(rt;
         told(alloc, made)?.as_str(),
         "{\"a\": unknown(\"x\")}, 1 keys, values false; a unknown(\"x\")"
     );
     assert_eq!(rt;
-        of_pairs(alloc, "a=unknown(x)", 9)?.as_str(),
+        of_pairs(alloc, "a=T:x call:unknown:1", 9)?.as_str(),
         "Evaluation: extension function `unknown` does not exist"
     );
     Ok(())
@@ -173,11 +146,11 @@ fn contexts_are_converted(rt: HostRuntime) -> Result<(), Fail> {
     let alloc = rt.alloc();
     for (written, want) in [
         (
-            "b=37 a=1",
+            "b=L:37, a=L:1",
             "{\"a\": 1, \"b\": 37} ~ {\"a\": 1, \"b\": 37} ~ true ~ {\"a\": 1, ..}",
         ),
         (
-            "b=x a=1",
+            "b=U:x, a=L:1",
             "{\"a\": 1, \"b\": unknown(\"x\")} ~ {\"a\": 1, \"b\": unknown(\"x\")} ~ true ~ {\"a\": 1, ..}",
         ),
     ] {

@@ -1,13 +1,10 @@
 //! Rows on restricted expressions. A row is a question, `: `, words, ` => ` and the answer.
 //!
-//! Words write an expression, each after its parts: `B:true`, `L:1` and `T:text` are literals, `U:x` and `U:x:Long` unknowns,
-//! `V:principal` the principal; `not`, `and`, `less` and `if` take the parts before them, as do `set:2`, `record:a,b` and
-//! `call:f:1`; `@` puts the part before it at the place 1-2.
+//! The words write an expression, as `reader::expressions` says.
+use super::reader::expressions::{expression, restricted};
 use cedar_data::{PartialValue, ResidualExpr, Value};
 use cedar_extensions::{Extension, ExtensionFunction, Extensions};
-use cedar_layers::expressions::{
-    BinaryOp, Expr, ExpressionConstructionError, Literal, Loc, Name, Type, UnaryOp, Unknown, Var,
-};
+use cedar_layers::expressions::{Expr, Literal, Loc, Name, Unknown};
 use cedar_restricted::RestrictedEvaluator;
 use cedar_restricted_expressions::{
     BorrowedRestrictedExpr, PartialValueToRestrictedExprError, RestrictedExpr,
@@ -43,8 +40,8 @@ type: U:x:Long => long
 type: U:x => none
 type: L:1 call:nosuch:1 => none
 type: record: => record
-shape: L:1 @ ~ L:1 => true, hashes true
-shape: L:1 @ set:1 ~ L:1 set:1 @ => true, hashes true
+shape: L:1 @1-2 ~ L:1 => true, hashes true
+shape: L:1 @1-2 set:1 ~ L:1 set:1 @1-2 => true, hashes true
 shape: L:1 ~ L:2 => false, hashes false
 read: B:true => a boolean true
 read: L:-7 => a long -7
@@ -67,11 +64,15 @@ asking: T:x call:unknown:1 T:y call:unknown:2 => unknown(unknown("x"), "y")
 asking: T:x T:y call:unknown:2 => wrong number of arguments provided to extension function `unknown`: expected 1, got 2
 asking: call:unknown:0 => wrong number of arguments provided to extension function `unknown`: expected 1, got 0
 asking-type: T:x call:unknown:1 => none
-asking-place: T:x call:unknown:1 @ => 1-2
-asking-place: T:x call:nosuch:1 @ => 1-2
-asking-place: L:1 call:unknown:1 @ => 1-2
-asking-place: L:1 @ call:unknown:1 => 1-2
+asking-place: T:x call:unknown:1 @1-2 => 1-2
+asking-place: T:x call:nosuch:1 @1-2 => 1-2
+asking-place: L:1 call:unknown:1 @1-2 => 1-2
+asking-place: L:1 @1-2 call:unknown:1 => 1-2
 asking-place: L:1 call:unknown:1 => none
+short-place: L:1 set:1 @1-2 => 1-2
+short-place: L:1 @1-2 set:1 => none
+short-place: L:1 record:a => none
+short-place: L:1 @1-2 => a value
 "#;
 
 #[test]
@@ -105,7 +106,7 @@ fn nested_sets_need_a_level_each(rt: HostRuntime) -> Result<(), Fail> {
     let e = nested(
         alloc,
         999,
-        RestrictedExpr::unknown(named_unknown(alloc, "x")?),
+        RestrictedExpr::unknown(Unknown::new_untyped(RcStr::from_str(alloc, "x")?)),
     )?;
     assert_eq!(rt; levels_text(alloc, &e, 1000)?.as_str(), "residual");
     assert_eq!(rt;
@@ -144,6 +145,7 @@ fn of_restricted(alloc: Global, question: &str, e: &RestrictedExpr) -> Result<St
         "asking" => asking_text(alloc, e),
         "asking-type" => asking_type(alloc, e),
         "asking-place" => asking_place(alloc, e),
+        "short-place" => short_place(alloc, e),
         "wholly" => Ok(value_text(alloc, e, 1000)?),
         _ => Err(Fail::from("no such question")),
     }
@@ -332,6 +334,14 @@ fn asking_place(alloc: Global, e: &RestrictedExpr) -> Result<String, Fail> {
     }
 }
 
+// Where the recursion limit stands within one level.
+fn short_place(alloc: Global, e: &RestrictedExpr) -> Result<String, Fail> {
+    match partly(alloc, e, 1) {
+        Ok(_) => Ok(String::from_str(alloc, "a value")?),
+        Err(error) => place(alloc, error.source_loc()),
+    }
+}
+
 fn place(alloc: Global, loc: Option<&Loc>) -> Result<String, Fail> {
     match loc {
         Some(loc) => Ok(format!(in alloc; "{}-{}", loc.start, loc.end)?),
@@ -381,13 +391,6 @@ fn nested(alloc: Global, depth: u64, part: RestrictedExpr) -> Result<RestrictedE
 
 // ---- what words write
 
-fn restricted(alloc: Global, words: &str) -> Result<RestrictedExpr, Fail> {
-    match RestrictedExpr::new(expression(alloc, words)?) {
-        Ok(e) => Ok(e),
-        Err(_) => Err(Fail::from("not restricted")),
-    }
-}
-
 fn residual(alloc: Global, words: &str) -> Result<PartialValue, Fail> {
     let expr = expression(alloc, words)?;
     if expr.has_unknown() {
@@ -407,87 +410,4 @@ fn pairs(alloc: Global, keys: &str) -> Result<Vec<(RcStr, RestrictedExpr)>, Allo
         ))?;
     }
     Ok(pairs)
-}
-
-fn expression(alloc: Global, words: &str) -> Result<Expr, Fail> {
-    let mut parts: Vec<Expr> = Vec::new(alloc);
-    for word in words.split(' ') {
-        let part = read(alloc, word, &mut parts)?;
-        parts.push(part)?;
-    }
-    popped(&mut parts)
-}
-
-fn popped(parts: &mut Vec<Expr>) -> Result<Expr, Fail> {
-    match parts.pop() {
-        Some(part) => Ok(part),
-        None => Err(Fail::from("a part is missing")),
-    }
-}
-
-fn read(alloc: Global, word: &str, parts: &mut Vec<Expr>) -> Result<Expr, Fail> {
-    match word.split_once(':') {
-        Some(("B", rest)) => Ok(Expr::val(Literal::Bool(rest == "true"))),
-        Some(("L", rest)) => Ok(Expr::val(Literal::Long(rest.parse::<i64>()?))),
-        Some(("T", rest)) => Ok(Expr::val(Literal::String(RcStr::from_str(alloc, rest)?))),
-        Some(("V", _)) => Ok(Expr::var(Var::Principal)),
-        Some(("U", rest)) => Ok(Expr::unknown(unknown(alloc, rest)?)),
-        Some(("set", count)) => Ok(Expr::set(alloc, last(parts, count)?)?),
-        Some(("record", keys)) => record(alloc, keys, parts),
-        Some((_, rest)) => call(alloc, rest, parts),
-        None => operation(alloc, word, parts),
-    }
-}
-
-fn unknown(alloc: Global, words: &str) -> Result<Unknown, AllocError> {
-    match words.split_once(':') {
-        Some((name, _)) => Ok(Unknown::new_with_type(RcStr::from_str(alloc, name)?, Type::Long)),
-        None => named_unknown(alloc, words),
-    }
-}
-
-fn named_unknown(alloc: Global, name: &str) -> Result<Unknown, AllocError> {
-    Ok(Unknown::new_untyped(RcStr::from_str(alloc, name)?))
-}
-
-// The latest parts, so many.
-fn last(parts: &mut Vec<Expr>, count: &str) -> Result<Vec<Expr>, Fail> {
-    let count = count.parse::<usize>()?;
-    Ok(parts.split_off(parts.len().saturating_sub(count))?)
-}
-
-fn record(alloc: Global, keys: &str, parts: &mut Vec<Expr>) -> Result<Expr, Fail> {
-    let mut pairs: Vec<(RcStr, Expr)> = Vec::new(alloc);
-    if !keys.is_empty() {
-        for key in keys.rsplit(',') {
-            pairs.push((RcStr::from_str(alloc, key)?, popped(parts)?))?;
-        }
-    }
-    match Expr::record(alloc, pairs) {
-        Ok(e) => Ok(e),
-        Err(ExpressionConstructionError::DuplicateKey { .. }) => Err(Fail::from(
-            "a key comes again",
-        )),
-        Err(ExpressionConstructionError::Memory(_)) => Err(Fail::from("out of memory")),
-    }
-}
-
-fn call(alloc: Global, words: &str, parts: &mut Vec<Expr>) -> Result<Expr, Fail> {
-    let (function, count) = words.split_once(':').ok_or("a name and a count")?;
-    let name = Name::new(RcStr::from_str(alloc, function)?, None);
-    Ok(Expr::call_extension_fn(alloc, name, last(parts, count)?)?)
-}
-
-fn operation(alloc: Global, word: &str, parts: &mut Vec<Expr>) -> Result<Expr, Fail> {
-    let right = popped(parts)?;
-    match word {
-        "@" => Ok(right.with_maybe_source_loc(Some(Loc { start: 1, end: 2 }))),
-        "not" => Ok(Expr::unary_app(alloc, UnaryOp::Not, right)?),
-        "and" => Ok(Expr::and(alloc, popped(parts)?, right)?),
-        "less" => Ok(Expr::binary_app(alloc, BinaryOp::Less, popped(parts)?, right)?),
-        _ => {
-            let then_expr = popped(parts)?;
-            Ok(Expr::ite(alloc, popped(parts)?, then_expr, right)?)
-        }
-    }
 }

@@ -31,6 +31,13 @@ T:a @1-2 like:a* @0-9 => value at 0-9
 E:E:e @1-2 is:E @0-9 => value at 0-9
 L:1 @1-2 set:1 @0-9 => value at 0-9
 L:1 @1-2 record:a @0-9 => value at 0-9
+# an element of a set stands at its own expression
+ask elements
+L:2 @3-4 L:1 @1-2 L:3 set:3 @0-9 => elements 1 at 1-2 2 at 3-4 3 nowhere
+L:2 @3-4 L:1 @1-2 add @3-6 L:1 @7-8 set:2 => elements 1 at 7-8 3 at 3-6
+L:2 @3-4 L:1 @1-2 set:2 @0-9 set:1 => elements [1, 2] at 0-9
+V:principal @1-2 set:1 @0-9 => elements User::"a" at 1-2
+L:2 @3-4 L:1 @1-2 set:2 @5-6 record:a @7-8 get:a @0-9 => elements 1 at 1-2 2 at 3-4
 # past the limit: at the nearest expression that was read
 ask place 2
 V:principal E:User:a eq @3-9 => value at 3-9
@@ -112,7 +119,7 @@ S:principal get:f @0-9 => error at 0-9
 S:principal get:f => error nowhere
 # an unknown: at the unknown
 U:x @1-2 => error at 1-2
-U:x @1-2 not @0-9 => error at 1-2
+U:x @1-2 not @0-9 => error at 0-9
 U:x not @0-9 => error at 0-9
 U:x not => error nowhere
 # an error within a part stands where it did
