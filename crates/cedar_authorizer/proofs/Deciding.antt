@@ -8,19 +8,17 @@ use Rattle.cedar_model.specs.Values.{AbstractValue, plain}
 use Rattle.cedar_model.specs.Outcomes.{text_eq, has_text}
 use Rattle.cedar_model.specs.Failures.{Failure, Answer}
 use Rattle.cedar_model.specs.Settings.{RequestPart, Store, Setting}
-use Rattle.cedar_model.specs.World.{Functions}
-use Rattle.cedar_model.specs.Agreement.{HasNothingUnknown}
+use Rattle.cedar_model.specs.World.{Extensions, Functions}
+use Rattle.cedar_model.specs.Rules.{StoredCalls}
 use Rattle.cedar_model.specs.Policies.{Policy, Effect, permit, forbid, Judged, Decision, allow, deny, is_satisfied, some_satisfied, satisfied_ids, decision, reasons}
-use Rattle.cedar_model.specs.Responses.{with_slots}
-use Rattle.cedar_model.specs.Authorizations.{Authorized, JudgesEach, IsResponse, HaveKnownConditions}
+use Rattle.cedar_model.specs.Authorizations.{Authorized, JudgesEach, IsResponse}
 use Rattle.cedar_model.specs.AuthorizationLaws.{PolicyRuns}
 use Rattle.cedar_model.proofs.Exactly as exactly
 use Rattle.cedar_layers.specs.declared.policies.policy.PolicyID.{PolicyID}
 use Rattle.cedar_layers.specs.Policies.{policy_id_text}
-use Rattle.cedar_evaluator.specs.Stops.{NoCalls}
-use Rattle.cedar_evaluator.proofs.Knowing.{known_runs, no_calls_agree}
+use Rattle.cedar_responses.specs.Responses.{has_id}
 use Rattle.cedar_authorizer.specs.declared.authorizer.Sheet.{Sheet}
-use Rattle.cedar_authorizer.specs.Responding.{has_id, authorization_of, MayAnswerAs, IsKnownResponse, MeetsNoLimit, OwnWorldCompletesCall}
+use Rattle.cedar_authorizer.specs.Responding.{authorization_of, IsKnownResponse, MeetsNoLimit, OwnWorldCompletesCall}
 use Rattle.cedar_authorizer.specs.Sheets.{sheet_errors, Reflects, RespondsTo, IsJudged, has_some_id}
 
 -- ---- whether there is a satisfied policy
@@ -101,24 +99,13 @@ denied_by_default s js e d h =
 pub responds : (May : Policy → Answer → Type 0) (ps : List Policy) (s : Sheet) (r : Authorized) → IsJudged May ps s → RespondsTo s r → r.errors ≡ sheet_errors s → IsResponse May ps r
 responds May ps s r (js, j, h) to e = (js, subst (JudgesEach May ps js) (sym e) j, (to js h).0, (to js h).1)
 
-module _ (s : Setting) (levels : ℕ) (known : HasNothingUnknown s) (ans : Functions) (sigma : Text → AbstractValue) where
-  known_each : (ps : List Policy) (js : List Judged) (es : List (Text × Failure)) → HaveKnownConditions ans ps → JudgesEach (MayAnswerAs s levels) ps js es → JudgesEach (PolicyRuns s NoCalls levels) ps js es
-  known_each [] js es k j = j
-  known_each (p ∷ ps) js es k (a, rest, later, m, j, e, f) =
-      (a, rest, later, known_runs (with_slots s p.slots) (exactly.known_with_slots s p.slots known) ans sigma levels p.condition a k.0 m, known_each ps rest later k.1 j, e, f)
+module _ (s : Setting) (calls : StoredCalls) (levels : ℕ) (ps : List Policy) (r : Authorized) (is : IsResponse (PolicyRuns s calls levels) ps r) where
+  pub known_response : IsKnownResponse s calls ps r
+  known_response known ans agree k sigma none = exactly.response_exact calls ans agree s known sigma levels ps r k is none
 
-  known_judged : (ps : List Policy) (r : Authorized) → HaveKnownConditions ans ps → IsResponse (MayAnswerAs s levels) ps r → IsResponse (PolicyRuns s NoCalls levels) ps r
-  known_judged ps r k (js, j, d, h) = (js, known_each ps js r.errors k j, d, h)
+  pub no_limit : MeetsNoLimit s calls levels ps r
+  no_limit known ans agree k low = exactly.low_conditions calls ans agree s known (λ n. plain (bool_literal false)) levels ps r k is low
 
-pub known_response : (rq : RequestPart) (st : Store) (levels : ℕ) (ps : List Policy) (r : Authorized) → IsResponse (MayAnswerAs (authorization_of rq st) levels) ps r → IsKnownResponse (authorization_of rq st) ps r
-known_response rq st levels ps r is known ans k sigma none =
-    exactly.response_exact NoCalls ans (no_calls_agree ans) (authorization_of rq st) known sigma levels ps r k (known_judged (authorization_of rq st) levels known ans sigma ps r k is) none
-
-pub no_limit : (rq : RequestPart) (st : Store) (levels : ℕ) (ps : List Policy) (r : Authorized) → IsResponse (MayAnswerAs (authorization_of rq st) levels) ps r → MeetsNoLimit (authorization_of rq st) levels ps r
-no_limit rq st levels ps r is known ans k low =
-    let sigma : Text → AbstractValue = λ n. plain (bool_literal false) in
-    exactly.low_conditions NoCalls ans (no_calls_agree ans) (authorization_of rq st) known sigma levels ps r k (known_judged (authorization_of rq st) levels known ans sigma ps r k is) low
-
-pub own_world_completes_call : (rq : RequestPart) (st : Store) (ps : List Policy) → OwnWorldCompletesCall (authorization_of rq st) ps
-own_world_completes_call rq st ps known ans k sigma =
-    exactly.own_world_completes ans (authorization_of rq st) sigma ps known (λ n. refl) k
+pub own_world_completes_call : (rq : RequestPart) (st : Store) (x : Extensions) (ps : List Policy) → OwnWorldCompletesCall (authorization_of rq st x) ps
+own_world_completes_call rq st x ps known ans k sigma =
+    exactly.own_world_completes ans (authorization_of rq st x) sigma ps known (λ n. refl) k

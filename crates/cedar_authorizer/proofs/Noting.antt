@@ -19,8 +19,8 @@ use Rattle.cedar_layers.specs.Policies.{policy_id_text}
 use Rattle.cedar_values.specs.declared.evaluator.err.EvaluationError.{EvaluationError}
 use Rattle.cedar_values.specs.Failures.{failure_of}
 use Rattle.cedar_evaluator.specs.Decisions.{DecidesBy}
+use Rattle.cedar_responses.specs.Responses.{PolicyIDs, has_id}
 use Rattle.cedar_authorizer.specs.declared.authorizer.Sheet.{Sheet}
-use Rattle.cedar_authorizer.specs.Responding.{PolicyIDs, has_id}
 use Rattle.cedar_authorizer.specs.Sheets.{sheet_errors, Notes, NotesAnswer, NotesError, Reflects, IsJudged}
 
 -- ---- ids

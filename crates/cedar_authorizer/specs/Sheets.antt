@@ -7,8 +7,8 @@ use Rattle.cedar_model.specs.Policies.{Policy, Effect, permit, forbid, Judged, i
 use Rattle.cedar_model.specs.Authorizations.{Authorized, evaluated, result_verdict, error_in, JudgesEach}
 use Rattle.cedar_model.specs.Responses.{with_error}
 use Rattle.cedar_layers.specs.declared.policies.policy.PolicyID.{PolicyID}
+use Rattle.cedar_responses.specs.Responses.{has_id, errors_view}
 use Rattle.cedar_authorizer.specs.declared.authorizer.Sheet.{Sheet}
-use Rattle.cedar_authorizer.specs.Responding.{has_id, errors_view}
 
 -- whether there is an id
 unfoldable pub has_some_id : List PolicyID → Bool

@@ -6,9 +6,9 @@ use Rattle.cedar_model.specs.Meaning.{meaning}
 use Rattle.cedar_model.specs.Policies.{Policy, permit, forbid, erring, verdict}
 use Rattle.cedar_model.specs.Reordering.{IsReordering}
 use Rattle.cedar_model.specs.Authorizations.{IsExactResponse}
-use Rattle.cedar_authorizer.specs.declared.authorizer.Decision.TheVariants.{Allow, Deny}
-use Rattle.cedar_authorizer.specs.declared.authorizer.Response.{Response}
-use Rattle.cedar_authorizer.specs.Responding.{has_id, response_view}
+use Rattle.cedar_responses.specs.declared.response.Decision.TheVariants.{Allow, Deny}
+use Rattle.cedar_responses.specs.declared.response.Response.{Response}
+use Rattle.cedar_responses.specs.Responses.{has_id, response_view}
 
 -- the same decision for the same reasons
 abbrev pub AnswersAlike : Response → Response → Type 0

@@ -2,79 +2,39 @@
 ghost use Rattle.std.specs.Prelude.{◌≡◌, ◌≢◌, ◌||◌, true, false, IfOk, OnOk};
 ghost use Rattle.cedar_model.specs.Outcomes.{text_eq};
 ghost use Rattle.cedar_model.specs.Failures.{out_of_memory};
+ghost use Rattle.cedar_model.specs.AuthorizationLaws.{PolicyRuns};
+ghost use Rattle.cedar_extensions.specs.Extensions.{extensions_view, calls_of};
 ghost use Rattle.cedar_layers.specs.Policies.{effect_view, policy_id_text, policy_view, condition_term};
 ghost use Rattle.cedar_layers.specs.Stores.{store_view};
 ghost use Rattle.cedar_values.specs.Failures.{failure_of};
 ghost use Rattle.cedar_requests.specs.Requests.{request_view};
-ghost use Rattle.cedar_evaluator.specs.Evaluations.{setting_of, limit_of};
-ghost use Rattle.cedar_evaluator.specs.Stops.{StoppingRuns};
+ghost use Rattle.cedar_evaluation.specs.Promises.{IsPromised};
+ghost use Rattle.cedar_evaluator.specs.Evaluations.{setting_of, calls_in, limit_of};
+ghost use Rattle.cedar_responses.specs.Responses.{has_id, response_view};
 ghost use Rattle.cedar_authorizer.specs.Sheets.{has_some_id, IsJudged};
-ghost use Rattle.cedar_authorizer.specs.Responding.{MayAnswerAs, has_id, response_view, decision_view, errors_view, deciding, authorization_of};
+ghost use Rattle.cedar_authorizer.specs.Responding.{deciding, authorization_of};
 
-pub use crate::authorizer::err::AuthorizationError;
 use cedar_evaluator::evaluator::{EvaluationError, Evaluator};
 use cedar_evaluator::request::Request;
 use cedar_extensions::Extensions;
 use cedar_layers::policies::{Effect, Entities, Policy, PolicyID, PolicySet};
+pub use cedar_responses::{AuthorizationError, Decision, Diagnostics, Response};
 use cedar_values::extensions::ExtensionFunctionLookupError;
 use std::alloc::{AllocError, Global};
 use std::collections::HashSet;
 
-mod copies;
-pub mod err;
 pub mod laws;
-mod texts;
 
-/// Decides requests, with these extensions and within so many levels of evaluation. It uses none of the extensions yet, as the
-/// evaluator uses none.
+/// Why a policy was skipped.
+pub mod err {
+    pub use cedar_responses::AuthorizationError;
+}
+
+/// Decides requests, with these extensions and within so many levels of evaluation.
 #[derive(Clone, Copy)]
 pub struct Authorizer<'x, 'f> {
     extensions: &'x Extensions<'f>,
     limit: usize,
-}
-
-/// Whether the request is allowed.
-#[derive(Debug, Clone, Copy, PartialEq, Eq)]
-pub enum Decision {
-    /// Some permit is satisfied and no forbid is.
-    Allow,
-    /// Each other case.
-    Deny,
-}
-
-/// A decision with what led to it. Equality is that of the parts.
-#[derive(Debug, PartialEq, Eq, Drop)]
-pub struct Response {
-    /// Whether the request is allowed.
-    pub decision: Decision,
-    /// What led to it.
-    pub diagnostics: Diagnostics,
-}
-
-/// The policies that determined a decision, and the errors met. Equality compares the reasons as a set, and the errors in order,
-/// with the locations that they hold.
-#[derive(Debug, PartialEq, Eq, Drop)]
-pub struct Diagnostics {
-    /// The satisfied forbids or, with none, the satisfied permits.
-    pub reason: HashSet<PolicyID>,
-    /// The error of each policy that erred, in the order of the policies.
-    pub errors: Vec<AuthorizationError>,
-}
-
-impl Response {
-    /// The response of these parts.
-    pub fn new(
-        decision: Decision,
-        reason: HashSet<PolicyID>,
-        errors: Vec<AuthorizationError>,
-    ) -> Response
-        ensures { response_view result ≡ record { decided_as = decision_view decision; is_reason = has_id reason; errors = errors_view errors.items } }
-    {
-        Response {
-            decision,
-            diagnostics: Diagnostics { reason, errors },
-        }
-    }
 }
 
 impl<'x, 'f> Authorizer<'x, 'f> {
@@ -90,7 +50,8 @@ impl<'x, 'f> Authorizer<'x, 'f> {
     }
 
     /// What the policies decide for the request over this store: a satisfied forbid denies, else a satisfied permit allows, else it
-    /// is denied. A policy that errs is skipped, and its error is recorded. Refuses only for want of memory.
+    /// is denied. A policy that errs is skipped, and its error is recorded; so is one of whose condition something is left, with
+    /// `NonValue`. Refuses only for want of memory.
     pub fn is_authorized(
         &self,
         alloc: Global,
@@ -98,10 +59,10 @@ impl<'x, 'f> Authorizer<'x, 'f> {
         policies: &PolicySet,
         entities: &Entities,
     ) -> Result<Response, AllocError>
-        ensures response { IfOk result (λ r. IsResponse (MayAnswerAs (authorization_of (request_view request) (store_view entities.now)) self.now.limit) (deciding policies.now) (response_view r)) }
-        ensures known { IfOk result (λ r. IsKnownResponse (authorization_of (request_view request) (store_view entities.now)) (deciding policies.now) (response_view r)) }
-        ensures limit { IfOk result (λ r. MeetsNoLimit (authorization_of (request_view request) (store_view entities.now)) self.now.limit (deciding policies.now) (response_view r)) }
-        ensures own_world { OwnWorldCompletesCall (authorization_of (request_view request) (store_view entities.now)) (deciding policies.now) }
+        ensures response { IfOk result (λ r. IsResponse (PolicyRuns (authorization_of (request_view request) (store_view entities.now) (extensions_view self.now.extensions.now)) (calls_of self.now.extensions.now) self.now.limit) (deciding policies.now) (response_view r)) }
+        ensures known { IfOk result (λ r. IsKnownResponse (authorization_of (request_view request) (store_view entities.now) (extensions_view self.now.extensions.now)) (calls_of self.now.extensions.now) (deciding policies.now) (response_view r)) }
+        ensures limit { IfOk result (λ r. MeetsNoLimit (authorization_of (request_view request) (store_view entities.now) (extensions_view self.now.extensions.now)) (calls_of self.now.extensions.now) self.now.limit (deciding policies.now) (response_view r)) }
+        ensures own_world { OwnWorldCompletesCall (authorization_of (request_view request) (store_view entities.now) (extensions_view self.now.extensions.now)) (deciding policies.now) }
     {
         let sheet = judge_all(
             alloc,
@@ -124,7 +85,7 @@ fn judge_all(
     extensions: &Extensions<'_>,
     limit: usize,
 ) -> Result<Sheet, AllocError>
-    ensures { IfOk result (λ s. IsJudged (MayAnswerAs (authorization_of (request_view request) (store_view entities.now)) limit) (deciding policies.now) s) }
+    ensures { IfOk result (λ s. IsJudged (PolicyRuns (authorization_of (request_view request) (store_view entities.now) (extensions_view extensions.now)) (calls_of extensions.now) limit) (deciding policies.now) s) }
 {
     let evaluator = Evaluator::new(alloc, request, entities, extensions, limit)?;
     let mut sheet = Sheet::new(alloc);
@@ -161,10 +122,10 @@ impl Sheet {
     fn judge(
         &mut self,
         alloc: Global,
-        evaluator: &Evaluator<'_, '_, '_>,
+        evaluator: &Evaluator<'_, '_>,
         policy: &Policy,
     ) -> Result<(), AllocError>
-        ensures { OnOk result (NotesAnswer (StoppingRuns (setting_of evaluator.now (policy_view policy.now).slots) (limit_of evaluator.now) (condition_term (policy_view policy.now))) self.old self.new (policy_view policy.now).id (policy_view policy.now).effect) }
+        ensures { OnOk result (NotesAnswer (IsPromised (setting_of evaluator.now (policy_view policy.now).slots) (calls_in evaluator.now) (limit_of evaluator.now) (condition_term (policy_view policy.now))) self.old self.new (policy_view policy.now).id (policy_view policy.now).effect) }
     {
         match evaluator.evaluate(alloc, policy) {
             Ok(true) => self.note_satisfied(policy.effect(), policy.id()),

@@ -1,4 +1,2 @@
-pub mod Steps
-pub mod Parts
-pub mod Elements
+pub mod Requests
 pub mod Knowing

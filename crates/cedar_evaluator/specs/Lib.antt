@@ -1,3 +1,3 @@
-pub mod Stops
 pub mod Decisions
+pub mod Variables
 pub mod Evaluations

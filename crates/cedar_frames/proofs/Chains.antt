@@ -1,5 +1,5 @@
 -- The stack as a chain of expressions, each of which waits for the next.
-use Rattle.std.proofs.Common.{◌≡◌, ℕ, zero, suc, ◌+◌, ◌<◌, ◌≤◌, List, [], ◌∷◌, ◌++◌, length, refl, sym, ap, ◌∙◌, subst, arith}
+use Rattle.std.proofs.Common.{◌≡◌, ℕ, zero, suc, ◌+◌, List, [], ◌∷◌, ◌++◌, length, refl, sym, ap, subst, arith}
 use Rattle.cedar_frames.specs.Frames.{Chain}
 
 module _ {F P : Type 0} (W : ℕ → F → P → P → Type 0) where

@@ -1,5 +1,5 @@
 -- What each turn of the loop keeps.
-use Rattle.std.proofs.Common.{◌≡◌, ℕ, zero, suc, ◌+◌, ◌-◌, ◌<◌, List, [], ◌∷◌, ◌++◌, length, refl, sym, subst, arith}
+use Rattle.std.proofs.Common.{◌≡◌, ℕ, suc, ◌-◌, ◌<◌, List, [], ◌∷◌, ◌++◌, length, refl, subst, arith}
 use Rattle.cedar_frames.specs.declared.turns.Mode.TheVariants.{Eval, Answer}
 use Rattle.cedar_frames.specs.Frames.{Chain, State}
 use Rattle.cedar_frames.proofs.Chains.{chain_length, chain_push, chain_pop, chain_limit}

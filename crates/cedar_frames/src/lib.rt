@@ -12,4 +12,4 @@ mod turns;
 
 pub use machine::{Machine, Step};
 pub use stack::Stack;
-pub use turns::{Mode, Turn, advance, interpret};
+pub use turns::{Mode, Turn, advance, interpret, interpret_on};

@@ -23,6 +23,13 @@ impl<F> Stack<F> {
         }
     }
 
+    /// The frames, the last on top.
+    pub fn frames(&self) -> &[F]
+        ensures { result.now ≡ self.now.frames.items }
+    {
+        &self.frames
+    }
+
     /// Whether there are as many frames as the limit allows.
     pub fn is_full(&self) -> bool
         ensures { IsTrue result ↔ length self.now.frames.items ≡ self.now.limit }

@@ -31,9 +31,23 @@ pub fn interpret<M: Machine>(machine: &M, alloc: Global, part: M::Part, limit: u
     ensures { M.right machine.now limit part result }
 {
     let mut stack = Stack::new(alloc, limit);
+    interpret_on(machine, alloc, &mut stack, part)
+}
+
+/// The same on this stack, which is empty, with as many levels as it has room for. Where an answer ended the whole, the stack has
+/// the frames that waited then.
+pub fn interpret_on<M: Machine>(
+    machine: &M,
+    alloc: Global,
+    stack: &mut Stack<M::Frame>,
+    part: M::Part,
+) -> M::Answer
+    requires { stack.old.frames.items ≡ [] }
+    ensures { M.right machine.now stack.old.limit part result }
+{
     let mut mode = Mode::Eval(part);
     'turns: loop {
-        match advance(machine, alloc, &mut stack, mode) {
+        match advance(machine, alloc, stack, mode) {
             Turn::Go(next) => mode = next,
             Turn::End(answer) => return answer,
         }

@@ -1,5 +1,7 @@
 pub mod Contexts
 pub mod Requests
+pub mod Types
+pub mod Texts
 pub mod Errors
 pub mod Creations
 pub mod Walks

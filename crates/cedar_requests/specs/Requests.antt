@@ -1,25 +1,57 @@
 -- What a request says, as plain data.
-use Rattle.std.specs.Prelude.{List, Option}
-use Rattle.cedar_model.specs.Settings.{Entry, known_entry, RequestPart}
+use Rattle.std.specs.Prelude.{List, [], Option, Some, None, option_map}
+use Rattle.cedar_model.specs.Terms.{Text, EntityName}
+use Rattle.cedar_model.specs.Settings.{Entry, known_entry, unknown_entry, ContextPart, absent_context, RequestPart}
 use Rattle.cedar_names.specs.declared.names.EntityUID.{EntityUID}
 use Rattle.cedar_names.specs.declared.names.Loc.{Loc}
-use Rattle.cedar_names.specs.Names.{uid_name}
+use Rattle.cedar_names.specs.Names.{type_text, uid_name}
+use Rattle.cedar_data.specs.declared.partial_value.PartialValue.{PartialValue}
+use Rattle.cedar_data.specs.Residuals.{partial_loc}
 use Rattle.cedar_requests.specs.declared.context.Context.{Context}
 use Rattle.cedar_requests.specs.declared.entry.EntityUIDEntry.{EntityUIDEntry}
-use Rattle.cedar_requests.specs.declared.entry.EntityUIDEntry.TheVariants.{Known}
+use Rattle.cedar_requests.specs.declared.entry.EntityUIDEntry.TheVariants.{Known, Unknown}
 use Rattle.cedar_requests.specs.declared.request.Request.{Request}
 use Rattle.cedar_requests.specs.Contexts.{context_view, context_locs}
 
--- the entity of an entry
-abbrev pub entry_uid : EntityUIDEntry → EntityUID
-entry_uid (Known u l) = u
+-- ---- entries
+
+-- the entity of an entry, where it is known
+abbrev pub entry_uid : EntityUIDEntry → Option EntityUID
+entry_uid (Known u l) = Some u
+entry_uid (Unknown t l) = None
 
 -- where an entry names it
 abbrev pub entry_loc : EntityUIDEntry → Option Loc
 entry_loc (Known u l) = l
+entry_loc (Unknown t l) = l
 
 abbrev pub entry_view : EntityUIDEntry → Entry
-entry_view e = known_entry (uid_name (entry_uid e))
+entry_view (Known u l) = known_entry (uid_name u)
+entry_view (Unknown t l) = unknown_entry (option_map type_text t)
+
+-- the name of a known entity
+abbrev pub entry_name : Entry → Option EntityName
+entry_name (known_entry e) = Some e
+entry_name (unknown_entry t) = None
+
+-- the type of an entity, where that is known
+abbrev pub entry_type : Entry → Option Text
+entry_type (known_entry e) = Some e.type_name
+entry_type (unknown_entry t) = t
+
+-- ---- contexts
+
+-- what a context says, where there is one
+abbrev pub context_given : Option Context → ContextPart
+context_given None = absent_context
+context_given (Some c) = context_view c
+
+-- where its values or expressions stand
+abbrev pub given_locs : Option Context → List (Option Loc)
+given_locs None = []
+given_locs (Some c) = context_locs c
+
+-- ---- requests
 
 -- what a request says
 abbrev pub request_view : Request → RequestPart
@@ -27,13 +59,26 @@ request_view r = record {
   principal_entry = entry_view r.principal;
   action_entry = entry_view r.action;
   resource_entry = entry_view r.resource;
-  context_part = context_view r.context;
+  context_part = context_given r.context;
 }
 
 -- the parts of a request as they were handed in, places included: who asks, to do what, with what, and in which context
-abbrev pub request_parts : Request → EntityUIDEntry × EntityUIDEntry × EntityUIDEntry × Context
+abbrev pub request_parts : Request → EntityUIDEntry × EntityUIDEntry × EntityUIDEntry × Option Context
 request_parts r = (r.principal, r.action, r.resource, r.context)
 
 -- where a request names its entities, and where the parts of its context stand
 abbrev pub request_locs : Request → Option Loc × Option Loc × Option Loc × List (Option Loc)
-request_locs r = (entry_loc r.principal, entry_loc r.action, entry_loc r.resource, context_locs r.context)
+request_locs r = (entry_loc r.principal, entry_loc r.action, entry_loc r.resource, given_locs r.context)
+
+-- ---- variables
+
+-- where the answers of the variables stand: of principal, action, resource and context
+abbrev pub AnswerLocs : Type 0
+AnswerLocs = Option Loc × Option Loc × Option Loc × Option Loc
+
+abbrev pub answer_locs : PartialValue × PartialValue × PartialValue × PartialValue → AnswerLocs
+answer_locs p = (partial_loc p.0, partial_loc p.1, partial_loc p.2, partial_loc p.3)
+
+-- an entity stands where its entry names it, and a context nowhere
+abbrev pub variable_locs : Request → AnswerLocs
+variable_locs r = (entry_loc r.principal, entry_loc r.action, entry_loc r.resource, None)

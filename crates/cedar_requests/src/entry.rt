@@ -1,24 +1,34 @@
 //! The entity that stands for a variable of the request.
-ghost use Rattle.std.specs.Prelude.{◌≡◌, Some, option_copied, IfOk};
+ghost use Rattle.std.specs.Prelude.{◌≡◌, None, Some, option_copied, option_map, IfOk};
 
-use cedar_data::{Value, ValueKind};
-use cedar_names::{EntityUID, Literal, Loc};
+use crate::variables::{known_part, unknown_part};
+use cedar_data::PartialValue;
+use cedar_names::{EntityType, EntityUID, Loc, Var};
 use std::alloc::{AllocError, Global};
-use std::rc::Rc;
 
-/// The entity that stands for a variable of the request.
+/// The entity that stands for a variable of the request: a known one, or one that is not known yet.
 #[derive(Debug, Clone, Drop)]
 pub enum EntityUIDEntry {
     /// A known entity, and where it is named, if that is known.
-    Known { euid: EntityUID, loc: Option<Loc> },
+    Known {
+        euid: EntityUID,
+        loc: Option<Loc>,
+    },
+    /// An entity that is not known yet: its type, if that is known, and where it is named, if that is known.
+    Unknown {
+        ty: Option<EntityType>,
+        loc: Option<Loc>,
+    },
 }
 
 impl EntityUIDEntry {
-    ghost use Rattle.cedar_model.specs.Terms.{entity_literal};
-    ghost use Rattle.cedar_model.specs.Values.{plain_represented};
-    ghost use Rattle.cedar_names.specs.Names.{uid_name};
-    ghost use Rattle.cedar_requests.specs.declared.entry.EntityUIDEntry.TheVariants.{Known};
-    ghost use Rattle.cedar_requests.specs.Requests.{entry_uid, entry_loc};
+    ghost use Rattle.cedar_model.specs.Settings.{entry_part};
+    ghost use Rattle.cedar_names.specs.Names.{type_text, uid_name};
+    ghost use Rattle.cedar_names.specs.Leaves.{variable_view};
+    ghost use Rattle.cedar_names.specs.Texts.{variable_text};
+    ghost use Rattle.cedar_data.specs.Residuals.{partial_view, partial_loc};
+    ghost use Rattle.cedar_requests.specs.declared.entry.EntityUIDEntry.TheVariants.{Known, Unknown};
+    ghost use Rattle.cedar_requests.specs.Requests.{entry_view, entry_uid, entry_loc, entry_name, entry_type};
 
     /// A known entity, named at this location.
     pub fn known(euid: EntityUID, loc: Option<Loc>) -> EntityUIDEntry
@@ -27,25 +37,65 @@ impl EntityUIDEntry {
         EntityUIDEntry::Known { euid, loc }
     }
 
-    /// The entity, where it is known.
-    pub fn uid(&self) -> Option<&EntityUID>
-        ensures { option_copied result ≡ Some (entry_uid self.now) }
+    /// An entity of which nothing is known, at no location.
+    pub fn unknown() -> EntityUIDEntry
+        ensures { result ≡ Unknown None None }
     {
-        match self {
-            EntityUIDEntry::Known { euid, loc: _ } => Some(euid),
+        EntityUIDEntry::Unknown {
+            ty: None,
+            loc: None,
         }
     }
 
-    /// The entity as a value, at the entry's location. Refuses only for want of memory.
-    pub fn evaluate(&self, alloc: Global) -> Result<Value, AllocError>
-        ensures what { IfOk result (λ v. v.what ≡ plain_represented (entity_literal (uid_name (entry_uid self.now)))) }
-        ensures place { IfOk result (λ v. v.loc ≡ entry_loc self.now) }
+    /// An entity of which the type alone is known, named at this location.
+    pub fn unknown_with_type(ty: EntityType, loc: Option<Loc>) -> EntityUIDEntry
+        ensures { result ≡ Unknown (Some ty) loc }
+    {
+        EntityUIDEntry::Unknown { ty: Some(ty), loc }
+    }
+
+    /// The entity, where it is known.
+    pub fn uid(&self) -> Option<&EntityUID>
+        ensures uid { option_copied result ≡ entry_uid self.now }
+        ensures name { option_map uid_name (option_copied result) ≡ entry_name (entry_view self.now) }
     {
         match self {
-            EntityUIDEntry::Known { euid, loc } => {
-                let uid = Rc::new(alloc, euid.clone()?)?;
-                Ok(Value::new(ValueKind::Lit(Literal::EntityUID(uid)), *loc))
-            }
+            EntityUIDEntry::Known { euid, loc: _ } => Some(euid),
+            EntityUIDEntry::Unknown { ty: _, loc: _ } => None,
+        }
+    }
+
+    /// The type of the entity, where that is known: of a known entity, or the type that an unknown one has.
+    pub fn get_type(&self) -> Option<&EntityType>
+        ensures { option_map type_text (option_copied result) ≡ entry_type (entry_view self.now) }
+    {
+        match self {
+            EntityUIDEntry::Known { euid, loc: _ } => Some(euid.entity_type()),
+            EntityUIDEntry::Unknown { ty, loc: _ } => ty.as_ref(),
+        }
+    }
+
+    /// What the variable answers that the entry stands for, at the entry's location: the entity, or the unknown of the
+    /// variable's name, which is annotated with the entity's type where that is known. Refuses only for want of memory.
+    pub fn evaluate(&self, alloc: Global, var: Var) -> Result<PartialValue, AllocError>
+        ensures view { IfOk result (λ p. partial_view p
+            ≡ entry_part (entry_view self.now) (variable_text (variable_view var))) }
+        ensures place { IfOk result (λ p. partial_loc p ≡ entry_loc self.now) }
+    {
+        let entry = self.clone()?;
+        Ok(entry.into_part(alloc, var)?)
+    }
+
+    /// What `evaluate` answers; the entity is moved there.
+    #[tactic(auto, unfolding(cedar_model::specs::Settings::entry_part))]
+    pub(crate) fn into_part(self, alloc: Global, var: Var) -> Result<PartialValue, AllocError>
+        ensures view { IfOk result (λ p. partial_view p
+            ≡ entry_part (entry_view self) (variable_text (variable_view var))) }
+        ensures place { IfOk result (λ p. partial_loc p ≡ entry_loc self) }
+    {
+        match self {
+            EntityUIDEntry::Known { euid, loc } => Ok(known_part(alloc, euid, loc)?),
+            EntityUIDEntry::Unknown { ty, loc } => Ok(unknown_part(alloc, var, ty, loc)?),
         }
     }
 }

@@ -6,8 +6,9 @@ mod entry;
 mod errors;
 mod request;
 pub mod shared;
+mod variables;
 
 pub use context::{Context, IntoIter};
 pub use entry::EntityUIDEntry;
 pub use errors::{ContextCreationError, context_creation_errors};
-pub use request::Request;
+pub use request::{Request, RequestType};

@@ -1,26 +1,30 @@
 //! Requests.
-ghost use Rattle.std.specs.Prelude.{◌≡◌, Some, option_copied, IfSome, IsSome};
+ghost use Rattle.std.specs.Prelude.{◌≡◌, Some, option_copied};
 
 mod copies;
+mod texts;
+mod types;
+mod values;
 
 use crate::context::Context;
 use crate::entry::EntityUIDEntry;
 use cedar_names::{EntityUID, Loc};
+pub use types::RequestType;
 
-/// A request: who asks to do what with what, and in which context.
+/// A request: who asks to do what with what, and in which context. Each of the four may be unknown.
 #[derive(Debug, Drop)]
 pub struct Request {
     principal: EntityUIDEntry,
     action: EntityUIDEntry,
     resource: EntityUIDEntry,
-    context: Context,
+    context: Option<Context>,
 }
 
 impl Request {
     ghost use Rattle.cedar_model.specs.Settings.{known_entry};
     ghost use Rattle.cedar_names.specs.Names.{uid_name};
     ghost use Rattle.cedar_requests.specs.declared.entry.EntityUIDEntry.TheVariants.{Known};
-    ghost use Rattle.cedar_requests.specs.Requests.{entry_view, request_view, request_parts};
+    ghost use Rattle.cedar_requests.specs.Requests.{entry_view, context_given, request_view, request_parts};
     ghost use Rattle.cedar_requests.specs.Contexts.{context_view};
 
     /// The request of these entities, each named at its location, in this context.
@@ -37,14 +41,55 @@ impl Request {
           context_part = context_view context;
         } }
         ensures parts { request_parts result ≡
-            (Known principal.0 principal.1, Known action.0 action.1, Known resource.0 resource.1, context) }
+            (Known principal.0 principal.1, Known action.0 action.1, Known resource.0 resource.1, Some context) }
     {
         Request {
             principal: EntityUIDEntry::known(principal.0, principal.1),
             action: EntityUIDEntry::known(action.0, action.1),
             resource: EntityUIDEntry::known(resource.0, resource.1),
+            context: Some(context),
+        }
+    }
+
+    /// The request of these entries, known or not, in this context or in one that is not known.
+    pub fn new_with_unknowns(
+        principal: EntityUIDEntry,
+        action: EntityUIDEntry,
+        resource: EntityUIDEntry,
+        context: Option<Context>,
+    ) -> Request
+        ensures view { request_view result ≡ record {
+          principal_entry = entry_view principal;
+          action_entry = entry_view action;
+          resource_entry = entry_view resource;
+          context_part = context_given context;
+        } }
+        ensures parts { request_parts result ≡ (principal, action, resource, context) }
+    {
+        Request {
+            principal,
+            action,
+            resource,
             context,
         }
+    }
+
+    /// The same as `new_with_unknowns`: no request is checked against a schema.
+    pub fn new_unchecked(
+        principal: EntityUIDEntry,
+        action: EntityUIDEntry,
+        resource: EntityUIDEntry,
+        context: Option<Context>,
+    ) -> Request
+        ensures view { request_view result ≡ record {
+          principal_entry = entry_view principal;
+          action_entry = entry_view action;
+          resource_entry = entry_view resource;
+          context_part = context_given context;
+        } }
+        ensures parts { request_parts result ≡ (principal, action, resource, context) }
+    {
+        Request::new_with_unknowns(principal, action, resource, context)
     }
 
     /// Who asks.
@@ -71,22 +116,28 @@ impl Request {
         &self.resource
     }
 
-    /// The context, where there is one.
+    /// The context: `None` where it is not known.
     pub fn context(&self) -> Option<&Context>
-        ensures context { IfSome result (λ c. context_view c.now ≡ (request_view self.now).context_part) }
-        ensures given { IsSome result }
-        ensures whole { option_copied result ≡ Some (request_parts self.now).3 }
+        ensures view { context_given (option_copied result) ≡ (request_view self.now).context_part }
+        ensures whole { option_copied result ≡ (request_parts self.now).3 }
     {
-        Some(&self.context)
+        self.context.as_ref()
     }
 
-    /// The request's parts: who asks, what is to be done, what with, and the context.
-    pub fn into_parts(self) -> (EntityUIDEntry, EntityUIDEntry, EntityUIDEntry, Context)
+    /// The request's parts: who asks, what is to be done, what with, and the context, if that is known.
+    pub fn into_parts(
+        self,
+    ) -> (
+        EntityUIDEntry,
+        EntityUIDEntry,
+        EntityUIDEntry,
+        Option<Context>,
+    )
         ensures view { record {
           principal_entry = entry_view result.0;
           action_entry = entry_view result.1;
           resource_entry = entry_view result.2;
-          context_part = context_view result.3;
+          context_part = context_given result.3;
         } ≡ request_view self }
         ensures parts { result ≡ request_parts self }
     {

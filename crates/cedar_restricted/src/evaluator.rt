@@ -44,7 +44,8 @@ impl<'x, 'f> RestrictedEvaluator<'x, 'f> {
     /// in the order of evaluation, the arguments' before the call's: `FuncDoesNotExist` where no extension has the
     /// function, `WrongNumArguments` where it takes more or fewer, or the function's own error, at the call's location
     /// where it has none. Fails with `RecursionLimit` exactly where the evaluation goes more levels deep than the
-    /// limit, which it never does for an expression that is no higher.
+    /// limit, which it never does for an expression that is no higher; it is at the location of the nearest expression
+    /// around that has one.
     pub fn partial_interpret(
         &self,
         alloc: Global,
@@ -64,7 +65,7 @@ impl<'x, 'f> RestrictedEvaluator<'x, 'f> {
                 let machine = Restricted {
                     extensions: self.extensions,
                 };
-                cedar_frames::interpret(&machine, alloc, expr, self.limit)
+                machine.evaluated(alloc, expr, self.limit)
             }
             Err(error) => Err(EvaluationError::Memory(error)),
         }

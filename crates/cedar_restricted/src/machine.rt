@@ -8,12 +8,12 @@ ghost use Rattle.cedar_restricted.specs.Evaluations.{ends_all, limit_error, want
 ghost use Rattle.cedar_restricted.specs.Frames.{Waits, IsRight, left_of};
 ghost use Rattle.cedar_restricted.specs.Laws.{right_limit, right_want, right_upward, limit_ends, some_left, some_most};
 
-use crate::errors::is_final;
+use crate::errors::{is_final, with_enclosing_loc};
 use crate::parts::{NextPart, PartsFrame};
 use cedar_data::{PartialValue, ResidualExpr, Value, ValueKind};
 use cedar_expressions::{Expr, ExprKind};
 use cedar_extensions::Extensions;
-use cedar_frames::{Machine, Step};
+use cedar_frames::{Machine, Stack, Step, interpret_on};
 use cedar_names::{Literal, Loc};
 use cedar_values::evaluator::err::{EvaluationError, evaluation_errors};
 use evaluation_errors::RecursionLimitError;
@@ -86,4 +86,34 @@ impl<'x, 'f> Machine for Restricted<'x, 'f> {
     ghost some_left = { some_left };
 
     ghost some_most = { some_most };
+}
+
+impl<'x, 'f> Restricted<'x, 'f> {
+    // What the expression is answered within so many levels. An error that came up in an expression that was not looked at stands at the
+    // nearest one around it that has a location.
+    pub(crate) fn evaluated(
+        &self,
+        alloc: Global,
+        expr: Expr,
+        limit: usize,
+    ) -> Result<PartialValue, EvaluationError>
+        ensures { IsRight (extensions_view self.now.extensions.now) (calls_of self.now.extensions.now) limit expr result }
+    {
+        let mut stack = Stack::new(alloc, limit);
+        match interpret_on(self, alloc, &mut stack, expr) {
+            Ok(answer) => Ok(answer),
+            Err(error) => Err(with_enclosing_loc(error, last_loc(stack.frames()))),
+        }
+    }
+}
+
+// The location of the last frame that has one.
+fn last_loc(frames: &[PartsFrame]) -> Option<Loc> {
+    for frame in frames.iter().rev() {
+        let loc = frame.loc();
+        if loc.is_some() {
+            return loc;
+        }
+    }
+    None
 }

@@ -115,6 +115,11 @@ impl PartsFrame {
         }
     }
 
+    // Where the set, the record or the call stands.
+    pub(crate) fn loc(&self) -> Option<Loc> {
+        self.loc
+    }
+
     /// The same after the answer of the part that it waits for: an error is its own, at its location if it has none.
     pub fn answered(
         self,

@@ -2,7 +2,12 @@
 //! policies that determined it, and the error of each policy that erred.
 #![tactic(auto)]
 
+ghost use Rattle.std.specs.Prelude.{◌≡◌, true};
+ghost use Rattle.cedar_extensions.specs.Outcomes.{ComesTo, is_lawful, abstracts};
+ghost use Rattle.cedar_service.specs.Stored.{is_open_of};
+
 mod documents;
+mod hours;
 mod names;
 mod policies;
 mod reading;
@@ -10,6 +15,13 @@ mod report;
 mod requests;
 mod stop;
 
+use cedar_extensions::{
+    Extension, ExtensionFunction, ExtensionFunctionObject, ExtensionOutputValue, Extensions,
+};
+use cedar_layers::expressions::{CallStyle, Type, Value};
+use cedar_values::evaluator::err::EvaluationError;
+use hours::is_open;
+use names::name;
 use std::alloc::Global;
 use std::io;
 use std::io::Write;
@@ -24,30 +36,60 @@ pub const NOT_WRITTEN: u8 = 1;
 pub const REPEATED_ID: u8 = 2;
 /// Memory was wanting.
 pub const OUT_OF_MEMORY: u8 = 3;
+/// The stored functions can't be used together.
+pub const WRONG_FUNCTIONS: u8 = 4;
 
 fn main(rt: HostRuntime) -> ExitCode {
     ExitCode::from(run(rt.alloc(), &mut io::writer(&rt)))
 }
 
 /// Prints the documents and the requests, and answers the exit status: `DONE`; `NOT_WRITTEN` where the writer failed; `REPEATED_ID`
-/// where two policies have one id; `OUT_OF_MEMORY` where memory was wanting.
+/// where two policies have one id; `OUT_OF_MEMORY` where memory was wanting; `WRONG_FUNCTIONS` where the stored functions can't be used
+/// together.
 pub fn run<W: Write>(alloc: Global, out: &mut W) -> u8 {
     match print_all(alloc, out) {
         Ok(()) => DONE,
         Err(Stop::Output) => NOT_WRITTEN,
         Err(Stop::RepeatedId) => REPEATED_ID,
         Err(Stop::Memory) => OUT_OF_MEMORY,
+        Err(Stop::Functions) => WRONG_FUNCTIONS,
     }
 }
 
+// The function that policies call is stored here, and lent from here on.
 fn print_all<W: Write>(alloc: Global, out: &mut W) -> Result<(), Stop> {
+    let func: ExtensionFunctionObject = Box::new(
+        alloc,
+        move |args: &[Value]| -> Result<ExtensionOutputValue, EvaluationError>
+            ensures computes { ComesTo result (is_open_of (abstracts args.now)) }
+            ensures lawful { is_lawful result ≡ true }
+        { is_open(alloc, args) },
+    )?;
+    let is_open = ExtensionFunction::new(
+        name(alloc, "isOpen")?,
+        CallStyle::FunctionStyle,
+        func,
+        Some(Type::Bool),
+        vec![in alloc; Type::Long]?,
+    );
+    let functions = vec![in alloc; is_open]?;
+    let hours = vec![in alloc; Extension::new(name(alloc, "hours")?, functions, Vec::new(alloc))]?;
+    let extensions = Extensions::specific_extensions(alloc, hours.as_slice())?;
+    print_with(alloc, &extensions, out)
+}
+
+fn print_with<W: Write>(
+    alloc: Global,
+    extensions: &Extensions<'_>,
+    out: &mut W,
+) -> Result<(), Stop> {
     let entities = documents::stored(alloc)?;
     let policies = policies::policies(alloc)?;
     for id in documents::DOCUMENTS {
         report::print_document(alloc, &entities, id, out)?;
     }
     for asked in &requests::ASKED {
-        report::print_request(alloc, asked, &policies, &entities, out)?;
+        report::print_request(alloc, asked, &policies, &entities, extensions, out)?;
     }
     Ok(())
 }

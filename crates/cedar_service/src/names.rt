@@ -1,12 +1,17 @@
-//! Entities and texts.
+//! Names, entities and texts.
 use cedar_layers::expressions::{EntityType, EntityUID, Expr, Literal, Name, Value};
 use std::alloc::{AllocError, Global};
 use std::rc::{Rc, RcStr};
 
+/// The name of this text.
+pub fn name(alloc: Global, text: &str) -> Result<Name, AllocError> {
+    Ok(Name::new(RcStr::from_str(alloc, text)?, None))
+}
+
 /// The entity of this type with this id.
 pub fn uid(alloc: Global, type_name: &str, id: &str) -> Result<EntityUID, AllocError> {
-    let name = Name::new(RcStr::from_str(alloc, type_name)?, None);
-    Ok(EntityUID::new(EntityType::new(name), RcStr::from_str(alloc, id)?, None))
+    let ty = EntityType::new(name(alloc, type_name)?);
+    Ok(EntityUID::new(ty, RcStr::from_str(alloc, id)?, None))
 }
 
 /// The same, as a literal.

@@ -1,5 +1,5 @@
 //! The policies.
-use crate::names::{entity_expr, text_expr};
+use crate::names::{entity_expr, name, text_expr};
 use crate::stop::Stop;
 use cedar_layers::expressions::{BinaryOp, Expr, Literal, SlotEnv, Var};
 use cedar_layers::policies::{Annotations, Effect, Policy, PolicyID, PolicySet};
@@ -46,11 +46,11 @@ fn sealed(alloc: Global) -> Result<Policy, AllocError> {
     policy(alloc, Effect::Forbid, "sealed", any(), action, any(), when)
 }
 
-// permit(principal, action, resource) when { resource.public && context.hour < 18 };
+// permit(principal, action, resource) when { resource.public && isOpen(context.hour) };
 // It errs where the document does not say whether it is public.
 fn public(alloc: Global) -> Result<Policy, AllocError> {
     let public = attribute(alloc, Var::Resource, "public")?;
-    let when = Expr::and(alloc, public, is_day(alloc)?)?;
+    let when = Expr::and(alloc, public, is_open(alloc)?)?;
     policy(alloc, Effect::Permit, "public", any(), any(), any(), when)
 }
 
@@ -93,10 +93,10 @@ fn is_edit(alloc: Global) -> Result<Expr, AllocError> {
     Expr::binary_app(alloc, BinaryOp::Eq, Expr::var(Var::Action), edit)
 }
 
-// context.hour < 18
-fn is_day(alloc: Global) -> Result<Expr, AllocError> {
-    let hour = attribute(alloc, Var::Context, "hour")?;
-    Expr::binary_app(alloc, BinaryOp::Less, hour, Expr::val(Literal::Long(18)))
+// isOpen(context.hour)
+fn is_open(alloc: Global) -> Result<Expr, AllocError> {
+    let hours = vec![in alloc; attribute(alloc, Var::Context, "hour")?]?;
+    Expr::call_extension_fn(alloc, name(alloc, "isOpen")?, hours)
 }
 
 // var.name

@@ -52,9 +52,10 @@ pub fn print_request<W: Write>(
     asked: &Asked,
     policies: &PolicySet,
     entities: &Entities,
+    extensions: &Extensions<'_>,
     out: &mut W,
 ) -> Result<(), Stop> {
-    let response = decide(alloc, asked, policies, entities)?;
+    let response = decide(alloc, asked, policies, entities, extensions)?;
     let decision = response.decision;
     writeln!(
         out,
@@ -75,9 +76,9 @@ fn decide(
     asked: &Asked,
     policies: &PolicySet,
     entities: &Entities,
+    extensions: &Extensions<'_>,
 ) -> Result<Response, AllocError> {
-    let extensions = Extensions::none();
-    let authorizer = Authorizer::new(&extensions, LIMIT);
+    let authorizer = Authorizer::new(extensions, LIMIT);
     authorizer.is_authorized(alloc, asked.request(alloc)?, policies, entities)
 }
 

@@ -1,4 +1,5 @@
 //! Why the service stops.
+use cedar_extensions::ExtensionInitializationError;
 use cedar_layers::policies::PolicySetError;
 use std::alloc::{AllocError, AllocFailed};
 use std::io;
@@ -12,6 +13,8 @@ pub enum Stop {
     Output,
     /// Two policies have one id.
     RepeatedId,
+    /// The stored functions can't be used together.
+    Functions,
 }
 
 impl From<AllocError> for Stop {
@@ -41,6 +44,16 @@ impl From<PolicySetError> for Stop {
         match error {
             PolicySetError::Occupied { id: _ } => Stop::RepeatedId,
             PolicySetError::Memory(_) => Stop::Memory,
+        }
+    }
+}
+
+impl From<ExtensionInitializationError> for Stop {
+    fn from(error: ExtensionInitializationError) -> Stop {
+        match error {
+            ExtensionInitializationError::FuncMultiplyDefined(_) => Stop::Functions,
+            ExtensionInitializationError::MultipleConstructorsSameSignature(_) => Stop::Functions,
+            ExtensionInitializationError::Memory(_) => Stop::Memory,
         }
     }
 }

@@ -1,8 +1,9 @@
 //! Copies of requests.
 ghost use Rattle.std.specs.Prelude.{◌≡◌, IfOk};
-ghost use Rattle.cedar_requests.specs.Requests.{entry_view, entry_loc};
+ghost use Rattle.cedar_requests.specs.Requests.{entry_view, entry_loc, context_given, given_locs};
 
 use super::Request;
+use crate::context::Context;
 use crate::entry::EntityUIDEntry;
 use std::alloc::AllocError;
 
@@ -15,7 +16,7 @@ impl Clone for Request {
         let principal = copied(&self.principal)?;
         let action = copied(&self.action)?;
         let resource = copied(&self.resource)?;
-        let context = self.context.clone()?;
+        let context = copied_context(&self.context)?;
         Ok(Request {
             principal,
             action,
@@ -30,4 +31,14 @@ fn copied(entry: &EntityUIDEntry) -> Result<EntityUIDEntry, AllocError>
     ensures loc { IfOk result (λ e. entry_loc e ≡ entry_loc entry.now) }
 {
     Ok(entry.clone()?)
+}
+
+fn copied_context(context: &Option<Context>) -> Result<Option<Context>, AllocError>
+    ensures view { IfOk result (λ c. context_given c ≡ context_given context.now) }
+    ensures locs { IfOk result (λ c. given_locs c ≡ given_locs context.now) }
+{
+    match context {
+        Some(context) => Ok(Some(context.clone()?)),
+        None => Ok(None),
+    }
 }

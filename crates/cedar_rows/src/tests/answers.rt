@@ -1,16 +1,17 @@
 //! What is answered to a row, as text, under the question that is asked of it.
 //!
 //! - of the words of an expression: `value LIMIT`, `place LIMIT` and `error LIMIT` (what it evaluates to, where that or its error stands, and the error's text; with no limit as many levels as it needs),
+//!   `partial LIMIT`, `partial-place LIMIT` and `residual LIMIT` (what it partly evaluates to, where that stands, and the words of what is left of it),
 //!   `text`, `cut BOUND` (`all` for no bound), `copy`, `shape`, and `substitute x WORDS`, which is answered by the words of an expression;
 //! - of the words of a value: `operator PLACE` (values and then an operator), `value-text`, `value-cut BOUND`,
 //!   `value-expression`, `value-type`, `value-copy`, `value-elements`, `part-text`, `part-cut BOUND`, `part-copy` and `part-expression`;
 //! - of two expressions with ` ~ ` between them: `equal`; of the keys of a record: `keys`; of two values: `order`; of a leaf: `leaf`; of the words of an error: `built-error PLACE`;
 //! - of the ids of policies: `decide LIMIT`, `decide-texts LIMIT` (the errors' own texts), `decide-copy LIMIT` (whether a copy
-//!   is equal), `evaluate LIMIT`, `set`, `set-debug`, `policy` and `condition`;
+//!   is equal), `evaluate LIMIT`, `partly-evaluate LIMIT`, `set`, `set-debug`, `policy` and `condition`;
 //! - of the setting: `request` and `entity`;
 //! - of the arguments of the program: `run`.
 pub mod described;
-mod evaluated;
+pub mod evaluated;
 mod judged;
 mod operated;
 mod stored;
@@ -28,7 +29,7 @@ use std::test::Fail;
 pub fn answer(
     alloc: Global,
     facts: &str,
-    setting: &Setting,
+    setting: &Setting<'_, '_>,
     question: &str,
     words: &str,
     want: &str,
@@ -36,13 +37,16 @@ pub fn answer(
     let (kind, argument) = headed(question);
     match kind {
         "value" | "place" | "error" => evaluated::answer(alloc, setting, kind, argument, words),
+        "partial" | "partial-place" | "residual" => evaluated::partly(
+            alloc, setting, kind, argument, words, want,
+        ),
         "substitute" => written::substituted(alloc, argument, words, want),
         "text" | "cut" | "copy" | "shape" => written::answer(alloc, kind, argument, words),
         "operator" => operated::answer(alloc, argument, words),
         "built-error" => operated::built_error(alloc, argument, words),
-        "decide" | "decide-texts" | "decide-copy" | "evaluate" => judged::answer(
-            alloc, facts, setting, kind, argument, words,
-        ),
+        "decide" | "decide-texts" | "decide-copy" | "evaluate" | "partly-evaluate" => {
+            judged::answer(alloc, facts, setting, kind, argument, words)
+        }
         "set" | "set-debug" | "policy" | "condition" => judged::listed(alloc, facts, kind, words),
         "request" | "entity" => stored::answer(alloc, setting, kind, words),
         "run" => program::answer(alloc, words),

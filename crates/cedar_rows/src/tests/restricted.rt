@@ -72,6 +72,10 @@ asking-place: T:x call:nosuch:1 @ => 1-2
 asking-place: L:1 call:unknown:1 @ => 1-2
 asking-place: L:1 @ call:unknown:1 => 1-2
 asking-place: L:1 call:unknown:1 => none
+short-place: L:1 set:1 @ => 1-2
+short-place: L:1 @ set:1 => none
+short-place: L:1 record:a => none
+short-place: L:1 @ => a value
 "#;
 
 #[test]
@@ -144,6 +148,7 @@ fn of_restricted(alloc: Global, question: &str, e: &RestrictedExpr) -> Result<St
         "asking" => asking_text(alloc, e),
         "asking-type" => asking_type(alloc, e),
         "asking-place" => asking_place(alloc, e),
+        "short-place" => short_place(alloc, e),
         "wholly" => Ok(value_text(alloc, e, 1000)?),
         _ => Err(Fail::from("no such question")),
     }
@@ -328,6 +333,14 @@ fn asking_place(alloc: Global, e: &RestrictedExpr) -> Result<String, Fail> {
     match asked(alloc, e)? {
         Ok(PartialValue::Value(_)) => Ok(String::from_str(alloc, "a value")?),
         Ok(PartialValue::Residual(residual)) => place(alloc, residual.as_expr().source_loc()),
+        Err(error) => place(alloc, error.source_loc()),
+    }
+}
+
+// Where the recursion limit stands within one level.
+fn short_place(alloc: Global, e: &RestrictedExpr) -> Result<String, Fail> {
+    match partly(alloc, e, 1) {
+        Ok(_) => Ok(String::from_str(alloc, "a value")?),
         Err(error) => place(alloc, error.source_loc()),
     }
 }

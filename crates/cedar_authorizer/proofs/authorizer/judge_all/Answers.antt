@@ -1,8 +1,9 @@
 use Rattle.std.proofs.Common.{sym, ap, ◌∙◌, subst, map}
 use Rattle.cedar_layers.specs.Policies.{policy_view, condition_term, decides_as}
 use Rattle.cedar_layers.specs.PolicySets.{policies_left}
-use Rattle.cedar_evaluator.specs.Evaluations.{setting_of}
-use Rattle.cedar_evaluator.specs.Stops.{StoppingRuns}
+use Rattle.cedar_evaluator.specs.Evaluations.{setting_of, calls_in}
+use Rattle.cedar_model.specs.Rules.{Runs}
+use Rattle.cedar_extensions.specs.Extensions.{calls_of}
 use Rattle.cedar_authorizer.proofs.Noting.{judged_none, judged_more, judged_all}
 use Rattle.cedar_authorizer.proofs.authorizer.judge_all.Goals as goal
 
@@ -15,7 +16,7 @@ policies-preserved g c =
     let z = c.in_ok-judge.ensures in
     let slots = (policy_view c.in-Some.policy.now).slots in
     let term = condition_term (policy_view c.in-Some.policy.now) in
-    judged_more _ _ c.policies.sheet c.judge.new.self (decides_as (policy_view c.in-Some.policy.now)) _ _ (ap (λ ps. map decides_as (map policy_view ps)) c.in-Some.ensures.steps) c.policies.invariant (z.0, subst (λ s. StoppingRuns s c.args.limit term z.0) (c.in_ok-evaluator.ensures.setting slots) (subst (λ n. StoppingRuns (setting_of c.in_ok-evaluator.evaluator slots) n term z.0) c.in_ok-evaluator.ensures.limit z.1), z.2)
+    judged_more _ _ c.policies.sheet c.judge.new.self (decides_as (policy_view c.in-Some.policy.now)) _ _ (ap (λ ps. map decides_as (map policy_view ps)) c.in-Some.ensures.steps) c.policies.invariant (z.0, subst (λ s. Runs s (calls_of c.args.extensions.now) c.args.limit term z.0) (c.in_ok-evaluator.ensures.setting slots) (subst (λ x. Runs (setting_of c.in_ok-evaluator.evaluator slots) (calls_of x) c.args.limit term z.0) c.in_ok-evaluator.ensures.extensions (subst (λ n. Runs (setting_of c.in_ok-evaluator.evaluator slots) (calls_in c.in_ok-evaluator.evaluator) n term z.0) c.in_ok-evaluator.ensures.limit z.1.runs)), z.2)
 
 pub returns : goal.returns
 returns g c =

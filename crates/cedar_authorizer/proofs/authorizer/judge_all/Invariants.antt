@@ -3,10 +3,12 @@ use Rattle.cedar_layers.specs.Policies.{policy_view, decides_as}
 use Rattle.cedar_layers.specs.PolicySets.{policies_left}
 use Rattle.cedar_layers.specs.Stores.{store_view}
 use Rattle.cedar_requests.specs.Requests.{request_view}
-use Rattle.cedar_authorizer.specs.Responding.{MayAnswerAs, deciding, authorization_of}
+use Rattle.cedar_model.specs.AuthorizationLaws.{PolicyRuns}
+use Rattle.cedar_extensions.specs.Extensions.{extensions_view, calls_of}
+use Rattle.cedar_authorizer.specs.Responding.{deciding, authorization_of}
 use Rattle.cedar_authorizer.proofs.Noting.{IsJudgedSoFar}
 use Rattle.cedar_authorizer.proofs.authorizer.judge_all.Given as goal
 
 abbrev pub invariant-policies : goal.invariant-policies
 invariant-policies g l =
-    IsJudgedSoFar (MayAnswerAs (authorization_of (request_view l.fn.request) (store_view l.fn.entities)) l.fn.limit) (deciding l.fn.policies) l.sheet (map decides_as (map policy_view (policies_left l.policy-iterator)))
+    IsJudgedSoFar (PolicyRuns (authorization_of (request_view l.fn.request) (store_view l.fn.entities) (extensions_view l.fn.extensions)) (calls_of l.fn.extensions) l.fn.limit) (deciding l.fn.policies) l.sheet (map decides_as (map policy_view (policies_left l.policy-iterator)))

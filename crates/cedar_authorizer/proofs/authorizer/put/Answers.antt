@@ -1,4 +1,4 @@
-use Rattle.cedar_authorizer.specs.Responding.{has_id}
+use Rattle.cedar_responses.specs.Responses.{has_id}
 use Rattle.cedar_authorizer.proofs.Noting.{putting, under_text}
 use Rattle.cedar_authorizer.proofs.authorizer.put.Goals as goal
 

@@ -1,4 +1,4 @@
-use Rattle.std.proofs.Common.{◌≡◌, subst, arith, rules, refl, length, ◌++◌, ◌∷◌, [], ◌<◌}
+use Rattle.std.proofs.Common.{subst, arith, rules, refl, length, ◌++◌, ◌∷◌, [], ◌<◌}
 use Rattle.std.proofs.lemmas.Grind.{common_steps}
 use Rattle.cedar_frames.specs.Frames.{State}
 use Rattle.cedar_frames.proofs.States.{full, start_done, start_wait, resume_done, resume_wait}

@@ -7,9 +7,9 @@ use crate::tests::reader::policies::{policies, policy};
 use crate::tests::reader::settings::Setting;
 use cedar_authorizer::authorizer::{AuthorizationError, Authorizer, Response};
 use cedar_evaluator::evaluator::{EvaluationError, Evaluator};
-use cedar_extensions::Extensions;
 use cedar_layers::expressions::{Expr, ExprKind};
 use cedar_layers::policies::{Effect, Policy, PolicySet};
+use either::Either;
 use std::alloc::{AllocError, Global};
 use std::test::Fail;
 
@@ -17,15 +17,15 @@ use std::test::Fail;
 pub fn answer(
     alloc: Global,
     facts: &str,
-    setting: &Setting,
+    setting: &Setting<'_, '_>,
     kind: &str,
     limit_text: &str,
     ids: &str,
 ) -> Result<String, Fail> {
     let limit = limit(limit_text)?;
-    if kind == "evaluate" {
+    if kind == "evaluate" || kind == "partly-evaluate" {
         let policy = policy(alloc, facts, ids)?;
-        return or_fail(truth_text(alloc, &evaluated(alloc, setting, limit, &policy)));
+        return or_fail(condition_answer(alloc, setting, kind, limit, &policy));
     }
     let policies = PolicySet::try_from_iter(alloc, policies(alloc, facts, ids)?)?;
     or_fail(decided(alloc, setting, kind, limit, &policies))
@@ -46,13 +46,12 @@ pub fn listed(alloc: Global, facts: &str, kind: &str, ids: &str) -> Result<Strin
 
 fn decided(
     alloc: Global,
-    setting: &Setting,
+    setting: &Setting<'_, '_>,
     kind: &str,
     limit: usize,
     policies: &PolicySet,
 ) -> Result<String, AllocError> {
-    let extensions = Extensions::none();
-    let authorizer = Authorizer::new(&extensions, limit);
+    let authorizer = Authorizer::new(setting.extensions, limit);
     let request = setting.request.clone()?;
     let response = authorizer.is_authorized(alloc, request, policies, &setting.entities)?;
     if kind == "decide-copy" {
@@ -72,16 +71,22 @@ fn truth(alloc: Global, is_true: bool) -> Result<String, AllocError> {
     is_true.to_string(alloc)
 }
 
-fn evaluated(
+// What the condition comes out as, or partly comes out as.
+fn condition_answer(
     alloc: Global,
-    setting: &Setting,
+    setting: &Setting<'_, '_>,
+    kind: &str,
     limit: usize,
     policy: &Policy,
-) -> Result<bool, EvaluationError> {
-    let extensions = Extensions::none();
+) -> Result<String, AllocError> {
     let request = setting.request.clone()?;
-    let evaluator = Evaluator::new(alloc, request, &setting.entities, &extensions, limit)?;
-    evaluator.evaluate(alloc, policy)
+    let evaluator = Evaluator::new(alloc, request, &setting.entities, setting.extensions, limit)?;
+    let evaluator = evaluator.with_unknowns_mapper(&setting.map);
+    if kind == "evaluate" {
+        truth_text(alloc, &evaluator.evaluate(alloc, policy))
+    } else {
+        left_text(alloc, &evaluator.partial_evaluate(alloc, policy))
+    }
 }
 
 fn truth_text(
@@ -90,6 +95,17 @@ fn truth_text(
 ) -> Result<String, AllocError> {
     match outcome {
         Ok(is_true) => is_true.to_string(alloc),
+        Err(error) => described(alloc, error),
+    }
+}
+
+fn left_text(
+    alloc: Global,
+    outcome: &Result<Either<bool, Expr>, EvaluationError>,
+) -> Result<String, AllocError> {
+    match outcome {
+        Ok(Either::Left(is_true)) => is_true.to_string(alloc),
+        Ok(Either::Right(expr)) => expr.to_string(alloc),
         Err(error) => described(alloc, error),
     }
 }

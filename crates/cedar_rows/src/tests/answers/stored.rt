@@ -1,16 +1,22 @@
 //! What a request and a store hold.
 use super::Place;
+use super::evaluated::place_of;
 use crate::tests::reader::leaves::uid;
 use crate::tests::reader::settings::Setting;
 use cedar_evaluator::request::{Context, EntityUIDEntry, Request};
-use cedar_layers::expressions::{EntityUID, PartialValue, Unknown};
+use cedar_layers::expressions::{EntityUID, PartialValue, Unknown, Var};
 use cedar_layers::policies::{Dereference, Entity};
 use std::alloc::{AllocError, Global};
 use std::rc::RcStr;
 use std::test::Fail;
 
 /// The part of the request of this name, or what the store has of the entity of this name.
-pub fn answer(alloc: Global, setting: &Setting, kind: &str, name: &str) -> Result<String, Fail> {
+pub fn answer(
+    alloc: Global,
+    setting: &Setting<'_, '_>,
+    kind: &str,
+    name: &str,
+) -> Result<String, Fail> {
     match kind {
         "request" => asked(alloc, &setting.request, name),
         _ => Ok(found(alloc, setting, &uid(alloc, name)?)?),
@@ -19,9 +25,11 @@ pub fn answer(alloc: Global, setting: &Setting, kind: &str, name: &str) -> Resul
 
 fn asked(alloc: Global, request: &Request, name: &str) -> Result<String, Fail> {
     match name {
-        "principal" => Ok(entry_text(alloc, request.principal())?),
-        "action" => Ok(entry_text(alloc, request.action())?),
-        "resource" => Ok(entry_text(alloc, request.resource())?),
+        "principal" => Ok(entry_text(alloc, request.principal(), Var::Principal)?),
+        "action" => Ok(entry_text(alloc, request.action(), Var::Action)?),
+        "resource" => Ok(entry_text(alloc, request.resource(), Var::Resource)?),
+        "text" => Ok(request.to_string(alloc)?),
+        "type" => Ok(types_text(alloc, request)?),
         _ => match request.context() {
             Some(context) => Ok(context_text(alloc, context)?),
             None => Ok(String::from_str(alloc, "no context")?),
@@ -29,13 +37,27 @@ fn asked(alloc: Global, request: &Request, name: &str) -> Result<String, Fail> {
     }
 }
 
-// The entity, the value that stands for it, and where that stands.
-fn entry_text(alloc: Global, entry: &EntityUIDEntry) -> Result<String, AllocError> {
-    let value = entry.evaluate(alloc)?;
-    let place = Place(value.source_loc());
+// The entity, or its type if that is known, what the variable answers, and where that stands.
+fn entry_text(alloc: Global, entry: &EntityUIDEntry, var: Var) -> Result<String, AllocError> {
+    let part = entry.evaluate(alloc, var)?;
+    let place = place_of(&part);
     match entry.uid() {
-        Some(uid) => format!(in alloc; "{uid}, {value} {place}"),
-        None => format!(in alloc; "not known, {value} {place}"),
+        Some(uid) => format!(in alloc; "{uid}, {part} {place}"),
+        None => match entry.get_type() {
+            Some(ty) => format!(in alloc; "of type {ty}, {part} {place}"),
+            None => format!(in alloc; "not known, {part} {place}"),
+        },
+    }
+}
+
+// The types of a request that is known, and its action.
+fn types_text(alloc: Global, request: &Request) -> Result<String, AllocError> {
+    match request.to_request_type()? {
+        Some(types) => {
+            let (principal, action, resource) = (types.principal, types.action, types.resource);
+            format!(in alloc; "{principal} {action} {resource}")
+        }
+        None => String::from_str(alloc, "no type"),
     }
 }
 
@@ -49,7 +71,7 @@ fn context_text(alloc: Global, context: &Context) -> Result<String, AllocError> 
     )
 }
 
-fn found(alloc: Global, setting: &Setting, uid: &EntityUID) -> Result<String, AllocError> {
+fn found(alloc: Global, setting: &Setting<'_, '_>, uid: &EntityUID) -> Result<String, AllocError> {
     match setting.entities.entity(alloc, uid)? {
         Dereference::NoSuchEntity => String::from_str(alloc, "no such entity"),
         Dereference::Residual(unknown) => unknown_text(alloc, &unknown),

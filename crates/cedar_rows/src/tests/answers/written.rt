@@ -66,8 +66,7 @@ fn shape_text(alloc: Global, expr: &Expr) -> Result<String, AllocError> {
     format!(in alloc; "unknown {has_unknown}, projectable {is_projectable}")
 }
 
-/// The words that are wanted, where the expression that they write is the one that substitution answers, else the text of that one.
-/// The map has a value at the first word, or nothing.
+/// What `wanted_or_text` says of the expression that substitution answers. The map has a value at the first word, or nothing.
 pub fn substituted(alloc: Global, map: &str, words: &str, want: &str) -> Result<String, Fail> {
     let map = mapping(alloc, map)?;
     substituted_by(alloc, &map, words, want)
@@ -86,9 +85,10 @@ fn substituted_by(
     }
 }
 
-fn wanted_or_text(alloc: Global, replaced: &Expr, want: &str) -> Result<String, Fail> {
+/// The words that are wanted, where the expression that they write is this one, else the text of this one.
+pub fn wanted_or_text(alloc: Global, expr: &Expr, want: &str) -> Result<String, Fail> {
     let wanted = expression(alloc, want)?;
-    shown_or(alloc, replaced, wanted == *replaced, want)
+    shown_or(alloc, expr, wanted == *expr, want)
 }
 
 // What is wanted, where it is met, and else the text of the expression.

@@ -1,16 +1,19 @@
 //! Reads expressions that are written as words, each after its parts: `L:1 L:2 add` is `1 + 2`.
 //!
-//! - `B:true`, `L:-1`, `T:text` and `E:User:a` are literals, `V:principal` a variable, `S:principal` a slot, `U:x` and `U:x:Long` unknowns.
+//! - `B:true`, `L:-1`, `T:text` and `E:User:a` are literals, `V:principal` a variable, `S:principal` a slot, `U:x` and `U:x:Long` unknowns;
+//!   `M:User:a` is the unknown that stands for an entity that a partial store lacks.
 //! - `eq`, `add`, `isEmpty`, `and`, `if` and the like take the parts before them.
 //! - `get:k`, `has:k`, `ext:k.l`, `like:p*` and `is:User` take the part before them. In a pattern `\` goes before a character that stands for itself.
 //! - `set:3` takes three parts, `record:k,l` and `fields:k,l` a part for each key, and `call:f:2` two arguments; `call:f@1-2:2` has its name at a place.
 //! - `@1-2` puts the part before it at this place.
+//! - `many:9:record:a;get:a` are the words `record:a get:a`, nine times.
 use super::leaves::{
-    attributes, binary, entity_type, literal, name, pattern, place, slot, text, unary, unknown,
-    variable,
+    attributes, binary, entity_type, literal, missing, name, pattern, place, slot, text, unary,
+    unknown, variable,
 };
 use super::{Parts, mapped};
 use cedar_layers::expressions::{Expr, Literal};
+use cedar_restricted_expressions::RestrictedExpr;
 use std::alloc::Global;
 use std::test::Fail;
 
@@ -18,9 +21,31 @@ use std::test::Fail;
 pub fn expression(alloc: Global, words: &str) -> Result<Expr, Fail> {
     let mut parts: Parts<Expr> = Parts::new(alloc);
     for word in words.split(' ') {
-        read(alloc, word, &mut parts)?;
+        match word.strip_prefix("many:") {
+            Some(repeated) => read_many(alloc, repeated, &mut parts)?,
+            None => read(alloc, word, &mut parts)?,
+        }
     }
     parts.only()
+}
+
+fn read_many(alloc: Global, repeated: &str, parts: &mut Parts<Expr>) -> Result<(), Fail> {
+    let (count, words) = repeated.split_once(':').ok_or("a count and words")?;
+    let count = count.parse::<usize>()?;
+    for _ in 0..count {
+        for word in words.split(';') {
+            read(alloc, word, parts)?;
+        }
+    }
+    Ok(())
+}
+
+/// The restricted expression that these words write.
+pub fn restricted(alloc: Global, words: &str) -> Result<RestrictedExpr, Fail> {
+    match RestrictedExpr::new(expression(alloc, words)?) {
+        Ok(expr) => Ok(expr),
+        Err(_) => Err(Fail::from("not restricted")),
+    }
 }
 
 fn read(alloc: Global, word: &str, parts: &mut Parts<Expr>) -> Result<(), Fail> {
@@ -42,6 +67,7 @@ fn part(alloc: Global, word: &str, parts: &mut Parts<Expr>) -> Result<Expr, Fail
         Some(("V", rest)) => Ok(Expr::var(variable(rest)?)),
         Some(("S", rest)) => Ok(Expr::slot(slot(rest)?)),
         Some(("U", rest)) => Ok(Expr::unknown(unknown(alloc, rest)?)),
+        Some(("M", rest)) => Ok(Expr::unknown(missing(alloc, rest)?)),
         Some(("set", rest)) => listed(alloc, rest, parts),
         Some(("record", keys)) => Ok(Expr::record(alloc, parts.named(alloc, keys)?)?),
         Some(("fields", keys)) => {

@@ -158,6 +158,18 @@ pub fn unknown(alloc: Global, written: &str) -> Result<Unknown, Fail> {
     }
 }
 
+/// The unknown that stands for the entity of this name: it is named as the entity prints, and has the entity's type.
+pub fn missing(alloc: Global, written: &str) -> Result<Unknown, Fail> {
+    let uid = uid(alloc, written)?;
+    Ok(standing_for(alloc, &uid)?)
+}
+
+fn standing_for(alloc: Global, uid: &EntityUID) -> Result<Unknown, AllocError> {
+    let name = uid.to_string(alloc)?;
+    let ty = uid.entity_type().clone()?;
+    Ok(Unknown::new_with_type(RcStr::from_str(alloc, name.as_str())?, Type::Entity { ty }))
+}
+
 /// The attributes of a path, as `k.l`.
 pub fn attributes(alloc: Global, written: &str) -> Result<FirstRest<RcStr>, AllocError> {
     let (first, others) = match written.split_once('.') {

@@ -1,30 +1,40 @@
 //! Reads the setting of a table. Each line states a fact; a line that states none says nothing.
 //!
-//! - `principal User:a`, `action Action:view` and `resource Photo:p 1-2` are the request's entities, each with its place if it has one.
+//! - `principal User:a`, `action Action:view` and `resource Photo:p 1-2` are the request's entities, each with its place if it has one;
+//!   `principal unknown` and `principal unknown User` are not known, the second of that type.
+//! - `context WORDS` is the context that the words of a restricted expression are evaluated to; `context none` is not known; without
+//!   either it is empty.
 //! - `slot resource Photo:p` links a slot.
 //! - `store partial`: an entity that the store lacks is not known.
 //! - `entity User:a` is an entity of the store; with `entity User:a second` the facts on it name it `second`.
-//! - `attribute User:a age L:30` and `tag User:a age L:30` have the words of a value, or an unknown as `U:x`.
+//! - `attribute User:a age L:30` and `tag User:a age L:30` have the words of a value, or, where one of them is an unknown, of a restricted
+//!   expression.
 //! - `ancestor User:a Group:g`.
-//! - `policies` reads those on policies.
+//! - `map x L:1` is the value of an unknown.
+//! - `functions` and `overloads` say which functions are stored, and for which types `<` is overloaded; `policies` reads the facts on
+//!   policies.
 ghost use Rattle.std.specs.Prelude.{◌≡◌, true};
 ghost use Rattle.cedar_layers.specs.Parts.{parts_view, are_restricted_parts};
 ghost use mathlib.Core.Bool.{Bool-set};
 
-use super::leaves::{place, slot, text, uid, unknown};
+use super::expressions::restricted;
+use super::leaves::{entity_type, place, slot, text, uid};
 use super::values::value;
 use super::{fact, first_fact, headed};
-use cedar_evaluator::request::{Context, Request};
-use cedar_layers::expressions::{
-    EntityUID, Expr, Loc, PartialValue, ResidualExpr, SlotEnv, Unknown, Value,
-};
+use cedar_evaluator::request::{Context, EntityUIDEntry, Request};
+use cedar_extensions::Extensions;
+use cedar_layers::expressions::{EntityUID, Expr, PartialValue, ResidualExpr, SlotEnv, Value};
 use cedar_layers::policies::{Entities, Entity};
+use cedar_restricted_expressions::RestrictedExpr;
 use std::alloc::{AllocError, Global};
-use std::collections::{BTreeMap, HashSet};
+use std::collections::{BTreeMap, HashMap, HashSet};
 use std::rc::RcStr;
 use std::test::Fail;
 
-/// Values and unknowns under their names, as an entity has them.
+/// As many levels as any expression of a setting takes.
+const LIMIT: usize = 1000;
+
+/// Values and residuals under their names, as an entity has them.
 #[derive(Drop)]
 struct StoredParts {
     parts: BTreeMap<RcStr, PartialValue>,
@@ -46,47 +56,101 @@ impl StoredParts {
         Ok(StoredParts { parts })
     }
 
-    // The parts, and this unknown under its name.
+    // The parts, and this residual under its name.
     #[tactic(auto, using(crate::proofs::StoredValues::restricted_insert))]
-    fn with_unknown(self, name: RcStr, unknown: Unknown) -> Result<StoredParts, AllocError> {
+    fn with_residual(self, name: RcStr, residual: RestrictedExpr) -> Result<StoredParts, Fail> {
+        let expr = Expr::from(residual);
+        if !expr.has_unknown() {
+            return Err(Fail::from("a residual without an unknown"));
+        }
         let mut parts = self.parts;
-        let residual = ResidualExpr::new(Expr::unknown(unknown));
-        parts.insert(name, PartialValue::Residual(residual))?;
+        parts.insert(name, PartialValue::Residual(ResidualExpr::new(expr)))?;
         Ok(StoredParts { parts })
     }
 }
 
 /// What rows are answered in.
 #[derive(Drop)]
-pub struct Setting {
+pub struct Setting<'e, 'f> {
     pub request: Request,
     pub slots: SlotEnv,
     pub entities: Entities,
+    pub map: HashMap<RcStr, Value>,
+    pub extensions: &'e Extensions<'f>,
 }
 
-/// The setting of these facts.
-pub fn setting_of(alloc: Global, facts: &str) -> Result<Setting, Fail> {
+/// The setting of these facts, with these extensions.
+pub fn setting_of<'e, 'f>(
+    alloc: Global,
+    facts: &str,
+    extensions: &'e Extensions<'f>,
+) -> Result<Setting<'e, 'f>, Fail> {
     let slots = slots(alloc, facts)?;
-    let request = request(alloc, facts)?;
+    let request = request(alloc, facts, extensions)?;
     let entities = stored(alloc, facts)?;
+    let map = mapped_values(alloc, facts)?;
     Ok(Setting {
         request,
         slots,
         entities,
+        map,
+        extensions,
     })
 }
 
-fn request(alloc: Global, setting: &str) -> Result<Request, Fail> {
+fn request(alloc: Global, setting: &str, extensions: &Extensions<'_>) -> Result<Request, Fail> {
     let principal = entry(alloc, setting, "principal")?;
     let action = entry(alloc, setting, "action")?;
     let resource = entry(alloc, setting, "resource")?;
-    Ok(Request::new(principal, action, resource, Context::empty(alloc)))
+    let context = context(alloc, setting, extensions)?;
+    Ok(Request::new_with_unknowns(principal, action, resource, context))
 }
 
-// The entity that stands for this variable, and its place.
-fn entry(alloc: Global, setting: &str, variable: &str) -> Result<(EntityUID, Option<Loc>), Fail> {
-    let (name, ends) = headed(first_fact(setting, variable).ok_or("no such entity")?);
-    Ok((uid(alloc, name)?, place(ends)?))
+// The entity that stands for this variable, if it is known, and its place or its type.
+fn entry(alloc: Global, setting: &str, variable: &str) -> Result<EntityUIDEntry, Fail> {
+    let (name, rest) = headed(first_fact(setting, variable).ok_or("no such entity")?);
+    if name != "unknown" {
+        Ok(EntityUIDEntry::known(uid(alloc, name)?, place(rest)?))
+    } else if rest.is_empty() {
+        Ok(EntityUIDEntry::unknown())
+    } else {
+        Ok(EntityUIDEntry::unknown_with_type(entity_type(alloc, rest)?, None))
+    }
+}
+
+// The context, if it is known.
+fn context(
+    alloc: Global,
+    setting: &str,
+    extensions: &Extensions<'_>,
+) -> Result<Option<Context>, Fail> {
+    match first_fact(setting, "context") {
+        None => Ok(Some(Context::empty(alloc))),
+        Some(words) => if words == "none" {
+            Ok(None)
+        } else {
+            Ok(Some(context_of(alloc, words, extensions)?))
+        },
+    }
+}
+
+fn context_of(alloc: Global, words: &str, extensions: &Extensions<'_>) -> Result<Context, Fail> {
+    let expr = restricted(alloc, words)?;
+    match Context::from_expr(alloc, expr.as_borrowed(), extensions, LIMIT) {
+        Ok(context) => Ok(context),
+        Err(_) => Err(Fail::from("no context")),
+    }
+}
+
+fn mapped_values(alloc: Global, setting: &str) -> Result<HashMap<RcStr, Value>, Fail> {
+    let mut map: HashMap<RcStr, Value> = HashMap::new(alloc);
+    for line in setting.lines() {
+        if let Some(rest) = fact(line, "map") {
+            let (name, words) = headed(rest);
+            map.insert(text(alloc, name)?, value(alloc, words)?)?;
+        }
+    }
+    Ok(map)
 }
 
 /// The entities of the slots that are linked.
@@ -156,10 +220,21 @@ fn parts_of(
 fn with_part(alloc: Global, parts: StoredParts, named: &str) -> Result<StoredParts, Fail> {
     let (name, words) = headed(named);
     let name = text(alloc, name)?;
-    match words.strip_prefix("U:") {
-        Some(rest) => Ok(parts.with_unknown(name, unknown(alloc, rest)?)?),
-        None => Ok(parts.with(name, value(alloc, words)?)?),
+    if has_unknown(words) {
+        parts.with_residual(name, restricted(alloc, words)?)
+    } else {
+        Ok(parts.with(name, value(alloc, words)?)?)
     }
+}
+
+// Whether one of the words is an unknown.
+fn has_unknown(words: &str) -> bool {
+    for word in words.split(' ') {
+        if word.starts_with("U:") {
+            return true;
+        }
+    }
+    false
 }
 
 /// What the line states of this keyword on what is called so, if it states that.

@@ -36,7 +36,7 @@ L:-9223372036854775808 neg => integer overflow while attempting to negate the va
 # a slot that is not linked
 S:principal => template slot `?principal` was not linked
 # an unknown
-U:x not => the expression contains unknown(s): `unknown("x")`
+U:x not => the expression contains unknown(s): `!unknown("x")`
 # past the limit
 ask error 1
 B:true not => recursion limit reached

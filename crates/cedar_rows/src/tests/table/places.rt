@@ -112,7 +112,7 @@ S:principal get:f @0-9 => error at 0-9
 S:principal get:f => error nowhere
 # an unknown: at the unknown
 U:x @1-2 => error at 1-2
-U:x @1-2 not @0-9 => error at 1-2
+U:x @1-2 not @0-9 => error at 0-9
 U:x not @0-9 => error at 0-9
 U:x not => error nowhere
 # an error within a part stands where it did

@@ -124,6 +124,8 @@ principal => User::"a", User::"a" at 0-1
 action => User::"b", User::"b" nowhere
 resource => User::"c", User::"c" at 2-3
 context => 0 attributes, known true, the same true
+text => request with principal User::"a", action User::"b", resource User::"c", and context {}
+type => User User::"b" User
 # a value of a variable stands at the expression
 ask place
 V:principal => value nowhere

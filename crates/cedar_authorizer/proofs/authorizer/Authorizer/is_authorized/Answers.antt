@@ -2,7 +2,7 @@ use Rattle.cedar_authorizer.proofs.Deciding.{responds, known_response, no_limit,
 use Rattle.cedar_authorizer.proofs.authorizer.Authorizer.is_authorized.Goals as goal
 
 pub returns-in_err-sheet-clause-own_world : goal.returns-in_err-sheet-clause-own_world
-returns-in_err-sheet-clause-own_world g c = own_world_completes_call _ _ _
+returns-in_err-sheet-clause-own_world g c = own_world_completes_call _ _ _ _
 
 pub returns-clause-response : goal.returns-clause-response
 returns-clause-response g c =
@@ -17,4 +17,4 @@ returns-clause-limit g c =
     no_limit _ _ _ _ _ (responds _ _ _ _ c.in_ok-sheet.ensures c.into_response.ensures.responds c.into_response.ensures.errors)
 
 pub returns-clause-own_world : goal.returns-clause-own_world
-returns-clause-own_world g c = own_world_completes_call _ _ _
+returns-clause-own_world g c = own_world_completes_call _ _ _ _

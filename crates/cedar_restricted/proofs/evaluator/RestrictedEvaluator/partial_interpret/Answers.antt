@@ -16,11 +16,11 @@ returns-in-Ok-clause-answer g c s b ok =
     let x = extensions_view stored in
     let calls = calls_of stored in
     let levels = c.args.self.now.limit in
-    let r = c.interpret.result in
+    let r = c.evaluated.result in
     let is_r : is_restricted (view c.from-expr.result) ≡ true = ap (λ e. is_restricted (view e)) c.from-expr.ensures ∙
     c.in-Ok.restricted.restricted in
     let right : IsRight x calls levels c.from-expr.result r =
-    record { answer = c.interpret.ensures.answer; place = c.interpret.ensures.place } in
+    record { answer = c.evaluated.ensures.answer; place = c.evaluated.ensures.place } in
     let seen = ap view c.from-expr.ensures ∙ c.in-Ok.ensures.view in
     subst (λ t. IsAnswerWithin s calls levels t (partial_answer r)) seen
     (promised x calls levels c.from-expr.result r is_r right (calls_functional stored) s b ok)
@@ -31,11 +31,11 @@ returns-in-Ok-clause-restricted g c =
     let x = extensions_view stored in
     let calls = calls_of stored in
     let levels = c.args.self.now.limit in
-    let r = c.interpret.result in
+    let r = c.evaluated.result in
     let is_r : is_restricted (view c.from-expr.result) ≡ true = ap (λ e. is_restricted (view e)) c.from-expr.ensures ∙
     c.in-Ok.restricted.restricted in
     let right : IsRight x calls levels c.from-expr.result r =
-    record { answer = c.interpret.ensures.answer; place = c.interpret.ensures.place } in
+    record { answer = c.evaluated.ensures.answer; place = c.evaluated.ensures.place } in
     sound_part x calls levels c.from-expr.result r is_r right (calls_sound stored)
 
 pub returns-in-Ok-clause-low : goal.returns-in-Ok-clause-low
@@ -44,11 +44,11 @@ returns-in-Ok-clause-low g c =
     let x = extensions_view stored in
     let calls = calls_of stored in
     let levels = c.args.self.now.limit in
-    let r = c.interpret.result in
+    let r = c.evaluated.result in
     let is_r : is_restricted (view c.from-expr.result) ≡ true = ap (λ e. is_restricted (view e)) c.from-expr.ensures ∙
     c.in-Ok.restricted.restricted in
     let right : IsRight x calls levels c.from-expr.result r =
-    record { answer = c.interpret.ensures.answer; place = c.interpret.ensures.place } in
+    record { answer = c.evaluated.ensures.answer; place = c.evaluated.ensures.place } in
     let seen = ap view c.from-expr.ensures ∙ c.in-Ok.ensures.view in
     subst (λ t. height t ≤ levels → partial_answer r ≢ limit) seen
     (low_enough x calls levels c.from-expr.result r is_r right (calls_meet_no_limit stored))

@@ -1,0 +1,31 @@
+use Rattle.std.proofs.Common.{refl, arith, subst}
+use Rattle.std.specs.Rc.{rc_str_bytes}
+use Rattle.cedar_model.specs.Failures.{answers}
+use Rattle.cedar_model.specs.Rules.{Runs}
+use Rattle.cedar_data.specs.Residuals.{partial_view}
+use Rattle.cedar_values.specs.Answers.{partial_answer}
+use Rattle.cedar_operators.specs.Operands.{over}
+use Rattle.cedar_partial_operators.specs.Parts.{projection, ProjectsTo}
+use Rattle.cedar_evaluation.specs.declared.frame.Pending.TheVariants as pendings
+use Rattle.cedar_evaluation.specs.Settings.{setting_of, calls_in}
+use Rattle.cedar_evaluation.specs.Stored.{remapped, stored_uses, part_uses}
+use Rattle.cedar_evaluation.specs.Laws.{some_goes_on}
+use Rattle.cedar_evaluation.proofs.evaluation.Evaluation.after_container.Goals as goal
+
+pub returns-in-Answer : goal.returns-in-Answer
+returns-in-Answer g c r k =
+    let s = setting_of r c.args.self.now in
+    let calls = calls_in c.args.self.now in
+    let part = partial_view c.args.container in
+    let key = rc_str_bytes c.args.attr in
+    some_goes_on s calls k (pendings.GetAttr c.args.attr) (answers part) (remapped s.map (partial_answer c.in-Answer.answer)) c.stored.result
+    (λ a ok is. stored_uses (Runs s calls k) s refl part key c.in-Answer.answer a ok is (subst (λ p. ProjectsTo p (projection (over s s.store) part key)) c.in-Answer.is (c.attribute_of_part.ensures s)))
+    (c.stored.ensures (partial_answer c.in-Answer.answer) (λ w. refl))
+
+pub returns : goal.returns
+returns g c r k =
+    let s = setting_of r c.args.self.now in
+    let calls = calls_in c.args.self.now in
+    let part = partial_view c.args.container in
+    let key = rc_str_bytes c.args.attr in
+    (omega arith, λ y a runs uses. part_uses (Runs s calls k) s refl part key c.in-Part.part (subst (λ p. ProjectsTo p (projection (over s s.store) part key)) c.in-Part.is (c.attribute_of_part.ensures s)) y a runs uses)

@@ -1,0 +1,15 @@
+use Rattle.std.proofs.Common.{◌∙◌}
+use Rattle.std.specs.Rc.{rc_str_bytes}
+use Rattle.cedar_evaluation.specs.Operands.{tested_alike}
+use Rattle.cedar_model.specs.Failures.{answers}
+use Rattle.cedar_data.specs.Residuals.{partial_view}
+use Rattle.cedar_evaluation.specs.declared.frame.Pending.TheVariants as pendings
+use Rattle.cedar_evaluation.specs.Settings.{setting_of, calls_in}
+use Rattle.cedar_evaluation.specs.Laws.{gives_goes_on}
+use Rattle.cedar_evaluation.proofs.evaluation.Evaluation.after_tested.Goals as goal
+
+pub returns : goal.returns
+returns g c r k =
+    let s = setting_of r c.args.self.now in
+    gives_goes_on s (calls_in c.args.self.now) k (pendings.HasAttr c.args.attr) (answers (partial_view c.args.container)) _ c.answered.result
+    (λ a ok is. is ∙ tested_alike s (rc_str_bytes c.args.attr) (partial_view c.args.container)) (c.answered.ensures _ (c.has_of_part.ensures s))

@@ -1,0 +1,27 @@
+use Rattle.std.proofs.Common.{sym, ap, ◌∙◌, subst, Ok}
+use Rattle.cedar_model.specs.Failures.{fails}
+use Rattle.cedar_model.specs.Rules.{Meets, Runs}
+use Rattle.cedar_expressions.specs.View.{view}
+use Rattle.cedar_values.specs.Answers.{partial_answer}
+use Rattle.cedar_values.specs.Failures.{failure_of}
+use Rattle.cedar_evaluation.specs.Endings.{outcome_answer}
+use Rattle.cedar_evaluation.specs.Settings.{setting_of, calls_in}
+use Rattle.cedar_evaluation.proofs.evaluation.Evaluation.evaluated.Goals as goal
+
+pub returns-in-Ok-clause-answer : goal.returns-in-Ok-clause-answer
+returns-in-Ok-clause-answer g c r speaks =
+    let s = setting_of r c.args.self.now in
+    let calls = calls_in c.args.self.now in
+    let t = view c.args.expr in
+    subst (λ n. Meets (Runs s calls n t) (partial_answer (Ok c.in-Ok.answer))) c.new-stack.ensures.limit
+    (subst (λ o. Meets (Runs s calls c.new-stack.result.limit t) (outcome_answer o)) c.in-Ok.is (c.interpret_on.ensures.answer r speaks))
+
+pub returns-clause-answer : goal.returns-clause-answer
+returns-clause-answer g c r speaks =
+    let s = setting_of r c.args.self.now in
+    let calls = calls_in c.args.self.now in
+    let t = view c.args.expr in
+    subst (λ n. Meets (Runs s calls n t) (fails (failure_of c.within.result))) c.new-stack.ensures.limit
+    (subst (λ a. Meets (Runs s calls c.new-stack.result.limit t) a)
+    (ap outcome_answer c.in-Err.is ∙ sym (ap fails (c.within.ensures ∙ c.into_error.ensures)))
+    (c.interpret_on.ensures.answer r speaks))

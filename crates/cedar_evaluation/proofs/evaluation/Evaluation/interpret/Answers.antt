@@ -1,0 +1,16 @@
+use Rattle.std.proofs.Common.{refl, subst}
+use Rattle.cedar_model.specs.Rules.{Meets}
+use Rattle.cedar_expressions.specs.View.{view}
+use Rattle.cedar_values.specs.Answers.{partial_answer}
+use Rattle.cedar_extensions.specs.StoredLaws.{calls_functional, calls_meet_no_limit}
+use Rattle.cedar_evaluation.specs.Settings.{setting_of, calls_in}
+use Rattle.cedar_evaluation.specs.Promises.{IsPromised, meets_promised}
+use Rattle.cedar_evaluation.proofs.evaluation.Evaluation.interpret.Goals as goal
+
+pub returns-in-Ok-clause-promised : goal.returns-in-Ok-clause-promised
+returns-in-Ok-clause-promised g c r speaks =
+    let s = setting_of r c.args.self.now in
+    let stored = c.args.self.now.given.now.extensions.now in
+    let answer = partial_answer c.evaluated.result in
+    subst (λ t. Meets (IsPromised s (calls_in c.args.self.now) c.args.limit t) answer) c.in-Ok.ensures.cases.0
+    (meets_promised s (calls_in c.args.self.now) c.args.limit (view c.in-Ok.expr) (calls_functional stored) (calls_meet_no_limit stored) refl answer answer refl (c.evaluated.ensures.answer r speaks))

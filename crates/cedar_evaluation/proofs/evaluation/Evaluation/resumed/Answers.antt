@@ -1,0 +1,20 @@
+use Rattle.std.proofs.Common.{sym, ap, ◌∙◌, subst, Err}
+use Rattle.cedar_evaluation.specs.declared.stopped.Stopped.TheVariants as stops
+use Rattle.cedar_frames.specs.declared.machine.Step.TheVariants.{Done}
+use Rattle.cedar_evaluation.specs.Endings.{outcome_answer}
+use Rattle.cedar_evaluation.specs.Settings.{setting_of, calls_in}
+use Rattle.cedar_evaluation.specs.Tasks.{Leads}
+use Rattle.cedar_evaluation.specs.Laws.{limit_leads}
+use Rattle.cedar_evaluation.proofs.evaluation.Evaluation.resumed.Goals as goal
+
+pub returns-in-Ok-clause-leads : goal.returns-in-Ok-clause-leads
+returns-in-Ok-clause-leads g c r k speaks =
+    subst (λ o. Leads (setting_of r c.args.self.now) (calls_in c.args.self.now) k c.args.task (outcome_answer o) c.valued.result) (sym c.in-Ok.is) (c.valued.ensures.leads r k speaks)
+
+pub returns-in-Err-Limit-clause-leads : goal.returns-in-Err-Limit-clause-leads
+returns-in-Err-Limit-clause-leads g c r k speaks =
+    subst (λ o. Leads (setting_of r c.args.self.now) (calls_in c.args.self.now) k c.args.task (outcome_answer o) (Done (Err stops.Limit))) (sym (c.in-Err-Limit.is ∙ ap Err c.in-Err-Limit.field-0-is)) (limit_leads (setting_of r c.args.self.now) (calls_in c.args.self.now) k c.args.task)
+
+pub returns-in-Err-Failed-clause-leads : goal.returns-in-Err-Failed-clause-leads
+returns-in-Err-Failed-clause-leads g c r k speaks =
+    subst (λ o. Leads (setting_of r c.args.self.now) (calls_in c.args.self.now) k c.args.task (outcome_answer o) c.kept_or_failed.result) (sym (c.in-Err-Failed.is ∙ ap Err c.in-Err-Failed.field-0-is)) (c.kept_or_failed.ensures.leads r k speaks)

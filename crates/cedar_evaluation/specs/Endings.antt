@@ -1,0 +1,19 @@
+-- Why an evaluation stops, as plain data.
+use Rattle.std.specs.Prelude.{Result, Ok, Err}
+use Rattle.cedar_model.specs.Failures.{Failure, recursion_limit, out_of_memory, Answer, answers, fails}
+use Rattle.cedar_data.specs.declared.partial_value.PartialValue.{PartialValue}
+use Rattle.cedar_data.specs.Residuals.{partial_view}
+use Rattle.cedar_values.specs.Failures.{failure_of}
+use Rattle.cedar_evaluation.specs.declared.stopped.Stopped.{Stopped}
+use Rattle.cedar_evaluation.specs.declared.stopped.Stopped.TheVariants as stops
+
+-- the failure for which an evaluation stopped
+abbrev pub stopped_failure : Stopped → Failure
+stopped_failure stops.Memory = out_of_memory
+stopped_failure stops.Limit = recursion_limit
+stopped_failure (stops.Failed f) = failure_of f.value.error
+
+-- what an evaluation answers
+abbrev pub outcome_answer : Result PartialValue Stopped → Answer
+outcome_answer (Ok p) = answers (partial_view p)
+outcome_answer (Err e) = fails (stopped_failure e)

@@ -1,0 +1,13 @@
+pub mod Parts
+pub mod Finals
+pub mod Endings
+pub mod Kept
+pub mod Types
+pub mod Settings
+pub mod Tasks
+pub mod Operands
+pub mod Stored
+pub mod Frames
+pub mod PartsLaws
+pub mod Laws
+pub mod Promises

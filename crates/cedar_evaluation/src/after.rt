@@ -1,0 +1,129 @@
+//! What comes after the answer of a part.
+ghost use Rattle.std.specs.Prelude.{◌≡◌, ℕ, IfOk};
+ghost use Rattle.std.specs.declared.alloc.Global.{Global};
+ghost use Rattle.cedar_model.specs.Terms.{Term};
+ghost use Rattle.cedar_model.specs.Failures.{answers, fails};
+ghost use Rattle.cedar_model.specs.Settings.{RequestPart};
+ghost use Rattle.cedar_model.specs.Rules.{best, kept};
+ghost use Rattle.cedar_expressions.specs.View.{view};
+ghost use Rattle.cedar_data.specs.Residuals.{partial_view};
+ghost use Rattle.cedar_values.specs.Failures.{failure_of};
+ghost use Rattle.cedar_evaluation.specs.Settings.{setting_of, calls_in};
+ghost use Rattle.cedar_evaluation.specs.Tasks.{GoesOn};
+
+use crate::evaluation::Evaluation;
+use crate::failed::Failed;
+use crate::frame::{Next, Pending};
+use crate::stopped::Stopped;
+use cedar_data::PartialValue;
+use cedar_expressions::Expr;
+use cedar_frames::Step;
+use std::alloc::{AllocError, Global};
+use std::rc::Rc;
+
+impl<'e, 'g, 'f> Evaluation<'e, 'g, 'f> {
+    // What comes next of what waited, after this value or residual.
+    pub(crate) fn after(
+        &self,
+        alloc: Global,
+        pending: Pending,
+        answer: PartialValue,
+    ) -> Result<Next, AllocError>
+        ensures { (r : RequestPart) (k : ℕ) → IfOk result (GoesOn (setting_of r self.now) (calls_in self.now) k pending (answers (partial_view answer))) }
+    {
+        match pending {
+            Pending::Passed => Ok(Step::Done(Ok(answer))),
+            Pending::Guard {
+                then_expr,
+                else_expr,
+            } => self.after_guard(alloc, then_expr, else_expr, answer),
+            Pending::Then {
+                guard,
+                then_expr: _,
+                else_expr,
+            } => self.second_branch(guard, kept_part(alloc, answer)?, else_expr),
+            Pending::Else {
+                guard,
+                then_expr,
+                else_expr: _,
+            } => self.both_branches(alloc, guard, then_expr, kept_part(alloc, answer)?),
+            Pending::AndLeft { right } => self.after_and_left(alloc, right, answer),
+            Pending::AndRight => self.after_and_right(alloc, answer),
+            Pending::AndKept { left, right: _ } => {
+                self.kept_conjunction(alloc, left, kept_part(alloc, answer)?)
+            }
+            Pending::OrLeft { right } => self.after_or_left(alloc, right, answer),
+            Pending::OrRight => self.after_or_right(alloc, answer),
+            Pending::OrKept { left, right: _ } => {
+                self.kept_disjunction(alloc, left, kept_part(alloc, answer)?)
+            }
+            Pending::Unary(op) => self.after_operand(alloc, op, answer),
+            Pending::BinaryLeft { op, right } => self.after_left(op, right, answer),
+            Pending::BinaryRight { op, left } => self.after_right(alloc, op, left, answer),
+            Pending::GetAttr(attr) => self.after_container(alloc, attr, answer),
+            Pending::HasAttr(attr) => self.after_tested(alloc, attr, answer),
+            Pending::ExtHasAttr(attrs) => self.after_walked(alloc, attrs, answer),
+            Pending::Like(pattern) => self.after_text(alloc, pattern, answer),
+            Pending::Is(entity_type) => self.after_entity(alloc, entity_type, answer),
+        }
+    }
+
+    // What comes next of what waited, after this error: beside a residual the part's original is kept, elsewhere it is the answer.
+    #[cold]
+    #[inline(never)]
+    pub(crate) fn failed(
+        &self,
+        alloc: Global,
+        pending: Pending,
+        failed: Box<Failed>,
+    ) -> Result<Next, AllocError>
+        ensures { (r : RequestPart) (k : ℕ) → IfOk result (GoesOn (setting_of r self.now) (calls_in self.now) k pending (fails (failure_of failed.value.error))) }
+    {
+        match pending {
+            Pending::Then {
+                guard,
+                then_expr,
+                else_expr,
+            } => self.second_branch(guard, failed.original(&then_expr)?, else_expr),
+            Pending::Else {
+                guard,
+                then_expr,
+                else_expr,
+            } => self.both_branches(alloc, guard, then_expr, failed.original(&else_expr)?),
+            Pending::AndKept { left, right } => {
+                self.kept_conjunction(alloc, left, failed.original(&right)?)
+            }
+            Pending::OrKept { left, right } => {
+                self.kept_disjunction(alloc, left, failed.original(&right)?)
+            }
+            Pending::Passed => Ok(Step::Done(Err(Stopped::Failed(failed)))),
+            Pending::Guard {
+                then_expr: _,
+                else_expr: _,
+            } => Ok(Step::Done(Err(Stopped::Failed(failed)))),
+            Pending::AndLeft { right: _ } => Ok(Step::Done(Err(Stopped::Failed(failed)))),
+            Pending::AndRight => Ok(Step::Done(Err(Stopped::Failed(failed)))),
+            Pending::OrLeft { right: _ } => Ok(Step::Done(Err(Stopped::Failed(failed)))),
+            Pending::OrRight => Ok(Step::Done(Err(Stopped::Failed(failed)))),
+            Pending::Unary(_) => Ok(Step::Done(Err(Stopped::Failed(failed)))),
+            Pending::BinaryLeft { op: _, right: _ } => Ok(Step::Done(Err(Stopped::Failed(failed)))),
+            Pending::BinaryRight { op: _, left: _ } => Ok(Step::Done(Err(Stopped::Failed(failed)))),
+            Pending::GetAttr(_) => Ok(Step::Done(Err(Stopped::Failed(failed)))),
+            Pending::HasAttr(_) => Ok(Step::Done(Err(Stopped::Failed(failed)))),
+            Pending::ExtHasAttr(_) => Ok(Step::Done(Err(Stopped::Failed(failed)))),
+            Pending::Like(_) => Ok(Step::Done(Err(Stopped::Failed(failed)))),
+            Pending::Is(_) => Ok(Step::Done(Err(Stopped::Failed(failed)))),
+        }
+    }
+}
+
+// What is kept of a part that answered.
+#[tactic(auto, unfolding(cedar_model::specs::Rules::best, cedar_model::specs::Failures::part_expression))]
+fn kept_part(alloc: Global, answer: PartialValue) -> Result<Expr, AllocError>
+    ensures { IfOk result (λ e. (t : Term) → best (answers (partial_view answer)) t ≡ kept (view e)) }
+{
+    match answer {
+        PartialValue::Value(value) => Ok(value.to_expr(alloc)?),
+        PartialValue::Residual(residual) => Ok(residual.into_expr()),
+    }
+}

@@ -1,0 +1,54 @@
+//! What expressions are answered at once.
+ghost use Rattle.std.specs.Prelude.{◌≡◌, ◌≢◌, IfOk, true};
+ghost use Rattle.cedar_model.specs.Failures.{Answer, fails, out_of_memory, answers_bool, answers_residual};
+ghost use Rattle.cedar_model.specs.Rules.{bool_expected};
+ghost use Rattle.cedar_model.specs.Shapes.{has_unknown};
+ghost use Rattle.cedar_expressions.specs.View.{view};
+ghost use Rattle.cedar_data.specs.Residuals.{partial_view};
+ghost use Rattle.cedar_values.specs.Answers.{AnswersWith};
+ghost use Rattle.cedar_evaluation.specs.Tasks.{Gives};
+
+use crate::frame::Next;
+use crate::stopped::Stopped;
+use cedar_data::{PartialValue, ResidualExpr, Value};
+use cedar_expressions::Expr;
+use cedar_frames::Step;
+use cedar_layers::expressions::Type;
+use cedar_operators::failures::type_error;
+use cedar_operators::typed::bool_value;
+use cedar_values::evaluator::err::EvaluationError;
+use std::alloc::Global;
+
+// What a call answers.
+pub(crate) fn answered(alloc: Global, answer: Result<PartialValue, EvaluationError>) -> Next
+    ensures { (a : Answer) → AnswersWith answer a → Gives result a }
+{
+    match answer {
+        Ok(value) => Step::Done(Ok(value)),
+        Err(error) => Step::Done(Err(Stopped::of(alloc, error, None))),
+    }
+}
+
+// A boolean.
+pub(crate) fn bool_answer(b: bool) -> Next
+    ensures { Gives result (answers_bool b) }
+{
+    Step::Done(Ok(PartialValue::Value(bool_value(b))))
+}
+
+// That a boolean is expected.
+#[cold]
+#[inline(never)]
+pub(crate) fn no_bool(alloc: Global, value: &Value) -> Next
+    ensures { Gives result (bool_expected value.now.what) }
+{
+    Step::Done(Err(Stopped::of(alloc, type_error(alloc, Type::Bool, value), None)))
+}
+
+// What is left of an expression.
+pub(crate) fn residual_answer(expr: Expr) -> Next
+    requires { has_unknown (view expr) ≡ true }
+    ensures { Gives result (answers_residual (view expr)) }
+{
+    Step::Done(Ok(PartialValue::Residual(ResidualExpr::new(expr))))
+}

@@ -1,0 +1,105 @@
+//! `if`.
+ghost use Rattle.std.specs.Prelude.{◌≡◌, ℕ, IfOk};
+ghost use Rattle.cedar_model.specs.Terms.{if_then_else};
+ghost use Rattle.cedar_model.specs.Failures.{Answer, answers};
+ghost use Rattle.cedar_model.specs.Rules.{best, kept};
+ghost use Rattle.cedar_model.specs.Settings.{RequestPart};
+ghost use Rattle.cedar_expressions.specs.View.{view};
+ghost use Rattle.cedar_data.specs.Residuals.{partial_view};
+ghost use Rattle.cedar_expressions.specs.declared.expr.Expr.{Expr};
+ghost use Rattle.std.specs.declared.alloc.Global.{Global};
+ghost use Rattle.std.specs.declared.rc.Rc.{Rc};
+ghost use Rattle.cedar_evaluation.specs.Settings.{setting_of, calls_in};
+ghost use Rattle.cedar_evaluation.specs.Tasks.{Begins, GoesOn};
+ghost use Rattle.cedar_evaluation.specs.declared.frame.Pending.TheVariants as pendings;
+
+use crate::answers::{no_bool, residual_answer};
+use crate::evaluation::Evaluation;
+use crate::frame::{Next, Pending, Task};
+use crate::part::Part;
+use cedar_data::{PartialValue, ResidualExpr};
+use cedar_expressions::Expr;
+use cedar_frames::Step;
+use cedar_operators::typed::bool_in;
+use std::alloc::{AllocError, Global};
+use std::rc::Rc;
+
+impl<'e, 'g, 'f> Evaluation<'e, 'g, 'f> {
+    // `if` waits for its guard.
+    pub(crate) fn branches(
+        &self,
+        test_expr: &Rc<Expr>,
+        then_expr: &Rc<Expr>,
+        else_expr: &Rc<Expr>,
+    ) -> Result<Next, AllocError>
+        ensures { (r : RequestPart) (k : ℕ) → IfOk result (Begins (setting_of r self.now) (calls_in self.now) k (if_then_else (view test_expr.now.value) (view then_expr.now.value) (view else_expr.now.value))) }
+    {
+        let pending = Pending::Guard {
+            then_expr: then_expr.clone()?,
+            else_expr: else_expr.clone()?,
+        };
+        Ok(Step::Wait(Task::Other(pending), Part::Shared(test_expr.clone()?)))
+    }
+
+    // The branch that the guard takes, or beside a residual guard the first of both.
+    pub(crate) fn after_guard(
+        &self,
+        alloc: Global,
+        then_expr: Rc<Expr>,
+        else_expr: Rc<Expr>,
+        guard: PartialValue,
+    ) -> Result<Next, AllocError>
+        ensures { (r : RequestPart) (k : ℕ) → IfOk result (GoesOn (setting_of r self.now) (calls_in self.now) k (pendings.Guard then_expr else_expr) (answers (partial_view guard))) }
+    {
+        match guard {
+            PartialValue::Value(value) => match bool_in(&value) {
+                Some(true) => Ok(Step::Wait(Task::Other(Pending::Passed), Part::Shared(then_expr))),
+                Some(false) => Ok(Step::Wait(
+                    Task::Other(Pending::Passed),
+                    Part::Shared(else_expr),
+                )),
+                None => Ok(no_bool(alloc, &value)),
+            },
+            PartialValue::Residual(guard) => {
+                let part = then_expr.clone()?;
+                let pending = Pending::Then {
+                    guard,
+                    then_expr,
+                    else_expr,
+                };
+                Ok(Step::Wait(Task::Other(pending), Part::Shared(part)))
+            }
+        }
+    }
+
+    // The second branch beside a residual guard, after what is kept of the first.
+    pub(crate) fn second_branch(
+        &self,
+        guard: ResidualExpr,
+        then_expr: Expr,
+        else_expr: Rc<Expr>,
+    ) -> Result<Next, AllocError>
+        ensures { (r : RequestPart) (k : ℕ) (x : Answer) (t : Rc Expr Global) → best x (view t.value) ≡ kept (view then_expr) → IfOk result (GoesOn (setting_of r self.now) (calls_in self.now) k (pendings.Then guard t else_expr) x) }
+    {
+        let part = else_expr.clone()?;
+        let pending = Pending::Else {
+            guard,
+            then_expr,
+            else_expr,
+        };
+        Ok(Step::Wait(Task::Other(pending), Part::Shared(part)))
+    }
+
+    // `if` with a residual guard and what is kept of both branches.
+    pub(crate) fn both_branches(
+        &self,
+        alloc: Global,
+        guard: ResidualExpr,
+        then_expr: Expr,
+        else_expr: Expr,
+    ) -> Result<Next, AllocError>
+        ensures { (r : RequestPart) (k : ℕ) (x : Answer) (e : Rc Expr Global) → best x (view e.value) ≡ kept (view else_expr) → IfOk result (GoesOn (setting_of r self.now) (calls_in self.now) k (pendings.Else guard then_expr e) x) }
+    {
+        Ok(residual_answer(Expr::ite(alloc, guard.into_expr(), then_expr, else_expr)?))
+    }
+}

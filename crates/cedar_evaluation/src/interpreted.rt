@@ -1,0 +1,81 @@
+//! The call that evaluates an expression.
+ghost use Rattle.std.specs.Prelude.{◌≡◌, IfOk};
+ghost use Rattle.cedar_model.specs.RestrictedLaws.{HoldsUnknown};
+ghost use Rattle.cedar_model.specs.Rules.{Meets, Runs};
+ghost use Rattle.cedar_model.specs.Settings.{RequestPart};
+ghost use Rattle.cedar_expressions.specs.View.{view, expr_loc};
+ghost use Rattle.cedar_data.specs.Residuals.{partial_view, partial_loc};
+ghost use Rattle.cedar_values.specs.Answers.{partial_answer};
+ghost use Rattle.cedar_values.specs.Failures.{failure_of};
+ghost use Rattle.cedar_evaluation.specs.Settings.{Speaks, setting_of, calls_in};
+ghost use Rattle.cedar_evaluation.specs.Promises.{IsPromised};
+
+use crate::evaluation::Evaluation;
+use crate::frame::Frame;
+use crate::part::Part;
+use cedar_data::PartialValue;
+use cedar_expressions::Expr;
+use cedar_frames::{Stack, interpret_on};
+use cedar_names::Loc;
+use cedar_values::evaluator::err::EvaluationError;
+use std::alloc::Global;
+
+impl<'e, 'g, 'f> Evaluation<'e, 'g, 'f> {
+    /// The value of the expression, or what is left of it, at the expression's location; at most `limit` levels deep, where an
+    /// expression is one level and its parts one more. Fails with the first error in the order of evaluation, and with
+    /// `RecursionLimit` where it would go deeper, at the location of the nearest expression around that has one.
+    pub fn interpret(
+        &self,
+        alloc: Global,
+        e: &Expr,
+        limit: usize,
+    ) -> Result<PartialValue, EvaluationError>
+        ensures promised { (r : RequestPart) → Speaks r self.now → Meets (IsPromised (setting_of r self.now) (calls_in self.now) limit (view e.now)) (partial_answer result) }
+        ensures place { IfOk result (λ p. partial_loc p ≡ expr_loc e.now) }
+        ensures unknown { IfOk result (λ p. HoldsUnknown (partial_view p)) }
+    {
+        match e.clone() {
+            Ok(expr) => self.evaluated(alloc, expr, limit),
+            Err(error) => Err(EvaluationError::Memory(error)),
+        }
+    }
+
+    // The same, of an expression that is its own.
+    fn evaluated(
+        &self,
+        alloc: Global,
+        expr: Expr,
+        limit: usize,
+    ) -> Result<PartialValue, EvaluationError>
+        ensures answer { (r : RequestPart) → Speaks r self.now → Meets (Runs (setting_of r self.now) (calls_in self.now) limit (view expr)) (partial_answer result) }
+        ensures place { IfOk result (λ p. partial_loc p ≡ expr_loc expr) }
+    {
+        let mut stack = Stack::new(alloc, limit);
+        match interpret_on(self, alloc, &mut stack, Part::Own(expr)) {
+            Ok(answer) => Ok(answer),
+            Err(stopped) => Err(within(stack.frames(), stopped.into_error())),
+        }
+    }
+}
+
+// The error that came up in these frames, at the location of the last that has one, if the error has none.
+#[cold]
+#[inline(never)]
+fn within(frames: &[Frame], error: EvaluationError) -> EvaluationError
+    ensures { failure_of result ≡ failure_of error }
+{
+    if error.source_loc().is_none() {
+        error.with_maybe_source_loc(last_loc(frames))
+    } else {
+        error
+    }
+}
+
+fn last_loc(frames: &[Frame]) -> Option<Loc> {
+    for frame in frames.iter().rev() {
+        if frame.loc.is_some() {
+            return frame.loc;
+        }
+    }
+    None
+}

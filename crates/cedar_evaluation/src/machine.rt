@@ -1,0 +1,153 @@
+//! The evaluation, for the loop over frames.
+ghost use Rattle.std.specs.Prelude.{◌≡◌, ℕ, ◌+◌, ◌^◌, Err};
+ghost use Rattle.cedar_model.specs.Failures.{answers, fails};
+ghost use Rattle.cedar_model.specs.Settings.{RequestPart};
+ghost use Rattle.cedar_data.specs.Residuals.{partial_view};
+ghost use Rattle.cedar_values.specs.Failures.{failure_of};
+ghost use Rattle.cedar_evaluation.specs.declared.stopped.Stopped.TheVariants as stops;
+ghost use Rattle.cedar_evaluation.specs.Parts.{part_term};
+ghost use Rattle.cedar_evaluation.specs.Endings.{outcome_answer};
+ghost use Rattle.cedar_evaluation.specs.Settings.{Speaks, setting_of, calls_in};
+ghost use Rattle.cedar_evaluation.specs.Tasks.{Begins, Leads, LeftFewer};
+ghost use Rattle.cedar_evaluation.specs.Frames.{IsRight, Waits, IsPlaced, left_of, ends_all};
+ghost use Rattle.cedar_evaluation.specs.Laws.{right_limit, right_want, right_upward, limit_ends, some_left, some_most};
+
+use crate::evaluation::Evaluation;
+use crate::failed::Failed;
+use crate::frame::{Frame, Next, Outcome, Task};
+use crate::part::Part;
+use crate::start::taken;
+use crate::stopped::Stopped;
+use cedar_data::PartialValue;
+use cedar_frames::{Machine, Step};
+use cedar_names::Loc;
+use std::alloc::{AllocError, Global};
+
+impl<'e, 'g, 'f> Machine for Evaluation<'e, 'g, 'f> {
+    type Frame = Frame;
+
+    type Part = Part;
+
+    type Answer = Outcome;
+
+    ghost right = { λ s k t a. IsRight (λ r. Speaks r s) (λ r. setting_of r s) (calls_in s) k t a };
+
+    ghost waits = { λ s k f t c. Waits (λ r. Speaks r s) (λ r. setting_of r s) (calls_in s) k f t c };
+
+    ghost left_of = { left_of };
+
+    ghost most = { 2 ^ 64 + 1 };
+
+    ghost ends_all = { ends_all };
+
+    ghost at_limit = { Err stops.Limit };
+
+    ghost at_want = { Err stops.Memory };
+
+    fn start(&self, alloc: Global, part: &Part) -> Step<Frame, Part, Outcome> {
+        let e = part.as_expr();
+        let loc: Option<Loc> = e.source_loc().copied();
+        placed(alloc, self.first(alloc, part), loc)
+    }
+
+    fn resume(&self, alloc: Global, frame: Frame, answer: Outcome) -> Step<Frame, Part, Outcome> {
+        let Frame { task, loc } = frame;
+        placed(alloc, self.resumed(alloc, task, answer), loc)
+    }
+
+    fn ends(&self, answer: &Outcome) -> bool {
+        match answer {
+            Ok(_) => false,
+            Err(Stopped::Memory) => true,
+            Err(Stopped::Limit) => true,
+            Err(Stopped::Failed(_)) => false,
+        }
+    }
+
+    fn limit(&self) -> Outcome {
+        Err(Stopped::Limit)
+    }
+
+    fn want(&self) -> Outcome {
+        Err(Stopped::Memory)
+    }
+
+    ghost right_limit = { λ s t. right_limit (λ r. Speaks r s) (λ r. setting_of r s) (calls_in s) t };
+
+    ghost right_want = { λ s k t. right_want (λ r. Speaks r s) (λ r. setting_of r s) (calls_in s) k t };
+
+    ghost limit_ends = { limit_ends };
+
+    ghost right_upward = { λ s k f t c a. right_upward (λ r. Speaks r s) (λ r. setting_of r s) (calls_in s) k f t c a };
+
+    ghost some_left = { some_left };
+
+    ghost some_most = { some_most };
+}
+
+impl<'e, 'g, 'f> Evaluation<'e, 'g, 'f> {
+    // What comes first of an expression.
+    fn first(&self, alloc: Global, part: &Part) -> Next
+        ensures { (r : RequestPart) (k : ℕ) → Speaks r self.now → Begins (setting_of r self.now) (calls_in self.now) k (part_term part.now) result }
+    {
+        match self.begin(alloc, part.as_expr()) {
+            Ok(next) => next,
+            Err(_) => Step::Done(Err(Stopped::Memory)),
+        }
+    }
+
+    // What comes next of what waited, after this answer.
+    fn resumed(&self, alloc: Global, task: Task, answer: Outcome) -> Next
+        ensures leads { (r : RequestPart) (k : ℕ) → Speaks r self.now → Leads (setting_of r self.now) (calls_in self.now) k task (outcome_answer answer) result }
+        ensures fewer { LeftFewer task result }
+    {
+        match answer {
+            Ok(value) => self.valued(alloc, task, value),
+            Err(Stopped::Memory) => Step::Done(Err(Stopped::Memory)),
+            Err(Stopped::Limit) => Step::Done(Err(Stopped::Limit)),
+            Err(Stopped::Failed(failed)) => self.kept_or_failed(alloc, task, failed),
+        }
+    }
+
+    // The same after a value or a residual.
+    fn valued(&self, alloc: Global, task: Task, value: PartialValue) -> Next
+        ensures leads { (r : RequestPart) (k : ℕ) → Speaks r self.now → Leads (setting_of r self.now) (calls_in self.now) k task (answers (partial_view value)) result }
+        ensures fewer { LeftFewer task result }
+    {
+        match task {
+            Task::Parts(frame) => taken(
+                alloc,
+                frame.answered(alloc, self.given.extensions, Ok(value)),
+            ),
+            Task::Other(pending) => match self.after(alloc, pending, value) {
+                Ok(next) => next,
+                Err(_) => Step::Done(Err(Stopped::Memory)),
+            },
+        }
+    }
+
+    // The same after an error.
+    fn kept_or_failed(&self, alloc: Global, task: Task, failed: Box<Failed>) -> Next
+        ensures leads { (r : RequestPart) (k : ℕ) → Speaks r self.now → Leads (setting_of r self.now) (calls_in self.now) k task (fails (failure_of failed.value.error)) result }
+        ensures fewer { LeftFewer task result }
+    {
+        match task {
+            Task::Parts(_) => Step::Done(Err(Stopped::Failed(failed))),
+            Task::Other(pending) => match self.failed(alloc, pending, failed) {
+                Ok(next) => next,
+                Err(_) => Step::Done(Err(Stopped::Memory)),
+            },
+        }
+    }
+}
+
+// The same at this location.
+fn placed(alloc: Global, next: Next, loc: Option<Loc>) -> Step<Frame, Part, Outcome>
+    ensures { IsPlaced next loc result }
+{
+    match next {
+        Step::Done(Ok(value)) => Step::Done(Ok(value.with_maybe_source_loc(loc))),
+        Step::Done(Err(stopped)) => Step::Done(Err(stopped.within(alloc, loc))),
+        Step::Wait(task, part) => Step::Wait(Frame { task, loc }, part),
+    }
+}

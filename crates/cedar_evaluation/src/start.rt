@@ -1,0 +1,248 @@
+//! What comes first of an expression.
+ghost use Rattle.std.specs.Prelude.{◌≡◌, ℕ, option_map, IfOk};
+ghost use Rattle.std.specs.Rc.{rc_str_bytes};
+ghost use Rattle.cedar_model.specs.Terms as Terms;
+ghost use Rattle.cedar_model.specs.Settings.{RequestPart};
+ghost use Rattle.cedar_model.specs.Failures.{fails, slot_is_unlinked};
+ghost use Rattle.cedar_model.specs.Operators.{slot_answer};
+ghost use Rattle.cedar_names.specs.Names.{name_text, type_text};
+ghost use Rattle.cedar_names.specs.Leaves.{literal_view, variable_view, slot_view, type_view, unary_view, binary_view, pattern_view, texts_view};
+ghost use Rattle.cedar_expressions.specs.View.{view, terms_view, fields_view};
+ghost use Rattle.cedar_layers.specs.Policies.{slots_view};
+ghost use Rattle.cedar_evaluation.specs.Settings.{Speaks, setting_of, calls_in};
+ghost use Rattle.cedar_evaluation.specs.Tasks.{Begins, Gives};
+ghost use Rattle.cedar_evaluation.specs.PartsLaws.{IsTaken};
+
+use crate::answers::answered;
+use crate::evaluation::Evaluation;
+use crate::frame::{Next, Pending, Task};
+use crate::part::Part;
+use crate::stopped::Stopped;
+use crate::stored::mapped;
+use cedar_data::{PartialValue, Value, ValueKind};
+use cedar_expressions::{Expr, ExprKind};
+use cedar_frames::Step;
+use cedar_layers::expressions::SlotEnv;
+use cedar_names::{
+    BinaryOp, EntityType, FirstRest, Literal, Loc, Name, Pattern, SlotId, Type, UnaryOp, Unknown,
+    Var,
+};
+use cedar_restricted::{NextPart, PartsFrame};
+use cedar_values::evaluator::err::{EvaluationError, evaluation_errors};
+use evaluation_errors::UnlinkedSlotError;
+use std::alloc::{AllocError, Global};
+use std::collections::BTreeMap;
+use std::rc::{Rc, RcStr};
+
+impl<'e, 'g, 'f> Evaluation<'e, 'g, 'f> {
+    // Looks at an expression: answers it, or waits for its first part.
+    #[tactic(auto, using(cedar_expressions::proofs::Levels::levels))]
+    pub(crate) fn begin(&self, alloc: Global, e: &Expr) -> Result<Next, AllocError>
+        ensures { (r : RequestPart) (k : ℕ) → Speaks r self.now → IfOk result (Begins (setting_of r self.now) (calls_in self.now) k (view e.now)) }
+    {
+        match e.expr_kind() {
+            ExprKind::Lit(value) => self.literal(value),
+            ExprKind::Var(var) => self.variable(*var),
+            ExprKind::Slot(slot) => self.slot(alloc, *slot),
+            ExprKind::Unknown(unknown) => self.unknown(alloc, e, unknown),
+            ExprKind::If {
+                test_expr,
+                then_expr,
+                else_expr,
+            } => self.branches(test_expr, then_expr, else_expr),
+            ExprKind::And { left, right } => self.conjunction(left, right),
+            ExprKind::Or { left, right } => self.disjunction(left, right),
+            ExprKind::UnaryApp { op, arg } => self.operand(*op, arg),
+            ExprKind::BinaryApp { op, arg1, arg2 } => self.operands(*op, arg1, arg2),
+            ExprKind::ExtensionFunctionApp { fn_name, args } => {
+                self.call(alloc, fn_name, args, e.source_loc().copied())
+            }
+            ExprKind::GetAttr { expr, attr } => self.attribute(expr, attr),
+            ExprKind::HasAttr { expr, attr } => self.tested(expr, attr),
+            ExprKind::ExtHasAttr { expr, attrs } => self.walked(expr, attrs),
+            ExprKind::Like { expr, pattern } => self.likeness(expr, pattern),
+            ExprKind::Is { expr, entity_type } => self.typed(expr, entity_type),
+            ExprKind::Set(parts) => self.set(alloc, parts, e.source_loc().copied()),
+            ExprKind::Record(pairs) => self.record(alloc, pairs, e.source_loc().copied()),
+        }
+    }
+
+    fn literal(&self, value: &Literal) -> Result<Next, AllocError>
+        ensures { (r : RequestPart) (k : ℕ) → IfOk result (Begins (setting_of r self.now) (calls_in self.now) k (Terms.literal (literal_view value.now))) }
+    {
+        let literal = Value::new(ValueKind::Lit(value.clone()?), None);
+        Ok(Step::Done(Ok(PartialValue::Value(literal))))
+    }
+
+    fn variable(&self, var: Var) -> Result<Next, AllocError>
+        ensures { (r : RequestPart) (k : ℕ) → Speaks r self.now → IfOk result (Begins (setting_of r self.now) (calls_in self.now) k (Terms.variable (variable_view var))) }
+    {
+        match var {
+            Var::Principal => Ok(Step::Done(Ok(self.given.principal.clone()?))),
+            Var::Action => Ok(Step::Done(Ok(self.given.action.clone()?))),
+            Var::Resource => Ok(Step::Done(Ok(self.given.resource.clone()?))),
+            Var::Context => Ok(Step::Done(Ok(self.given.context.clone()?))),
+        }
+    }
+
+    fn slot(&self, alloc: Global, slot: SlotId) -> Result<Next, AllocError>
+        ensures { (r : RequestPart) (k : ℕ) → IfOk result (Begins (setting_of r self.now) (calls_in self.now) k (Terms.slot (slot_view slot))) }
+    {
+        slot_answer(alloc, self.slots, slot)
+    }
+
+    fn unknown(&self, alloc: Global, e: &Expr, unknown: &Unknown) -> Result<Next, AllocError>
+        requires { view e.now ≡ Terms.unknown (rc_str_bytes unknown.now.name) (option_map type_view unknown.now.type_annotation) }
+        ensures { (r : RequestPart) (k : ℕ) → IfOk result (Begins (setting_of r self.now) (calls_in self.now) k (view e.now)) }
+    {
+        mapped(alloc, &self.given.mapper, e, unknown)
+    }
+
+    fn operand(&self, op: UnaryOp, arg: &Rc<Expr>) -> Result<Next, AllocError>
+        ensures { (r : RequestPart) (k : ℕ) → IfOk result (Begins (setting_of r self.now) (calls_in self.now) k (Terms.unary (unary_view op) (view arg.now.value))) }
+    {
+        Ok(Step::Wait(Task::Other(Pending::Unary(op)), Part::Shared(arg.clone()?)))
+    }
+
+    fn operands(&self, op: BinaryOp, left: &Rc<Expr>, right: &Rc<Expr>) -> Result<Next, AllocError>
+        ensures { (r : RequestPart) (k : ℕ) → IfOk result (Begins (setting_of r self.now) (calls_in self.now) k (Terms.binary (binary_view op) (view left.now.value) (view right.now.value))) }
+    {
+        let right = right.clone()?;
+        Ok(Step::Wait(
+            Task::Other(Pending::BinaryLeft { op, right }),
+            Part::Shared(left.clone()?),
+        ))
+    }
+
+    fn attribute(&self, expr: &Rc<Expr>, attr: &RcStr) -> Result<Next, AllocError>
+        ensures { (r : RequestPart) (k : ℕ) → IfOk result (Begins (setting_of r self.now) (calls_in self.now) k (Terms.get_attribute (view expr.now.value) (rc_str_bytes attr.now))) }
+    {
+        let attr = attr.clone()?;
+        Ok(Step::Wait(
+            Task::Other(Pending::GetAttr(attr)),
+            Part::Shared(expr.clone()?),
+        ))
+    }
+
+    fn tested(&self, expr: &Rc<Expr>, attr: &RcStr) -> Result<Next, AllocError>
+        ensures { (r : RequestPart) (k : ℕ) → IfOk result (Begins (setting_of r self.now) (calls_in self.now) k (Terms.has_attribute (view expr.now.value) (rc_str_bytes attr.now))) }
+    {
+        let attr = attr.clone()?;
+        Ok(Step::Wait(
+            Task::Other(Pending::HasAttr(attr)),
+            Part::Shared(expr.clone()?),
+        ))
+    }
+
+    fn walked(&self, expr: &Rc<Expr>, attrs: &Rc<FirstRest<RcStr>>) -> Result<Next, AllocError>
+        ensures { (r : RequestPart) (k : ℕ) → IfOk result (Begins (setting_of r self.now) (calls_in self.now) k (Terms.extended_has (view expr.now.value) (rc_str_bytes attrs.now.value.first) (texts_view attrs.now.value.rest.items))) }
+    {
+        let attrs = attrs.clone()?;
+        Ok(Step::Wait(
+            Task::Other(Pending::ExtHasAttr(attrs)),
+            Part::Shared(expr.clone()?),
+        ))
+    }
+
+    fn likeness(&self, expr: &Rc<Expr>, pattern: &Pattern) -> Result<Next, AllocError>
+        ensures { (r : RequestPart) (k : ℕ) → IfOk result (Begins (setting_of r self.now) (calls_in self.now) k (Terms.like (view expr.now.value) (pattern_view pattern.now))) }
+    {
+        let pattern = pattern.clone()?;
+        Ok(Step::Wait(
+            Task::Other(Pending::Like(pattern)),
+            Part::Shared(expr.clone()?),
+        ))
+    }
+
+    fn typed(&self, expr: &Rc<Expr>, entity_type: &EntityType) -> Result<Next, AllocError>
+        ensures { (r : RequestPart) (k : ℕ) → IfOk result (Begins (setting_of r self.now) (calls_in self.now) k (Terms.is_of_type (view expr.now.value) (type_text entity_type.now))) }
+    {
+        let entity_type = entity_type.clone()?;
+        Ok(Step::Wait(
+            Task::Other(Pending::Is(entity_type)),
+            Part::Shared(expr.clone()?),
+        ))
+    }
+
+    fn set(
+        &self,
+        alloc: Global,
+        parts: &Rc<Vec<Expr>>,
+        loc: Option<Loc>,
+    ) -> Result<Next, AllocError>
+        ensures { (r : RequestPart) (k : ℕ) → IfOk result (Begins (setting_of r self.now) (calls_in self.now) k (Terms.set_of (terms_view parts.now.value.items))) }
+    {
+        Ok(taken(
+            alloc,
+            PartsFrame::set(alloc, self.given.extensions, parts, loc),
+        ))
+    }
+
+    fn record(
+        &self,
+        alloc: Global,
+        pairs: &BTreeMap<RcStr, Expr>,
+        loc: Option<Loc>,
+    ) -> Result<Next, AllocError>
+        ensures { (r : RequestPart) (k : ℕ) → IfOk result (Begins (setting_of r self.now) (calls_in self.now) k (Terms.record_of (fields_view pairs.now.entries))) }
+    {
+        Ok(taken(
+            alloc,
+            PartsFrame::record(alloc, self.given.extensions, pairs, loc),
+        ))
+    }
+
+    fn call(
+        &self,
+        alloc: Global,
+        fn_name: &Name,
+        args: &Rc<Vec<Expr>>,
+        loc: Option<Loc>,
+    ) -> Result<Next, AllocError>
+        ensures { (r : RequestPart) (k : ℕ) → IfOk result (Begins (setting_of r self.now) (calls_in self.now) k (Terms.call (name_text fn_name.now) (terms_view args.now.value.items))) }
+    {
+        Ok(taken(
+            alloc,
+            PartsFrame::call(alloc, self.given.extensions, fn_name, args, loc),
+        ))
+    }
+}
+
+// The entity that the slot is linked to.
+#[tactic(auto, unfolding(cedar_model::specs::Operators::slot_answer))]
+fn slot_answer(alloc: Global, slots: &SlotEnv, slot: SlotId) -> Result<Next, AllocError>
+    ensures { IfOk result (λ n. Gives n (slot_answer (slot_view slot) (slots_view slots.now (slot_view slot)))) }
+{
+    match slots.get(&slot) {
+        Some(uid) => {
+            let uid = Rc::new(alloc, uid.clone()?)?;
+            let value = Value::new(ValueKind::Lit(Literal::EntityUID(uid)), None);
+            Ok(Step::Done(Ok(PartialValue::Value(value))))
+        }
+        None => Ok(slot_unlinked(alloc, slot)),
+    }
+}
+
+// That the slot is linked to no entity.
+#[cold]
+#[inline(never)]
+fn slot_unlinked(alloc: Global, slot: SlotId) -> Next
+    ensures { Gives result (fails (slot_is_unlinked (slot_view slot))) }
+{
+    let error = EvaluationError::UnlinkedSlot(UnlinkedSlotError {
+        slot,
+        source_loc: None,
+    });
+    Step::Done(Err(Stopped::of(alloc, error, None)))
+}
+
+// What comes next of a set, a record or a call.
+pub(crate) fn taken(alloc: Global, next: NextPart) -> Next
+    ensures { IsTaken next result }
+{
+    match next {
+        Step::Done(Ok(value)) => Step::Done(Ok(value)),
+        Step::Done(Err(error)) => Step::Done(Err(Stopped::of(alloc, error, None))),
+        Step::Wait(frame, part) => Step::Wait(Task::Parts(frame), Part::Own(part)),
+    }
+}

@@ -1,0 +1,15 @@
+use Rattle.std.proofs.Common.{ap, None}
+use Rattle.cedar_layers.specs.Stores.{store_view}
+use Rattle.cedar_extensions.specs.Extensions.{extensions_view}
+use Rattle.cedar_requests.specs.Requests.{request_view}
+use Rattle.cedar_evaluator.specs.Evaluations.{setting_for}
+use Rattle.cedar_evaluator.proofs.Requests.{four_of_request, four_that_request}
+use Rattle.cedar_evaluator.proofs.evaluator.Evaluator.new.Goals as goal
+
+pub invariant_of-result : goal.invariant_of-result
+invariant_of-result g c =
+    record { of_request = four_of_request (request_view c.args.request) _ _ _ _ c.in_ok-principal.ensures.principal c.in_ok-principal.ensures.action c.in_ok-principal.ensures.resource c.in_ok-principal.ensures.context }
+
+pub returns-clause-setting : goal.returns-clause-setting
+returns-clause-setting g c slots =
+    ap (λ r. setting_for r (store_view c.args.entities.now) (extensions_view c.args.extensions.now) (λ n. None) slots) (four_that_request (request_view c.args.request) _ _ _ _ c.in_ok-principal.ensures.principal c.in_ok-principal.ensures.action c.in_ok-principal.ensures.resource c.in_ok-principal.ensures.context)

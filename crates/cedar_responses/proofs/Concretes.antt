@@ -1,0 +1,67 @@
+-- A response that is made concrete.
+use Rattle.std.proofs.Common.{◌≡◌, Bool, true, false, cond, not, ◌&&◌, ◌||◌, List, [], ◌∷◌, ◌++◌, map, Option, refl, sym, ap, ◌∙◌}
+use Rattle.cedar_model.specs.Terms.{Text}
+use Rattle.cedar_model.specs.Outcomes.{has_text}
+use Rattle.cedar_model.specs.Failures.{Failure, residual_is_left}
+use Rattle.cedar_model.specs.Policies as model
+use Rattle.cedar_model.specs.Policies.{Effect, permit, forbid, allow, deny, skip}
+use Rattle.cedar_model.specs.Responses.{Row, clause_of}
+use Rattle.cedar_model.specs.Reports.{some_row, ids, trues, residuals, must_determine, residual_error, concretized}
+use Rattle.cedar_names.specs.declared.names.Loc.{Loc}
+use Rattle.cedar_expressions.specs.View.{view, expr_loc}
+use Rattle.cedar_layers.specs.Policies.{policy_id_text}
+use Rattle.cedar_responses.specs.declared.partial_response.PartialResponse.{PartialResponse}
+use Rattle.cedar_responses.specs.Rows.{ResidualEntry, residual_rows, rows_in, locs_in, located_view, rows_view}
+use Rattle.cedar_responses.specs.Concrete.{id_texts, errors_left, places_left, concrete_places}
+use Rattle.cedar_responses.proofs.Naming.{ids_of_trues}
+use Rattle.cedar_responses.proofs.Rows.{residual_permits, residual_forbids, trues_permit, trues_forbid, residuals_permit, residuals_forbid}
+
+errors_of_residuals : (e : Effect) (es : List ResidualEntry) → map residual_error (rows_in (residual_rows e es)) ≡ errors_left es
+unfolding clause_of
+errors_of_residuals e [] = refl
+errors_of_residuals e (x ∷ xs) =
+    ap (λ ts. (policy_id_text x.0, residual_is_left (view x.1.0.value)) ∷ ts) (errors_of_residuals e xs)
+
+locs_of_residuals : (e : Effect) (es : List ResidualEntry) → locs_in (residual_rows e es) ≡ places_left es
+locs_of_residuals e [] = refl
+locs_of_residuals e (x ∷ xs) = ap (λ ls. expr_loc x.1.0.value ∷ ls) (locs_of_residuals e xs)
+
+ids_if : (b : Bool) (xs ys : List Row) (ts us : List Text) → ids xs ≡ ts → ids ys ≡ us → ids (cond b xs ys) ≡ cond b ts us
+ids_if true xs ys ts us h g = h
+ids_if false xs ys ts us h g = g
+
+module _ (r : PartialResponse) where
+  must_ids : (m : Bool) → m ≡ (some_row (trues forbid (rows_view r)) || some_row (residuals forbid (rows_view r)))
+      → cond m (id_texts r.satisfied_forbids.entries) (id_texts r.satisfied_permits.entries) ≡ ids (must_determine (rows_view r))
+  must_ids m h =
+      sym (ids_if m (trues forbid (rows_view r)) (trues permit (rows_view r)) _ _
+      (ap ids (trues_forbid r) ∙ ids_of_trues forbid r.satisfied_forbids.entries)
+      (ap ids (trues_permit r) ∙ ids_of_trues permit r.satisfied_permits.entries))
+      ∙ ap (λ b. ids (cond b (trues forbid (rows_view r)) (trues permit (rows_view r)))) h
+
+  left_errors : (recorded : List (Text × Failure)) → errors_left r.residual_forbids.entries ++ (errors_left r.residual_permits.entries ++ recorded)
+      ≡ map residual_error (residuals forbid (rows_view r)) ++ (map residual_error (residuals permit (rows_view r)) ++ recorded)
+  left_errors recorded =
+      sym ((λ i. map residual_error (residuals_forbid r i) ++ (map residual_error (residuals_permit r i) ++ recorded))
+      ∙ (λ i. errors_of_residuals forbid r.residual_forbids.entries i ++ (errors_of_residuals permit r.residual_permits.entries i ++ recorded)))
+
+  pub concrete : (p f m : Bool) (d : model.Decision) (reason : Text → Bool) (recorded errors : List (Text × Failure))
+      → p ≡ some_row (trues permit (rows_view r)) → f ≡ some_row (trues forbid (rows_view r))
+      → m ≡ (some_row (trues forbid (rows_view r)) || some_row (residuals forbid (rows_view r)))
+      → d ≡ cond (p && not f) allow deny
+      → reason ≡ (λ t. has_text t (cond m (id_texts r.satisfied_forbids.entries) (id_texts r.satisfied_permits.entries)))
+      → errors ≡ errors_left r.residual_forbids.entries ++ (errors_left r.residual_permits.entries ++ recorded)
+      → record { decided_as = d; is_reason = reason; errors = errors } ≡ concretized skip (rows_view r) recorded
+  concrete p f m d reason recorded errors hp hf hm hd hr he =
+      let a : d ≡ cond (some_row (trues permit (rows_view r)) && not (some_row (trues forbid (rows_view r)))) allow deny =
+      hd ∙ (λ i. cond (hp i && not (hf i)) allow deny) in
+      let b : reason ≡ (λ (t : Text). has_text t (ids (must_determine (rows_view r)))) =
+      hr ∙ (λ i t. has_text t (must_ids m hm i)) in
+      let c = he ∙ left_errors recorded in
+      λ i. record { decided_as = a i; is_reason = b i; errors = c i }
+
+  pub concrete_at : (recorded places : List (Option Loc)) → places ≡ places_left r.residual_forbids.entries ++ (places_left r.residual_permits.entries ++ recorded)
+      → places ≡ concrete_places (located_view r) recorded
+  concrete_at recorded places h =
+      h ∙ sym ((λ i. locs_in (residual_forbids r i) ++ (locs_in (residual_permits r i) ++ recorded))
+      ∙ (λ i. locs_of_residuals forbid r.residual_forbids.entries i ++ (locs_of_residuals permit r.residual_permits.entries i ++ recorded)))

@@ -1,0 +1,147 @@
+-- What `get` finds.
+use Rattle.std.proofs.Common.{◌≡◌, Bool, true, false, cond, List, [], ◌∷◌, ◌++◌, map, Option, Some, None, option_map, refl, sym, ap, ◌∙◌}
+use Rattle.std.proofs.lemmas.List.{map-append}
+use Rattle.std.proofs.lemmas.Slice.Eq.{bytes_eq-Decides}
+use Rattle.std.specs.Map.{lookup}
+use Rattle.std.specs.declared.alloc.Global.{Global}
+use Rattle.std.specs.declared.rc.Rc.{Rc}
+use Rattle.cedar_model.specs.Terms.{Text, bool_literal, literal}
+use Rattle.cedar_model.specs.Outcomes.{text_eq}
+use Rattle.cedar_model.specs.Policies as model
+use Rattle.cedar_model.specs.Policies.{Effect, permit, forbid}
+use Rattle.cedar_model.specs.Responses.{Reported, reported_true, reported_false, reported_residual, clause_of, carried}
+use Rattle.cedar_model.specs.Chains.{is_true, is_false, is_residual}
+use Rattle.cedar_model.specs.Reports as reports
+use Rattle.cedar_names.specs.declared.names.Loc.{Loc}
+use Rattle.cedar_expressions.specs.declared.expr.Expr.{Expr}
+use Rattle.cedar_expressions.specs.View.{view, expr_loc}
+use Rattle.cedar_layers.specs.declared.policies.policy.Annotations.{Annotations}
+use Rattle.cedar_layers.specs.declared.policies.policy.Policy.{Policy}
+use Rattle.cedar_layers.specs.declared.policies.policy.PolicyID.{PolicyID}
+use Rattle.cedar_layers.specs.Policies.{policy_id_text, annotations_view, policy_view, decides_as}
+use Rattle.cedar_responses.specs.declared.partial_response.ErrorState.{ErrorState}
+use Rattle.cedar_responses.specs.Kept.{is_same_id}
+use Rattle.cedar_responses.specs.Rows.{TrueEntry, FalseEntry, ResidualEntry, Located, located, is_error, true_rows, false_rows, residual_rows, rows_in, located_of}
+use Rattle.cedar_responses.specs.Readers.{made_view, made, made_of, first_at, in_order_of_get, located_at}
+use Rattle.cedar_responses.proofs.Rows.{rows_of_located}
+
+-- ---- the first row of an id
+
+abbrev or_first : Option Located → Option Located → Option Located
+or_first (Some l) o = Some l
+or_first None o = o
+
+first_append : (id : Text) (xs ys : List Located) → first_at id (xs ++ ys) ≡ or_first (first_at id xs) (first_at id ys)
+unfolding first_at
+first_append id [] ys = refl
+first_append id (x ∷ xs) ys = by (text_eq id x.row.id) _ (first_at id xs) (first_append id xs ys)
+  where
+    by : (b : Bool) (o a : Option Located) → o ≡ or_first a (first_at id ys) → cond b (Some x) o ≡ or_first (cond b (Some x) a) (first_at id ys)
+    by true o a h = refl
+    by false o a h = h
+
+or_found : (m : model.Policy × Option Loc) (a b : Option Located) → Some m ≡ option_map made_of a → Some m ≡ option_map made_of (or_first a b)
+or_found m (Some l) b h = h
+or_found m None b h = absurd (cc)
+
+or_absent : (o : Option (model.Policy × Option Loc)) (a b : Option Located) → None ≡ option_map made_of a → o ≡ option_map made_of b → o ≡ option_map made_of (or_first a b)
+or_absent o (Some l) b h e = absurd (cc)
+or_absent o None b h e = e
+
+pub found_before : (id : Text) (xs ys : List Located) (m : model.Policy × Option Loc) → Some m ≡ option_map made_of (first_at id xs) → Some m ≡ option_map made_of (first_at id (xs ++ ys))
+found_before id xs ys m h =
+    or_found m (first_at id xs) (first_at id ys) h ∙ ap (option_map made_of) (sym (first_append id xs ys))
+
+pub found_after : (id : Text) (xs ys : List Located) (o : Option (model.Policy × Option Loc)) → None ≡ option_map made_of (first_at id xs) → o ≡ option_map made_of (first_at id ys) → o ≡ option_map made_of (first_at id (xs ++ ys))
+found_after id xs ys o h e =
+    or_absent o (first_at id xs) (first_at id ys) h e ∙ ap (option_map made_of) (sym (first_append id xs ys))
+
+-- ---- look-ups
+
+module _ {V : Type 0} (effect : Effect) (n : V → List (Text × Text)) (o : V → Reported) (l : V → Option Loc) where
+  abbrev pub row_at : Text → V → Located
+  row_at t v = located effect t (n v) (o v) (l v)
+
+  abbrev pub rows_at : List (PolicyID × V) → List Located
+  rows_at es = map (λ e. row_at (policy_id_text e.0) e.1) es
+
+  pub first_lookup : (es : List (PolicyID × V)) (k : PolicyID) → first_at (policy_id_text k) (rows_at es) ≡ option_map (row_at (policy_id_text k)) (lookup (is_same_id k) es)
+  unfolding first_at
+  first_lookup [] k = refl
+  first_lookup (e ∷ es) k = by (text_eq (policy_id_text k) (policy_id_text e.0)) refl _ (lookup (is_same_id k) es) (first_lookup es k)
+    where
+      by : (b : Bool) → text_eq (policy_id_text k) (policy_id_text e.0) ≡ b → (a : Option Located) (c : Option V) → a ≡ option_map (row_at (policy_id_text k)) c
+          → cond b (Some (row_at (policy_id_text e.0) e.1)) a ≡ option_map (row_at (policy_id_text k)) (cond b (Some e.1) c)
+      by true h a c g =
+          ap (λ t. Some (row_at t e.1)) (sym ((bytes_eq-Decides (policy_id_text k) (policy_id_text e.0)).0 h))
+      by false h a c g = g
+
+  pub looked_up : (es : List (PolicyID × V)) (k : PolicyID) (v : V) → Some v ≡ lookup (is_same_id k) es → Some (made_of (row_at (policy_id_text k) v)) ≡ option_map made_of (first_at (policy_id_text k) (rows_at es))
+  looked_up es k v h = ap (option_map made_of) (ap (option_map (row_at (policy_id_text k))) h ∙ sym (first_lookup es k))
+
+  pub not_there : (es : List (PolicyID × V)) (k : PolicyID) → None ≡ lookup (is_same_id k) es → None ≡ option_map made_of (first_at (policy_id_text k) (rows_at es))
+  not_there es k h = ap (option_map made_of) (ap (option_map (row_at (policy_id_text k))) h ∙ sym (first_lookup es k))
+
+-- ---- the model's function
+
+carried_first : (id : Text) (ls : List Located) → reports.policy_with_id id (rows_in ls) ≡ option_map (λ l. carried l.row) (first_at id ls)
+unfolding reports.policy_with_id first_at
+carried_first id [] = refl
+carried_first id (l ∷ ls) = by (text_eq id l.row.id) _ (first_at id ls) (carried_first id ls)
+  where
+    by : (b : Bool) (o : Option model.Policy) (a : Option Located) → o ≡ option_map (λ l. carried l.row) a → cond b (Some (carried l.row)) o ≡ option_map (λ l. carried l.row) (cond b (Some l) a)
+    by true o a h = refl
+    by false o a h = h
+
+rows_in_append : (xs ys : List Located) → rows_in (xs ++ ys) ≡ rows_in xs ++ rows_in ys
+rows_in_append xs ys = map-append (λ (l : Located). l.row) xs ys
+
+order_rows : (e : Effect) (ls : List Located) → reports.in_order_of_get e (rows_in ls) ≡ rows_in (in_order_of_get e ls)
+order_rows e ls =
+    (λ i. rows_of_located e is_residual ls i ++ (rows_of_located e is_true ls i ++ rows_of_located e is_false ls i))
+    ∙ sym (rows_in_append (located_of e is_residual ls) _
+    ∙ ap (λ rs. rows_in (located_of e is_residual ls) ++ rs) (rows_in_append (located_of e is_true ls) _))
+
+get_located : (id : Text) (ls : List Located) → reports.get id (rows_in ls) ≡ option_map (λ l. carried l.row) (located_at id ls)
+get_located id ls =
+    ap (reports.policy_with_id id) ((λ i. order_rows permit ls i ++ order_rows forbid ls i) ∙ sym (rows_in_append (in_order_of_get permit ls) _))
+    ∙ carried_first id (in_order_of_get permit ls ++ in_order_of_get forbid ls)
+
+firsts : {A B C : Type 0} (f : A → B × C) (o : Option A) → option_map (λ x. (f x).0) o ≡ option_map (λ p. p.0) (option_map f o)
+firsts f None = refl
+firsts f (Some x) = refl
+
+pub got_policy : (o : Option Policy) (id : Text) (ls : List Located) → option_map made_view o ≡ option_map made_of (located_at id ls) → option_map (λ p. decides_as (policy_view p)) o ≡ reports.get id (rows_in ls)
+got_policy o id ls h =
+    firsts made_view o ∙ ap (option_map (λ (p : model.Policy × Option Loc). p.0)) h ∙ sym (firsts made_of (located_at id ls)) ∙ sym (get_located id ls)
+
+-- ---- look-ups in the three kinds of map
+
+module _ (effect : Effect) (k : PolicyID) where
+  pub residual_there : (es : List ResidualEntry) (v : Rc Expr Global × Rc Annotations Global) → Some v ≡ lookup (is_same_id k) es
+      → Some (made effect (policy_id_text k) (annotations_view v.1.value) (view v.0.value) (expr_loc v.0.value)) ≡ option_map made_of (first_at (policy_id_text k) (residual_rows effect es))
+  unfolding clause_of
+  residual_there es v h =
+      looked_up effect (λ w. annotations_view w.1.value) (λ w. reported_residual (view w.0.value)) (λ w. expr_loc w.0.value) es k v h
+
+  pub residual_absent : (es : List ResidualEntry) → None ≡ lookup (is_same_id k) es → None ≡ option_map made_of (first_at (policy_id_text k) (residual_rows effect es))
+  residual_absent es h =
+      not_there effect (λ w. annotations_view w.1.value) (λ w. reported_residual (view w.0.value)) (λ w. expr_loc w.0.value) es k h
+
+  pub true_there : (es : List TrueEntry) (v : Rc Annotations Global) → Some v ≡ lookup (is_same_id k) es
+      → Some (made effect (policy_id_text k) (annotations_view v.value) (literal (bool_literal true)) None) ≡ option_map made_of (first_at (policy_id_text k) (true_rows effect es))
+  unfolding clause_of
+  true_there es v h = looked_up effect (λ w. annotations_view w.value) (λ w. reported_true) (λ w. None) es k v h
+
+  pub true_absent : (es : List TrueEntry) → None ≡ lookup (is_same_id k) es → None ≡ option_map made_of (first_at (policy_id_text k) (true_rows effect es))
+  true_absent es h = not_there effect (λ w. annotations_view w.value) (λ w. reported_true) (λ w. None) es k h
+
+  pub false_there : (es : List FalseEntry) (v : ErrorState × Rc Annotations Global) → Some v ≡ lookup (is_same_id k) es
+      → Some (made effect (policy_id_text k) (annotations_view v.1.value) (literal (bool_literal false)) None) ≡ option_map made_of (first_at (policy_id_text k) (false_rows effect es))
+  unfolding clause_of
+  false_there es v h =
+      looked_up effect (λ w. annotations_view w.1.value) (λ w. reported_false (is_error w.0)) (λ w. None) es k v h
+
+  pub false_absent : (es : List FalseEntry) → None ≡ lookup (is_same_id k) es → None ≡ option_map made_of (first_at (policy_id_text k) (false_rows effect es))
+  false_absent es h =
+      not_there effect (λ w. annotations_view w.1.value) (λ w. reported_false (is_error w.0)) (λ w. None) es k h

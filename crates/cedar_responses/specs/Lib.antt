@@ -1,0 +1,7 @@
+pub mod Concrete
+pub mod Kept
+pub mod Promises
+pub mod Readers
+pub mod Responses
+pub mod Rows
+pub mod Sheets

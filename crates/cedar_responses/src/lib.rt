@@ -1,0 +1,12 @@
+//! Responses: what is answered to a request, also where parts of it are unknown.
+#![tactic(auto)]
+
+mod err;
+mod partial_response;
+mod response;
+pub mod shared;
+mod sheet;
+
+pub use err::AuthorizationError;
+pub use partial_response::{ErrorState, PartialResponse, ReportedIds, ReportedPolicies};
+pub use response::{Decision, Diagnostics, Response};

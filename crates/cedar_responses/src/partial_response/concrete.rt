@@ -1,0 +1,146 @@
+//! A partial response made concrete.
+ghost use Rattle.std.specs.Prelude.{◌≡◌, ◌++◌, ◌&&◌, Some, not, cond, map, IfOk, OnOk};
+ghost use Rattle.cedar_model.specs.Outcomes.{has_text};
+ghost use Rattle.cedar_model.specs.Policies.{skip, allow, deny};
+ghost use Rattle.cedar_model.specs.Policies as model;
+ghost use Rattle.cedar_model.specs.Reports.{given_decision, concretized};
+ghost use Rattle.cedar_layers.specs.Policies.{policy_id_text};
+ghost use Rattle.cedar_expressions.specs.View.{view, expr_loc};
+ghost use Rattle.cedar_model.specs.Failures.{residual_is_left};
+ghost use Rattle.cedar_responses.specs.Responses.{decision_view, error_view, errors_view, error_place, error_places, has_id, response_view};
+ghost use Rattle.cedar_responses.specs.Rows.{located_view, rows_view};
+ghost use Rattle.cedar_responses.specs.Concrete.{id_texts, errors_left, places_left, concrete_places};
+
+use super::PartialResponse;
+use crate::err::AuthorizationError;
+use crate::response::{Decision, Diagnostics, Response};
+use cedar_expressions::Expr;
+use cedar_layers::policies::{Annotations, PolicyID};
+use cedar_values::evaluator::err::EvaluationError;
+use cedar_values::evaluator::err::evaluation_errors::NonValueError;
+use indexmap::IndexMap;
+use std::alloc::{AllocError, Global};
+use std::collections::HashSet;
+use std::rc::Rc;
+
+impl PartialResponse {
+    /// The response where each residual counts as an error, `NonValue` at the residual's location: `Allow` where a permit is
+    /// satisfied and no forbid is, for the reasons that must determine the decision; with the errors of residual forbids, then of
+    /// residual permits, then those recorded. A decision that is given stays. Refuses only for want of memory.
+    pub fn concretize(self, alloc: Global) -> Result<Response, AllocError>
+        ensures response { IfOk result (λ r. response_view r ≡ concretized skip (rows_view self) (errors_view self.errors.items)) }
+        ensures places { IfOk result (λ r. error_places r.diagnostics.errors.items ≡ concrete_places (located_view self) (error_places self.errors.items)) }
+        ensures given { IfOk result (λ r. (d : model.Decision) → given_decision (rows_view self) ≡ Some d → decision_view r.decision ≡ d) }
+    {
+        let has_true_permit = self.has_true_permit();
+        let has_true_forbid = self.has_true_forbid();
+        let may_forbid = self.may_forbid();
+        let PartialResponse {
+            satisfied_permits,
+            false_permits: _,
+            residual_permits,
+            satisfied_forbids,
+            false_forbids: _,
+            residual_forbids,
+            errors,
+            request: _,
+        } = self;
+        let reason = reasons(alloc, may_forbid, satisfied_permits, satisfied_forbids)?;
+        let errors = all_errors(alloc, residual_forbids, residual_permits, errors)?;
+        Ok(Response {
+            decision: decide_concretely(has_true_permit, has_true_forbid),
+            diagnostics: Diagnostics { reason, errors },
+        })
+    }
+}
+
+/// The response where each residual counts as an error, as `concretize` makes it.
+impl TryFrom<PartialResponse> for Response {
+    type Error = AllocError;
+
+    ghost try_from_gives = { λ p r. IfOk r (λ r. (response_view r ≡ concretized skip (rows_view p) (errors_view p.errors.items)) × (error_places r.diagnostics.errors.items ≡ concrete_places (located_view p) (error_places p.errors.items))) };
+
+    fn try_from(response: PartialResponse) -> Result<Response, AllocError> {
+        let alloc = *response.satisfied_permits.allocator();
+        response.concretize(alloc)
+    }
+}
+
+fn decide_concretely(has_true_permit: bool, has_true_forbid: bool) -> Decision
+    ensures { decision_view result ≡ cond (has_true_permit && not has_true_forbid) allow deny }
+{
+    if has_true_permit && !has_true_forbid {
+        Decision::Allow
+    } else {
+        Decision::Deny
+    }
+}
+
+// The ids of the satisfied forbids where a forbid is satisfied or may be, else of the satisfied permits.
+fn reasons(
+    alloc: Global,
+    may_forbid: bool,
+    permits: IndexMap<PolicyID, Rc<Annotations>>,
+    forbids: IndexMap<PolicyID, Rc<Annotations>>,
+) -> Result<HashSet<PolicyID>, AllocError>
+    ensures { IfOk result (λ s. has_id s ≡ (λ t. has_text t (cond may_forbid (id_texts forbids.entries) (id_texts permits.entries)))) }
+{
+    if may_forbid {
+        ids_of(alloc, forbids)
+    } else {
+        ids_of(alloc, permits)
+    }
+}
+
+fn ids_of(
+    alloc: Global,
+    entries: IndexMap<PolicyID, Rc<Annotations>>,
+) -> Result<HashSet<PolicyID>, AllocError>
+    ensures { IfOk result (λ s. has_id s ≡ (λ t. has_text t (id_texts entries.entries))) }
+{
+    entries.into_keys().collect(alloc)
+}
+
+// The errors of residual forbids, then of residual permits, then those recorded.
+fn all_errors(
+    alloc: Global,
+    residual_forbids: IndexMap<PolicyID, (Rc<Expr>, Rc<Annotations>)>,
+    residual_permits: IndexMap<PolicyID, (Rc<Expr>, Rc<Annotations>)>,
+    mut recorded: Vec<AuthorizationError>,
+) -> Result<Vec<AuthorizationError>, AllocError>
+    ensures places { IfOk result (λ es. error_places es.items ≡ places_left residual_forbids.entries ++ (places_left residual_permits.entries ++ error_places recorded.items)) }
+    ensures errors { IfOk result (λ es. errors_view es.items ≡ errors_left residual_forbids.entries ++ (errors_left residual_permits.entries ++ errors_view recorded.items)) }
+{
+    let mut errors = Vec::new(alloc);
+    add_errors(&mut errors, residual_forbids)?;
+    add_errors(&mut errors, residual_permits)?;
+    errors.append(&mut recorded)?;
+    Ok(errors)
+}
+
+fn add_errors(
+    errors: &mut Vec<AuthorizationError>,
+    entries: IndexMap<PolicyID, (Rc<Expr>, Rc<Annotations>)>,
+) -> Result<(), AllocError>
+    ensures places { OnOk result (error_places errors.new.items ≡ error_places errors.old.items ++ places_left entries.entries) }
+    ensures errors { OnOk result (errors_view errors.new.items ≡ errors_view errors.old.items ++ errors_left entries.entries) }
+{
+    'residuals: for (id, entry) in entries {
+        let error = non_value(id, &entry.0)?;
+        errors.push(error)?;
+    }
+    Ok(())
+}
+
+// The error that a residual is left, at the residual's location.
+fn non_value(id: PolicyID, residual: &Expr) -> Result<AuthorizationError, AllocError>
+    ensures place { IfOk result (λ e. error_place e ≡ expr_loc residual.now) }
+    ensures error { IfOk result (λ e. error_view e ≡ (policy_id_text id, residual_is_left (view residual.now))) }
+{
+    let expr = residual.clone()?;
+    let source_loc = residual.source_loc().copied();
+    Ok(AuthorizationError::PolicyEvaluationError {
+        id,
+        error: EvaluationError::NonValue(NonValueError { expr, source_loc }),
+    })
+}

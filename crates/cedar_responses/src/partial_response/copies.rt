@@ -1,0 +1,92 @@
+//! Copies of partial responses.
+ghost use Rattle.std.specs.Prelude.{◌≡◌, IfOk};
+ghost use Rattle.cedar_model.specs.Policies.{Effect};
+ghost use Rattle.cedar_responses.specs.Responses.{errors_view};
+ghost use Rattle.cedar_responses.specs.Rows.{located_view, true_rows, false_rows, residual_rows};
+
+use super::{EffectEntries, ErrorState, PartialResponse};
+use crate::err::AuthorizationError;
+use cedar_expressions::Expr;
+use cedar_layers::policies::{Annotations, PolicyID};
+use indexmap::IndexMap;
+use std::alloc::AllocError;
+use std::rc::Rc;
+
+/// The copy shares the residuals, the annotations and the request.
+impl Clone for PartialResponse {
+    ghost is_clone = { λ r copy. (located_view copy ≡ located_view r) × (errors_view copy.errors.items ≡ errors_view r.errors.items) × (copy.request.value ≡ r.request.value) };
+
+    fn clone(&self) -> Result<PartialResponse, AllocError> {
+        let permits = copied_entries(
+            &self.satisfied_permits,
+            &self.false_permits,
+            &self.residual_permits,
+        )?;
+        let forbids = copied_entries(
+            &self.satisfied_forbids,
+            &self.false_forbids,
+            &self.residual_forbids,
+        )?;
+        let errors = copied_errors(&self.errors)?;
+        let request = self.request.clone()?;
+        Ok(PartialResponse {
+            satisfied_permits: permits.satisfied,
+            false_permits: permits.unsatisfied,
+            residual_permits: permits.residual,
+            satisfied_forbids: forbids.satisfied,
+            false_forbids: forbids.unsatisfied,
+            residual_forbids: forbids.residual,
+            errors,
+            request,
+        })
+    }
+}
+
+fn copied_entries(
+    trues: &IndexMap<PolicyID, Rc<Annotations>>,
+    falses: &IndexMap<PolicyID, (ErrorState, Rc<Annotations>)>,
+    residuals: &IndexMap<PolicyID, (Rc<Expr>, Rc<Annotations>)>,
+) -> Result<EffectEntries, AllocError>
+    ensures trues { IfOk result (λ m. (effect : Effect) → true_rows effect m.satisfied.entries ≡ true_rows effect trues.now.entries) }
+    ensures falses { IfOk result (λ m. (effect : Effect) → false_rows effect m.unsatisfied.entries ≡ false_rows effect falses.now.entries) }
+    ensures residuals { IfOk result (λ m. (effect : Effect) → residual_rows effect m.residual.entries ≡ residual_rows effect residuals.now.entries) }
+{
+    let satisfied = copied_trues(trues)?;
+    let unsatisfied = copied_falses(falses)?;
+    let residual = copied_residuals(residuals)?;
+    Ok(EffectEntries {
+        satisfied,
+        unsatisfied,
+        residual,
+    })
+}
+
+fn copied_trues(
+    entries: &IndexMap<PolicyID, Rc<Annotations>>,
+) -> Result<IndexMap<PolicyID, Rc<Annotations>>, AllocError>
+    ensures { IfOk result (λ m. (effect : Effect) → true_rows effect m.entries ≡ true_rows effect entries.now.entries) }
+{
+    entries.clone()
+}
+
+fn copied_falses(
+    entries: &IndexMap<PolicyID, (ErrorState, Rc<Annotations>)>,
+) -> Result<IndexMap<PolicyID, (ErrorState, Rc<Annotations>)>, AllocError>
+    ensures { IfOk result (λ m. (effect : Effect) → false_rows effect m.entries ≡ false_rows effect entries.now.entries) }
+{
+    entries.clone()
+}
+
+fn copied_residuals(
+    entries: &IndexMap<PolicyID, (Rc<Expr>, Rc<Annotations>)>,
+) -> Result<IndexMap<PolicyID, (Rc<Expr>, Rc<Annotations>)>, AllocError>
+    ensures { IfOk result (λ m. (effect : Effect) → residual_rows effect m.entries ≡ residual_rows effect entries.now.entries) }
+{
+    entries.clone()
+}
+
+fn copied_errors(errors: &Vec<AuthorizationError>) -> Result<Vec<AuthorizationError>, AllocError>
+    ensures { IfOk result (λ es. errors_view es.items ≡ errors_view errors.now.items) }
+{
+    errors.clone()
+}

@@ -1,0 +1,53 @@
+//! Policies made of what is reported.
+ghost use Rattle.std.specs.Prelude.{◌≡◌, None, IfOk};
+ghost use Rattle.cedar_model.specs.Terms.{literal, bool_literal};
+ghost use Rattle.cedar_expressions.specs.View.{view, expr_loc};
+ghost use Rattle.cedar_layers.specs.Policies.{effect_view, policy_id_text, annotations_view};
+ghost use Rattle.cedar_responses.specs.Readers.{made_view, made};
+
+use cedar_expressions::Expr;
+use cedar_layers::policies::{Annotations, Effect, Policy, PolicyID};
+use cedar_names::Literal;
+use std::alloc::{AllocError, Global};
+use std::rc::Rc;
+
+// The policy whose clause is this truth.
+pub(super) fn policy_of_truth(
+    alloc: Global,
+    effect: Effect,
+    is_true: bool,
+    id: &PolicyID,
+    annotations: &Rc<Annotations>,
+) -> Result<Policy, AllocError>
+    ensures { IfOk result (λ p. made_view p ≡ made (effect_view effect) (policy_id_text id.now) (annotations_view annotations.now.value) (literal (bool_literal is_true)) None) }
+{
+    let clause = Rc::new(alloc, Expr::val(Literal::Bool(is_true)))?;
+    Policy::from_when_clause_annos(
+        alloc,
+        effect,
+        clause,
+        id.clone()?,
+        None,
+        annotations.clone()?,
+    )
+}
+
+// The policy whose clause is this residual.
+pub(super) fn policy_of_residual(
+    alloc: Global,
+    effect: Effect,
+    residual: &Rc<Expr>,
+    id: &PolicyID,
+    annotations: &Rc<Annotations>,
+) -> Result<Policy, AllocError>
+    ensures { IfOk result (λ p. made_view p ≡ made (effect_view effect) (policy_id_text id.now) (annotations_view annotations.now.value) (view residual.now.value) (expr_loc residual.now.value)) }
+{
+    Policy::from_when_clause_annos(
+        alloc,
+        effect,
+        residual.clone()?,
+        id.clone()?,
+        residual.source_loc().copied(),
+        annotations.clone()?,
+    )
+}

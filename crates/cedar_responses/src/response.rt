@@ -1,0 +1,54 @@
+//! A decision, and what led to it.
+ghost use Rattle.std.specs.Prelude.{◌≡◌};
+ghost use Rattle.cedar_responses.specs.Responses.{has_id, response_view, decision_view, errors_view};
+
+mod copies;
+mod texts;
+
+use crate::err::AuthorizationError;
+use cedar_layers::policies::PolicyID;
+use std::collections::HashSet;
+
+/// Whether the request is allowed.
+#[derive(Debug, Clone, Copy, PartialEq, Eq)]
+pub enum Decision {
+    /// Some permit is satisfied and no forbid is.
+    Allow,
+    /// Each other case.
+    Deny,
+}
+
+/// A decision with what led to it. Equality is that of the parts.
+#[derive(Debug, PartialEq, Eq, Drop)]
+pub struct Response {
+    /// Whether the request is allowed.
+    pub decision: Decision,
+    /// What led to it.
+    pub diagnostics: Diagnostics,
+}
+
+/// The policies that determined a decision, and the errors met. Equality compares the reasons as a set, and the errors in order,
+/// with the locations that they hold.
+#[derive(Debug, PartialEq, Eq, Drop)]
+pub struct Diagnostics {
+    /// The satisfied forbids or, with none, the satisfied permits.
+    pub reason: HashSet<PolicyID>,
+    /// The error of each policy that erred, in the order of the policies.
+    pub errors: Vec<AuthorizationError>,
+}
+
+impl Response {
+    /// The response of these parts.
+    pub fn new(
+        decision: Decision,
+        reason: HashSet<PolicyID>,
+        errors: Vec<AuthorizationError>,
+    ) -> Response
+        ensures { response_view result ≡ record { decided_as = decision_view decision; is_reason = has_id reason; errors = errors_view errors.items } }
+    {
+        Response {
+            decision,
+            diagnostics: Diagnostics { reason, errors },
+        }
+    }
+}

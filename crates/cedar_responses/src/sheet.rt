@@ -1,0 +1,158 @@
+//! What an authorization notes of its policies, before a response is made of it.
+ghost use Rattle.std.specs.Prelude.{◌≡◌, true, false, Some, None, OnOk};
+ghost use Rattle.cedar_model.specs.Responses.{reported_true, reported_false, reported_residual, error_of};
+ghost use Rattle.cedar_expressions.specs.View.{view, expr_loc};
+ghost use Rattle.cedar_layers.specs.Policies.{policy_view, effect_view, policy_id_text, annotations_view};
+ghost use Rattle.cedar_values.specs.Failures.{failure_of};
+ghost use Rattle.cedar_responses.specs.Rows.{located};
+ghost use Rattle.cedar_responses.specs.Sheets.{sheet_view, nothing_noted, noted_also, outcome_view, placed_row};
+
+use crate::err::AuthorizationError;
+use crate::partial_response::ErrorState;
+use cedar_expressions::Expr;
+use cedar_layers::policies::{Annotations, Effect, Policy, PolicyID};
+use cedar_values::evaluator::err::EvaluationError;
+use std::alloc::{AllocError, Global};
+use std::rc::Rc;
+
+/// How the condition of a policy came out.
+#[derive(Drop)]
+pub enum Outcome {
+    /// It is this truth.
+    Decided(bool),
+    /// This residual is left of it.
+    Residual(Rc<Expr>),
+    /// It erred.
+    Failed(EvaluationError),
+}
+
+/// Policies by effect and outcome, each list in the order in which they were noted. They are what `PartialResponse::new` takes.
+#[derive(Drop)]
+pub struct Sheet {
+    /// The permits that are satisfied.
+    pub true_permits: Vec<(PolicyID, Rc<Annotations>)>,
+    /// The permits that are not satisfied.
+    pub false_permits: Vec<(PolicyID, (ErrorState, Rc<Annotations>))>,
+    /// The permits of which a residual is left.
+    pub residual_permits: Vec<(PolicyID, (Rc<Expr>, Rc<Annotations>))>,
+    /// The forbids that are satisfied.
+    pub true_forbids: Vec<(PolicyID, Rc<Annotations>)>,
+    /// The forbids that are not satisfied.
+    pub false_forbids: Vec<(PolicyID, (ErrorState, Rc<Annotations>))>,
+    /// The forbids of which a residual is left.
+    pub residual_forbids: Vec<(PolicyID, (Rc<Expr>, Rc<Annotations>))>,
+    /// The error of each policy that erred.
+    pub errors: Vec<AuthorizationError>,
+}
+
+impl Sheet {
+    /// A sheet on which nothing is noted.
+    pub fn new(alloc: Global) -> Sheet
+        ensures { sheet_view result ≡ nothing_noted }
+    {
+        Sheet {
+            true_permits: Vec::new(alloc),
+            false_permits: Vec::new(alloc),
+            residual_permits: Vec::new(alloc),
+            true_forbids: Vec::new(alloc),
+            false_forbids: Vec::new(alloc),
+            residual_forbids: Vec::new(alloc),
+            errors: Vec::new(alloc),
+        }
+    }
+
+    /// Notes how one more policy came out; where it erred, it is false, and its error is noted too. Refuses only for want of memory.
+    #[tactic(auto, unfolding(cedar_model::specs::Responses::reported_of, cedar_model::specs::Responses::error_of))]
+    pub fn place(&mut self, policy: &Policy, outcome: Outcome) -> Result<(), AllocError>
+        ensures { OnOk result (sheet_view self.new ≡ noted_also (sheet_view self.old) (placed_row (policy_view policy.now) outcome) (error_of (outcome_view outcome))) }
+    {
+        let id = policy.id().clone()?;
+        let annotations = policy.annotations_rc().clone()?;
+        match outcome {
+            Outcome::Decided(true) => self.note_true(policy.effect(), id, annotations),
+            Outcome::Decided(false) => self.note_false(policy.effect(), id, annotations),
+            Outcome::Residual(expr) => self.note_residual(policy.effect(), id, expr, annotations),
+            Outcome::Failed(error) => self.note_error(policy.effect(), id, error, annotations),
+        }
+    }
+
+    // A true policy.
+    #[tactic(auto, unfolding(cedar_model::specs::Responses::reported_of, cedar_model::specs::Responses::error_of, cedar_model::specs::Responses::with_error, cedar_model::specs::Chains::has_effect, cedar_model::specs::Chains::is_true, cedar_model::specs::Chains::is_false, cedar_model::specs::Chains::is_residual, crate::specs::Rows::located_of))]
+    fn note_true(
+        &mut self,
+        effect: Effect,
+        id: PolicyID,
+        annotations: Rc<Annotations>,
+    ) -> Result<(), AllocError>
+        ensures { OnOk result (sheet_view self.new ≡ noted_also (sheet_view self.old) (located (effect_view effect) (policy_id_text id) (annotations_view annotations.value) reported_true None) None) }
+    {
+        match effect {
+            Effect::Permit => self.true_permits.push((id, annotations))?,
+            Effect::Forbid => self.true_forbids.push((id, annotations))?,
+        }
+        Ok(())
+    }
+
+    // A false policy.
+    #[tactic(auto, unfolding(cedar_model::specs::Responses::reported_of, cedar_model::specs::Responses::error_of, cedar_model::specs::Responses::with_error, cedar_model::specs::Chains::has_effect, cedar_model::specs::Chains::is_true, cedar_model::specs::Chains::is_false, cedar_model::specs::Chains::is_residual, crate::specs::Rows::located_of))]
+    fn note_false(
+        &mut self,
+        effect: Effect,
+        id: PolicyID,
+        annotations: Rc<Annotations>,
+    ) -> Result<(), AllocError>
+        ensures { OnOk result (sheet_view self.new ≡ noted_also (sheet_view self.old) (located (effect_view effect) (policy_id_text id) (annotations_view annotations.value) (reported_false false) None) None) }
+    {
+        match effect {
+            Effect::Permit => self
+                .false_permits
+                .push((id, (ErrorState::NoError, annotations)))?,
+            Effect::Forbid => self
+                .false_forbids
+                .push((id, (ErrorState::NoError, annotations)))?,
+        }
+        Ok(())
+    }
+
+    // A residual policy.
+    #[tactic(auto, unfolding(cedar_model::specs::Responses::reported_of, cedar_model::specs::Responses::error_of, cedar_model::specs::Responses::with_error, cedar_model::specs::Chains::has_effect, cedar_model::specs::Chains::is_true, cedar_model::specs::Chains::is_false, cedar_model::specs::Chains::is_residual, crate::specs::Rows::located_of))]
+    fn note_residual(
+        &mut self,
+        effect: Effect,
+        id: PolicyID,
+        residual: Rc<Expr>,
+        annotations: Rc<Annotations>,
+    ) -> Result<(), AllocError>
+        ensures { OnOk result (sheet_view self.new ≡ noted_also (sheet_view self.old) (located (effect_view effect) (policy_id_text id) (annotations_view annotations.value) (reported_residual (view residual.value)) (expr_loc residual.value)) None) }
+    {
+        match effect {
+            Effect::Permit => self.residual_permits.push((id, (residual, annotations)))?,
+            Effect::Forbid => self.residual_forbids.push((id, (residual, annotations)))?,
+        }
+        Ok(())
+    }
+
+    // An erring policy.
+    #[tactic(auto, unfolding(cedar_model::specs::Responses::reported_of, cedar_model::specs::Responses::error_of, cedar_model::specs::Responses::with_error, cedar_model::specs::Chains::has_effect, cedar_model::specs::Chains::is_true, cedar_model::specs::Chains::is_false, cedar_model::specs::Chains::is_residual, crate::specs::Rows::located_of))]
+    fn note_error(
+        &mut self,
+        effect: Effect,
+        id: PolicyID,
+        error: EvaluationError,
+        annotations: Rc<Annotations>,
+    ) -> Result<(), AllocError>
+        ensures { OnOk result (sheet_view self.new ≡ noted_also (sheet_view self.old) (located (effect_view effect) (policy_id_text id) (annotations_view annotations.value) (reported_false true) None) (Some (failure_of error))) }
+    {
+        let erring = id.clone()?;
+        self.errors.push(AuthorizationError::PolicyEvaluationError { id: erring, error })?;
+        match effect {
+            Effect::Permit => self
+                .false_permits
+                .push((id, (ErrorState::Error, annotations)))?,
+            Effect::Forbid => self
+                .false_forbids
+                .push((id, (ErrorState::Error, annotations)))?,
+        }
+        Ok(())
+    }
+}

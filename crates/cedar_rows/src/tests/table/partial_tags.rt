@@ -1,0 +1,276 @@
+//! Rows on `getTag` and `hasTag` where something is unknown, over a concrete store.
+
+/// Each row has the words of an expression and its answer.
+pub static ROWS: &str = r#"
+# `getTag`, a value beside a residual
+ask partial
+B:true U:x getTag => true.getTag(unknown("x"))
+B:true V:context getTag => true.getTag({"k": unknown("k"), "n": 1})
+B:false E:E:e get:v U:x record:a,b getTag => false.getTag({"a": T("1"), "b": unknown("x")})
+L:1 L:2 less U:x get:a getTag => true.getTag(unknown("x")["a"])
+L:3 U:y getTag => 3.getTag(unknown("y"))
+L:9223372036854775807 U:x record:b U:y record:a,c getTag => 9223372036854775807.getTag({"a": {"b": unknown("x")}, "c": unknown("y")})
+L:3 U:x call:even:1 record:a getTag => 3.getTag({"a": even(unknown("x"))})
+L:-3 E:E:e T:s getTag getTag => -3.getTag([unknown("t")])
+T:q E:E:e get:f getTag => "q".getTag(unknown("f"))
+E:User:a get:name U:x L:1 record:a,b getTag => "ann".getTag({"a": unknown("x"), "b": 1})
+T:q U:x L:1 add L:2 record:a,b getTag => "q".getTag({"a": unknown("x") + 1, "b": 2})
+T:say␣"hi" U:x has:a getTag => "say \"hi\"".getTag(unknown("x") has "a")
+E:User:a T:z call:unknown:1 getTag => User::"a".getTag(unknown("z"))
+E:App::User:x E:E:e get:r getTag => App::User::"x".getTag({"a": unknown("f"), "b": 1})
+E:User:a E:E:e get:q getTag => User::"a".getTag({"a": even(unknown("f")), "b": 1})
+V:principal U:x L:1 set:2 getTag => User::"a".getTag([unknown("x"), 1])
+L:2 L:1 L:2 set:3 V:action getTag => [1, 2].getTag(unknown("action"))
+L:1 record:a E:User:b set:2 V:context getTag => [User::"b", {"a": 1}].getTag({"k": unknown("k"), "n": 1})
+L:2 L:1 L:2 set:3 E:E:e get:v U:x record:a,b getTag => [1, 2].getTag({"a": T("1"), "b": unknown("x")})
+set:0 U:x not getTag => [].getTag(!unknown("x"))
+L:1 record:a U:x getTag => {"a": 1}.getTag(unknown("x"))
+L:1 record:a U:x record:b U:y record:a,c getTag => {"a": 1}.getTag({"a": {"b": unknown("x")}, "c": unknown("y")})
+record: U:x call:even:1 record:a getTag => {}.getTag({"a": even(unknown("x"))})
+T:q L:2 L:1 add record:b,a U:x call:even:1 getTag => {"a": 3, "b": "q"}.getTag(even(unknown("x")))
+E:E:e get:v U:y getTag => T("1").getTag(unknown("y"))
+E:E:e get:w U:x L:1 record:a,b getTag => T("2").getTag({"a": unknown("x"), "b": 1})
+E:E:e get:v U:x L:1 add L:2 record:a,b getTag => T("1").getTag({"a": unknown("x") + 1, "b": 2})
+E:E:e get:w E:E:e get:g getTag => T("2").getTag([unknown("f")])
+ask residual
+B:false U:n:Set getTag => B:false U:n:Set getTag
+L:1 L:2 less U:u:Entity:User getTag => B:true U:u:Entity:User getTag
+L:-3 U:n:Record getTag => L:-3 U:n:Record getTag
+L:1 L:1 add V:resource getTag => L:2 U:resource:Entity:Photo getTag
+T:say␣"hi" U:n:Extension:T getTag => T:say␣"hi" U:n:Extension:T getTag
+T: U:u:Entity:Group getTag => T: U:u:Entity:Group getTag
+V:principal U:n:Long getTag => E:User:a U:n:Long getTag
+S:resource E:E:e get:friend getTag => E:Photo:p U:j:Entity:User getTag
+set:0 U:n:String getTag => set:0 U:n:String getTag
+E:Photo:p get:labels U:u:Entity:User getTag => T:x T:y set:2 U:u:Entity:User getTag
+record: E:E:e get:typed getTag => record: U:i:Long getTag
+T:q L:2 L:1 add record:b,a V:resource getTag => L:3 T:q record:a,b U:resource:Entity:Photo getTag
+E:E:e get:w U:n:Bool getTag => T:2 call:T:1 U:n:Bool getTag
+E:E:e get:v U:u:Entity:Group getTag => T:1 call:T:1 U:u:Entity:Group getTag
+# `getTag`, a residual beside a value
+U:n:Set B:false getTag => U:n:Set B:false getTag
+U:n:Record L:9223372036854775807 getTag => U:n:Record L:9223372036854775807 getTag
+U:n:Extension:T E:User:a get:name getTag => U:n:Extension:T T:ann getTag
+U:n:Long E:App::User:x getTag => U:n:Long E:App::User:x getTag
+U:n:String L:1 record:a E:User:b set:2 getTag => U:n:String E:User:b L:1 record:a set:2 getTag
+E:E:e get:typed record: getTag => U:i:Long record: getTag
+U:n:Bool E:E:e get:w getTag => U:n:Bool T:2 call:T:1 getTag
+E:E:e get:friend L:1 L:2 less getTag => U:j:Entity:User B:true getTag
+U:u:Entity:User L:3 getTag => U:u:Entity:User L:3 getTag
+V:resource T:q getTag => U:resource:Entity:Photo T:q getTag
+U:u:Entity:Group E:User:a getTag => U:u:Entity:Group E:User:a getTag
+E:E:e get:friend L:2 L:1 L:2 set:3 getTag => U:j:Entity:User L:1 L:2 set:2 getTag
+U:u:Entity:User T:q L:2 L:1 add record:b,a getTag => U:u:Entity:User L:3 T:q record:a,b getTag
+V:resource E:E:e get:v getTag => U:resource:Entity:Photo T:1 call:T:1 getTag
+ask partial
+E:E:e get:f B:true getTag => unknown("f").getTag(true)
+T:z call:unknown:1 L:1 L:1 add getTag => unknown("z").getTag(2)
+V:action T: getTag => unknown("action").getTag("")
+U:x S:resource getTag => unknown("x").getTag(Photo::"p")
+U:y E:Photo:p get:labels getTag => unknown("y").getTag(["x", "y"])
+E:E:e get:f L:1 record:a getTag => unknown("f").getTag({"a": 1})
+T:z call:unknown:1 E:E:e get:v getTag => unknown("z").getTag(T("1"))
+E:E:e get:r B:true getTag => {"a": unknown("f"), "b": 1}.getTag(true)
+V:context L:-3 getTag => {"k": unknown("k"), "n": 1}.getTag(-3)
+U:x record:b U:y record:a,c T:say␣"hi" getTag => {"a": {"b": unknown("x")}, "c": unknown("y")}.getTag("say \"hi\"")
+U:x L:1 record:a,b V:principal getTag => {"a": unknown("x"), "b": 1}.getTag(User::"a")
+E:E:e get:r set:0 getTag => {"a": unknown("f"), "b": 1}.getTag([])
+V:context L:1 record:a getTag => {"k": unknown("k"), "n": 1}.getTag({"a": 1})
+U:x record:b U:y record:a,c E:E:e get:w getTag => {"a": {"b": unknown("x")}, "c": unknown("y")}.getTag(T("2"))
+E:E:e get:q B:false getTag => {"a": even(unknown("f")), "b": 1}.getTag(false)
+E:E:e get:v U:x record:a,b L:1 L:1 add getTag => {"a": T("1"), "b": unknown("x")}.getTag(2)
+U:x call:even:1 record:a T: getTag => {"a": even(unknown("x"))}.getTag("")
+U:x L:1 add L:2 record:a,b S:resource getTag => {"a": unknown("x") + 1, "b": 2}.getTag(Photo::"p")
+E:E:e get:q E:Photo:p get:labels getTag => {"a": even(unknown("f")), "b": 1}.getTag(["x", "y"])
+E:E:e get:v U:x record:a,b record: getTag => {"a": T("1"), "b": unknown("x")}.getTag({})
+U:x call:even:1 record:a E:E:e get:v getTag => {"a": even(unknown("x"))}.getTag(T("1"))
+U:x get:a L:1 L:2 less getTag => unknown("x")["a"].getTag(true)
+E:E:e T:s getTag L:9223372036854775807 getTag => [unknown("t")].getTag(9223372036854775807)
+U:x has:a E:User:a get:name getTag => (unknown("x") has "a").getTag("ann")
+U:x L:1 set:2 E:App::User:x getTag => [unknown("x"), 1].getTag(App::User::"x")
+U:x not L:1 record:a E:User:b set:2 getTag => (!unknown("x")).getTag([User::"b", {"a": 1}])
+U:x call:even:1 T:q L:2 L:1 add record:b,a getTag => even(unknown("x")).getTag({"a": 3, "b": "q"})
+E:E:e get:g E:E:e get:w getTag => [unknown("f")].getTag(T("2"))
+# `getTag`, two residuals
+V:action U:x getTag => unknown("action").getTag(unknown("x"))
+U:x L:1 add L:2 record:a,b E:E:e get:f getTag => {"a": unknown("x") + 1, "b": 2}.getTag(unknown("f"))
+E:E:e get:r V:context getTag => {"a": unknown("f"), "b": 1}.getTag({"k": unknown("k"), "n": 1})
+U:x record:b U:y record:a,c E:E:e get:q getTag => {"a": {"b": unknown("x")}, "c": unknown("y")}.getTag({"a": even(unknown("f")), "b": 1})
+E:E:e get:v U:x record:a,b U:x call:even:1 record:a getTag => {"a": T("1"), "b": unknown("x")}.getTag({"a": even(unknown("x"))})
+U:x L:1 add L:2 record:a,b E:E:e T:s getTag getTag => {"a": unknown("x") + 1, "b": 2}.getTag([unknown("t")])
+U:x has:a U:x L:1 set:2 getTag => (unknown("x") has "a").getTag([unknown("x"), 1])
+U:x not V:action getTag => (!unknown("x")).getTag(unknown("action"))
+E:E:e get:r U:x call:even:1 getTag => {"a": unknown("f"), "b": 1}.getTag(even(unknown("x")))
+ask residual
+U:y U:n:Set getTag => U:y U:n:Set getTag
+U:n:Record U:n:Extension:T getTag => U:n:Record U:n:Extension:T getTag
+U:n:Long U:u:Entity:Group getTag => U:n:Long U:u:Entity:Group getTag
+U:x get:a U:n:String getTag => U:x get:a U:n:String getTag
+E:E:e get:friend U:u:Entity:User getTag => U:j:Entity:User U:u:Entity:User getTag
+V:resource U:x L:1 record:a,b getTag => U:resource:Entity:Photo U:x L:1 record:a,b getTag
+T:z call:unknown:1 U:u:Entity:Group getTag => U:z U:u:Entity:Group getTag
+E:E:e get:typed U:x L:1 record:a,b getTag => U:i:Long U:x L:1 record:a,b getTag
+E:E:e get:friend E:E:e get:q getTag => U:j:Entity:User U:f call:even:1 L:1 record:a,b getTag
+# `getTag`, an error beside a residual
+ask partial
+U:x L:1 record:a get:z getTag => record does not have the attribute `z`, other false, 1: a
+S:principal E:E:e get:v U:x record:a,b getTag => template slot `?principal` was not linked
+U:y call:nosuch:0 getTag => extension function `nosuch` does not exist
+call:fail:0 U:x call:even:1 record:a getTag => error while evaluating `ext` extension function: no
+E:E:e get:f L:1 L:2 call:even:2 getTag => wrong number of arguments provided to extension function `even`: expected 1, got 2
+T:q call:even:1 U:x L:1 add L:2 record:a,b getTag => type error: expected long, got string
+V:context E:E:e T:none getTag getTag => `E::"e"` does not have the tag `none`, other false, 4: s size t typed
+L:1 T:a add L:9223372036854775807 L:1 add getTag => type error: expected long, got string
+# `hasTag`, a value beside a residual
+B:true T:z call:unknown:1 hasTag => true.hasTag(unknown("z"))
+B:true U:x record:b U:y record:a,c hasTag => true.hasTag({"a": {"b": unknown("x")}, "c": unknown("y")})
+B:false E:E:e get:q hasTag => false.hasTag({"a": even(unknown("f")), "b": 1})
+L:1 L:2 less E:E:e get:g hasTag => true.hasTag([unknown("f")])
+L:3 V:action hasTag => 3.hasTag(unknown("action"))
+L:9223372036854775807 U:x L:1 record:a,b hasTag => 9223372036854775807.hasTag({"a": unknown("x"), "b": 1})
+L:3 E:E:e get:v U:x record:a,b hasTag => 3.hasTag({"a": T("1"), "b": unknown("x")})
+L:-3 U:x get:a hasTag => -3.hasTag(unknown("x")["a"])
+T:q U:x hasTag => "q".hasTag(unknown("x"))
+E:User:a get:name E:E:e get:r hasTag => "ann".hasTag({"a": unknown("f"), "b": 1})
+T:q U:x call:even:1 record:a hasTag => "q".hasTag({"a": even(unknown("x"))})
+T:say␣"hi" E:E:e T:s getTag hasTag => "say \"hi\"".hasTag([unknown("t")])
+E:User:a U:y hasTag => User::"a".hasTag(unknown("y"))
+E:App::User:x V:context hasTag => App::User::"x".hasTag({"k": unknown("k"), "n": 1})
+E:User:a U:x L:1 add L:2 record:a,b hasTag => User::"a".hasTag({"a": unknown("x") + 1, "b": 2})
+V:principal U:x has:a hasTag => User::"a".hasTag(unknown("x") has "a")
+L:2 L:1 L:2 set:3 E:E:e get:f hasTag => [1, 2].hasTag(unknown("f"))
+L:1 record:a E:User:b set:2 U:x record:b U:y record:a,c hasTag => [User::"b", {"a": 1}].hasTag({"a": {"b": unknown("x")}, "c": unknown("y")})
+L:2 L:1 L:2 set:3 E:E:e get:q hasTag => [1, 2].hasTag({"a": even(unknown("f")), "b": 1})
+set:0 U:x L:1 set:2 hasTag => [].hasTag([unknown("x"), 1])
+L:1 record:a T:z call:unknown:1 hasTag => {"a": 1}.hasTag(unknown("z"))
+L:1 record:a U:x L:1 record:a,b hasTag => {"a": 1}.hasTag({"a": unknown("x"), "b": 1})
+record: E:E:e get:v U:x record:a,b hasTag => {}.hasTag({"a": T("1"), "b": unknown("x")})
+T:q L:2 L:1 add record:b,a U:x not hasTag => {"a": 3, "b": "q"}.hasTag(!unknown("x"))
+E:E:e get:v V:action hasTag => T("1").hasTag(unknown("action"))
+E:E:e get:w E:E:e get:r hasTag => T("2").hasTag({"a": unknown("f"), "b": 1})
+E:E:e get:v U:x call:even:1 record:a hasTag => T("1").hasTag({"a": even(unknown("x"))})
+E:E:e get:w U:x call:even:1 hasTag => T("2").hasTag(even(unknown("x")))
+ask residual
+B:false U:n:Bool hasTag => B:false U:n:Bool hasTag
+L:1 L:2 less U:u:Entity:User hasTag => B:true U:u:Entity:User hasTag
+L:-3 U:n:Set hasTag => L:-3 U:n:Set hasTag
+L:1 L:1 add V:resource hasTag => L:2 U:resource:Entity:Photo hasTag
+T:say␣"hi" U:n:Record hasTag => T:say␣"hi" U:n:Record hasTag
+T: U:u:Entity:Group hasTag => T: U:u:Entity:Group hasTag
+V:principal U:n:Extension:T hasTag => E:User:a U:n:Extension:T hasTag
+S:resource E:E:e get:friend hasTag => E:Photo:p U:j:Entity:User hasTag
+set:0 U:n:Long hasTag => set:0 U:n:Long hasTag
+E:Photo:p get:labels U:u:Entity:User hasTag => T:x T:y set:2 U:u:Entity:User hasTag
+record: U:n:String hasTag => record: U:n:String hasTag
+T:q L:2 L:1 add record:b,a V:resource hasTag => L:3 T:q record:a,b U:resource:Entity:Photo hasTag
+E:E:e get:w E:E:e get:typed hasTag => T:2 call:T:1 U:i:Long hasTag
+E:E:e get:v U:u:Entity:Group hasTag => T:1 call:T:1 U:u:Entity:Group hasTag
+# `hasTag`, a residual beside a value
+U:n:Bool B:false hasTag => U:n:Bool B:false hasTag
+U:n:Set L:9223372036854775807 hasTag => U:n:Set L:9223372036854775807 hasTag
+U:n:Record E:User:a get:name hasTag => U:n:Record T:ann hasTag
+U:n:Extension:T E:App::User:x hasTag => U:n:Extension:T E:App::User:x hasTag
+U:n:Long L:1 record:a E:User:b set:2 hasTag => U:n:Long E:User:b L:1 record:a set:2 hasTag
+U:n:String record: hasTag => U:n:String record: hasTag
+E:E:e get:typed E:E:e get:w hasTag => U:i:Long T:2 call:T:1 hasTag
+E:E:e get:friend L:1 L:2 less hasTag => U:j:Entity:User B:true hasTag
+U:u:Entity:User L:3 hasTag => U:u:Entity:User L:3 hasTag
+V:resource T:q hasTag => U:resource:Entity:Photo T:q hasTag
+U:u:Entity:Group E:User:a hasTag => U:u:Entity:Group E:User:a hasTag
+E:E:e get:friend L:2 L:1 L:2 set:3 hasTag => U:j:Entity:User L:1 L:2 set:2 hasTag
+U:u:Entity:User T:q L:2 L:1 add record:b,a hasTag => U:u:Entity:User L:3 T:q record:a,b hasTag
+V:resource E:E:e get:v hasTag => U:resource:Entity:Photo T:1 call:T:1 hasTag
+ask partial
+U:x B:true hasTag => unknown("x").hasTag(true)
+U:y L:1 L:1 add hasTag => unknown("y").hasTag(2)
+E:E:e get:f T: hasTag => unknown("f").hasTag("")
+T:z call:unknown:1 S:resource hasTag => unknown("z").hasTag(Photo::"p")
+V:action E:Photo:p get:labels hasTag => unknown("action").hasTag(["x", "y"])
+U:x L:1 record:a hasTag => unknown("x").hasTag({"a": 1})
+U:y E:E:e get:v hasTag => unknown("y").hasTag(T("1"))
+V:context B:true hasTag => {"k": unknown("k"), "n": 1}.hasTag(true)
+U:x record:b U:y record:a,c L:-3 hasTag => {"a": {"b": unknown("x")}, "c": unknown("y")}.hasTag(-3)
+U:x L:1 record:a,b T:say␣"hi" hasTag => {"a": unknown("x"), "b": 1}.hasTag("say \"hi\"")
+E:E:e get:r V:principal hasTag => {"a": unknown("f"), "b": 1}.hasTag(User::"a")
+V:context set:0 hasTag => {"k": unknown("k"), "n": 1}.hasTag([])
+U:x record:b U:y record:a,c L:1 record:a hasTag => {"a": {"b": unknown("x")}, "c": unknown("y")}.hasTag({"a": 1})
+U:x L:1 record:a,b E:E:e get:w hasTag => {"a": unknown("x"), "b": 1}.hasTag(T("2"))
+U:x L:1 add L:2 record:a,b B:false hasTag => {"a": unknown("x") + 1, "b": 2}.hasTag(false)
+E:E:e get:q L:1 L:1 add hasTag => {"a": even(unknown("f")), "b": 1}.hasTag(2)
+E:E:e get:v U:x record:a,b T: hasTag => {"a": T("1"), "b": unknown("x")}.hasTag("")
+U:x call:even:1 record:a S:resource hasTag => {"a": even(unknown("x"))}.hasTag(Photo::"p")
+U:x L:1 add L:2 record:a,b E:Photo:p get:labels hasTag => {"a": unknown("x") + 1, "b": 2}.hasTag(["x", "y"])
+E:E:e get:q record: hasTag => {"a": even(unknown("f")), "b": 1}.hasTag({})
+E:E:e get:v U:x record:a,b E:E:e get:v hasTag => {"a": T("1"), "b": unknown("x")}.hasTag(T("1"))
+E:E:e get:g L:1 L:2 less hasTag => [unknown("f")].hasTag(true)
+U:x get:a L:9223372036854775807 hasTag => unknown("x")["a"].hasTag(9223372036854775807)
+E:E:e T:s getTag E:User:a get:name hasTag => [unknown("t")].hasTag("ann")
+U:x has:a E:App::User:x hasTag => (unknown("x") has "a").hasTag(App::User::"x")
+U:x L:1 set:2 L:1 record:a E:User:b set:2 hasTag => [unknown("x"), 1].hasTag([User::"b", {"a": 1}])
+U:x not T:q L:2 L:1 add record:b,a hasTag => (!unknown("x")).hasTag({"a": 3, "b": "q"})
+U:x call:even:1 E:E:e get:w hasTag => even(unknown("x")).hasTag(T("2"))
+# `hasTag`, two residuals
+E:E:e get:f T:z call:unknown:1 hasTag => unknown("f").hasTag(unknown("z"))
+U:x call:even:1 record:a U:x hasTag => {"a": even(unknown("x"))}.hasTag(unknown("x"))
+V:context U:x record:b U:y record:a,c hasTag => {"k": unknown("k"), "n": 1}.hasTag({"a": {"b": unknown("x")}, "c": unknown("y")})
+U:x L:1 record:a,b U:x L:1 add L:2 record:a,b hasTag => {"a": unknown("x"), "b": 1}.hasTag({"a": unknown("x") + 1, "b": 2})
+E:E:e get:q E:E:e get:v U:x record:a,b hasTag => {"a": even(unknown("f")), "b": 1}.hasTag({"a": T("1"), "b": unknown("x")})
+U:x call:even:1 record:a U:x get:a hasTag => {"a": even(unknown("x"))}.hasTag(unknown("x")["a"])
+E:E:e T:s getTag U:x has:a hasTag => [unknown("t")].hasTag(unknown("x") has "a")
+U:x L:1 set:2 E:E:e get:f hasTag => [unknown("x"), 1].hasTag(unknown("f"))
+V:context U:x not hasTag => {"k": unknown("k"), "n": 1}.hasTag(!unknown("x"))
+ask residual
+V:action U:n:Bool hasTag => U:action U:n:Bool hasTag
+U:n:Set U:n:Record hasTag => U:n:Set U:n:Record hasTag
+U:n:Extension:T U:u:Entity:Group hasTag => U:n:Extension:T U:u:Entity:Group hasTag
+E:E:e get:g U:n:Long hasTag => U:f set:1 U:n:Long hasTag
+E:E:e get:friend U:u:Entity:User hasTag => U:j:Entity:User U:u:Entity:User hasTag
+V:resource E:E:e get:r hasTag => U:resource:Entity:Photo U:f L:1 record:a,b hasTag
+U:y U:u:Entity:Group hasTag => U:y U:u:Entity:Group hasTag
+U:n:String E:E:e get:r hasTag => U:n:String U:f L:1 record:a,b hasTag
+E:E:e get:friend U:x L:1 add L:2 record:a,b hasTag => U:j:Entity:User U:x L:1 add L:2 record:a,b hasTag
+# `hasTag`, an error beside a residual
+ask partial
+T:z call:unknown:1 E:E:none get:a hasTag => entity `E::"none"` does not exist
+L:1 record:a get:z E:E:e get:q hasTag => record does not have the attribute `z`, other false, 1: a
+V:action S:principal hasTag => template slot `?principal` was not linked
+call:nosuch:0 E:E:e get:v U:x record:a,b hasTag => extension function `nosuch` does not exist
+U:x call:fail:0 hasTag => error while evaluating `ext` extension function: no
+L:1 L:2 call:even:2 U:x call:even:1 record:a hasTag => wrong number of arguments provided to extension function `even`: expected 1, got 2
+U:x record:b U:y record:a,c T:q call:even:1 hasTag => type error: expected long, got string
+E:E:e T:none getTag L:1 T:a add hasTag => `E::"e"` does not have the tag `none`, other false, 4: s size t typed
+# tags as they are stored
+E:E:e T:size getTag => 5
+E:E:e T:t getTag => unknown("t")
+E:E:e T:s getTag => [unknown("t")]
+E:E:e T:f getTag => `E::"e"` does not have the tag `f`, other true, 4: s size t typed
+E:E:e T:none getTag => `E::"e"` does not have the tag `none`, other false, 4: s size t typed
+E:E:none T:t getTag => entity `E::"none"` does not exist
+U:x T:t getTag => unknown("x").getTag("t")
+E:E:e U:x getTag => E::"e".getTag(unknown("x"))
+E:E:none U:x getTag => E::"none".getTag(unknown("x"))
+V:principal T:role getTag => "admin"
+E:E:e T:t getTag T:t getTag => unknown("t").getTag("t")
+E:E:e get:f T:t getTag => unknown("f").getTag("t")
+E:E:e T:t getTag L:1 eq => unknown("t") == 1
+E:E:e T:size getTag U:x eq => 5 == unknown("x")
+E:E:e T:size hasTag => true
+E:E:e T:t hasTag => true
+E:E:e T:s hasTag => true
+E:E:e T:typed hasTag => true
+E:E:e T:f hasTag => false
+E:E:e T:none hasTag => false
+E:E:none T:t hasTag => false
+U:x T:t hasTag => unknown("x").hasTag("t")
+E:E:e U:x hasTag => E::"e".hasTag(unknown("x"))
+E:E:none U:x hasTag => E::"none".hasTag(unknown("x"))
+V:principal T:role hasTag => true
+E:E:e T:t getTag T:t hasTag => unknown("t").hasTag("t")
+E:E:e get:f T:t hasTag => unknown("f").hasTag("t")
+E:E:e T:t hasTag L:1 eq => false
+E:E:e T:size hasTag U:x eq => true == unknown("x")
+ask residual
+E:E:e T:typed getTag => U:i:Long
+V:resource T:role getTag => U:resource:Entity:Photo T:role getTag
+V:resource T:role hasTag => U:resource:Entity:Photo T:role hasTag
+"#;
