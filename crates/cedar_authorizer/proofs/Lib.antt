@@ -1,2 +1,5 @@
+pub mod Distinct
+pub mod Runs
 pub mod Noting
+pub mod Made
 pub mod Deciding

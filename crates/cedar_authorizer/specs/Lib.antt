@@ -1,3 +1,3 @@
 pub mod Responding
-pub mod Sheets
+pub mod Running
 pub mod Stability
