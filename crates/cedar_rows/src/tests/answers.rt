@@ -7,13 +7,15 @@
 //!   `value-expression`, `value-type`, `value-copy`, `value-elements`, `part-text`, `part-cut BOUND`, `part-copy` and `part-expression`;
 //! - of two expressions with ` ~ ` between them: `equal`; of the keys of a record: `keys`; of two values: `order`; of a leaf: `leaf`; of the words of an error: `built-error PLACE`;
 //! - of the ids of policies: `decide LIMIT`, `decide-texts LIMIT` (the errors' own texts), `decide-copy LIMIT` (whether a copy
-//!   is equal), `evaluate LIMIT`, `partly-evaluate LIMIT`, `set`, `set-debug`, `policy` and `condition`;
+//!   is equal), `partly-decide LIMIT` (what is reported of each policy), `evaluate LIMIT`, `partly-evaluate LIMIT`, `set`, `set-debug`,
+//!   `policy` and `condition`;
 //! - of the setting: `request` and `entity`;
 //! - of the arguments of the program: `run`.
 pub mod described;
 pub mod evaluated;
 mod judged;
 mod operated;
+mod reported;
 mod stored;
 mod written;
 
@@ -44,9 +46,12 @@ pub fn answer(
         "text" | "cut" | "copy" | "shape" => written::answer(alloc, kind, argument, words),
         "operator" => operated::answer(alloc, argument, words),
         "built-error" => operated::built_error(alloc, argument, words),
-        "decide" | "decide-texts" | "decide-copy" | "evaluate" | "partly-evaluate" => {
-            judged::answer(alloc, facts, setting, kind, argument, words)
-        }
+        "decide"
+        | "decide-texts"
+        | "decide-copy"
+        | "partly-decide"
+        | "evaluate"
+        | "partly-evaluate" => { judged::answer(alloc, facts, setting, kind, argument, words) }
         "set" | "set-debug" | "policy" | "condition" => judged::listed(alloc, facts, kind, words),
         "request" | "entity" => stored::answer(alloc, setting, kind, words),
         "run" => program::answer(alloc, words),

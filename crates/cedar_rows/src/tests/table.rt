@@ -41,6 +41,7 @@ mod parts;
 mod places;
 mod policies;
 mod requests;
+mod responses;
 mod store;
 mod texts;
 mod unknowns;
@@ -233,6 +234,7 @@ fn rows_in_other_settings(rt: HostRuntime) -> Result<(), Fail> {
     assert!(rt; tables_hold(&rt, rt.alloc(), requests::SETTING, &[requests::ROWS])?);
     let partial = partial_policies::SETTING;
     assert!(rt; tables_hold(&rt, rt.alloc(), partial, &[partial_policies::ROWS])?);
+    assert!(rt; tables_hold(&rt, rt.alloc(), responses::SETTING, &[responses::ROWS])?);
     Ok(())
 }
 

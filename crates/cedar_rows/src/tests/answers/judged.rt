@@ -2,6 +2,7 @@
 use super::Place;
 use super::described::described;
 use super::evaluated::{limit, or_fail};
+use super::reported::partial_text;
 use crate::lines::{decision_text, joined, reasons_text};
 use crate::tests::reader::policies::{policies, policy};
 use crate::tests::reader::settings::Setting;
@@ -53,6 +54,10 @@ fn decided(
 ) -> Result<String, AllocError> {
     let authorizer = Authorizer::new(setting.extensions, limit);
     let request = setting.request.clone()?;
+    if kind == "partly-decide" {
+        let response = authorizer.is_authorized_core(alloc, request, policies, &setting.entities)?;
+        return partial_text(alloc, &response);
+    }
     let response = authorizer.is_authorized(alloc, request, policies, &setting.entities)?;
     if kind == "decide-copy" {
         copy_text(alloc, &response)
@@ -127,7 +132,8 @@ fn response_text(alloc: Global, kind: &str, response: &Response) -> Result<Strin
     format!(in alloc; "{decision} [{reasons}] [{errors}]")
 }
 
-fn error_line(alloc: Global, error: &AuthorizationError) -> Result<String, AllocError> {
+/// The id of the policy, its error, and where that stands.
+pub fn error_line(alloc: Global, error: &AuthorizationError) -> Result<String, AllocError> {
     let AuthorizationError::PolicyEvaluationError { id, error } = error;
     let text = described(alloc, error)?;
     format!(in alloc; "{id}: {text} {}", Place(error.source_loc()))
