@@ -69,20 +69,25 @@ module _ (rows : List Row) (r : PartialResponse) (h : HoldsRows rows r) where
 
 module _ (s : Setting) (calls : StoredCalls) (levels : ℕ) (ps : List Policy) where
   pub run_stands : (mode : ErrorHandling) (r : PartialResponse) → IsRun mode s calls levels ps r → StandsInCompletions mode s calls ps r
-  run_stands mode r (rows, run, h) ans w c fit none = (
-    rows,
-    subst (IsReordering Row rows) (sym (rows_sorted rows r h)) (sorted_is rows),
-    standing.run_stands mode ans calls c.functions_agree w s c.completion c.functions_are_faithful levels ps rows _ fit
-        (run_recordable mode s calls levels ps rows _ none run) run,
+  run_stands mode r is ans w c fit none = (
+    is.rows,
+    subst (IsReordering Row is.rows) (sym (rows_sorted is.rows r is.held)) (sorted_is is.rows),
+    standing.run_stands mode ans calls c.functions_agree w s c.completion c.functions_are_faithful levels ps is.rows _ fit
+        (run_recordable mode s calls levels ps is.rows _ none is.run) is.run,
   )
 
   pub run_concrete : (p : PartialResponse) (r : Authorized) → IsRun skip s calls levels ps p → r ≡ concretized skip (rows_view p) (errors_view p.errors.items) → IsConcreteRun skip s calls levels ps r
-  run_concrete p r (rows, run, h) e = (rows, errors_view p.errors.items, run, e ∙ concrete_alike rows p h (errors_view p.errors.items))
+  run_concrete p r is e = record {
+    rows = is.rows;
+    errors = errors_view p.errors.items;
+    run = is.run;
+    concrete = e ∙ concrete_alike is.rows p is.held (errors_view p.errors.items);
+  }
 
   module _ (r : Authorized) (is : IsConcreteRun skip s calls levels ps r) where
     known_run : HasNothingUnknown s → (ans : Functions) → AgreesWithFunctions ans calls → HaveKnownConditions ans ps → IsResponse (PolicyRuns s calls levels) ps r
     known_run known ans agree k =
-        subst (IsResponse (PolicyRuns s calls levels) ps) (sym is.3) (run_is_response calls s levels ps is.0 is.1 is.2 (run_known s calls levels known ans agree ps is.0 is.1 k is.2))
+        subst (IsResponse (PolicyRuns s calls levels) ps) (sym is.concrete) (run_is_response calls s levels ps is.rows is.errors is.run (run_known s calls levels known ans agree ps is.rows is.errors k is.run))
 
     pub known_response : IsKnownResponse s calls ps r
     known_response known ans agree k sigma none = exactly.response_exact calls ans agree s known sigma levels ps r k (known_run known ans agree k) none

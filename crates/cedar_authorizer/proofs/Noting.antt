@@ -11,7 +11,9 @@ use Rattle.cedar_model.specs.Responses.{Row, Reported, Decided, decided, reporte
 use Rattle.cedar_model.specs.Chains.{is_true, is_false, is_residual, rows_of}
 use Rattle.cedar_model.specs.Reports.{ids}
 use Rattle.cedar_layers.specs.declared.policies.policy.PolicyID.{PolicyID}
-use Rattle.cedar_layers.specs.Policies.{PolicyView, policy_id_text, condition_term, decides_as, first_repeated}
+use Rattle.cedar_layers.specs.Policies.{PolicyView, policy_id_text, condition_term, decides_as, policy_ids, first_repeated}
+use Rattle.cedar_layers.specs.declared.policies.policy_set.PolicySet.{PolicySet}
+use Rattle.cedar_layers.specs.PolicySets.{policies_view}
 use Rattle.cedar_responses.specs.declared.partial_response.PartialResponse.{PartialResponse}
 use Rattle.cedar_responses.specs.declared.sheet.Outcome.{Outcome}
 use Rattle.cedar_responses.specs.declared.sheet.Sheet.{Sheet}
@@ -21,46 +23,59 @@ use Rattle.cedar_responses.specs.Rows.{Located, located_true, located_false, loc
 use Rattle.cedar_responses.specs.Sheets.{Noted, outcome_view, placed_row, sheet_view, sorted, nothing_noted, noted_also}
 use Rattle.cedar_responses.proofs.Noted.{sorted_none, sorted_more}
 use Rattle.cedar_responses.proofs.Rows.{rows_of_located}
+use Rattle.cedar_authorizer.specs.Responding.{deciding}
 use Rattle.cedar_authorizer.specs.Running.{HoldsRows, IsRun, ComesOutBy, IsNotedRun, KeepsSheet}
 use Rattle.cedar_authorizer.proofs.Distinct.{located_ids, picked_distinct, pair_ids, kept_whole}
 use Rattle.cedar_authorizer.proofs.Runs.{run_more, run_ids}
 
 -- ---- the loop
 
-module _ (s : Setting) (calls : StoredCalls) (levels : ℕ) where
-  -- the policies before those that are left are noted
-  abbrev pub IsNotedSoFar : List Policy → Sheet → List Policy → Type 0
-  IsNotedSoFar all sheet left =
-      (done : List Policy) × IsNotedRun skip s calls levels done sheet × (all ≡ done ++ left)
+-- the policies before those that are left are noted
+pub record IsNotedSoFar (s : Setting) (calls : StoredCalls) (levels : ℕ) (all : List Policy) (sheet : Sheet) (left : List Policy) : Type 0 where
+  pub done : List Policy
+  pub run : IsNotedRun skip s calls levels done sheet
+  pub same : all ≡ done ++ left
 
-  pub noted_none : (all : List Policy) (sheet : Sheet) (left : List Policy) → sheet_view sheet ≡ nothing_noted → all ≡ left → IsNotedSoFar all sheet left
-  noted_none all sheet left e same = ([], ([], [], (refl, refl), e ∙ sym sorted_none), same)
+module _ (s : Setting) (calls : StoredCalls) (levels : ℕ) where
+
+  pub noted_none : (all : List Policy) (sheet : Sheet) (left : List Policy) → sheet_view sheet ≡ nothing_noted → all ≡ left → IsNotedSoFar s calls levels all sheet left
+  noted_none all sheet left e same = record {
+    done = [];
+    run = record { located = []; errors = []; run = (refl, refl); noted = e ∙ sym sorted_none };
+    same = same;
+  }
 
   row_for : PolicyView → Decided → Row
   row_for p d = record { id = p.id; effect = p.effect; annotations = p.annotations; reported = reported_of d }
 
   pub noted_run : (done : List Policy) (old new : Sheet) (p : PolicyView) (o : Outcome) → IsNotedRun skip s calls levels done old → ComesOutBy (λ a. Runs (with_slots s p.slots) calls levels (condition_term p) a) (outcome_view o) → sheet_view new ≡ noted_also (sheet_view old) (placed_row p o) (error_of (outcome_view o)) → IsNotedRun skip s calls levels (done ++ decides_as p ∷ []) new
   unfolding counted_report row_for
-  noted_run done old new p o (ls, errors, run, on) (a, runs, found, out) placed =
+  noted_run done old new p o before (a, runs, found, out) placed =
+      let ls = before.located in
+      let errors = before.errors in
       let l = placed_row p o in
       let e = error_of (outcome_view o) in
       let more : RunOf skip s calls levels (done ++ decides_as p ∷ []) (rows_in ls ++ row_for p (decided a) ∷ []) (errors ++ with_error p.id (error_of (decided a)) []) =
-      run_more skip s calls levels done (rows_in ls) errors (decides_as p) a run runs found in
+      run_more skip s calls levels done (rows_in ls) errors (decides_as p) a before.run runs found in
       let noted : RunOf skip s calls levels (done ++ decides_as p ∷ []) (rows_in ls ++ l.row ∷ []) (errors ++ with_error p.id e []) =
-      subst (λ (d : Decided). RunOf skip s calls levels (done ++ decides_as p ∷ []) (rows_in ls ++ row_for p d ∷ []) (errors ++ with_error p.id (error_of d) [])) (sym out) more in (
-        ls ++ l ∷ [],
-        errors ++ with_error p.id e [],
-        subst (λ (rows : List Row). RunOf skip s calls levels (done ++ decides_as p ∷ []) rows (errors ++ with_error p.id e [])) (sym (map-append (λ (x : Located). x.row) ls (l ∷ []))) noted,
-        placed ∙ ap (λ (n : Noted). noted_also n l e) on ∙ sym (sorted_more ls errors l e),
-      )
+      subst (λ (d : Decided). RunOf skip s calls levels (done ++ decides_as p ∷ []) (rows_in ls ++ row_for p d ∷ []) (errors ++ with_error p.id (error_of d) [])) (sym out) more in
+      record {
+        located = ls ++ l ∷ [];
+        errors = errors ++ with_error p.id e [];
+        run = subst (λ (rows : List Row). RunOf skip s calls levels (done ++ decides_as p ∷ []) rows (errors ++ with_error p.id e [])) (sym (map-append (λ (x : Located). x.row) ls (l ∷ []))) noted;
+        noted = placed ∙ ap (λ (n : Noted). noted_also n l e) before.noted ∙ sym (sorted_more ls errors l e);
+      }
 
-  pub noted_more : (all : List Policy) (old new : Sheet) (p : PolicyView) (o : Outcome) (rest left : List Policy) → left ≡ decides_as p ∷ rest → IsNotedSoFar all old left → ComesOutBy (λ a. Runs (with_slots s p.slots) calls levels (condition_term p) a) (outcome_view o) → sheet_view new ≡ noted_also (sheet_view old) (placed_row p o) (error_of (outcome_view o)) → IsNotedSoFar all new rest
-  noted_more all old new p o rest left e (done, run, same) out placed =
-      (done ++ decides_as p ∷ [], noted_run done old new p o run out placed, same ∙ ap (λ (l : List Policy). done ++ l) e ∙ sym (append_assoc done (decides_as p ∷ []) rest))
+  pub noted_more : (all : List Policy) (old new : Sheet) (p : PolicyView) (o : Outcome) (rest left : List Policy) → left ≡ decides_as p ∷ rest → IsNotedSoFar s calls levels all old left → ComesOutBy (λ a. Runs (with_slots s p.slots) calls levels (condition_term p) a) (outcome_view o) → sheet_view new ≡ noted_also (sheet_view old) (placed_row p o) (error_of (outcome_view o)) → IsNotedSoFar s calls levels all new rest
+  noted_more all old new p o rest left e before out placed = record {
+    done = before.done ++ decides_as p ∷ [];
+    run = noted_run before.done old new p o before.run out placed;
+    same = before.same ∙ ap (λ (l : List Policy). before.done ++ l) e ∙ sym (append_assoc before.done (decides_as p ∷ []) rest);
+  }
 
-  pub noted_all : (all : List Policy) (sheet : Sheet) (left : List Policy) → left ≡ [] → IsNotedSoFar all sheet left → IsNotedRun skip s calls levels all sheet
-  noted_all all sheet left e (done, run, same) =
-      subst (λ (l : List Policy). IsNotedRun skip s calls levels l sheet) (sym (same ∙ ap (λ (l : List Policy). done ++ l) e ∙ append-nil done)) run
+  pub noted_all : (all : List Policy) (sheet : Sheet) (left : List Policy) → left ≡ [] → IsNotedSoFar s calls levels all sheet left → IsNotedRun skip s calls levels all sheet
+  noted_all all sheet left e before =
+      subst (λ (l : List Policy). IsNotedRun skip s calls levels l sheet) (sym (before.same ∙ ap (λ (l : List Policy). before.done ++ l) e ∙ append-nil before.done)) before.run
 
 -- ---- the response
 
@@ -91,10 +106,19 @@ module _ (ls : List Located) (distinct : first_repeated (located_ids ls) ≡ Non
     residual_forbids = held forbid is_residual (located_residual forbid) (λ e. refl) _ _ k.residual_forbids (ap (λ (n : Noted). n.residual_forbids) on);
   }
 
--- what a response keeps of a run on a sheet is that run
-pub is_run : (mode : ErrorHandling) (s : Setting) (calls : StoredCalls) (levels : ℕ) (ps : List Policy) (sheet : Sheet) (r : PartialResponse) → first_repeated (map (λ (p : Policy). p.id) ps) ≡ None → IsNotedRun mode s calls levels ps sheet → KeepsSheet sheet r → IsRun mode s calls levels ps r
-is_run mode s calls levels ps sheet r distinct (ls, errors, run, on) k =
+ids_deciding : (ps : List PolicyView) → map (λ (p : Policy). p.id) (map decides_as ps) ≡ policy_ids ps
+ids_deciding [] = refl
+ids_deciding (p ∷ ps) = ap (λ (ts : List Text). p.id ∷ ts) (ids_deciding ps)
+
+-- what a response keeps of the run of a set on a sheet is that run
+pub is_run : (mode : ErrorHandling) (s : Setting) (calls : StoredCalls) (levels : ℕ) (policies : PolicySet) (sheet : Sheet) (r : PartialResponse) → IsNotedRun mode s calls levels (deciding policies) sheet → KeepsSheet sheet r → IsRun mode s calls levels (deciding policies) r
+is_run mode s calls levels policies sheet r on k =
+    let ls = on.located in
     let apart : first_repeated (located_ids ls) ≡ None =
-    ap first_repeated (rows_located ls ∙ run_ids mode s calls levels ps (rows_in ls) errors run) ∙ distinct in
-    let same : errors_view r.errors.items ≡ errors = ap errors_view k.errors ∙ ap (λ (n : Noted). n.errors) on in
-    (rows_in ls, subst (RunOf mode s calls levels ps (rows_in ls)) (sym same) run, holds_rows ls apart sheet r errors k on)
+    ap first_repeated (rows_located ls ∙ run_ids mode s calls levels (deciding policies) (rows_in ls) on.errors on.run ∙ ids_deciding (policies_view policies)) ∙ policies.distinct in
+    let same : errors_view r.errors.items ≡ on.errors = ap errors_view k.errors ∙ ap (λ (n : Noted). n.errors) on.noted in
+    record {
+      rows = rows_in ls;
+      run = subst (RunOf mode s calls levels (deciding policies) (rows_in ls)) (sym same) on.run;
+      held = holds_rows ls apart sheet r on.errors k on.noted;
+    }

@@ -29,9 +29,10 @@ pub record HoldsRows (rows : List Row) (r : PartialResponse) : Type 0 where
   pub residual_forbids : rows_in (residual_rows forbid r.residual_forbids.entries) ≡ residuals forbid rows
 
 -- a response holds the rows of a run, and its errors in order
-abbrev pub IsRun : ErrorHandling → Setting → StoredCalls → ℕ → List Policy → PartialResponse → Type 0
-IsRun mode s calls levels ps r =
-    (rows : List Row) × RunOf mode s calls levels ps rows (errors_view r.errors.items) × HoldsRows rows r
+pub record IsRun (mode : ErrorHandling) (s : Setting) (calls : StoredCalls) (levels : ℕ) (ps : List Policy) (r : PartialResponse) : Type 0 where
+  pub rows : List Row
+  pub run : RunOf mode s calls levels ps rows (errors_view r.errors.items)
+  pub held : HoldsRows rows r
 
 -- in every completion that fits the conditions its rows stand, if none of its errors is the recursion limit
 abbrev pub StandsInCompletions : ErrorHandling → Setting → StoredCalls → List Policy → PartialResponse → Type 0
@@ -40,10 +41,11 @@ StandsInCompletions mode s calls ps r =
     HaveNoLimit (errors_view r.errors.items) → Stand mode s.extensions ans w ps (rows_view r)
 
 -- a run that is made concrete
-abbrev pub IsConcreteRun : ErrorHandling → Setting → StoredCalls → ℕ → List Policy → Authorized → Type 0
-IsConcreteRun mode s calls levels ps r =
-    (rows : List Row) × (errors : List (Text × Failure)) × RunOf mode s calls levels ps rows errors
-    × (r ≡ concretized mode rows errors)
+pub record IsConcreteRun (mode : ErrorHandling) (s : Setting) (calls : StoredCalls) (levels : ℕ) (ps : List Policy) (r : Authorized) : Type 0 where
+  pub rows : List Row
+  pub errors : List (Text × Failure)
+  pub run : RunOf mode s calls levels ps rows errors
+  pub concrete : r ≡ concretized mode rows errors
 
 -- ---- sheets
 
@@ -52,10 +54,11 @@ abbrev pub ComesOutBy : (Answer → Type 0) → Decided → Type 0
 ComesOutBy May d = (a : Answer) × May a × (a ≢ fails out_of_memory) × (d ≡ decided a)
 
 -- the rows and the errors of a run are on a sheet
-abbrev pub IsNotedRun : ErrorHandling → Setting → StoredCalls → ℕ → List Policy → Sheet → Type 0
-IsNotedRun mode s calls levels ps sheet =
-    (ls : List Located) × (errors : List (Text × Failure)) × RunOf mode s calls levels ps (rows_in ls) errors
-    × (sheet_view sheet ≡ sorted ls errors)
+pub record IsNotedRun (mode : ErrorHandling) (s : Setting) (calls : StoredCalls) (levels : ℕ) (ps : List Policy) (sheet : Sheet) : Type 0 where
+  pub located : List Located
+  pub errors : List (Text × Failure)
+  pub run : RunOf mode s calls levels ps (rows_in located) errors
+  pub noted : sheet_view sheet ≡ sorted located errors
 
 -- a response keeps what is on a sheet
 pub record KeepsSheet (s : Sheet) (r : PartialResponse) : Type 0 where
