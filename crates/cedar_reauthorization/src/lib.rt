@@ -5,5 +5,7 @@ mod err;
 mod policies;
 mod request;
 pub mod shared;
+#[cfg(test)]
+mod tests;
 
 pub use err::{ConcretizationError, ReauthorizationError};

@@ -30,7 +30,7 @@ pub fn residual_policies(
 
 // Every policy of the response.
 fn carried(alloc: Global, response: &PartialResponse) -> Result<Vec<Policy>, AllocError>
-    ensures { IfOk result (λ v. map (λ p. decides_as (policy_view p)) v.items
+    ensures { IfOk result (λ v. map decides_as (map policy_view v.items)
         ≡ all_residuals (rows_view response.now)) }
 {
     let mut policies = Vec::new(alloc);

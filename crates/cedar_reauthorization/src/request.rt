@@ -1,17 +1,18 @@
 //! The request that a map of values for unknowns makes of another.
-ghost use Rattle.std.specs.Prelude.{◌≡◌, ◌≢◌, Some, IfOk, IfErr, IfSome, option_map, option_copied};
+ghost use Rattle.std.specs.Prelude.{◌≡◌, ◌≢◌, Some, IfOk, IfErr, IfSome, option_map, option_copied, codes};
 ghost use Rattle.cedar_model.specs.Failures.{recursion_limit};
 ghost use Rattle.cedar_model.specs.Settings.{Setting};
 ghost use Rattle.cedar_model.specs.Refusals.{context_fails, concrete_request};
-ghost use Rattle.cedar_model.specs.Depth.{IsContextNoHigher};
 ghost use Rattle.cedar_names.specs.Leaves.{variable_view};
 ghost use Rattle.cedar_names.specs.Texts.{variable_text};
 ghost use Rattle.cedar_data.specs.Sound.{Placed};
 ghost use Rattle.cedar_extensions.specs.Extensions.{extensions_view, calls_of};
-ghost use Rattle.cedar_requests.specs.Requests.{request_view};
+ghost use Rattle.cedar_requests.specs.Requests.{entry_view, entry_loc, request_view};
 ghost use Rattle.cedar_requests.specs.Substitutions.{values_for};
 ghost use Rattle.cedar_reauthorization.specs.Errors.{refusal_of, answer_by};
-ghost use Rattle.cedar_reauthorization.specs.Concretizations.{IsWithValues, IsConcrete, entity_locs, concrete_locs};
+ghost use Rattle.cedar_reauthorization.specs.Concretizations.{IsWithValues, IsConcrete, IsResidualNoHigher};
+ghost use Rattle.cedar_reauthorization.specs.Concretizations.{entity_locs, concrete_loc, concrete_locs};
+ghost use Rattle.cedar_reauthorization.specs.Concretizations.{after_principal, after_action, after_resource};
 
 mod context;
 mod entry;
@@ -21,7 +22,7 @@ use crate::err::ConcretizationError;
 use cedar_data::Value;
 use cedar_extensions::Extensions;
 use cedar_names::Var;
-use cedar_requests::Request;
+use cedar_requests::{EntityUIDEntry, Request};
 use context::{mapped_context, with_values};
 use entry::mapped_entry;
 use std::alloc::Global;
@@ -47,11 +48,13 @@ pub fn concretize_request(
         (IsConcrete s (calls_of extensions.now) limit (values_for map.now.entries) (request_view request.now)) }
     ensures places { IfOk result
         (λ r. entity_locs r ≡ concrete_locs (values_for map.now.entries) (entity_locs request.now)) }
-    ensures low { IsContextNoHigher (values_for map.now.entries) limit (request_view request.now).context_part →
+    ensures low { IsResidualNoHigher (values_for map.now.entries) limit (request_view request.now).context_part →
         IfErr result (λ e. refusal_of e ≢ Some (context_fails recursion_limit)) }
 {
-    let mapped = mapped_request(alloc, request, map)?;
-    substituted_request(alloc, mapped, map, extensions, limit)
+    match mapped_request(alloc, request, map) {
+        Ok(mapped) => substituted_request(alloc, mapped, map, extensions, limit),
+        Err(error) => Err(error),
+    }
 }
 
 // The request that the map makes, before values are put into its context.
@@ -65,16 +68,77 @@ fn mapped_request(
     ensures places { IfOk result
         (λ r. entity_locs r ≡ concrete_locs (values_for map.now.entries) (entity_locs request.now)) }
 {
-    let principal = mapped_entry(alloc, Var::Principal, request.principal(), map)?;
-    let action = mapped_entry(alloc, Var::Action, request.action(), map)?;
-    let resource = mapped_entry(alloc, Var::Resource, request.resource(), map)?;
-    let context = mapped_context(alloc, request.context(), map)?;
-    Ok(Request::new_with_unknowns(
-        principal,
-        action,
-        resource,
-        context,
-    ))
+    match mapped_entry(alloc, Var::Principal, request.principal(), map) {
+        Ok(principal) => with_principal(alloc, request, principal, map),
+        Err(error) => Err(error),
+    }
+}
+
+// The same, where the principal is made.
+fn with_principal(
+    alloc: Global,
+    request: &Request,
+    principal: EntityUIDEntry,
+    map: &HashMap<RcStr, Value>,
+) -> Result<Request, ConcretizationError>
+    ensures view { IfSome (answer_by request_view result)
+        (λ a. a ≡ after_principal (values_for map.now.entries) (request_view request.now) (entry_view principal)) }
+    ensures places { IfOk result (λ r. entity_locs r
+        ≡ (
+          entry_loc principal,
+          concrete_loc (values_for map.now.entries (codes "action")) (entity_locs request.now).1,
+          concrete_loc (values_for map.now.entries (codes "resource")) (entity_locs request.now).2,
+        )) }
+{
+    match mapped_entry(alloc, Var::Action, request.action(), map) {
+        Ok(action) => with_action(alloc, request, principal, action, map),
+        Err(error) => Err(error),
+    }
+}
+
+// The same, where principal and action are made.
+fn with_action(
+    alloc: Global,
+    request: &Request,
+    principal: EntityUIDEntry,
+    action: EntityUIDEntry,
+    map: &HashMap<RcStr, Value>,
+) -> Result<Request, ConcretizationError>
+    ensures view { IfSome (answer_by request_view result)
+        (λ a. a ≡ after_action (values_for map.now.entries) (request_view request.now) (entry_view principal)
+        (entry_view action)) }
+    ensures places { IfOk result (λ r. entity_locs r
+        ≡ (
+          entry_loc principal,
+          entry_loc action,
+          concrete_loc (values_for map.now.entries (codes "resource")) (entity_locs request.now).2,
+        )) }
+{
+    match mapped_entry(alloc, Var::Resource, request.resource(), map) {
+        Ok(resource) => with_resource(alloc, request, principal, action, resource, map),
+        Err(error) => Err(error),
+    }
+}
+
+// The same, where all three are made.
+fn with_resource(
+    alloc: Global,
+    request: &Request,
+    principal: EntityUIDEntry,
+    action: EntityUIDEntry,
+    resource: EntityUIDEntry,
+    map: &HashMap<RcStr, Value>,
+) -> Result<Request, ConcretizationError>
+    ensures view { IfSome (answer_by request_view result)
+        (λ a. a ≡ after_resource (values_for map.now.entries) (request_view request.now) (entry_view principal)
+        (entry_view action) (entry_view resource)) }
+    ensures places { IfOk result (λ r. entity_locs r
+        ≡ (entry_loc principal, entry_loc action, entry_loc resource)) }
+{
+    match mapped_context(alloc, request.context(), map) {
+        Ok(context) => Ok(Request::new_with_unknowns(principal, action, resource, context)),
+        Err(error) => Err(error),
+    }
 }
 
 // The request with the map's values in its context.
@@ -89,17 +153,14 @@ fn substituted_request(
         IfSome (answer_by request_view result)
         (IsWithValues s (calls_of extensions.now) limit (values_for map.now.entries) (request_view request)) }
     ensures places { IfOk result (λ r. entity_locs r ≡ entity_locs request) }
-    ensures low { IsContextNoHigher (values_for map.now.entries) limit (request_view request).context_part →
+    ensures low { IsResidualNoHigher (values_for map.now.entries) limit (request_view request).context_part →
         IfErr result (λ e. refusal_of e ≢ Some (context_fails recursion_limit)) }
 {
     let (principal, action, resource, context) = request.into_parts();
-    let context = with_values(alloc, context, map, extensions, limit)?;
-    Ok(Request::new_with_unknowns(
-        principal,
-        action,
-        resource,
-        context,
-    ))
+    match with_values(alloc, context, map, extensions, limit) {
+        Ok(context) => Ok(Request::new_with_unknowns(principal, action, resource, context)),
+        Err(error) => Err(error),
+    }
 }
 
 // The map's value for the variable, if it has one.

@@ -5,7 +5,6 @@ ghost use Rattle.cedar_model.specs.Failures.{recursion_limit};
 ghost use Rattle.cedar_model.specs.Settings.{Setting, known_context};
 ghost use Rattle.cedar_model.specs.Refusals.{context_fails, concrete_context, context_by};
 ghost use Rattle.cedar_model.specs.Chains.{SubstitutesTo};
-ghost use Rattle.cedar_model.specs.Depth.{IsContextNoHigher};
 ghost use Rattle.cedar_data.specs.Sound.{whats_at};
 ghost use Rattle.cedar_extensions.specs.Extensions.{extensions_view, calls_of};
 ghost use Rattle.cedar_requests.specs.Contexts.{ValueMap, context_view};
@@ -14,7 +13,7 @@ ghost use Rattle.std.specs.declared.rc.Rc.{Rc};
 ghost use Rattle.cedar_requests.specs.Requests.{context_given};
 ghost use Rattle.cedar_requests.specs.Substitutions.{values_for};
 ghost use Rattle.cedar_reauthorization.specs.Errors.{refusal_of, answer_by};
-ghost use Rattle.cedar_reauthorization.specs.Concretizations.{fields_in};
+ghost use Rattle.cedar_reauthorization.specs.Concretizations.{fields_in, IsResidualNoHigher};
 
 use super::refusals::{is_there_already, value_is_wrong};
 use super::value_for;
@@ -36,7 +35,7 @@ pub(super) fn mapped_context(
 ) -> Result<Option<Context>, ConcretizationError>
     ensures { IfSome (answer_by context_given result)
         (λ a. a ≡ concrete_context (values_for map.now.entries (codes "context"))
-        (context_given (option_copied context))) }
+        (context_given (option_copied context.entry))) }
 {
     match value_for(map, Var::Context) {
         Some(value) => context_with(alloc, context, value),
@@ -46,7 +45,7 @@ pub(super) fn mapped_context(
 
 // A copy of the context, where there is one.
 fn copied(context: Option<&Context>) -> Result<Option<Context>, AllocError>
-    ensures { IfOk result (λ c. context_given c ≡ context_given (option_copied context)) }
+    ensures { IfOk result (λ c. context_given c ≡ context_given (option_copied context.entry)) }
 {
     match context {
         Some(context) => Ok(Some(context.clone()?)),
@@ -61,7 +60,7 @@ fn context_with(
     value: &Value,
 ) -> Result<Option<Context>, ConcretizationError>
     ensures { IfSome (answer_by context_given result)
-        (λ a. a ≡ context_by value.now.what (context_given (option_copied context))) }
+        (λ a. a ≡ context_by value.now.what (context_given (option_copied context.entry))) }
 {
     match record_in(value) {
         Some(pairs) => match context {
@@ -106,7 +105,7 @@ pub(super) fn with_values(
     ensures values { (s : Setting) → s.extensions ≡ extensions_view extensions.now →
         IfSome (answer_by context_given result)
         (SubstitutesTo s (calls_of extensions.now) limit (values_for map.now.entries) (context_given context)) }
-    ensures low { IsContextNoHigher (values_for map.now.entries) limit (context_given context) →
+    ensures low { IsResidualNoHigher (values_for map.now.entries) limit (context_given context) →
         IfErr result (λ e. refusal_of e ≢ Some (context_fails recursion_limit)) }
 {
     match context {

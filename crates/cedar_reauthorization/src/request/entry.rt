@@ -97,7 +97,7 @@ fn known_of(
 ) -> Result<EntityUIDEntry, ConcretizationError>
     ensures view { IfSome (answer_by entry_view result)
         (λ a. a ≡ typed_entry (variable_text (variable_view var)) value.now.what (uid_name uid.now)
-        (option_map type_text (option_copied ty))) }
+        (option_map type_text (option_copied ty.entry))) }
     ensures place { IfOk result (λ e. entry_loc e ≡ None) }
 {
     match ty {
