@@ -8,7 +8,7 @@ use Rattle.cedar_model.specs.Failures.{Failure, recursion_limit}
 use Rattle.cedar_model.specs.Settings.{Entry, known_entry, unknown_entry, ContextPart, RequestPart, Setting}
 use Rattle.cedar_model.specs.Rules.{StoredCalls}
 use Rattle.cedar_model.specs.Refusals.{Refusal, type_is_other, context_fails, typed_entry, entry_beside, entry_by}
-use Rattle.cedar_model.specs.Refusals.{concrete_entry, concrete_context, unless_refused, concrete_request}
+use Rattle.cedar_model.specs.Refusals.{concrete_entry, unless_refused, concrete_request}
 use Rattle.cedar_model.specs.Chains.{Mapping, with_context, SubstitutesTo}
 use Rattle.cedar_model.proofs.Completions.{concrete_parts}
 use Rattle.cedar_reauthorization.specs.Concretizations.{IsWithValues, AfterMap, IsResidualNoHigher}

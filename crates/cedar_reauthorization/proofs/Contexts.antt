@@ -3,7 +3,7 @@ use Rattle.std.proofs.Common.{◌≡◌, ◌≢◌, ℕ, ◌≤◌, Option, Some
 use Rattle.std.proofs.Common.{subst, codes}
 use Rattle.cedar_model.specs.Values.{Represented, plain_represented, set_represented, record_represented}
 use Rattle.cedar_model.specs.Values.{extension_represented, RepresentedFields}
-use Rattle.cedar_model.specs.Failures.{Failure, PartialValue, out_of_memory, recursion_limit}
+use Rattle.cedar_model.specs.Failures.{Failure, PartialValue, recursion_limit}
 use Rattle.cedar_model.specs.Settings.{ContextPart, absent_context, known_context, residual_context, Setting}
 use Rattle.cedar_model.specs.Settings.{context_value}
 use Rattle.cedar_model.specs.Rules.{StoredCalls}

@@ -1,5 +1,5 @@
 use Rattle.std.proofs.Common.{◌≡◌, ap, subst, codes, ◌∙◌, IfSome, option_map, Some, Ok, Err, Result}
-use Rattle.cedar_model.specs.Settings.{ContextPart, RequestPart}
+use Rattle.cedar_model.specs.Settings.{ContextPart}
 use Rattle.cedar_model.specs.Refusals.{Refusal, concrete_context}
 use Rattle.cedar_requests.specs.Requests.{entry_view, context_given, request_view}
 use Rattle.cedar_requests.specs.Substitutions.{values_for}

@@ -1,5 +1,5 @@
 use Rattle.std.proofs.Common.{◌≡◌, ap, ◌∙◌, subst, sym, IfSome, option_map, option_copied, Some, Err, Ok}
-use Rattle.cedar_model.specs.Settings.{known_context, context_value}
+use Rattle.cedar_model.specs.Settings.{context_value}
 use Rattle.cedar_model.specs.Refusals.{context_by}
 use Rattle.cedar_requests.specs.Requests.{context_given}
 use Rattle.cedar_reauthorization.specs.Errors.{refusal_of}

@@ -1,4 +1,4 @@
-use Rattle.std.proofs.Common.{sym, subst, ap, Ok, Err}
+use Rattle.std.proofs.Common.{sym, subst, Ok, Err}
 use Rattle.cedar_extensions.specs.Extensions.{calls_of}
 use Rattle.cedar_model.specs.Chains.{SubstitutesTo}
 use Rattle.cedar_requests.specs.Contexts.{context_view}
