@@ -27,7 +27,7 @@ impl<'e, 'g, 'f> Evaluation<'e, 'g, 'f> {
         &self,
         alloc: Global,
         pending: Pending,
-        answer: PartialValue,
+        answer: Box<PartialValue>,
     ) -> Result<Next, AllocError>
         ensures { (r : RequestPart) (k : ℕ) → IfOk result (GoesOn (setting_of r self.now) (calls_in self.now) k pending (answers (partial_view answer))) }
     {
@@ -41,21 +41,21 @@ impl<'e, 'g, 'f> Evaluation<'e, 'g, 'f> {
                 guard,
                 then_expr: _,
                 else_expr,
-            } => self.second_branch(guard, kept_part(alloc, answer)?, else_expr),
+            } => self.second_branch(alloc, guard, kept_part(alloc, Box::into_inner(answer))?, else_expr),
             Pending::Else {
                 guard,
                 then_expr,
                 else_expr: _,
-            } => self.both_branches(alloc, guard, then_expr, kept_part(alloc, answer)?),
+            } => self.both_branches(alloc, guard, then_expr, kept_part(alloc, Box::into_inner(answer))?),
             Pending::AndLeft { right } => self.after_and_left(alloc, right, answer),
             Pending::AndRight => self.after_and_right(alloc, answer),
             Pending::AndKept { left, right: _ } => {
-                self.kept_conjunction(alloc, left, kept_part(alloc, answer)?)
+                self.kept_conjunction(alloc, left, kept_part(alloc, Box::into_inner(answer))?)
             }
             Pending::OrLeft { right } => self.after_or_left(alloc, right, answer),
             Pending::OrRight => self.after_or_right(alloc, answer),
             Pending::OrKept { left, right: _ } => {
-                self.kept_disjunction(alloc, left, kept_part(alloc, answer)?)
+                self.kept_disjunction(alloc, left, kept_part(alloc, Box::into_inner(answer))?)
             }
             Pending::Unary(op) => self.after_operand(alloc, op, answer),
             Pending::BinaryLeft { op, right } => self.after_left(op, right, answer),
@@ -84,7 +84,7 @@ impl<'e, 'g, 'f> Evaluation<'e, 'g, 'f> {
                 guard,
                 then_expr,
                 else_expr,
-            } => self.second_branch(guard, failed.original(&then_expr)?, else_expr),
+            } => self.second_branch(alloc, guard, failed.original(&then_expr)?, else_expr),
             Pending::Else {
                 guard,
                 then_expr,

@@ -53,18 +53,19 @@ impl<'e, 'g, 'f> Evaluation<'e, 'g, 'f> {
         &self,
         alloc: Global,
         right: Rc<Expr>,
-        left: PartialValue,
+        left: Box<PartialValue>,
     ) -> Result<Next, AllocError>
         ensures { (r : RequestPart) (k : ℕ) → IfOk result (GoesOn (setting_of r self.now) (calls_in self.now) k (pendings.AndLeft right) (answers (partial_view left))) }
     {
-        match left {
+        match Box::into_inner(left) {
             PartialValue::Value(value) => match bool_in(&value) {
                 Some(true) => Ok(Step::Wait(Task::Other(Pending::AndRight), Part::Shared(right))),
-                Some(false) => Ok(bool_answer(false)),
+                Some(false) => Ok(bool_answer(alloc, false)),
                 None => Ok(no_bool(alloc, &value)),
             },
             PartialValue::Residual(left) => {
                 let part = right.clone()?;
+                let left = Box::new(alloc, left)?;
                 Ok(Step::Wait(
                     Task::Other(Pending::AndKept { left, right }),
                     Part::Shared(part),
@@ -78,18 +79,19 @@ impl<'e, 'g, 'f> Evaluation<'e, 'g, 'f> {
         &self,
         alloc: Global,
         right: Rc<Expr>,
-        left: PartialValue,
+        left: Box<PartialValue>,
     ) -> Result<Next, AllocError>
         ensures { (r : RequestPart) (k : ℕ) → IfOk result (GoesOn (setting_of r self.now) (calls_in self.now) k (pendings.OrLeft right) (answers (partial_view left))) }
     {
-        match left {
+        match Box::into_inner(left) {
             PartialValue::Value(value) => match bool_in(&value) {
-                Some(true) => Ok(bool_answer(true)),
+                Some(true) => Ok(bool_answer(alloc, true)),
                 Some(false) => Ok(Step::Wait(Task::Other(Pending::OrRight), Part::Shared(right))),
                 None => Ok(no_bool(alloc, &value)),
             },
             PartialValue::Residual(left) => {
                 let part = right.clone()?;
+                let left = Box::new(alloc, left)?;
                 Ok(Step::Wait(
                     Task::Other(Pending::OrKept { left, right }),
                     Part::Shared(part),
@@ -103,15 +105,15 @@ impl<'e, 'g, 'f> Evaluation<'e, 'g, 'f> {
     pub(crate) fn after_and_right(
         &self,
         alloc: Global,
-        right: PartialValue,
+        right: Box<PartialValue>,
     ) -> Result<Next, AllocError>
         ensures { (r : RequestPart) (k : ℕ) → IfOk result (GoesOn (setting_of r self.now) (calls_in self.now) k pendings.AndRight (answers (partial_view right))) }
     {
-        match right {
+        match Box::into_inner(right) {
             PartialValue::Value(value) => Ok(bool_or_failure(alloc, &value)),
             PartialValue::Residual(right) => {
                 let left = Expr::val(Literal::Bool(true));
-                Ok(residual_answer(Expr::and(alloc, left, right.into_expr())?))
+                Ok(residual_answer(alloc, Expr::and(alloc, left, right.into_expr())?))
             }
         }
     }
@@ -121,15 +123,15 @@ impl<'e, 'g, 'f> Evaluation<'e, 'g, 'f> {
     pub(crate) fn after_or_right(
         &self,
         alloc: Global,
-        right: PartialValue,
+        right: Box<PartialValue>,
     ) -> Result<Next, AllocError>
         ensures { (r : RequestPart) (k : ℕ) → IfOk result (GoesOn (setting_of r self.now) (calls_in self.now) k pendings.OrRight (answers (partial_view right))) }
     {
-        match right {
+        match Box::into_inner(right) {
             PartialValue::Value(value) => Ok(bool_or_failure(alloc, &value)),
             PartialValue::Residual(right) => {
                 let left = Expr::val(Literal::Bool(false));
-                Ok(residual_answer(Expr::or(alloc, left, right.into_expr())?))
+                Ok(residual_answer(alloc, Expr::or(alloc, left, right.into_expr())?))
             }
         }
     }
@@ -138,24 +140,24 @@ impl<'e, 'g, 'f> Evaluation<'e, 'g, 'f> {
     pub(crate) fn kept_conjunction(
         &self,
         alloc: Global,
-        left: ResidualExpr,
+        left: Box<ResidualExpr>,
         right: Expr,
     ) -> Result<Next, AllocError>
         ensures { (r : RequestPart) (k : ℕ) (x : Answer) (t : Rc Expr Global) → best x (view t.value) ≡ kept (view right) → IfOk result (GoesOn (setting_of r self.now) (calls_in self.now) k (pendings.AndKept left t) x) }
     {
-        Ok(residual_answer(Expr::and(alloc, left.into_expr(), right)?))
+        Ok(residual_answer(alloc, Expr::and(alloc, Box::into_inner(left).into_expr(), right)?))
     }
 
     // `||` with a residual left side and what is kept of the right.
     pub(crate) fn kept_disjunction(
         &self,
         alloc: Global,
-        left: ResidualExpr,
+        left: Box<ResidualExpr>,
         right: Expr,
     ) -> Result<Next, AllocError>
         ensures { (r : RequestPart) (k : ℕ) (x : Answer) (t : Rc Expr Global) → best x (view t.value) ≡ kept (view right) → IfOk result (GoesOn (setting_of r self.now) (calls_in self.now) k (pendings.OrKept left t) x) }
     {
-        Ok(residual_answer(Expr::or(alloc, left.into_expr(), right)?))
+        Ok(residual_answer(alloc, Expr::or(alloc, Box::into_inner(left).into_expr(), right)?))
     }
 }
 
@@ -165,7 +167,7 @@ fn bool_or_failure(alloc: Global, value: &Value) -> Next
     ensures { Gives result (bool_or_failure (bool_of (abstract_value value.now.what)) value.now.what) }
 {
     match bool_in(value) {
-        Some(b) => bool_answer(b),
+        Some(b) => bool_answer(alloc, b),
         None => no_bool(alloc, value),
     }
 }

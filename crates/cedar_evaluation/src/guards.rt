@@ -47,11 +47,11 @@ impl<'e, 'g, 'f> Evaluation<'e, 'g, 'f> {
         alloc: Global,
         then_expr: Rc<Expr>,
         else_expr: Rc<Expr>,
-        guard: PartialValue,
+        guard: Box<PartialValue>,
     ) -> Result<Next, AllocError>
         ensures { (r : RequestPart) (k : ℕ) → IfOk result (GoesOn (setting_of r self.now) (calls_in self.now) k (pendings.Guard then_expr else_expr) (answers (partial_view guard))) }
     {
-        match guard {
+        match Box::into_inner(guard) {
             PartialValue::Value(value) => match bool_in(&value) {
                 Some(true) => Ok(Step::Wait(Task::Other(Pending::Passed), Part::Shared(then_expr))),
                 Some(false) => Ok(Step::Wait(
@@ -63,7 +63,7 @@ impl<'e, 'g, 'f> Evaluation<'e, 'g, 'f> {
             PartialValue::Residual(guard) => {
                 let part = then_expr.clone()?;
                 let pending = Pending::Then {
-                    guard,
+                    guard: Box::new(alloc, guard)?,
                     then_expr,
                     else_expr,
                 };
@@ -75,7 +75,8 @@ impl<'e, 'g, 'f> Evaluation<'e, 'g, 'f> {
     // The second branch beside a residual guard, after what is kept of the first.
     pub(crate) fn second_branch(
         &self,
-        guard: ResidualExpr,
+        alloc: Global,
+        guard: Box<ResidualExpr>,
         then_expr: Expr,
         else_expr: Rc<Expr>,
     ) -> Result<Next, AllocError>
@@ -84,7 +85,7 @@ impl<'e, 'g, 'f> Evaluation<'e, 'g, 'f> {
         let part = else_expr.clone()?;
         let pending = Pending::Else {
             guard,
-            then_expr,
+            then_expr: Box::new(alloc, then_expr)?,
             else_expr,
         };
         Ok(Step::Wait(Task::Other(pending), Part::Shared(part)))
@@ -94,12 +95,12 @@ impl<'e, 'g, 'f> Evaluation<'e, 'g, 'f> {
     pub(crate) fn both_branches(
         &self,
         alloc: Global,
-        guard: ResidualExpr,
-        then_expr: Expr,
+        guard: Box<ResidualExpr>,
+        then_expr: Box<Expr>,
         else_expr: Expr,
     ) -> Result<Next, AllocError>
         ensures { (r : RequestPart) (k : ℕ) (x : Answer) (e : Rc Expr Global) → best x (view e.value) ≡ kept (view else_expr) → IfOk result (GoesOn (setting_of r self.now) (calls_in self.now) k (pendings.Else guard then_expr e) x) }
     {
-        Ok(residual_answer(Expr::ite(alloc, guard.into_expr(), then_expr, else_expr)?))
+        Ok(residual_answer(alloc, Expr::ite(alloc, Box::into_inner(guard).into_expr(), Box::into_inner(then_expr), else_expr)?))
     }
 }

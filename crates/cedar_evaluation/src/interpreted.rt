@@ -18,7 +18,7 @@ use cedar_expressions::Expr;
 use cedar_frames::{Stack, interpret_on};
 use cedar_names::Loc;
 use cedar_values::evaluator::err::EvaluationError;
-use std::alloc::Global;
+use std::alloc::{AllocError, Global};
 
 impl<'e, 'g, 'f> Evaluation<'e, 'g, 'f> {
     /// The value of the expression, or what is left of it, at the expression's location; at most `limit` levels deep, where an
@@ -51,8 +51,11 @@ impl<'e, 'g, 'f> Evaluation<'e, 'g, 'f> {
         ensures place { IfOk result (λ p. partial_loc p ≡ expr_loc expr) }
     {
         let mut stack = Stack::new(alloc, limit);
+        let Ok(expr) = Box::new(alloc, expr) else {
+            return Err(EvaluationError::Memory(AllocError));
+        };
         match interpret_on(self, alloc, &mut stack, Part::Own(expr)) {
-            Ok(answer) => Ok(answer),
+            Ok(answer) => Ok(Box::into_inner(answer)),
             Err(stopped) => Err(within(stack.frames(), stopped.into_error())),
         }
     }
