@@ -13,9 +13,9 @@ ghost use Rattle.cedar_evaluation.specs.Tasks.{GoesOn};
 
 use crate::evaluation::Evaluation;
 use crate::failed::Failed;
+use crate::found::Found;
 use crate::frame::{Next, Pending};
 use crate::stopped::Stopped;
-use cedar_data::PartialValue;
 use cedar_expressions::Expr;
 use cedar_frames::Step;
 use std::alloc::{AllocError, Global};
@@ -27,7 +27,7 @@ impl<'e, 'g, 'f> Evaluation<'e, 'g, 'f> {
         &self,
         alloc: Global,
         pending: Pending,
-        answer: Box<PartialValue>,
+        answer: Found,
     ) -> Result<Next, AllocError>
         ensures { (r : RequestPart) (k : ℕ) → IfOk result (GoesOn (setting_of r self.now) (calls_in self.now) k pending (answers (partial_view answer))) }
     {
@@ -41,24 +41,24 @@ impl<'e, 'g, 'f> Evaluation<'e, 'g, 'f> {
                 guard,
                 then_expr: _,
                 else_expr,
-            } => self.second_branch(alloc, guard, kept_part(alloc, Box::into_inner(answer))?, else_expr),
+            } => self.second_branch(alloc, guard, kept_part(alloc, answer)?, else_expr),
             Pending::Else {
                 guard,
                 then_expr,
                 else_expr: _,
-            } => self.both_branches(alloc, guard, then_expr, kept_part(alloc, Box::into_inner(answer))?),
+            } => self.both_branches(alloc, guard, then_expr, kept_part(alloc, answer)?),
             Pending::AndLeft { right } => self.after_and_left(alloc, right, answer),
             Pending::AndRight => self.after_and_right(alloc, answer),
             Pending::AndKept { left, right: _ } => {
-                self.kept_conjunction(alloc, left, kept_part(alloc, Box::into_inner(answer))?)
+                self.kept_conjunction(alloc, left, kept_part(alloc, answer)?)
             }
             Pending::OrLeft { right } => self.after_or_left(alloc, right, answer),
             Pending::OrRight => self.after_or_right(alloc, answer),
             Pending::OrKept { left, right: _ } => {
-                self.kept_disjunction(alloc, left, kept_part(alloc, Box::into_inner(answer))?)
+                self.kept_disjunction(alloc, left, kept_part(alloc, answer)?)
             }
             Pending::Unary(op) => self.after_operand(alloc, op, answer),
-            Pending::BinaryLeft { op, right } => self.after_left(op, right, answer),
+            Pending::BinaryLeft { op, right } => self.after_left(alloc, op, right, answer),
             Pending::BinaryRight { op, left } => self.after_right(alloc, op, left, answer),
             Pending::GetAttr(attr) => self.after_container(alloc, attr, answer),
             Pending::HasAttr(attr) => self.after_tested(alloc, attr, answer),
@@ -119,11 +119,11 @@ impl<'e, 'g, 'f> Evaluation<'e, 'g, 'f> {
 
 // What is kept of a part that answered.
 #[tactic(auto, unfolding(cedar_model::specs::Rules::best, cedar_model::specs::Failures::part_expression))]
-fn kept_part(alloc: Global, answer: PartialValue) -> Result<Expr, AllocError>
+fn kept_part(alloc: Global, answer: Found) -> Result<Expr, AllocError>
     ensures { IfOk result (λ e. (t : Term) → best (answers (partial_view answer)) t ≡ kept (view e)) }
 {
     match answer {
-        PartialValue::Value(value) => Ok(value.to_expr(alloc)?),
-        PartialValue::Residual(residual) => Ok(residual.into_expr()),
+        Found::Value(value) => Ok(value.to_expr(alloc)?),
+        Found::Residual(residual) => Ok(Box::into_inner(residual).into_expr()),
     }
 }

@@ -8,6 +8,7 @@ ghost use Rattle.cedar_data.specs.Residuals.{partial_view};
 ghost use Rattle.cedar_values.specs.Answers.{AnswersWith};
 ghost use Rattle.cedar_evaluation.specs.Tasks.{Gives};
 
+use crate::found::Found;
 use crate::frame::Next;
 use crate::stopped::Stopped;
 use cedar_data::{PartialValue, ResidualExpr, Value};
@@ -24,26 +25,27 @@ pub(crate) fn answered(alloc: Global, answer: Result<PartialValue, EvaluationErr
     ensures { (a : Answer) → AnswersWith answer a → Gives result a }
 {
     match answer {
-        Ok(value) => done(alloc, value),
+        Ok(part) => found(alloc, part),
         Err(error) => Step::Done(Err(Stopped::of(alloc, error, None))),
     }
 }
 
 // This value or residual.
-pub(crate) fn done(alloc: Global, value: PartialValue) -> Next
-    ensures { Gives result (answers (partial_view value)) }
+#[inline(always)]
+pub(crate) fn found(alloc: Global, part: PartialValue) -> Next
+    ensures { Gives result (answers (partial_view part)) }
 {
-    match Box::new(alloc, value) {
-        Ok(value) => Step::Done(Ok(value)),
+    match Found::of(alloc, part) {
+        Ok(found) => Step::Done(Ok(found)),
         Err(_) => Step::Done(Err(Stopped::Memory)),
     }
 }
 
 // A boolean.
-pub(crate) fn bool_answer(alloc: Global, b: bool) -> Next
+pub(crate) fn bool_answer(b: bool) -> Next
     ensures { Gives result (answers_bool b) }
 {
-    done(alloc, PartialValue::Value(bool_value(b)))
+    Step::Done(Ok(Found::Value(bool_value(b))))
 }
 
 // That a boolean is expected.
@@ -60,5 +62,8 @@ pub(crate) fn residual_answer(alloc: Global, expr: Expr) -> Next
     requires { has_unknown (view expr) ≡ true }
     ensures { Gives result (answers_residual (view expr)) }
 {
-    done(alloc, PartialValue::Residual(ResidualExpr::new(expr)))
+    match Box::new(alloc, ResidualExpr::new(expr)) {
+        Ok(residual) => Step::Done(Ok(Found::Residual(residual))),
+        Err(_) => Step::Done(Err(Stopped::Memory)),
+    }
 }

@@ -17,9 +17,10 @@ ghost use Rattle.cedar_evaluation.specs.declared.frame.Pending.TheVariants as pe
 
 use crate::answers::{bool_answer, no_bool, residual_answer};
 use crate::evaluation::Evaluation;
+use crate::found::Found;
 use crate::frame::{Next, Pending, Task};
 use crate::part::Part;
-use cedar_data::{PartialValue, ResidualExpr, Value};
+use cedar_data::{ResidualExpr, Value};
 use cedar_expressions::Expr;
 use cedar_frames::Step;
 use cedar_names::Literal;
@@ -53,19 +54,18 @@ impl<'e, 'g, 'f> Evaluation<'e, 'g, 'f> {
         &self,
         alloc: Global,
         right: Rc<Expr>,
-        left: Box<PartialValue>,
+        left: Found,
     ) -> Result<Next, AllocError>
         ensures { (r : RequestPart) (k : ℕ) → IfOk result (GoesOn (setting_of r self.now) (calls_in self.now) k (pendings.AndLeft right) (answers (partial_view left))) }
     {
-        match Box::into_inner(left) {
-            PartialValue::Value(value) => match bool_in(&value) {
+        match left {
+            Found::Value(value) => match bool_in(&value) {
                 Some(true) => Ok(Step::Wait(Task::Other(Pending::AndRight), Part::Shared(right))),
-                Some(false) => Ok(bool_answer(alloc, false)),
+                Some(false) => Ok(bool_answer(false)),
                 None => Ok(no_bool(alloc, &value)),
             },
-            PartialValue::Residual(left) => {
+            Found::Residual(left) => {
                 let part = right.clone()?;
-                let left = Box::new(alloc, left)?;
                 Ok(Step::Wait(
                     Task::Other(Pending::AndKept { left, right }),
                     Part::Shared(part),
@@ -79,19 +79,18 @@ impl<'e, 'g, 'f> Evaluation<'e, 'g, 'f> {
         &self,
         alloc: Global,
         right: Rc<Expr>,
-        left: Box<PartialValue>,
+        left: Found,
     ) -> Result<Next, AllocError>
         ensures { (r : RequestPart) (k : ℕ) → IfOk result (GoesOn (setting_of r self.now) (calls_in self.now) k (pendings.OrLeft right) (answers (partial_view left))) }
     {
-        match Box::into_inner(left) {
-            PartialValue::Value(value) => match bool_in(&value) {
-                Some(true) => Ok(bool_answer(alloc, true)),
+        match left {
+            Found::Value(value) => match bool_in(&value) {
+                Some(true) => Ok(bool_answer(true)),
                 Some(false) => Ok(Step::Wait(Task::Other(Pending::OrRight), Part::Shared(right))),
                 None => Ok(no_bool(alloc, &value)),
             },
-            PartialValue::Residual(left) => {
+            Found::Residual(left) => {
                 let part = right.clone()?;
-                let left = Box::new(alloc, left)?;
                 Ok(Step::Wait(
                     Task::Other(Pending::OrKept { left, right }),
                     Part::Shared(part),
@@ -105,15 +104,15 @@ impl<'e, 'g, 'f> Evaluation<'e, 'g, 'f> {
     pub(crate) fn after_and_right(
         &self,
         alloc: Global,
-        right: Box<PartialValue>,
+        right: Found,
     ) -> Result<Next, AllocError>
         ensures { (r : RequestPart) (k : ℕ) → IfOk result (GoesOn (setting_of r self.now) (calls_in self.now) k pendings.AndRight (answers (partial_view right))) }
     {
-        match Box::into_inner(right) {
-            PartialValue::Value(value) => Ok(bool_or_failure(alloc, &value)),
-            PartialValue::Residual(right) => {
+        match right {
+            Found::Value(value) => Ok(bool_or_failure(alloc, &value)),
+            Found::Residual(right) => {
                 let left = Expr::val(Literal::Bool(true));
-                Ok(residual_answer(alloc, Expr::and(alloc, left, right.into_expr())?))
+                Ok(residual_answer(alloc, Expr::and(alloc, left, Box::into_inner(right).into_expr())?))
             }
         }
     }
@@ -123,15 +122,15 @@ impl<'e, 'g, 'f> Evaluation<'e, 'g, 'f> {
     pub(crate) fn after_or_right(
         &self,
         alloc: Global,
-        right: Box<PartialValue>,
+        right: Found,
     ) -> Result<Next, AllocError>
         ensures { (r : RequestPart) (k : ℕ) → IfOk result (GoesOn (setting_of r self.now) (calls_in self.now) k pendings.OrRight (answers (partial_view right))) }
     {
-        match Box::into_inner(right) {
-            PartialValue::Value(value) => Ok(bool_or_failure(alloc, &value)),
-            PartialValue::Residual(right) => {
+        match right {
+            Found::Value(value) => Ok(bool_or_failure(alloc, &value)),
+            Found::Residual(right) => {
                 let left = Expr::val(Literal::Bool(false));
-                Ok(residual_answer(alloc, Expr::or(alloc, left, right.into_expr())?))
+                Ok(residual_answer(alloc, Expr::or(alloc, left, Box::into_inner(right).into_expr())?))
             }
         }
     }
@@ -167,7 +166,7 @@ fn bool_or_failure(alloc: Global, value: &Value) -> Next
     ensures { Gives result (bool_or_failure (bool_of (abstract_value value.now.what)) value.now.what) }
 {
     match bool_in(value) {
-        Some(b) => bool_answer(alloc, b),
+        Some(b) => bool_answer(b),
         None => no_bool(alloc, value),
     }
 }

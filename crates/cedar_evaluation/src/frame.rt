@@ -1,7 +1,8 @@
 //! What waits for the answer of a part.
+use crate::found::Found;
 use crate::part::Part;
 use crate::stopped::Stopped;
-use cedar_data::{PartialValue, ResidualExpr};
+use cedar_data::ResidualExpr;
 use cedar_expressions::Expr;
 use cedar_frames::Step;
 use cedar_names::{BinaryOp, EntityType, FirstRest, Loc, Pattern, UnaryOp};
@@ -78,7 +79,7 @@ pub enum Pending {
     /// It is the right operand of this operator, after this left one.
     BinaryRight {
         op: BinaryOp,
-        left: Box<PartialValue>,
+        left: Box<Found>,
     },
     /// It has the attribute.
     GetAttr(RcStr),
@@ -93,7 +94,7 @@ pub enum Pending {
 }
 
 /// What an evaluation ends with.
-pub type Outcome = Result<Box<PartialValue>, Stopped>;
+pub type Outcome = Result<Found, Stopped>;
 
 /// What comes next of an expression: its answer, or the part that it waits for.
 pub type Next = Step<Task, Part, Outcome>;

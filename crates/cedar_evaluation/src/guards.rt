@@ -15,9 +15,10 @@ ghost use Rattle.cedar_evaluation.specs.declared.frame.Pending.TheVariants as pe
 
 use crate::answers::{no_bool, residual_answer};
 use crate::evaluation::Evaluation;
+use crate::found::Found;
 use crate::frame::{Next, Pending, Task};
 use crate::part::Part;
-use cedar_data::{PartialValue, ResidualExpr};
+use cedar_data::ResidualExpr;
 use cedar_expressions::Expr;
 use cedar_frames::Step;
 use cedar_operators::typed::bool_in;
@@ -47,12 +48,12 @@ impl<'e, 'g, 'f> Evaluation<'e, 'g, 'f> {
         alloc: Global,
         then_expr: Rc<Expr>,
         else_expr: Rc<Expr>,
-        guard: Box<PartialValue>,
+        guard: Found,
     ) -> Result<Next, AllocError>
         ensures { (r : RequestPart) (k : ℕ) → IfOk result (GoesOn (setting_of r self.now) (calls_in self.now) k (pendings.Guard then_expr else_expr) (answers (partial_view guard))) }
     {
-        match Box::into_inner(guard) {
-            PartialValue::Value(value) => match bool_in(&value) {
+        match guard {
+            Found::Value(value) => match bool_in(&value) {
                 Some(true) => Ok(Step::Wait(Task::Other(Pending::Passed), Part::Shared(then_expr))),
                 Some(false) => Ok(Step::Wait(
                     Task::Other(Pending::Passed),
@@ -60,10 +61,10 @@ impl<'e, 'g, 'f> Evaluation<'e, 'g, 'f> {
                 )),
                 None => Ok(no_bool(alloc, &value)),
             },
-            PartialValue::Residual(guard) => {
+            Found::Residual(guard) => {
                 let part = then_expr.clone()?;
                 let pending = Pending::Then {
-                    guard: Box::new(alloc, guard)?,
+                    guard,
                     then_expr,
                     else_expr,
                 };

@@ -55,7 +55,7 @@ impl<'e, 'g, 'f> Evaluation<'e, 'g, 'f> {
             return Err(EvaluationError::Memory(AllocError));
         };
         match interpret_on(self, alloc, &mut stack, Part::Own(expr)) {
-            Ok(answer) => Ok(Box::into_inner(answer)),
+            Ok(answer) => Ok(answer.into_part()),
             Err(stopped) => Err(within(stack.frames(), stopped.into_error())),
         }
     }

@@ -6,6 +6,7 @@ mod answers;
 mod connectives;
 mod evaluation;
 mod failed;
+mod found;
 mod frame;
 mod guards;
 mod interpreted;

@@ -14,11 +14,11 @@ ghost use Rattle.cedar_evaluation.specs.Laws.{right_limit, right_want, right_upw
 
 use crate::evaluation::Evaluation;
 use crate::failed::Failed;
+use crate::found::Found;
 use crate::frame::{Frame, Next, Outcome, Task};
 use crate::part::Part;
 use crate::start::taken;
 use crate::stopped::Stopped;
-use cedar_data::PartialValue;
 use cedar_frames::{Machine, Step};
 use cedar_names::Loc;
 use std::alloc::{AllocError, Global};
@@ -110,14 +110,14 @@ impl<'e, 'g, 'f> Evaluation<'e, 'g, 'f> {
     }
 
     // The same after a value or a residual.
-    fn valued(&self, alloc: Global, task: Task, value: Box<PartialValue>) -> Next
+    fn valued(&self, alloc: Global, task: Task, value: Found) -> Next
         ensures leads { (r : RequestPart) (k : ℕ) → Speaks r self.now → Leads (setting_of r self.now) (calls_in self.now) k task (answers (partial_view value)) result }
         ensures fewer { LeftFewer task result }
     {
         match task {
             Task::Parts(frame) => taken(
                 alloc,
-                Box::into_inner(frame).answered(alloc, self.given.extensions, Ok(Box::into_inner(value))),
+                Box::into_inner(frame).answered(alloc, self.given.extensions, Ok(value.into_part())),
             ),
             Task::Other(pending) => match self.after(alloc, pending, value) {
                 Ok(next) => next,
@@ -142,44 +142,16 @@ impl<'e, 'g, 'f> Evaluation<'e, 'g, 'f> {
 }
 
 // The same at this location.
+#[inline(always)]
 fn placed(alloc: Global, next: Next, loc: Option<Loc>) -> Step<Frame, Part, Outcome>
     ensures { IsPlaced next loc result }
 {
     match next {
-        Step::Done(Ok(value)) => Step::Done(value_at(alloc, value, loc)),
+        Step::Done(Ok(value)) => match value.at(alloc, loc) {
+            Ok(value) => Step::Done(Ok(value)),
+            Err(_) => Step::Done(Err(Stopped::Memory)),
+        },
         Step::Done(Err(stopped)) => Step::Done(Err(stopped.within(alloc, loc))),
         Step::Wait(task, part) => Step::Wait(Frame { task, loc }, part),
-    }
-}
-
-// The value or residual at this location.
-fn value_at(alloc: Global, mut value: Box<PartialValue>, loc: Option<Loc>) -> Outcome
-{
-    if is_value_put(&mut value, loc) {
-        Ok(value)
-    } else {
-        residual_at(alloc, value, loc)
-    }
-}
-
-// Puts a value at this location.
-fn is_value_put(part: &mut PartialValue, loc: Option<Loc>) -> bool
-{
-    match part {
-        PartialValue::Value(value) => {
-            value.loc = loc;
-            true
-        }
-        PartialValue::Residual(_) => false,
-    }
-}
-
-#[cold]
-#[inline(never)]
-fn residual_at(alloc: Global, value: Box<PartialValue>, loc: Option<Loc>) -> Outcome
-{
-    match Box::new(alloc, Box::into_inner(value).with_maybe_source_loc(loc)) {
-        Ok(value) => Ok(value),
-        Err(_) => Err(Stopped::Memory),
     }
 }

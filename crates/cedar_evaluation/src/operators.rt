@@ -9,10 +9,10 @@ ghost use Rattle.cedar_evaluation.specs.declared.frame.Pending.TheVariants as pe
 
 use crate::answers::answered;
 use crate::evaluation::Evaluation;
+use crate::found::Found;
 use crate::frame::{Next, Pending, Task};
 use crate::part::Part;
 use crate::stored::stored;
-use cedar_data::PartialValue;
 use cedar_expressions::Expr;
 use cedar_frames::Step;
 use cedar_names::{BinaryOp, EntityType, FirstRest, Pattern, UnaryOp};
@@ -30,22 +30,24 @@ impl<'e, 'g, 'f> Evaluation<'e, 'g, 'f> {
         &self,
         alloc: Global,
         op: UnaryOp,
-        operand: Box<PartialValue>,
+        operand: Found,
     ) -> Result<Next, AllocError>
         ensures { (r : RequestPart) (k : ℕ) → IfOk result (GoesOn (setting_of r self.now) (calls_in self.now) k (pendings.Unary op) (answers (partial_view operand))) }
     {
-        Ok(answered(alloc, unary_of_part(alloc, op, Box::into_inner(operand), None)))
+        Ok(answered(alloc, unary_of_part(alloc, op, operand.into_part(), None)))
     }
 
     // The right operand, after the left one.
     pub(crate) fn after_left(
         &self,
+        alloc: Global,
         op: BinaryOp,
         right: Rc<Expr>,
-        left: Box<PartialValue>,
+        left: Found,
     ) -> Result<Next, AllocError>
         ensures { (r : RequestPart) (k : ℕ) → IfOk result (GoesOn (setting_of r self.now) (calls_in self.now) k (pendings.BinaryLeft op right) (answers (partial_view left))) }
     {
+        let left = Box::new(alloc, left)?;
         Ok(Step::Wait(
             Task::Other(Pending::BinaryRight { op, left }),
             Part::Shared(right),
@@ -57,8 +59,8 @@ impl<'e, 'g, 'f> Evaluation<'e, 'g, 'f> {
         &self,
         alloc: Global,
         op: BinaryOp,
-        left: Box<PartialValue>,
-        right: Box<PartialValue>,
+        left: Box<Found>,
+        right: Found,
     ) -> Result<Next, AllocError>
         ensures { (r : RequestPart) (k : ℕ) → IfOk result (GoesOn (setting_of r self.now) (calls_in self.now) k (pendings.BinaryRight op left) (answers (partial_view right))) }
     {
@@ -66,7 +68,7 @@ impl<'e, 'g, 'f> Evaluation<'e, 'g, 'f> {
         let extensions = self.given.extensions;
         Ok(answered(
             alloc,
-            binary_of_parts(alloc, entities, extensions, op, Box::into_inner(left), Box::into_inner(right), None),
+            binary_of_parts(alloc, entities, extensions, op, Box::into_inner(left).into_part(), right.into_part(), None),
         ))
     }
 
@@ -75,11 +77,11 @@ impl<'e, 'g, 'f> Evaluation<'e, 'g, 'f> {
         &self,
         alloc: Global,
         attr: RcStr,
-        container: Box<PartialValue>,
+        container: Found,
     ) -> Result<Next, AllocError>
         ensures { (r : RequestPart) (k : ℕ) → IfOk result (GoesOn (setting_of r self.now) (calls_in self.now) k (pendings.GetAttr attr) (answers (partial_view container))) }
     {
-        match attribute_of_part(alloc, self.given.entities, Box::into_inner(container), &attr, None) {
+        match attribute_of_part(alloc, self.given.entities, container.into_part(), &attr, None) {
             Projected::Answer(answer) => stored(alloc, &self.given.mapper, answer),
             Projected::Part(part) => Ok(Step::Wait(Task::Other(Pending::Passed), Part::Own(Box::new(alloc, part)?))),
         }
@@ -90,13 +92,13 @@ impl<'e, 'g, 'f> Evaluation<'e, 'g, 'f> {
         &self,
         alloc: Global,
         attr: RcStr,
-        container: Box<PartialValue>,
+        container: Found,
     ) -> Result<Next, AllocError>
         ensures { (r : RequestPart) (k : ℕ) → IfOk result (GoesOn (setting_of r self.now) (calls_in self.now) k (pendings.HasAttr attr) (answers (partial_view container))) }
     {
         Ok(answered(
             alloc,
-            has_of_part(alloc, self.given.entities, Box::into_inner(container), &attr),
+            has_of_part(alloc, self.given.entities, container.into_part(), &attr),
         ))
     }
 
@@ -105,13 +107,13 @@ impl<'e, 'g, 'f> Evaluation<'e, 'g, 'f> {
         &self,
         alloc: Global,
         attrs: Rc<FirstRest<RcStr>>,
-        container: Box<PartialValue>,
+        container: Found,
     ) -> Result<Next, AllocError>
         ensures { (r : RequestPart) (k : ℕ) → IfOk result (GoesOn (setting_of r self.now) (calls_in self.now) k (pendings.ExtHasAttr attrs) (answers (partial_view container))) }
     {
         Ok(answered(
             alloc,
-            extended_has_of_part(alloc, self.given.entities, Box::into_inner(container), &attrs),
+            extended_has_of_part(alloc, self.given.entities, container.into_part(), &attrs),
         ))
     }
 
@@ -120,11 +122,11 @@ impl<'e, 'g, 'f> Evaluation<'e, 'g, 'f> {
         &self,
         alloc: Global,
         pattern: Box<Pattern>,
-        text: Box<PartialValue>,
+        text: Found,
     ) -> Result<Next, AllocError>
         ensures { (r : RequestPart) (k : ℕ) → IfOk result (GoesOn (setting_of r self.now) (calls_in self.now) k (pendings.Like pattern) (answers (partial_view text))) }
     {
-        Ok(answered(alloc, like_of_part(alloc, Box::into_inner(text), &pattern)))
+        Ok(answered(alloc, like_of_part(alloc, text.into_part(), &pattern)))
     }
 
     // Whether the entity is of the type.
@@ -132,10 +134,10 @@ impl<'e, 'g, 'f> Evaluation<'e, 'g, 'f> {
         &self,
         alloc: Global,
         entity_type: Box<EntityType>,
-        entity: Box<PartialValue>,
+        entity: Found,
     ) -> Result<Next, AllocError>
         ensures { (r : RequestPart) (k : ℕ) → IfOk result (GoesOn (setting_of r self.now) (calls_in self.now) k (pendings.Is entity_type) (answers (partial_view entity))) }
     {
-        Ok(answered(alloc, is_of_part(alloc, Box::into_inner(entity), &entity_type)))
+        Ok(answered(alloc, is_of_part(alloc, entity.into_part(), &entity_type)))
     }
 }

@@ -13,8 +13,9 @@ ghost use Rattle.cedar_evaluation.specs.Settings.{Speaks, setting_of, calls_in};
 ghost use Rattle.cedar_evaluation.specs.Tasks.{Begins, Gives};
 ghost use Rattle.cedar_evaluation.specs.PartsLaws.{IsTaken};
 
-use crate::answers::done;
+use crate::answers::found;
 use crate::evaluation::Evaluation;
+use crate::found::Found;
 use crate::frame::{Next, Pending, Task};
 use crate::part::Part;
 use crate::stopped::Stopped;
@@ -41,7 +42,7 @@ impl<'e, 'g, 'f> Evaluation<'e, 'g, 'f> {
         ensures { (r : RequestPart) (k : ℕ) → Speaks r self.now → IfOk result (Begins (setting_of r self.now) (calls_in self.now) k (view e.now)) }
     {
         match e.expr_kind() {
-            ExprKind::Lit(value) => self.literal(alloc, value),
+            ExprKind::Lit(value) => self.literal(value),
             ExprKind::Var(var) => self.variable(alloc, *var),
             ExprKind::Slot(slot) => self.slot(alloc, *slot),
             ExprKind::Unknown(unknown) => self.unknown(alloc, e, unknown),
@@ -67,21 +68,21 @@ impl<'e, 'g, 'f> Evaluation<'e, 'g, 'f> {
         }
     }
 
-    fn literal(&self, alloc: Global, value: &Literal) -> Result<Next, AllocError>
+    fn literal(&self, value: &Literal) -> Result<Next, AllocError>
         ensures { (r : RequestPart) (k : ℕ) → IfOk result (Begins (setting_of r self.now) (calls_in self.now) k (Terms.literal (literal_view value.now))) }
     {
         let literal = Value::new(ValueKind::Lit(value.clone()?), None);
-        Ok(done(alloc, PartialValue::Value(literal)))
+        Ok(Step::Done(Ok(Found::Value(literal))))
     }
 
     fn variable(&self, alloc: Global, var: Var) -> Result<Next, AllocError>
         ensures { (r : RequestPart) (k : ℕ) → Speaks r self.now → IfOk result (Begins (setting_of r self.now) (calls_in self.now) k (Terms.variable (variable_view var))) }
     {
         match var {
-            Var::Principal => Ok(done(alloc, self.given.principal.clone()?)),
-            Var::Action => Ok(done(alloc, self.given.action.clone()?)),
-            Var::Resource => Ok(done(alloc, self.given.resource.clone()?)),
-            Var::Context => Ok(done(alloc, self.given.context.clone()?)),
+            Var::Principal => Ok(found(alloc, self.given.principal.clone()?)),
+            Var::Action => Ok(found(alloc, self.given.action.clone()?)),
+            Var::Resource => Ok(found(alloc, self.given.resource.clone()?)),
+            Var::Context => Ok(found(alloc, self.given.context.clone()?)),
         }
     }
 
@@ -217,7 +218,7 @@ fn slot_answer(alloc: Global, slots: &SlotEnv, slot: SlotId) -> Result<Next, All
         Some(uid) => {
             let uid = Rc::new(alloc, uid.clone()?)?;
             let value = Value::new(ValueKind::Lit(Literal::EntityUID(uid)), None);
-            Ok(done(alloc, PartialValue::Value(value)))
+            Ok(Step::Done(Ok(Found::Value(value))))
         }
         None => Ok(slot_unlinked(alloc, slot)),
     }
@@ -241,9 +242,9 @@ pub(crate) fn taken(alloc: Global, next: NextPart) -> Next
     ensures { IsTaken next result }
 {
     match next {
-        Step::Done(Ok(value)) => done(alloc, value),
+        Step::Done(Ok(part)) => found(alloc, part),
         Step::Done(Err(error)) => Step::Done(Err(Stopped::of(alloc, error, None))),
-        Step::Wait(frame, part) => match waiting(alloc, frame, part) {
+        Step::Wait(frame, part) => match waits(alloc, frame, part) {
             Ok(next) => next,
             Err(_) => Step::Done(Err(Stopped::Memory)),
         },
@@ -251,7 +252,7 @@ pub(crate) fn taken(alloc: Global, next: NextPart) -> Next
 }
 
 // A set, a record or a call waits for this part.
-fn waiting(alloc: Global, frame: PartsFrame, part: Expr) -> Result<Next, AllocError>
+fn waits(alloc: Global, frame: PartsFrame, part: Expr) -> Result<Next, AllocError>
 {
     let frame = Box::new(alloc, frame)?;
     let part = Box::new(alloc, part)?;

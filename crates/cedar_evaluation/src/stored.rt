@@ -15,8 +15,9 @@ ghost use Rattle.cedar_evaluation.specs.Settings.{mapper_view};
 ghost use Rattle.cedar_evaluation.specs.Tasks.{Gives};
 ghost use Rattle.cedar_evaluation.specs.Stored.{remapped, IsNoUnknown};
 
-use crate::answers::done;
+use crate::answers::{found, residual_answer};
 use crate::evaluation::Mapper;
+use crate::found::Found;
 use crate::frame::Next;
 use crate::stopped::Stopped;
 use cedar_data::{PartialValue, ResidualExpr, Value};
@@ -39,10 +40,10 @@ pub(crate) fn stored(
     ensures { (b : Answer) → AnswersWith answer b → IfOk result (λ n. Gives n (remapped (mapper_view mapper.now) b)) }
 {
     match answer {
-        Ok(PartialValue::Value(value)) => Ok(done(alloc, PartialValue::Value(value))),
+        Ok(PartialValue::Value(value)) => Ok(Step::Done(Ok(Found::Value(value)))),
         Ok(PartialValue::Residual(residual)) => match unknown_in(residual.as_expr()) {
             Some(unknown) => mapped(alloc, mapper, residual.as_expr(), unknown),
-            None => Ok(done(alloc, PartialValue::Residual(residual))),
+            None => Ok(found(alloc, PartialValue::Residual(residual))),
         },
         Err(error) => Ok(Step::Done(Err(Stopped::of(alloc, error, None)))),
     }
@@ -105,9 +106,9 @@ pub(crate) fn mapped(
     match value_of(mapper, &unknown.name) {
         Some(value) => match &unknown.type_annotation {
             Some(ty) => of_type(alloc, value, ty),
-            None => Ok(done(alloc, PartialValue::Value(value.clone()?))),
+            None => Ok(Step::Done(Ok(Found::Value(value.clone()?)))),
         },
-        None => Ok(left(alloc, e.clone()?)),
+        None => Ok(residual_answer(alloc, e.clone()?)),
     }
 }
 
@@ -127,7 +128,7 @@ fn of_type(alloc: Global, value: &Value, ty: &Type) -> Result<Next, AllocError>
     ensures { IfOk result (λ n. Gives n (typed_value (Some (type_view ty.now)) value.now.what)) }
 {
     if same_type(&value.type_of()?, ty) {
-        Ok(done(alloc, PartialValue::Value(value.clone()?)))
+        Ok(Step::Done(Ok(Found::Value(value.clone()?))))
     } else {
         Ok(wrong_type(alloc, ty.clone()?, value))
     }
@@ -148,12 +149,4 @@ fn wrong_type(alloc: Global, ty: Type, value: &Value) -> Next
     ensures { Gives result (fails (wrong_type (type_view ty) [] (abstract_value value.now.what))) }
 {
     Step::Done(Err(Stopped::of(alloc, type_error(alloc, ty, value), None)))
-}
-
-// The unknown is left.
-fn left(alloc: Global, e: Expr) -> Next
-    requires { has_unknown (view e) ≡ true }
-    ensures { Gives result (answers_residual (view e)) }
-{
-    done(alloc, PartialValue::Residual(ResidualExpr::new(e)))
 }

@@ -89,6 +89,7 @@ pub fn advance<M: Machine>(
 }
 
 // On with an answer, or the end.
+#[inline(always)]
 fn answered<M: Machine>(machine: &M, answer: M::Answer) -> Turn<M::Part, M::Answer>
     ensures right { (limit : ℕ) (e : M.Part) (fs : List M.Frame) → State (M.right machine.now) (M.waits machine.now) limit e fs (Answer answer) → Turned (M.right machine.now) (M.waits machine.now) limit e fs result }
     ensures less { (n limit : ℕ) (fs : List M.Frame) → work_left {P = M.Part} M.left_of M.most limit fs (Answer answer) < n → Less M.left_of n M.most limit fs result }
@@ -102,6 +103,7 @@ fn answered<M: Machine>(machine: &M, answer: M::Answer) -> Turn<M::Part, M::Answ
 }
 
 // On with a part that a new frame waits for, or the end where the stack finds no memory.
+#[inline(always)]
 fn waiting<M: Machine>(
     machine: &M,
     stack: &mut Stack<M::Frame>,
