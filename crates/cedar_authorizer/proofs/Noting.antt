@@ -3,11 +3,11 @@ use Rattle.std.specs.Prelude.{◌≡◌, ℕ, Bool, List, [], ◌∷◌, ◌++�
 use Rattle.std.proofs.Common.{refl, sym, ap, ◌∙◌, subst, append_assoc}
 use Rattle.std.proofs.lemmas.List.{append-nil, map-append}
 use Rattle.cedar_model.specs.Terms.{Text}
-use Rattle.cedar_model.specs.Failures.{Failure, Answer}
+use Rattle.cedar_model.specs.Failures.{Failure}
 use Rattle.cedar_model.specs.Settings.{Setting}
 use Rattle.cedar_model.specs.Rules.{StoredCalls, Runs}
 use Rattle.cedar_model.specs.Policies.{Policy, Effect, permit, forbid, ErrorHandling, skip}
-use Rattle.cedar_model.specs.Responses.{Row, Reported, Decided, decided, reported_of, error_of, counted_report, with_slots, with_error, row_of, RunOf}
+use Rattle.cedar_model.specs.Responses.{Row, Reported, Decided, decided, reported_of, error_of, counted_report, with_slots, with_error, RunOf}
 use Rattle.cedar_model.specs.Chains.{is_true, is_false, is_residual, rows_of}
 use Rattle.cedar_model.specs.Reports.{ids}
 use Rattle.cedar_layers.specs.declared.policies.policy.PolicyID.{PolicyID}
@@ -37,7 +37,6 @@ pub record IsNotedSoFar (s : Setting) (calls : StoredCalls) (levels : ℕ) (all 
   pub same : all ≡ done ++ left
 
 module _ (s : Setting) (calls : StoredCalls) (levels : ℕ) where
-
   pub noted_none : (all : List Policy) (sheet : Sheet) (left : List Policy) → sheet_view sheet ≡ nothing_noted → all ≡ left → IsNotedSoFar s calls levels all sheet left
   noted_none all sheet left e same = record {
     done = [];

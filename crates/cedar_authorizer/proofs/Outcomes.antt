@@ -2,7 +2,7 @@
 use Rattle.std.specs.Prelude.{◌≡◌, ◌≢◌, Bool, Result, Ok, Err, IfOk}
 use Rattle.std.specs.declared.alloc.AllocError.{AllocError}
 use Rattle.std.proofs.Common.{sym, ap, ◌∙◌, subst}
-use Rattle.cedar_model.specs.Failures.{Failure, out_of_memory, Answer, fails}
+use Rattle.cedar_model.specs.Failures.{out_of_memory, Answer, fails}
 use Rattle.cedar_model.specs.Responses.{Decided, decides, errs_with, leaves, decided}
 use Rattle.cedar_values.specs.declared.evaluator.err.EvaluationError.{EvaluationError}
 use Rattle.cedar_values.specs.Failures.{failure_of}
@@ -10,7 +10,7 @@ use Rattle.cedar_expressions.specs.declared.expr.Expr.{Expr}
 use Rattle.cedar_expressions.specs.View.{view}
 use Rattle.either.specs.declared.Either.{Either}
 use Rattle.either.specs.declared.Either.TheVariants.{Left, Right}
-use Rattle.cedar_evaluator.specs.Decisions.{partly_decided, PartlyDecidesBy}
+use Rattle.cedar_evaluator.specs.Decisions.{PartlyDecidesBy}
 use Rattle.cedar_responses.specs.declared.sheet.Outcome.{Outcome}
 use Rattle.cedar_responses.specs.Sheets.{outcome_view}
 use Rattle.cedar_authorizer.specs.Running.{ComesOutBy}

@@ -1,18 +1,16 @@
 -- Runs, policy by policy, and what follows of them.
 use Rattle.std.specs.Prelude.{◌≡◌, ◌≢◌, ℕ, Bool, true, false, cond, List, [], ◌∷◌, ◌++◌, map, Option, Some, None}
-use Rattle.std.proofs.Common.{refl, sym, ap, ◌∙◌, subst, append_assoc}
-use Rattle.std.proofs.lemmas.List.{append-nil, map-append}
+use Rattle.std.proofs.Common.{refl, ap, ◌∙◌}
 use Rattle.cedar_model.specs.Terms.{Text, bool_literal}
-use Rattle.cedar_model.specs.Values.{AbstractValue, plain, abstract_value}
+use Rattle.cedar_model.specs.Values.{plain, abstract_value}
 use Rattle.cedar_model.specs.Outcomes.{Outcome, bool_of}
 use Rattle.cedar_model.specs.World.{Functions}
-use Rattle.cedar_model.specs.Meaning.{meaning}
 use Rattle.cedar_model.specs.Failures.{Failure, value, residual, Answer, answers, fails, out_of_memory, limit}
 use Rattle.cedar_model.specs.Settings.{Setting}
 use Rattle.cedar_model.specs.Rules.{StoredCalls, Runs}
-use Rattle.cedar_model.specs.Agreement.{AgreesWithFunctions, HasNothingUnknown, IsKnown, Answers, own_world}
+use Rattle.cedar_model.specs.Agreement.{AgreesWithFunctions, HasNothingUnknown, IsKnown, Answers}
 use Rattle.cedar_model.specs.Policies.{Policy, Effect, permit, forbid, ErrorHandling, skip}
-use Rattle.cedar_model.specs.Responses.{Row, Reported, decides, errs_with, leaves, decided, decided_bool, reported_of, error_of, counted_report, with_slots, with_error, row_of, RunOf}
+use Rattle.cedar_model.specs.Responses.{Row, Reported, decided, decided_bool, reported_of, error_of, counted_report, with_slots, with_error, row_of, RunOf}
 use Rattle.cedar_model.specs.Chains.{has_effect, is_residual, rows_of}
 use Rattle.cedar_model.specs.Authorizations.{HaveKnownConditions}
 use Rattle.cedar_model.specs.Reports.{ids, HaveNoResidual}

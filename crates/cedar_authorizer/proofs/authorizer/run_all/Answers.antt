@@ -2,7 +2,6 @@ use Rattle.std.proofs.Common.{sym, ap, ◌∙◌, subst, map, None}
 use Rattle.cedar_layers.specs.Policies.{policy_view, condition_term, decides_as}
 use Rattle.cedar_layers.specs.PolicySets.{policies_left}
 use Rattle.cedar_layers.specs.Stores.{store_view}
-use Rattle.cedar_requests.specs.Requests.{request_view}
 use Rattle.cedar_evaluator.specs.Evaluations.{setting_of, setting_for, calls_in}
 use Rattle.cedar_model.specs.Rules.{Runs}
 use Rattle.cedar_extensions.specs.Extensions.{extensions_view, calls_of}
