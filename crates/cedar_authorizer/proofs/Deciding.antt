@@ -1,110 +1,105 @@
--- The response that a sheet makes, and when it is exact.
-use Rattle.std.specs.Prelude.{◌≡◌, ◌↔◌, ℕ, Bool, true, false, cond, not, ◌||◌, List, [], ◌∷◌, length, IsTrue}
-use Rattle.std.proofs.Common.{refl, sym, ap, ◌∙◌, subst, arith}
-use Rattle.std.proofs.lemmas.Slice.Eq.{bytes_eq-Decides}
-use Rattle.std.specs.List.{list_any}
+-- What follows of a run: that it stands, and what it is once it is made concrete.
+use Rattle.std.specs.Prelude.{◌≡◌, ℕ, true, false, cond, not, ◌||◌, ◌&&◌, List, ◌++◌, map}
+use Rattle.std.proofs.Common.{refl, sym, ap, ◌∙◌, subst, append_assoc}
 use Rattle.cedar_model.specs.Terms.{Text, bool_literal}
-use Rattle.cedar_model.specs.Values.{AbstractValue, plain}
-use Rattle.cedar_model.specs.Outcomes.{text_eq, has_text}
-use Rattle.cedar_model.specs.Failures.{Failure, Answer}
-use Rattle.cedar_model.specs.Settings.{RequestPart, Store, Setting}
+use Rattle.cedar_model.specs.Values.{plain}
+use Rattle.cedar_model.specs.Outcomes.{has_text}
 use Rattle.cedar_model.specs.World.{Extensions, Functions}
+use Rattle.cedar_model.specs.Failures.{Failure}
+use Rattle.cedar_model.specs.Settings.{RequestPart, Store, shallow, Setting}
+use Rattle.cedar_model.specs.LevelLaws.{FunctionsMeetNoLimit}
 use Rattle.cedar_model.specs.Rules.{StoredCalls}
-use Rattle.cedar_model.specs.Policies.{Policy, Effect, permit, forbid, Judged, Decision, allow, deny, is_satisfied, some_satisfied, satisfied_ids, decision, reasons}
-use Rattle.cedar_model.specs.Authorizations.{Authorized, JudgesEach, IsResponse}
+use Rattle.cedar_model.specs.Agreement.{AgreesWithFunctions, HasNothingUnknown}
+use Rattle.cedar_model.specs.Policies.{Policy, permit, forbid, allow, deny, ErrorHandling, skip}
+use Rattle.cedar_model.specs.Reordering.{IsReordering}
+use Rattle.cedar_model.specs.Responses.{Row}
+use Rattle.cedar_model.specs.Chains.{rows_by}
+use Rattle.cedar_model.specs.Authorizations.{Authorized, IsResponse, HaveKnownConditions}
 use Rattle.cedar_model.specs.AuthorizationLaws.{PolicyRuns}
+use Rattle.cedar_model.specs.Reports.{some_row, ids, trues, falses, residuals, residual_error, concretized}
+use Rattle.cedar_model.proofs.Chained.{sorted_is}
+use Rattle.cedar_model.proofs.Concrete.{run_is_response}
 use Rattle.cedar_model.proofs.Exactly as exactly
-use Rattle.cedar_layers.specs.declared.policies.policy.PolicyID.{PolicyID}
-use Rattle.cedar_layers.specs.Policies.{policy_id_text}
-use Rattle.cedar_responses.specs.Responses.{has_id}
-use Rattle.cedar_authorizer.specs.declared.authorizer.Sheet.{Sheet}
+use Rattle.cedar_model.proofs.Recorded.{run_recordable}
+use Rattle.cedar_model.proofs.Standing as standing
+use Rattle.cedar_responses.specs.declared.partial_response.PartialResponse.{PartialResponse}
+use Rattle.cedar_responses.specs.Responses.{errors_view}
+use Rattle.cedar_responses.specs.Rows.{located_view, rows_view}
+use Rattle.cedar_responses.proofs.Rows.{trues_permit, falses_permit, residuals_permit, trues_forbid, falses_forbid, residuals_forbid, chosen_rows}
 use Rattle.cedar_authorizer.specs.Responding.{authorization_of, IsKnownResponse, MeetsNoLimit, OwnWorldCompletesCall}
-use Rattle.cedar_authorizer.specs.Sheets.{sheet_errors, Reflects, RespondsTo, IsJudged, has_some_id}
+use Rattle.cedar_authorizer.specs.Running.{HoldsRows, IsRun, StandsInCompletions, IsDeepEnough, IsConcreteRun}
+use Rattle.cedar_authorizer.proofs.Low.{run_is_deep}
+use Rattle.cedar_authorizer.proofs.Runs.{run_known}
 
--- ---- whether there is a satisfied policy
+-- ---- the rows of a response
 
-pub some_id : (ks : List PolicyID) (b : Bool) → (IsTrue b ↔ (length ks ≡ 0)) → not b ≡ has_some_id ks
-unfolding has_some_id
-some_id [] true h = refl
-some_id [] false h = let f : false ≡ true = h.1 refl in absurd (cc)
-some_id (k ∷ ks) true h = let f : length (k ∷ ks) ≡ 0 = h.0 refl in absurd (omega arith)
-some_id (k ∷ ks) false h = refl
+module _ (rows : List Row) (r : PartialResponse) (h : HoldsRows rows r) where
+  true_permits : trues permit (rows_view r) ≡ trues permit rows
+  true_permits = trues_permit r ∙ h.true_permits
 
-has_some_text : List Text → Bool
-has_some_text [] = false
-has_some_text (t ∷ ts) = true
+  residual_permits : residuals permit (rows_view r) ≡ residuals permit rows
+  residual_permits = residuals_permit r ∙ h.residual_permits
 
-text_eq-self : (t : Text) → text_eq t t ≡ true
-text_eq-self t = (bytes_eq-Decides t t).1 refl
+  true_forbids : trues forbid (rows_view r) ≡ trues forbid rows
+  true_forbids = trues_forbid r ∙ h.true_forbids
 
-or_true : (b c : Bool) → b ≡ true → (b || c) ≡ true
-or_true true c e = refl
-or_true false c e = absurd (cc)
+  residual_forbids : residuals forbid (rows_view r) ≡ residuals forbid rows
+  residual_forbids = residuals_forbid r ∙ h.residual_forbids
 
-some_same : (ks : List PolicyID) (ts : List Text) → ((t : Text) → list_any (λ (i : PolicyID). text_eq t (policy_id_text i)) ks ≡ has_text t ts) → has_some_id ks ≡ has_some_text ts
-unfolding has_text has_some_text has_some_id
-some_same [] [] h = refl
-some_same [] (t ∷ ts) h =
-    let f : false ≡ true = h t ∙ or_true (text_eq t t) (has_text t ts) (text_eq-self t) in absurd (cc)
-some_same (k ∷ ks) [] h =
-    let f : true ≡ false = sym (or_true (text_eq (policy_id_text k) (policy_id_text k)) _ (text_eq-self (policy_id_text k))) ∙ h (policy_id_text k) in
-    absurd (cc)
-some_same (k ∷ ks) (t ∷ ts) h = refl
+  -- they are those of the run, sorted
+  pub rows_sorted : rows_view r ≡ rows_by permit rows ++ rows_by forbid rows
+  unfolding located_view
+  rows_sorted =
+      chosen_rows r true true true true true true
+      ∙ (λ i. true_permits i ++ ((falses_permit r ∙ h.false_permits) i ++ (residual_permits i
+      ++ (true_forbids i ++ ((falses_forbid r ∙ h.false_forbids) i ++ residual_forbids i)))))
+      ∙ sym (append_assoc (trues permit rows) (falses permit rows ++ residuals permit rows) (rows_by forbid rows)
+      ∙ ap (λ (xs : List Row). trues permit rows ++ xs) (append_assoc (falses permit rows) (residuals permit rows) (rows_by forbid rows)))
 
-some_if : (b c : Bool) (id : Text) (ts : List Text) → c ≡ has_some_text ts → (b || c) ≡ has_some_text (cond b (id ∷ ts) ts)
-unfolding has_some_text
-some_if true c id ts h = refl
-some_if false c id ts h = h
+  abbrev concrete_by : List Row → List Row → List Row → List Row → List (Text × Failure) → Authorized
+  concrete_by tp rp tf rf errors = record {
+    decided_as = cond (some_row tp && not (some_row tf)) allow deny;
+    is_reason = λ t. has_text t (ids (cond (some_row tf || some_row rf) tf tp));
+    errors = map residual_error rf ++ (map residual_error rp ++ errors);
+  }
 
-some_by_ids : (e : Effect) (js : List Judged) → some_satisfied e js ≡ has_some_text (satisfied_ids e js)
-unfolding some_satisfied satisfied_ids has_some_text
-some_by_ids e [] = refl
-some_by_ids e (j ∷ js) = some_if (is_satisfied e j) (some_satisfied e js) j.id (satisfied_ids e js) (some_by_ids e js)
+  pub concrete_alike : (errors : List (Text × Failure)) → concretized skip (rows_view r) errors ≡ concretized skip rows errors
+  concrete_alike errors =
+      λ i. concrete_by (true_permits i) (residual_permits i) (true_forbids i) (residual_forbids i) errors
 
-module _ (js : List Judged) (s : Sheet) (h : Reflects js s) where
-  some_forbid : (b : Bool) → has_some_id s.satisfied_forbids.keys ≡ b → some_satisfied forbid js ≡ b
-  some_forbid b e = some_by_ids forbid js ∙ sym (some_same s.satisfied_forbids.keys (satisfied_ids forbid js) h.forbids) ∙ e
+-- ---- a run
 
-  some_permit : (b : Bool) → has_some_id s.satisfied_permits.keys ≡ b → some_satisfied permit js ≡ b
-  some_permit b e = some_by_ids permit js ∙ sym (some_same s.satisfied_permits.keys (satisfied_ids permit js) h.permits) ∙ e
+module _ (s : Setting) (calls : StoredCalls) (levels : ℕ) (ps : List Policy) where
+  pub run_stands : (mode : ErrorHandling) (r : PartialResponse) → IsRun mode s calls levels ps r → StandsInCompletions mode s calls ps r
+  run_stands mode r is ans w c fit none = (
+    is.rows,
+    subst (IsReordering Row is.rows) (sym (rows_sorted is.rows r is.held)) (sorted_is is.rows),
+    standing.run_stands mode ans calls c.functions_agree w s c.completion c.functions_are_faithful levels ps is.rows _ fit
+        (run_recordable mode s calls levels ps is.rows _ none is.run) is.run,
+  )
 
-decided_by : Bool → Bool → Decision
-decided_by f p = cond f deny (cond p allow deny)
+  pub run_low : (r : PartialResponse) → FunctionsMeetNoLimit calls → s.resolution ≡ shallow → IsRun skip s calls levels ps r → IsDeepEnough s calls levels ps r
+  run_low r no_limit is_shallow is b h sound low conditions enough =
+      run_is_deep s calls no_limit is_shallow b h levels sound low enough ps is.rows (errors_view r.errors.items) conditions is.run
 
-reasoned_by : (js : List Judged) → Bool → List Text
-reasoned_by js f = cond f (satisfied_ids forbid js) (satisfied_ids permit js)
+  pub run_concrete : (p : PartialResponse) (r : Authorized) → IsRun skip s calls levels ps p → r ≡ concretized skip (rows_view p) (errors_view p.errors.items) → IsConcreteRun skip s calls levels ps r
+  run_concrete p r is e = record {
+    rows = is.rows;
+    errors = errors_view p.errors.items;
+    run = is.run;
+    concrete = e ∙ concrete_alike is.rows p is.held (errors_view p.errors.items);
+  }
 
-pub denied_by_forbid : (s : Sheet) (js : List Judged) → has_some_id s.satisfied_forbids.keys ≡ true → Reflects js s → (deny ≡ decision js) × ((t : Text) → has_id s.satisfied_forbids t ≡ has_text t (reasons js))
-unfolding decided_by reasoned_by
-denied_by_forbid s js e h =
-    let f : some_satisfied forbid js ≡ true = some_forbid js s h true e in
-    (sym (ap (λ (b : Bool). decided_by b (some_satisfied permit js)) f), λ t. h.forbids t ∙ sym (ap (λ (b : Bool). has_text t (reasoned_by js b)) f))
+  module _ (r : Authorized) (is : IsConcreteRun skip s calls levels ps r) where
+    known_run : HasNothingUnknown s → (ans : Functions) → AgreesWithFunctions ans calls → HaveKnownConditions ans ps → IsResponse (PolicyRuns s calls levels) ps r
+    known_run known ans agree k =
+        subst (IsResponse (PolicyRuns s calls levels) ps) (sym is.concrete) (run_is_response calls s levels ps is.rows is.errors is.run (run_known s calls levels known ans agree ps is.rows is.errors k is.run))
 
-pub allowed_by_permit : (s : Sheet) (js : List Judged) → has_some_id s.satisfied_forbids.keys ≡ false → has_some_id s.satisfied_permits.keys ≡ true → Reflects js s → (allow ≡ decision js) × ((t : Text) → has_id s.satisfied_permits t ≡ has_text t (reasons js))
-unfolding decided_by reasoned_by
-allowed_by_permit s js e d h =
-    let f : some_satisfied forbid js ≡ false = some_forbid js s h false e in
-    let p : some_satisfied permit js ≡ true = some_permit js s h true d in
-    (sym (ap (λ (b : Bool). decided_by b (some_satisfied permit js)) f ∙ ap (λ (b : Bool). decided_by false b) p), λ t. h.permits t ∙ sym (ap (λ (b : Bool). has_text t (reasoned_by js b)) f))
+    pub known_response : IsKnownResponse s calls ps r
+    known_response known ans agree k sigma none = exactly.response_exact calls ans agree s known sigma levels ps r k (known_run known ans agree k) none
 
-pub denied_by_default : (s : Sheet) (js : List Judged) → has_some_id s.satisfied_forbids.keys ≡ false → has_some_id s.satisfied_permits.keys ≡ false → Reflects js s → (deny ≡ decision js) × ((t : Text) → has_id s.satisfied_permits t ≡ has_text t (reasons js))
-unfolding decided_by reasoned_by
-denied_by_default s js e d h =
-    let f : some_satisfied forbid js ≡ false = some_forbid js s h false e in
-    let p : some_satisfied permit js ≡ false = some_permit js s h false d in
-    (sym (ap (λ (b : Bool). decided_by b (some_satisfied permit js)) f ∙ ap (λ (b : Bool). decided_by false b) p), λ t. h.permits t ∙ sym (ap (λ (b : Bool). has_text t (reasoned_by js b)) f))
-
--- ---- the response
-
-pub responds : (May : Policy → Answer → Type 0) (ps : List Policy) (s : Sheet) (r : Authorized) → IsJudged May ps s → RespondsTo s r → r.errors ≡ sheet_errors s → IsResponse May ps r
-responds May ps s r (js, j, h) to e = (js, subst (JudgesEach May ps js) (sym e) j, (to js h).0, (to js h).1)
-
-module _ (s : Setting) (calls : StoredCalls) (levels : ℕ) (ps : List Policy) (r : Authorized) (is : IsResponse (PolicyRuns s calls levels) ps r) where
-  pub known_response : IsKnownResponse s calls ps r
-  known_response known ans agree k sigma none = exactly.response_exact calls ans agree s known sigma levels ps r k is none
-
-  pub no_limit : MeetsNoLimit s calls levels ps r
-  no_limit known ans agree k low = exactly.low_conditions calls ans agree s known (λ n. plain (bool_literal false)) levels ps r k is low
+    pub no_limit : MeetsNoLimit s calls levels ps r
+    no_limit known ans agree k low = exactly.low_conditions calls ans agree s known (λ n. plain (bool_literal false)) levels ps r k (known_run known ans agree k) low
 
 pub own_world_completes_call : (rq : RequestPart) (st : Store) (x : Extensions) (ps : List Policy) → OwnWorldCompletesCall (authorization_of rq st x) ps
 own_world_completes_call rq st x ps known ans k sigma =

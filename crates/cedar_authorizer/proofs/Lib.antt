@@ -1,2 +1,13 @@
+pub mod Distinct
+pub mod Runs
 pub mod Noting
+pub mod Made
+pub mod Outcomes
 pub mod Deciding
+pub mod Same
+pub mod Left
+pub mod Low
+pub mod Joined
+pub mod Stepped
+pub mod Chaining
+pub mod Limits

@@ -1,158 +1,128 @@
--- A sheet that is filled policy by policy.
-use Rattle.std.specs.Prelude.{◌≡◌, ◌≢◌, Bool, true, false, cond, not, ◌||◌, ◌&&◌, List, [], ◌∷◌, ◌++◌, Result, Ok, Err, OnOk}
+-- A sheet on which the policies are noted one by one, and the response of it.
+use Rattle.std.specs.Prelude.{◌≡◌, ℕ, Bool, List, [], ◌∷◌, ◌++◌, map, None}
 use Rattle.std.proofs.Common.{refl, sym, ap, ◌∙◌, subst, append_assoc}
-use Rattle.std.proofs.lemmas.List.{append-nil}
-use Rattle.std.proofs.lemmas.List.Sorted.{list_any-IsPermutation}
-use Rattle.std.proofs.lemmas.Slice.Eq.{bytes_eq-Decides}
-use Rattle.std.specs.List.{list_any}
-use Rattle.std.specs.HashSet.{PutsKey, contains}
+use Rattle.std.proofs.lemmas.List.{append-nil, map-append}
 use Rattle.cedar_model.specs.Terms.{Text}
-use Rattle.cedar_model.specs.Outcomes.{text_eq, has_text}
-use Rattle.cedar_model.specs.Failures.{Failure, out_of_memory, Answer}
-use Rattle.cedar_model.specs.Policies.{Policy, Effect, permit, forbid, Judged, is_satisfied_by, is_satisfied, satisfied_ids}
-use Rattle.cedar_model.specs.Authorizations.{evaluated, bool_verdict, result_verdict, error_in, judged_by, JudgesEach}
-use Rattle.cedar_model.specs.Responses.{with_error}
-use Rattle.cedar_model.proofs.Decisions.{or_swap}
-use Rattle.cedar_layers.specs.contracts.policies.policy.PolicyIDPartialEq.TheImpl.{eq-value}
+use Rattle.cedar_model.specs.Failures.{Failure}
+use Rattle.cedar_model.specs.Settings.{Setting}
+use Rattle.cedar_model.specs.Rules.{StoredCalls, Runs}
+use Rattle.cedar_model.specs.Policies.{Policy, Effect, permit, forbid, ErrorHandling, skip}
+use Rattle.cedar_model.specs.Responses.{Row, Reported, Decided, decided, reported_of, error_of, counted_report, with_slots, with_error, RunOf}
+use Rattle.cedar_model.specs.Chains.{is_true, is_false, is_residual, rows_of}
+use Rattle.cedar_model.specs.Reports.{ids}
 use Rattle.cedar_layers.specs.declared.policies.policy.PolicyID.{PolicyID}
-use Rattle.cedar_layers.specs.Policies.{policy_id_text}
-use Rattle.cedar_values.specs.declared.evaluator.err.EvaluationError.{EvaluationError}
-use Rattle.cedar_values.specs.Failures.{failure_of}
-use Rattle.cedar_evaluator.specs.Decisions.{DecidesBy}
-use Rattle.cedar_responses.specs.Responses.{PolicyIDs, has_id}
-use Rattle.cedar_authorizer.specs.declared.authorizer.Sheet.{Sheet}
-use Rattle.cedar_authorizer.specs.Sheets.{sheet_errors, Notes, NotesAnswer, NotesError, Reflects, IsJudged}
-
--- ---- ids
-
-already_there : (t : Text) (k : PolicyID) (ks : List PolicyID) (b : Bool) → text_eq t (policy_id_text k) ≡ b → list_any (eq-value.it k) ks ≡ true → list_any (λ (i : PolicyID). text_eq t (policy_id_text i)) ks ≡ (b || list_any (λ (i : PolicyID). text_eq t (policy_id_text i)) ks)
-already_there t k ks true e h =
-    let same : t ≡ policy_id_text k = (bytes_eq-Decides t (policy_id_text k)).0 e in
-    ap (λ (s : Text). list_any (λ (i : PolicyID). text_eq s (policy_id_text i)) ks) same ∙ h
-already_there t k ks false e h = refl
-
-turned : (b c : Bool) → b ≡ not c → b ≡ false → c ≡ true
-turned b true e h = refl
-turned b false e h = absurd (cc)
-
-pub putting : (old new : PolicyIDs) (k : PolicyID) (added : Bool) → added ≡ not (contains eq-value.it old k) → PutsKey old new k added → (t : Text) → has_id new t ≡ (text_eq t (policy_id_text k) || has_id old t)
-putting old new k true e p t =
-    sym (list_any-IsPermutation (λ (i : PolicyID). text_eq t (policy_id_text i)) (k ∷ old.keys) new.keys p)
-putting old new k false e p t =
-    ap (λ (ks : List PolicyID). list_any (λ (i : PolicyID). text_eq t (policy_id_text i)) ks) p
-    ∙ already_there t k old.keys (text_eq t (policy_id_text k)) refl (turned false (contains eq-value.it old k) e refl)
-
-pub under_text : (ids : Text → Bool) (new : Text → Bool) (s u : Text) → s ≡ u → ((t : Text) → new t ≡ (text_eq t s || ids t)) → (t : Text) → new t ≡ (text_eq t u || ids t)
-under_text ids new s u e h t = h t ∙ ap (λ (x : Text). text_eq t x || ids t) e
-
--- ---- one policy is noted
-
-pub nothing_noted : (s : Sheet) (id : Text) (effect : Effect) → Notes s s id effect (Ok false)
-unfolding result_verdict bool_verdict is_satisfied_by with_error error_in
-nothing_noted s id effect = record {
-  permits = λ t. refl;
-  forbids = λ t. refl;
-  errors = sym (append-nil (sheet_errors s));
-}
-
-pub permit_noted : (old new : Sheet) (id : Text) → ((t : Text) → has_id new.satisfied_permits t ≡ (text_eq t id || has_id old.satisfied_permits t)) → new.satisfied_forbids ≡ old.satisfied_forbids → sheet_errors new ≡ sheet_errors old → Notes old new id permit (Ok true)
-unfolding result_verdict bool_verdict is_satisfied_by with_error error_in
-permit_noted old new id h f e = record {
-  permits = h;
-  forbids = λ t. ap (λ (ids : PolicyIDs). has_id ids t) f;
-  errors = e ∙ sym (append-nil (sheet_errors old));
-}
-
-pub forbid_noted : (old new : Sheet) (id : Text) → ((t : Text) → has_id new.satisfied_forbids t ≡ (text_eq t id || has_id old.satisfied_forbids t)) → new.satisfied_permits ≡ old.satisfied_permits → sheet_errors new ≡ sheet_errors old → Notes old new id forbid (Ok true)
-unfolding result_verdict bool_verdict is_satisfied_by with_error error_in
-forbid_noted old new id h f e = record {
-  permits = λ t. ap (λ (ids : PolicyIDs). has_id ids t) f;
-  forbids = h;
-  errors = e ∙ sym (append-nil (sheet_errors old));
-}
-
-error_noted : (old new : Sheet) (id : Text) (effect : Effect) (e : Failure) → NotesError old new id e → Notes old new id effect (Err e)
-unfolding result_verdict is_satisfied_by with_error error_in
-error_noted old new id effect e n = record {
-  permits = λ t. ap (λ (ids : PolicyIDs). has_id ids t) n.permits;
-  forbids = λ t. ap (λ (ids : PolicyIDs). has_id ids t) n.forbids;
-  errors = n.errors;
-}
-
-pub decided_noted : (May : Answer → Type 0) (old new : Sheet) (id : Text) (effect : Effect) (b : Bool) → DecidesBy May (Ok b) → Notes old new id effect (Ok b) → NotesAnswer May old new id effect
-decided_noted May old new id effect b d n =
-    let z = d (λ e. cc) in (z.0, z.1, subst (Notes old new id effect) z.2 n)
-
-pub erred_noted : (May : Answer → Type 0) (old new : Sheet) (id : Text) (effect : Effect) (e : EvaluationError) → DecidesBy May (Err e) → failure_of e ≢ out_of_memory → NotesError old new id (failure_of e) → NotesAnswer May old new id effect
-erred_noted May old new id effect e d ok n =
-    let z = d (λ m. let f : failure_of e ≡ out_of_memory = cc in ok f) in
-    (z.0, z.1, subst (Notes old new id effect) z.2 (error_noted old new id effect (failure_of e) n))
-
--- ---- one policy more
-
-one_id : (t id : Text) (b : Bool) → has_text t (cond b (id ∷ []) []) ≡ ((b && text_eq t id) || false)
-unfolding has_text
-one_id t id true = refl
-one_id t id false = refl
-
-one_id_more : (t id : Text) (b x : Bool) (xs ys : List Text) → has_text t ys ≡ (x || has_text t xs) → has_text t (cond b (id ∷ ys) ys) ≡ (x || has_text t (cond b (id ∷ xs) xs))
-unfolding has_text
-one_id_more t id true x xs ys h = ap (λ (z : Bool). text_eq t id || z) h ∙ or_swap (text_eq t id) x (has_text t xs)
-one_id_more t id false x xs ys h = h
-
-ids_more : (e : Effect) (t : Text) (js : List Judged) (j : Judged) → has_text t (satisfied_ids e (js ++ j ∷ [])) ≡ ((is_satisfied e j && text_eq t j.id) || has_text t (satisfied_ids e js))
-unfolding satisfied_ids has_text
-ids_more e t [] j = one_id t j.id (is_satisfied e j)
-ids_more e t (k ∷ js) j =
-    one_id_more t k.id (is_satisfied e k) (is_satisfied e j && text_eq t j.id) (satisfied_ids e js) (satisfied_ids e (js ++ j ∷ [])) (ids_more e t js j)
-
-reflects_more : (js : List Judged) (old new : Sheet) (p : Policy) (r : Result Bool Failure) → Reflects js old → Notes old new p.id p.effect r → Reflects (js ++ judged_by p r ∷ []) new
-reflects_more js old new p r h n = record {
-  permits = λ t. n.permits t ∙ ap (λ (z : Bool). (is_satisfied_by permit (result_verdict r) p.effect && text_eq t p.id) || z) (h.permits t) ∙ sym (ids_more permit t js (judged_by p r));
-  forbids = λ t. n.forbids t ∙ ap (λ (z : Bool). (is_satisfied_by forbid (result_verdict r) p.effect && text_eq t p.id) || z) (h.forbids t) ∙ sym (ids_more forbid t js (judged_by p r));
-}
-
-with_error_more : (id : Text) (r : Result Bool Failure) (es fs : List (Text × Failure)) → with_error id (error_in r) es ++ fs ≡ with_error id (error_in r) (es ++ fs)
-unfolding with_error error_in
-with_error_more id (Ok b) es fs = refl
-with_error_more id (Err e) es fs = refl
-
-judges_more : (May : Policy → Answer → Type 0) (ps : List Policy) (js : List Judged) (es : List (Text × Failure)) (p : Policy) (a : Answer) → JudgesEach May ps js es → May p a → JudgesEach May (ps ++ p ∷ []) (js ++ judged_by p (evaluated a) ∷ []) (es ++ with_error p.id (error_in (evaluated a)) [])
-judges_more May [] js es p a (e, f) m =
-    (a, [], [], m, (refl, refl), ap (λ (l : List Judged). l ++ judged_by p (evaluated a) ∷ []) e, ap (λ (l : List (Text × Failure)). l ++ with_error p.id (error_in (evaluated a)) []) f)
-judges_more May (q ∷ ps) js es p a (b, rest, later, n, j, e, f) m =
-    (b, rest ++ judged_by p (evaluated a) ∷ [], later ++ with_error p.id (error_in (evaluated a)) [], n, judges_more May ps rest later p a j m, ap (λ (l : List Judged). l ++ judged_by p (evaluated a) ∷ []) e, ap (λ (l : List (Text × Failure)). l ++ with_error p.id (error_in (evaluated a)) []) f ∙ with_error_more q.id (evaluated b) later (with_error p.id (error_in (evaluated a)) []))
+use Rattle.cedar_layers.specs.Policies.{PolicyView, policy_id_text, condition_term, decides_as, policy_ids, first_repeated}
+use Rattle.cedar_layers.specs.declared.policies.policy_set.PolicySet.{PolicySet}
+use Rattle.cedar_layers.specs.PolicySets.{policies_view}
+use Rattle.cedar_responses.specs.declared.partial_response.PartialResponse.{PartialResponse}
+use Rattle.cedar_responses.specs.declared.sheet.Outcome.{Outcome}
+use Rattle.cedar_responses.specs.declared.sheet.Sheet.{Sheet}
+use Rattle.cedar_responses.specs.Kept.{kept}
+use Rattle.cedar_responses.specs.Responses.{errors_view}
+use Rattle.cedar_responses.specs.Rows.{Located, located_true, located_false, located_residual, rows_in, located_of}
+use Rattle.cedar_responses.specs.Sheets.{Noted, outcome_view, placed_row, sheet_view, sorted, nothing_noted, noted_also}
+use Rattle.cedar_responses.proofs.Noted.{sorted_none, sorted_more}
+use Rattle.cedar_responses.proofs.Rows.{rows_of_located}
+use Rattle.cedar_authorizer.specs.Responding.{deciding}
+use Rattle.cedar_authorizer.specs.Running.{HoldsRows, IsRun, ComesOutBy, IsNotedRun, KeepsSheet}
+use Rattle.cedar_authorizer.proofs.Distinct.{located_ids, picked_distinct, pair_ids, kept_whole}
+use Rattle.cedar_authorizer.proofs.Runs.{run_more, run_ids}
 
 -- ---- the loop
 
--- the policies before those that are left are judged
-abbrev pub IsJudgedSoFar : (Policy → Answer → Type 0) → List Policy → Sheet → List Policy → Type 0
-IsJudgedSoFar May all s left = (done : List Policy) × IsJudged May done s × (all ≡ done ++ left)
+-- the policies before those that are left are noted
+pub record IsNotedSoFar (s : Setting) (calls : StoredCalls) (levels : ℕ) (all : List Policy) (sheet : Sheet) (left : List Policy) : Type 0 where
+  pub done : List Policy
+  pub run : IsNotedRun skip s calls levels done sheet
+  pub same : all ≡ done ++ left
 
-pub judged_none : (May : Policy → Answer → Type 0) (all : List Policy) (s : Sheet) (left : List Policy) → Reflects [] s → sheet_errors s ≡ [] → all ≡ left → IsJudgedSoFar May all s left
-judged_none May all s left h e same = ([], ([], (refl, e), h), same)
+module _ (s : Setting) (calls : StoredCalls) (levels : ℕ) where
+  pub noted_none : (all : List Policy) (sheet : Sheet) (left : List Policy) → sheet_view sheet ≡ nothing_noted → all ≡ left → IsNotedSoFar s calls levels all sheet left
+  noted_none all sheet left e same = record {
+    done = [];
+    run = record { located = []; errors = []; run = (refl, refl); noted = e ∙ sym sorted_none };
+    same = same;
+  }
 
-pub judged_more : (May : Policy → Answer → Type 0) (all : List Policy) (old new : Sheet) (p : Policy) (rest left : List Policy) → left ≡ p ∷ rest → IsJudgedSoFar May all old left → NotesAnswer (May p) old new p.id p.effect → IsJudgedSoFar May all new rest
-judged_more May all old new p rest left e (done, (js, j, h), same) (a, m, n) =
-    (done ++ p ∷ [], (js ++ judged_by p (evaluated a) ∷ [], subst (JudgesEach May (done ++ p ∷ []) (js ++ judged_by p (evaluated a) ∷ [])) (sym n.errors) (judges_more May done js (sheet_errors old) p a j m), reflects_more js old new p (evaluated a) h n), same ∙ ap (λ (l : List Policy). done ++ l) e ∙ sym (append_assoc done (p ∷ []) rest))
+  row_for : PolicyView → Decided → Row
+  row_for p d = record { id = p.id; effect = p.effect; annotations = p.annotations; reported = reported_of d }
 
-pub judged_all : (May : Policy → Answer → Type 0) (all : List Policy) (s : Sheet) (left : List Policy) → left ≡ [] → IsJudgedSoFar May all s left → IsJudged May all s
-judged_all May all s left e (done, j, same) =
-    subst (λ (l : List Policy). IsJudged May l s) (sym (same ∙ ap (λ (l : List Policy). done ++ l) e ∙ append-nil done)) j
+  pub noted_run : (done : List Policy) (old new : Sheet) (p : PolicyView) (o : Outcome) → IsNotedRun skip s calls levels done old → ComesOutBy (λ a. Runs (with_slots s p.slots) calls levels (condition_term p) a) (outcome_view o) → sheet_view new ≡ noted_also (sheet_view old) (placed_row p o) (error_of (outcome_view o)) → IsNotedRun skip s calls levels (done ++ decides_as p ∷ []) new
+  unfolding counted_report row_for
+  noted_run done old new p o before (a, runs, found, out) placed =
+      let ls = before.located in
+      let errors = before.errors in
+      let l = placed_row p o in
+      let e = error_of (outcome_view o) in
+      let more : RunOf skip s calls levels (done ++ decides_as p ∷ []) (rows_in ls ++ row_for p (decided a) ∷ []) (errors ++ with_error p.id (error_of (decided a)) []) =
+      run_more skip s calls levels done (rows_in ls) errors (decides_as p) a before.run runs found in
+      let noted : RunOf skip s calls levels (done ++ decides_as p ∷ []) (rows_in ls ++ l.row ∷ []) (errors ++ with_error p.id e []) =
+      subst (λ (d : Decided). RunOf skip s calls levels (done ++ decides_as p ∷ []) (rows_in ls ++ row_for p d ∷ []) (errors ++ with_error p.id (error_of d) [])) (sym out) more in
+      record {
+        located = ls ++ l ∷ [];
+        errors = errors ++ with_error p.id e [];
+        run = subst (λ (rows : List Row). RunOf skip s calls levels (done ++ decides_as p ∷ []) rows (errors ++ with_error p.id e [])) (sym (map-append (λ (x : Located). x.row) ls (l ∷ []))) noted;
+        noted = placed ∙ ap (λ (n : Noted). noted_also n l e) before.noted ∙ sym (sorted_more ls errors l e);
+      }
 
-pub reflects_none : (s : Sheet) → s.satisfied_permits.keys ≡ [] → s.satisfied_forbids.keys ≡ [] → Reflects [] s
-unfolding satisfied_ids has_text
-reflects_none s p f = record {
-  permits = λ t. ap (λ (ks : List PolicyID). list_any (λ (i : PolicyID). text_eq t (policy_id_text i)) ks) p;
-  forbids = λ t. ap (λ (ks : List PolicyID). list_any (λ (i : PolicyID). text_eq t (policy_id_text i)) ks) f;
-}
+  pub noted_more : (all : List Policy) (old new : Sheet) (p : PolicyView) (o : Outcome) (rest left : List Policy) → left ≡ decides_as p ∷ rest → IsNotedSoFar s calls levels all old left → ComesOutBy (λ a. Runs (with_slots s p.slots) calls levels (condition_term p) a) (outcome_view o) → sheet_view new ≡ noted_also (sheet_view old) (placed_row p o) (error_of (outcome_view o)) → IsNotedSoFar s calls levels all new rest
+  noted_more all old new p o rest left e before out placed = record {
+    done = before.done ++ decides_as p ∷ [];
+    run = noted_run before.done old new p o before.run out placed;
+    same = before.same ∙ ap (λ (l : List Policy). before.done ++ l) e ∙ sym (append_assoc before.done (decides_as p ∷ []) rest);
+  }
 
--- ---- where a call succeeds
+  pub noted_all : (all : List Policy) (sheet : Sheet) (left : List Policy) → left ≡ [] → IsNotedSoFar s calls levels all sheet left → IsNotedRun skip s calls levels all sheet
+  noted_all all sheet left e before =
+      subst (λ (l : List Policy). IsNotedRun skip s calls levels l sheet) (sym (before.same ∙ ap (λ (l : List Policy). before.done ++ l) e ∙ append-nil before.done)) before.run
 
-pub on_ok : {A E : Type 0} (P Q : Type 0) (r : Result A E) → (P → Q) → OnOk r P → OnOk r Q
-on_ok P Q (Ok x) f h = f h
-on_ok P Q (Err e) f h = tt
+-- a run in a setting, by functions and with levels that are the same
+pub noted_alike : (s z : Setting) (calls answers : StoredCalls) (levels limit : ℕ) (ps : List Policy) (sheet : Sheet) → s ≡ z → calls ≡ answers → levels ≡ limit → IsNotedRun skip s calls levels ps sheet → IsNotedRun skip z answers limit ps sheet
+noted_alike s z calls answers levels limit ps sheet e f n run =
+    subst (λ q. IsNotedRun skip z answers q ps sheet) n (subst (λ q. IsNotedRun skip z q levels ps sheet) f (subst (λ q. IsNotedRun skip q calls levels ps sheet) e run))
 
-pub on_ok_both : {A E : Type 0} (P Q R : Type 0) (r : Result A E) → (P → Q → R) → OnOk r P → OnOk r Q → OnOk r R
-on_ok_both P Q R (Ok x) f h g = f h g
-on_ok_both P Q R (Err e) f h g = tt
+-- ---- the response
+
+ids_of_entries : {V : Type 0} (f : PolicyID × V → Located) → ((e : PolicyID × V) → (f e).row.id ≡ policy_id_text e.0) → (es : List (PolicyID × V)) → pair_ids es ≡ located_ids (map f es)
+ids_of_entries f h [] = refl
+ids_of_entries f h (e ∷ es) = λ i. sym (h e) i ∷ ids_of_entries f h es i
+
+rows_located : (ls : List Located) → located_ids ls ≡ ids (rows_in ls)
+rows_located [] = refl
+rows_located (l ∷ ls) = ap (λ (ts : List Text). l.row.id ∷ ts) (rows_located ls)
+
+module _ (ls : List Located) (distinct : first_repeated (located_ids ls) ≡ None) where
+  held : {V : Type 0} (effect : Effect) (such : Reported → Bool) (f : PolicyID × V → Located) → ((e : PolicyID × V) → (f e).row.id ≡ policy_id_text e.0) → (items entries : List (PolicyID × V)) → entries ≡ kept items → map f items ≡ located_of effect such ls → rows_in (map f entries) ≡ rows_of effect such (rows_in ls)
+  held effect such f h items entries keeps on =
+      let apart : first_repeated (pair_ids items) ≡ None =
+      ap first_repeated (ids_of_entries f h items ∙ ap located_ids on) ∙ picked_distinct effect such ls distinct in
+      ap (λ (es : List (PolicyID × _)). rows_in (map f es)) (keeps ∙ kept_whole items apart)
+      ∙ ap rows_in on
+      ∙ sym (rows_of_located effect such ls)
+
+  pub holds_rows : (sheet : Sheet) (r : PartialResponse) (errors : List (Text × Failure)) → KeepsSheet sheet r → sheet_view sheet ≡ sorted ls errors → HoldsRows (rows_in ls) r
+  holds_rows sheet r errors k on = record {
+    true_permits = held permit is_true (located_true permit) (λ e. refl) _ _ k.true_permits (ap (λ (n : Noted). n.true_permits) on);
+    false_permits = held permit is_false (located_false permit) (λ e. refl) _ _ k.false_permits (ap (λ (n : Noted). n.false_permits) on);
+    residual_permits = held permit is_residual (located_residual permit) (λ e. refl) _ _ k.residual_permits (ap (λ (n : Noted). n.residual_permits) on);
+    true_forbids = held forbid is_true (located_true forbid) (λ e. refl) _ _ k.true_forbids (ap (λ (n : Noted). n.true_forbids) on);
+    false_forbids = held forbid is_false (located_false forbid) (λ e. refl) _ _ k.false_forbids (ap (λ (n : Noted). n.false_forbids) on);
+    residual_forbids = held forbid is_residual (located_residual forbid) (λ e. refl) _ _ k.residual_forbids (ap (λ (n : Noted). n.residual_forbids) on);
+  }
+
+ids_deciding : (ps : List PolicyView) → map (λ (p : Policy). p.id) (map decides_as ps) ≡ policy_ids ps
+ids_deciding [] = refl
+ids_deciding (p ∷ ps) = ap (λ (ts : List Text). p.id ∷ ts) (ids_deciding ps)
+
+-- what a response keeps of the run of a set on a sheet is that run
+pub is_run : (mode : ErrorHandling) (s : Setting) (calls : StoredCalls) (levels : ℕ) (policies : PolicySet) (sheet : Sheet) (r : PartialResponse) → IsNotedRun mode s calls levels (deciding policies) sheet → KeepsSheet sheet r → IsRun mode s calls levels (deciding policies) r
+is_run mode s calls levels policies sheet r on k =
+    let ls = on.located in
+    let apart : first_repeated (located_ids ls) ≡ None =
+    ap first_repeated (rows_located ls ∙ run_ids mode s calls levels (deciding policies) (rows_in ls) on.errors on.run ∙ ids_deciding (policies_view policies)) ∙ policies.distinct in
+    let same : errors_view r.errors.items ≡ on.errors = ap errors_view k.errors ∙ ap (λ (n : Noted). n.errors) on.noted in
+    record {
+      rows = rows_in ls;
+      run = subst (RunOf mode s calls levels (deciding policies) (rows_in ls)) (sym same) on.run;
+      held = holds_rows ls apart sheet r on.errors k on.noted;
+    }

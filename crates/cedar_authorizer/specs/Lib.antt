@@ -1,3 +1,5 @@
 pub mod Responding
-pub mod Sheets
+pub mod Running
 pub mod Stability
+pub mod Steps
+pub mod Headline

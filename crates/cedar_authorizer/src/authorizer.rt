@@ -1,33 +1,61 @@
 //! The authorizer.
-ghost use Rattle.std.specs.Prelude.{◌≡◌, ◌≢◌, ◌||◌, true, false, IfOk, OnOk};
-ghost use Rattle.cedar_model.specs.Outcomes.{text_eq};
+ghost use Rattle.std.specs.Prelude.{◌≡◌, ◌≢◌, true, false, IfOk, IfSome};
+ghost use Rattle.cedar_model.specs.Agreement.{no_slots};
 ghost use Rattle.cedar_model.specs.Failures.{out_of_memory};
-ghost use Rattle.cedar_model.specs.AuthorizationLaws.{PolicyRuns};
+ghost use Rattle.cedar_model.specs.Policies.{skip};
+ghost use Rattle.cedar_model.specs.Responses.{errs_with};
 ghost use Rattle.cedar_extensions.specs.Extensions.{extensions_view, calls_of};
-ghost use Rattle.cedar_layers.specs.Policies.{effect_view, policy_id_text, policy_view, condition_term};
+ghost use Rattle.cedar_layers.specs.Policies.{policy_view, condition_term};
 ghost use Rattle.cedar_layers.specs.Stores.{store_view};
 ghost use Rattle.cedar_values.specs.Failures.{failure_of};
 ghost use Rattle.cedar_requests.specs.Requests.{request_view};
 ghost use Rattle.cedar_evaluation.specs.Promises.{IsPromised};
 ghost use Rattle.cedar_evaluator.specs.Evaluations.{setting_of, calls_in, limit_of};
-ghost use Rattle.cedar_responses.specs.Responses.{has_id, response_view};
-ghost use Rattle.cedar_authorizer.specs.Sheets.{has_some_id, IsJudged};
+ghost use Rattle.cedar_responses.specs.Responses.{response_view};
+ghost use Rattle.cedar_responses.specs.Sheets.{outcome_view};
 ghost use Rattle.cedar_authorizer.specs.Responding.{deciding, authorization_of};
+ghost use Rattle.cedar_authorizer.specs.Running.{IsRun, StandsInCompletions, IsDeepEnough, IsConcreteRun, ComesOutBy, IsNotedRun, KeepsSheet};
 
+use cedar_data::Value;
 use cedar_evaluator::evaluator::{EvaluationError, Evaluator};
 use cedar_evaluator::request::Request;
 use cedar_extensions::Extensions;
-use cedar_layers::policies::{Effect, Entities, Policy, PolicyID, PolicySet};
-pub use cedar_responses::{AuthorizationError, Decision, Diagnostics, Response};
+use cedar_layers::policies::{Entities, Policy, PolicyID, PolicySet};
+pub use cedar_reauthorization::{ConcretizationError, ReauthorizationError};
+use cedar_responses::shared::{Outcome, Sheet};
+pub use cedar_responses::{
+    AuthorizationError, Decision, Diagnostics, ErrorState, PartialResponse, ReportedIds,
+    ReportedPolicies, Response,
+};
 use cedar_values::extensions::ExtensionFunctionLookupError;
+use either::{Left, Right};
 use std::alloc::{AllocError, Global};
-use std::collections::HashSet;
+use std::collections::{HashMap, HashSet};
+use std::rc::{Rc, RcStr};
+pub use steps::Reauthorize;
+use steps::has_recursion_limit;
 
 pub mod laws;
+mod steps;
 
 /// Why a policy was skipped.
 pub mod err {
     pub use cedar_responses::AuthorizationError;
+}
+
+/// How policies came out, effect by effect, as plain data.
+#[derive(Drop)]
+pub struct EvaluationResponse {
+    /// The permits that are satisfied.
+    pub satisfied_permits: HashSet<PolicyID>,
+    /// The forbids that are satisfied.
+    pub satisfied_forbids: HashSet<PolicyID>,
+    /// The error of each policy that erred.
+    pub errors: Vec<AuthorizationError>,
+    /// The permits of which a residual is left.
+    pub permit_residuals: PolicySet,
+    /// The forbids of which a residual is left.
+    pub forbid_residuals: PolicySet,
 }
 
 /// Decides requests, with these extensions and within so many levels of evaluation.
@@ -38,8 +66,10 @@ pub struct Authorizer<'x, 'f> {
 }
 
 impl<'x, 'f> Authorizer<'x, 'f> {
-    ghost use Rattle.cedar_model.specs.Authorizations.{IsResponse};
+    ghost use Rattle.cedar_reauthorization.specs.Errors.{step_answer_by};
+    ghost use Rattle.cedar_responses.specs.declared.partial_response.PartialResponse.{PartialResponse};
     ghost use Rattle.cedar_authorizer.specs.Responding.{IsKnownResponse, MeetsNoLimit, OwnWorldCompletesCall};
+    ghost use Rattle.cedar_authorizer.specs.Headline.{steps_view, IsChain, IsHeadline, LeavesNothing};
 
     /// The authorizer that uses these extensions. A condition that is nested more than `limit` levels deep counts as erring, with
     /// `RecursionLimit`.
@@ -51,7 +81,7 @@ impl<'x, 'f> Authorizer<'x, 'f> {
 
     /// What the policies decide for the request over this store: a satisfied forbid denies, else a satisfied permit allows, else it
     /// is denied. A policy that errs is skipped, and its error is recorded; so is one of whose condition something is left, with
-    /// `NonValue`. Refuses only for want of memory.
+    /// `NonValue`. It is what `is_authorized_core` answers, made concrete. Refuses only for want of memory.
     pub fn is_authorized(
         &self,
         alloc: Global,
@@ -59,137 +89,150 @@ impl<'x, 'f> Authorizer<'x, 'f> {
         policies: &PolicySet,
         entities: &Entities,
     ) -> Result<Response, AllocError>
-        ensures response { IfOk result (λ r. IsResponse (PolicyRuns (authorization_of (request_view request) (store_view entities.now) (extensions_view self.now.extensions.now)) (calls_of self.now.extensions.now) self.now.limit) (deciding policies.now) (response_view r)) }
+        ensures response { IfOk result (λ r. IsConcreteRun skip (authorization_of (request_view request) (store_view entities.now) (extensions_view self.now.extensions.now)) (calls_of self.now.extensions.now) self.now.limit (deciding policies.now) (response_view r)) }
         ensures known { IfOk result (λ r. IsKnownResponse (authorization_of (request_view request) (store_view entities.now) (extensions_view self.now.extensions.now)) (calls_of self.now.extensions.now) (deciding policies.now) (response_view r)) }
         ensures limit { IfOk result (λ r. MeetsNoLimit (authorization_of (request_view request) (store_view entities.now) (extensions_view self.now.extensions.now)) (calls_of self.now.extensions.now) self.now.limit (deciding policies.now) (response_view r)) }
         ensures own_world { OwnWorldCompletesCall (authorization_of (request_view request) (store_view entities.now) (extensions_view self.now.extensions.now)) (deciding policies.now) }
     {
-        let sheet = judge_all(
+        let response = self.is_authorized_core(alloc, request, policies, entities)?;
+        response.concretize(alloc)
+    }
+
+    /// What is known of each policy for the request over this store: whether it is satisfied, or what is left of its condition. A
+    /// policy that errs is false with `ErrorState::Error`, and its error is recorded, the recursion limit included. In every
+    /// completion of the request and the store what is reported stands, if no recursion limit is recorded. Refuses only for want
+    /// of memory.
+    pub fn is_authorized_core(
+        &self,
+        alloc: Global,
+        request: Request,
+        policies: &PolicySet,
+        entities: &Entities,
+    ) -> Result<PartialResponse, AllocError>
+        ensures run { IfOk result (λ r. IsRun skip (authorization_of (request_view request) (store_view entities.now) (extensions_view self.now.extensions.now)) (calls_of self.now.extensions.now) self.now.limit (deciding policies.now) r) }
+        ensures stands { IfOk result (λ r. StandsInCompletions skip (authorization_of (request_view request) (store_view entities.now) (extensions_view self.now.extensions.now)) (calls_of self.now.extensions.now) (deciding policies.now) r) }
+        ensures deep_enough { IfOk result (λ r. IsDeepEnough (authorization_of (request_view request) (store_view entities.now) (extensions_view self.now.extensions.now)) (calls_of self.now.extensions.now) self.now.limit (deciding policies.now) r) }
+        ensures request { IfOk result (λ r. r.request.value ≡ request) }
+    {
+        let sheet = first_sheet(
             alloc,
-            request,
+            &request,
             policies,
             entities,
             self.extensions,
             self.limit,
         )?;
-        Ok(sheet.into_response())
+        response_of(alloc, sheet, Rc::new(alloc, request)?)
+    }
+
+    /// The core call, and then one `reauthorize` a step, each with the step's map of values for unknowns and its store. Where the
+    /// errors of a response hold the recursion limit, that response is the answer, and no step after it is taken: the limit can
+    /// stand for a forbid that errs, which a further step would carry on as false. Refuses as the first step that is refused,
+    /// or for want of memory.
+    pub fn authorize_in_steps(
+        &self,
+        alloc: Global,
+        request: Request,
+        policies: &PolicySet,
+        entities: &Entities,
+        steps: &[(&HashMap<RcStr, Value>, &Entities)],
+    ) -> Result<PartialResponse, ReauthorizationError>
+        ensures chain { IfSome (step_answer_by (λ (r : PartialResponse). r) result) (IsChain (authorization_of (request_view request) (store_view entities.now) (extensions_view self.now.extensions.now)) (calls_of self.now.extensions.now) (deciding policies.now) (steps_view steps.now) self.now.limit) }
+        ensures headline { IfOk result (IsHeadline (authorization_of (request_view request) (store_view entities.now) (extensions_view self.now.extensions.now)) (calls_of self.now.extensions.now) (deciding policies.now) (steps_view steps.now)) }
+        ensures known { IfOk result (LeavesNothing (authorization_of (request_view request) (store_view entities.now) (extensions_view self.now.extensions.now)) (calls_of self.now.extensions.now) (deciding policies.now) (steps_view steps.now)) }
+    {
+        let mut response = self.is_authorized_core(alloc, request, policies, entities)?;
+        'steps: for step in steps {
+            if has_recursion_limit(&response) {
+                return Ok(response);
+            }
+            let (map, store) = step;
+            match response.reauthorize(alloc, map, self, store) {
+                Ok(next) => response = next,
+                Err(error) => return Err(error),
+            }
+        }
+        Ok(response)
     }
 }
 
-// How each policy comes out, in their order.
-fn judge_all(
+// How each policy comes out, in their order, where no unknown has a value.
+fn first_sheet(
     alloc: Global,
-    request: Request,
+    request: &Request,
     policies: &PolicySet,
     entities: &Entities,
     extensions: &Extensions<'_>,
     limit: usize,
 ) -> Result<Sheet, AllocError>
-    ensures { IfOk result (λ s. IsJudged (PolicyRuns (authorization_of (request_view request) (store_view entities.now) (extensions_view extensions.now)) (calls_of extensions.now) limit) (deciding policies.now) s) }
+    ensures { IfOk result (λ s. IsNotedRun skip (authorization_of (request_view request.now) (store_view entities.now) (extensions_view extensions.now)) (calls_of extensions.now) limit (deciding policies.now) s) }
 {
-    let evaluator = Evaluator::new(alloc, request, entities, extensions, limit)?;
+    let evaluator = Evaluator::new(alloc, request.clone()?, entities, extensions, limit)?;
+    run_all(alloc, &evaluator, policies)
+}
+
+// How each policy comes out by this evaluator, in their order.
+fn run_all(
+    alloc: Global,
+    evaluator: &Evaluator<'_, '_>,
+    policies: &PolicySet,
+) -> Result<Sheet, AllocError>
+    ensures { IfOk result (λ s. IsNotedRun skip (setting_of evaluator.now no_slots) (calls_in evaluator.now) (limit_of evaluator.now) (deciding policies.now) s) }
+{
     let mut sheet = Sheet::new(alloc);
     'policies: for policy in policies.policies() {
-        sheet.judge(alloc, &evaluator, policy)?;
+        let outcome = outcome_of(alloc, evaluator, policy)?;
+        sheet.place(policy, outcome)?;
     }
     Ok(sheet)
 }
 
-// The satisfied policies and the errors so far.
-#[derive(Drop)]
-struct Sheet {
-    satisfied_permits: HashSet<PolicyID>,
-    satisfied_forbids: HashSet<PolicyID>,
-    errors: Vec<AuthorizationError>,
-}
-
-impl Sheet {
-    ghost use Rattle.std.specs.Prelude.{[], Ok};
-    ghost use Rattle.cedar_authorizer.specs.Sheets.{sheet_errors, Notes, NotesAnswer, NotesError, Reflects, RespondsTo};
-
-    fn new(alloc: Global) -> Sheet
-        ensures reflects { Reflects [] result }
-        ensures errors { sheet_errors result ≡ [] }
-    {
-        Sheet {
-            satisfied_permits: HashSet::new(alloc),
-            satisfied_forbids: HashSet::new(alloc),
-            errors: Vec::new(alloc),
-        }
-    }
-
-    // Evaluates the policy and notes how it came out.
-    fn judge(
-        &mut self,
-        alloc: Global,
-        evaluator: &Evaluator<'_, '_>,
-        policy: &Policy,
-    ) -> Result<(), AllocError>
-        ensures { OnOk result (NotesAnswer (IsPromised (setting_of evaluator.now (policy_view policy.now).slots) (calls_in evaluator.now) (limit_of evaluator.now) (condition_term (policy_view policy.now))) self.old self.new (policy_view policy.now).id (policy_view policy.now).effect) }
-    {
-        match evaluator.evaluate(alloc, policy) {
-            Ok(true) => self.note_satisfied(policy.effect(), policy.id()),
-            Ok(false) => Ok(()),
-            Err(error) => self.note_error(policy.id(), error),
-        }
-    }
-
-    fn note_satisfied(&mut self, effect: Effect, id: &PolicyID) -> Result<(), AllocError>
-        ensures { OnOk result (Notes self.old self.new (policy_id_text id.now) (effect_view effect) (Ok true)) }
-    {
-        match effect {
-            Effect::Permit => put(&mut self.satisfied_permits, id),
-            Effect::Forbid => put(&mut self.satisfied_forbids, id),
-        }
-    }
-
-    // Want of memory is never recorded.
-    fn note_error(&mut self, id: &PolicyID, error: EvaluationError) -> Result<(), AllocError>
-        ensures memory { OnOk result (failure_of error ≢ out_of_memory) }
-        ensures noted { OnOk result (NotesError self.old self.new (policy_id_text id.now) (failure_of error)) }
-    {
-        if is_want_of_memory(&error) {
-            return Err(AllocError);
-        }
-        self.errors.push(AuthorizationError::PolicyEvaluationError {
-            id: id.clone()?,
-            error,
-        })?;
-        Ok(())
-    }
-
-    fn into_response(self) -> Response
-        ensures responds { RespondsTo self (response_view result) }
-        ensures errors { (response_view result).errors ≡ sheet_errors self }
-    {
-        let Sheet {
-            satisfied_permits,
-            satisfied_forbids,
-            errors,
-        } = self;
-        if has_some(&satisfied_forbids) {
-            Response::new(Decision::Deny, satisfied_forbids, errors)
-        } else if has_some(&satisfied_permits) {
-            Response::new(Decision::Allow, satisfied_permits, errors)
-        } else {
-            Response::new(Decision::Deny, satisfied_permits, errors)
-        }
-    }
-}
-
-fn has_some(ids: &HashSet<PolicyID>) -> bool
-    ensures { result ≡ has_some_id ids.now.keys }
+// How the policy's condition comes out. Want of memory is no outcome.
+fn outcome_of(
+    alloc: Global,
+    evaluator: &Evaluator<'_, '_>,
+    policy: &Policy,
+) -> Result<Outcome, AllocError>
+    ensures { IfOk result (λ o. ComesOutBy (IsPromised (setting_of evaluator.now (policy_view policy.now).slots) (calls_in evaluator.now) (limit_of evaluator.now) (condition_term (policy_view policy.now))) (outcome_view o)) }
 {
-    !ids.is_empty()
+    match evaluator.partial_evaluate(alloc, policy) {
+        Ok(Left(is_true)) => Ok(Outcome::Decided(is_true)),
+        Ok(Right(residual)) => Ok(Outcome::Residual(Rc::new(alloc, residual)?)),
+        Err(error) => failed(error),
+    }
 }
 
-// Puts the id among these.
-fn put(ids: &mut HashSet<PolicyID>, id: &PolicyID) -> Result<(), AllocError>
-    ensures { OnOk result ((t : _) → has_id ids.new t ≡ (text_eq t (policy_id_text id.now) || has_id ids.old t)) }
+// Want of memory is never recorded.
+fn failed(error: EvaluationError) -> Result<Outcome, AllocError>
+    ensures memory { IfOk result (λ o. failure_of error ≢ out_of_memory) }
+    ensures outcome { IfOk result (λ o. outcome_view o ≡ errs_with (failure_of error)) }
 {
-    let id = id.clone()?;
-    ids.insert(id)?;
-    Ok(())
+    if is_want_of_memory(&error) {
+        return Err(AllocError);
+    }
+    Ok(Outcome::Failed(error))
+}
+
+// The response of what is noted.
+fn response_of(
+    alloc: Global,
+    sheet: Sheet,
+    request: Rc<Request>,
+) -> Result<PartialResponse, AllocError>
+    ensures kept { IfOk result (λ r. KeepsSheet sheet r) }
+    ensures request { IfOk result (λ r. r.request ≡ request) }
+{
+    PartialResponse::new(
+        alloc,
+        sheet.true_permits.into_iter(),
+        sheet.false_permits.into_iter(),
+        sheet.residual_permits.into_iter(),
+        sheet.true_forbids.into_iter(),
+        sheet.false_forbids.into_iter(),
+        sheet.residual_forbids.into_iter(),
+        sheet.errors.into_iter(),
+        request,
+    )
 }
 
 fn is_want_of_memory(error: &EvaluationError) -> bool

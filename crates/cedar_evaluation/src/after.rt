@@ -11,10 +11,10 @@ ghost use Rattle.cedar_values.specs.Failures.{failure_of};
 ghost use Rattle.cedar_evaluation.specs.Settings.{setting_of, calls_in};
 ghost use Rattle.cedar_evaluation.specs.Tasks.{GoesOn};
 
+use crate::answers::passed_on;
 use crate::evaluation::Evaluation;
 use crate::failed::Failed;
 use crate::frame::{Next, Pending};
-use crate::stopped::Stopped;
 use cedar_data::PartialValue;
 use cedar_expressions::Expr;
 use cedar_frames::Step;
@@ -39,23 +39,25 @@ impl<'e, 'g, 'f> Evaluation<'e, 'g, 'f> {
             } => self.after_guard(alloc, then_expr, else_expr, answer),
             Pending::Then {
                 guard,
-                then_expr: _,
+                then_expr,
                 else_expr,
-            } => self.second_branch(guard, kept_part(alloc, answer)?, else_expr),
+            } => self.second_branch(guard, then_expr, kept_part(alloc, answer), else_expr),
             Pending::Else {
                 guard,
                 then_expr,
-                else_expr: _,
-            } => self.both_branches(alloc, guard, then_expr, kept_part(alloc, answer)?),
+                else_expr,
+            } => {
+                self.both_branches(alloc, guard, then_expr, else_expr, kept_part(alloc, answer))
+            }
             Pending::AndLeft { right } => self.after_and_left(alloc, right, answer),
             Pending::AndRight => self.after_and_right(alloc, answer),
-            Pending::AndKept { left, right: _ } => {
-                self.kept_conjunction(alloc, left, kept_part(alloc, answer)?)
+            Pending::AndKept { left, right } => {
+                self.kept_conjunction(alloc, left, right, kept_part(alloc, answer))
             }
             Pending::OrLeft { right } => self.after_or_left(alloc, right, answer),
             Pending::OrRight => self.after_or_right(alloc, answer),
-            Pending::OrKept { left, right: _ } => {
-                self.kept_disjunction(alloc, left, kept_part(alloc, answer)?)
+            Pending::OrKept { left, right } => {
+                self.kept_disjunction(alloc, left, right, kept_part(alloc, answer))
             }
             Pending::Unary(op) => self.after_operand(alloc, op, answer),
             Pending::BinaryLeft { op, right } => self.after_left(op, right, answer),
@@ -84,35 +86,43 @@ impl<'e, 'g, 'f> Evaluation<'e, 'g, 'f> {
                 guard,
                 then_expr,
                 else_expr,
-            } => self.second_branch(guard, failed.original(&then_expr)?, else_expr),
+            } => {
+                let kept = Failed::original(failed, &then_expr);
+                self.second_branch(guard, then_expr, kept, else_expr)
+            }
             Pending::Else {
                 guard,
                 then_expr,
                 else_expr,
-            } => self.both_branches(alloc, guard, then_expr, failed.original(&else_expr)?),
+            } => {
+                let kept = Failed::original(failed, &else_expr);
+                self.both_branches(alloc, guard, then_expr, else_expr, kept)
+            }
             Pending::AndKept { left, right } => {
-                self.kept_conjunction(alloc, left, failed.original(&right)?)
+                let kept = Failed::original(failed, &right);
+                self.kept_conjunction(alloc, left, right, kept)
             }
             Pending::OrKept { left, right } => {
-                self.kept_disjunction(alloc, left, failed.original(&right)?)
+                let kept = Failed::original(failed, &right);
+                self.kept_disjunction(alloc, left, right, kept)
             }
-            Pending::Passed => Ok(Step::Done(Err(Stopped::Failed(failed)))),
+            Pending::Passed => Ok(passed_on((), failed)),
             Pending::Guard {
-                then_expr: _,
-                else_expr: _,
-            } => Ok(Step::Done(Err(Stopped::Failed(failed)))),
-            Pending::AndLeft { right: _ } => Ok(Step::Done(Err(Stopped::Failed(failed)))),
-            Pending::AndRight => Ok(Step::Done(Err(Stopped::Failed(failed)))),
-            Pending::OrLeft { right: _ } => Ok(Step::Done(Err(Stopped::Failed(failed)))),
-            Pending::OrRight => Ok(Step::Done(Err(Stopped::Failed(failed)))),
-            Pending::Unary(_) => Ok(Step::Done(Err(Stopped::Failed(failed)))),
-            Pending::BinaryLeft { op: _, right: _ } => Ok(Step::Done(Err(Stopped::Failed(failed)))),
-            Pending::BinaryRight { op: _, left: _ } => Ok(Step::Done(Err(Stopped::Failed(failed)))),
-            Pending::GetAttr(_) => Ok(Step::Done(Err(Stopped::Failed(failed)))),
-            Pending::HasAttr(_) => Ok(Step::Done(Err(Stopped::Failed(failed)))),
-            Pending::ExtHasAttr(_) => Ok(Step::Done(Err(Stopped::Failed(failed)))),
-            Pending::Like(_) => Ok(Step::Done(Err(Stopped::Failed(failed)))),
-            Pending::Is(_) => Ok(Step::Done(Err(Stopped::Failed(failed)))),
+                then_expr,
+                else_expr,
+            } => Ok(passed_on((then_expr, else_expr), failed)),
+            Pending::AndLeft { right } => Ok(passed_on(right, failed)),
+            Pending::AndRight => Ok(passed_on((), failed)),
+            Pending::OrLeft { right } => Ok(passed_on(right, failed)),
+            Pending::OrRight => Ok(passed_on((), failed)),
+            Pending::Unary(op) => Ok(passed_on(op, failed)),
+            Pending::BinaryLeft { op: _, right } => Ok(passed_on(right, failed)),
+            Pending::BinaryRight { op: _, left } => Ok(passed_on(left, failed)),
+            Pending::GetAttr(attr) => Ok(passed_on(attr, failed)),
+            Pending::HasAttr(attr) => Ok(passed_on(attr, failed)),
+            Pending::ExtHasAttr(attrs) => Ok(passed_on(attrs, failed)),
+            Pending::Like(pattern) => Ok(passed_on(pattern, failed)),
+            Pending::Is(entity_type) => Ok(passed_on(entity_type, failed)),
         }
     }
 }
@@ -120,7 +130,7 @@ impl<'e, 'g, 'f> Evaluation<'e, 'g, 'f> {
 // What is kept of a part that answered.
 #[tactic(auto, unfolding(cedar_model::specs::Rules::best, cedar_model::specs::Failures::part_expression))]
 fn kept_part(alloc: Global, answer: PartialValue) -> Result<Expr, AllocError>
-    ensures { IfOk result (λ e. (t : Term) → best (answers (partial_view answer)) t ≡ kept (view e)) }
+    ensures { (t : Term) → IfOk result (λ e. best (answers (partial_view answer)) t ≡ kept (view e)) }
 {
     match answer {
         PartialValue::Value(value) => Ok(value.to_expr(alloc)?),

@@ -1,13 +1,16 @@
 //! What expressions are answered at once.
-ghost use Rattle.std.specs.Prelude.{◌≡◌, ◌≢◌, IfOk, true};
+ghost use Rattle.std.specs.Prelude.{◌≡◌, ◌≢◌, IfOk, true, Err};
 ghost use Rattle.cedar_model.specs.Failures.{Answer, fails, out_of_memory, answers_bool, answers_residual};
 ghost use Rattle.cedar_model.specs.Rules.{bool_expected};
 ghost use Rattle.cedar_model.specs.Shapes.{has_unknown};
 ghost use Rattle.cedar_expressions.specs.View.{view};
 ghost use Rattle.cedar_data.specs.Residuals.{partial_view};
 ghost use Rattle.cedar_values.specs.Answers.{AnswersWith};
+ghost use Rattle.cedar_frames.specs.declared.machine.Step.TheVariants.{Done};
+ghost use Rattle.cedar_evaluation.specs.declared.stopped.Stopped.TheVariants as stops;
 ghost use Rattle.cedar_evaluation.specs.Tasks.{Gives};
 
+use crate::failed::Failed;
 use crate::frame::Next;
 use crate::stopped::Stopped;
 use cedar_data::{PartialValue, ResidualExpr, Value};
@@ -27,6 +30,13 @@ pub(crate) fn answered(alloc: Global, answer: Result<PartialValue, EvaluationErr
         Ok(value) => Step::Done(Ok(value)),
         Err(error) => Step::Done(Err(Stopped::of(alloc, error, None))),
     }
+}
+
+// The error that came, which ends what waited too.
+pub(crate) fn passed_on<T: Drop>(_held: T, failed: Box<Failed>) -> Next
+    ensures { result ≡ Done (Err (stops.Failed failed)) }
+{
+    Step::Done(Err(Stopped::Failed(failed)))
 }
 
 // A boolean.

@@ -32,20 +32,18 @@ impl<'e, 'g, 'f> Evaluation<'e, 'g, 'f> {
     pub(crate) fn conjunction(&self, left: &Rc<Expr>, right: &Rc<Expr>) -> Result<Next, AllocError>
         ensures { (r : RequestPart) (k : ℕ) → IfOk result (Begins (setting_of r self.now) (calls_in self.now) k (both (view left.now.value) (view right.now.value))) }
     {
-        let pending = Pending::AndLeft {
-            right: right.clone()?,
-        };
-        Ok(Step::Wait(Task::Other(pending), Part::Shared(left.clone()?)))
+        let right = right.clone()?;
+        let left = left.clone()?;
+        Ok(Step::Wait(Task::Other(Pending::AndLeft { right }), Part::Shared(left)))
     }
 
     // `||` waits for its left side.
     pub(crate) fn disjunction(&self, left: &Rc<Expr>, right: &Rc<Expr>) -> Result<Next, AllocError>
         ensures { (r : RequestPart) (k : ℕ) → IfOk result (Begins (setting_of r self.now) (calls_in self.now) k (either (view left.now.value) (view right.now.value))) }
     {
-        let pending = Pending::OrLeft {
-            right: right.clone()?,
-        };
-        Ok(Step::Wait(Task::Other(pending), Part::Shared(left.clone()?)))
+        let right = right.clone()?;
+        let left = left.clone()?;
+        Ok(Step::Wait(Task::Other(Pending::OrLeft { right }), Part::Shared(left)))
     }
 
     // After the left side of `&&`: a false one decides.
@@ -139,10 +137,12 @@ impl<'e, 'g, 'f> Evaluation<'e, 'g, 'f> {
         &self,
         alloc: Global,
         left: ResidualExpr,
-        right: Expr,
+        right: Rc<Expr>,
+        right_kept: Result<Expr, AllocError>,
     ) -> Result<Next, AllocError>
-        ensures { (r : RequestPart) (k : ℕ) (x : Answer) (t : Rc Expr Global) → best x (view t.value) ≡ kept (view right) → IfOk result (GoesOn (setting_of r self.now) (calls_in self.now) k (pendings.AndKept left t) x) }
+        ensures { (r : RequestPart) (k : ℕ) (x : Answer) → IfOk right_kept (λ e. best x (view right.value) ≡ kept (view e)) → IfOk result (GoesOn (setting_of r self.now) (calls_in self.now) k (pendings.AndKept left right) x) }
     {
+        let right = right_kept?;
         Ok(residual_answer(Expr::and(alloc, left.into_expr(), right)?))
     }
 
@@ -151,10 +151,12 @@ impl<'e, 'g, 'f> Evaluation<'e, 'g, 'f> {
         &self,
         alloc: Global,
         left: ResidualExpr,
-        right: Expr,
+        right: Rc<Expr>,
+        right_kept: Result<Expr, AllocError>,
     ) -> Result<Next, AllocError>
-        ensures { (r : RequestPart) (k : ℕ) (x : Answer) (t : Rc Expr Global) → best x (view t.value) ≡ kept (view right) → IfOk result (GoesOn (setting_of r self.now) (calls_in self.now) k (pendings.OrKept left t) x) }
+        ensures { (r : RequestPart) (k : ℕ) (x : Answer) → IfOk right_kept (λ e. best x (view right.value) ≡ kept (view e)) → IfOk result (GoesOn (setting_of r self.now) (calls_in self.now) k (pendings.OrKept left right) x) }
     {
+        let right = right_kept?;
         Ok(residual_answer(Expr::or(alloc, left.into_expr(), right)?))
     }
 }

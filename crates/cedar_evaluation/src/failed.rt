@@ -43,8 +43,8 @@ impl Failed {
     }
 
     // What is kept of a part that failed with this error: the part.
-    pub(crate) fn original(&self, expr: &Expr) -> Result<Expr, AllocError>
-        ensures { IfOk result (λ e. best (fails (failure_of self.now.error)) (view expr.now) ≡ kept (view e)) }
+    pub(crate) fn original(failed: Box<Failed>, expr: &Expr) -> Result<Expr, AllocError>
+        ensures { IfOk result (λ e. best (fails (failure_of failed.value.error)) (view expr.now) ≡ kept (view e)) }
     {
         Ok(expr.clone()?)
     }

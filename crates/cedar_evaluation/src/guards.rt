@@ -34,11 +34,14 @@ impl<'e, 'g, 'f> Evaluation<'e, 'g, 'f> {
     ) -> Result<Next, AllocError>
         ensures { (r : RequestPart) (k : ℕ) → IfOk result (Begins (setting_of r self.now) (calls_in self.now) k (if_then_else (view test_expr.now.value) (view then_expr.now.value) (view else_expr.now.value))) }
     {
+        let then_expr = then_expr.clone()?;
+        let else_expr = else_expr.clone()?;
+        let test_expr = test_expr.clone()?;
         let pending = Pending::Guard {
-            then_expr: then_expr.clone()?,
-            else_expr: else_expr.clone()?,
+            then_expr,
+            else_expr,
         };
-        Ok(Step::Wait(Task::Other(pending), Part::Shared(test_expr.clone()?)))
+        Ok(Step::Wait(Task::Other(pending), Part::Shared(test_expr)))
     }
 
     // The branch that the guard takes, or beside a residual guard the first of both.
@@ -76,11 +79,13 @@ impl<'e, 'g, 'f> Evaluation<'e, 'g, 'f> {
     pub(crate) fn second_branch(
         &self,
         guard: ResidualExpr,
-        then_expr: Expr,
+        then_expr: Rc<Expr>,
+        then_kept: Result<Expr, AllocError>,
         else_expr: Rc<Expr>,
     ) -> Result<Next, AllocError>
-        ensures { (r : RequestPart) (k : ℕ) (x : Answer) (t : Rc Expr Global) → best x (view t.value) ≡ kept (view then_expr) → IfOk result (GoesOn (setting_of r self.now) (calls_in self.now) k (pendings.Then guard t else_expr) x) }
+        ensures { (r : RequestPart) (k : ℕ) (x : Answer) → IfOk then_kept (λ e. best x (view then_expr.value) ≡ kept (view e)) → IfOk result (GoesOn (setting_of r self.now) (calls_in self.now) k (pendings.Then guard then_expr else_expr) x) }
     {
+        let then_expr = then_kept?;
         let part = else_expr.clone()?;
         let pending = Pending::Else {
             guard,
@@ -96,10 +101,12 @@ impl<'e, 'g, 'f> Evaluation<'e, 'g, 'f> {
         alloc: Global,
         guard: ResidualExpr,
         then_expr: Expr,
-        else_expr: Expr,
+        else_expr: Rc<Expr>,
+        else_kept: Result<Expr, AllocError>,
     ) -> Result<Next, AllocError>
-        ensures { (r : RequestPart) (k : ℕ) (x : Answer) (e : Rc Expr Global) → best x (view e.value) ≡ kept (view else_expr) → IfOk result (GoesOn (setting_of r self.now) (calls_in self.now) k (pendings.Else guard then_expr e) x) }
+        ensures { (r : RequestPart) (k : ℕ) (x : Answer) → IfOk else_kept (λ e. best x (view else_expr.value) ≡ kept (view e)) → IfOk result (GoesOn (setting_of r self.now) (calls_in self.now) k (pendings.Else guard then_expr else_expr) x) }
     {
+        let else_expr = else_kept?;
         Ok(residual_answer(Expr::ite(alloc, guard.into_expr(), then_expr, else_expr)?))
     }
 }

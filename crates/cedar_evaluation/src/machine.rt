@@ -6,12 +6,13 @@ ghost use Rattle.cedar_data.specs.Residuals.{partial_view};
 ghost use Rattle.cedar_values.specs.Failures.{failure_of};
 ghost use Rattle.cedar_evaluation.specs.declared.stopped.Stopped.TheVariants as stops;
 ghost use Rattle.cedar_evaluation.specs.Parts.{part_term};
-ghost use Rattle.cedar_evaluation.specs.Endings.{outcome_answer};
+ghost use Rattle.cedar_evaluation.specs.Endings.{outcome_answer, stopped_failure};
 ghost use Rattle.cedar_evaluation.specs.Settings.{Speaks, setting_of, calls_in};
 ghost use Rattle.cedar_evaluation.specs.Tasks.{Begins, Leads, LeftFewer};
 ghost use Rattle.cedar_evaluation.specs.Frames.{IsRight, Waits, IsPlaced, left_of, ends_all};
 ghost use Rattle.cedar_evaluation.specs.Laws.{right_limit, right_want, right_upward, limit_ends, some_left, some_most};
 
+use crate::answers::passed_on;
 use crate::evaluation::Evaluation;
 use crate::failed::Failed;
 use crate::frame::{Frame, Next, Outcome, Task};
@@ -103,9 +104,19 @@ impl<'e, 'g, 'f> Evaluation<'e, 'g, 'f> {
     {
         match answer {
             Ok(value) => self.valued(alloc, task, value),
-            Err(Stopped::Memory) => Step::Done(Err(Stopped::Memory)),
-            Err(Stopped::Limit) => Step::Done(Err(Stopped::Limit)),
-            Err(Stopped::Failed(failed)) => self.kept_or_failed(alloc, task, failed),
+            Err(stopped) => self.stopped(alloc, task, stopped),
+        }
+    }
+
+    // The same after what stopped the part.
+    fn stopped(&self, alloc: Global, task: Task, stopped: Stopped) -> Next
+        ensures leads { (r : RequestPart) (k : ℕ) → Speaks r self.now → Leads (setting_of r self.now) (calls_in self.now) k task (fails (stopped_failure stopped)) result }
+        ensures fewer { LeftFewer task result }
+    {
+        match stopped {
+            Stopped::Memory => Step::Done(Err(Stopped::Memory)),
+            Stopped::Limit => Step::Done(Err(Stopped::Limit)),
+            Stopped::Failed(failed) => self.kept_or_failed(alloc, task, failed),
         }
     }
 
@@ -132,7 +143,7 @@ impl<'e, 'g, 'f> Evaluation<'e, 'g, 'f> {
         ensures fewer { LeftFewer task result }
     {
         match task {
-            Task::Parts(_) => Step::Done(Err(Stopped::Failed(failed))),
+            Task::Parts(frame) => passed_on(frame, failed),
             Task::Other(pending) => match self.failed(alloc, pending, failed) {
                 Ok(next) => next,
                 Err(_) => Step::Done(Err(Stopped::Memory)),

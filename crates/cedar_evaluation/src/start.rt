@@ -101,16 +101,18 @@ impl<'e, 'g, 'f> Evaluation<'e, 'g, 'f> {
     fn operand(&self, op: UnaryOp, arg: &Rc<Expr>) -> Result<Next, AllocError>
         ensures { (r : RequestPart) (k : ℕ) → IfOk result (Begins (setting_of r self.now) (calls_in self.now) k (Terms.unary (unary_view op) (view arg.now.value))) }
     {
-        Ok(Step::Wait(Task::Other(Pending::Unary(op)), Part::Shared(arg.clone()?)))
+        let arg = arg.clone()?;
+        Ok(Step::Wait(Task::Other(Pending::Unary(op)), Part::Shared(arg)))
     }
 
     fn operands(&self, op: BinaryOp, left: &Rc<Expr>, right: &Rc<Expr>) -> Result<Next, AllocError>
         ensures { (r : RequestPart) (k : ℕ) → IfOk result (Begins (setting_of r self.now) (calls_in self.now) k (Terms.binary (binary_view op) (view left.now.value) (view right.now.value))) }
     {
         let right = right.clone()?;
+        let left = left.clone()?;
         Ok(Step::Wait(
             Task::Other(Pending::BinaryLeft { op, right }),
-            Part::Shared(left.clone()?),
+            Part::Shared(left),
         ))
     }
 
@@ -118,50 +120,40 @@ impl<'e, 'g, 'f> Evaluation<'e, 'g, 'f> {
         ensures { (r : RequestPart) (k : ℕ) → IfOk result (Begins (setting_of r self.now) (calls_in self.now) k (Terms.get_attribute (view expr.now.value) (rc_str_bytes attr.now))) }
     {
         let attr = attr.clone()?;
-        Ok(Step::Wait(
-            Task::Other(Pending::GetAttr(attr)),
-            Part::Shared(expr.clone()?),
-        ))
+        let expr = expr.clone()?;
+        Ok(Step::Wait(Task::Other(Pending::GetAttr(attr)), Part::Shared(expr)))
     }
 
     fn tested(&self, expr: &Rc<Expr>, attr: &RcStr) -> Result<Next, AllocError>
         ensures { (r : RequestPart) (k : ℕ) → IfOk result (Begins (setting_of r self.now) (calls_in self.now) k (Terms.has_attribute (view expr.now.value) (rc_str_bytes attr.now))) }
     {
         let attr = attr.clone()?;
-        Ok(Step::Wait(
-            Task::Other(Pending::HasAttr(attr)),
-            Part::Shared(expr.clone()?),
-        ))
+        let expr = expr.clone()?;
+        Ok(Step::Wait(Task::Other(Pending::HasAttr(attr)), Part::Shared(expr)))
     }
 
     fn walked(&self, expr: &Rc<Expr>, attrs: &Rc<FirstRest<RcStr>>) -> Result<Next, AllocError>
         ensures { (r : RequestPart) (k : ℕ) → IfOk result (Begins (setting_of r self.now) (calls_in self.now) k (Terms.extended_has (view expr.now.value) (rc_str_bytes attrs.now.value.first) (texts_view attrs.now.value.rest.items))) }
     {
         let attrs = attrs.clone()?;
-        Ok(Step::Wait(
-            Task::Other(Pending::ExtHasAttr(attrs)),
-            Part::Shared(expr.clone()?),
-        ))
+        let expr = expr.clone()?;
+        Ok(Step::Wait(Task::Other(Pending::ExtHasAttr(attrs)), Part::Shared(expr)))
     }
 
     fn likeness(&self, expr: &Rc<Expr>, pattern: &Pattern) -> Result<Next, AllocError>
         ensures { (r : RequestPart) (k : ℕ) → IfOk result (Begins (setting_of r self.now) (calls_in self.now) k (Terms.like (view expr.now.value) (pattern_view pattern.now))) }
     {
         let pattern = pattern.clone()?;
-        Ok(Step::Wait(
-            Task::Other(Pending::Like(pattern)),
-            Part::Shared(expr.clone()?),
-        ))
+        let expr = expr.clone()?;
+        Ok(Step::Wait(Task::Other(Pending::Like(pattern)), Part::Shared(expr)))
     }
 
     fn typed(&self, expr: &Rc<Expr>, entity_type: &EntityType) -> Result<Next, AllocError>
         ensures { (r : RequestPart) (k : ℕ) → IfOk result (Begins (setting_of r self.now) (calls_in self.now) k (Terms.is_of_type (view expr.now.value) (type_text entity_type.now))) }
     {
         let entity_type = entity_type.clone()?;
-        Ok(Step::Wait(
-            Task::Other(Pending::Is(entity_type)),
-            Part::Shared(expr.clone()?),
-        ))
+        let expr = expr.clone()?;
+        Ok(Step::Wait(Task::Other(Pending::Is(entity_type)), Part::Shared(expr)))
     }
 
     fn set(

@@ -3,6 +3,8 @@ pub mod Equality
 pub mod Names
 pub mod Records
 pub mod Creations
+pub mod Substituting
+pub mod Keeping
 pub mod Writing
 pub mod Texts
 pub mod Walks

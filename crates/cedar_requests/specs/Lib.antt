@@ -4,4 +4,5 @@ pub mod Types
 pub mod Texts
 pub mod Errors
 pub mod Creations
+pub mod Substitutions
 pub mod Walks

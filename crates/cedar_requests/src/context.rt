@@ -6,6 +6,7 @@ mod copies;
 mod creation;
 mod equality;
 pub(crate) mod pairs;
+mod substitution;
 mod texts;
 mod walk;
 

@@ -1,20 +1,22 @@
 //! How contexts are made of restricted expressions.
-ghost use Rattle.std.specs.Prelude.{◌≡◌, ◌≤◌, true, false, IfOk, IfErr, option_map};
+ghost use Rattle.std.specs.Prelude.{◌≡◌, ◌≢◌, ◌≤◌, true, false, IfOk, IfErr, option_map};
 ghost use Rattle.cedar_model.specs.Terms.{record_of};
 ghost use Rattle.cedar_model.specs.Values.{record_represented};
 ghost use Rattle.cedar_model.specs.Shapes.{is_restricted};
 ghost use Rattle.cedar_model.specs.Failures.{value};
+ghost use Rattle.cedar_model.specs.Failures as model;
 ghost use Rattle.cedar_model.specs.Settings.{Setting};
-ghost use Rattle.cedar_model.specs.Rules.{fields_of_record};
+ghost use Rattle.cedar_model.specs.Rules.{fields_of_record, Meets};
 ghost use Rattle.cedar_model.specs.Agreement.{height};
 ghost use Rattle.cedar_model.specs.Restricted.{IsSoundPart};
 ghost use Rattle.cedar_expressions.specs.View.{view, fields_view};
 ghost use Rattle.cedar_data.specs.Sound.{whats_at};
 ghost use Rattle.cedar_data.specs.Residuals.{partial_view, residual_term};
 ghost use Rattle.cedar_extensions.specs.Extensions.{extensions_view, calls_of};
-ghost use Rattle.cedar_restricted.specs.Evaluations.{IsBare};
+ghost use Rattle.cedar_restricted.specs.Evaluations.{IsBare, IsAnswerWithin};
 ghost use Rattle.cedar_restricted_expressions.specs.Views.{borrowed_term, borrowed_loc, pairs_in};
 ghost use Rattle.cedar_requests.specs.Contexts.{context_part_value, context_pairs, residual_fields};
+ghost use Rattle.cedar_requests.specs.Substitutions.{context_answer};
 ghost use Rattle.cedar_requests.specs.declared.context.pairs.ContextPairs.TheVariants.{Residual};
 ghost use Rattle.cedar_requests.specs.Errors.{IsAtLimit, NamesAt};
 ghost use Rattle.cedar_requests.specs.Creations.{is_record, IsRecordPart, IsNoRecord, IsOfRecord, IsOfExpr, IsOfPairs};
@@ -28,6 +30,7 @@ use cedar_expressions::{Expr, ExprKind};
 use cedar_extensions::Extensions;
 use cedar_restricted::RestrictedEvaluator;
 use cedar_restricted_expressions::{BorrowedRestrictedExpr, RestrictedExpr};
+use cedar_values::evaluator::err::EvaluationError;
 use std::alloc::{AllocError, Global};
 use std::collections::BTreeMap;
 use std::rc::{Rc, RcStr};
@@ -98,13 +101,31 @@ fn of_record(
         IsOfRecord s (calls_of extensions.now) limit (borrowed_term expr.entry) result }
     ensures low { height (borrowed_term expr.entry) ≤ limit → IfErr result (λ e. ¬ (IsAtLimit e)) }
 {
+    match evaluated(alloc, expr, extensions, limit) {
+        Ok(context) => Ok(context),
+        Err(error) => Err(ContextCreationError::from(error)),
+    }
+}
+
+// The context that the record is evaluated to, or the error of its evaluation.
+pub(super) fn evaluated(
+    alloc: Global,
+    expr: BorrowedRestrictedExpr<'_>,
+    extensions: &Extensions<'_>,
+    limit: usize,
+) -> Result<Context, EvaluationError>
+    requires { is_record (borrowed_term expr) ≡ true }
+    ensures answer { (s : Setting) → IsBare (extensions_view extensions.now) s →
+        Meets (IsAnswerWithin s (calls_of extensions.now) limit (borrowed_term expr.entry)) (context_answer result) }
+    ensures low { height (borrowed_term expr.entry) ≤ limit → context_answer result ≢ model.limit }
+{
     let evaluator = RestrictedEvaluator::new(extensions, limit);
     match evaluator.partial_interpret(alloc, expr) {
         Ok(part) => match of_part(alloc, part) {
             Ok(context) => Ok(context),
-            Err(error) => Err(ContextCreationError::Memory(error)),
+            Err(error) => Err(EvaluationError::Memory(error)),
         },
-        Err(error) => Err(ContextCreationError::from(error)),
+        Err(error) => Err(error),
     }
 }
 

@@ -42,25 +42,25 @@ returns-in-ExtHasAttr g c r k = subst (λ p. IfOk c.after_walked.result (GoesOn 
 pub returns-in-Like : goal.returns-in-Like
 returns-in-Like g c r k = subst (λ p. IfOk c.after_text.result (GoesOn (setting_of r c.args.self.now) (calls_in c.args.self.now) k p (answers (partial_view c.args.answer)))) (sym c.in-Like.is) (c.after_text.ensures r k)
 
-pub returns : goal.returns
-returns g c r k = subst (λ p. IfOk c.after_entity.result (GoesOn (setting_of r c.args.self.now) (calls_in c.args.self.now) k p (answers (partial_view c.args.answer)))) (sym c.in-Is.is) (c.after_entity.ensures r k)
+pub returns-in-Is : goal.returns-in-Is
+returns-in-Is g c r k = subst (λ p. IfOk c.after_entity.result (GoesOn (setting_of r c.args.self.now) (calls_in c.args.self.now) k p (answers (partial_view c.args.answer)))) (sym c.in-Is.is) (c.after_entity.ensures r k)
 
 pub returns-in-Then : goal.returns-in-Then
 returns-in-Then g c r k =
     subst (λ p. IfOk c.second_branch.result (GoesOn (setting_of r c.args.self.now) (calls_in c.args.self.now) k p (answers (partial_view c.args.answer)))) (sym c.in-Then.is)
-    (c.second_branch.ensures r k (answers (partial_view c.args.answer)) c.in-Then.then_expr (c.in_ok-kept_part-in-Then.ensures (view c.in-Then.then_expr.value)))
+    (c.second_branch.ensures r k (answers (partial_view c.args.answer)) (c.kept_part.ensures (view c.in-Then.then_expr.value)))
 
 pub returns-in-Else : goal.returns-in-Else
 returns-in-Else g c r k =
     subst (λ p. IfOk c.both_branches.result (GoesOn (setting_of r c.args.self.now) (calls_in c.args.self.now) k p (answers (partial_view c.args.answer)))) (sym c.in-Else.is)
-    (c.both_branches.ensures r k (answers (partial_view c.args.answer)) c.in-Else.else_expr (c.in_ok-kept_part-in-Else.ensures (view c.in-Else.else_expr.value)))
+    (c.both_branches.ensures r k (answers (partial_view c.args.answer)) (c.kept_part-in-Else.ensures (view c.in-Else.else_expr.value)))
 
 pub returns-in-AndKept : goal.returns-in-AndKept
 returns-in-AndKept g c r k =
     subst (λ p. IfOk c.kept_conjunction.result (GoesOn (setting_of r c.args.self.now) (calls_in c.args.self.now) k p (answers (partial_view c.args.answer)))) (sym c.in-AndKept.is)
-    (c.kept_conjunction.ensures r k (answers (partial_view c.args.answer)) c.in-AndKept.right (c.in_ok-kept_part-in-AndKept.ensures (view c.in-AndKept.right.value)))
+    (c.kept_conjunction.ensures r k (answers (partial_view c.args.answer)) (c.kept_part-in-AndKept.ensures (view c.in-AndKept.right.value)))
 
 pub returns-in-OrKept : goal.returns-in-OrKept
 returns-in-OrKept g c r k =
     subst (λ p. IfOk c.kept_disjunction.result (GoesOn (setting_of r c.args.self.now) (calls_in c.args.self.now) k p (answers (partial_view c.args.answer)))) (sym c.in-OrKept.is)
-    (c.kept_disjunction.ensures r k (answers (partial_view c.args.answer)) c.in-OrKept.right (c.in_ok-kept_part-in-OrKept.ensures (view c.in-OrKept.right.value)))
+    (c.kept_disjunction.ensures r k (answers (partial_view c.args.answer)) (c.kept_part-in-OrKept.ensures (view c.in-OrKept.right.value)))

@@ -11,10 +11,6 @@ pub returns-in-Ok-clause-leads : goal.returns-in-Ok-clause-leads
 returns-in-Ok-clause-leads g c r k speaks =
     subst (λ o. Leads (setting_of r c.args.self.now) (calls_in c.args.self.now) k c.args.task (outcome_answer o) c.valued.result) (sym c.in-Ok.is) (c.valued.ensures.leads r k speaks)
 
-pub returns-in-Err-Limit-clause-leads : goal.returns-in-Err-Limit-clause-leads
-returns-in-Err-Limit-clause-leads g c r k speaks =
-    subst (λ o. Leads (setting_of r c.args.self.now) (calls_in c.args.self.now) k c.args.task (outcome_answer o) (Done (Err stops.Limit))) (sym (c.in-Err-Limit.is ∙ ap Err c.in-Err-Limit.field-0-is)) (limit_leads (setting_of r c.args.self.now) (calls_in c.args.self.now) k c.args.task)
-
-pub returns-in-Err-Failed-clause-leads : goal.returns-in-Err-Failed-clause-leads
-returns-in-Err-Failed-clause-leads g c r k speaks =
-    subst (λ o. Leads (setting_of r c.args.self.now) (calls_in c.args.self.now) k c.args.task (outcome_answer o) c.kept_or_failed.result) (sym (c.in-Err-Failed.is ∙ ap Err c.in-Err-Failed.field-0-is)) (c.kept_or_failed.ensures.leads r k speaks)
+pub returns-in-Err-clause-leads : goal.returns-in-Err-clause-leads
+returns-in-Err-clause-leads g c r k speaks =
+    subst (λ o. Leads (setting_of r c.args.self.now) (calls_in c.args.self.now) k c.args.task (outcome_answer o) c.stopped.result) (sym c.in-Err.is) (c.stopped.ensures.leads r k speaks)

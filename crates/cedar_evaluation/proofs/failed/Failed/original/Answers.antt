@@ -5,4 +5,4 @@ use Rattle.cedar_evaluation.specs.Kept.{keeps_original}
 use Rattle.cedar_evaluation.proofs.failed.Failed.original.Goals as goal
 
 pub returns : goal.returns
-returns c = keeps_original c.args.self.now.error (view c.args.expr.now) c.args.self.now.ordinary ∙ ap kept (sym c.in_ok-clone.ensures.cases.0)
+returns c = keeps_original c.args.failed.value.error (view c.args.expr.now) c.args.failed.value.ordinary ∙ ap kept (sym c.in_ok-clone.ensures.cases.0)

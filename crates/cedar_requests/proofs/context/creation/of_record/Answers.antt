@@ -1,47 +1,17 @@
-use Rattle.std.proofs.Common.{◌≢◌, Result, Err, refl, ap, sym, subst}
+use Rattle.std.proofs.Common.{◌≢◌}
 use Rattle.cedar_model.specs.Failures.{PartialValue, answers, fails, out_of_memory}
-use Rattle.cedar_data.specs.Residuals.{partial_view}
-use Rattle.cedar_extensions.specs.Extensions.{extensions_view, calls_of}
-use Rattle.cedar_restricted.specs.Evaluations.{bare, IsBare, IsAnswerWithin}
+use Rattle.cedar_extensions.specs.Extensions.{calls_of}
 use Rattle.cedar_restricted_expressions.specs.Views.{borrowed_term}
-use Rattle.cedar_requests.specs.Contexts.{context_part_value}
-use Rattle.cedar_requests.specs.declared.context.Context.{Context}
-use Rattle.cedar_requests.specs.declared.errors.ContextCreationError.{ContextCreationError}
-use Rattle.cedar_requests.specs.Creations.{IsOfRecord}
-use Rattle.cedar_requests.proofs.Creations.{bare-is_bare, refused_answer, same_answer}
-use Rattle.cedar_requests.proofs.Records.{record_part}
+use Rattle.cedar_requests.proofs.Creations.{refused_answer}
 use Rattle.cedar_requests.proofs.context.creation.of_record.Goals as goal
 
 no_want : (p : PartialValue) → answers p ≢ fails out_of_memory
 no_want p e = cc
 
-pub of_part-requires-clause-record : goal.of_part-requires-clause-record
-of_part-requires-clause-record g c =
-    let stored = c.new-evaluator.result.extensions.now in
-    let x = extensions_view stored in
-    record_part (bare x) (calls_of stored) c.new-evaluator.result.limit (borrowed_term c.args.expr)
-    (partial_view c.in-Ok.part) c.requires (c.in-Ok.ensures.answer (bare x) (bare-is_bare x) (no_want _)).runs
-
-pub returns-in-Ok-of_part-clause-created : goal.returns-in-Ok-of_part-clause-created
-returns-in-Ok-of_part-clause-created g c = λ s is_bare.
-    let made = c.new-evaluator in
-    let same = made.ensures.extensions in
-    let bare_of : IsBare (extensions_view made.result.extensions.now) s =
-    subst (λ e. IsBare (extensions_view e) s) (sym same) is_bare in
-    let a = answers (context_part_value c.in-Ok-of_part.context) in
-    subst (λ e. IsAnswerWithin s (calls_of e) c.args.limit (borrowed_term c.args.expr) a) same
-    (same_answer s (calls_of made.result.extensions.now) _ _ _ _ _ _ made.ensures.limit refl
-    (ap answers (sym c.in-Ok-of_part.ensures)) (c.in-Ok.ensures.answer s bare_of (no_want _)))
+pub returns-in-Ok-clause-created : goal.returns-in-Ok-clause-created
+returns-in-Ok-clause-created g c = λ s is_bare. c.in-Ok.ensures.answer s is_bare (no_want _)
 
 pub returns-in-Err-clause-created : goal.returns-in-Err-clause-created
 returns-in-Err-clause-created g c = λ s is_bare.
-    let made = c.new-evaluator in
-    let same = made.ensures.extensions in
-    let t = borrowed_term c.args.expr in
-    let refused : Result Context ContextCreationError = Err c.from.result in
-    let bare_of : IsBare (extensions_view made.result.extensions.now) s =
-    subst (λ e. IsBare (extensions_view e) s) (sym same) is_bare in
-    subst (λ n. IsOfRecord s (calls_of c.args.extensions.now) n t refused) made.ensures.limit
-    (subst (λ e. IsOfRecord s (calls_of e) made.result.limit t refused) same
-    (refused_answer s (calls_of made.result.extensions.now) made.result.limit t c.in-Err.error c.from.result
-    c.from.ensures (c.in-Err.ensures.answer s bare_of)))
+    refused_answer s (calls_of c.args.extensions.now) c.args.limit (borrowed_term c.args.expr) c.in-Err.error
+    c.from.result c.from.ensures (c.in-Err.ensures.answer s is_bare)

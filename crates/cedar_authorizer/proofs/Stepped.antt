@@ -1,0 +1,124 @@
+-- What follows of a step that a response says.
+use Rattle.std.specs.Prelude.{◌≡◌, ◌≢◌, ℕ, ◌+◌, ◌≤◌, List, ◌++◌, Option, Some, None, option_map, IfSome, IfOk, IfErr, Result, Ok, Err}
+use Rattle.std.proofs.Common.{refl, sym, ap, ◌∙◌, subst, arith}
+use Rattle.cedar_model.specs.Failures.{recursion_limit}
+use Rattle.cedar_model.specs.Settings.{ContextPart, absent_context, known_context, residual_context, Store, Setting}
+use Rattle.cedar_model.specs.Rules.{StoredCalls}
+use Rattle.cedar_model.specs.Agreement.{height}
+use Rattle.cedar_model.specs.Restricted.{IsGivenSound}
+use Rattle.cedar_model.specs.Reordering.{IsReordering, chaining}
+use Rattle.cedar_model.specs.Policies.{permit, forbid, Policy, Effect, skip}
+use Rattle.cedar_model.specs.World.{World, Functions, Extensions}
+use Rattle.cedar_model.specs.Responses.{Row, Stand}
+use Rattle.cedar_model.specs.Refusals.{Refusal, context_fails}
+use Rattle.cedar_model.specs.Chains.{Mapping, Response, substituted, substituted_at, at_step, rows_by, all_residuals, StepsTo}
+use Rattle.cedar_model.specs.Terms.{Fields, record_of}
+use Rattle.cedar_model.specs.ChainLaws.{KeepsWhatIsGiven}
+use Rattle.cedar_model.specs.ReportLaws.{Within}
+use Rattle.cedar_model.specs.Depth.{IsNoHigher, IsContextNoHigher}
+use Rattle.cedar_model.specs.LevelLaws.{FunctionsMeetNoLimit}
+use Rattle.cedar_model.specs.Authorizations.{HaveNoLimit, AreNoHigher}
+use Rattle.cedar_model.specs.Reports.{ids, must_determine, may_determine, trues, falses, residuals, HaveNoResidual}
+use Rattle.cedar_model.proofs.Chained.{sorted_is, step_stands}
+use Rattle.cedar_model.proofs.Completions.{step_completes}
+use Rattle.cedar_model.proofs.Concrete as concrete
+use Rattle.cedar_model.proofs.Finishing.{steps_finish}
+use Rattle.cedar_model.proofs.Keeping.{nothing_taken_back}
+use Rattle.cedar_model.proofs.Recorded.{run_recordable}
+use Rattle.cedar_model.proofs.Stepping.{taken}
+use Rattle.cedar_responses.specs.declared.partial_response.PartialResponse.{PartialResponse}
+use Rattle.cedar_responses.specs.Responses.{errors_view}
+use Rattle.cedar_responses.specs.Rows.{rows_view}
+use Rattle.cedar_responses.proofs.Rows.{trues_permit, falses_permit, residuals_permit, trues_forbid, falses_forbid, residuals_forbid}
+use Rattle.cedar_reauthorization.specs.declared.err.ReauthorizationError.{ReauthorizationError}
+use Rattle.cedar_reauthorization.specs.Errors.{step_answer_by, step_refusal}
+use Rattle.cedar_reauthorization.specs.Concretizations.{IsResidualNoHigher}
+use Rattle.cedar_authorizer.specs.Running.{HoldsRows}
+use Rattle.cedar_authorizer.specs.Steps as steps
+use Rattle.cedar_authorizer.specs.Steps.{response_said, Says, AreDecidedAs, IsStep, KeepsWhatStands, TakesNothingBack, Finishes, MeetsNoLimit, IsDeepEnough}
+use Rattle.cedar_authorizer.proofs.Deciding.{rows_sorted}
+use Rattle.cedar_authorizer.proofs.Low.{step_is_deep}
+use Rattle.cedar_authorizer.proofs.Same.{SameRows, same_carried, same_decision, same_must, same_may, none_residual}
+
+-- ---- the rows that six maps hold
+
+pub same_rows : (rows : List Row) (r : PartialResponse) → HoldsRows rows r → SameRows rows (rows_view r)
+same_rows rows r h = record { same_trues = by_trues; same_falses = by_falses; same_residuals = by_residuals }
+  where
+    by_trues : (e : Effect) → trues e (rows_view r) ≡ trues e rows
+    by_trues permit = trues_permit r ∙ h.true_permits
+    by_trues forbid = trues_forbid r ∙ h.true_forbids
+
+    by_falses : (e : Effect) → falses e (rows_view r) ≡ falses e rows
+    by_falses permit = falses_permit r ∙ h.false_permits
+    by_falses forbid = falses_forbid r ∙ h.false_forbids
+
+    by_residuals : (e : Effect) → residuals e (rows_view r) ≡ residuals e rows
+    by_residuals permit = residuals_permit r ∙ h.residual_permits
+    by_residuals forbid = residuals_forbid r ∙ h.residual_forbids
+
+-- what stands in one order stands in the order of the maps
+pub stand_sorted : (X : Extensions) (ans : Functions) (w : World) (ps : List Policy) (rows : List Row) (r : PartialResponse) → HoldsRows rows r → Stand skip X ans w ps rows → Stand skip X ans w ps (rows_view r)
+stand_sorted X ans w ps rows r h (ordered, reordered, stand) =
+    (ordered, subst (IsReordering Row ordered) (sym (rows_sorted rows r h)) (chaining reordered (sorted_is rows)), stand)
+
+pub if_stepped : (result : Result PartialResponse ReauthorizationError) (P : Result PartialResponse Refusal → Type 0) (Q : PartialResponse → Type 0) → ((r : PartialResponse) → P (Ok r) → Q r) → IfSome (step_answer_by (λ r. r) result) P → IfOk result Q
+if_stepped (Ok r) P Q k h = k r h
+if_stepped (Err e) P Q k h = tt
+
+-- ---- what a step keeps
+
+module _ (s : Setting) (calls : StoredCalls) (levels : ℕ) (m : Mapping) (store : Store) (old : Response) where
+  pub kept_standing : (r : PartialResponse) → IsStep s calls levels m store old (Ok r) → KeepsWhatStands s calls levels m store old r
+  kept_standing r (new, step, says) ans w c ps conditions h none =
+      let t = taken skip s calls levels m store old new step in
+      let z = step_completes skip ans calls c.functions_agree w s levels m store old new c.completion c.functions_are_faithful step in
+      let quiet : HaveNoLimit new.errors = subst HaveNoLimit (sym says.errors_are) none in
+      stand_sorted s.extensions ans w ps new.rows r says.held
+      (step_stands skip ans calls c.functions_agree w (at_step s new.request store m) z c.functions_are_faithful levels ps old.rows new.rows new.errors conditions h
+      (run_recordable skip (at_step s new.request store m) calls levels (all_residuals old.rows) new.rows new.errors quiet t.runs) t.runs)
+
+  pub nothing_back : (r : PartialResponse) → IsStep s calls levels m store old (Ok r) → TakesNothingBack s calls levels m store old r
+  nothing_back r (new, step, says) none =
+      let k = nothing_taken_back calls skip s levels m store old new step (subst HaveNoLimit (sym says.errors_are) none) in
+      let same = same_rows new.rows r says.held in
+      record {
+        decision_stays = λ d e. same_decision new.rows (rows_view r) same ∙ k.decision_stays d e;
+        must_stays = subst (λ (rows : List Row). Within (ids (must_determine old.rows)) (ids rows)) (sym (same_must new.rows (rows_view r) same)) k.must_stays;
+        may_stays = subst (λ (rows : List Row). Within (ids rows) (ids (may_determine old.rows))) (sym (same_may new.rows (rows_view r) same)) k.may_stays;
+      }
+
+  pub step_finishes : (r : PartialResponse) → IsStep s calls levels m store old (Ok r) → Finishes s calls levels m store old r
+  step_finishes r (new, step, says) ans agree is_concrete stored named =
+      let k = steps_finish calls ans agree skip s levels m store old new is_concrete stored named step in
+      let none = none_residual new.rows (rows_view r) (same_rows new.rows r says.held) k.0 in
+      (none, λ w ps h. concrete.concrete_is_defined skip s.extensions ans w ps (rows_view r) h none)
+
+  -- ---- the depth bound
+
+  record_substituted : (fs : Fields) → substituted m (record_of fs) ≡ record_of (substituted_at m fs)
+  unfolding substituted
+  record_substituted fs = refl
+
+  at_most : (b n k : ℕ) → b ≤ n → k ≤ b → k ≤ n
+  at_most b n k h f = omega (arith, h, f)
+
+  low_context : (b n : ℕ) (c : ContextPart) → b ≤ n → IsContextNoHigher m b c → IsResidualNoHigher m n c
+  low_context b n absent_context h k = tt
+  low_context b n (known_context fs) h k = tt
+  low_context b n (residual_context fs) h k = at_most b n (height (record_of (substituted_at m fs))) h (subst (λ t. height t ≤ b) (record_substituted fs) k)
+
+  low_enough : (b h n : ℕ) → h + (b + b) ≤ n → b ≤ n
+  low_enough b h n enough = omega (arith, enough)
+
+  pub answered_low : FunctionsMeetNoLimit calls → (result : Result PartialResponse ReauthorizationError) → IfSome (step_answer_by (λ r. r) result) (IsStep s calls levels m store old)
+      → (IsResidualNoHigher m levels old.request.context_part → IfErr result (λ e. step_refusal e ≢ Some (context_fails recursion_limit)))
+      → IfSome (step_answer_by (λ r. r) result) (IsDeepEnough s calls levels m store old)
+  answered_low no_limit (Ok r) (new, step, says) refused =
+      λ b h sound low conditions enough. subst HaveNoLimit says.errors_are (step_is_deep s calls levels m store no_limit b h old sound low enough new step conditions)
+  answered_low no_limit (Err e) is refused = by (step_refusal e) refl
+    where
+      by : (o : Option Refusal) → step_refusal e ≡ o → IfSome (option_map {U = Result PartialResponse Refusal} Err o) (IsDeepEnough s calls levels m store old)
+      by None g = tt
+      by (Some x) g =
+          λ b h sound low conditions enough w. refused (low_context b levels old.request.context_part (low_enough b h levels enough) low.context_low) (g ∙ ap Some w)

@@ -1,0 +1,206 @@
+//! Reauthorization: a response taken further, by values for its unknowns and another store.
+ghost use Rattle.std.specs.Prelude.{◌≡◌, ◌≢◌, Option, Some, IfOk, IfErr, IfSome};
+ghost use Rattle.cedar_model.specs.Agreement.{no_slots};
+ghost use Rattle.cedar_model.specs.Chains.{Response, is_limit, has_limit};
+ghost use Rattle.cedar_model.specs.Failures.{recursion_limit, failure_kind};
+ghost use Rattle.cedar_model.specs.Policies.{skip};
+ghost use Rattle.cedar_model.specs.Refusals.{context_fails};
+ghost use Rattle.cedar_names.specs.declared.names.Loc.{Loc};
+ghost use Rattle.cedar_extensions.specs.Extensions.{extensions_view, calls_of};
+ghost use Rattle.cedar_layers.specs.Stores.{store_view};
+ghost use Rattle.cedar_requests.specs.Requests.{request_view};
+ghost use Rattle.cedar_requests.specs.Substitutions.{values_for};
+ghost use Rattle.cedar_evaluator.specs.Evaluations.{setting_for};
+ghost use Rattle.cedar_responses.specs.declared.partial_response.PartialResponse.{PartialResponse};
+ghost use Rattle.cedar_responses.specs.Responses.{error_view, errors_view};
+ghost use Rattle.cedar_reauthorization.specs.Concretizations.{entity_locs, concrete_locs, IsResidualNoHigher};
+ghost use Rattle.cedar_reauthorization.specs.Errors.{step_answer_by, step_refusal};
+ghost use Rattle.cedar_authorizer.specs.Responding.{authorization_of, deciding};
+ghost use Rattle.cedar_authorizer.specs.Running.{IsRun, IsNotedRun};
+ghost use Rattle.cedar_authorizer.specs.Steps.{response_said, IsDecidedAgain, IsStep, KeepsWhatStands, TakesNothingBack, Finishes, IsDeepEnough};
+
+use super::{Authorizer, response_of, run_all};
+use cedar_data::Value;
+use cedar_evaluator::evaluator::{EvaluationError, Evaluator};
+use cedar_evaluator::request::Request;
+use cedar_layers::policies::{Entities, PolicySet};
+use cedar_reauthorization::ReauthorizationError;
+use cedar_reauthorization::shared::{concretize_request, residual_policies};
+use cedar_responses::shared::Sheet;
+use cedar_responses::{AuthorizationError, PartialResponse};
+use std::alloc::{AllocError, Global};
+use std::collections::HashMap;
+use std::rc::{Rc, RcStr};
+
+/// What can be taken further: a partial response.
+pub trait Reauthorize {
+    /// What it says, as rows, errors and the request.
+    ghost said: { Self → Response };
+
+    /// Where its request names principal, action and resource.
+    ghost places: { Self → Option Loc × Option Loc × Option Loc };
+
+    /// The response that follows by the map's values for unknowns, over this store. All policies are decided again, each with
+    /// what was reported of it as its condition: the satisfied permits, those that are not, the residual ones, and then the
+    /// forbids. Refuses, in this order: with `PolicySetError` where two of them have one id; with `ConcretizationError` where
+    /// the map makes no request of the response's (`ValueError`, `VarConfictError`, `EntityTypeConfictError`, of principal,
+    /// action, resource and context in turn), or where the evaluation of the context with the map's values in it fails
+    /// (`ValueEval`); or for want of memory. Evaluation goes at most the authorizer's limit of levels deep.
+    ///
+    /// Do not take a response further whose errors hold the recursion limit: a forbid that met it is not known to be false, but
+    /// the next step carries it on as false, so that a decision may be given that is not so. `Authorizer::authorize_in_steps`
+    /// stops there.
+    fn reauthorize(
+        &self,
+        alloc: Global,
+        map: &HashMap<RcStr, Value>,
+        authorizer: &Authorizer<'_, '_>,
+        entities: &Entities,
+    ) -> Result<PartialResponse, ReauthorizationError>
+        ensures step { IfSome (step_answer_by (λ (r : PartialResponse). r) result) (IsStep (authorization_of (said self.now).request (store_view entities.now) (extensions_view authorizer.now.extensions.now)) (calls_of authorizer.now.extensions.now) authorizer.now.limit (values_for map.now.entries) (store_view entities.now) (said self.now)) }
+        ensures places { IfOk result (λ r. entity_locs r.request.value ≡ concrete_locs (values_for map.now.entries) (places self.now)) }
+        ensures stands { IfOk result (KeepsWhatStands (authorization_of (said self.now).request (store_view entities.now) (extensions_view authorizer.now.extensions.now)) (calls_of authorizer.now.extensions.now) authorizer.now.limit (values_for map.now.entries) (store_view entities.now) (said self.now)) }
+        ensures kept { IfOk result (TakesNothingBack (authorization_of (said self.now).request (store_view entities.now) (extensions_view authorizer.now.extensions.now)) (calls_of authorizer.now.extensions.now) authorizer.now.limit (values_for map.now.entries) (store_view entities.now) (said self.now)) }
+        ensures finishes { IfOk result (Finishes (authorization_of (said self.now).request (store_view entities.now) (extensions_view authorizer.now.extensions.now)) (calls_of authorizer.now.extensions.now) authorizer.now.limit (values_for map.now.entries) (store_view entities.now) (said self.now)) }
+        ensures deep_enough { IfSome (step_answer_by (λ (r : PartialResponse). r) result) (IsDeepEnough (authorization_of (said self.now).request (store_view entities.now) (extensions_view authorizer.now.extensions.now)) (calls_of authorizer.now.extensions.now) authorizer.now.limit (values_for map.now.entries) (store_view entities.now) (said self.now)) };
+}
+
+impl Reauthorize for PartialResponse {
+    ghost said = { response_said };
+
+    ghost places = { λ r. entity_locs r.request.value };
+
+    fn reauthorize(
+        &self,
+        alloc: Global,
+        map: &HashMap<RcStr, Value>,
+        authorizer: &Authorizer<'_, '_>,
+        entities: &Entities,
+    ) -> Result<PartialResponse, ReauthorizationError> {
+        reauthorized(alloc, self, map, authorizer, entities)
+    }
+}
+
+// The policies of the response, decided again.
+fn reauthorized(
+    alloc: Global,
+    response: &PartialResponse,
+    map: &HashMap<RcStr, Value>,
+    authorizer: &Authorizer<'_, '_>,
+    entities: &Entities,
+) -> Result<PartialResponse, ReauthorizationError>
+    ensures step { IfSome (step_answer_by (λ (r : PartialResponse). r) result) (IsStep (authorization_of (response_said response.now).request (store_view entities.now) (extensions_view authorizer.now.extensions.now)) (calls_of authorizer.now.extensions.now) authorizer.now.limit (values_for map.now.entries) (store_view entities.now) (response_said response.now)) }
+    ensures places { IfOk result (λ r. entity_locs r.request.value ≡ concrete_locs (values_for map.now.entries) (entity_locs response.now.request.value)) }
+    ensures low { IsResidualNoHigher (values_for map.now.entries) authorizer.now.limit (request_view response.now.request.value).context_part → IfErr result (λ e. step_refusal e ≢ Some (context_fails recursion_limit)) }
+{
+    match residual_policies(alloc, response) {
+        Ok(policies) => {
+            with_policies(
+                alloc,
+                &response.request,
+                &policies,
+                map,
+                authorizer,
+                entities,
+            )
+        }
+        Err(error) => Err(error),
+    }
+}
+
+// The same, where the policies are made.
+fn with_policies(
+    alloc: Global,
+    request: &Request,
+    policies: &PolicySet,
+    map: &HashMap<RcStr, Value>,
+    authorizer: &Authorizer<'_, '_>,
+    entities: &Entities,
+) -> Result<PartialResponse, ReauthorizationError>
+    ensures step { IfSome (step_answer_by (λ (r : PartialResponse). r) result) (IsDecidedAgain (authorization_of (request_view request.now) (store_view entities.now) (extensions_view authorizer.now.extensions.now)) (calls_of authorizer.now.extensions.now) authorizer.now.limit (values_for map.now.entries) (store_view entities.now) (request_view request.now) (deciding policies.now)) }
+    ensures places { IfOk result (λ r. entity_locs r.request.value ≡ concrete_locs (values_for map.now.entries) (entity_locs request.now)) }
+    ensures low { IsResidualNoHigher (values_for map.now.entries) authorizer.now.limit (request_view request.now).context_part → IfErr result (λ e. step_refusal e ≢ Some (context_fails recursion_limit)) }
+{
+    match concretize_request(alloc, request, map, authorizer.extensions, authorizer.limit) {
+        Ok(request) => Ok(decided_again(alloc, request, policies, map, authorizer, entities)?),
+        Err(error) => Err(ReauthorizationError::from(error)),
+    }
+}
+
+// The response to the policies for the request that the map makes.
+fn decided_again(
+    alloc: Global,
+    request: Request,
+    policies: &PolicySet,
+    map: &HashMap<RcStr, Value>,
+    authorizer: &Authorizer<'_, '_>,
+    entities: &Entities,
+) -> Result<PartialResponse, AllocError>
+    ensures run { IfOk result (λ r. IsRun skip (setting_for (request_view request) (store_view entities.now) (extensions_view authorizer.now.extensions.now) (values_for map.now.entries) no_slots) (calls_of authorizer.now.extensions.now) authorizer.now.limit (deciding policies.now) r) }
+    ensures request { IfOk result (λ r. r.request.value ≡ request) }
+{
+    let sheet = next_sheet(alloc, &request, policies, map, authorizer, entities)?;
+    response_of(alloc, sheet, Rc::new(alloc, request)?)
+}
+
+// How each policy comes out, in their order, with the map's values for unknowns.
+fn next_sheet(
+    alloc: Global,
+    request: &Request,
+    policies: &PolicySet,
+    map: &HashMap<RcStr, Value>,
+    authorizer: &Authorizer<'_, '_>,
+    entities: &Entities,
+) -> Result<Sheet, AllocError>
+    ensures { IfOk result (λ s. IsNotedRun skip (setting_for (request_view request.now) (store_view entities.now) (extensions_view authorizer.now.extensions.now) (values_for map.now.entries) no_slots) (calls_of authorizer.now.extensions.now) authorizer.now.limit (deciding policies.now) s) }
+{
+    let evaluator = Evaluator::new(
+        alloc,
+        request.clone()?,
+        entities,
+        authorizer.extensions,
+        authorizer.limit,
+    )?;
+    run_all(alloc, &evaluator.with_unknowns_mapper(map), policies)
+}
+
+// Whether the recursion limit is among the response's errors.
+pub(super) fn has_recursion_limit(response: &PartialResponse) -> bool
+    ensures { result ≡ has_limit (errors_view response.now.errors.items) }
+{
+    has_limit(&response.errors)
+}
+
+// Whether the recursion limit is among these errors.
+fn has_limit(errors: &[AuthorizationError]) -> bool
+    ensures { result ≡ has_limit (errors_view errors.now) }
+{
+    'errors: for error in errors {
+        if is_recursion_limit(error) {
+            return true;
+        }
+    }
+    false
+}
+
+// Whether the policy met the recursion limit.
+#[tactic(auto, unfolding(cedar_model::specs::Chains::is_limit, cedar_model::specs::Failures::failure_kind))]
+fn is_recursion_limit(error: &AuthorizationError) -> bool
+    ensures { result ≡ is_limit (failure_kind (error_view error.now).1) }
+{
+    let AuthorizationError::PolicyEvaluationError { id: _, error } = error;
+    match error {
+        EvaluationError::RecursionLimit(_) => true,
+        EvaluationError::EntityDoesNotExist(_) => false,
+        EvaluationError::EntityAttrDoesNotExist(_) => false,
+        EvaluationError::RecordAttrDoesNotExist(_) => false,
+        EvaluationError::FailedExtensionFunctionLookup(_) => false,
+        EvaluationError::TypeError(_) => false,
+        EvaluationError::WrongNumArguments(_) => false,
+        EvaluationError::IntegerOverflow(_) => false,
+        EvaluationError::UnlinkedSlot(_) => false,
+        EvaluationError::FailedExtensionFunctionExecution(_) => false,
+        EvaluationError::NonValue(_) => false,
+        EvaluationError::Memory(_) => false,
+    }
+}

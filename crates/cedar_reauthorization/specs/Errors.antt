@@ -1,0 +1,65 @@
+-- What the errors of a step say, as the model's refusals.
+use Rattle.std.specs.Prelude.{◌≡◌, ◌≢◌, Option, Some, None, option_map, Result, Ok, Err}
+use Rattle.std.specs.Rc.{rc_str_bytes}
+use Rattle.cedar_model.specs.Failures.{out_of_memory}
+use Rattle.cedar_model.specs.Refusals.{Refusal, id_comes_again, value_is_wrong, is_there_already, type_is_other}
+use Rattle.cedar_model.specs.Refusals.{context_fails}
+use Rattle.cedar_names.specs.Names.{type_text}
+use Rattle.cedar_data.specs.Residuals.{partial_view}
+use Rattle.cedar_layers.specs.declared.policies.policy_set.PolicySetError.{PolicySetError}
+use Rattle.cedar_layers.specs.declared.policies.policy_set.PolicySetError.TheVariants as sets
+use Rattle.cedar_layers.specs.PolicySets.{occupied_id}
+use Rattle.cedar_values.specs.declared.evaluator.err.EvaluationError.{EvaluationError}
+use Rattle.cedar_values.specs.Failures.{failure_of}
+use Rattle.cedar_reauthorization.specs.declared.err.ConcretizationError.{ConcretizationError}
+use Rattle.cedar_reauthorization.specs.declared.err.ConcretizationError.TheVariants as concretizations
+use Rattle.cedar_reauthorization.specs.declared.err.ReauthorizationError.{ReauthorizationError}
+use Rattle.cedar_reauthorization.specs.declared.err.ReauthorizationError.TheVariants as reauthorizations
+
+-- ---- refusals; want of memory is none
+
+abbrev pub refusal_of : ConcretizationError → Option Refusal
+refusal_of (concretizations.ValueError id expected given) =
+    Some (value_is_wrong (rc_str_bytes id) expected.now given.what)
+refusal_of (concretizations.VarConfictError id existing given) =
+    Some (is_there_already (rc_str_bytes id) (partial_view existing) given.what)
+refusal_of (concretizations.EntityTypeConfictError id type given) =
+    Some (type_is_other (rc_str_bytes id) (type_text type) given.what)
+refusal_of (concretizations.ValueEval e) = Some (context_fails (failure_of e))
+refusal_of (concretizations.Memory e) = None
+
+abbrev pub step_refusal : ReauthorizationError → Option Refusal
+step_refusal (reauthorizations.PolicySetError e) = option_map id_comes_again (occupied_id e)
+step_refusal (reauthorizations.ConcretizationError e) = refusal_of e
+step_refusal (reauthorizations.Memory e) = None
+
+-- ---- answers: what was made, seen so, or the refusal
+
+abbrev pub answer_by : {A B : Type 0} → (A → B) → Result A ConcretizationError → Option (Result B Refusal)
+answer_by see (Ok x) = Some (Ok (see x))
+answer_by see (Err e) = option_map Err (refusal_of e)
+
+abbrev pub step_answer_by : {A B : Type 0} → (A → B) → Result A ReauthorizationError → Option (Result B Refusal)
+step_answer_by see (Ok x) = Some (Ok (see x))
+step_answer_by see (Err e) = option_map Err (step_refusal e)
+
+-- ---- conversions
+
+-- an error of the evaluation is kept whole, and want of memory stays want of memory
+abbrev pub IsValueRefusal : EvaluationError → ConcretizationError → Type 0
+IsValueRefusal e (concretizations.ValueError id expected given) = ⊥
+IsValueRefusal e (concretizations.VarConfictError id existing given) = ⊥
+IsValueRefusal e (concretizations.EntityTypeConfictError id type given) = ⊥
+IsValueRefusal e (concretizations.ValueEval f) = (f ≡ e) × (failure_of e ≢ out_of_memory)
+IsValueRefusal e (concretizations.Memory m) = failure_of e ≡ out_of_memory
+
+-- so is an error of the policies
+abbrev pub IsPolicyRefusal : PolicySetError → ReauthorizationError → Type 0
+IsPolicyRefusal (sets.Occupied id) r = r ≡ reauthorizations.PolicySetError (sets.Occupied id)
+IsPolicyRefusal (sets.Memory e) r = r ≡ reauthorizations.Memory e
+
+-- and one of the request
+abbrev pub IsRequestRefusal : ConcretizationError → ReauthorizationError → Type 0
+IsRequestRefusal e (reauthorizations.PolicySetError p) = ⊥
+IsRequestRefusal e (reauthorizations.ConcretizationError f) = f ≡ e
+IsRequestRefusal e (reauthorizations.Memory m) = refusal_of e ≡ None

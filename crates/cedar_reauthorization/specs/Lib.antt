@@ -1,0 +1,3 @@
+pub mod Errors
+pub mod Concretizations
+pub mod Policies

@@ -1,0 +1,122 @@
+//! Why a partial response was not taken further.
+ghost use Rattle.std.specs.Prelude.{◌≡◌};
+ghost use Rattle.cedar_reauthorization.specs.Errors.{IsValueRefusal, IsPolicyRefusal, IsRequestRefusal};
+ghost use Rattle.cedar_reauthorization.specs.declared.err.ConcretizationError.TheVariants as concretizations;
+ghost use Rattle.cedar_reauthorization.specs.declared.err.ReauthorizationError.TheVariants as reauthorizations;
+
+use cedar_data::{PartialValue, Value};
+use cedar_layers::policies::PolicySetError;
+use cedar_names::EntityType;
+use cedar_values::evaluator::err::EvaluationError;
+use std::alloc::AllocError;
+use std::rc::RcStr;
+use thiserror::Error;
+
+/// Why a map of values for unknowns makes no request of the one that a response is to.
+#[derive(Debug, Drop, Error)]
+pub enum ConcretizationError {
+    /// The value for a variable is of another kind than its place takes.
+    #[error("invalid value {given_value} of {id}: expected type {expected_type}")]
+    ValueError {
+        /// The variable: `principal`, `action`, `resource` or `context`.
+        id: RcStr,
+        /// What its value must be: `entity` or `record`.
+        expected_type: &'static str,
+        /// The map's value.
+        given_value: Value,
+    },
+    /// There is a value for a variable that is known, or for a context that is there.
+    #[error("concretizing existing value {existing_value} of {id} with value {given_value}")]
+    VarConfictError {
+        /// The variable: `principal`, `action`, `resource` or `context`.
+        id: RcStr,
+        /// What is there.
+        existing_value: PartialValue,
+        /// The map's value.
+        given_value: Value,
+    },
+    /// The value for an unknown entity is an entity of another type than is known of it.
+    #[error("concretizing existing but unknown entity value of type {existing_value} of {id} with value {given_value}")]
+    EntityTypeConfictError {
+        /// The variable: `principal`, `action` or `resource`.
+        id: RcStr,
+        /// The type that is known.
+        existing_value: EntityType,
+        /// The map's value.
+        given_value: Value,
+    },
+    /// The evaluation of the context with the map's values in it failed.
+    #[error(transparent)]
+    ValueEval(EvaluationError),
+    /// Want of memory.
+    #[error("out of memory")]
+    Memory(AllocError),
+}
+
+/// Why a partial response was not taken further.
+#[derive(Debug, Drop, Error)]
+pub enum ReauthorizationError {
+    /// Two of its policies have one id.
+    #[error(transparent)]
+    PolicySetError(PolicySetError),
+    /// The map makes no request.
+    #[error(transparent)]
+    ConcretizationError(ConcretizationError),
+    /// Want of memory.
+    #[error("out of memory")]
+    Memory(AllocError),
+}
+
+/// Want of memory stays want of memory.
+impl From<EvaluationError> for ConcretizationError {
+    ghost from_gives = { IsValueRefusal };
+
+    fn from(error: EvaluationError) -> ConcretizationError {
+        match error {
+            EvaluationError::Memory(error) => ConcretizationError::Memory(error),
+            other => ConcretizationError::ValueEval(other),
+        }
+    }
+}
+
+impl From<AllocError> for ConcretizationError {
+    ghost from_gives = { λ error result. result ≡ concretizations.Memory error };
+
+    fn from(error: AllocError) -> ConcretizationError {
+        ConcretizationError::Memory(error)
+    }
+}
+
+/// Want of memory stays want of memory.
+impl From<PolicySetError> for ReauthorizationError {
+    ghost from_gives = { IsPolicyRefusal };
+
+    fn from(error: PolicySetError) -> ReauthorizationError {
+        match error {
+            PolicySetError::Memory(error) => ReauthorizationError::Memory(error),
+            PolicySetError::Occupied { id } => {
+                ReauthorizationError::PolicySetError(PolicySetError::Occupied { id })
+            }
+        }
+    }
+}
+
+/// Want of memory stays want of memory.
+impl From<ConcretizationError> for ReauthorizationError {
+    ghost from_gives = { IsRequestRefusal };
+
+    fn from(error: ConcretizationError) -> ReauthorizationError {
+        match error {
+            ConcretizationError::Memory(error) => ReauthorizationError::Memory(error),
+            other => ReauthorizationError::ConcretizationError(other),
+        }
+    }
+}
+
+impl From<AllocError> for ReauthorizationError {
+    ghost from_gives = { λ error result. result ≡ reauthorizations.Memory error };
+
+    fn from(error: AllocError) -> ReauthorizationError {
+        ReauthorizationError::Memory(error)
+    }
+}

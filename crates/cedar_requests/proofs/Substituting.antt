@@ -1,0 +1,90 @@
+-- Values that are put into a context.
+use Rattle.std.proofs.Common.{◌≡◌, ◌≢◌, ℕ, true, List, Option, None, Some, IfErr, Result, Ok, Err, Global, option_map, refl, ap, subst}
+use Rattle.std.specs.Map.{lookup}
+use Rattle.std.specs.Rc.{rc_str_bytes}
+use Rattle.std.specs.declared.rc.RcStr.{RcStr}
+use Rattle.cedar_model.specs.Terms.{Text, Fields, record_of}
+use Rattle.cedar_model.specs.Values.{Represented}
+use Rattle.cedar_model.specs.Shapes.{is_restricted, are_restricted_at}
+use Rattle.cedar_model.specs.Outcomes.{text_eq}
+use Rattle.cedar_model.specs.Failures.{Failure, out_of_memory, recursion_limit, PartialValue, answers, fails}
+use Rattle.cedar_model.specs.Failures.{limit, part_expression}
+use Rattle.cedar_model.specs.Settings.{ContextPart, absent_context, known_context, residual_context, Setting}
+use Rattle.cedar_model.specs.Settings.{context_value}
+use Rattle.cedar_model.specs.Rules.{StoredCalls}
+use Rattle.cedar_model.specs.Agreement.{height}
+use Rattle.cedar_model.specs.Depth.{substituted_height}
+use Rattle.cedar_model.specs.Refusals.{IsContext, context_fails}
+use Rattle.cedar_model.specs.Restricted.{IsSound}
+use Rattle.cedar_model.specs.Chains.{Mapping, substituted, substituted_at, without_map}
+use Rattle.cedar_model.proofs.RestrictedAnswers.{substituted_at_restricted}
+use Rattle.cedar_data.specs.Sound.{Placed}
+use Rattle.cedar_values.specs.declared.evaluator.err.EvaluationError.{EvaluationError}
+use Rattle.cedar_values.specs.Failures.{failure_of}
+use Rattle.cedar_requests.specs.declared.context.Context.{Context}
+use Rattle.cedar_requests.specs.declared.context.pairs.ContextPairs.{ContextPairs}
+use Rattle.cedar_requests.specs.declared.context.pairs.ContextPairs.TheVariants as kinds
+use Rattle.cedar_requests.specs.declared.context.pairs.ResidualPairs.{ResidualPairs}
+use Rattle.cedar_requests.specs.Contexts.{context_part_value, pairs_view, residual_fields}
+use Rattle.cedar_requests.specs.Substitutions.{values_for, context_answer, IsSubstituted}
+use Rattle.cedar_requests.specs.Substitutions.{IsSubstitutedWithin}
+
+some_inj : {A : Type 0} {x y : A} → Some x ≡ Some y → x ≡ y
+some_inj e = cc
+
+-- ---- values of a map are sound, so that the record stays restricted
+
+found_sound : (o : Option Placed) (v : Represented) → option_map (λ (p : Placed). p.what) o ≡ Some v → IsSound v
+found_sound None v e = absurd (cc)
+found_sound (Some p) v e = subst IsSound (some_inj e) p.sound
+
+pub values_sound : (es : List (RcStr Global × Placed)) (n : Text) (v : Represented) → values_for es n ≡ Some v → IsSound v
+values_sound es n v e = found_sound (lookup (λ (k : RcStr Global). text_eq n (rc_str_bytes k)) es) v e
+
+pub record_restricted : (es : List (RcStr Global × Placed)) (fs : Fields) → are_restricted_at fs ≡ true →
+    is_restricted (record_of (substituted_at (values_for es) fs)) ≡ true
+record_restricted es fs h = substituted_at_restricted (values_for es) (values_sound es) fs h
+
+pub record_substituted : (m : Mapping) (fs : Fields) → substituted m (record_of fs) ≡ record_of (substituted_at m fs)
+unfolding substituted
+record_substituted m fs = refl
+
+-- ---- answers
+
+-- the context of a context's record is that context
+own_pairs : (p : ContextPairs) → IsContext (answers (context_value (pairs_view p))) (Ok (pairs_view p))
+unfolding context_value
+own_pairs (kinds.Values m) = refl
+own_pairs (kinds.Residual r) = refl
+
+no_want : (p : PartialValue) → answers p ≢ fails out_of_memory
+no_want p e = cc
+
+one_failure : (e : Failure) → fails e ≡ fails out_of_memory → e ≡ out_of_memory
+one_failure e h = cc
+
+-- what is answered within the levels without the map is what a step makes of the context
+pub step_answer : (s : Setting) (calls : StoredCalls) (n : ℕ) (m : Mapping) (c : ContextPart)
+    (r : Result Context EvaluationError) → IsSubstitutedWithin (without_map s) calls n m c r
+    → IsSubstituted s calls n m c r
+step_answer s calls n m absent_context r h want = h
+step_answer s calls n m (known_context fs) r h want = h
+step_answer s calls n m (residual_context fs) (Ok c) h want =
+    (answers (context_part_value c), (h (no_want (context_part_value c))).runs, own_pairs c.pairs)
+step_answer s calls n m (residual_context fs) (Err e) h want = (
+  fails (failure_of e),
+  (h (λ w. want (ap (λ f. Err (context_fails f)) (one_failure (failure_of e) w)))).runs,
+  refl,
+)
+
+pub low_error : (r : Result Context EvaluationError) → context_answer r ≢ limit →
+    IfErr r (λ e. failure_of e ≢ recursion_limit)
+low_error (Ok c) h = tt
+low_error (Err e) h = λ w. h (ap fails w)
+
+-- the height of a residual's record with the values in it
+pub residual_height : (m : Mapping) (r : ResidualPairs) →
+    substituted_height m (context_value (pairs_view (kinds.Residual r)))
+    ≡ height (record_of (substituted_at m (residual_fields r)))
+unfolding context_value part_expression substituted
+residual_height m r = refl

@@ -1,0 +1,68 @@
+-- What is answered where values are put into a context, against the model's steps.
+use Rattle.std.specs.Prelude.{◌≡◌, ◌≢◌, ℕ, List, Some, Result, Ok, Err, IfOk}
+use Rattle.std.specs.declared.alloc.Global.{Global}
+use Rattle.std.specs.declared.rc.RcStr.{RcStr}
+use Rattle.cedar_model.specs.Terms.{Text, record_of}
+use Rattle.cedar_model.specs.Values.{Represented}
+use Rattle.cedar_model.specs.World.{World, Functions}
+use Rattle.cedar_model.specs.World as world
+use Rattle.cedar_model.specs.Failures.{out_of_memory, Answer, answers, fails}
+use Rattle.cedar_model.specs.Settings.{ContextPart, absent_context, known_context, residual_context, Setting}
+use Rattle.cedar_model.specs.Rules.{StoredCalls, Meets}
+use Rattle.cedar_model.specs.Agreement.{AgreesWithContext, AgreesWithMap, IsFaithful, IsFaithfulContext, FitsContext}
+use Rattle.cedar_model.specs.Agreement.{AgreesWithFunctions, AnswerFaithfully}
+use Rattle.cedar_model.specs.Refusals.{Refusal, context_fails}
+use Rattle.cedar_model.specs.Chains.{Mapping, substituted_at, SubstitutesTo}
+use Rattle.cedar_expressions.specs.Mappings.{mapping_of}
+use Rattle.cedar_data.specs.Sound.{Placed}
+use Rattle.cedar_values.specs.declared.evaluator.err.EvaluationError.{EvaluationError}
+use Rattle.cedar_values.specs.Failures.{failure_of}
+use Rattle.cedar_restricted.specs.Evaluations.{IsAnswerWithin}
+use Rattle.cedar_requests.specs.declared.context.Context.{Context}
+use Rattle.cedar_requests.specs.Contexts.{context_view, context_part_value}
+
+-- the values that a map has for unknowns
+abbrev pub values_for : List (RcStr Global × Placed) → Mapping
+values_for es = mapping_of (λ (v : Placed). v.what) es
+
+-- the record that a context is, or the error
+abbrev pub context_answer : Result Context EvaluationError → Answer
+context_answer (Ok c) = answers (context_part_value c)
+context_answer (Err e) = fails (failure_of e)
+
+-- the context, or the step's refusal that its error is
+abbrev pub context_result : Result Context EvaluationError → Result ContextPart Refusal
+context_result (Ok c) = Ok (context_view c)
+context_result (Err e) = Err (context_fails (failure_of e))
+
+-- in this setting a step makes this of the context, want of memory aside
+abbrev pub IsSubstituted : Setting → StoredCalls → ℕ → Mapping → ContextPart → Result Context EvaluationError → Type 0
+IsSubstituted s calls levels m c r =
+    context_result r ≢ Err (context_fails out_of_memory) → SubstitutesTo s calls levels m c (context_result r)
+
+-- a residual is answered by what its record, with the values in it, is evaluated to within so many levels; else the
+-- context stays
+abbrev pub IsSubstitutedWithin : Setting → StoredCalls → ℕ → Mapping → ContextPart → Result Context EvaluationError →
+    Type 0
+IsSubstitutedWithin s calls levels m absent_context r = context_result r ≡ Ok absent_context
+IsSubstitutedWithin s calls levels m (known_context fs) r = context_result r ≡ Ok (known_context fs)
+IsSubstitutedWithin s calls levels m (residual_context fs) r =
+    Meets (IsAnswerWithin s calls levels (record_of (substituted_at m fs))) (context_answer r)
+
+-- the world agrees with the context and fits it, and its values are faithful
+pub record CompletesContext (x : world.Extensions) (ans : Functions) (w : World) (c : ContextPart) : Type 0 where
+  pub agrees : AgreesWithContext x ans w c
+  pub fits : FitsContext x ans w c
+  pub faithful : IsFaithfulContext x ans c
+
+-- and so with the map's values
+pub record CompletesMap (x : world.Extensions) (ans : Functions) (w : World) (m : Mapping) : Type 0 where
+  pub agrees : AgreesWithMap w m
+  pub faithful : (n : Text) (v : Represented) → m n ≡ Some v → IsFaithful x ans v
+
+-- a world that completes the context and the map completes the context that is answered, whatever else is in it
+abbrev pub KeepsCompletions : world.Extensions → StoredCalls → Mapping → ContextPart → Result Context EvaluationError →
+    Type 0
+KeepsCompletions x calls m c r =
+    (ans : Functions) (w : World) → AgreesWithFunctions ans calls → AnswerFaithfully x ans calls →
+    CompletesContext x ans w c → CompletesMap x ans w m → IfOk r (λ d. CompletesContext x ans w (context_view d))
