@@ -1,4 +1,4 @@
--- What the stored functions of the tests answer.
+-- What the stored functions of the program and its tests answer.
 use Rattle.std.specs.Prelude.{ℕ, ℤ, pos, negsuc, Bool, true, false, List, [], ◌∷◌, codes, int_rem}
 use Rattle.std.proofs.Common.{zero}
 use Rattle.cedar_model.specs.Terms.{bool_literal, long_literal}
