@@ -3,9 +3,11 @@ use crate::names::uid;
 use crate::reading::{as_bool, as_entity, as_long, as_text, known};
 use crate::requests::Asked;
 use crate::stop::Stop;
-use cedar_authorizer::authorizer::{AuthorizationError, Authorizer, Decision, Response};
+use cedar_authorizer::authorizer::{
+    AuthorizationError, Authorizer, Decision, PartialResponse, ReportedPolicies, Response,
+};
 use cedar_extensions::Extensions;
-use cedar_layers::policies::{Dereference, Entities, Entity, PolicyID, PolicySet};
+use cedar_layers::policies::{Dereference, Entities, Entity, Policy, PolicyID, PolicySet};
 use std::alloc::{AllocError, Global};
 use std::collections::HashSet;
 use std::io::Write;
@@ -46,7 +48,8 @@ fn print_parts<W: Write>(id: &str, document: &Entity, out: &mut W) -> Result<(),
     Ok(())
 }
 
-/// Decides the request, and prints the decision with its reasons and errors.
+/// Decides the request, and prints the decision with its reasons and errors; where the user is not known, what is known of the
+/// decision and its reasons whoever asks.
 pub fn print_request<W: Write>(
     alloc: Global,
     asked: &Asked,
@@ -55,20 +58,17 @@ pub fn print_request<W: Write>(
     extensions: &Extensions<'_>,
     out: &mut W,
 ) -> Result<(), Stop> {
-    let response = decide(alloc, asked, policies, entities, extensions)?;
-    let decision = response.decision;
-    writeln!(
-        out,
-        "{} {} {} at {}: {}",
-        asked.user, asked.action, asked.document, asked.hour, decision
-    )?;
-    for id in sorted(alloc, &response.diagnostics.reason)? {
-        writeln!(out, "  by {id}")?;
+    let authorizer = Authorizer::new(extensions, LIMIT);
+    match asked.user {
+        Some(user) => {
+            let response = decide(alloc, asked, policies, entities, &authorizer)?;
+            print_response(alloc, user, asked, &response, out)
+        }
+        None => {
+            let response = partly_decide(alloc, asked, policies, entities, &authorizer)?;
+            print_partial_response(alloc, asked, &response, out)
+        }
     }
-    for error in &response.diagnostics.errors {
-        print_error(error, out)?;
-    }
-    Ok(())
 }
 
 fn decide(
@@ -76,10 +76,75 @@ fn decide(
     asked: &Asked,
     policies: &PolicySet,
     entities: &Entities,
-    extensions: &Extensions<'_>,
+    authorizer: &Authorizer<'_, '_>,
 ) -> Result<Response, AllocError> {
-    let authorizer = Authorizer::new(extensions, LIMIT);
     authorizer.is_authorized(alloc, asked.request(alloc)?, policies, entities)
+}
+
+fn partly_decide(
+    alloc: Global,
+    asked: &Asked,
+    policies: &PolicySet,
+    entities: &Entities,
+    authorizer: &Authorizer<'_, '_>,
+) -> Result<PartialResponse, AllocError> {
+    authorizer.is_authorized_core(alloc, asked.request(alloc)?, policies, entities)
+}
+
+fn print_response<W: Write>(
+    alloc: Global,
+    user: &str,
+    asked: &Asked,
+    response: &Response,
+    out: &mut W,
+) -> Result<(), Stop> {
+    print_asked(user, asked, out)?;
+    print_decision(Some(response.decision), out)?;
+    for id in sorted(alloc, &response.diagnostics.reason)? {
+        writeln!(out, "  by {id}")?;
+    }
+    print_errors(&response.diagnostics.errors, out)
+}
+
+fn print_partial_response<W: Write>(
+    alloc: Global,
+    asked: &Asked,
+    response: &PartialResponse,
+    out: &mut W,
+) -> Result<(), Stop> {
+    print_asked("someone", asked, out)?;
+    print_decision(response.decision(), out)?;
+    let must = ids(alloc, response.must_be_determining())?;
+    writeln!(out, "  must be determining: {must}")?;
+    let may = ids(alloc, response.may_be_determining())?;
+    writeln!(out, "  may be determining: {may}")?;
+    print_errors(&response.errors, out)
+}
+
+// `USER ACTION DOCUMENT at HOUR: `
+fn print_asked<W: Write>(user: &str, asked: &Asked, out: &mut W) -> Result<(), Stop> {
+    write!(
+        out,
+        "{user} {} {} at {}: ",
+        asked.action, asked.document, asked.hour
+    )?;
+    Ok(())
+}
+
+// The decision, if it is known.
+fn print_decision<W: Write>(decision: Option<Decision>, out: &mut W) -> Result<(), Stop> {
+    match decision {
+        Some(decision) => writeln!(out, "{decision}")?,
+        None => writeln!(out, "not decided")?,
+    }
+    Ok(())
+}
+
+fn print_errors<W: Write>(errors: &[AuthorizationError], out: &mut W) -> Result<(), Stop> {
+    for error in errors {
+        print_error(error, out)?;
+    }
+    Ok(())
 }
 
 // `ID failed: ERROR`
@@ -100,4 +165,23 @@ fn sorted(alloc: Global, ids: &HashSet<PolicyID>) -> Result<Vec<PolicyID>, Alloc
     }
     all.sort()?;
     Ok(all)
+}
+
+// The ids of the policies, in order, with commas between them; `none` of no policies.
+fn ids(alloc: Global, policies: ReportedPolicies<'_>) -> Result<String, AllocError> {
+    let mut all = String::new(alloc);
+    for policy in policies {
+        push_id(alloc, &mut all, &policy?)?;
+    }
+    if all.is_empty() {
+        all.push_str("none")?;
+    }
+    Ok(all)
+}
+
+fn push_id(alloc: Global, all: &mut String, policy: &Policy) -> Result<(), AllocError> {
+    if !all.is_empty() {
+        all.push_str(", ")?;
+    }
+    all.push_str(format!(in alloc; "{}", policy.id())?.as_str())
 }

@@ -152,11 +152,19 @@ ask set-debug
 yes => PolicySet { policies: {PolicyID("yes"): Policy { effect: Permit, id: PolicyID("yes"), annotations: Annotations({}), principal: Expr { expr_kind: Lit(Bool(true)), source_loc: None }, action: Expr { expr_kind: Lit(Bool(true)), source_loc: None }, resource: Expr { expr_kind: Lit(Bool(true)), source_loc: None }, when: Expr { expr_kind: Lit(Bool(true)), source_loc: None }, env: {Principal: EntityUID { ty: EntityType(Name { text: "User", loc: None }), eid: "a", loc: None }}, loc: None }} }
 # the program: its status and its lines
 ask run
-none => 0 empty Deny [] [];skip2 Allow [1] [2];skip3 Allow [1] [2,3];skip4 Deny [4] [2,3];
+none => 0 empty Deny [] [];skip2 Allow [1] [2];skip3 Allow [1] [2,3];skip4 Deny [4] [2,3];residual Allow [] [1];step-false Allow [1] [];step-true Deny [2] [];early Deny [] [2];chain Deny [policy1] [];kept Deny [] [1];nonbool Deny [] [1];stored Allow [1] [];
 empty => 0 empty Deny [] [];
 skip2 => 0 skip2 Allow [1] [2];
 skip3 => 0 skip3 Allow [1] [2,3];
 skip4 => 0 skip4 Deny [4] [2,3];
+residual => 0 residual Allow [] [1];
+step-false => 0 step-false Allow [1] [];
+step-true => 0 step-true Deny [2] [];
+early => 0 early Deny [] [2];
+chain => 0 chain Deny [policy1] [];
+kept => 0 kept Deny [] [1];
+nonbool => 0 nonbool Deny [] [1];
+stored => 0 stored Allow [1] [];
 skip9 => 2 no such row: skip9;
 '' => 2 no such row: ;
 skip2 skip3 => 2 usage: cedar_rows [NAME];
