@@ -8,12 +8,17 @@
 //! - of two expressions with ` ~ ` between them: `equal`; of the keys of a record: `keys`; of two values: `order`; of a leaf: `leaf`; of the words of an error: `built-error PLACE`;
 //! - of the ids of policies: `decide LIMIT`, `decide-texts LIMIT` (the errors' own texts), `decide-copy LIMIT` (whether a copy
 //!   is equal), `evaluate LIMIT`, `partly-evaluate LIMIT`, `set`, `set-debug`, `policy` and `condition`;
+//! - of the ids of policies and the steps behind them: `chain LIMIT` (what is known after the last step, which is the same by `authorize_in_steps` and by
+//!   one `reauthorize` a step), `in-steps LIMIT` and `one-by-one LIMIT` (by the first, and by the second alone);
+//! - of the notes that a response is made of and the steps behind them: `made`, `made readers` and `made get ID`;
+//! - of a step: `context-with LIMIT` (the context of the setting with its values);
 //! - of the setting: `request` and `entity`;
 //! - of the arguments of the program: `run`.
 pub mod described;
 pub mod evaluated;
 mod judged;
 mod operated;
+mod stepped;
 mod stored;
 mod written;
 
@@ -51,6 +56,9 @@ pub fn answer(
         }
         "set" | "set-debug" | "policy" | "condition" => judged::listed(alloc, facts, kind, words),
         "request" | "entity" => stored::answer(alloc, setting, kind, words),
+        "chain" | "in-steps" | "one-by-one" | "made" | "context-with" => {
+            stepped::answer(alloc, facts, setting, kind, argument, words)
+        }
         "run" => program::answer(alloc, words),
         _ => written::other(alloc, kind, argument, words),
     }

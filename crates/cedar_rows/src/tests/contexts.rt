@@ -132,10 +132,20 @@ fn converted(alloc: Global, written: &str) -> Result<String, Fail> {
     }
 }
 
+fn value_text(alloc: Global, context: &Context) -> Result<String, Fail> {
+    let value = PartialValue::try_from(context.clone()?)?;
+    Ok(value.to_string(alloc)?)
+}
+
+fn restricted_text(alloc: Global, context: &Context) -> Result<String, Fail> {
+    let expr = RestrictedExpr::try_from(context.clone()?)?;
+    Ok(expr.to_string(alloc)?)
+}
+
 fn conversions(alloc: Global, context: &Context) -> Result<String, Fail> {
     let is_same = *context == context.clone()?;
-    let value = PartialValue::try_from(context.clone()?)?;
-    let expr = RestrictedExpr::try_from(context.clone()?)?;
+    let value = value_text(alloc, context)?;
+    let expr = restricted_text(alloc, context)?;
     let mut text = format!(in alloc; "{value} ~ {expr} ~ {is_same} ~ ")?;
     BoundedDisplay::fmt(context, &mut text, Some(1))?;
     Ok(text)

@@ -6,6 +6,7 @@ pub mod expressions;
 pub mod leaves;
 pub mod policies;
 pub mod settings;
+pub mod steps;
 pub mod values;
 
 use leaves::text;

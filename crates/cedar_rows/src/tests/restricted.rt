@@ -306,7 +306,7 @@ fn answer_text(
     alloc: Global,
     answer: Result<PartialValue, EvaluationError>,
 ) -> Result<String, AllocError> {
-    match answer {
+    match &answer {
         Ok(part) => part.to_string(alloc),
         Err(error) => error.to_string(alloc),
     }
@@ -327,7 +327,7 @@ fn asking_text(alloc: Global, e: &RestrictedExpr) -> Result<String, Fail> {
 
 // Where the answer stands, a residual or an error.
 fn asking_place(alloc: Global, e: &RestrictedExpr) -> Result<String, Fail> {
-    match asked(alloc, e)? {
+    match &asked(alloc, e)? {
         Ok(PartialValue::Value(_)) => Ok(String::from_str(alloc, "a value")?),
         Ok(PartialValue::Residual(residual)) => place(alloc, residual.as_expr().source_loc()),
         Err(error) => place(alloc, error.source_loc()),
@@ -336,7 +336,7 @@ fn asking_place(alloc: Global, e: &RestrictedExpr) -> Result<String, Fail> {
 
 // Where the recursion limit stands within one level.
 fn short_place(alloc: Global, e: &RestrictedExpr) -> Result<String, Fail> {
-    match partly(alloc, e, 1) {
+    match &partly(alloc, e, 1) {
         Ok(_) => Ok(String::from_str(alloc, "a value")?),
         Err(error) => place(alloc, error.source_loc()),
     }

@@ -5,6 +5,7 @@ ghost use Rattle.std.specs.Prelude.{◌≡◌, true};
 ghost use Rattle.cedar_extensions.specs.Outcomes.{ComesTo, is_lawful, abstracts};
 ghost use Rattle.cedar_rows.specs.Stored.{even_of, fail_of, made_of};
 
+mod chains;
 mod depth;
 mod errors;
 pub mod everyday;
@@ -41,6 +42,7 @@ mod parts;
 mod places;
 mod policies;
 mod requests;
+mod responses;
 mod store;
 mod texts;
 mod unknowns;
@@ -200,6 +202,26 @@ fn line_holds(
     Ok(holds)
 }
 
+/// The facts of a case that has no others.
+const REQUEST: &str = "principal User:a\naction Action:view\nresource Photo:p";
+
+/// Whether all rows of these cases hold, each with its own facts.
+fn cases_hold(rt: &impl Print, alloc: Global, cases: &str) -> Result<bool, Fail> {
+    let mut all_hold = true;
+    for case in cases.split("\ncase\n") {
+        if !case_holds(rt, alloc, case)? {
+            all_hold = false;
+        }
+    }
+    Ok(all_hold)
+}
+
+fn case_holds(rt: &impl Print, alloc: Global, case: &str) -> Result<bool, Fail> {
+    let (facts, rows) = case.split_once("\nrows\n").ok_or("a case without rows")?;
+    let facts = format!(in alloc; "{facts}\n{REQUEST}")?;
+    tables_hold(rt, alloc, facts.as_str(), &[rows])
+}
+
 #[test]
 fn rows_of_operators(rt: HostRuntime) -> Result<(), Fail> {
     let tables = [
@@ -299,6 +321,18 @@ fn rows_of_each_rule(rt: HostRuntime) -> Result<(), Fail> {
     assert!(rt; tables_hold(&rt, rt.alloc(), partial, &[partial_worked::PARTIAL_ROWS])?);
     let mapped = partial_worked::MAPPED;
     assert!(rt; tables_hold(&rt, rt.alloc(), mapped, &[partial_worked::MAPPED_ROWS])?);
+    Ok(())
+}
+
+#[test]
+fn cases_of_responses(rt: HostRuntime) -> Result<(), Fail> {
+    assert!(rt; cases_hold(&rt, rt.alloc(), responses::CASES)?);
+    Ok(())
+}
+
+#[test]
+fn cases_of_chains(rt: HostRuntime) -> Result<(), Fail> {
+    assert!(rt; cases_hold(&rt, rt.alloc(), chains::CASES)?);
     Ok(())
 }
 

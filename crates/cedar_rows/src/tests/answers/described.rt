@@ -24,6 +24,24 @@ pub fn described(alloc: Global, error: &EvaluationError) -> Result<String, Alloc
     }
 }
 
+/// The kind of the error.
+pub fn kind(error: &EvaluationError) -> &'static str {
+    match error {
+        EvaluationError::EntityDoesNotExist(_) => "EntityDoesNotExist",
+        EvaluationError::EntityAttrDoesNotExist(_) => "EntityAttrDoesNotExist",
+        EvaluationError::RecordAttrDoesNotExist(_) => "RecordAttrDoesNotExist",
+        EvaluationError::FailedExtensionFunctionLookup(_) => "FailedExtensionFunctionLookup",
+        EvaluationError::TypeError(_) => "TypeError",
+        EvaluationError::WrongNumArguments(_) => "WrongNumArguments",
+        EvaluationError::IntegerOverflow(_) => "IntegerOverflow",
+        EvaluationError::UnlinkedSlot(_) => "UnlinkedSlot",
+        EvaluationError::FailedExtensionFunctionExecution(_) => "FailedExtensionFunctionExecution",
+        EvaluationError::NonValue(_) => "NonValue",
+        EvaluationError::RecursionLimit(_) => "RecursionLimit",
+        EvaluationError::Memory(_) => "Memory",
+    }
+}
+
 // The error, whether it is there as the other kind, and what is there of its kind: some names, and how many there are.
 fn with_names(
     alloc: Global,

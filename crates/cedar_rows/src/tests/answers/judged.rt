@@ -158,7 +158,8 @@ fn policies_text(alloc: Global, set: &PolicySet) -> Result<String, AllocError> {
     joined(alloc, &texts, ",")
 }
 
-fn effect_text(effect: Effect) -> &'static str {
+/// The name of the effect.
+pub fn effect_text(effect: Effect) -> &'static str {
     match effect {
         Effect::Permit => "permit",
         Effect::Forbid => "forbid",

@@ -108,11 +108,13 @@ fn annotations(alloc: Global, setting: &str, id: &str) -> Result<Annotations, Fa
     Ok(annotations)
 }
 
-fn policy_id(alloc: Global, id: &str) -> Result<PolicyID, AllocError> {
+/// The id that is written so.
+pub fn policy_id(alloc: Global, id: &str) -> Result<PolicyID, AllocError> {
     Ok(PolicyID::from_string(text(alloc, id)?))
 }
 
-fn effect(word: &str) -> Result<Effect, Fail> {
+/// The effect of this name.
+pub fn effect(word: &str) -> Result<Effect, Fail> {
     match word {
         "permit" => Ok(Effect::Permit),
         "forbid" => Ok(Effect::Forbid),

@@ -138,7 +138,7 @@ fn context_of(alloc: Global, words: &str, extensions: &Extensions<'_>) -> Result
     let expr = restricted(alloc, words)?;
     match Context::from_expr(alloc, expr.as_borrowed(), extensions, LIMIT) {
         Ok(context) => Ok(context),
-        Err(_) => Err(Fail::from("no context")),
+        Err(_) => Err(Fail::from("no context, or no memory for it")),
     }
 }
 
@@ -165,7 +165,8 @@ pub fn slots(alloc: Global, setting: &str) -> Result<SlotEnv, Fail> {
     Ok(slots)
 }
 
-fn stored(alloc: Global, setting: &str) -> Result<Entities, Fail> {
+/// The store of the entities that the facts declare.
+pub fn stored(alloc: Global, setting: &str) -> Result<Entities, Fail> {
     let is_partial = first_fact(setting, "store") == Some("partial");
     let entities = entities(alloc, setting)?;
     Ok(Entities::with(alloc, entities, is_partial)?)

@@ -7,6 +7,8 @@ action Action:view
 resource Photo:p
 functions one two unknown
 overloads T
+policy known permit call:one:0 L:0 set:2 call:two:0 contains
+policy left permit call:one:0 U:x set:2 call:two:0 contains
 "#;
 
 /// Each row has the words of an expression and its answer.
@@ -29,4 +31,8 @@ T:x call:unknown:1 call:one:0 less => U:x call:two:0 less
 # and counts its arguments
 ask partial
 L:1 call:one:1 => wrong number of arguments provided to extension function `one`: expected 0, got 1
+# such a value is outside the premise that values are faithful, as what says that it is made by `two` must be what `two` makes: a chain then decides otherwise than where all is known
+ask chain
+known => Deny; Deny [] []; permits [] [known] []; forbids [] [] []; erred []; must []; may []
+left / x L:0 => Allow; Allow [left] []; permits [left] [] []; forbids [] [] []; erred []; must [left]; may [left]
 "#;
