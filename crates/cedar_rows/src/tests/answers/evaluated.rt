@@ -173,6 +173,13 @@ fn is_limit(outcome: &Result<PartialValue, EvaluationError>) -> bool {
     }
 }
 
+fn is_want(outcome: &Result<PartialValue, EvaluationError>) -> bool {
+    match outcome {
+        Ok(_) => false,
+        Err(error) => matches!(error, EvaluationError::Memory(_)),
+    }
+}
+
 // The outcome, which must be this one too.
 fn same(
     outcome: Result<PartialValue, EvaluationError>,
@@ -180,6 +187,8 @@ fn same(
 ) -> Result<Result<PartialValue, EvaluationError>, Fail> {
     if outcome == *other {
         Ok(outcome)
+    } else if is_want(&outcome) || is_want(other) {
+        Err(Fail::from("out of memory"))
     } else {
         Err(Fail::from("the limit changes the answer"))
     }

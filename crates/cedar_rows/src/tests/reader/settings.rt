@@ -136,10 +136,7 @@ fn context(
 
 fn context_of(alloc: Global, words: &str, extensions: &Extensions<'_>) -> Result<Context, Fail> {
     let expr = restricted(alloc, words)?;
-    match Context::from_expr(alloc, expr.as_borrowed(), extensions, LIMIT) {
-        Ok(context) => Ok(context),
-        Err(_) => Err(Fail::from("no context, or no memory for it")),
-    }
+    Ok(Context::from_expr(alloc, expr.as_borrowed(), extensions, LIMIT)?)
 }
 
 fn mapped_values(alloc: Global, setting: &str) -> Result<HashMap<RcStr, Value>, Fail> {
