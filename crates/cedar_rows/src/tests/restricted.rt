@@ -79,8 +79,7 @@ short-place: L:1 @1-2 => a value
 fn rows_of_restricted_expressions(rt: HostRuntime) -> Result<(), Fail> {
     let mut all_hold = true;
     for line in ROWS.lines() {
-        if !line.is_empty() && !line_holds(rt.alloc(), line)? {
-            println!(rt; "{line}")?;
+        if !line.is_empty() && !line_holds(&rt, rt.alloc(), line)? {
             all_hold = false;
         }
     }
@@ -116,14 +115,25 @@ fn nested_sets_need_a_level_each(rt: HostRuntime) -> Result<(), Fail> {
     Ok(())
 }
 
-fn line_holds(alloc: Global, line: &str) -> Result<bool, Fail> {
+// Whether the row has the answer that is wanted. Prints the row with its answer if not.
+fn line_holds(rt: &impl Print, alloc: Global, line: &str) -> Result<bool, Fail> {
     let (question, row) = line.split_once(": ").ok_or("a row has a question")?;
     let (words, want) = row.split_once(" => ").ok_or("a row has an answer")?;
     match question {
-        "refused" => refused(alloc, words, want),
-        "residual" => residual_is(alloc, words, want),
-        _ => Ok(answer(alloc, question, words)?.as_str() == want),
+        "refused" => is_wanted(rt, line, "another", refused(alloc, words, want)?),
+        "residual" => is_wanted(rt, line, "another", residual_is(alloc, words, want)?),
+        _ => {
+            let answer = answer(alloc, question, words)?;
+            is_wanted(rt, line, answer.as_str(), answer.as_str() == want)
+        }
     }
+}
+
+fn is_wanted(rt: &impl Print, line: &str, answer: &str, holds: bool) -> Result<bool, Fail> {
+    if !holds {
+        println!(rt; "{line}, not {answer}")?;
+    }
+    Ok(holds)
 }
 
 fn answer(alloc: Global, question: &str, words: &str) -> Result<String, Fail> {
@@ -173,7 +183,7 @@ fn residual_is(alloc: Global, words: &str, want: &str) -> Result<bool, Fail> {
         Err(PartialValueToRestrictedExprError::NontrivialResidual { residual }) => {
             Ok(*residual == want)
         }
-        Err(PartialValueToRestrictedExprError::Memory(_)) => Ok(false),
+        Err(PartialValueToRestrictedExprError::Memory(error)) => Err(Fail::from(error)),
     }
 }
 
@@ -330,7 +340,7 @@ fn asking_place(alloc: Global, e: &RestrictedExpr) -> Result<String, Fail> {
     match &asked(alloc, e)? {
         Ok(PartialValue::Value(_)) => Ok(String::from_str(alloc, "a value")?),
         Ok(PartialValue::Residual(residual)) => place(alloc, residual.as_expr().source_loc()),
-        Err(error) => place(alloc, error.source_loc()),
+        Err(error) => error_place(alloc, error),
     }
 }
 
@@ -338,7 +348,16 @@ fn asking_place(alloc: Global, e: &RestrictedExpr) -> Result<String, Fail> {
 fn short_place(alloc: Global, e: &RestrictedExpr) -> Result<String, Fail> {
     match &partly(alloc, e, 1) {
         Ok(_) => Ok(String::from_str(alloc, "a value")?),
-        Err(error) => place(alloc, error.source_loc()),
+        Err(error) => error_place(alloc, error),
+    }
+}
+
+// Want of memory stands nowhere.
+fn error_place(alloc: Global, error: &EvaluationError) -> Result<String, Fail> {
+    if matches!(error, EvaluationError::Memory(_)) {
+        Err(Fail::from(AllocError))
+    } else {
+        place(alloc, error.source_loc())
     }
 }
 

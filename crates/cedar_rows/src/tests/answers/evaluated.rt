@@ -95,7 +95,16 @@ pub fn outcome_place(
 ) -> Result<String, AllocError> {
     match outcome {
         Ok(value) => format!(in alloc; "value {}", Place(value.source_loc())),
-        Err(error) => format!(in alloc; "error {}", Place(error.source_loc())),
+        Err(error) => error_place(alloc, error),
+    }
+}
+
+// Want of memory stands nowhere.
+fn error_place(alloc: Global, error: &EvaluationError) -> Result<String, AllocError> {
+    if matches!(error, EvaluationError::Memory(_)) {
+        Err(AllocError)
+    } else {
+        format!(in alloc; "error {}", Place(error.source_loc()))
     }
 }
 
@@ -246,7 +255,7 @@ fn partial_place(
             let (kind, place) = (kind_of(part), place_of(part));
             format!(in alloc; "{kind} {place}")
         }
-        Err(error) => format!(in alloc; "error {}", Place(error.source_loc())),
+        Err(error) => error_place(alloc, error),
     }
 }
 
