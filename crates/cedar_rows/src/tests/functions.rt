@@ -1,5 +1,5 @@
 //! What the functions answer that the tests store.
-ghost use Rattle.cedar_rows.specs.Stored.{even_of, fail_of, made_of};
+ghost use Rattle.cedar_rows.specs.Stored.{even_of, fail_of, ask_of, made_of};
 ghost use Rattle.cedar_extensions.specs.Outcomes.{ComesTo, is_lawful, abstracts};
 ghost use Rattle.cedar_model.specs.Values.{abstract_value, extension_value};
 ghost use Rattle.cedar_model.specs.World.{function_errs};
@@ -10,7 +10,7 @@ ghost use Rattle.std.specs.Prelude.{◌≡◌, true, IfOk, codes, [], ◌∷◌}
 
 use cedar_extensions::ExtensionOutputValue;
 use cedar_layers::expressions::{
-    ExtensionValue, FirstRest, Literal, Name, Representation, Type, Value, ValueKind,
+    ExtensionValue, FirstRest, Literal, Name, Representation, Type, Unknown, Value, ValueKind,
 };
 use cedar_values::evaluator::err::EvaluationError;
 use cedar_values::evaluator::err::evaluation_errors::{ExtensionFunctionExecutionError, TypeError};
@@ -82,6 +82,17 @@ fn failed(alloc: Global) -> Result<ExtensionFunctionExecutionError, AllocError> 
         msg: String::from_str(alloc, "no")?,
         source_loc: None,
     })
+}
+
+/// The unknown `asked`, which stands for a boolean.
+pub fn ask(alloc: Global, args: &[Value]) -> Result<ExtensionOutputValue, EvaluationError>
+    ensures computes { ComesTo result (ask_of (abstracts args.now)) }
+    ensures lawful { is_lawful result ≡ true }
+{
+    match RcStr::from_str(alloc, "asked") {
+        Ok(name) => Ok(ExtensionOutputValue::Unknown(Unknown::new_with_type(name, Type::Bool))),
+        Err(error) => Err(EvaluationError::Memory(error)),
+    }
 }
 
 /// The value of the type `T` with this key, which says that it was made by `two`.

@@ -3,7 +3,7 @@
 //! title. Each table is answered in a setting, which is such a text of facts too.
 ghost use Rattle.std.specs.Prelude.{◌≡◌, true};
 ghost use Rattle.cedar_extensions.specs.Outcomes.{ComesTo, is_lawful, abstracts};
-ghost use Rattle.cedar_rows.specs.Stored.{even_of, fail_of, made_of};
+ghost use Rattle.cedar_rows.specs.Stored.{even_of, fail_of, ask_of, made_of};
 
 mod chains;
 mod depth;
@@ -49,7 +49,7 @@ mod unknowns;
 mod written;
 
 use super::answers::answer;
-use super::functions::{even, fail, made, plain_name};
+use super::functions::{ask, even, fail, made, plain_name};
 use super::reader::settings::{Setting, setting_of};
 use super::reader::{fact, first_fact};
 use cedar_extensions::{
@@ -61,7 +61,7 @@ use std::alloc::{AllocError, Global};
 use std::rc::RcStr;
 use std::test::Fail;
 
-/// Whether all rows of these tables hold in the setting of these facts. Of `even`, `fail` and `unknown` it has those that its fact
+/// Whether all rows of these tables hold in the setting of these facts. Of `even`, `fail`, `ask` and `unknown` it has those that its fact
 /// `functions` names.
 fn tables_hold(rt: &impl Print, alloc: Global, facts: &str, tables: &[&str]) -> Result<bool, Fail> {
     let even: ExtensionFunctionObject = Box::new(
@@ -78,14 +78,24 @@ fn tables_hold(rt: &impl Print, alloc: Global, facts: &str, tables: &[&str]) -> 
             ensures lawful { is_lawful result ≡ true }
         { fail(alloc, args) },
     )?;
+    let ask: ExtensionFunctionObject = Box::new(
+        alloc,
+        move |args: &[Value]| -> Result<ExtensionOutputValue, EvaluationError>
+            ensures computes { ComesTo result (ask_of (abstracts args.now)) }
+            ensures lawful { is_lawful result ≡ true }
+        { ask(alloc, args) },
+    )?;
     let style = CallStyle::FunctionStyle;
     let (bool, long) = (Some(Type::Bool), vec![in alloc; Type::Long]?);
     let even = ExtensionFunction::new(plain_name(alloc, "even")?, style, even, bool, long);
     let none = Vec::new(alloc);
     let fail = ExtensionFunction::new(plain_name(alloc, "fail")?, style, fail, None, none);
+    let none = Vec::new(alloc);
+    let ask = ExtensionFunction::new(plain_name(alloc, "ask")?, style, ask, None, none);
     let mut functions: Vec<ExtensionFunction> = Vec::new(alloc);
     put(facts, &mut functions, even)?;
     put(facts, &mut functions, fail)?;
+    put(facts, &mut functions, ask)?;
     put(facts, &mut functions, ExtensionFunction::unknown(alloc)?)?;
     tables_hold_with(rt, alloc, facts, tables, functions)
 }

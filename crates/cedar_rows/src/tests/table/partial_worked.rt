@@ -6,7 +6,7 @@ pub static SETTING: &str = r#"
 principal User:a
 action Action:view
 resource Photo:p
-functions even fail unknown
+functions even fail ask unknown
 entity E:p
 entity E:q
 entity E:e
@@ -31,6 +31,7 @@ principal unknown User
 action unknown
 resource Photo:p
 context none
+functions ask
 entity E:e
 entity E:q
 attribute E:e f U:u
@@ -48,6 +49,7 @@ map c E:E:e
 map principal E:User:a
 map action E:Action:view
 map context L:1 record:a
+map asked B:true
 "#;
 
 /// Rows of the first setting.
@@ -110,6 +112,9 @@ ask residual
 U:x call:nosuch:1 => U:x call:nosuch:1
 U:x call:even:1 => U:x call:even:1
 U:x call:fail:0 and => U:x call:fail:0 and
+call:ask:0 => U:asked:Bool
+call:ask:0 B:true and => U:asked:Bool B:true and
+L:1 call:ask:0 set:2 => L:1 U:asked:Bool set:2
 ask partial
 L:1 call:nosuch:1 => extension function `nosuch` does not exist
 L:1 T:a add call:nosuch:1 => type error: expected long, got string
@@ -167,12 +172,14 @@ ask residual
 E:E:e get:g => U:u set:1
 E:E:e T:t getTag => U:v
 E:E:q ext:child.foo => U:c ext:foo
-# an entry and the context are not looked up; a part that is taken out of a record is
+# an entry, the context and what a function answers are not looked up; a part that is taken out of a record is
 V:principal => U:principal:Entity:User
 V:action => U:action
 V:context get:a => U:context get:a
+call:ask:0 => U:asked:Bool
 ask partial
 V:principal U:x record:a,b get:a => User::"a"
+call:ask:0 U:x record:a,b get:a => true
 ask partial 4
 U:nested U:y record:a,b get:a => [[1]]
 ask partial 3
