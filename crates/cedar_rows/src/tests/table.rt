@@ -49,9 +49,10 @@ mod unknowns;
 mod written;
 
 use super::answers::answer;
-use super::functions::{ask, even, fail, made, plain_name};
+use super::functions::{ask, fail, made, plain_name};
 use super::reader::settings::{Setting, setting_of};
 use super::reader::{fact, first_fact};
+use crate::functions::even;
 use cedar_extensions::{
     Extension, ExtensionFunction, ExtensionFunctionObject, ExtensionOutputValue, Extensions,
 };
