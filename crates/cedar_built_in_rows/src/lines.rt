@@ -1,0 +1,225 @@
+//! The line of a row.
+ghost use Rattle.std.specs.Prelude.{◌≡◌, None};
+ghost use Rattle.cedar_layers.specs.Policies.{first_repeated};
+ghost use Rattle.cedar_built_in_rows.specs.Ids.{ids_of};
+
+use crate::policies::policies_of;
+use crate::requests::request_of;
+use crate::rows::Row;
+use crate::steps::{c_and_d, number_of, resource_is_b, truth_of};
+use crate::stop::{Stop, step_refused};
+use cedar_authorizer::authorizer::{
+    AuthorizationError, Authorizer, Decision, PartialResponse, ReauthorizationError, Response,
+};
+use cedar_extensions::Extensions;
+use cedar_layers::expressions::Value;
+use cedar_layers::policies::{Entities, Policy, PolicyID, PolicySet, PolicySetError};
+use std::alloc::{AllocError, Global};
+use std::collections::{HashMap, HashSet};
+use std::io::Write;
+use std::rc::RcStr;
+
+/// How many levels deep the rows are evaluated.
+pub const LIMIT: usize = 1000;
+
+/// Decides the row and prints its line.
+pub fn print_line<W: Write>(
+    alloc: Global,
+    row: Row,
+    extensions: &Extensions<'_>,
+    out: &mut W,
+) -> Result<(), Stop> {
+    match decide(alloc, row, extensions) {
+        Ok(response) => write_line(line(alloc, row, &response)?.as_str(), out),
+        Err(stop) => Err(stop),
+    }
+}
+
+fn write_line<W: Write>(line: &str, out: &mut W) -> Result<(), Stop> {
+    writeln!(out, "{line}")?;
+    Ok(())
+}
+
+// `NAME DECISION [reasons] [error ids]`
+fn line(alloc: Global, row: Row, response: &Response) -> Result<String, AllocError> {
+    let name = row.name();
+    let decision = decision_text(response.decision);
+    let reasons = reasons_text(alloc, &response.diagnostics.reason)?;
+    let errors = errors_text(alloc, &response.diagnostics.errors)?;
+    format!(in alloc; "{name} {decision} [{reasons}] [{errors}]")
+}
+
+fn decide(alloc: Global, row: Row, extensions: &Extensions<'_>) -> Result<Response, Stop> {
+    let policies = set_of(alloc, policies_of(alloc, row)?)?;
+    decide_by(alloc, row, &Authorizer::new(extensions, LIMIT), &policies)
+}
+
+// What the policies decide for the row's request, after the row's steps.
+fn decide_by(
+    alloc: Global,
+    row: Row,
+    authorizer: &Authorizer<'_, '_>,
+    policies: &PolicySet,
+) -> Result<Response, Stop> {
+    match row {
+        Row::Empty => at_once(alloc, row, authorizer, policies),
+        Row::Skip2 => at_once(alloc, row, authorizer, policies),
+        Row::Skip3 => at_once(alloc, row, authorizer, policies),
+        Row::Skip4 => at_once(alloc, row, authorizer, policies),
+        Row::Residual => at_once(alloc, row, authorizer, policies),
+        Row::Early => without_steps(alloc, row, authorizer, policies),
+        Row::Chain => in_two_steps(alloc, row, authorizer, policies),
+        Row::StepFalse => {
+            let step = truth_of(alloc, "test", false)?;
+            in_one_step(alloc, row, authorizer, policies, &step)
+        }
+        Row::StepTrue => {
+            let step = truth_of(alloc, "test", true)?;
+            in_one_step(alloc, row, authorizer, policies, &step)
+        }
+        Row::Kept => {
+            let step = truth_of(alloc, "x", true)?;
+            in_one_step(alloc, row, authorizer, policies, &step)
+        }
+        Row::NonBool => {
+            let step = number_of(alloc, "r", 1)?;
+            in_one_step(alloc, row, authorizer, policies, &step)
+        }
+        Row::Stored => {
+            let step = number_of(alloc, "n", 4)?;
+            in_one_step(alloc, row, authorizer, policies, &step)
+        }
+    }
+}
+
+fn at_once(
+    alloc: Global,
+    row: Row,
+    authorizer: &Authorizer<'_, '_>,
+    policies: &PolicySet,
+) -> Result<Response, Stop> {
+    match request_of(alloc, row) {
+        Ok(request) => {
+            let none = Entities::new(alloc);
+            Ok(authorizer.is_authorized(alloc, request, policies, &none)?)
+        }
+        Err(stop) => Err(stop),
+    }
+}
+
+// What the core call answers, made concrete.
+fn without_steps(
+    alloc: Global,
+    row: Row,
+    authorizer: &Authorizer<'_, '_>,
+    policies: &PolicySet,
+) -> Result<Response, Stop> {
+    match request_of(alloc, row) {
+        Ok(request) => {
+            let none = Entities::new(alloc);
+            let response = authorizer.is_authorized_core(alloc, request, policies, &none)?;
+            Ok(Response::try_from(response)?)
+        }
+        Err(stop) => Err(stop),
+    }
+}
+
+/// What the policies decide for the row's request after this step.
+pub fn in_one_step(
+    alloc: Global,
+    row: Row,
+    authorizer: &Authorizer<'_, '_>,
+    policies: &PolicySet,
+    step: &HashMap<RcStr, Value>,
+) -> Result<Response, Stop> {
+    match request_of(alloc, row) {
+        Ok(request) => {
+            let none = Entities::new(alloc);
+            let steps = [(step, &none)];
+            let answer = authorizer.authorize_in_steps(alloc, request, policies, &none, &steps);
+            concrete(alloc, answer)
+        }
+        Err(stop) => Err(stop),
+    }
+}
+
+// What is answered after both steps of the chain, made concrete.
+fn in_two_steps(
+    alloc: Global,
+    row: Row,
+    authorizer: &Authorizer<'_, '_>,
+    policies: &PolicySet,
+) -> Result<Response, Stop> {
+    let first = resource_is_b(alloc)?;
+    let second = c_and_d(alloc)?;
+    match request_of(alloc, row) {
+        Ok(request) => {
+            let none = Entities::new(alloc);
+            let steps = [(&first, &none), (&second, &none)];
+            let answer = authorizer.authorize_in_steps(alloc, request, policies, &none, &steps);
+            concrete(alloc, answer)
+        }
+        Err(stop) => Err(stop),
+    }
+}
+
+fn concrete(
+    alloc: Global,
+    answer: Result<PartialResponse, ReauthorizationError>,
+) -> Result<Response, Stop> {
+    match answer {
+        Ok(response) => Ok(response.concretize(alloc)?),
+        Err(error) => Err(step_refused(alloc, &error)),
+    }
+}
+
+// No two policies have one id, so only memory can be wanting.
+fn set_of(alloc: Global, policies: Vec<Policy>) -> Result<PolicySet, AllocError>
+    requires { first_repeated (ids_of policies.items) ≡ None }
+{
+    match PolicySet::try_from_iter(alloc, policies) {
+        Ok(policies) => Ok(policies),
+        Err(PolicySetError::Occupied { id: _ }) => unreachable!(),
+        Err(PolicySetError::Memory(error)) => Err(error),
+    }
+}
+
+/// The name of the decision.
+pub fn decision_text(decision: Decision) -> &'static str {
+    match decision {
+        Decision::Allow => "Allow",
+        Decision::Deny => "Deny",
+    }
+}
+
+/// The ids sorted by bytes, joined by commas.
+pub fn reasons_text(alloc: Global, reasons: &HashSet<PolicyID>) -> Result<String, AllocError> {
+    let mut ids: Vec<String> = Vec::new(alloc);
+    for id in reasons.iter() {
+        ids.push(format!(in alloc; "{id}")?)?;
+    }
+    ids.sort()?;
+    joined(alloc, &ids, ",")
+}
+
+// The ids of the policies that erred, in order, joined by commas.
+fn errors_text(alloc: Global, errors: &[AuthorizationError]) -> Result<String, AllocError> {
+    let mut ids: Vec<String> = Vec::new(alloc);
+    for error in errors {
+        let AuthorizationError::PolicyEvaluationError { id, error: _ } = error;
+        ids.push(format!(in alloc; "{id}")?)?;
+    }
+    joined(alloc, &ids, ",")
+}
+
+/// The texts, with this one between them.
+pub fn joined(alloc: Global, texts: &[String], between: &str) -> Result<String, AllocError> {
+    let mut all = String::new(alloc);
+    for (i, text) in texts.iter().enumerate() {
+        if i > 0 {
+            all.push_str(between)?;
+        }
+        all.push_str(text.as_str())?;
+    }
+    Ok(all)
+}

@@ -1,0 +1,470 @@
+//! What is known of policies, and what becomes of that in steps.
+use crate::judged::effect_text;
+use cedar_answers::described::kind;
+use cedar_answers::evaluated::{limit, or_fail};
+use cedar_authorizer::authorizer::{
+    AuthorizationError, Authorizer, ConcretizationError, Decision, PartialResponse,
+    ReauthorizationError, Reauthorize, ReportedIds, ReportedPolicies, Response,
+};
+use cedar_built_in_rows::lines::{decision_text, joined, reasons_text};
+use cedar_layers::policies::{Policy, PolicyID, PolicySet};
+use cedar_notation::headed;
+use cedar_notation::policies::{policy_id, policy_set};
+use cedar_notation::settings::Setting;
+use cedar_notation::steps::{Step, mapping, sheet, steps};
+use cedar_notation::unanswered::Unanswered;
+use cedar_requests::Request;
+use cedar_responses::shared::Sheet;
+use indexmap::IndexMap;
+use std::alloc::{AllocError, Global};
+use std::rc::Rc;
+
+/// What is known after the steps, or why one of them was refused.
+pub fn answer(
+    alloc: Global,
+    facts: &str,
+    setting: &Setting<'_, '_>,
+    question: &str,
+    argument: &str,
+    words: &str,
+) -> Result<String, Unanswered> {
+    if question == "context-with" {
+        return context_with(alloc, setting, limit(argument)?, words);
+    }
+    let (first, written) = match words.split_once(" / ") {
+        Some((first, written)) => (first, written),
+        None => (words, ""),
+    };
+    let steps = steps(alloc, facts, written)?;
+    if question == "made" {
+        of_notes(alloc, setting, argument, first, &steps)
+    } else {
+        of_policies(alloc, facts, setting, question, argument, first, &steps)
+    }
+}
+
+// What is asked after these steps of the response that is made of these notes.
+fn of_notes(
+    alloc: Global,
+    setting: &Setting<'_, '_>,
+    asked: &str,
+    notes: &str,
+    steps: &[Step],
+) -> Result<String, Unanswered> {
+    let limit = limit("")?;
+    let response = made(alloc, setting, notes)?;
+    told(
+        alloc,
+        asked,
+        &one_by_one(alloc, setting, limit, response, steps),
+    )
+}
+
+// What is known after these steps of the policies of these ids.
+fn of_policies(
+    alloc: Global,
+    facts: &str,
+    setting: &Setting<'_, '_>,
+    question: &str,
+    limit_text: &str,
+    ids: &str,
+    steps: &[Step],
+) -> Result<String, Unanswered> {
+    let limit = limit(limit_text)?;
+    let policies = policy_set(alloc, facts, ids)?;
+    chained(alloc, setting, question, limit, &policies, steps)
+}
+
+fn chained(
+    alloc: Global,
+    setting: &Setting<'_, '_>,
+    question: &str,
+    limit: usize,
+    policies: &PolicySet,
+    steps: &[Step],
+) -> Result<String, Unanswered> {
+    match question {
+        "in-steps" => told_in_steps(alloc, setting, limit, policies, steps),
+        "one-by-one" => told_one_by_one(alloc, setting, limit, policies, steps),
+        _ => {
+            let other = told_one_by_one(alloc, setting, limit, policies, steps)?;
+            let text = told_in_steps(alloc, setting, limit, policies, steps)?;
+            Ok(same(alloc, text, other.as_str())?)
+        }
+    }
+}
+
+fn told_in_steps(
+    alloc: Global,
+    setting: &Setting<'_, '_>,
+    limit: usize,
+    policies: &PolicySet,
+    steps: &[Step],
+) -> Result<String, Unanswered> {
+    told(alloc, "", &in_steps(alloc, setting, limit, policies, steps))
+}
+
+fn told_one_by_one(
+    alloc: Global,
+    setting: &Setting<'_, '_>,
+    limit: usize,
+    policies: &PolicySet,
+    steps: &[Step],
+) -> Result<String, Unanswered> {
+    told(
+        alloc,
+        "",
+        &from_core(alloc, setting, limit, policies, steps),
+    )
+}
+
+// The text of both ways, or that of each where they differ.
+fn same(alloc: Global, text: String, other: &str) -> Result<String, AllocError> {
+    if text.as_str() == other {
+        Ok(text)
+    } else {
+        format!(in alloc; "{text}, but one by one {other}")
+    }
+}
+
+fn in_steps(
+    alloc: Global,
+    setting: &Setting<'_, '_>,
+    limit: usize,
+    policies: &PolicySet,
+    steps: &[Step],
+) -> Result<PartialResponse, ReauthorizationError> {
+    let authorizer = Authorizer::new(setting.extensions, limit);
+    let request = setting.request.clone()?;
+    let entities = &setting.entities;
+    match steps {
+        [] => authorizer.authorize_in_steps(alloc, request, policies, entities, &[]),
+        [step] => {
+            let steps = [(&step.map, &step.entities)];
+            authorizer.authorize_in_steps(alloc, request, policies, entities, &steps)
+        }
+        [first, second, ..] => {
+            let steps = [
+                (&first.map, &first.entities),
+                (&second.map, &second.entities),
+            ];
+            authorizer.authorize_in_steps(alloc, request, policies, entities, &steps)
+        }
+    }
+}
+
+fn from_core(
+    alloc: Global,
+    setting: &Setting<'_, '_>,
+    limit: usize,
+    policies: &PolicySet,
+    steps: &[Step],
+) -> Result<PartialResponse, ReauthorizationError> {
+    let authorizer = Authorizer::new(setting.extensions, limit);
+    let request = setting.request.clone()?;
+    let response = authorizer.is_authorized_core(alloc, request, policies, &setting.entities)?;
+    one_by_one(alloc, setting, limit, response, steps)
+}
+
+fn one_by_one(
+    alloc: Global,
+    setting: &Setting<'_, '_>,
+    limit: usize,
+    first: PartialResponse,
+    steps: &[Step],
+) -> Result<PartialResponse, ReauthorizationError> {
+    let authorizer = Authorizer::new(setting.extensions, limit);
+    let mut response = first;
+    'steps: for step in steps {
+        match response.reauthorize(alloc, &step.map, &authorizer, &step.entities) {
+            Ok(next) => response = next,
+            Err(error) => return Err(error),
+        }
+    }
+    Ok(response)
+}
+
+// The response that is made of these notes.
+fn made(
+    alloc: Global,
+    setting: &Setting<'_, '_>,
+    notes: &str,
+) -> Result<PartialResponse, Unanswered> {
+    let sheet = sheet(alloc, notes)?;
+    let request = shared_request(alloc, &setting.request)?;
+    Ok(made_of(alloc, sheet, request)?)
+}
+
+fn shared_request(alloc: Global, request: &Request) -> Result<Rc<Request>, AllocError> {
+    Ok(Rc::new(alloc, request.clone()?)?)
+}
+
+fn made_of(
+    alloc: Global,
+    sheet: Sheet,
+    request: Rc<Request>,
+) -> Result<PartialResponse, AllocError> {
+    PartialResponse::new(
+        alloc,
+        sheet.true_permits.into_iter(),
+        sheet.false_permits.into_iter(),
+        sheet.residual_permits.into_iter(),
+        sheet.true_forbids.into_iter(),
+        sheet.false_forbids.into_iter(),
+        sheet.residual_forbids.into_iter(),
+        sheet.errors.into_iter(),
+        request,
+    )
+}
+
+// What is asked of the response, or why there is none.
+fn told(
+    alloc: Global,
+    asked: &str,
+    outcome: &Result<PartialResponse, ReauthorizationError>,
+) -> Result<String, Unanswered> {
+    match outcome {
+        Ok(response) => match headed(asked) {
+            ("get", id) => or_fail(got_text(alloc, response, &policy_id(alloc, id)?)),
+            ("readers", _) => or_fail(readers_text(alloc, response)),
+            (_, _) => known_text(alloc, response),
+        },
+        Err(error) => Ok(format!(in alloc; "{}: {error}", refusal(error))?),
+    }
+}
+
+fn refusal(error: &ReauthorizationError) -> &'static str {
+    match error {
+        ReauthorizationError::PolicySetError(_) => "PolicySetError",
+        ReauthorizationError::ConcretizationError(error) => match error {
+            ConcretizationError::ValueError { .. } => "ValueError",
+            ConcretizationError::VarConfictError { .. } => "VarConfictError",
+            ConcretizationError::EntityTypeConfictError { .. } => "EntityTypeConfictError",
+            ConcretizationError::ValueEval(_) => "ValueEval",
+            ConcretizationError::Memory(_) => "Memory",
+        },
+        ReauthorizationError::Memory(_) => "Memory",
+    }
+}
+
+// The decision; the response made concrete; the permits that are satisfied, those that are not, and those of which something is left; the same of
+// forbids; those that erred; those that must determine the decision, and those that may.
+fn known_text(alloc: Global, response: &PartialResponse) -> Result<String, Unanswered> {
+    let mut text = String::new(alloc);
+    put_concrete(alloc, &mut text, response)?;
+    put_known(alloc, &mut text, response)?;
+    Ok(text)
+}
+
+// Both ways to make it concrete must answer the same.
+fn put_concrete(
+    alloc: Global,
+    text: &mut String,
+    response: &PartialResponse,
+) -> Result<(), Unanswered> {
+    text.push_str(given_text(response.decision()))?;
+    let concrete = response.clone()?.concretize(alloc)?;
+    put_converted(alloc, text, response, &concrete)
+}
+
+fn put_converted(
+    alloc: Global,
+    text: &mut String,
+    response: &PartialResponse,
+    concrete: &Response,
+) -> Result<(), Unanswered> {
+    if converts_to(response, concrete)? {
+        Ok(put_response(alloc, text, concrete)?)
+    } else {
+        Err(Unanswered::Unreadable("it is made concrete in two ways"))
+    }
+}
+
+fn converts_to(response: &PartialResponse, concrete: &Response) -> Result<bool, AllocError> {
+    Ok(*concrete == Response::try_from(response.clone()?)?)
+}
+
+fn given_text(decision: Option<Decision>) -> &'static str {
+    match decision {
+        Some(decision) => decision_text(decision),
+        None => "none",
+    }
+}
+
+// `; Allow [reasons] [errors]`
+fn put_response(alloc: Global, text: &mut String, response: &Response) -> Result<(), AllocError> {
+    text.push_str("; ")?;
+    text.push_str(decision_text(response.decision))?;
+    put(
+        text,
+        "",
+        reasons_text(alloc, &response.diagnostics.reason)?.as_str(),
+    )?;
+    put(
+        text,
+        "",
+        errors_text(alloc, &response.diagnostics.errors)?.as_str(),
+    )
+}
+
+// The title, and this list behind it.
+fn put(text: &mut String, title: &str, listed: &str) -> Result<(), AllocError> {
+    text.push_str(title)?;
+    text.push_str(" [")?;
+    text.push_str(listed)?;
+    text.push_str("]")
+}
+
+fn errors_text(alloc: Global, errors: &[AuthorizationError]) -> Result<String, AllocError> {
+    let mut texts: Vec<String> = Vec::new(alloc);
+    for error in errors {
+        let AuthorizationError::PolicyEvaluationError { id, error } = error;
+        texts.push(format!(in alloc; "{id} {}", kind(error))?)?;
+    }
+    joined(alloc, &texts, ", ")
+}
+
+fn put_known(
+    alloc: Global,
+    text: &mut String,
+    response: &PartialResponse,
+) -> Result<(), AllocError> {
+    put(
+        text,
+        "; permits",
+        ids_in(alloc, &response.satisfied_permits)?.as_str(),
+    )?;
+    put(text, "", ids_in(alloc, &response.false_permits)?.as_str())?;
+    put(
+        text,
+        "",
+        ids_in(alloc, &response.residual_permits)?.as_str(),
+    )?;
+    put(
+        text,
+        "; forbids",
+        ids_in(alloc, &response.satisfied_forbids)?.as_str(),
+    )?;
+    put(text, "", ids_in(alloc, &response.false_forbids)?.as_str())?;
+    put(
+        text,
+        "",
+        ids_in(alloc, &response.residual_forbids)?.as_str(),
+    )?;
+    put(
+        text,
+        "; erred",
+        ids(alloc, response.definitely_errored())?.as_str(),
+    )?;
+    put(
+        text,
+        "; must",
+        ids_of(alloc, response.must_be_determining())?.as_str(),
+    )?;
+    put(
+        text,
+        "; may",
+        ids_of(alloc, response.may_be_determining())?.as_str(),
+    )
+}
+
+// What the other readers name.
+fn readers_text(alloc: Global, response: &PartialResponse) -> Result<String, AllocError> {
+    let mut text = String::from_str(alloc, "read")?;
+    put_readers(alloc, &mut text, response)?;
+    Ok(text)
+}
+
+fn put_readers(
+    alloc: Global,
+    text: &mut String,
+    response: &PartialResponse,
+) -> Result<(), AllocError> {
+    put(
+        text,
+        ": satisfied",
+        ids_of(alloc, response.definitely_satisfied())?.as_str(),
+    )?;
+    put(
+        text,
+        "; left",
+        ids_of(alloc, response.nontrivial_residuals())?.as_str(),
+    )?;
+    put(
+        text,
+        "; ids left",
+        ids(alloc, response.nontrivial_residual_ids())?.as_str(),
+    )?;
+    put(
+        text,
+        "; forbids left",
+        ids_of(alloc, response.nontrivial_forbids())?.as_str(),
+    )?;
+    put(
+        text,
+        "; all",
+        ids_of(alloc, response.all_residuals())?.as_str(),
+    )
+}
+
+fn ids_in<V>(alloc: Global, entries: &IndexMap<PolicyID, V>) -> Result<String, AllocError> {
+    let mut texts: Vec<String> = Vec::new(alloc);
+    for id in entries.keys() {
+        texts.push(id.to_string(alloc)?)?;
+    }
+    joined(alloc, &texts, ",")
+}
+
+fn ids(alloc: Global, reported: ReportedIds<'_>) -> Result<String, AllocError> {
+    let mut texts: Vec<String> = Vec::new(alloc);
+    for id in reported {
+        texts.push(id.to_string(alloc)?)?;
+    }
+    joined(alloc, &texts, ",")
+}
+
+fn ids_of(alloc: Global, reported: ReportedPolicies<'_>) -> Result<String, AllocError> {
+    let mut texts: Vec<String> = Vec::new(alloc);
+    for policy in reported {
+        texts.push(id_text(alloc, &policy?)?)?;
+    }
+    joined(alloc, &texts, ",")
+}
+
+fn id_text(alloc: Global, policy: &Policy) -> Result<String, AllocError> {
+    policy.id().to_string(alloc)
+}
+
+// The policy under the id: its effect, its condition and its annotations.
+fn got_text(
+    alloc: Global,
+    response: &PartialResponse,
+    id: &PolicyID,
+) -> Result<String, AllocError> {
+    match response.get(alloc, id)? {
+        Some(policy) => got_policy(alloc, &policy),
+        None => String::from_str(alloc, "none"),
+    }
+}
+
+fn got_policy(alloc: Global, policy: &Policy) -> Result<String, AllocError> {
+    let condition = policy.condition(alloc)?;
+    let annotations = &policy.annotations_rc().0;
+    let effect = effect_text(policy.effect());
+    format!(in alloc; "{effect} {} {condition} {annotations:?}", policy.id())
+}
+
+// The context of the setting with these values for unknowns, or the error that it evaluates to.
+fn context_with(
+    alloc: Global,
+    setting: &Setting<'_, '_>,
+    limit: usize,
+    values: &str,
+) -> Result<String, Unanswered> {
+    let map = mapping(alloc, values)?;
+    let context = setting.request.context().ok_or("no context")?.clone()?;
+    match context.substitute(alloc, &map, setting.extensions, limit) {
+        Ok(context) => Ok(context.to_string(alloc)?),
+        Err(error) => Ok(error.to_string(alloc)?),
+    }
+}
