@@ -3,12 +3,13 @@
 //! that begins with `#` is a title. The facts are those that `cedar_notation` reads, and `in FILE`: the facts of that file stand behind them.
 //! `answers` says which questions there are.
 use crate::answers::answer;
-use crate::functions::tally_with_even;
+use crate::functions::tally;
 use cedar_notation::settings::Setting;
 use cedar_notation::unanswered::Unanswered;
 use cedar_notation::{fact, first_fact};
 use std::alloc::Global;
 use std::fs;
+use std::rc::RcStr;
 use std::rt::Files;
 
 /// The request of a case that has no other.
@@ -71,7 +72,7 @@ fn tally_of_cases<R: Files + AllocGlobal + Print>(
 fn tally_of_case<R: Files + AllocGlobal + Print>(rt: &R, case: &str) -> Result<Tally, Unanswered> {
     let (facts, rows) = case.split_once("\nrows\n").ok_or("a case without rows")?;
     let facts = all_facts(rt, facts)?;
-    tally_with_even(rt, rt.alloc(), facts.as_str(), rows)
+    tally(rt, rt.alloc(), facts.as_str(), rows)
 }
 
 // The facts, those of the file that they name, and a request where neither has one.
@@ -93,13 +94,14 @@ pub fn tally_of_rows(
     setting: &Setting<'_, '_>,
     rows: &str,
 ) -> Result<Tally, Unanswered> {
-    let mut question: &str = "value";
+    let mut question = RcStr::from_str(alloc, "value")?;
     let mut tally = Tally::none();
     for line in rows.lines() {
         if let Some(asked) = fact(line, "ask") {
-            question = asked;
+            question = RcStr::from_str(alloc, asked)?;
         } else if !line.is_empty() && !line.starts_with('#') {
-            tally = tally.with(row_holds(rt, alloc, facts, setting, question, line)?);
+            let holds = row_holds(rt, alloc, facts, setting, question.as_str(), line)?;
+            tally = tally.with(holds);
         }
     }
     Ok(tally)

@@ -1,5 +1,5 @@
-//! The functions that are stored for a case: of `even`, `fail`, `ask`, `one`, `two` and `unknown` those that the fact `functions` names. Each is
-//! made in a function of its own, which hands it on.
+//! The functions that are stored for a case: of `even`, `fail`, `ask` and `unknown` those that the fact `functions` names, or, where it names `one`,
+//! of `one`, `two` and `unknown`.
 ghost use Rattle.std.specs.Prelude.{◌≡◌, true};
 ghost use Rattle.cedar_extensions.specs.Outcomes.{ComesTo, is_lawful, abstracts};
 ghost use Rattle.cedar_built_in_rows.specs.Stored.{even_of, fail_of, ask_of, made_of};
@@ -18,137 +18,122 @@ use cedar_values::evaluator::err::EvaluationError;
 use std::alloc::{AllocError, Global};
 
 /// How many of these rows hold in the setting of these facts. Prints those that do not.
-pub fn tally_with_even(
+pub fn tally(rt: &impl Print, alloc: Global, facts: &str, rows: &str) -> Result<Tally, Unanswered> {
+    if is_named(names_in(facts), "one") {
+        tally_with_makers(rt, alloc, facts, rows)
+    } else {
+        tally_with_others(rt, alloc, facts, rows)
+    }
+}
+
+// The functions that the facts name.
+fn names_in(facts: &str) -> &str {
+    match first_fact(facts, "functions") {
+        Some(names) => names,
+        None => "",
+    }
+}
+
+// With `even`, `fail` and `ask`.
+fn tally_with_others(
     rt: &impl Print,
     alloc: Global,
     facts: &str,
     rows: &str,
 ) -> Result<Tally, Unanswered> {
-    let func: ExtensionFunctionObject = Box::new(
+    let even: ExtensionFunctionObject = Box::new(
         alloc,
         move |args: &[Value]| -> Result<ExtensionOutputValue, EvaluationError>
             ensures computes { ComesTo result (even_of (abstracts args.now)) }
             ensures lawful { is_lawful result ≡ true }
         { even(alloc, args) },
     )?;
-    let longs = vec![in alloc; Type::Long]?;
-    let name = plain_name(alloc, "even")?;
-    let style = CallStyle::FunctionStyle;
-    let even = ExtensionFunction::new(name, style, func, Some(Type::Bool), longs);
-    let functions = with(facts, Vec::new(alloc), even)?;
-    tally_with_fail(rt, alloc, facts, rows, functions)
-}
-
-fn tally_with_fail(
-    rt: &impl Print,
-    alloc: Global,
-    facts: &str,
-    rows: &str,
-    functions: Vec<ExtensionFunction>,
-) -> Result<Tally, Unanswered> {
-    let func: ExtensionFunctionObject = Box::new(
+    let fail: ExtensionFunctionObject = Box::new(
         alloc,
         move |args: &[Value]| -> Result<ExtensionOutputValue, EvaluationError>
             ensures computes { ComesTo result (fail_of (abstracts args.now)) }
             ensures lawful { is_lawful result ≡ true }
         { fail(alloc, args) },
     )?;
-    let name = plain_name(alloc, "fail")?;
-    let style = CallStyle::FunctionStyle;
-    let fail = ExtensionFunction::new(name, style, func, None, Vec::new(alloc));
-    let functions = with(facts, functions, fail)?;
-    tally_with_ask(rt, alloc, facts, rows, functions)
-}
-
-fn tally_with_ask(
-    rt: &impl Print,
-    alloc: Global,
-    facts: &str,
-    rows: &str,
-    functions: Vec<ExtensionFunction>,
-) -> Result<Tally, Unanswered> {
-    let func: ExtensionFunctionObject = Box::new(
+    let ask: ExtensionFunctionObject = Box::new(
         alloc,
         move |args: &[Value]| -> Result<ExtensionOutputValue, EvaluationError>
             ensures computes { ComesTo result (ask_of (abstracts args.now)) }
             ensures lawful { is_lawful result ≡ true }
         { ask(alloc, args) },
     )?;
-    let name = plain_name(alloc, "ask")?;
     let style = CallStyle::FunctionStyle;
-    let ask = ExtensionFunction::new(name, style, func, None, Vec::new(alloc));
-    let functions = with(facts, functions, ask)?;
-    tally_with_one(rt, alloc, facts, rows, functions)
+    let (bool, long) = (Some(Type::Bool), vec![in alloc; Type::Long]?);
+    let even = ExtensionFunction::new(plain_name(alloc, "even")?, style, even, bool, long);
+    let none = Vec::new(alloc);
+    let fail = ExtensionFunction::new(plain_name(alloc, "fail")?, style, fail, None, none);
+    let none = Vec::new(alloc);
+    let ask = ExtensionFunction::new(plain_name(alloc, "ask")?, style, ask, None, none);
+    let mut functions: Vec<ExtensionFunction> = Vec::new(alloc);
+    put(facts, &mut functions, even)?;
+    put(facts, &mut functions, fail)?;
+    put(facts, &mut functions, ask)?;
+    tally_with(rt, alloc, facts, rows, functions)
 }
 
-fn tally_with_one(
+// With `one` and `two`.
+fn tally_with_makers(
     rt: &impl Print,
     alloc: Global,
     facts: &str,
     rows: &str,
-    functions: Vec<ExtensionFunction>,
 ) -> Result<Tally, Unanswered> {
-    let func: ExtensionFunctionObject = Box::new(
+    let one: ExtensionFunctionObject = Box::new(
         alloc,
         move |args: &[Value]| -> Result<ExtensionOutputValue, EvaluationError>
             ensures computes { ComesTo result (made_of 1 (abstracts args.now)) }
             ensures lawful { is_lawful result ≡ true }
         { made(alloc, args, 1) },
     )?;
-    let name = plain_name(alloc, "one")?;
-    let style = CallStyle::FunctionStyle;
-    let one = ExtensionFunction::new(name, style, func, None, Vec::new(alloc));
-    let functions = with(facts, functions, one)?;
-    tally_with_two(rt, alloc, facts, rows, functions)
-}
-
-fn tally_with_two(
-    rt: &impl Print,
-    alloc: Global,
-    facts: &str,
-    rows: &str,
-    functions: Vec<ExtensionFunction>,
-) -> Result<Tally, Unanswered> {
-    let func: ExtensionFunctionObject = Box::new(
+    let two: ExtensionFunctionObject = Box::new(
         alloc,
         move |args: &[Value]| -> Result<ExtensionOutputValue, EvaluationError>
             ensures computes { ComesTo result (made_of 2 (abstracts args.now)) }
             ensures lawful { is_lawful result ≡ true }
         { made(alloc, args, 2) },
     )?;
-    let name = plain_name(alloc, "two")?;
     let style = CallStyle::FunctionStyle;
-    let two = ExtensionFunction::new(name, style, func, None, Vec::new(alloc));
-    let functions = with(facts, functions, two)?;
-    let functions = with(facts, functions, ExtensionFunction::unknown(alloc)?)?;
+    let (first, second) = (plain_name(alloc, "one")?, plain_name(alloc, "two")?);
+    let one = ExtensionFunction::new(first, style, one, None, Vec::new(alloc));
+    let two = ExtensionFunction::new(second, style, two, None, Vec::new(alloc));
+    let mut functions: Vec<ExtensionFunction> = Vec::new(alloc);
+    put(facts, &mut functions, one)?;
+    put(facts, &mut functions, two)?;
     tally_with(rt, alloc, facts, rows, functions)
 }
 
-// The functions, and this one, where the facts name it.
-fn with(
+// Puts the function behind the others, where the facts name it.
+fn put(
     facts: &str,
-    functions: Vec<ExtensionFunction>,
+    functions: &mut Vec<ExtensionFunction>,
     function: ExtensionFunction,
-) -> Result<Vec<ExtensionFunction>, AllocError> {
-    let mut functions = functions;
-    let names = first_fact(facts, "functions").unwrap_or("");
-    if is_named(names, function.name()) {
-        functions.push(function)?;
+) -> Result<(), AllocError> {
+    if is_named(names_in(facts), function.name().text().as_str()) {
+        match functions.push(function) {
+            Ok(()) => Ok(()),
+            Err(_) => Err(AllocError),
+        }
+    } else {
+        Ok(())
     }
-    Ok(functions)
 }
 
 // Whether the name is one of these.
-fn is_named(names: &str, name: &Name) -> bool {
+fn is_named(names: &str, name: &str) -> bool {
     for named in names.split(' ') {
-        if named == name.text().as_str() {
+        if named == name {
             return true;
         }
     }
     false
 }
 
-// The same, with one extension, that has these functions and overloads `<` as the facts say.
+// With one extension, that has these functions, and `unknown` where the facts name it, and overloads `<` as they say.
 fn tally_with(
     rt: &impl Print,
     alloc: Global,
@@ -156,6 +141,8 @@ fn tally_with(
     rows: &str,
     functions: Vec<ExtensionFunction>,
 ) -> Result<Tally, Unanswered> {
+    let mut functions = functions;
+    put(facts, &mut functions, ExtensionFunction::unknown(alloc)?)?;
     let types = overloaded(alloc, facts)?;
     let extension = Extension::new(plain_name(alloc, "ext")?, functions, types);
     let all = vec![in alloc; extension]?;
