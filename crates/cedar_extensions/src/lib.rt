@@ -8,8 +8,6 @@ mod extensions;
 mod function;
 mod iterators;
 pub mod laws;
-#[cfg(test)]
-mod tests;
 pub mod util;
 
 use cedar_values::extensions::ExtensionFunctionLookupError;
