@@ -1,7 +1,8 @@
 //! An expression that is deeper than the machine's stack would allow.
-use crate::evaluated::{limit, of_expression};
+use crate::evaluated::of_expression;
 use cedar_layers::expressions::{Expr, Literal, UnaryOp};
 use cedar_notation::settings::Setting;
+use cedar_notation::shown::limit;
 use cedar_notation::unanswered::Unanswered;
 use std::alloc::{AllocError, Global};
 

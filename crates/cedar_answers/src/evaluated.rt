@@ -1,16 +1,13 @@
 //! What an expression evaluates to in the setting.
-use crate::Place;
 use crate::described::described;
-use crate::written::wanted_or_text;
 use cedar_evaluator::evaluator::{EvaluationError, Evaluator};
 use cedar_layers::expressions::{Expr, PartialValue, Value, ValueKind};
 use cedar_notation::expressions::expression;
 use cedar_notation::settings::Setting;
+use cedar_notation::shown::{LIMIT, Place, error_place, limit, or_fail, wanted_or_text};
 use cedar_notation::unanswered::Unanswered;
 use std::alloc::{AllocError, Global};
 
-/// More levels than any expression of a row has.
-const LIMIT: usize = 1000;
 /// Many more.
 const MANY: usize = 2000;
 
@@ -24,7 +21,9 @@ pub fn answer(
 ) -> Result<String, Unanswered> {
     let limit = limit(limit_text)?;
     let expr = expression(alloc, words)?;
-    or_fail(of_expression(alloc, setting, kind, limit, &expr))
+    let text = of_expression(alloc, setting, kind, limit, &expr);
+    drop(expr);
+    or_fail(text)
 }
 
 /// The same of an expression that is made.
@@ -35,12 +34,10 @@ pub fn of_expression(
     limit: usize,
     expr: &Expr,
 ) -> Result<String, AllocError> {
-    asked(alloc, kind, &outcome(alloc, setting, limit, expr))
-}
-
-/// The text, or that memory was wanting.
-pub fn or_fail(text: Result<String, AllocError>) -> Result<String, Unanswered> {
-    Ok(text?)
+    let outcome = outcome(alloc, setting, limit, expr);
+    let text = asked(alloc, kind, &outcome);
+    drop(outcome);
+    text
 }
 
 fn asked(
@@ -56,15 +53,6 @@ fn asked(
     }
 }
 
-/// The limit that is written so.
-pub fn limit(written: &str) -> Result<usize, Unanswered> {
-    if written.is_empty() {
-        Ok(LIMIT)
-    } else {
-        Ok(written.parse::<usize>()?)
-    }
-}
-
 fn outcome(
     alloc: Global,
     setting: &Setting<'_, '_>,
@@ -74,6 +62,17 @@ fn outcome(
     let request = setting.request.clone()?;
     let evaluator = Evaluator::new(alloc, request, &setting.entities, setting.extensions, limit)?;
     let evaluator = evaluator.with_unknowns_mapper(&setting.map);
+    let outcome = value_by(alloc, &evaluator, setting, expr);
+    drop(evaluator);
+    outcome
+}
+
+fn value_by(
+    alloc: Global,
+    evaluator: &Evaluator<'_, '_>,
+    setting: &Setting<'_, '_>,
+    expr: &Expr,
+) -> Result<Value, EvaluationError> {
     evaluator.interpret(alloc, expr, &setting.slots)
 }
 
@@ -96,15 +95,6 @@ pub fn outcome_place(
     match outcome {
         Ok(value) => format!(in alloc; "value {}", Place(value.source_loc())),
         Err(error) => error_place(alloc, error),
-    }
-}
-
-/// Where the error stands. Want of memory stands nowhere.
-pub fn error_place(alloc: Global, error: &EvaluationError) -> Result<String, AllocError> {
-    if matches!(error, EvaluationError::Memory(_)) {
-        Err(AllocError)
-    } else {
-        format!(in alloc; "error {}", Place(error.source_loc()))
     }
 }
 
@@ -155,31 +145,80 @@ pub fn partly(
     want: &str,
 ) -> Result<String, Unanswered> {
     let expr = expression(alloc, words)?;
+    let text = partly_of(alloc, setting, kind, limit_text, &expr, want);
+    drop(expr);
+    text
+}
+
+fn partly_of(
+    alloc: Global,
+    setting: &Setting<'_, '_>,
+    kind: &str,
+    limit_text: &str,
+    expr: &Expr,
+    want: &str,
+) -> Result<String, Unanswered> {
     if limit_text.is_empty() {
-        partly_asked(alloc, kind, &of_fewest_levels(alloc, setting, &expr)?, want)
+        let limit = fewest_levels(alloc, setting, expr)?;
+        let outcome = partial_outcome(alloc, setting, limit, expr);
+        let text = by_many(alloc, setting, kind, expr, &outcome, want);
+        drop(outcome);
+        text
     } else {
         let limit = limit(limit_text)?;
-        partly_asked(
-            alloc,
-            kind,
-            &partial_outcome(alloc, setting, limit, &expr),
-            want,
-        )
+        let outcome = partial_outcome(alloc, setting, limit, expr);
+        let text = partly_asked(alloc, kind, &outcome, want);
+        drop(outcome);
+        text
     }
 }
 
-fn of_fewest_levels(
+// The least limit that is not met.
+fn fewest_levels(
     alloc: Global,
     setting: &Setting<'_, '_>,
     expr: &Expr,
-) -> Result<Result<PartialValue, EvaluationError>, Unanswered> {
+) -> Result<usize, Unanswered> {
     for limit in 0..LIMIT {
         let outcome = partial_outcome(alloc, setting, limit, expr);
-        if !is_limit(&outcome) {
-            return same(outcome, &partial_outcome(alloc, setting, MANY, expr));
+        let is_met = is_limit(&outcome);
+        drop(outcome);
+        if !is_met {
+            return Ok(limit);
         }
     }
     Err(Unanswered::Unreadable("it takes too many levels"))
+}
+
+// What is asked of the outcome, which must be that within many levels too.
+fn by_many(
+    alloc: Global,
+    setting: &Setting<'_, '_>,
+    kind: &str,
+    expr: &Expr,
+    outcome: &Result<PartialValue, EvaluationError>,
+    want: &str,
+) -> Result<String, Unanswered> {
+    let other = partial_outcome(alloc, setting, MANY, expr);
+    let text = asked_alike(alloc, kind, outcome, &other, want);
+    drop(other);
+    text
+}
+
+fn asked_alike(
+    alloc: Global,
+    kind: &str,
+    outcome: &Result<PartialValue, EvaluationError>,
+    other: &Result<PartialValue, EvaluationError>,
+    want: &str,
+) -> Result<String, Unanswered> {
+    if *outcome == *other {
+        partly_asked(alloc, kind, outcome, want)
+    } else if is_want(outcome) || is_want(other) {
+        Err(Unanswered::Memory)
+    } else {
+        Err(Unanswered::Unreadable("the limit changes the answer"))
+    }
 }
 
 fn is_limit(outcome: &Result<PartialValue, EvaluationError>) -> bool {
@@ -193,20 +232,6 @@ fn is_want(outcome: &Result<PartialValue, EvaluationError>) -> bool {
     match outcome {
         Ok(_) => false,
         Err(error) => matches!(error, EvaluationError::Memory(_)),
-    }
-}
-
-// The outcome, which must be this one too.
-fn same(
-    outcome: Result<PartialValue, EvaluationError>,
-    other: &Result<PartialValue, EvaluationError>,
-) -> Result<Result<PartialValue, EvaluationError>, Unanswered> {
-    if outcome == *other {
-        Ok(outcome)
-    } else if is_want(&outcome) || is_want(other) {
-        Err(Unanswered::Memory)
-    } else {
-        Err(Unanswered::Unreadable("the limit changes the answer"))
     }
 }
 
@@ -238,6 +263,17 @@ fn partial_outcome(
     let request = setting.request.clone()?;
     let evaluator = Evaluator::new(alloc, request, &setting.entities, setting.extensions, limit)?;
     let evaluator = evaluator.with_unknowns_mapper(&setting.map);
+    let outcome = part_by(alloc, &evaluator, setting, expr);
+    drop(evaluator);
+    outcome
+}
+
+fn part_by(
+    alloc: Global,
+    evaluator: &Evaluator<'_, '_>,
+    setting: &Setting<'_, '_>,
+    expr: &Expr,
+) -> Result<PartialValue, EvaluationError> {
     evaluator.partial_interpret(alloc, expr, &setting.slots)
 }
 

@@ -1,12 +1,12 @@
 //! What a request and a store hold.
-use crate::Place;
 use crate::evaluated::place_of;
 use cedar_layers::expressions::{EntityUID, PartialValue, Unknown, Var};
 use cedar_layers::policies::{Dereference, Entity};
 use cedar_notation::leaves::uid;
 use cedar_notation::settings::Setting;
+use cedar_notation::shown::or_fail;
 use cedar_notation::unanswered::Unanswered;
-use cedar_requests::{Context, EntityUIDEntry, Request};
+use cedar_requests::{Context, EntityUIDEntry, Request, RequestType};
 use std::alloc::{AllocError, Global};
 use std::rc::RcStr;
 
@@ -19,7 +19,12 @@ pub fn answer(
 ) -> Result<String, Unanswered> {
     match kind {
         "request" => asked(alloc, &setting.request, name),
-        _ => Ok(found(alloc, setting, &uid(alloc, name)?)?),
+        _ => {
+            let uid = uid(alloc, name)?;
+            let text = found(alloc, setting, &uid);
+            drop(uid);
+            or_fail(text)
+        }
     }
 }
 
@@ -40,7 +45,17 @@ fn asked(alloc: Global, request: &Request, name: &str) -> Result<String, Unanswe
 // The entity, or its type if that is known, what the variable answers, and where that stands.
 fn entry_text(alloc: Global, entry: &EntityUIDEntry, var: Var) -> Result<String, AllocError> {
     let part = entry.evaluate(alloc, var)?;
-    let place = place_of(&part);
+    let text = entry_shown(alloc, entry, &part);
+    drop(part);
+    text
+}
+
+fn entry_shown(
+    alloc: Global,
+    entry: &EntityUIDEntry,
+    part: &PartialValue,
+) -> Result<String, AllocError> {
+    let place = place_of(part);
     match entry.uid() {
         Some(uid) => format!(in alloc; "{uid}, {part} {place}"),
         None => match entry.get_type() {
@@ -54,27 +69,43 @@ fn entry_text(alloc: Global, entry: &EntityUIDEntry, var: Var) -> Result<String,
 fn types_text(alloc: Global, request: &Request) -> Result<String, AllocError> {
     match request.to_request_type()? {
         Some(types) => {
-            let (principal, action, resource) = (types.principal, types.action, types.resource);
-            format!(in alloc; "{principal} {action} {resource}")
+            let text = names_text(alloc, &types);
+            drop(types);
+            text
         }
         None => String::from_str(alloc, "no type"),
     }
 }
 
+fn names_text(alloc: Global, types: &RequestType) -> Result<String, AllocError> {
+    let (principal, action, resource) = (&types.principal, &types.action, &types.resource);
+    format!(in alloc; "{principal} {action} {resource}")
+}
+
 // How many attributes a copy of the context has, whether they are known, and whether it is equal.
 fn context_text(alloc: Global, context: &Context) -> Result<String, AllocError> {
     let copy = context.clone()?;
+    let text = copied(alloc, context, &copy);
+    drop(copy);
+    text
+}
+
+fn copied(alloc: Global, context: &Context, copy: &Context) -> Result<String, AllocError> {
     let (count, is_known) = (copy.num_keys(), copy.as_value().is_some());
     format!(in alloc;
         "{count} attributes, known {is_known}, the same {}",
-        copy == *context
+        *copy == *context
     )
 }
 
 fn found(alloc: Global, setting: &Setting<'_, '_>, uid: &EntityUID) -> Result<String, AllocError> {
     match setting.entities.entity(alloc, uid)? {
         Dereference::NoSuchEntity => String::from_str(alloc, "no such entity"),
-        Dereference::Residual(unknown) => unknown_text(alloc, &unknown),
+        Dereference::Residual(unknown) => {
+            let text = unknown_text(alloc, &unknown);
+            drop(unknown);
+            text
+        }
         Dereference::Data(entity) => entity_text(alloc, entity),
     }
 }

@@ -3,3 +3,4 @@ pub mod Running
 pub mod Stability
 pub mod Steps
 pub mod Headline
+pub mod Wanting

@@ -1,7 +1,7 @@
 //! The authorizer.
 ghost use Rattle.std.specs.Prelude.{◌≡◌, ◌≢◌, true, false, IfOk, IfSome};
 ghost use Rattle.cedar_model.specs.Agreement.{no_slots};
-ghost use Rattle.cedar_model.specs.Failures.{out_of_memory};
+ghost use Rattle.cedar_model.specs.Failures.{out_of_memory, failure_kind};
 ghost use Rattle.cedar_model.specs.Policies.{skip};
 ghost use Rattle.cedar_model.specs.Responses.{errs_with};
 ghost use Rattle.cedar_extensions.specs.Extensions.{extensions_view, calls_of};
@@ -14,6 +14,7 @@ ghost use Rattle.cedar_evaluator.specs.Evaluations.{setting_of, calls_in, limit_
 ghost use Rattle.cedar_responses.specs.Responses.{response_view};
 ghost use Rattle.cedar_responses.specs.Sheets.{outcome_view};
 ghost use Rattle.cedar_authorizer.specs.Responding.{deciding, authorization_of};
+ghost use Rattle.cedar_authorizer.specs.Wanting.{is_of_memory};
 ghost use Rattle.cedar_authorizer.specs.Running.{IsRun, StandsInCompletions, IsDeepEnough, IsConcreteRun, ComesOutBy, IsNotedRun, KeepsSheet};
 
 use cedar_data::Value;
@@ -203,6 +204,7 @@ fn outcome_of(
 }
 
 // Want of memory is never recorded.
+#[tactic(auto, using(crate::specs::Wanting::is_not_memory))]
 fn failed(error: EvaluationError) -> Result<Outcome, AllocError>
     ensures memory { IfOk result (λ o. failure_of error ≢ out_of_memory) }
     ensures outcome { IfOk result (λ o. outcome_view o ≡ errs_with (failure_of error)) }
@@ -235,9 +237,9 @@ fn response_of(
     )
 }
 
+#[tactic(auto, unfolding(crate::specs::Wanting::is_of_memory, cedar_model::specs::Failures::failure_kind))]
 fn is_want_of_memory(error: &EvaluationError) -> bool
-    ensures yes { result ≡ true → failure_of error.now ≡ out_of_memory }
-    ensures no { result ≡ false → failure_of error.now ≢ out_of_memory }
+    ensures { result ≡ is_of_memory (failure_kind (failure_of error.now)) }
 {
     match error {
         EvaluationError::Memory(_) => true,

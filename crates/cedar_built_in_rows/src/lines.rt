@@ -30,7 +30,11 @@ pub fn print_line<W: Write>(
     out: &mut W,
 ) -> Result<(), Stop> {
     match decide(alloc, row, extensions) {
-        Ok(response) => write_line(line(alloc, row, &response)?.as_str(), out),
+        Ok(response) => {
+            let line = line(alloc, row, &response);
+            drop(response);
+            write_line(line?.as_str(), out)
+        }
         Err(stop) => Err(stop),
     }
 }
@@ -51,7 +55,9 @@ fn line(alloc: Global, row: Row, response: &Response) -> Result<String, AllocErr
 
 fn decide(alloc: Global, row: Row, extensions: &Extensions<'_>) -> Result<Response, Stop> {
     let policies = set_of(alloc, policies_of(alloc, row)?)?;
-    decide_by(alloc, row, &Authorizer::new(extensions, LIMIT), &policies)
+    let response = decide_by(alloc, row, &Authorizer::new(extensions, LIMIT), &policies);
+    drop(policies);
+    response
 }
 
 // What the policies decide for the row's request, after the row's steps.
@@ -71,25 +77,38 @@ fn decide_by(
         Row::Chain => in_two_steps(alloc, row, authorizer, policies),
         Row::StepFalse => {
             let step = truth_of(alloc, "test", false)?;
-            in_one_step(alloc, row, authorizer, policies, &step)
+            after(alloc, row, authorizer, policies, step)
         }
         Row::StepTrue => {
             let step = truth_of(alloc, "test", true)?;
-            in_one_step(alloc, row, authorizer, policies, &step)
+            after(alloc, row, authorizer, policies, step)
         }
         Row::Kept => {
             let step = truth_of(alloc, "x", true)?;
-            in_one_step(alloc, row, authorizer, policies, &step)
+            after(alloc, row, authorizer, policies, step)
         }
         Row::NonBool => {
             let step = number_of(alloc, "r", 1)?;
-            in_one_step(alloc, row, authorizer, policies, &step)
+            after(alloc, row, authorizer, policies, step)
         }
         Row::Stored => {
             let step = number_of(alloc, "n", 4)?;
-            in_one_step(alloc, row, authorizer, policies, &step)
+            after(alloc, row, authorizer, policies, step)
         }
     }
+}
+
+// What the policies decide after this step, which is done with then.
+fn after(
+    alloc: Global,
+    row: Row,
+    authorizer: &Authorizer<'_, '_>,
+    policies: &PolicySet,
+    step: HashMap<RcStr, Value>,
+) -> Result<Response, Stop> {
+    let response = in_one_step(alloc, row, authorizer, policies, &step);
+    drop(step);
+    response
 }
 
 fn at_once(
@@ -101,7 +120,9 @@ fn at_once(
     match request_of(alloc, row) {
         Ok(request) => {
             let none = Entities::new(alloc);
-            Ok(authorizer.is_authorized(alloc, request, policies, &none)?)
+            let response = authorizer.is_authorized(alloc, request, policies, &none);
+            drop(none);
+            Ok(response?)
         }
         Err(stop) => Err(stop),
     }
@@ -117,8 +138,9 @@ fn without_steps(
     match request_of(alloc, row) {
         Ok(request) => {
             let none = Entities::new(alloc);
-            let response = authorizer.is_authorized_core(alloc, request, policies, &none)?;
-            Ok(Response::try_from(response)?)
+            let response = authorizer.is_authorized_core(alloc, request, policies, &none);
+            drop(none);
+            Ok(Response::try_from(response?)?)
         }
         Err(stop) => Err(stop),
     }
@@ -137,6 +159,7 @@ pub fn in_one_step(
             let none = Entities::new(alloc);
             let steps = [(step, &none)];
             let answer = authorizer.authorize_in_steps(alloc, request, policies, &none, &steps);
+            drop(none);
             concrete(alloc, answer)
         }
         Err(stop) => Err(stop),
@@ -151,12 +174,38 @@ fn in_two_steps(
     policies: &PolicySet,
 ) -> Result<Response, Stop> {
     let first = resource_is_b(alloc)?;
+    let response = behind(alloc, row, authorizer, policies, &first);
+    drop(first);
+    response
+}
+
+fn behind(
+    alloc: Global,
+    row: Row,
+    authorizer: &Authorizer<'_, '_>,
+    policies: &PolicySet,
+    first: &HashMap<RcStr, Value>,
+) -> Result<Response, Stop> {
     let second = c_and_d(alloc)?;
+    let response = after_both(alloc, row, authorizer, policies, first, &second);
+    drop(second);
+    response
+}
+
+fn after_both(
+    alloc: Global,
+    row: Row,
+    authorizer: &Authorizer<'_, '_>,
+    policies: &PolicySet,
+    first: &HashMap<RcStr, Value>,
+    second: &HashMap<RcStr, Value>,
+) -> Result<Response, Stop> {
     match request_of(alloc, row) {
         Ok(request) => {
             let none = Entities::new(alloc);
-            let steps = [(&first, &none), (&second, &none)];
+            let steps = [(first, &none), (second, &none)];
             let answer = authorizer.authorize_in_steps(alloc, request, policies, &none, &steps);
+            drop(none);
             concrete(alloc, answer)
         }
         Err(stop) => Err(stop),
@@ -169,7 +218,11 @@ fn concrete(
 ) -> Result<Response, Stop> {
     match answer {
         Ok(response) => Ok(response.concretize(alloc)?),
-        Err(error) => Err(step_refused(alloc, &error)),
+        Err(error) => {
+            let stop = step_refused(alloc, &error);
+            drop(error);
+            Err(stop)
+        }
     }
 }
 

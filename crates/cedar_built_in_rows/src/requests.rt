@@ -88,6 +88,10 @@ fn push_unknown(
 fn context_of(alloc: Global, pairs: Vec<(RcStr, RestrictedExpr)>) -> Result<Context, Stop> {
     match Context::from_pairs(alloc, pairs, &Extensions::none(), LIMIT) {
         Ok(context) => Ok(context),
-        Err(error) => Err(context_refused(alloc, &error)),
+        Err(error) => {
+            let stop = context_refused(alloc, &error);
+            drop(error);
+            Err(stop)
+        }
     }
 }

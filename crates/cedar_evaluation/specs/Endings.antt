@@ -1,5 +1,7 @@
 -- Why an evaluation stops, as plain data.
 use Rattle.std.specs.Prelude.{Result, Ok, Err}
+use Rattle.std.specs.declared.alloc.Global.{Global}
+use Rattle.std.specs.declared.boxed.Box.{Box}
 use Rattle.cedar_model.specs.Failures.{Failure, recursion_limit, out_of_memory, Answer, answers, fails}
 use Rattle.cedar_data.specs.declared.partial_value.PartialValue.{PartialValue}
 use Rattle.cedar_data.specs.Residuals.{partial_view}
@@ -13,7 +15,11 @@ stopped_failure stops.Memory = out_of_memory
 stopped_failure stops.Limit = recursion_limit
 stopped_failure (stops.Failed f) = failure_of f.value.error
 
--- what an evaluation answers
-abbrev pub outcome_answer : Result PartialValue Stopped → Answer
-outcome_answer (Ok p) = answers (partial_view p)
+-- what an evaluation ends with
+abbrev pub Outcome : Type 0
+Outcome = Result (Box PartialValue Global) Stopped
+
+-- what it answers
+abbrev pub outcome_answer : Outcome → Answer
+outcome_answer (Ok p) = answers (partial_view p.value)
 outcome_answer (Err e) = fails (stopped_failure e)

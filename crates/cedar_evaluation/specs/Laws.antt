@@ -1,14 +1,14 @@
 -- The laws of the evaluation over frames.
 use Rattle.std.specs.Prelude.{◌≡◌, ◌≢◌, ℕ, suc, ◌+◌, ◌^◌, ◌<◌, ◌≤◌, true, List, Option, None, Result, Ok, Err, IfOk}
-use Rattle.std.proofs.Common.{refl, sym, ap, ◌∙◌, subst, arith}
+use Rattle.std.proofs.Common.{refl, sym, ◌∙◌, subst, arith}
 use Rattle.std.specs.declared.alloc.AllocError.{AllocError}
 use Rattle.cedar_model.specs.Terms.{Text, Term}
 use Rattle.cedar_model.specs.Failures as model
 use Rattle.cedar_model.specs.Failures.{Answer, answers, fails, limit, out_of_memory, failure_kind}
 use Rattle.cedar_model.specs.Settings.{RequestPart, Store, Resolution, shallow, deep, Setting}
-use Rattle.cedar_model.specs.Rules.{MayAnswer, StoredCalls, Runs, Meets, Resolves, AtPath, best, best_of_kind, joined, on_part, beside_residual, binary_beside, has_part, is_part}
+use Rattle.cedar_model.specs.Rules.{MayAnswer, StoredCalls, Runs, Resolves, AtPath, best, best_of_kind, joined, on_part, beside_residual, binary_beside, has_part, is_part}
 use Rattle.cedar_names.specs.declared.names.Loc.{Loc}
-use Rattle.cedar_expressions.specs.View.{view, expr_loc}
+use Rattle.cedar_expressions.specs.View.{expr_loc}
 use Rattle.cedar_data.specs.declared.partial_value.PartialValue.{PartialValue}
 use Rattle.cedar_data.specs.Residuals.{partial_view, partial_loc}
 use Rattle.cedar_frames.specs.declared.machine.Step.TheVariants.{Done, Wait}
@@ -27,10 +27,9 @@ use Rattle.cedar_evaluation.specs.declared.frame.Pending.TheVariants as pendings
 use Rattle.cedar_evaluation.specs.declared.frame.Task.{Task}
 use Rattle.cedar_evaluation.specs.declared.frame.Task.TheVariants as tasks
 use Rattle.cedar_evaluation.specs.declared.part.Part.{Part}
-use Rattle.cedar_evaluation.specs.declared.stopped.Stopped.{Stopped}
 use Rattle.cedar_evaluation.specs.declared.stopped.Stopped.TheVariants as stops
 use Rattle.cedar_evaluation.specs.Parts.{part_expr, part_term}
-use Rattle.cedar_evaluation.specs.Endings.{outcome_answer}
+use Rattle.cedar_evaluation.specs.Endings.{Outcome, outcome_answer}
 use Rattle.cedar_evaluation.specs.Tasks.{Next, Uses, WaitsFor, Begins, Gives, GoesOn, Leads, LeftFewer, pending_left, task_left}
 use Rattle.cedar_evaluation.specs.Frames.{Placed, IsRight, Waits, IsPlaced, ends_all, left_of}
 use Rattle.cedar_evaluation.specs.PartsLaws.{IsTaken, no_fail, parts_fail, parts_go_on}
@@ -143,7 +142,7 @@ passed_on s May (pendings.Is t) e h = refl
 
 -- the recursion limit of what is waited for is that of what waits
 pub limit_upward : (calls : StoredCalls) (s : Setting) (k : ℕ) (task : Task) (t c : Term) → WaitsFor s calls k task t c → Runs s calls k c limit → Runs s calls (suc k) t limit
-limit_upward calls s k (tasks.Parts f) t c waits runs = parts_fail s calls k t f c waits model.recursion_limit runs
+limit_upward calls s k (tasks.Parts f) t c waits runs = parts_fail s calls k t f.value c waits model.recursion_limit runs
 limit_upward calls s k (tasks.Other p) t c waits runs = waits limit limit runs (uses_limit s (Runs s calls k) p)
 
 -- ---- what an answer leads to
@@ -155,11 +154,11 @@ module _ (s : Setting) (calls : StoredCalls) (k : ℕ) where
   pub limit_leads : (task : Task) → Leads s calls k task limit (Done (Err stops.Limit))
   limit_leads task t c waits meets = λ ok. limit_upward calls s k task t c waits (meets limit_no_want)
 
-  pub parts_lead : (f : PartsFrame) (p : PartialValue) (x : NextPart) (n : Next) → restricted.GoesOn s.extensions calls f (Ok p) x → IsTaken x n → Leads s calls k (tasks.Parts f) (answers (partial_view p)) n
-  parts_lead f p x n goes taken t c waits meets = parts_go_on s calls k t f c waits p x n (meets (no_fail (partial_view p) out_of_memory)) goes taken
+  pub parts_lead : (f : Box PartsFrame Global) (p : PartialValue) (x : NextPart) (n : Next) → restricted.GoesOn s.extensions calls f.value (Ok p) x → IsTaken x n → Leads s calls k (tasks.Parts f) (answers (partial_view p)) n
+  parts_lead f p x n goes taken t c waits meets = parts_go_on s calls k t f.value c waits p x n (meets (no_fail (partial_view p) out_of_memory)) goes taken
 
-  pub failed_leads : (f : PartsFrame) (e : Box Failed Global) → Leads s calls k (tasks.Parts f) (fails (failure_of e.value.error)) (Done (Err (stops.Failed e)))
-  failed_leads f e t c waits meets = λ ok. parts_fail s calls k t f c waits (failure_of e.value.error) (meets ok)
+  pub failed_leads : (f : Box PartsFrame Global) (e : Box Failed Global) → Leads s calls k (tasks.Parts f) (fails (failure_of e.value.error)) (Done (Err (stops.Failed e)))
+  failed_leads f e t c waits meets = λ ok. parts_fail s calls k t f.value c waits (failure_of e.value.error) (meets ok)
 
 -- ---- the loop
 
@@ -171,7 +170,7 @@ module _ (Says : RequestPart → Type 0) (setting : RequestPart → Setting) (ca
     answer = λ q speaks ok.
         let is : outcome_answer r ≡ outcome_answer o = same ok in
         subst (Runs (setting q) calls (suc k) (part_term p)) (sym is) (begins q speaks (λ w. ok (is ∙ w)));
-    place = subst (λ y. IfOk r (λ v. partial_loc v ≡ y)) place at;
+    place = subst (λ y. IfOk r (λ v. partial_loc v.value ≡ y)) place at;
   }
   start_right k p (Done o) l (Wait f c) begins place x = absurd x
   start_right k p (Wait t d) l (Wait f c) begins place (task, at, part) = record {
@@ -180,7 +179,7 @@ module _ (Says : RequestPart → Type 0) (setting : RequestPart → Setting) (ca
   }
   start_right k p (Wait t d) l (Done r) begins place x = absurd x
 
-  pub resume_right : (k : ℕ) (f : Frame) (p c : Part) (y : Result PartialValue Stopped) (n : Next) (x : Placed) →
+  pub resume_right : (k : ℕ) (f : Frame) (p c : Part) (y : Outcome) (n : Next) (x : Placed) →
       Waits Says setting calls k f p c → IsRight Says setting calls k c y →
       ((r : RequestPart) (j : ℕ) → Says r → Leads (setting r) calls j f.task (outcome_answer y) n) →
       IsPlaced n f.loc x → Resumes (IsRight Says setting calls) (Waits Says setting calls) k p x
@@ -193,7 +192,7 @@ module _ (Says : RequestPart → Type 0) (setting : RequestPart → Setting) (ca
   pub right_want : (k : ℕ) (p : Part) → IsRight Says setting calls k p (Err stops.Memory)
   right_want k p = record { answer = λ q speaks ok. absurd (ok refl); place = tt }
 
-  pub right_upward : (k : ℕ) (f : Frame) (p c : Part) (a : Result PartialValue Stopped) → ends_all a ≡ true → Waits Says setting calls k f p c → IsRight Says setting calls k c a → IsRight Says setting calls (suc k) p a
+  pub right_upward : (k : ℕ) (f : Frame) (p c : Part) (a : Outcome) → ends_all a ≡ true → Waits Says setting calls k f p c → IsRight Says setting calls k c a → IsRight Says setting calls (suc k) p a
   right_upward k f p c (Ok v) ends waits right = absurd (cc)
   right_upward k f p c (Err stops.Memory) ends waits right = right_want (suc k) p
   right_upward k f p c (Err stops.Limit) ends waits right = record {
@@ -226,7 +225,7 @@ pub some_left : (f : Frame) → 1 ≤ left_of f
 some_left f = some_task f.task
   where
     some_task : (t : Task) → 1 ≤ task_left t
-    some_task (tasks.Parts g) = Rattle.cedar_restricted.specs.Laws.some_left g
+    some_task (tasks.Parts g) = Rattle.cedar_restricted.specs.Laws.some_left g.value
     some_task (tasks.Other p) = some_pending p
 
 few_pending : (p : Pending) → pending_left p < 2 ^ 64 + 1
@@ -250,7 +249,7 @@ few_pending (pendings.Like p) = omega arith
 few_pending (pendings.Is t) = omega arith
 
 few_task : (t : Task) → task_left t < 2 ^ 64 + 1
-few_task (tasks.Parts g) = left_below g
+few_task (tasks.Parts g) = left_below g.value
 few_task (tasks.Other p) = few_pending p
 
 pub below_any : (x : Placed) → Below left_of (2 ^ 64 + 1) x

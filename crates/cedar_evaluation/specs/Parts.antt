@@ -8,7 +8,7 @@ use Rattle.cedar_evaluation.specs.declared.part.Part.TheVariants as parts
 -- the expression of a part
 abbrev pub part_expr : Part → Expr
 part_expr (parts.Shared e) = e.value
-part_expr (parts.Own e) = e
+part_expr (parts.Own e) = e.value
 
 -- the term that it stands for
 abbrev pub part_term : Part → Term

@@ -1,6 +1,8 @@
 -- Sets, records and calls, part by part.
-use Rattle.std.specs.Prelude.{◌≡◌, ◌≢◌, ◌<◌, ℕ, suc, List, [], ◌∷◌, ◌++◌, length, drop, Option, None, Result, Ok, Err}
-use Rattle.std.proofs.Common.{refl, sym, ap, ◌∙◌, subst}
+use Rattle.std.specs.Prelude.{◌≡◌, ◌≢◌, ◌<◌, ℕ, suc, List, [], ◌∷◌, ◌++◌, length, drop, Option, Ok, Err}
+use Rattle.std.proofs.Common.{sym, ap, ◌∙◌, subst}
+use Rattle.std.specs.declared.alloc.Global.{Global}
+use Rattle.std.specs.declared.boxed.Box.{Box}
 use Rattle.cedar_model.specs.Terms.{Text, Term}
 use Rattle.cedar_model.specs.Failures as model
 use Rattle.cedar_model.specs.Failures.{Failure, Answer, answers, fails, out_of_memory}
@@ -8,12 +10,9 @@ use Rattle.cedar_model.specs.World as world
 use Rattle.cedar_model.specs.Settings.{Setting}
 use Rattle.cedar_model.specs.Rules.{StoredCalls, Rule, Runs, Parts}
 use Rattle.cedar_names.specs.declared.names.Loc.{Loc}
-use Rattle.cedar_expressions.specs.declared.expr.Expr.{Expr}
 use Rattle.cedar_expressions.specs.View.{view, terms_view}
 use Rattle.cedar_data.specs.declared.partial_value.PartialValue.{PartialValue}
 use Rattle.cedar_data.specs.Residuals.{partial_view}
-use Rattle.cedar_values.specs.declared.evaluator.err.EvaluationError.{EvaluationError}
-use Rattle.cedar_values.specs.Failures.{failure_of}
 use Rattle.cedar_frames.specs.declared.machine.Step.TheVariants.{Done, Wait}
 use Rattle.cedar_restricted.specs.declared.answers.Answers.{Answers}
 use Rattle.cedar_restricted.specs.declared.parts.PartsFrame.{PartsFrame}
@@ -22,23 +21,23 @@ use Rattle.cedar_restricted.specs.Evaluations.{partial_answer}
 use Rattle.cedar_restricted.specs.Parts as shapes
 use Rattle.cedar_restricted.specs.Parts.{whole_term, HasKeys, count, Are}
 use Rattle.cedar_restricted.specs.Frames as restricted
-use Rattle.cedar_restricted.specs.Frames.{NextPart, Reads, Begun, Continued, GoesOn, HasRead, IsNext, parts_left}
+use Rattle.cedar_restricted.specs.Frames.{NextPart, Reads, Begun, Continued, GoesOn, HasRead, IsNext, parts_left, left_of}
 use Rattle.cedar_restricted.specs.Laws.{goes_on_fewer}
 use Rattle.cedar_restricted.specs.Steps.{so_far_none, so_far_more, so_far_all, so_far_fails, whole_fails, whole_answers, left_after, none_left}
 use Rattle.cedar_evaluation.specs.declared.frame.Task.TheVariants as tasks
 use Rattle.cedar_evaluation.specs.declared.part.Part.TheVariants as parts
 use Rattle.cedar_evaluation.specs.Endings.{outcome_answer}
-use Rattle.cedar_evaluation.specs.Tasks.{Next, WaitsForPart, Begins, LeftFewer, task_left}
+use Rattle.cedar_evaluation.specs.Tasks.{Next, WaitsForPart, Begins, LeftFewer}
 
 pub no_fail : (p : model.PartialValue) (e : Failure) → answers p ≢ fails e
 no_fail p e h = cc
 
--- the next part, or the answer, taken over
+-- the next part, or the answer, taken over, where memory is not wanting
 abbrev pub IsTaken : NextPart → Next → Type 0
-IsTaken (Wait f c) (Wait (tasks.Parts g) (parts.Own d)) = (g ≡ f) × (d ≡ c)
+IsTaken (Wait f c) (Wait (tasks.Parts g) (parts.Own d)) = (g.value ≡ f) × (d.value ≡ c)
 IsTaken (Wait f c) (Wait (tasks.Parts g) (parts.Shared d)) = ⊥
 IsTaken (Wait f c) (Wait (tasks.Other p) d) = ⊥
-IsTaken (Wait f c) (Done o) = ⊥
+IsTaken (Wait f c) (Done o) = outcome_answer o ≡ fails out_of_memory
 IsTaken (Done r) (Done o) = outcome_answer o ≢ fails out_of_memory → outcome_answer o ≡ partial_answer r
 IsTaken (Done r) (Wait task d) = ⊥
 
@@ -56,7 +55,7 @@ module _ (s : Setting) (calls : StoredCalls) (k : ℕ) (t : Term) where
   }
   reads_right whole ps a loc (Wait f c) (Wait (tasks.Parts g) (parts.Shared d)) term keys read h taken = absurd taken
   reads_right whole ps a loc (Wait f c) (Wait (tasks.Other p) d) term keys read h taken = absurd taken
-  reads_right whole ps a loc (Wait f c) (Done o) term keys read h taken = absurd taken
+  reads_right whole ps a loc (Wait f c) (Done o) term keys read h taken = λ ok. absurd (ok taken)
   reads_right whole ps a loc (Done r) (Wait task d) term keys read h taken = absurd taken
   reads_right whole ps a loc (Done r) (Done o) term keys read (h, l) taken = λ ok.
       let is : outcome_answer o ≡ partial_answer r = taken ok in
@@ -106,11 +105,11 @@ module _ (s : Setting) (calls : StoredCalls) (k : ℕ) (t : Term) where
     parts_go_on p (Done r) (Wait task d) gives h taken = absurd taken
 
 -- a frame that waits again has fewer parts left
-pub parts_fewer : (X : world.Extensions) (calls : StoredCalls) (f : PartsFrame) (p : PartialValue) (x : NextPart) (n : Next) → GoesOn X calls f (Ok p) x → IsTaken x n → LeftFewer (tasks.Parts f) n
+pub parts_fewer : (X : world.Extensions) (calls : StoredCalls) (f : Box PartsFrame Global) (p : PartialValue) (x : NextPart) (n : Next) → GoesOn X calls f.value (Ok p) x → IsTaken x n → LeftFewer (tasks.Parts f) n
 parts_fewer X calls f p (Wait g c) (Wait (tasks.Parts h) (parts.Own d)) x (same, part) =
-    subst (λ y. task_left (tasks.Parts y) < task_left (tasks.Parts f)) (sym same) (goes_on_fewer X calls f (Ok p) (Wait g c) x)
+    subst (λ y. left_of y < left_of f.value) (sym same) (goes_on_fewer X calls f.value (Ok p) (Wait g c) x)
 parts_fewer X calls f p (Wait g c) (Wait (tasks.Parts h) (parts.Shared d)) x taken = absurd taken
 parts_fewer X calls f p (Wait g c) (Wait (tasks.Other q) d) x taken = absurd taken
-parts_fewer X calls f p (Wait g c) (Done o) x taken = absurd taken
+parts_fewer X calls f p (Wait g c) (Done o) x taken = tt
 parts_fewer X calls f p (Done r) (Done o) x taken = tt
 parts_fewer X calls f p (Done r) (Wait task d) x taken = absurd taken

@@ -1,12 +1,12 @@
 -- What an evaluation promises.
-use Rattle.std.specs.Prelude.{◌≡◌, ◌≢◌, ◌↔◌, ℕ, ◌+◌, ◌<◌, ◌≤◌, None, Result, Ok, Err}
+use Rattle.std.specs.Prelude.{◌≡◌, ◌≢◌, ◌↔◌, ℕ, ◌+◌, ◌<◌, ◌≤◌}
 use Rattle.std.proofs.Common.{sym, ◌∙◌, subst, arith}
 use Rattle.cedar_model.specs.Terms.{Text, Term}
 use Rattle.cedar_model.specs.Values.{AbstractValue}
 use Rattle.cedar_model.specs.World.{World, Functions}
 use Rattle.cedar_model.specs.Meaning.{meaning}
 use Rattle.cedar_model.specs.Alike.{AreFunctional}
-use Rattle.cedar_model.specs.Failures.{Answer, answers, fails, limit, out_of_memory}
+use Rattle.cedar_model.specs.Failures.{Answer, limit}
 use Rattle.cedar_model.specs.Settings.{shallow, Setting}
 use Rattle.cedar_model.specs.Rules.{StoredCalls, Runs, Meets, Allows, Exceeds}
 use Rattle.cedar_model.specs.Agreement.{height, IsKnown, HasNothingUnknown, AgreesWithFunctions, CompletesWith, Fits, StandsFor, own_world}

@@ -27,9 +27,9 @@ impl<'e, 'g, 'f> Evaluation<'e, 'g, 'f> {
         &self,
         alloc: Global,
         pending: Pending,
-        answer: PartialValue,
+        answer: Box<PartialValue>,
     ) -> Result<Next, AllocError>
-        ensures { (r : RequestPart) (k : ℕ) → IfOk result (GoesOn (setting_of r self.now) (calls_in self.now) k pending (answers (partial_view answer))) }
+        ensures { (r : RequestPart) (k : ℕ) → IfOk result (GoesOn (setting_of r self.now) (calls_in self.now) k pending (answers (partial_view answer.value))) }
     {
         match pending {
             Pending::Passed => Ok(Step::Done(Ok(answer))),
@@ -41,7 +41,7 @@ impl<'e, 'g, 'f> Evaluation<'e, 'g, 'f> {
                 guard,
                 then_expr,
                 else_expr,
-            } => self.second_branch(guard, then_expr, kept_part(alloc, answer), else_expr),
+            } => self.second_branch(alloc, guard, then_expr, kept_part(alloc, answer), else_expr),
             Pending::Else {
                 guard,
                 then_expr,
@@ -88,7 +88,7 @@ impl<'e, 'g, 'f> Evaluation<'e, 'g, 'f> {
                 else_expr,
             } => {
                 let kept = Failed::original(failed, &then_expr);
-                self.second_branch(guard, then_expr, kept, else_expr)
+                self.second_branch(alloc, guard, then_expr, kept, else_expr)
             }
             Pending::Else {
                 guard,
@@ -129,10 +129,10 @@ impl<'e, 'g, 'f> Evaluation<'e, 'g, 'f> {
 
 // What is kept of a part that answered.
 #[tactic(auto, unfolding(cedar_model::specs::Rules::best, cedar_model::specs::Failures::part_expression))]
-fn kept_part(alloc: Global, answer: PartialValue) -> Result<Expr, AllocError>
-    ensures { (t : Term) → IfOk result (λ e. best (answers (partial_view answer)) t ≡ kept (view e)) }
+fn kept_part(alloc: Global, answer: Box<PartialValue>) -> Result<Expr, AllocError>
+    ensures { (t : Term) → IfOk result (λ e. best (answers (partial_view answer.value)) t ≡ kept (view e)) }
 {
-    match answer {
+    match Box::into_inner(answer) {
         PartialValue::Value(value) => Ok(value.to_expr(alloc)?),
         PartialValue::Residual(residual) => Ok(residual.into_expr()),
     }

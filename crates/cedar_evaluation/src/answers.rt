@@ -1,6 +1,6 @@
 //! What expressions are answered at once.
 ghost use Rattle.std.specs.Prelude.{◌≡◌, ◌≢◌, IfOk, true, Err};
-ghost use Rattle.cedar_model.specs.Failures.{Answer, fails, out_of_memory, answers_bool, answers_residual};
+ghost use Rattle.cedar_model.specs.Failures.{Answer, answers, fails, out_of_memory, answers_bool, answers_residual};
 ghost use Rattle.cedar_model.specs.Rules.{bool_expected};
 ghost use Rattle.cedar_model.specs.Shapes.{has_unknown};
 ghost use Rattle.cedar_expressions.specs.View.{view};
@@ -27,8 +27,19 @@ pub(crate) fn answered(alloc: Global, answer: Result<PartialValue, EvaluationErr
     ensures { (a : Answer) → AnswersWith answer a → Gives result a }
 {
     match answer {
-        Ok(value) => Step::Done(Ok(value)),
+        Ok(value) => done(alloc, value),
         Err(error) => Step::Done(Err(Stopped::of(alloc, error, None))),
+    }
+}
+
+// This value or residual.
+#[inline(never)]
+pub(crate) fn done(alloc: Global, part: PartialValue) -> Next
+    ensures { Gives result (answers (partial_view part)) }
+{
+    match Box::new(alloc, part) {
+        Ok(part) => Step::Done(Ok(part)),
+        Err(_) => Step::Done(Err(Stopped::Memory)),
     }
 }
 
@@ -40,10 +51,10 @@ pub(crate) fn passed_on<T: Drop>(_held: T, failed: Box<Failed>) -> Next
 }
 
 // A boolean.
-pub(crate) fn bool_answer(b: bool) -> Next
+pub(crate) fn bool_answer(alloc: Global, b: bool) -> Next
     ensures { Gives result (answers_bool b) }
 {
-    Step::Done(Ok(PartialValue::Value(bool_value(b))))
+    done(alloc, PartialValue::Value(bool_value(b)))
 }
 
 // That a boolean is expected.
@@ -56,9 +67,9 @@ pub(crate) fn no_bool(alloc: Global, value: &Value) -> Next
 }
 
 // What is left of an expression.
-pub(crate) fn residual_answer(expr: Expr) -> Next
+pub(crate) fn residual_answer(alloc: Global, expr: Expr) -> Next
     requires { has_unknown (view expr) ≡ true }
     ensures { Gives result (answers_residual (view expr)) }
 {
-    Step::Done(Ok(PartialValue::Residual(ResidualExpr::new(expr))))
+    done(alloc, PartialValue::Residual(ResidualExpr::new(expr)))
 }

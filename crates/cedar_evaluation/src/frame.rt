@@ -19,7 +19,7 @@ pub struct Frame {
 #[derive(Drop)]
 pub enum Task {
     /// It is one of the parts of a set, a record or a call.
-    Parts(PartsFrame),
+    Parts(Box<PartsFrame>),
     /// It is a part of another expression.
     Other(Pending),
 }
@@ -36,14 +36,14 @@ pub enum Pending {
     },
     /// It is that of the first branch beside a residual guard.
     Then {
-        guard: ResidualExpr,
+        guard: Box<ResidualExpr>,
         then_expr: Rc<Expr>,
         else_expr: Rc<Expr>,
     },
     /// It is that of the second branch beside a residual guard, after what is kept of the first.
     Else {
-        guard: ResidualExpr,
-        then_expr: Expr,
+        guard: Box<ResidualExpr>,
+        then_expr: Box<Expr>,
         else_expr: Rc<Expr>,
     },
     /// It is the left side of `&&`.
@@ -54,7 +54,7 @@ pub enum Pending {
     AndRight,
     /// It is the right side of `&&` beside a residual left side.
     AndKept {
-        left: ResidualExpr,
+        left: Box<ResidualExpr>,
         right: Rc<Expr>,
     },
     /// It is the left side of `||`.
@@ -65,7 +65,7 @@ pub enum Pending {
     OrRight,
     /// It is the right side of `||` beside a residual left side.
     OrKept {
-        left: ResidualExpr,
+        left: Box<ResidualExpr>,
         right: Rc<Expr>,
     },
     /// It is the operand of this operator.
@@ -78,7 +78,7 @@ pub enum Pending {
     /// It is the right operand of this operator, after this left one.
     BinaryRight {
         op: BinaryOp,
-        left: PartialValue,
+        left: Box<PartialValue>,
     },
     /// It has the attribute.
     GetAttr(RcStr),
@@ -87,13 +87,13 @@ pub enum Pending {
     /// It is tested for the attributes, one in the other.
     ExtHasAttr(Rc<FirstRest<RcStr>>),
     /// It is matched against the pattern.
-    Like(Pattern),
+    Like(Box<Pattern>),
     /// It is tested for the entity type.
-    Is(EntityType),
+    Is(Box<EntityType>),
 }
 
 /// What an evaluation ends with.
-pub type Outcome = Result<PartialValue, Stopped>;
+pub type Outcome = Result<Box<PartialValue>, Stopped>;
 
 /// What comes next of an expression: its answer, or the part that it waits for.
 pub type Next = Step<Task, Part, Outcome>;

@@ -1,11 +1,11 @@
 //! `if`.
 ghost use Rattle.std.specs.Prelude.{◌≡◌, ℕ, IfOk};
 ghost use Rattle.cedar_model.specs.Terms.{if_then_else};
-ghost use Rattle.cedar_model.specs.Failures.{Answer, answers};
+ghost use Rattle.cedar_model.specs.Failures.{Answer, answers, answers_residual};
 ghost use Rattle.cedar_model.specs.Rules.{best, kept};
 ghost use Rattle.cedar_model.specs.Settings.{RequestPart};
 ghost use Rattle.cedar_expressions.specs.View.{view};
-ghost use Rattle.cedar_data.specs.Residuals.{partial_view};
+ghost use Rattle.cedar_data.specs.Residuals.{partial_view, residual_term};
 ghost use Rattle.cedar_expressions.specs.declared.expr.Expr.{Expr};
 ghost use Rattle.std.specs.declared.alloc.Global.{Global};
 ghost use Rattle.std.specs.declared.rc.Rc.{Rc};
@@ -50,11 +50,11 @@ impl<'e, 'g, 'f> Evaluation<'e, 'g, 'f> {
         alloc: Global,
         then_expr: Rc<Expr>,
         else_expr: Rc<Expr>,
-        guard: PartialValue,
+        guard: Box<PartialValue>,
     ) -> Result<Next, AllocError>
-        ensures { (r : RequestPart) (k : ℕ) → IfOk result (GoesOn (setting_of r self.now) (calls_in self.now) k (pendings.Guard then_expr else_expr) (answers (partial_view guard))) }
+        ensures { (r : RequestPart) (k : ℕ) → IfOk result (GoesOn (setting_of r self.now) (calls_in self.now) k (pendings.Guard then_expr else_expr) (answers (partial_view guard.value))) }
     {
-        match guard {
+        match Box::into_inner(guard) {
             PartialValue::Value(value) => match bool_in(&value) {
                 Some(true) => Ok(Step::Wait(Task::Other(Pending::Passed), Part::Shared(then_expr))),
                 Some(false) => Ok(Step::Wait(
@@ -63,29 +63,44 @@ impl<'e, 'g, 'f> Evaluation<'e, 'g, 'f> {
                 )),
                 None => Ok(no_bool(alloc, &value)),
             },
-            PartialValue::Residual(guard) => {
-                let part = then_expr.clone()?;
-                let pending = Pending::Then {
-                    guard,
-                    then_expr,
-                    else_expr,
-                };
-                Ok(Step::Wait(Task::Other(pending), Part::Shared(part)))
-            }
+            PartialValue::Residual(guard) => self.first_branch(alloc, guard, then_expr, else_expr),
         }
+    }
+
+    // The first branch beside a residual guard.
+    #[cold]
+    #[inline(never)]
+    fn first_branch(
+        &self,
+        alloc: Global,
+        guard: ResidualExpr,
+        then_expr: Rc<Expr>,
+        else_expr: Rc<Expr>,
+    ) -> Result<Next, AllocError>
+        ensures { (r : RequestPart) (k : ℕ) → IfOk result (GoesOn (setting_of r self.now) (calls_in self.now) k (pendings.Guard then_expr else_expr) (answers_residual (residual_term guard))) }
+    {
+        let part = then_expr.clone()?;
+        let guard = Box::new(alloc, guard)?;
+        let pending = Pending::Then {
+            guard,
+            then_expr,
+            else_expr,
+        };
+        Ok(Step::Wait(Task::Other(pending), Part::Shared(part)))
     }
 
     // The second branch beside a residual guard, after what is kept of the first.
     pub(crate) fn second_branch(
         &self,
-        guard: ResidualExpr,
+        alloc: Global,
+        guard: Box<ResidualExpr>,
         then_expr: Rc<Expr>,
         then_kept: Result<Expr, AllocError>,
         else_expr: Rc<Expr>,
     ) -> Result<Next, AllocError>
         ensures { (r : RequestPart) (k : ℕ) (x : Answer) → IfOk then_kept (λ e. best x (view then_expr.value) ≡ kept (view e)) → IfOk result (GoesOn (setting_of r self.now) (calls_in self.now) k (pendings.Then guard then_expr else_expr) x) }
     {
-        let then_expr = then_kept?;
+        let then_expr = Box::new(alloc, then_kept?)?;
         let part = else_expr.clone()?;
         let pending = Pending::Else {
             guard,
@@ -99,14 +114,22 @@ impl<'e, 'g, 'f> Evaluation<'e, 'g, 'f> {
     pub(crate) fn both_branches(
         &self,
         alloc: Global,
-        guard: ResidualExpr,
-        then_expr: Expr,
+        guard: Box<ResidualExpr>,
+        then_expr: Box<Expr>,
         else_expr: Rc<Expr>,
         else_kept: Result<Expr, AllocError>,
     ) -> Result<Next, AllocError>
         ensures { (r : RequestPart) (k : ℕ) (x : Answer) → IfOk else_kept (λ e. best x (view else_expr.value) ≡ kept (view e)) → IfOk result (GoesOn (setting_of r self.now) (calls_in self.now) k (pendings.Else guard then_expr else_expr) x) }
     {
         let else_expr = else_kept?;
-        Ok(residual_answer(Expr::ite(alloc, guard.into_expr(), then_expr, else_expr)?))
+        Ok(residual_answer(
+            alloc,
+            Expr::ite(
+                alloc,
+                Box::into_inner(guard).into_expr(),
+                Box::into_inner(then_expr),
+                else_expr,
+            )?,
+        ))
     }
 }

@@ -18,7 +18,7 @@ use cedar_expressions::Expr;
 use cedar_frames::{Stack, interpret_on};
 use cedar_names::Loc;
 use cedar_values::evaluator::err::EvaluationError;
-use std::alloc::Global;
+use std::alloc::{AllocError, Global};
 
 impl<'e, 'g, 'f> Evaluation<'e, 'g, 'f> {
     /// The value of the expression, or what is left of it, at the expression's location; at most `limit` levels deep, where an
@@ -34,7 +34,7 @@ impl<'e, 'g, 'f> Evaluation<'e, 'g, 'f> {
         ensures place { IfOk result (λ p. partial_loc p ≡ expr_loc e.now) }
         ensures unknown { IfOk result (λ p. HoldsUnknown (partial_view p)) }
     {
-        match e.clone() {
+        match copied(alloc, e) {
             Ok(expr) => self.evaluated(alloc, expr, limit),
             Err(error) => Err(EvaluationError::Memory(error)),
         }
@@ -44,18 +44,26 @@ impl<'e, 'g, 'f> Evaluation<'e, 'g, 'f> {
     fn evaluated(
         &self,
         alloc: Global,
-        expr: Expr,
+        expr: Box<Expr>,
         limit: usize,
     ) -> Result<PartialValue, EvaluationError>
-        ensures answer { (r : RequestPart) → Speaks r self.now → Meets (Runs (setting_of r self.now) (calls_in self.now) limit (view expr)) (partial_answer result) }
-        ensures place { IfOk result (λ p. partial_loc p ≡ expr_loc expr) }
+        ensures answer { (r : RequestPart) → Speaks r self.now → Meets (Runs (setting_of r self.now) (calls_in self.now) limit (view expr.value)) (partial_answer result) }
+        ensures place { IfOk result (λ p. partial_loc p ≡ expr_loc expr.value) }
     {
         let mut stack = Stack::new(alloc, limit);
         match interpret_on(self, alloc, &mut stack, Part::Own(expr)) {
-            Ok(answer) => Ok(answer),
+            Ok(answer) => Ok(Box::into_inner(answer)),
             Err(stopped) => Err(within(stack.frames(), stopped.into_error())),
         }
     }
+}
+
+// The expression, as one that is its own.
+fn copied(alloc: Global, e: &Expr) -> Result<Box<Expr>, AllocError>
+    ensures view { IfOk result (λ x. view x.value ≡ view e.now) }
+    ensures loc { IfOk result (λ x. expr_loc x.value ≡ expr_loc e.now) }
+{
+    Ok(Box::new(alloc, e.clone()?)?)
 }
 
 // The error that came up in these frames, at the location of the last that has one, if the error has none.

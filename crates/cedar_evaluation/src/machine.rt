@@ -1,9 +1,10 @@
 //! The evaluation, for the loop over frames.
-ghost use Rattle.std.specs.Prelude.{◌≡◌, ℕ, ◌+◌, ◌^◌, Err};
+ghost use Rattle.std.specs.Prelude.{◌≡◌, ℕ, ◌+◌, ◌^◌, Ok, Err, true};
 ghost use Rattle.cedar_model.specs.Failures.{answers, fails};
 ghost use Rattle.cedar_model.specs.Settings.{RequestPart};
-ghost use Rattle.cedar_data.specs.Residuals.{partial_view};
+ghost use Rattle.cedar_data.specs.Residuals.{partial_view, partial_loc};
 ghost use Rattle.cedar_values.specs.Failures.{failure_of};
+ghost use Rattle.cedar_frames.specs.declared.machine.Step.TheVariants.{Done};
 ghost use Rattle.cedar_evaluation.specs.declared.stopped.Stopped.TheVariants as stops;
 ghost use Rattle.cedar_evaluation.specs.Parts.{part_term};
 ghost use Rattle.cedar_evaluation.specs.Endings.{outcome_answer, stopped_failure};
@@ -121,15 +122,19 @@ impl<'e, 'g, 'f> Evaluation<'e, 'g, 'f> {
     }
 
     // The same after a value or a residual.
-    fn valued(&self, alloc: Global, task: Task, value: PartialValue) -> Next
-        ensures leads { (r : RequestPart) (k : ℕ) → Speaks r self.now → Leads (setting_of r self.now) (calls_in self.now) k task (answers (partial_view value)) result }
+    fn valued(&self, alloc: Global, task: Task, value: Box<PartialValue>) -> Next
+        ensures leads { (r : RequestPart) (k : ℕ) → Speaks r self.now → Leads (setting_of r self.now) (calls_in self.now) k task (answers (partial_view value.value)) result }
         ensures fewer { LeftFewer task result }
     {
         match task {
-            Task::Parts(frame) => taken(
-                alloc,
-                frame.answered(alloc, self.given.extensions, Ok(value)),
-            ),
+            Task::Parts(frame) => {
+                let parts = Box::into_inner(frame);
+                let part = Box::into_inner(value);
+                taken(
+                    alloc,
+                    parts.answered(alloc, self.given.extensions, Ok(part)),
+                )
+            }
             Task::Other(pending) => match self.after(alloc, pending, value) {
                 Ok(next) => next,
                 Err(_) => Step::Done(Err(Stopped::Memory)),
@@ -157,8 +162,45 @@ fn placed(alloc: Global, next: Next, loc: Option<Loc>) -> Step<Frame, Part, Outc
     ensures { IsPlaced next loc result }
 {
     match next {
-        Step::Done(Ok(value)) => Step::Done(Ok(value.with_maybe_source_loc(loc))),
+        Step::Done(Ok(part)) => Step::Done(part_at(alloc, part, loc)),
         Step::Done(Err(stopped)) => Step::Done(Err(stopped.within(alloc, loc))),
         Step::Wait(task, part) => Step::Wait(Frame { task, loc }, part),
+    }
+}
+
+// The value or residual at this location.
+fn part_at(alloc: Global, mut part: Box<PartialValue>, loc: Option<Loc>) -> Outcome
+    ensures { IsPlaced (Done (Ok part)) loc (Done result) }
+{
+    if is_value_put(&mut part, loc) {
+        Ok(part)
+    } else {
+        residual_at(alloc, part, loc)
+    }
+}
+
+// Puts a value at this location; a residual stays.
+fn is_value_put(part: &mut PartialValue, loc: Option<Loc>) -> bool
+    ensures view { partial_view part.new ≡ partial_view part.old }
+    ensures put { result ≡ true → partial_loc part.new ≡ loc }
+{
+    match part {
+        PartialValue::Value(value) => {
+            value.loc = loc;
+            true
+        }
+        PartialValue::Residual(_) => false,
+    }
+}
+
+// A residual at this location.
+#[cold]
+#[inline(never)]
+fn residual_at(alloc: Global, part: Box<PartialValue>, loc: Option<Loc>) -> Outcome
+    ensures { IsPlaced (Done (Ok part)) loc (Done result) }
+{
+    match Box::new(alloc, Box::into_inner(part).with_maybe_source_loc(loc)) {
+        Ok(part) => Ok(part),
+        Err(_) => Err(Stopped::Memory),
     }
 }

@@ -30,11 +30,14 @@ impl<'e, 'g, 'f> Evaluation<'e, 'g, 'f> {
         &self,
         alloc: Global,
         op: UnaryOp,
-        operand: PartialValue,
+        operand: Box<PartialValue>,
     ) -> Result<Next, AllocError>
-        ensures { (r : RequestPart) (k : ℕ) → IfOk result (GoesOn (setting_of r self.now) (calls_in self.now) k (pendings.Unary op) (answers (partial_view operand))) }
+        ensures { (r : RequestPart) (k : ℕ) → IfOk result (GoesOn (setting_of r self.now) (calls_in self.now) k (pendings.Unary op) (answers (partial_view operand.value))) }
     {
-        Ok(answered(alloc, unary_of_part(alloc, op, operand, None)))
+        Ok(answered(
+            alloc,
+            unary_of_part(alloc, op, Box::into_inner(operand), None),
+        ))
     }
 
     // The right operand, after the left one.
@@ -42,9 +45,9 @@ impl<'e, 'g, 'f> Evaluation<'e, 'g, 'f> {
         &self,
         op: BinaryOp,
         right: Rc<Expr>,
-        left: PartialValue,
+        left: Box<PartialValue>,
     ) -> Result<Next, AllocError>
-        ensures { (r : RequestPart) (k : ℕ) → IfOk result (GoesOn (setting_of r self.now) (calls_in self.now) k (pendings.BinaryLeft op right) (answers (partial_view left))) }
+        ensures { (r : RequestPart) (k : ℕ) → IfOk result (GoesOn (setting_of r self.now) (calls_in self.now) k (pendings.BinaryLeft op right) (answers (partial_view left.value))) }
     {
         Ok(Step::Wait(
             Task::Other(Pending::BinaryRight { op, left }),
@@ -57,16 +60,18 @@ impl<'e, 'g, 'f> Evaluation<'e, 'g, 'f> {
         &self,
         alloc: Global,
         op: BinaryOp,
-        left: PartialValue,
-        right: PartialValue,
+        left: Box<PartialValue>,
+        right: Box<PartialValue>,
     ) -> Result<Next, AllocError>
-        ensures { (r : RequestPart) (k : ℕ) → IfOk result (GoesOn (setting_of r self.now) (calls_in self.now) k (pendings.BinaryRight op left) (answers (partial_view right))) }
+        ensures { (r : RequestPart) (k : ℕ) → IfOk result (GoesOn (setting_of r self.now) (calls_in self.now) k (pendings.BinaryRight op left) (answers (partial_view right.value))) }
     {
+        let left_part = Box::into_inner(left);
+        let right_part = Box::into_inner(right);
         let entities = self.given.entities;
         let extensions = self.given.extensions;
         Ok(answered(
             alloc,
-            binary_of_parts(alloc, entities, extensions, op, left, right, None),
+            binary_of_parts(alloc, entities, extensions, op, left_part, right_part, None),
         ))
     }
 
@@ -75,13 +80,22 @@ impl<'e, 'g, 'f> Evaluation<'e, 'g, 'f> {
         &self,
         alloc: Global,
         attr: RcStr,
-        container: PartialValue,
+        container: Box<PartialValue>,
     ) -> Result<Next, AllocError>
-        ensures { (r : RequestPart) (k : ℕ) → IfOk result (GoesOn (setting_of r self.now) (calls_in self.now) k (pendings.GetAttr attr) (answers (partial_view container))) }
+        ensures { (r : RequestPart) (k : ℕ) → IfOk result (GoesOn (setting_of r self.now) (calls_in self.now) k (pendings.GetAttr attr) (answers (partial_view container.value))) }
     {
-        match attribute_of_part(alloc, self.given.entities, container, &attr, None) {
+        match attribute_of_part(
+            alloc,
+            self.given.entities,
+            Box::into_inner(container),
+            &attr,
+            None,
+        ) {
             Projected::Answer(answer) => stored(alloc, &self.given.mapper, answer),
-            Projected::Part(part) => Ok(Step::Wait(Task::Other(Pending::Passed), Part::Own(part))),
+            Projected::Part(part) => {
+                let part = Box::new(alloc, part)?;
+                Ok(Step::Wait(Task::Other(Pending::Passed), Part::Own(part)))
+            }
         }
     }
 
@@ -90,13 +104,18 @@ impl<'e, 'g, 'f> Evaluation<'e, 'g, 'f> {
         &self,
         alloc: Global,
         attr: RcStr,
-        container: PartialValue,
+        container: Box<PartialValue>,
     ) -> Result<Next, AllocError>
-        ensures { (r : RequestPart) (k : ℕ) → IfOk result (GoesOn (setting_of r self.now) (calls_in self.now) k (pendings.HasAttr attr) (answers (partial_view container))) }
+        ensures { (r : RequestPart) (k : ℕ) → IfOk result (GoesOn (setting_of r self.now) (calls_in self.now) k (pendings.HasAttr attr) (answers (partial_view container.value))) }
     {
         Ok(answered(
             alloc,
-            has_of_part(alloc, self.given.entities, container, &attr),
+            has_of_part(
+                alloc,
+                self.given.entities,
+                Box::into_inner(container),
+                &attr,
+            ),
         ))
     }
 
@@ -105,13 +124,18 @@ impl<'e, 'g, 'f> Evaluation<'e, 'g, 'f> {
         &self,
         alloc: Global,
         attrs: Rc<FirstRest<RcStr>>,
-        container: PartialValue,
+        container: Box<PartialValue>,
     ) -> Result<Next, AllocError>
-        ensures { (r : RequestPart) (k : ℕ) → IfOk result (GoesOn (setting_of r self.now) (calls_in self.now) k (pendings.ExtHasAttr attrs) (answers (partial_view container))) }
+        ensures { (r : RequestPart) (k : ℕ) → IfOk result (GoesOn (setting_of r self.now) (calls_in self.now) k (pendings.ExtHasAttr attrs) (answers (partial_view container.value))) }
     {
         Ok(answered(
             alloc,
-            extended_has_of_part(alloc, self.given.entities, container, &attrs),
+            extended_has_of_part(
+                alloc,
+                self.given.entities,
+                Box::into_inner(container),
+                &attrs,
+            ),
         ))
     }
 
@@ -119,23 +143,26 @@ impl<'e, 'g, 'f> Evaluation<'e, 'g, 'f> {
     pub(crate) fn after_text(
         &self,
         alloc: Global,
-        pattern: Pattern,
-        text: PartialValue,
+        pattern: Box<Pattern>,
+        text: Box<PartialValue>,
     ) -> Result<Next, AllocError>
-        ensures { (r : RequestPart) (k : ℕ) → IfOk result (GoesOn (setting_of r self.now) (calls_in self.now) k (pendings.Like pattern) (answers (partial_view text))) }
+        ensures { (r : RequestPart) (k : ℕ) → IfOk result (GoesOn (setting_of r self.now) (calls_in self.now) k (pendings.Like pattern) (answers (partial_view text.value))) }
     {
-        Ok(answered(alloc, like_of_part(alloc, text, &pattern)))
+        Ok(answered(alloc, like_of_part(alloc, Box::into_inner(text), &pattern)))
     }
 
     // Whether the entity is of the type.
     pub(crate) fn after_entity(
         &self,
         alloc: Global,
-        entity_type: EntityType,
-        entity: PartialValue,
+        entity_type: Box<EntityType>,
+        entity: Box<PartialValue>,
     ) -> Result<Next, AllocError>
-        ensures { (r : RequestPart) (k : ℕ) → IfOk result (GoesOn (setting_of r self.now) (calls_in self.now) k (pendings.Is entity_type) (answers (partial_view entity))) }
+        ensures { (r : RequestPart) (k : ℕ) → IfOk result (GoesOn (setting_of r self.now) (calls_in self.now) k (pendings.Is entity_type) (answers (partial_view entity.value))) }
     {
-        Ok(answered(alloc, is_of_part(alloc, entity, &entity_type)))
+        Ok(answered(
+            alloc,
+            is_of_part(alloc, Box::into_inner(entity), &entity_type),
+        ))
     }
 }

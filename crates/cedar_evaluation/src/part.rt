@@ -10,7 +10,7 @@ pub enum Part {
     /// A part that others hold too.
     Shared(Rc<Expr>),
     /// A node of its own.
-    Own(Expr),
+    Own(Box<Expr>),
 }
 
 impl Part {

@@ -9,11 +9,12 @@ ghost use Rattle.cedar_names.specs.Names.{name_text, type_text};
 ghost use Rattle.cedar_names.specs.Leaves.{literal_view, variable_view, slot_view, type_view, unary_view, binary_view, pattern_view, texts_view};
 ghost use Rattle.cedar_expressions.specs.View.{view, terms_view, fields_view};
 ghost use Rattle.cedar_layers.specs.Policies.{slots_view};
-ghost use Rattle.cedar_evaluation.specs.Settings.{Speaks, setting_of, calls_in};
+ghost use Rattle.cedar_frames.specs.declared.machine.Step.TheVariants.{Wait};
+ghost use Rattle.cedar_evaluation.specs.Settings.{Speaks, setting_of, calls_in, given_for};
 ghost use Rattle.cedar_evaluation.specs.Tasks.{Begins, Gives};
 ghost use Rattle.cedar_evaluation.specs.PartsLaws.{IsTaken};
 
-use crate::answers::answered;
+use crate::answers::done;
 use crate::evaluation::Evaluation;
 use crate::frame::{Next, Pending, Task};
 use crate::part::Part;
@@ -41,8 +42,8 @@ impl<'e, 'g, 'f> Evaluation<'e, 'g, 'f> {
         ensures { (r : RequestPart) (k : ℕ) → Speaks r self.now → IfOk result (Begins (setting_of r self.now) (calls_in self.now) k (view e.now)) }
     {
         match e.expr_kind() {
-            ExprKind::Lit(value) => self.literal(value),
-            ExprKind::Var(var) => self.variable(*var),
+            ExprKind::Lit(value) => self.literal(alloc, value),
+            ExprKind::Var(var) => self.variable(alloc, *var),
             ExprKind::Slot(slot) => self.slot(alloc, *slot),
             ExprKind::Unknown(unknown) => self.unknown(alloc, e, unknown),
             ExprKind::If {
@@ -60,28 +61,35 @@ impl<'e, 'g, 'f> Evaluation<'e, 'g, 'f> {
             ExprKind::GetAttr { expr, attr } => self.attribute(expr, attr),
             ExprKind::HasAttr { expr, attr } => self.tested(expr, attr),
             ExprKind::ExtHasAttr { expr, attrs } => self.walked(expr, attrs),
-            ExprKind::Like { expr, pattern } => self.likeness(expr, pattern),
-            ExprKind::Is { expr, entity_type } => self.typed(expr, entity_type),
+            ExprKind::Like { expr, pattern } => self.likeness(alloc, expr, pattern),
+            ExprKind::Is { expr, entity_type } => self.typed(alloc, expr, entity_type),
             ExprKind::Set(parts) => self.set(alloc, parts, e.source_loc().copied()),
             ExprKind::Record(pairs) => self.record(alloc, pairs, e.source_loc().copied()),
         }
     }
 
-    fn literal(&self, value: &Literal) -> Result<Next, AllocError>
+    fn literal(&self, alloc: Global, value: &Literal) -> Result<Next, AllocError>
         ensures { (r : RequestPart) (k : ℕ) → IfOk result (Begins (setting_of r self.now) (calls_in self.now) k (Terms.literal (literal_view value.now))) }
     {
         let literal = Value::new(ValueKind::Lit(value.clone()?), None);
-        Ok(Step::Done(Ok(PartialValue::Value(literal))))
+        Ok(done(alloc, PartialValue::Value(literal)))
     }
 
-    fn variable(&self, var: Var) -> Result<Next, AllocError>
+    fn variable(&self, alloc: Global, var: Var) -> Result<Next, AllocError>
         ensures { (r : RequestPart) (k : ℕ) → Speaks r self.now → IfOk result (Begins (setting_of r self.now) (calls_in self.now) k (Terms.variable (variable_view var))) }
     {
+        Ok(done(alloc, self.given_for(var).clone()?))
+    }
+
+    // What is given for the variable.
+    fn given_for(&self, var: Var) -> &PartialValue
+        ensures { result.now ≡ given_for self.now.given.now (variable_view var) }
+    {
         match var {
-            Var::Principal => Ok(Step::Done(Ok(self.given.principal.clone()?))),
-            Var::Action => Ok(Step::Done(Ok(self.given.action.clone()?))),
-            Var::Resource => Ok(Step::Done(Ok(self.given.resource.clone()?))),
-            Var::Context => Ok(Step::Done(Ok(self.given.context.clone()?))),
+            Var::Principal => &self.given.principal,
+            Var::Action => &self.given.action,
+            Var::Resource => &self.given.resource,
+            Var::Context => &self.given.context,
         }
     }
 
@@ -140,18 +148,28 @@ impl<'e, 'g, 'f> Evaluation<'e, 'g, 'f> {
         Ok(Step::Wait(Task::Other(Pending::ExtHasAttr(attrs)), Part::Shared(expr)))
     }
 
-    fn likeness(&self, expr: &Rc<Expr>, pattern: &Pattern) -> Result<Next, AllocError>
+    fn likeness(
+        &self,
+        alloc: Global,
+        expr: &Rc<Expr>,
+        pattern: &Pattern,
+    ) -> Result<Next, AllocError>
         ensures { (r : RequestPart) (k : ℕ) → IfOk result (Begins (setting_of r self.now) (calls_in self.now) k (Terms.like (view expr.now.value) (pattern_view pattern.now))) }
     {
-        let pattern = pattern.clone()?;
+        let pattern = Box::new(alloc, pattern.clone()?)?;
         let expr = expr.clone()?;
         Ok(Step::Wait(Task::Other(Pending::Like(pattern)), Part::Shared(expr)))
     }
 
-    fn typed(&self, expr: &Rc<Expr>, entity_type: &EntityType) -> Result<Next, AllocError>
+    fn typed(
+        &self,
+        alloc: Global,
+        expr: &Rc<Expr>,
+        entity_type: &EntityType,
+    ) -> Result<Next, AllocError>
         ensures { (r : RequestPart) (k : ℕ) → IfOk result (Begins (setting_of r self.now) (calls_in self.now) k (Terms.is_of_type (view expr.now.value) (type_text entity_type.now))) }
     {
-        let entity_type = entity_type.clone()?;
+        let entity_type = Box::new(alloc, entity_type.clone()?)?;
         let expr = expr.clone()?;
         Ok(Step::Wait(Task::Other(Pending::Is(entity_type)), Part::Shared(expr)))
     }
@@ -209,7 +227,7 @@ fn slot_answer(alloc: Global, slots: &SlotEnv, slot: SlotId) -> Result<Next, All
         Some(uid) => {
             let uid = Rc::new(alloc, uid.clone()?)?;
             let value = Value::new(ValueKind::Lit(Literal::EntityUID(uid)), None);
-            Ok(Step::Done(Ok(PartialValue::Value(value))))
+            Ok(done(alloc, PartialValue::Value(value)))
         }
         None => Ok(slot_unlinked(alloc, slot)),
     }
@@ -233,8 +251,20 @@ pub(crate) fn taken(alloc: Global, next: NextPart) -> Next
     ensures { IsTaken next result }
 {
     match next {
-        Step::Done(Ok(value)) => Step::Done(Ok(value)),
+        Step::Done(Ok(part)) => done(alloc, part),
         Step::Done(Err(error)) => Step::Done(Err(Stopped::of(alloc, error, None))),
-        Step::Wait(frame, part) => Step::Wait(Task::Parts(frame), Part::Own(part)),
+        Step::Wait(frame, part) => match waiting(alloc, frame, part) {
+            Ok(next) => next,
+            Err(_) => Step::Done(Err(Stopped::Memory)),
+        },
     }
+}
+
+// A set, a record or a call waits for this part.
+fn waiting(alloc: Global, frame: PartsFrame, part: Expr) -> Result<Next, AllocError>
+    ensures { IfOk result (IsTaken (Wait frame part)) }
+{
+    let frame = Box::new(alloc, frame)?;
+    let part = Box::new(alloc, part)?;
+    Ok(Step::Wait(Task::Parts(frame), Part::Own(part)))
 }

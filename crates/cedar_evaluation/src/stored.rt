@@ -15,6 +15,7 @@ ghost use Rattle.cedar_evaluation.specs.Settings.{mapper_view};
 ghost use Rattle.cedar_evaluation.specs.Tasks.{Gives};
 ghost use Rattle.cedar_evaluation.specs.Stored.{remapped, IsNoUnknown};
 
+use crate::answers::done;
 use crate::evaluation::Mapper;
 use crate::frame::Next;
 use crate::stopped::Stopped;
@@ -38,10 +39,10 @@ pub(crate) fn stored(
     ensures { (b : Answer) → AnswersWith answer b → IfOk result (λ n. Gives n (remapped (mapper_view mapper.now) b)) }
 {
     match answer {
-        Ok(PartialValue::Value(value)) => Ok(Step::Done(Ok(PartialValue::Value(value)))),
+        Ok(PartialValue::Value(value)) => Ok(done(alloc, PartialValue::Value(value))),
         Ok(PartialValue::Residual(residual)) => match unknown_in(residual.as_expr()) {
             Some(unknown) => mapped(alloc, mapper, residual.as_expr(), unknown),
-            None => Ok(Step::Done(Ok(PartialValue::Residual(residual)))),
+            None => Ok(done(alloc, PartialValue::Residual(residual))),
         },
         Err(error) => Ok(Step::Done(Err(Stopped::of(alloc, error, None)))),
     }
@@ -104,9 +105,9 @@ pub(crate) fn mapped(
     match value_of(mapper, &unknown.name) {
         Some(value) => match &unknown.type_annotation {
             Some(ty) => of_type(alloc, value, ty),
-            None => Ok(Step::Done(Ok(PartialValue::Value(value.clone()?)))),
+            None => Ok(done(alloc, PartialValue::Value(value.clone()?))),
         },
-        None => Ok(left(e.clone()?)),
+        None => Ok(left(alloc, e.clone()?)),
     }
 }
 
@@ -126,7 +127,7 @@ fn of_type(alloc: Global, value: &Value, ty: &Type) -> Result<Next, AllocError>
     ensures { IfOk result (λ n. Gives n (typed_value (Some (type_view ty.now)) value.now.what)) }
 {
     if same_type(&value.type_of()?, ty) {
-        Ok(Step::Done(Ok(PartialValue::Value(value.clone()?))))
+        Ok(done(alloc, PartialValue::Value(value.clone()?)))
     } else {
         Ok(wrong_type(alloc, ty.clone()?, value))
     }
@@ -150,9 +151,9 @@ fn wrong_type(alloc: Global, ty: Type, value: &Value) -> Next
 }
 
 // The unknown is left.
-fn left(e: Expr) -> Next
+fn left(alloc: Global, e: Expr) -> Next
     requires { has_unknown (view e) ≡ true }
     ensures { Gives result (answers_residual (view e)) }
 {
-    Step::Done(Ok(PartialValue::Residual(ResidualExpr::new(e))))
+    done(alloc, PartialValue::Residual(ResidualExpr::new(e)))
 }

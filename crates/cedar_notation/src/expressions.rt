@@ -154,6 +154,10 @@ fn operation(alloc: Global, word: &str, parts: &mut Parts<Expr>) -> Result<Expr,
         "and" => Ok(Expr::and(alloc, left, right)?),
         "or" => Ok(Expr::or(alloc, left, right)?),
         "if" => Ok(Expr::ite(alloc, popped(parts), left, right)?),
-        _ => Err(Unanswered::Unreadable("no such operation")),
+        _ => {
+            drop(left);
+            drop(right);
+            Err(Unanswered::Unreadable("no such operation"))
+        }
     }
 }

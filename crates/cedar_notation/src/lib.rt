@@ -1,4 +1,5 @@
-//! Reads what a line of a table says: expressions and values as words, policies, and the setting that rows are answered in.
+//! Reads what a line of a table says: expressions and values as words, policies, and the setting that rows are answered in; and shows what answers have
+//! in common.
 //!
 //! A text stands in a word as it is, but for `␣`, which stands for a space. A place is written as its ends, `1-2`.
 #![tactic(auto)]
@@ -8,13 +9,13 @@ pub mod expressions;
 pub mod leaves;
 pub mod policies;
 pub mod settings;
-pub mod steps;
+pub mod shown;
 pub mod unanswered;
 pub mod values;
 
 use leaves::text;
 use std::alloc::{AllocError, Global};
-use std::collections::BTreeMap;
+use std::collections::{BTreeMap, HashMap};
 use std::rc::RcStr;
 use unanswered::Unanswered;
 
@@ -127,9 +128,18 @@ impl<T: Drop> Parts<T> {
     }
 }
 
-fn pair<T: Drop>(pairs: &mut Vec<(RcStr, T)>, key: RcStr, part: T) -> Result<(), AllocError> {
+/// Puts the part behind the others, under its key.
+pub fn pair<T: Drop>(pairs: &mut Vec<(RcStr, T)>, key: RcStr, part: T) -> Result<(), AllocError> {
     match pairs.push((key, part)) {
         Ok(()) => Ok(()),
+        Err(_) => Err(AllocError),
+    }
+}
+
+/// Puts the part into the map, under its key.
+pub fn put<T: Drop>(map: &mut HashMap<RcStr, T>, key: RcStr, part: T) -> Result<(), AllocError> {
+    match map.insert(key, part) {
+        Ok(_) => Ok(()),
         Err(_) => Err(AllocError),
     }
 }

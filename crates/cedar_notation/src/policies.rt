@@ -72,6 +72,7 @@ fn of_parts(alloc: Global, setting: &str, id: &str, stated: &str) -> Result<Poli
     let mut parts = conjuncts(alloc, words)?;
     let when = part(&mut parts);
     let (resource, action, principal) = (part(&mut parts), part(&mut parts), part(&mut parts));
+    drop(parts);
     Ok(Policy::new(
         alloc,
         effect,

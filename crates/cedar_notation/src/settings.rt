@@ -21,7 +21,7 @@ use crate::expressions::restricted;
 use crate::leaves::{entity_type, place, slot, text, uid};
 use crate::unanswered::Unanswered;
 use crate::values::value;
-use crate::{fact, first_fact, headed};
+use crate::{fact, first_fact, headed, put};
 use cedar_extensions::Extensions;
 use cedar_layers::expressions::{EntityUID, Expr, PartialValue, ResidualExpr, SlotEnv, Value};
 use cedar_layers::policies::{Entities, Entity};
@@ -65,6 +65,7 @@ impl StoredParts {
     ) -> Result<StoredParts, Unanswered> {
         let expr = Expr::from(residual);
         if !expr.has_unknown() {
+            drop(expr);
             return Err(Unanswered::Unreadable("a residual without an unknown"));
         }
         let mut parts = self.parts;
@@ -148,17 +149,27 @@ fn context_of(
     extensions: &Extensions<'_>,
 ) -> Result<Context, Unanswered> {
     let expr = restricted(alloc, words)?;
-    match Context::from_expr(alloc, expr.as_borrowed(), extensions, LIMIT) {
+    let made = Context::from_expr(alloc, expr.as_borrowed(), extensions, LIMIT);
+    drop(expr);
+    match made {
         Ok(context) => Ok(context),
-        Err(ContextCreationError::Memory(_)) => Err(Unanswered::Memory),
-        Err(ContextCreationError::Evaluation(_)) => {
-            Err(Unanswered::Unreadable("a context that errs"))
+        Err(error) => {
+            let reason = reason(&error);
+            drop(error);
+            Err(reason)
         }
-        Err(ContextCreationError::NotARecord(_)) => {
-            Err(Unanswered::Unreadable("a context that is no record"))
+    }
+}
+
+fn reason(error: &ContextCreationError) -> Unanswered {
+    match error {
+        ContextCreationError::Memory(_) => Unanswered::Memory,
+        ContextCreationError::Evaluation(_) => Unanswered::Unreadable("a context that errs"),
+        ContextCreationError::NotARecord(_) => {
+            Unanswered::Unreadable("a context that is no record")
         }
-        Err(ContextCreationError::ExpressionConstruction(_)) => {
-            Err(Unanswered::Unreadable("a context that repeats a name"))
+        ContextCreationError::ExpressionConstruction(_) => {
+            Unanswered::Unreadable("a context that repeats a name")
         }
     }
 }
@@ -168,7 +179,7 @@ fn mapped_values(alloc: Global, setting: &str) -> Result<HashMap<RcStr, Value>, 
     for line in setting.lines() {
         if let Some(rest) = fact(line, "map") {
             let (name, words) = headed(rest);
-            map.insert(text(alloc, name)?, value(alloc, words)?)?;
+            put(&mut map, text(alloc, name)?, value(alloc, words)?)?;
         }
     }
     Ok(map)

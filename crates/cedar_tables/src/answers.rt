@@ -1,5 +1,5 @@
 //! What is answered to a row, as text, under the question that is asked of it: of policies, of what is known of them, and of the program of the
-//! built-in rows. All other questions are those of `cedar_answers`.
+//! built-in rows. All other questions are those of `cedar_answers` and `cedar_written`.
 //!
 //! - Of the ids of policies: `decide LIMIT`, `decide-texts LIMIT` (the errors' own texts), `decide-copy LIMIT` (whether a copy
 //!   is equal), `evaluate LIMIT`, `partly-evaluate LIMIT`, `set`, `set-debug`, `policy` and `condition`;
@@ -36,6 +36,10 @@ pub fn answer(
         "run" | "run-without-functions" | "step-refused" | "failing-output" => {
             program::answer(alloc, kind, argument, words)
         }
-        _ => cedar_answers::answer(alloc, setting, kind, argument, words, want),
+        _ => if cedar_answers::is_asked(kind) {
+            cedar_answers::answer(alloc, setting, kind, argument, words, want)
+        } else {
+            cedar_written::answer(alloc, setting.extensions, kind, argument, words, want)
+        },
     }
 }

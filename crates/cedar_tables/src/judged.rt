@@ -1,7 +1,5 @@
 //! What policies decide, and what a policy holds.
-use cedar_answers::Place;
 use cedar_answers::described::described;
-use cedar_answers::evaluated::{limit, or_fail};
 use cedar_authorizer::authorizer::{AuthorizationError, Authorizer, Response};
 use cedar_built_in_rows::lines::{decision_text, joined, reasons_text};
 use cedar_evaluator::evaluator::{EvaluationError, Evaluator};
@@ -9,6 +7,7 @@ use cedar_layers::expressions::{Expr, ExprKind};
 use cedar_layers::policies::{Effect, Policy, PolicySet};
 use cedar_notation::policies::{policies, policy, policy_set};
 use cedar_notation::settings::Setting;
+use cedar_notation::shown::{Place, is_equal, limit, or_fail, text_of};
 use cedar_notation::unanswered::Unanswered;
 use either::Either;
 use std::alloc::{AllocError, Global};
@@ -25,10 +24,14 @@ pub fn answer(
     let limit = limit(limit_text)?;
     if kind == "evaluate" || kind == "partly-evaluate" {
         let policy = policy(alloc, facts, ids)?;
-        return or_fail(condition_answer(alloc, setting, kind, limit, &policy));
+        let text = condition_answer(alloc, setting, kind, limit, &policy);
+        drop(policy);
+        return or_fail(text);
     }
     let policies = policy_set(alloc, facts, ids)?;
-    or_fail(decided(alloc, setting, kind, limit, &policies))
+    let text = decided(alloc, setting, kind, limit, &policies);
+    drop(policies);
+    or_fail(text)
 }
 
 /// What the set of the policies holds, or the one policy, or its condition.
@@ -37,11 +40,13 @@ pub fn listed(alloc: Global, facts: &str, kind: &str, ids: &str) -> Result<Strin
         return or_fail(set_text(alloc, kind, policies(alloc, facts, ids)?));
     }
     let policy = policy(alloc, facts, ids)?;
-    if kind == "policy" {
-        or_fail(policy_text(alloc, &policy))
+    let text = if kind == "policy" {
+        policy_text(alloc, &policy)
     } else {
-        or_fail(condition_text(alloc, &policy))
-    }
+        condition_text(alloc, &policy)
+    };
+    drop(policy);
+    or_fail(text)
 }
 
 fn decided(
@@ -51,20 +56,34 @@ fn decided(
     limit: usize,
     policies: &PolicySet,
 ) -> Result<String, AllocError> {
+    let response = response(alloc, setting, limit, policies)?;
+    let text = shown(alloc, kind, &response);
+    drop(response);
+    text
+}
+
+fn response(
+    alloc: Global,
+    setting: &Setting<'_, '_>,
+    limit: usize,
+    policies: &PolicySet,
+) -> Result<Response, AllocError> {
     let authorizer = Authorizer::new(setting.extensions, limit);
     let request = setting.request.clone()?;
-    let response = authorizer.is_authorized(alloc, request, policies, &setting.entities)?;
+    authorizer.is_authorized(alloc, request, policies, &setting.entities)
+}
+
+fn shown(alloc: Global, kind: &str, response: &Response) -> Result<String, AllocError> {
     if kind == "decide-copy" {
-        copy_text(alloc, &response)
+        copy_text(alloc, response)
     } else {
-        response_text(alloc, kind, &response)
+        response_text(alloc, kind, response)
     }
 }
 
 // Whether a copy of the response is equal to it.
 fn copy_text(alloc: Global, response: &Response) -> Result<String, AllocError> {
-    let copy = response.clone()?;
-    truth(alloc, copy == *response)
+    truth(alloc, is_equal(response.clone(), response)?)
 }
 
 fn truth(alloc: Global, is_true: bool) -> Result<String, AllocError> {
@@ -82,10 +101,27 @@ fn condition_answer(
     let request = setting.request.clone()?;
     let evaluator = Evaluator::new(alloc, request, &setting.entities, setting.extensions, limit)?;
     let evaluator = evaluator.with_unknowns_mapper(&setting.map);
+    let text = condition_by(alloc, &evaluator, kind, policy);
+    drop(evaluator);
+    text
+}
+
+fn condition_by(
+    alloc: Global,
+    evaluator: &Evaluator<'_, '_>,
+    kind: &str,
+    policy: &Policy,
+) -> Result<String, AllocError> {
     if kind == "evaluate" {
-        truth_text(alloc, &evaluator.evaluate(alloc, policy))
+        let outcome = evaluator.evaluate(alloc, policy);
+        let text = truth_text(alloc, &outcome);
+        drop(outcome);
+        text
     } else {
-        left_text(alloc, &evaluator.partial_evaluate(alloc, policy))
+        let outcome = evaluator.partial_evaluate(alloc, policy);
+        let text = left_text(alloc, &outcome);
+        drop(outcome);
+        text
     }
 }
 
@@ -134,18 +170,26 @@ fn error_line(alloc: Global, error: &AuthorizationError) -> Result<String, Alloc
 }
 
 fn copied_line(alloc: Global, error: &AuthorizationError) -> Result<String, AllocError> {
-    error.clone()?.to_string(alloc)
+    text_of(alloc, error.clone())
 }
 
 // The ids with their effects, in order, or why there is no such set.
 fn set_text(alloc: Global, kind: &str, policies: Vec<Policy>) -> Result<String, AllocError> {
     match PolicySet::try_from_iter(alloc, policies) {
-        Ok(set) => if kind == "set" {
-            policies_text(alloc, &set)
-        } else {
-            format!(in alloc; "{set:?}")
-        },
-        Err(error) => error.to_string(alloc),
+        Ok(set) => {
+            let text = if kind == "set" {
+                policies_text(alloc, &set)
+            } else {
+                format!(in alloc; "{set:?}")
+            };
+            drop(set);
+            text
+        }
+        Err(error) => {
+            let text = error.to_string(alloc);
+            drop(error);
+            text
+        }
     }
 }
 
@@ -169,6 +213,12 @@ pub fn effect_text(effect: Effect) -> &'static str {
 // The effect, the id, the annotations and the slots of a copy of the policy.
 fn policy_text(alloc: Global, policy: &Policy) -> Result<String, AllocError> {
     let copy = policy.clone()?;
+    let text = told(alloc, &copy);
+    drop(copy);
+    text
+}
+
+fn told(alloc: Global, copy: &Policy) -> Result<String, AllocError> {
     let effect = effect_text(copy.effect());
     let annotations = &copy.annotations_rc().0;
     format!(in alloc; "{effect} {} {annotations:?} {:?}", copy.id(), copy.env())
@@ -176,8 +226,21 @@ fn policy_text(alloc: Global, policy: &Policy) -> Result<String, AllocError> {
 
 // The condition of a copy of the policy, where each of its conjunctions stands, and where the first constraint does.
 fn condition_text(alloc: Global, policy: &Policy) -> Result<String, AllocError> {
-    let condition = policy.clone()?.condition(alloc)?;
-    let both = left_of(&condition);
+    let condition = condition_of(alloc, policy)?;
+    let text = places_of(alloc, &condition);
+    drop(condition);
+    text
+}
+
+fn condition_of(alloc: Global, policy: &Policy) -> Result<Expr, AllocError> {
+    let copy = policy.clone()?;
+    let condition = copy.condition(alloc);
+    drop(copy);
+    condition
+}
+
+fn places_of(alloc: Global, condition: &Expr) -> Result<String, AllocError> {
+    let both = left_of(condition);
     let scope = left_of(both);
     let first = left_of(scope);
     format!(in alloc;

@@ -8,6 +8,7 @@ mod functions;
 mod judged;
 mod program;
 mod stepped;
+mod steps;
 
 use cases::file_holds;
 use cedar_notation::unanswered::Unanswered;

@@ -1,23 +1,25 @@
 //! What is known of policies, and what becomes of that in steps.
 use crate::judged::effect_text;
+use crate::steps::{Step, mapping, sheet, steps};
 use cedar_answers::described::kind;
-use cedar_answers::evaluated::{limit, or_fail};
 use cedar_authorizer::authorizer::{
     AuthorizationError, Authorizer, ConcretizationError, Decision, PartialResponse,
     ReauthorizationError, Reauthorize, ReportedIds, ReportedPolicies, Response,
 };
 use cedar_built_in_rows::lines::{decision_text, joined, reasons_text};
-use cedar_layers::policies::{Policy, PolicyID, PolicySet};
+use cedar_layers::expressions::Value;
+use cedar_layers::policies::{Entities, Policy, PolicyID, PolicySet};
 use cedar_notation::headed;
 use cedar_notation::policies::{policy_id, policy_set};
 use cedar_notation::settings::Setting;
-use cedar_notation::steps::{Step, mapping, sheet, steps};
+use cedar_notation::shown::{is_equal, limit, or_fail, told};
 use cedar_notation::unanswered::Unanswered;
-use cedar_requests::Request;
+use cedar_requests::{Context, Request};
 use cedar_responses::shared::Sheet;
 use indexmap::IndexMap;
 use std::alloc::{AllocError, Global};
-use std::rc::Rc;
+use std::collections::HashMap;
+use std::rc::{Rc, RcStr};
 
 /// What is known after the steps, or why one of them was refused.
 pub fn answer(
@@ -36,11 +38,13 @@ pub fn answer(
         None => (words, ""),
     };
     let steps = steps(alloc, facts, written)?;
-    if question == "made" {
+    let text = if question == "made" {
         of_notes(alloc, setting, argument, first, &steps)
     } else {
         of_policies(alloc, facts, setting, question, argument, first, &steps)
-    }
+    };
+    drop(steps);
+    text
 }
 
 // What is asked after these steps of the response that is made of these notes.
@@ -53,11 +57,10 @@ fn of_notes(
 ) -> Result<String, Unanswered> {
     let limit = limit("")?;
     let response = made(alloc, setting, notes)?;
-    told(
-        alloc,
-        asked,
-        &one_by_one(alloc, setting, limit, response, steps),
-    )
+    let outcome = one_by_one(alloc, setting, limit, response, steps);
+    let text = answered(alloc, asked, &outcome);
+    drop(outcome);
+    text
 }
 
 // What is known after these steps of the policies of these ids.
@@ -72,7 +75,9 @@ fn of_policies(
 ) -> Result<String, Unanswered> {
     let limit = limit(limit_text)?;
     let policies = policy_set(alloc, facts, ids)?;
-    chained(alloc, setting, question, limit, &policies, steps)
+    let text = chained(alloc, setting, question, limit, &policies, steps);
+    drop(policies);
+    text
 }
 
 fn chained(
@@ -101,7 +106,10 @@ fn told_in_steps(
     policies: &PolicySet,
     steps: &[Step],
 ) -> Result<String, Unanswered> {
-    told(alloc, "", &in_steps(alloc, setting, limit, policies, steps))
+    let outcome = in_steps(alloc, setting, limit, policies, steps);
+    let text = answered(alloc, "", &outcome);
+    drop(outcome);
+    text
 }
 
 fn told_one_by_one(
@@ -111,11 +119,10 @@ fn told_one_by_one(
     policies: &PolicySet,
     steps: &[Step],
 ) -> Result<String, Unanswered> {
-    told(
-        alloc,
-        "",
-        &from_core(alloc, setting, limit, policies, steps),
-    )
+    let outcome = from_core(alloc, setting, limit, policies, steps);
+    let text = answered(alloc, "", &outcome);
+    drop(outcome);
+    text
 }
 
 // The text of both ways, or that of each where they differ.
@@ -134,23 +141,33 @@ fn in_steps(
     policies: &PolicySet,
     steps: &[Step],
 ) -> Result<PartialResponse, ReauthorizationError> {
-    let authorizer = Authorizer::new(setting.extensions, limit);
-    let request = setting.request.clone()?;
-    let entities = &setting.entities;
     match steps {
-        [] => authorizer.authorize_in_steps(alloc, request, policies, entities, &[]),
+        [] => after(alloc, setting, limit, policies, &[]),
         [step] => {
             let steps = [(&step.map, &step.entities)];
-            authorizer.authorize_in_steps(alloc, request, policies, entities, &steps)
+            after(alloc, setting, limit, policies, &steps)
         }
         [first, second, ..] => {
             let steps = [
                 (&first.map, &first.entities),
                 (&second.map, &second.entities),
             ];
-            authorizer.authorize_in_steps(alloc, request, policies, entities, &steps)
+            after(alloc, setting, limit, policies, &steps)
         }
     }
+}
+
+// What is known after these steps.
+fn after(
+    alloc: Global,
+    setting: &Setting<'_, '_>,
+    limit: usize,
+    policies: &PolicySet,
+    steps: &[(&HashMap<RcStr, Value>, &Entities)],
+) -> Result<PartialResponse, ReauthorizationError> {
+    let authorizer = Authorizer::new(setting.extensions, limit);
+    let request = setting.request.clone()?;
+    authorizer.authorize_in_steps(alloc, request, policies, &setting.entities, steps)
 }
 
 fn from_core(
@@ -160,10 +177,20 @@ fn from_core(
     policies: &PolicySet,
     steps: &[Step],
 ) -> Result<PartialResponse, ReauthorizationError> {
+    let response = core(alloc, setting, limit, policies)?;
+    one_by_one(alloc, setting, limit, response, steps)
+}
+
+// What is known before any step.
+fn core(
+    alloc: Global,
+    setting: &Setting<'_, '_>,
+    limit: usize,
+    policies: &PolicySet,
+) -> Result<PartialResponse, AllocError> {
     let authorizer = Authorizer::new(setting.extensions, limit);
     let request = setting.request.clone()?;
-    let response = authorizer.is_authorized_core(alloc, request, policies, &setting.entities)?;
-    one_by_one(alloc, setting, limit, response, steps)
+    authorizer.is_authorized_core(alloc, request, policies, &setting.entities)
 }
 
 fn one_by_one(
@@ -218,7 +245,7 @@ fn made_of(
 }
 
 // What is asked of the response, or why there is none.
-fn told(
+fn answered(
     alloc: Global,
     asked: &str,
     outcome: &Result<PartialResponse, ReauthorizationError>,
@@ -263,8 +290,15 @@ fn put_concrete(
     response: &PartialResponse,
 ) -> Result<(), Unanswered> {
     text.push_str(given_text(response.decision()))?;
-    let concrete = response.clone()?.concretize(alloc)?;
-    put_converted(alloc, text, response, &concrete)
+    let concrete = concrete_of(alloc, response)?;
+    let put = put_converted(alloc, text, response, &concrete);
+    drop(concrete);
+    put
+}
+
+fn concrete_of(alloc: Global, response: &PartialResponse) -> Result<Response, AllocError> {
+    let copy = response.clone()?;
+    copy.concretize(alloc)
 }
 
 fn put_converted(
@@ -281,7 +315,12 @@ fn put_converted(
 }
 
 fn converts_to(response: &PartialResponse, concrete: &Response) -> Result<bool, AllocError> {
-    Ok(*concrete == Response::try_from(response.clone()?)?)
+    is_equal(converted(response), concrete)
+}
+
+fn converted(response: &PartialResponse) -> Result<Response, AllocError> {
+    let copy = response.clone()?;
+    Response::try_from(copy)
 }
 
 fn given_text(decision: Option<Decision>) -> &'static str {
@@ -295,15 +334,19 @@ fn given_text(decision: Option<Decision>) -> &'static str {
 fn put_response(alloc: Global, text: &mut String, response: &Response) -> Result<(), AllocError> {
     text.push_str("; ")?;
     text.push_str(decision_text(response.decision))?;
-    put(
-        text,
-        "",
-        reasons_text(alloc, &response.diagnostics.reason)?.as_str(),
-    )?;
+    put_reasons(alloc, text, response)?;
     put(
         text,
         "",
         errors_text(alloc, &response.diagnostics.errors)?.as_str(),
+    )
+}
+
+fn put_reasons(alloc: Global, text: &mut String, response: &Response) -> Result<(), AllocError> {
+    put(
+        text,
+        "",
+        reasons_text(alloc, &response.diagnostics.reason)?.as_str(),
     )
 }
 
@@ -329,43 +372,42 @@ fn put_known(
     text: &mut String,
     response: &PartialResponse,
 ) -> Result<(), AllocError> {
-    put(
-        text,
-        "; permits",
-        ids_in(alloc, &response.satisfied_permits)?.as_str(),
-    )?;
-    put(text, "", ids_in(alloc, &response.false_permits)?.as_str())?;
-    put(
-        text,
-        "",
-        ids_in(alloc, &response.residual_permits)?.as_str(),
-    )?;
-    put(
-        text,
-        "; forbids",
-        ids_in(alloc, &response.satisfied_forbids)?.as_str(),
-    )?;
-    put(text, "", ids_in(alloc, &response.false_forbids)?.as_str())?;
-    put(
-        text,
-        "",
-        ids_in(alloc, &response.residual_forbids)?.as_str(),
-    )?;
-    put(
-        text,
-        "; erred",
-        ids(alloc, response.definitely_errored())?.as_str(),
-    )?;
-    put(
-        text,
-        "; must",
-        ids_of(alloc, response.must_be_determining())?.as_str(),
-    )?;
-    put(
-        text,
-        "; may",
-        ids_of(alloc, response.may_be_determining())?.as_str(),
-    )
+    put_in(alloc, text, "; permits", &response.satisfied_permits)?;
+    put_in(alloc, text, "", &response.false_permits)?;
+    put_in(alloc, text, "", &response.residual_permits)?;
+    put_in(alloc, text, "; forbids", &response.satisfied_forbids)?;
+    put_in(alloc, text, "", &response.false_forbids)?;
+    put_in(alloc, text, "", &response.residual_forbids)?;
+    put_ids(alloc, text, "; erred", response.definitely_errored())?;
+    put_ids_of(alloc, text, "; must", response.must_be_determining())?;
+    put_ids_of(alloc, text, "; may", response.may_be_determining())
+}
+
+fn put_in<V>(
+    alloc: Global,
+    text: &mut String,
+    title: &str,
+    entries: &IndexMap<PolicyID, V>,
+) -> Result<(), AllocError> {
+    put(text, title, ids_in(alloc, entries)?.as_str())
+}
+
+fn put_ids(
+    alloc: Global,
+    text: &mut String,
+    title: &str,
+    reported: ReportedIds<'_>,
+) -> Result<(), AllocError> {
+    put(text, title, ids(alloc, reported)?.as_str())
+}
+
+fn put_ids_of(
+    alloc: Global,
+    text: &mut String,
+    title: &str,
+    reported: ReportedPolicies<'_>,
+) -> Result<(), AllocError> {
+    put(text, title, ids_of(alloc, reported)?.as_str())
 }
 
 // What the other readers name.
@@ -380,31 +422,16 @@ fn put_readers(
     text: &mut String,
     response: &PartialResponse,
 ) -> Result<(), AllocError> {
-    put(
-        text,
-        ": satisfied",
-        ids_of(alloc, response.definitely_satisfied())?.as_str(),
-    )?;
-    put(
-        text,
-        "; left",
-        ids_of(alloc, response.nontrivial_residuals())?.as_str(),
-    )?;
-    put(
+    put_ids_of(alloc, text, ": satisfied", response.definitely_satisfied())?;
+    put_ids_of(alloc, text, "; left", response.nontrivial_residuals())?;
+    put_ids(
+        alloc,
         text,
         "; ids left",
-        ids(alloc, response.nontrivial_residual_ids())?.as_str(),
+        response.nontrivial_residual_ids(),
     )?;
-    put(
-        text,
-        "; forbids left",
-        ids_of(alloc, response.nontrivial_forbids())?.as_str(),
-    )?;
-    put(
-        text,
-        "; all",
-        ids_of(alloc, response.all_residuals())?.as_str(),
-    )
+    put_ids_of(alloc, text, "; forbids left", response.nontrivial_forbids())?;
+    put_ids_of(alloc, text, "; all", response.all_residuals())
 }
 
 fn ids_in<V>(alloc: Global, entries: &IndexMap<PolicyID, V>) -> Result<String, AllocError> {
@@ -426,13 +453,16 @@ fn ids(alloc: Global, reported: ReportedIds<'_>) -> Result<String, AllocError> {
 fn ids_of(alloc: Global, reported: ReportedPolicies<'_>) -> Result<String, AllocError> {
     let mut texts: Vec<String> = Vec::new(alloc);
     for policy in reported {
-        texts.push(id_text(alloc, &policy?)?)?;
+        texts.push(id_text(alloc, policy)?)?;
     }
     joined(alloc, &texts, ",")
 }
 
-fn id_text(alloc: Global, policy: &Policy) -> Result<String, AllocError> {
-    policy.id().to_string(alloc)
+fn id_text(alloc: Global, policy: Result<Policy, AllocError>) -> Result<String, AllocError> {
+    let policy = policy?;
+    let text = policy.id().to_string(alloc);
+    drop(policy);
+    text
 }
 
 // The policy under the id: its effect, its condition and its annotations.
@@ -442,7 +472,11 @@ fn got_text(
     id: &PolicyID,
 ) -> Result<String, AllocError> {
     match response.get(alloc, id)? {
-        Some(policy) => got_policy(alloc, &policy),
+        Some(policy) => {
+            let text = got_policy(alloc, &policy);
+            drop(policy);
+            text
+        }
         None => String::from_str(alloc, "none"),
     }
 }
@@ -451,7 +485,9 @@ fn got_policy(alloc: Global, policy: &Policy) -> Result<String, AllocError> {
     let condition = policy.condition(alloc)?;
     let annotations = &policy.annotations_rc().0;
     let effect = effect_text(policy.effect());
-    format!(in alloc; "{effect} {} {condition} {annotations:?}", policy.id())
+    let text = format!(in alloc; "{effect} {} {condition} {annotations:?}", policy.id());
+    drop(condition);
+    text
 }
 
 // The context of the setting with these values for unknowns, or the error that it evaluates to.
@@ -461,10 +497,23 @@ fn context_with(
     limit: usize,
     values: &str,
 ) -> Result<String, Unanswered> {
+    let context = setting.request.context().ok_or("no context")?;
     let map = mapping(alloc, values)?;
-    let context = setting.request.context().ok_or("no context")?.clone()?;
-    match context.substitute(alloc, &map, setting.extensions, limit) {
-        Ok(context) => Ok(context.to_string(alloc)?),
-        Err(error) => Ok(error.to_string(alloc)?),
-    }
+    let text = substituted(alloc, setting, limit, context, &map);
+    drop(map);
+    or_fail(text)
+}
+
+fn substituted(
+    alloc: Global,
+    setting: &Setting<'_, '_>,
+    limit: usize,
+    context: &Context,
+    map: &HashMap<RcStr, Value>,
+) -> Result<String, AllocError> {
+    let copy = context.clone()?;
+    told(
+        alloc,
+        copy.substitute(alloc, map, setting.extensions, limit),
+    )
 }

@@ -161,7 +161,10 @@ fn next_sheet(
         authorizer.extensions,
         authorizer.limit,
     )?;
-    run_all(alloc, &evaluator.with_unknowns_mapper(map), policies)
+    let evaluator = evaluator.with_unknowns_mapper(map);
+    let sheet = run_all(alloc, &evaluator, policies);
+    drop(evaluator);
+    sheet
 }
 
 // Whether the recursion limit is among the response's errors.

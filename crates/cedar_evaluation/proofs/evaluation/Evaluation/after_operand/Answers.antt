@@ -8,5 +8,5 @@ use Rattle.cedar_evaluation.proofs.evaluation.Evaluation.after_operand.Goals as 
 pub returns : goal.returns
 returns g c r k =
     let s = setting_of r c.args.self.now in
-    gives_goes_on s (calls_in c.args.self.now) k (pendings.Unary c.args.op) (answers (partial_view c.args.operand)) _ c.answered.result
-    (λ a ok is. is) (c.answered.ensures _ c.unary_of_part.ensures)
+    gives_goes_on s (calls_in c.args.self.now) k (pendings.Unary c.args.op) (answers (partial_view c.args.operand.value)) _ c.answered.result
+    (λ a ok is. is) (c.answered.ensures _ (rw (c.into_inner.ensures) at c.unary_of_part.ensures))

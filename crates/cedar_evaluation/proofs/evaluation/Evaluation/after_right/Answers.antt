@@ -13,5 +13,5 @@ pub returns : goal.returns
 unfolding binary_beside
 returns g c r k =
     let s = setting_of r c.args.self.now in
-    gives_goes_on s (calls_in c.args.self.now) k (pendings.BinaryRight c.args.op c.args.left) (answers (partial_view c.args.right)) _ c.answered.result
-    (λ a ok is. is ∙ parts_alike s (binary_view c.args.op) (partial_view c.args.left) (partial_view c.args.right)) (c.answered.ensures _ (c.binary_of_parts.ensures s))
+    gives_goes_on s (calls_in c.args.self.now) k (pendings.BinaryRight c.args.op c.args.left) (answers (partial_view c.args.right.value)) _ c.answered.result
+    (λ a ok is. is ∙ parts_alike s (binary_view c.args.op) (partial_view c.args.left.value) (partial_view c.args.right.value)) (c.answered.ensures _ (rw (c.into_inner-left_part.ensures, c.into_inner-right_part.ensures) at c.binary_of_parts.ensures s))

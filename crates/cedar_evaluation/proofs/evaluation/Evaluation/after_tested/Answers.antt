@@ -11,5 +11,5 @@ use Rattle.cedar_evaluation.proofs.evaluation.Evaluation.after_tested.Goals as g
 pub returns : goal.returns
 returns g c r k =
     let s = setting_of r c.args.self.now in
-    gives_goes_on s (calls_in c.args.self.now) k (pendings.HasAttr c.args.attr) (answers (partial_view c.args.container)) _ c.answered.result
-    (λ a ok is. is ∙ tested_alike s (rc_str_bytes c.args.attr) (partial_view c.args.container)) (c.answered.ensures _ (c.has_of_part.ensures s))
+    gives_goes_on s (calls_in c.args.self.now) k (pendings.HasAttr c.args.attr) (answers (partial_view c.args.container.value)) _ c.answered.result
+    (λ a ok is. is ∙ tested_alike s (rc_str_bytes c.args.attr) (partial_view c.args.container.value)) (c.answered.ensures _ (rw (c.into_inner.ensures) at c.has_of_part.ensures s))

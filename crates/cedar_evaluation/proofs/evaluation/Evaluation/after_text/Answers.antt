@@ -8,5 +8,5 @@ use Rattle.cedar_evaluation.proofs.evaluation.Evaluation.after_text.Goals as goa
 pub returns : goal.returns
 returns g c r k =
     let s = setting_of r c.args.self.now in
-    gives_goes_on s (calls_in c.args.self.now) k (pendings.Like c.args.pattern) (answers (partial_view c.args.text)) _ c.answered.result
-    (λ a ok is. is) (c.answered.ensures _ c.like_of_part.ensures)
+    gives_goes_on s (calls_in c.args.self.now) k (pendings.Like c.args.pattern) (answers (partial_view c.args.text.value)) _ c.answered.result
+    (λ a ok is. is) (c.answered.ensures _ (rw (c.into_inner.ensures, c.deref.ensures) at c.like_of_part.ensures))

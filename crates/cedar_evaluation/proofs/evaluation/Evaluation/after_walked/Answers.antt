@@ -17,5 +17,5 @@ use Rattle.cedar_evaluation.proofs.evaluation.Evaluation.after_walked.Goals as g
 pub returns : goal.returns
 returns g c r k =
     let s = setting_of r c.args.self.now in
-    gives_goes_on s (calls_in c.args.self.now) k (pendings.ExtHasAttr c.args.attrs) (answers (partial_view c.args.container)) _ c.answered.result
-    (λ a ok is. is) (subst (λ (a : FirstRest (RcStr Global)). Gives c.answered.result (on_part (λ v. path_answer s.store v (rc_str_bytes a.first) (texts_view a.rest.items)) (λ q. extended_has q (rc_str_bytes a.first) (texts_view a.rest.items)) (answers (partial_view c.args.container)))) c.deref.ensures (c.answered.ensures _ c.extended_has_of_part.ensures))
+    gives_goes_on s (calls_in c.args.self.now) k (pendings.ExtHasAttr c.args.attrs) (answers (partial_view c.args.container.value)) _ c.answered.result
+    (λ a ok is. is) (subst (λ (a : FirstRest (RcStr Global)). Gives c.answered.result (on_part (λ v. path_answer s.store v (rc_str_bytes a.first) (texts_view a.rest.items)) (λ q. extended_has q (rc_str_bytes a.first) (texts_view a.rest.items)) (answers (partial_view c.args.container.value)))) c.deref.ensures (c.answered.ensures _ (rw (c.into_inner.ensures) at c.extended_has_of_part.ensures)))

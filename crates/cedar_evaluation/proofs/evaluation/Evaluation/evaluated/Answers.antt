@@ -12,15 +12,16 @@ pub returns-in-Ok-clause-answer : goal.returns-in-Ok-clause-answer
 returns-in-Ok-clause-answer g c r speaks =
     let s = setting_of r c.args.self.now in
     let calls = calls_in c.args.self.now in
-    let t = view c.args.expr in
-    subst (λ n. Meets (Runs s calls n t) (partial_answer (Ok c.in-Ok.answer))) c.new-stack.ensures.limit
-    (subst (λ o. Meets (Runs s calls c.new-stack.result.limit t) (outcome_answer o)) c.in-Ok.is (c.interpret_on.ensures.answer r speaks))
+    let t = view c.args.expr.value in
+    subst (λ p. Meets (Runs s calls c.args.limit t) (partial_answer (Ok p))) (sym c.into_inner.ensures)
+    (subst (λ n. Meets (Runs s calls n t) (partial_answer (Ok c.in-Ok.answer.value))) c.new-stack.ensures.limit
+    (subst (λ o. Meets (Runs s calls c.new-stack.result.limit t) (outcome_answer o)) c.in-Ok.is (c.interpret_on.ensures.answer r speaks)))
 
 pub returns-clause-answer : goal.returns-clause-answer
 returns-clause-answer g c r speaks =
     let s = setting_of r c.args.self.now in
     let calls = calls_in c.args.self.now in
-    let t = view c.args.expr in
+    let t = view c.args.expr.value in
     subst (λ n. Meets (Runs s calls n t) (fails (failure_of c.within.result))) c.new-stack.ensures.limit
     (subst (λ a. Meets (Runs s calls c.new-stack.result.limit t) a)
     (ap outcome_answer c.in-Err.is ∙ sym (ap fails (c.within.ensures ∙ c.into_error.ensures)))

@@ -1,4 +1,4 @@
-use Rattle.std.proofs.Common.{ap, subst, IfOk}
+use Rattle.std.proofs.Common.{subst}
 use Rattle.cedar_expressions.specs.View.{view}
 use Rattle.cedar_evaluation.specs.Settings.{setting_of, calls_in}
 use Rattle.cedar_evaluation.specs.Tasks.{Begins}

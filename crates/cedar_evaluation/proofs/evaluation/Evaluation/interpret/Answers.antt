@@ -12,5 +12,5 @@ returns-in-Ok-clause-promised g c r speaks =
     let s = setting_of r c.args.self.now in
     let stored = c.args.self.now.given.now.extensions.now in
     let answer = partial_answer c.evaluated.result in
-    subst (λ t. Meets (IsPromised s (calls_in c.args.self.now) c.args.limit t) answer) c.in-Ok.ensures.cases.0
-    (meets_promised s (calls_in c.args.self.now) c.args.limit (view c.in-Ok.expr) (calls_functional stored) (calls_meet_no_limit stored) refl answer answer refl (c.evaluated.ensures.answer r speaks))
+    subst (λ t. Meets (IsPromised s (calls_in c.args.self.now) c.args.limit t) answer) c.in-Ok.ensures.view
+    (meets_promised s (calls_in c.args.self.now) c.args.limit (view c.in-Ok.expr.value) (calls_functional stored) (calls_meet_no_limit stored) refl answer answer refl (c.evaluated.ensures.answer r speaks))

@@ -14,7 +14,7 @@ returns-in-Parts-clause-leads g c r k speaks =
     let s = setting_of r c.args.self.now in
     let calls = calls_in c.args.self.now in
     subst (Leads s calls k c.args.task (fails (failure_of c.args.failed.value.error))) (sym c.passed_on.ensures)
-    (subst (λ t. Leads s calls k t (fails (failure_of c.args.failed.value.error)) (Done (Err (stops.Failed c.args.failed)))) (sym c.in-Parts.is) (failed_leads s calls k _ c.args.failed))
+    (subst (λ t. Leads s calls k t (fails (failure_of c.args.failed.value.error)) (Done (Err (stops.Failed c.args.failed)))) (sym c.in-Parts.is) (failed_leads s calls k c.in-Parts.frame c.args.failed))
 
 pub returns-in-Ok-clause-leads : goal.returns-in-Ok-clause-leads
 returns-in-Ok-clause-leads g c r k speaks =

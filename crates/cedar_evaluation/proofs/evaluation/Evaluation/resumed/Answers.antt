@@ -1,10 +1,7 @@
-use Rattle.std.proofs.Common.{sym, ap, ◌∙◌, subst, Err}
-use Rattle.cedar_evaluation.specs.declared.stopped.Stopped.TheVariants as stops
-use Rattle.cedar_frames.specs.declared.machine.Step.TheVariants.{Done}
+use Rattle.std.proofs.Common.{sym, subst}
 use Rattle.cedar_evaluation.specs.Endings.{outcome_answer}
 use Rattle.cedar_evaluation.specs.Settings.{setting_of, calls_in}
 use Rattle.cedar_evaluation.specs.Tasks.{Leads}
-use Rattle.cedar_evaluation.specs.Laws.{limit_leads}
 use Rattle.cedar_evaluation.proofs.evaluation.Evaluation.resumed.Goals as goal
 
 pub returns-in-Ok-clause-leads : goal.returns-in-Ok-clause-leads

@@ -1,7 +1,7 @@
 use Rattle.std.proofs.Common.{sym, subst, Ok}
 use Rattle.cedar_model.specs.Failures.{out_of_memory, answers}
 use Rattle.cedar_data.specs.Residuals.{partial_view}
-use Rattle.cedar_evaluation.specs.declared.frame.Task.TheVariants as tasks
+use Rattle.cedar_restricted.specs.Frames as restricted
 use Rattle.cedar_evaluation.specs.Settings.{setting_of, calls_in, some_request}
 use Rattle.cedar_evaluation.specs.Tasks.{Leads, LeftFewer}
 use Rattle.cedar_evaluation.specs.PartsLaws.{no_fail}
@@ -12,15 +12,15 @@ pub returns-in-Parts-clause-leads : goal.returns-in-Parts-clause-leads
 returns-in-Parts-clause-leads g c r k speaks =
     let s = setting_of r c.args.self.now in
     let calls = calls_in c.args.self.now in
-    subst (λ t. Leads s calls k t (answers (partial_view c.args.value)) c.taken.result) (sym c.in-Parts.is) (parts_lead s calls k c.in-Parts.frame c.args.value c.answered.result c.taken.result c.answered.ensures c.taken.ensures)
+    subst (λ t. Leads s calls k t (answers (partial_view c.args.value.value)) c.taken.result) (sym c.in-Parts.is) (parts_lead s calls k c.in-Parts.frame c.args.value.value c.answered.result c.taken.result (subst (λ f. restricted.GoesOn s.extensions calls f (Ok c.args.value.value) c.answered.result) c.into_inner-parts.ensures (subst (λ p. restricted.GoesOn s.extensions calls c.into_inner-parts.result (Ok p) c.answered.result) c.into_inner-part.ensures c.answered.ensures)) c.taken.ensures)
 
 pub returns-in-Ok-clause-leads : goal.returns-in-Ok-clause-leads
 returns-in-Ok-clause-leads g c r k speaks =
     let s = setting_of r c.args.self.now in
     let calls = calls_in c.args.self.now in
-    let x = answers (partial_view c.args.value) in
-    subst (λ t. Leads s calls k t x c.in-Ok.next) (sym c.in-Other.is) (goes_on_leads s calls k c.in-Other.pending x c.in-Ok.next (no_fail (partial_view c.args.value) out_of_memory) (c.in-Ok.ensures r k))
+    let x = answers (partial_view c.args.value.value) in
+    subst (λ t. Leads s calls k t x c.in-Ok.next) (sym c.in-Other.is) (goes_on_leads s calls k c.in-Other.pending x c.in-Ok.next (no_fail (partial_view c.args.value.value) out_of_memory) (c.in-Ok.ensures r k))
 
 pub returns-in-Ok-clause-fewer : goal.returns-in-Ok-clause-fewer
 returns-in-Ok-clause-fewer g c =
-    subst (λ t. LeftFewer t c.in-Ok.next) (sym c.in-Other.is) (goes_on_fewer (setting_of some_request c.args.self.now) (calls_in c.args.self.now) 0 c.in-Other.pending (answers (partial_view c.args.value)) c.in-Ok.next (c.in-Ok.ensures some_request 0))
+    subst (λ t. LeftFewer t c.in-Ok.next) (sym c.in-Other.is) (goes_on_fewer (setting_of some_request c.args.self.now) (calls_in c.args.self.now) 0 c.in-Other.pending (answers (partial_view c.args.value.value)) c.in-Ok.next (c.in-Ok.ensures some_request 0))

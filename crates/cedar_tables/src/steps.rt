@@ -4,16 +4,16 @@
 //! - `then x L:1` is a step over the second store, of which each fact stands behind `then` in the setting.
 //! - `permit a true, permit b=note error, forbid c U:x` is what a response is made of: `a` is satisfied, `b` erred and has the annotation `note`, and
 //!   `c` has these words left.
-use crate::errors::error;
-use crate::expressions::expression;
-use crate::leaves::text;
-use crate::policies::{effect, policy_id};
-use crate::settings::stored;
-use crate::unanswered::Unanswered;
-use crate::values::value;
-use crate::{fact, headed};
 use cedar_layers::expressions::{Expr, Literal, Value};
 use cedar_layers::policies::{Annotations, Effect, Entities, Policy};
+use cedar_notation::errors::error;
+use cedar_notation::expressions::expression;
+use cedar_notation::leaves::text;
+use cedar_notation::policies::{effect, policy_id};
+use cedar_notation::settings::stored;
+use cedar_notation::unanswered::Unanswered;
+use cedar_notation::values::value;
+use cedar_notation::{fact, headed, put};
 use cedar_responses::shared::{Outcome, Sheet};
 use std::alloc::{AllocError, Global};
 use std::collections::HashMap;
@@ -74,7 +74,7 @@ pub fn mapping(alloc: Global, written: &str) -> Result<HashMap<RcStr, Value>, Un
     for pair in written.split(", ") {
         if pair != "none" {
             let (name, words) = headed(pair);
-            map.insert(text(alloc, name)?, value(alloc, words)?)?;
+            put(&mut map, text(alloc, name)?, value(alloc, words)?)?;
         }
     }
     Ok(map)

@@ -1,9 +1,9 @@
 //! What is answered of restricted expressions, of which the words write one.
-use crate::Place;
-use crate::evaluated::{error_place, limit, place_of};
 use cedar_extensions::Extensions;
 use cedar_layers::expressions::{Expr, Literal, PartialValue, ResidualExpr, Unknown, Value};
 use cedar_notation::expressions::{expression, restricted};
+use cedar_notation::pair;
+use cedar_notation::shown::{Place, error_place, limit, or_fail, told};
 use cedar_notation::unanswered::Unanswered;
 use cedar_restricted::RestrictedEvaluator;
 use cedar_restricted_expressions::{
@@ -34,8 +34,11 @@ pub fn answer(
         "borrowed" => borrowed_text(alloc, words),
         "residual-text" => residual_text(alloc, words),
         _ => {
+            let limit = limit(limit_text)?;
             let expr = restricted(alloc, words)?;
-            of_restricted(alloc, extensions, kind, limit(limit_text)?, &expr)
+            let text = of_restricted(alloc, extensions, kind, limit, &expr);
+            drop(expr);
+            text
         }
     }
 }
@@ -57,7 +60,12 @@ fn of_restricted(
         "type" => Ok(type_text(alloc, extensions, expr)?),
         "read" => Ok(read_text(alloc, expr.as_borrowed())?),
         "wholly" => Ok(value_text(alloc, extensions, expr, limit)?),
-        _ => partly_asked(alloc, kind, &partly(alloc, extensions, expr, limit)),
+        _ => {
+            let outcome = partly(alloc, extensions, expr, limit);
+            let text = partly_asked(alloc, kind, &outcome);
+            drop(outcome);
+            text
+        }
     }
 }
 
@@ -80,7 +88,9 @@ fn partly_asked(
 fn refused(alloc: Global, words: &str, want: &str) -> Result<bool, Unanswered> {
     let (feature, part) = want.split_once("; ").ok_or("a feature and a part")?;
     let part = expression(alloc, part)?;
-    is_refused_with(alloc, words, feature, &part)
+    let is_refused = is_refused_with(alloc, words, feature, &part);
+    drop(part);
+    is_refused
 }
 
 fn is_refused_with(
@@ -91,60 +101,61 @@ fn is_refused_with(
 ) -> Result<bool, Unanswered> {
     match RestrictedExpr::new(expression(alloc, words)?) {
         Err(RestrictedExpressionError::InvalidRestrictedExpression(error)) => {
-            Ok(error.feature == feature && error.expr == *part)
+            let is_met = error.feature == feature && error.expr == *part;
+            drop(error);
+            Ok(is_met)
         }
         Err(RestrictedExpressionError::Memory(_)) => Err(Unanswered::Memory),
-        Ok(_) => Ok(false),
+        Ok(expr) => {
+            drop(expr);
+            Ok(false)
+        }
     }
 }
 
 // Whether the residual becomes this expression, or is refused with it.
 fn residual_is(alloc: Global, words: &str, want: &str) -> Result<bool, Unanswered> {
     let want = expression(alloc, want)?;
-    becomes(alloc, words, &want)
+    let is_met = becomes(alloc, words, &want);
+    drop(want);
+    is_met
 }
 
 fn becomes(alloc: Global, words: &str, want: &Expr) -> Result<bool, Unanswered> {
     match RestrictedExpr::try_from_partial_value(alloc, residual(alloc, words)?) {
-        Ok(expr) => Ok(*expr == *want),
+        Ok(expr) => {
+            let is_met = *expr == *want;
+            drop(expr);
+            Ok(is_met)
+        }
         Err(PartialValueToRestrictedExprError::NontrivialResidual { residual }) => {
-            Ok(*residual == *want)
+            let is_met = *residual == *want;
+            drop(residual);
+            Ok(is_met)
         }
         Err(PartialValueToRestrictedExprError::Memory(_)) => Err(Unanswered::Memory),
     }
 }
 
 fn made_text(alloc: Global, words: &str) -> Result<String, Unanswered> {
-    match RestrictedExpr::new(expression(alloc, words)?) {
-        Ok(expr) => Ok(expr.to_string(alloc)?),
-        Err(error) => Ok(error.to_string(alloc)?),
-    }
+    or_fail(told(alloc, RestrictedExpr::new(expression(alloc, words)?)))
 }
 
 fn borrowed_text(alloc: Global, words: &str) -> Result<String, Unanswered> {
     let expr = expression(alloc, words)?;
-    Ok(borrowed(alloc, &expr)?)
-}
-
-fn borrowed(alloc: Global, expr: &Expr) -> Result<String, AllocError> {
-    match BorrowedRestrictedExpr::new(expr) {
-        Ok(expr) => expr.to_string(alloc),
-        Err(error) => error.to_string(alloc),
-    }
+    let text = told(alloc, BorrowedRestrictedExpr::new(&expr));
+    drop(expr);
+    or_fail(text)
 }
 
 fn residual_text(alloc: Global, words: &str) -> Result<String, Unanswered> {
-    match RestrictedExpr::try_from_partial_value(alloc, residual(alloc, words)?) {
-        Ok(expr) => Ok(expr.to_string(alloc)?),
-        Err(error) => Ok(error.to_string(alloc)?),
-    }
+    let part = residual(alloc, words)?;
+    or_fail(told(alloc, RestrictedExpr::try_from_partial_value(alloc, part)))
 }
 
 fn pairs_text(alloc: Global, keys: &str) -> Result<String, Unanswered> {
-    match RestrictedExpr::record(alloc, pairs(alloc, keys)?) {
-        Ok(expr) => Ok(expr.to_string(alloc)?),
-        Err(error) => Ok(error.to_string(alloc)?),
-    }
+    let pairs = pairs(alloc, keys)?;
+    or_fail(told(alloc, RestrictedExpr::record(alloc, pairs)))
 }
 
 // ---- types, shapes, readers
@@ -164,12 +175,16 @@ fn type_text(
 fn shapes(alloc: Global, words: &str) -> Result<String, Unanswered> {
     let (left, right) = words.split_once(" ~ ").ok_or("two expressions")?;
     let left = restricted(alloc, left)?;
-    shape_beside(alloc, &left, right)
+    let text = shape_beside(alloc, &left, right);
+    drop(left);
+    text
 }
 
 fn shape_beside(alloc: Global, left: &RestrictedExpr, words: &str) -> Result<String, Unanswered> {
     let right = restricted(alloc, words)?;
-    Ok(shapes_text(alloc, left.as_borrowed(), right.as_borrowed())?)
+    let text = shapes_text(alloc, left.as_borrowed(), right.as_borrowed());
+    drop(right);
+    or_fail(text)
 }
 
 fn shapes_text(
@@ -336,10 +351,7 @@ fn value_text(
     expr: &RestrictedExpr,
     limit: usize,
 ) -> Result<String, AllocError> {
-    match wholly(alloc, extensions, expr, limit) {
-        Ok(value) => value.to_string(alloc),
-        Err(error) => error.to_string(alloc),
-    }
+    told(alloc, wholly(alloc, extensions, expr, limit))
 }
 
 fn wholly(
@@ -358,6 +370,7 @@ fn residual(alloc: Global, words: &str) -> Result<PartialValue, Unanswered> {
     if expr.has_unknown() {
         Ok(PartialValue::Residual(ResidualExpr::new(expr)))
     } else {
+        drop(expr);
         Err(Unanswered::Unreadable("no unknown"))
     }
 }
@@ -367,7 +380,7 @@ fn pairs(alloc: Global, keys: &str) -> Result<Vec<(RcStr, RestrictedExpr)>, Allo
     let mut pairs: Vec<(RcStr, RestrictedExpr)> = Vec::new(alloc);
     for key in keys.split(',') {
         let key = RcStr::from_str(alloc, key)?;
-        pairs.push((key, RestrictedExpr::val(Literal::Long(37))))?;
+        pair(&mut pairs, key, RestrictedExpr::val(Literal::Long(37)))?;
     }
     Ok(pairs)
 }

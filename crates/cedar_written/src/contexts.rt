@@ -1,10 +1,11 @@
 //! What is answered of contexts that are made of restricted expressions: what they hold, or why there is none.
 //!
 //! Pairs are written `b=U:x, a=L:1 set:1`, in that order: names, and the words of a restricted expression. `none` is no pair.
-use crate::evaluated::limit;
 use cedar_extensions::Extensions;
 use cedar_layers::expressions::{BoundedDisplay, PartialValue};
 use cedar_notation::expressions::restricted;
+use cedar_notation::pair;
+use cedar_notation::shown::{is_equal, limit, or_fail, text_of};
 use cedar_notation::unanswered::Unanswered;
 use cedar_requests::{Context, ContextCreationError};
 use cedar_restricted_expressions::RestrictedExpr;
@@ -36,7 +37,7 @@ fn of_pairs(
     written: &str,
 ) -> Result<String, Unanswered> {
     let pairs = pairs(alloc, written)?;
-    Ok(told(alloc, Context::from_pairs(alloc, pairs, extensions, limit))?)
+    or_fail(made_text(alloc, Context::from_pairs(alloc, pairs, extensions, limit)))
 }
 
 fn of_conversions(
@@ -47,8 +48,16 @@ fn of_conversions(
 ) -> Result<String, Unanswered> {
     let pairs = pairs(alloc, written)?;
     match Context::from_pairs(alloc, pairs, extensions, limit) {
-        Ok(context) => conversions(alloc, &context),
-        Err(error) => Ok(error.to_string(alloc)?),
+        Ok(context) => {
+            let text = conversions(alloc, &context);
+            drop(context);
+            text
+        }
+        Err(error) => {
+            let text = error.to_string(alloc);
+            drop(error);
+            or_fail(text)
+        }
     }
 }
 
@@ -60,8 +69,16 @@ fn of_record(
 ) -> Result<String, Unanswered> {
     let pairs = pairs(alloc, written)?;
     match RestrictedExpr::record(alloc, pairs) {
-        Ok(record) => Ok(of_expression(alloc, extensions, limit, &record)?),
-        Err(error) => Ok(error.to_string(alloc)?),
+        Ok(record) => {
+            let text = of_expression(alloc, extensions, limit, &record);
+            drop(record);
+            or_fail(text)
+        }
+        Err(error) => {
+            let text = error.to_string(alloc);
+            drop(error);
+            or_fail(text)
+        }
     }
 }
 
@@ -72,13 +89,15 @@ fn of_words(
     words: &str,
 ) -> Result<String, Unanswered> {
     let expr = restricted(alloc, words)?;
-    Ok(of_expression(alloc, extensions, limit, &expr)?)
+    let text = of_expression(alloc, extensions, limit, &expr);
+    drop(expr);
+    or_fail(text)
 }
 
 fn pairs(alloc: Global, written: &str) -> Result<Vec<(RcStr, RestrictedExpr)>, Unanswered> {
     let mut pairs: Vec<(RcStr, RestrictedExpr)> = Vec::new(alloc);
-    'pairs: for pair in written.split(", ") {
-        if let Some((name, words)) = pair.split_once('=') {
+    'pairs: for named in written.split(", ") {
+        if let Some((name, words)) = named.split_once('=') {
             put_pair(alloc, &mut pairs, name, words)?;
         }
     }
@@ -91,8 +110,9 @@ fn put_pair(
     name: &str,
     words: &str,
 ) -> Result<(), Unanswered> {
+    let name = RcStr::from_str(alloc, name)?;
     let value = restricted(alloc, words)?;
-    Ok(pairs.push((RcStr::from_str(alloc, name)?, value))?)
+    Ok(pair(pairs, name, value)?)
 }
 
 fn of_expression(
@@ -102,17 +122,26 @@ fn of_expression(
     expr: &RestrictedExpr,
 ) -> Result<String, AllocError> {
     let made = Context::from_expr(alloc, expr.as_borrowed(), extensions, limit);
-    told(alloc, made)
+    made_text(alloc, made)
 }
 
-fn told(alloc: Global, made: Result<Context, ContextCreationError>) -> Result<String, AllocError> {
+fn made_text(
+    alloc: Global,
+    made: Result<Context, ContextCreationError>,
+) -> Result<String, AllocError> {
     match made {
         Ok(context) => walked(alloc, context),
         Err(error) => {
-            let kind = kind(&error);
-            format!(in alloc; "{kind}: {error}")
+            let text = refusal_text(alloc, &error);
+            drop(error);
+            text
         }
     }
+}
+
+fn refusal_text(alloc: Global, error: &ContextCreationError) -> Result<String, AllocError> {
+    let kind = kind(error);
+    format!(in alloc; "{kind}: {error}")
 }
 
 fn kind(error: &ContextCreationError) -> &'static str {
@@ -126,10 +155,20 @@ fn kind(error: &ContextCreationError) -> &'static str {
 
 // The context's text, how many attributes it has, whether all are values, and what is walked.
 fn walked(alloc: Global, context: Context) -> Result<String, AllocError> {
-    let mut text = shown(alloc, &context)?;
+    match shown(alloc, &context) {
+        Ok(text) => walked_behind(alloc, text, context),
+        Err(error) => {
+            drop(context);
+            Err(error)
+        }
+    }
+}
+
+// The text, and behind it what is walked.
+fn walked_behind(alloc: Global, text: String, context: Context) -> Result<String, AllocError> {
+    let mut text = text;
     'attributes: for attribute in context {
-        let (name, expr) = attribute?;
-        put_attribute(alloc, &mut text, &name, &expr)?;
+        put_attribute(alloc, &mut text, attribute)?;
     }
     Ok(text)
 }
@@ -142,36 +181,37 @@ fn shown(alloc: Global, context: &Context) -> Result<String, AllocError> {
 fn put_attribute(
     alloc: Global,
     text: &mut String,
-    name: &RcStr,
-    expr: &RestrictedExpr,
+    attribute: Result<(RcStr, RestrictedExpr), AllocError>,
 ) -> Result<(), AllocError> {
-    text.push_str(format!(in alloc; "; {name} {expr}")?.as_str())
+    let (name, expr) = attribute?;
+    let shown = format!(in alloc; "; {name} {expr}");
+    drop(expr);
+    text.push_str(shown?.as_str())
 }
 
 // The partial value, the restricted expression, whether a copy is equal, and the text under a bound of 1.
 fn conversions(alloc: Global, context: &Context) -> Result<String, Unanswered> {
-    let mut text = converted(alloc, context)?;
+    let mut text = value_text(alloc, context)?;
+    put_restricted(alloc, &mut text, context)?;
+    put_copy(alloc, &mut text, context)?;
     BoundedDisplay::fmt(context, &mut text, Some(1))?;
     Ok(text)
 }
 
-fn converted(alloc: Global, context: &Context) -> Result<String, AllocError> {
-    let is_same = is_same(context)?;
-    let value = value_text(alloc, context)?;
-    let expr = restricted_text(alloc, context)?;
-    format!(in alloc; "{value} ~ {expr} ~ {is_same} ~ ")
+fn put_restricted(alloc: Global, text: &mut String, context: &Context) -> Result<(), AllocError> {
+    text.push_str(" ~ ")?;
+    text.push_str(restricted_text(alloc, context)?.as_str())
 }
 
-fn is_same(context: &Context) -> Result<bool, AllocError> {
-    Ok(*context == context.clone()?)
+fn put_copy(alloc: Global, text: &mut String, context: &Context) -> Result<(), AllocError> {
+    let is_same = is_equal(context.clone(), context)?;
+    text.push_str(format!(in alloc; " ~ {is_same} ~ ")?.as_str())
 }
 
 fn value_text(alloc: Global, context: &Context) -> Result<String, AllocError> {
-    let value = PartialValue::try_from(context.clone()?)?;
-    value.to_string(alloc)
+    text_of(alloc, PartialValue::try_from(context.clone()?))
 }
 
 fn restricted_text(alloc: Global, context: &Context) -> Result<String, AllocError> {
-    let expr = RestrictedExpr::try_from(context.clone()?)?;
-    expr.to_string(alloc)
+    text_of(alloc, RestrictedExpr::try_from(context.clone()?))
 }
