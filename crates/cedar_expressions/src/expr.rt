@@ -186,8 +186,9 @@ impl Expr {
         ensures kind { IfOk result (λ e. node_of e ≡ node.If test_expr then_expr else_expr) }
         ensures loc { IfOk result (λ e. expr_loc e ≡ None) }
     {
-        let (then_expr, else_expr) = shared_pair(alloc, then_expr, else_expr)?;
-        let test_expr = Rc::new(alloc, test_expr)?;
+        let (test_expr, then_expr, else_expr) = shared_triple(
+            alloc, test_expr, then_expr, else_expr,
+        )?;
         Ok(Expr::of_kind(ExprKind::If {
             test_expr,
             then_expr,
@@ -335,12 +336,28 @@ impl Expr {
     }
 }
 
-// Both expressions, to be parts of another.
-fn shared_pair(alloc: Global, first: Expr, second: Expr) -> Result<(Rc<Expr>, Rc<Expr>), AllocError>
+// Both, to be parts of an expression.
+fn shared_pair<T: Drop>(alloc: Global, first: T, second: T) -> Result<(Rc<T>, Rc<T>), AllocError>
     ensures first { IfOk result (λ p. p.0.value ≡ first) }
     ensures second { IfOk result (λ p. p.1.value ≡ second) }
 {
     let first = Rc::new(alloc, first)?;
     let second = Rc::new(alloc, second)?;
     Ok((first, second))
+}
+
+// All three, to be parts of an expression.
+fn shared_triple<T: Drop>(
+    alloc: Global,
+    first: T,
+    second: T,
+    third: T,
+) -> Result<(Rc<T>, Rc<T>, Rc<T>), AllocError>
+    ensures first { IfOk result (λ p. p.0.value ≡ first) }
+    ensures second { IfOk result (λ p. p.1.value ≡ second) }
+    ensures third { IfOk result (λ p. p.2.value ≡ third) }
+{
+    let (first, second) = shared_pair(alloc, first, second)?;
+    let third = Rc::new(alloc, third)?;
+    Ok((first, second, third))
 }

@@ -19,6 +19,7 @@ use cedar_responses::shared::Sheet;
 use indexmap::IndexMap;
 use std::alloc::{AllocError, Global};
 use std::collections::HashMap;
+use std::mem;
 use std::rc::{Rc, RcStr};
 
 /// What is known after the steps, or why one of them was refused.
@@ -204,8 +205,11 @@ fn one_by_one(
     let mut response = first;
     'steps: for step in steps {
         match response.reauthorize(alloc, &step.map, &authorizer, &step.entities) {
-            Ok(next) => response = next,
-            Err(error) => return Err(error),
+            Ok(next) => drop(mem::replace(&mut response, next)),
+            Err(error) => {
+                drop(response);
+                return Err(error);
+            }
         }
     }
     Ok(response)
@@ -218,8 +222,13 @@ fn made(
     notes: &str,
 ) -> Result<PartialResponse, Unanswered> {
     let sheet = sheet(alloc, notes)?;
-    let request = shared_request(alloc, &setting.request)?;
-    Ok(made_of(alloc, sheet, request)?)
+    match shared_request(alloc, &setting.request) {
+        Ok(request) => Ok(made_of(alloc, sheet, request)?),
+        Err(error) => {
+            drop(sheet);
+            Err(error.into())
+        }
+    }
 }
 
 fn shared_request(alloc: Global, request: &Request) -> Result<Rc<Request>, AllocError> {

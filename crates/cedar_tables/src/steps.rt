@@ -30,14 +30,29 @@ pub struct Step {
 pub fn steps(alloc: Global, facts: &str, written: &str) -> Result<Vec<Step>, Unanswered> {
     let mut steps: Vec<Step> = Vec::new(alloc);
     for step in written.split(" / ") {
-        if !step.is_empty() {
-            steps.push(step_of(alloc, facts, step)?)?;
+        if let Err(error) = put_step(alloc, facts, step, &mut steps) {
+            drop(steps);
+            return Err(error);
         }
     }
     if steps.len() > 2 {
+        drop(steps);
         return Err(Unanswered::Unreadable("more than two steps"));
     }
     Ok(steps)
+}
+
+fn put_step(
+    alloc: Global,
+    facts: &str,
+    step: &str,
+    steps: &mut Vec<Step>,
+) -> Result<(), Unanswered> {
+    if step.is_empty() {
+        Ok(())
+    } else {
+        Ok(steps.push(step_of(alloc, facts, step)?)?)
+    }
 }
 
 fn step_of(alloc: Global, facts: &str, written: &str) -> Result<Step, Unanswered> {
@@ -52,8 +67,13 @@ fn step_of(alloc: Global, facts: &str, written: &str) -> Result<Step, Unanswered
 
 fn step_over(alloc: Global, facts: &str, values: &str) -> Result<Step, Unanswered> {
     let entities = stored(alloc, facts)?;
-    let map = mapping(alloc, values)?;
-    Ok(Step { map, entities })
+    match mapping(alloc, values) {
+        Ok(map) => Ok(Step { map, entities }),
+        Err(error) => {
+            drop(entities);
+            Err(error)
+        }
+    }
 }
 
 // The facts of the second store.
@@ -84,7 +104,10 @@ pub fn mapping(alloc: Global, written: &str) -> Result<HashMap<RcStr, Value>, Un
 pub fn sheet(alloc: Global, written: &str) -> Result<Sheet, Unanswered> {
     let mut sheet = Sheet::new(alloc);
     for note in written.split(", ") {
-        put_note(alloc, &mut sheet, note)?;
+        if let Err(error) = put_note(alloc, &mut sheet, note) {
+            drop(sheet);
+            return Err(error);
+        }
     }
     Ok(sheet)
 }
