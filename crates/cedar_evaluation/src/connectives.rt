@@ -16,6 +16,7 @@ ghost use Rattle.cedar_evaluation.specs.Tasks.{Begins, GoesOn, Gives};
 ghost use Rattle.cedar_evaluation.specs.declared.frame.Pending.TheVariants as pendings;
 
 use crate::answers::{bool_answer, no_bool, residual_answer};
+use crate::boxed::boxed_beside;
 use crate::evaluation::Evaluation;
 use crate::frame::{Next, Pending, Task};
 use crate::part::Part;
@@ -95,8 +96,7 @@ impl<'e, 'g, 'f> Evaluation<'e, 'g, 'f> {
     ) -> Result<Next, AllocError>
         ensures { (r : RequestPart) (k : ℕ) → IfOk result (GoesOn (setting_of r self.now) (calls_in self.now) k (pendings.AndLeft right) (answers_residual (residual_term left))) }
     {
-        let part = right.clone()?;
-        let left = Box::new(alloc, left)?;
+        let (left, right, part) = boxed_beside(alloc, left, right)?;
         Ok(Step::Wait(
             Task::Other(Pending::AndKept { left, right }),
             Part::Shared(part),
@@ -132,8 +132,7 @@ impl<'e, 'g, 'f> Evaluation<'e, 'g, 'f> {
     ) -> Result<Next, AllocError>
         ensures { (r : RequestPart) (k : ℕ) → IfOk result (GoesOn (setting_of r self.now) (calls_in self.now) k (pendings.OrLeft right) (answers_residual (residual_term left))) }
     {
-        let part = right.clone()?;
-        let left = Box::new(alloc, left)?;
+        let (left, right, part) = boxed_beside(alloc, left, right)?;
         Ok(Step::Wait(
             Task::Other(Pending::OrKept { left, right }),
             Part::Shared(part),

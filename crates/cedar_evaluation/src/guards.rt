@@ -14,6 +14,7 @@ ghost use Rattle.cedar_evaluation.specs.Tasks.{Begins, GoesOn};
 ghost use Rattle.cedar_evaluation.specs.declared.frame.Pending.TheVariants as pendings;
 
 use crate::answers::{no_bool, residual_answer};
+use crate::boxed::boxed_beside;
 use crate::evaluation::Evaluation;
 use crate::frame::{Next, Pending, Task};
 use crate::part::Part;
@@ -79,8 +80,7 @@ impl<'e, 'g, 'f> Evaluation<'e, 'g, 'f> {
     ) -> Result<Next, AllocError>
         ensures { (r : RequestPart) (k : ℕ) → IfOk result (GoesOn (setting_of r self.now) (calls_in self.now) k (pendings.Guard then_expr else_expr) (answers_residual (residual_term guard))) }
     {
-        let part = then_expr.clone()?;
-        let guard = Box::new(alloc, guard)?;
+        let (guard, then_expr, part) = boxed_beside(alloc, guard, then_expr)?;
         let pending = Pending::Then {
             guard,
             then_expr,

@@ -3,6 +3,7 @@
 
 mod after;
 mod answers;
+mod boxed;
 mod connectives;
 mod evaluation;
 mod failed;

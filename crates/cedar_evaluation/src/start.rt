@@ -15,6 +15,7 @@ ghost use Rattle.cedar_evaluation.specs.Tasks.{Begins, Gives};
 ghost use Rattle.cedar_evaluation.specs.PartsLaws.{IsTaken};
 
 use crate::answers::done;
+use crate::boxed::boxed_both;
 use crate::evaluation::Evaluation;
 use crate::frame::{Next, Pending, Task};
 use crate::part::Part;
@@ -264,7 +265,6 @@ pub(crate) fn taken(alloc: Global, next: NextPart) -> Next
 fn waiting(alloc: Global, frame: PartsFrame, part: Expr) -> Result<Next, AllocError>
     ensures { IfOk result (IsTaken (Wait frame part)) }
 {
-    let frame = Box::new(alloc, frame)?;
-    let part = Box::new(alloc, part)?;
+    let (frame, part) = boxed_both(alloc, frame, part)?;
     Ok(Step::Wait(Task::Parts(frame), Part::Own(part)))
 }

@@ -29,8 +29,10 @@ impl Stopped {
         ensures { stopped_failure result ≢ out_of_memory → stopped_failure result ≡ failure_of error }
     {
         if is_limit(&error) {
+            drop(error);
             Stopped::Limit
         } else if is_want(&error) {
+            drop(error);
             Stopped::Memory
         } else {
             Stopped::kept(alloc, Failed::new(error), loc)

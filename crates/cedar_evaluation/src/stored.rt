@@ -9,6 +9,7 @@ ghost use Rattle.cedar_model.specs.Failures.{Answer, fails, answers_residual, wr
 ghost use Rattle.cedar_model.specs.Operators.{unknown_answer, typed_value};
 ghost use Rattle.cedar_names.specs.Leaves.{type_view};
 ghost use Rattle.cedar_expressions.specs.View.{view};
+ghost use Rattle.cedar_data.specs.Residuals.{residual_term};
 ghost use Rattle.cedar_data.specs.Sound.{Placed};
 ghost use Rattle.cedar_values.specs.Answers.{AnswersWith};
 ghost use Rattle.cedar_evaluation.specs.Settings.{mapper_view};
@@ -40,11 +41,27 @@ pub(crate) fn stored(
 {
     match answer {
         Ok(PartialValue::Value(value)) => Ok(done(alloc, PartialValue::Value(value))),
-        Ok(PartialValue::Residual(residual)) => match unknown_in(residual.as_expr()) {
-            Some(unknown) => mapped(alloc, mapper, residual.as_expr(), unknown),
-            None => Ok(done(alloc, PartialValue::Residual(residual))),
-        },
+        Ok(PartialValue::Residual(residual)) => stored_residual(alloc, mapper, residual),
         Err(error) => Ok(Step::Done(Err(Stopped::of(alloc, error, None)))),
+    }
+}
+
+// The same of what is stored unevaluated.
+#[tactic(auto, unfolding(crate::specs::Stored::remapped))]
+fn stored_residual(
+    alloc: Global,
+    mapper: &Mapper<'_>,
+    residual: ResidualExpr,
+) -> Result<Next, AllocError>
+    ensures { IfOk result (λ n. Gives n (remapped (mapper_view mapper.now) (answers_residual (residual_term residual)))) }
+{
+    match unknown_in(residual.as_expr()) {
+        Some(unknown) => {
+            let next = mapped(alloc, mapper, residual.as_expr(), unknown);
+            drop(residual);
+            next
+        }
+        None => Ok(done(alloc, PartialValue::Residual(residual))),
     }
 }
 

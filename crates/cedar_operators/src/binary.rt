@@ -33,17 +33,53 @@ pub fn binary_app(
         (extensions_view extensions.now)) (binary_view op) first.what second.what) }
 {
     match op {
-        BinaryOp::Eq => as_part(binary_relation(alloc, op, &first, &second, extensions)),
-        BinaryOp::Less => as_part(binary_relation(alloc, op, &first, &second, extensions)),
-        BinaryOp::LessEq => as_part(binary_relation(alloc, op, &first, &second, extensions)),
+        BinaryOp::Eq => {
+            let answer = binary_relation(alloc, op, &first, &second, extensions);
+            drop((first, second));
+            as_part(answer)
+        }
+        BinaryOp::Less => {
+            let answer = binary_relation(alloc, op, &first, &second, extensions);
+            drop((first, second));
+            as_part(answer)
+        }
+        BinaryOp::LessEq => {
+            let answer = binary_relation(alloc, op, &first, &second, extensions);
+            drop((first, second));
+            as_part(answer)
+        }
         BinaryOp::Add => as_part(binary_arith(alloc, op, first, second, loc)),
         BinaryOp::Sub => as_part(binary_arith(alloc, op, first, second, loc)),
         BinaryOp::Mul => as_part(binary_arith(alloc, op, first, second, loc)),
-        BinaryOp::In => is_in(alloc, entities, &first, &second),
-        BinaryOp::Contains => as_part(contains(alloc, &first, &second)),
-        BinaryOp::ContainsAll => as_part(contains_all(alloc, &first, &second)),
-        BinaryOp::ContainsAny => as_part(contains_any(alloc, &first, &second)),
-        BinaryOp::GetTag => tag_of(alloc, entities, &first, &second, loc),
-        BinaryOp::HasTag => has_tag(alloc, entities, &first, &second),
+        BinaryOp::In => {
+            let answer = is_in(alloc, entities, &first, &second);
+            drop((first, second));
+            answer
+        }
+        BinaryOp::Contains => {
+            let answer = contains(alloc, &first, &second);
+            drop((first, second));
+            as_part(answer)
+        }
+        BinaryOp::ContainsAll => {
+            let answer = contains_all(alloc, &first, &second);
+            drop((first, second));
+            as_part(answer)
+        }
+        BinaryOp::ContainsAny => {
+            let answer = contains_any(alloc, &first, &second);
+            drop((first, second));
+            as_part(answer)
+        }
+        BinaryOp::GetTag => {
+            let answer = tag_of(alloc, entities, &first, &second, loc);
+            drop((first, second));
+            answer
+        }
+        BinaryOp::HasTag => {
+            let answer = has_tag(alloc, entities, &first, &second);
+            drop((first, second));
+            answer
+        }
     }
 }

@@ -52,7 +52,9 @@ pub fn attribute_of_part(
 {
     match part {
         PartialValue::Value(value) => {
-            Projected::Answer(attribute_of(alloc, entities, &value, attr, loc))
+            let answer = attribute_of(alloc, entities, &value, attr, loc);
+            drop(value);
+            Projected::Answer(answer)
         }
         PartialValue::Residual(residual) => attribute_of_residual(alloc, residual, attr, loc),
     }
@@ -73,12 +75,18 @@ fn attribute_of_residual(
         Some(pairs) => match pairs.get(attr) {
             Some(part) => {
                 if residual.as_expr().is_projectable() {
-                    again(part)
+                    let projected = again(part);
+                    drop(residual);
+                    projected
                 } else {
                     Projected::Answer(residual_attribute(alloc, residual, attr))
                 }
             }
-            None => Projected::Answer(Err(no_such_key(alloc, pairs, attr, loc))),
+            None => {
+                let error = no_such_key(alloc, pairs, attr, loc);
+                drop(residual);
+                Projected::Answer(Err(error))
+            }
         },
         None => Projected::Answer(residual_attribute(alloc, residual, attr)),
     }
@@ -107,7 +115,11 @@ pub fn has_of_part(
         (answers (partial_view part))) }
 {
     match part {
-        PartialValue::Value(value) => has_attribute(alloc, entities, &value, attr),
+        PartialValue::Value(value) => {
+            let answer = has_attribute(alloc, entities, &value, attr);
+            drop(value);
+            answer
+        }
         PartialValue::Residual(residual) => has_of_residual(alloc, residual, attr),
     }
 }
@@ -125,7 +137,9 @@ fn has_of_residual(
     match fields_in(residual.as_expr()) {
         Some(pairs) => {
             if residual.as_expr().is_projectable() {
-                Ok(bool_part(has_field(pairs, attr)))
+                let has = has_field(pairs, attr);
+                drop(residual);
+                Ok(bool_part(has))
             } else {
                 residual_has(alloc, residual, attr)
             }
@@ -154,7 +168,11 @@ pub fn extended_has_of_part(
         (rc_str_bytes attrs.now.first) (texts_view attrs.now.rest.items)) (answers (partial_view part))) }
 {
     match part {
-        PartialValue::Value(value) => has_path(alloc, entities, &value, attrs),
+        PartialValue::Value(value) => {
+            let answer = has_path(alloc, entities, &value, attrs);
+            drop(value);
+            answer
+        }
         PartialValue::Residual(residual) => path_of_residual(alloc, residual, attrs),
     }
 }
@@ -168,6 +186,11 @@ fn path_of_residual(
     ensures { AnswersWith result (answers_residual (extended_has (residual_term residual)
         (rc_str_bytes attrs.now.first) (texts_view attrs.now.rest.items))) }
 {
-    let attrs = path(alloc, &attrs.first, attrs.rest.as_slice())?;
-    residual_path(alloc, residual, attrs)
+    match path(alloc, &attrs.first, attrs.rest.as_slice()) {
+        Ok(attrs) => residual_path(alloc, residual, attrs),
+        Err(error) => {
+            drop(residual);
+            Err(EvaluationError::Memory(error))
+        }
+    }
 }

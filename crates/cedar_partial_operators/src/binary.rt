@@ -1,6 +1,7 @@
 //! Operators on two parts.
-ghost use Rattle.std.specs.Prelude.{◌≡◌, ◌||◌, true, IfOk};
-ghost use Rattle.cedar_model.specs.Failures.{part_expression};
+ghost use Rattle.std.specs.Prelude.{◌≡◌, ◌||◌, true, Ok, IfOk};
+ghost use Rattle.cedar_model.specs.Terms.{binary};
+ghost use Rattle.cedar_model.specs.Failures.{part_expression, answers_residual};
 ghost use Rattle.cedar_model.specs.Settings.{Setting};
 ghost use Rattle.cedar_model.specs.Shapes.{has_unknown};
 ghost use Rattle.cedar_model.specs.Rules as Rules;
@@ -74,12 +75,40 @@ fn kept(
     ensures { AnswersWith result (kept_binary (binary_view op) (partial_view first) (partial_view second)) }
 {
     if differ_by_type(op, &first, &second) {
+        drop((first, second));
         Ok(bool_part(false))
     } else {
-        let left = into_expr(alloc, first)?;
-        let right = into_expr(alloc, second)?;
-        residual_binary(alloc, op, left, right)
+        around(alloc, op, first, second)
     }
+}
+
+// The operator around both parts, of which one is a residual.
+fn around(
+    alloc: Global,
+    op: BinaryOp,
+    first: PartialValue,
+    second: PartialValue,
+) -> Result<PartialValue, EvaluationError>
+    requires { has_unknown (part_expression (partial_view first)) || has_unknown (part_expression
+        (partial_view second)) ≡ true }
+    ensures { AnswersWith result (answers_residual (binary (binary_view op) (part_expression (partial_view first))
+        (part_expression (partial_view second)))) }
+{
+    let (left, right) = both(into_expr(alloc, first), into_expr(alloc, second))?;
+    residual_binary(alloc, op, left, right)
+}
+
+// Both, or the first error.
+fn both<A: Drop, B: Drop>(
+    first: Result<A, AllocError>,
+    second: Result<B, AllocError>,
+) -> Result<(A, B), AllocError>
+    ensures first { IfOk result (λ p. first ≡ Ok p.0) }
+    ensures second { IfOk result (λ p. second ≡ Ok p.1) }
+{
+    let first = first?;
+    let second = second?;
+    Ok((first, second))
 }
 
 // Whether `==` is false by the types of the parts.

@@ -46,7 +46,11 @@ pub fn like_of_part(
         (pattern_view pattern.now)) (answers (partial_view part))) }
 {
     match part {
-        PartialValue::Value(value) => as_part(likeness(alloc, &value, pattern)),
+        PartialValue::Value(value) => {
+            let answer = likeness(alloc, &value, pattern);
+            drop(value);
+            as_part(answer)
+        }
         PartialValue::Residual(residual) => residual_like(alloc, residual, pattern),
     }
 }
@@ -63,7 +67,11 @@ pub fn is_of_part(
     ensures { AnswersWith result (is_part (type_text entity_type.now) (answers (partial_view part))) }
 {
     match part {
-        PartialValue::Value(value) => as_part(is_of_type(alloc, &value, entity_type)),
+        PartialValue::Value(value) => {
+            let answer = is_of_type(alloc, &value, entity_type);
+            drop(value);
+            as_part(answer)
+        }
         PartialValue::Residual(residual) => is_of_residual(alloc, residual, entity_type),
     }
 }
@@ -79,7 +87,11 @@ fn is_of_residual(
         (residual_term residual) (type_text entity_type.now)) }
 {
     match type_in_residual(residual.as_expr()) {
-        Some(annotated) => Ok(bool_part(annotated == entity_type)),
+        Some(annotated) => {
+            let is_same = annotated == entity_type;
+            drop(residual);
+            Ok(bool_part(is_same))
+        }
         None => residual_is(alloc, residual, entity_type),
     }
 }

@@ -1,5 +1,5 @@
 //! What is answered to a request of which parts are unknown.
-ghost use Rattle.std.specs.Prelude.{◌≡◌, ◌||◌, cond, not, Some, None, IfOk, IfSome, option_map};
+ghost use Rattle.std.specs.Prelude.{◌≡◌, ◌||◌, cond, not, Some, None, Ok, IfOk, IfSome, option_map};
 ghost use Rattle.std.specs.Iterator.{IsFinite};
 ghost use Rattle.cedar_model.specs.Policies.{permit, forbid, allow, deny};
 ghost use Rattle.cedar_model.specs.Reports.{some_row, trues, residuals, given_decision};
@@ -95,9 +95,18 @@ impl PartialResponse {
         ensures errors { IfOk result (λ r. Gives E.next_gives errors r.errors.items) }
         ensures request { IfOk result (λ r. r.request ≡ request) }
     {
-        let permits = effect_entries(alloc, true_permits, false_permits, residual_permits)?;
-        let forbids = effect_entries(alloc, true_forbids, false_forbids, residual_forbids)?;
-        let errors = given(alloc, errors)?;
+        let (request, permits) = beside(
+            request,
+            effect_entries(alloc, true_permits, false_permits, residual_permits),
+        )?;
+        let ((request, permits), forbids) = beside(
+            (request, permits),
+            effect_entries(alloc, true_forbids, false_forbids, residual_forbids),
+        )?;
+        let ((request, permits, forbids), errors) = beside(
+            (request, permits, forbids),
+            given(alloc, errors),
+        )?;
         Ok(PartialResponse {
             satisfied_permits: permits.satisfied,
             false_permits: permits.unsatisfied,
@@ -165,6 +174,15 @@ struct EffectEntries {
     satisfied: IndexMap<PolicyID, Rc<Annotations>>,
     unsatisfied: IndexMap<PolicyID, (ErrorState, Rc<Annotations>)>,
     residual: IndexMap<PolicyID, (Rc<Expr>, Rc<Annotations>)>,
+}
+
+// What is held, and the answer beside it.
+fn beside<H: Drop, T: Drop>(held: H, answer: Result<T, AllocError>) -> Result<(H, T), AllocError>
+    ensures held { IfOk result (λ p. p.0 ≡ held) }
+    ensures answer { IfOk result (λ p. answer ≡ Ok p.1) }
+{
+    let answer = answer?;
+    Ok((held, answer))
 }
 
 // What is kept of these pairs, map by map.

@@ -134,9 +134,16 @@ impl PartsFrame {
                 Ok(answers) => PartsFrame::read(
                     alloc, extensions, self.whole, self.parts, answers, self.loc,
                 ),
-                Err(error) => Step::Done(Err(EvaluationError::Memory(error))),
+                Err(error) => {
+                    drop((self.whole, self.parts));
+                    Step::Done(Err(EvaluationError::Memory(error)))
+                }
             },
-            Err(error) => Step::Done(Err(with_enclosing_loc(error, self.loc))),
+            Err(error) => {
+                let place = self.loc;
+                drop(self);
+                Step::Done(Err(with_enclosing_loc(error, place)))
+            }
         }
     }
 
@@ -165,7 +172,10 @@ impl PartsFrame {
                     },
                     part,
                 ),
-                Err(error) => Step::Done(Err(EvaluationError::Memory(error))),
+                Err(error) => {
+                    drop((whole, parts, answers));
+                    Step::Done(Err(EvaluationError::Memory(error)))
+                }
             }
         } else {
             match whole_of(alloc, extensions, whole, answers) {

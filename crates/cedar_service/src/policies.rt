@@ -18,46 +18,42 @@ pub fn policies(alloc: Global) -> Result<PolicySet, Stop> {
 
 // permit(principal in Role::"editor", action, resource in Folder::"archive");
 fn editors(alloc: Global) -> Result<Policy, AllocError> {
-    let principal = is_in(alloc, Var::Principal, "Role", "editor")?;
-    let resource = is_in(alloc, Var::Resource, "Folder", "archive")?;
-    policy(
-        alloc,
-        Effect::Permit,
-        "editors",
-        principal,
-        any(),
-        resource,
-        any(),
-    )
+    let id = policy_id(alloc, "editors")?;
+    let (principal, resource) = both(
+        is_in(alloc, Var::Principal, "Role", "editor"),
+        is_in(alloc, Var::Resource, "Folder", "archive"),
+    )?;
+    policy(alloc, Effect::Permit, id, principal, any(), resource, any())
 }
 
 // permit(principal, action, resource) when { resource.owner == principal };
 fn owner(alloc: Global) -> Result<Policy, AllocError> {
+    let id = policy_id(alloc, "owner")?;
     let owner = attribute(alloc, Var::Resource, "owner")?;
     let when = Expr::binary_app(alloc, BinaryOp::Eq, owner, Expr::var(Var::Principal))?;
-    policy(alloc, Effect::Permit, "owner", any(), any(), any(), when)
+    policy(alloc, Effect::Permit, id, any(), any(), any(), when)
 }
 
 // forbid(principal, action == Action::"edit", resource) when { resource.hasTag("sealed") };
 fn sealed(alloc: Global) -> Result<Policy, AllocError> {
-    let action = is_edit(alloc)?;
-    let sealed = text_expr(alloc, "sealed")?;
-    let when = Expr::binary_app(alloc, BinaryOp::HasTag, Expr::var(Var::Resource), sealed)?;
-    policy(alloc, Effect::Forbid, "sealed", any(), action, any(), when)
+    let id = policy_id(alloc, "sealed")?;
+    let (action, when) = both(is_edit(alloc), is_sealed(alloc))?;
+    policy(alloc, Effect::Forbid, id, any(), action, any(), when)
 }
 
 // permit(principal, action, resource) when { resource.public && isOpen(context.hour) };
 // It errs where the document does not say whether it is public.
 fn public(alloc: Global) -> Result<Policy, AllocError> {
-    let public = attribute(alloc, Var::Resource, "public")?;
-    let when = Expr::and(alloc, public, is_open(alloc)?)?;
-    policy(alloc, Effect::Permit, "public", any(), any(), any(), when)
+    let id = policy_id(alloc, "public")?;
+    let (public, open) = both(attribute(alloc, Var::Resource, "public"), is_open(alloc))?;
+    let when = Expr::and(alloc, public, open)?;
+    policy(alloc, Effect::Permit, id, any(), any(), any(), when)
 }
 
 fn policy(
     alloc: Global,
     effect: Effect,
-    id: &str,
+    id: PolicyID,
     principal: Expr,
     action: Expr,
     resource: Expr,
@@ -66,7 +62,7 @@ fn policy(
     Policy::new(
         alloc,
         effect,
-        PolicyID::from_string(RcStr::from_str(alloc, id)?),
+        id,
         Annotations::new(alloc),
         principal,
         action,
@@ -74,6 +70,20 @@ fn policy(
         when,
         SlotEnv::new(alloc),
     )
+}
+
+fn policy_id(alloc: Global, id: &str) -> Result<PolicyID, AllocError> {
+    Ok(PolicyID::from_string(RcStr::from_str(alloc, id)?))
+}
+
+// Both, or the first error.
+fn both<A: Drop, B: Drop>(
+    first: Result<A, AllocError>,
+    second: Result<B, AllocError>,
+) -> Result<(A, B), AllocError> {
+    let first = first?;
+    let second = second?;
+    Ok((first, second))
 }
 
 // true
@@ -93,13 +103,21 @@ fn is_edit(alloc: Global) -> Result<Expr, AllocError> {
     Expr::binary_app(alloc, BinaryOp::Eq, Expr::var(Var::Action), edit)
 }
 
+// resource.hasTag("sealed")
+fn is_sealed(alloc: Global) -> Result<Expr, AllocError> {
+    let sealed = text_expr(alloc, "sealed")?;
+    Expr::binary_app(alloc, BinaryOp::HasTag, Expr::var(Var::Resource), sealed)
+}
+
 // isOpen(context.hour)
 fn is_open(alloc: Global) -> Result<Expr, AllocError> {
+    let name = name(alloc, "isOpen")?;
     let hours = vec![in alloc; attribute(alloc, Var::Context, "hour")?]?;
-    Expr::call_extension_fn(alloc, name(alloc, "isOpen")?, hours)
+    Expr::call_extension_fn(alloc, name, hours)
 }
 
 // var.name
 fn attribute(alloc: Global, var: Var, name: &str) -> Result<Expr, AllocError> {
-    Expr::get_attr(alloc, Expr::var(var), RcStr::from_str(alloc, name)?)
+    let name = RcStr::from_str(alloc, name)?;
+    Expr::get_attr(alloc, Expr::var(var), name)
 }

@@ -1,6 +1,6 @@
 #![tactic(auto, using(cedar_expressions::proofs::Levels::levels))]
 //! Policies: an effect and the condition under which it applies.
-ghost use Rattle.std.specs.Prelude.{◌≡◌, Some};
+ghost use Rattle.std.specs.Prelude.{◌≡◌, Some, IfOk};
 ghost use Rattle.std.specs.Rc.{rc_str_bytes};
 
 use cedar_expressions::Expr;
@@ -76,7 +76,7 @@ pub struct Policy {
 }
 
 impl Policy {
-    ghost use Rattle.std.specs.Prelude.{IfOk, None, true};
+    ghost use Rattle.std.specs.Prelude.{None, true};
     ghost use Rattle.cedar_model.specs.Terms.{literal, bool_literal, both};
     ghost use Rattle.cedar_model.specs.Agreement.{no_slots};
     ghost use Rattle.cedar_expressions.specs.View.{view, expr_loc};
@@ -98,15 +98,24 @@ impl Policy {
         ensures parts { IfOk result (λ p. policy_parts p ≡ record { principal = principal; action = action; resource = resource; when = when }) }
         ensures loc { IfOk result (λ p. policy_location p ≡ None) }
     {
+        let (annotations, env, principal, action, resource, when) = shared_parts(
+            alloc,
+            annotations,
+            env,
+            principal,
+            action,
+            resource,
+            when,
+        )?;
         Ok(Policy {
             effect,
             id,
-            annotations: Rc::new(alloc, annotations)?,
-            principal: Rc::new(alloc, principal)?,
-            action: Rc::new(alloc, action)?,
-            resource: Rc::new(alloc, resource)?,
-            when: Rc::new(alloc, when)?,
-            env: Rc::new(alloc, env)?,
+            annotations,
+            principal,
+            action,
+            resource,
+            when,
+            env,
             loc: None,
         })
     }
@@ -187,6 +196,32 @@ impl Policy {
     {
         Ok(Expr::and_shared(left, right.clone()?).with_maybe_source_loc(self.loc))
     }
+}
+
+// All of them, to be shared.
+fn shared_parts<A: Drop, E: Drop, T: Drop>(
+    alloc: Global,
+    annotations: A,
+    env: E,
+    principal: T,
+    action: T,
+    resource: T,
+    when: T,
+) -> Result<(Rc<A>, Rc<E>, Rc<T>, Rc<T>, Rc<T>, Rc<T>), AllocError>
+    ensures annotations { IfOk result (λ p. p.0.value ≡ annotations) }
+    ensures env { IfOk result (λ p. p.1.value ≡ env) }
+    ensures principal { IfOk result (λ p. p.2.value ≡ principal) }
+    ensures action { IfOk result (λ p. p.3.value ≡ action) }
+    ensures resource { IfOk result (λ p. p.4.value ≡ resource) }
+    ensures when { IfOk result (λ p. p.5.value ≡ when) }
+{
+    let annotations = Rc::new(alloc, annotations)?;
+    let env = Rc::new(alloc, env)?;
+    let principal = Rc::new(alloc, principal)?;
+    let action = Rc::new(alloc, action)?;
+    let resource = Rc::new(alloc, resource)?;
+    let when = Rc::new(alloc, when)?;
+    Ok((annotations, env, principal, action, resource, when))
 }
 
 impl Clone for Policy {

@@ -162,8 +162,18 @@ fn values_in(whole: Value) -> Result<BTreeMap<RcStr, Value>, AllocError>
     requires { IsRecordPart (value whole.what) }
     ensures { IfOk result (λ m. record_represented (whats_at m.entries) ≡ whole.what) }
 {
-    match whole.value {
-        ValueKind::Record(pairs) => Ok(Rc::unwrap_or_clone(pairs)?),
+    let shared = shared_values(&whole)?;
+    drop(whole);
+    Ok(Rc::unwrap_or_clone(shared)?)
+}
+
+// The values of the record, shared.
+fn shared_values(whole: &Value) -> Result<Rc<BTreeMap<RcStr, Value>>, AllocError>
+    requires { IsRecordPart (value whole.now.what) }
+    ensures { IfOk result (λ m. record_represented (whats_at m.value.entries) ≡ whole.now.what) }
+{
+    match whole.value_kind() {
+        ValueKind::Record(pairs) => Ok(pairs.clone()?),
         ValueKind::Lit(_) => unreachable!(),
         ValueKind::Set(_) => unreachable!(),
         ValueKind::ExtensionValue(_) => unreachable!(),

@@ -1,5 +1,5 @@
 //! What the variables of a request answer.
-ghost use Rattle.std.specs.Prelude.{◌≡◌, IfOk};
+ghost use Rattle.std.specs.Prelude.{◌≡◌, Ok, IfOk};
 ghost use Rattle.cedar_model.specs.Terms.{principal, action, resource, context};
 ghost use Rattle.cedar_model.specs.Settings.{variable_part};
 ghost use Rattle.cedar_data.specs.Residuals.{partial_view};
@@ -27,10 +27,31 @@ impl Request {
         ensures places { IfOk result (λ p. answer_locs p ≡ variable_locs self) }
     {
         let (principal, action, resource, context) = self.into_parts();
-        let principal = principal.into_part(alloc, Var::Principal)?;
-        let action = action.into_part(alloc, Var::Action)?;
-        let resource = resource.into_part(alloc, Var::Resource)?;
-        let context = context_part(alloc, context)?;
+        let (principal, action, resource, context) = all(
+            principal.into_part(alloc, Var::Principal),
+            action.into_part(alloc, Var::Action),
+            resource.into_part(alloc, Var::Resource),
+            context_part(alloc, context),
+        )?;
         Ok((principal, action, resource, context))
     }
+}
+
+// All four, or the first error.
+fn all<T: Drop>(
+    first: Result<T, AllocError>,
+    second: Result<T, AllocError>,
+    third: Result<T, AllocError>,
+    fourth: Result<T, AllocError>,
+) -> Result<(T, T, T, T), AllocError>
+    ensures first { IfOk result (λ p. first ≡ Ok p.0) }
+    ensures second { IfOk result (λ p. second ≡ Ok p.1) }
+    ensures third { IfOk result (λ p. third ≡ Ok p.2) }
+    ensures fourth { IfOk result (λ p. fourth ≡ Ok p.3) }
+{
+    let first = first?;
+    let second = second?;
+    let third = third?;
+    let fourth = fourth?;
+    Ok((first, second, third, fourth))
 }

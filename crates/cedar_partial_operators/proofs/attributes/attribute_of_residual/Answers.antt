@@ -6,7 +6,7 @@ use Rattle.cedar_partial_operators.proofs.attributes.attribute_of_residual.Goals
 
 pub returns-then-is_projectable : goal.returns-then-is_projectable
 returns-then-is_projectable c =
-    λ ok. c.again.ensures ok ∙ projects_field _ _ _ _
+    λ ok. c.again-projected.ensures ok ∙ projects_field _ _ _ _
     (rw c.as_expr.ensures.view at c.in-Some.ensures) c.in-Some-get.ensures.value
     (rw c.as_expr-in-Some-get.ensures.view at (sym c.is_projectable.ensures ∙ c.if-is_projectable.true))
 
@@ -19,5 +19,5 @@ returns-else-is_projectable c =
 pub returns-in-None-get : goal.returns-in-None-get
 returns-in-None-get c =
     let fail = λ (f : Failure). answered (fails f) in
-    λ ok. ap fail (c.no_such_key.ensures (λ m. ok (ap fail m)))
+    λ ok. ap fail (c.no_such_key-error.ensures (λ m. ok (ap fail m)))
     ∙ lacks_field _ _ _ (rw c.as_expr.ensures.view at c.in-Some.ensures) c.in-None-get.ensures.value
