@@ -1,6 +1,7 @@
 //! Responses: what is answered to a request, also where parts of it are unknown.
 #![tactic(auto)]
 
+mod beside;
 mod err;
 mod partial_response;
 mod response;

@@ -1,5 +1,5 @@
 //! What is answered to a request of which parts are unknown.
-ghost use Rattle.std.specs.Prelude.{◌≡◌, ◌||◌, cond, not, Some, None, Ok, IfOk, IfSome, option_map};
+ghost use Rattle.std.specs.Prelude.{◌≡◌, ◌||◌, cond, not, Some, None, IfOk, IfSome, option_map};
 ghost use Rattle.std.specs.Iterator.{IsFinite};
 ghost use Rattle.cedar_model.specs.Policies.{permit, forbid, allow, deny};
 ghost use Rattle.cedar_model.specs.Reports.{some_row, trues, residuals, given_decision};
@@ -15,6 +15,7 @@ mod ids;
 mod made;
 mod policies;
 
+use crate::beside::beside;
 use crate::err::AuthorizationError;
 use crate::response::Decision;
 use cedar_expressions::Expr;
@@ -174,15 +175,6 @@ struct EffectEntries {
     satisfied: IndexMap<PolicyID, Rc<Annotations>>,
     unsatisfied: IndexMap<PolicyID, (ErrorState, Rc<Annotations>)>,
     residual: IndexMap<PolicyID, (Rc<Expr>, Rc<Annotations>)>,
-}
-
-// What is held, and the answer beside it.
-fn beside<H: Drop, T: Drop>(held: H, answer: Result<T, AllocError>) -> Result<(H, T), AllocError>
-    ensures held { IfOk result (λ p. p.0 ≡ held) }
-    ensures answer { IfOk result (λ p. answer ≡ Ok p.1) }
-{
-    let answer = answer?;
-    Ok((held, answer))
 }
 
 // What is kept of these pairs, map by map.

@@ -7,6 +7,7 @@ ghost use Rattle.cedar_values.specs.Failures.{failure_of};
 ghost use Rattle.cedar_responses.specs.Rows.{located};
 ghost use Rattle.cedar_responses.specs.Sheets.{sheet_view, nothing_noted, noted_also, outcome_view, placed_row};
 
+use crate::beside::beside;
 use crate::err::AuthorizationError;
 use crate::partial_response::ErrorState;
 use cedar_expressions::Expr;
@@ -66,8 +67,8 @@ impl Sheet {
     pub fn place(&mut self, policy: &Policy, outcome: Outcome) -> Result<(), AllocError>
         ensures { OnOk result (sheet_view self.new ≡ noted_also (sheet_view self.old) (placed_row (policy_view policy.now) outcome) (error_of (outcome_view outcome))) }
     {
-        let id = policy.id().clone()?;
-        let annotations = policy.annotations_rc().clone()?;
+        let (outcome, id) = beside(outcome, policy.id().clone())?;
+        let ((outcome, id), annotations) = beside((outcome, id), policy.annotations_rc().clone())?;
         match outcome {
             Outcome::Decided(true) => self.note_true(policy.effect(), id, annotations),
             Outcome::Decided(false) => self.note_false(policy.effect(), id, annotations),
@@ -143,7 +144,7 @@ impl Sheet {
     ) -> Result<(), AllocError>
         ensures { OnOk result (sheet_view self.new ≡ noted_also (sheet_view self.old) (located (effect_view effect) (policy_id_text id) (annotations_view annotations.value) (reported_false true) None) (Some (failure_of error))) }
     {
-        let erring = id.clone()?;
+        let (error, erring) = beside(error, id.clone())?;
         self.errors.push(AuthorizationError::PolicyEvaluationError { id: erring, error })?;
         match effect {
             Effect::Permit => self
