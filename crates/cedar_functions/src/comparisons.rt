@@ -4,14 +4,14 @@ ghost use Rattle.cedar_extensions.specs.Outcomes.{ComesTo, is_lawful, abstracts}
 ghost use Rattle.cedar_functions.specs.Stored.{made_of};
 
 use crate::functions::made;
-use crate::names::{name, one, print_value, text, two, type_t};
+use crate::names::{both, name, one, print_value, text, two, type_t};
 use cedar_extensions::{
     Extension, ExtensionFunction, ExtensionFunctionObject, ExtensionOutputValue, Extensions,
 };
-use cedar_layers::expressions::{BinaryOp, CallStyle, PartialValue, Value};
+use cedar_layers::expressions::{BinaryOp, CallStyle, Name, PartialValue, Value};
 use cedar_operators::operators::binary_relation;
 use cedar_values::evaluator::err::EvaluationError;
-use std::alloc::Global;
+use std::alloc::{AllocError, Global};
 use std::io;
 use std::io::Write;
 
@@ -32,9 +32,12 @@ pub fn print<W: Write>(alloc: Global, overloaded: &str, out: &mut W) -> io::Resu
         { made(alloc, args, 2) },
     )?;
     let style = CallStyle::FunctionStyle;
-    let (t, u) = (type_t(alloc)?, type_t(alloc)?);
-    let one = ExtensionFunction::new(name(alloc, "one")?, style, one, Some(t), Vec::new(alloc));
-    let two = ExtensionFunction::new(name(alloc, "two")?, style, two, Some(u), Vec::new(alloc));
+    let ((first, t), (second, u)) = both(
+        both(name(alloc, "one"), type_t(alloc)),
+        both(name(alloc, "two"), type_t(alloc)),
+    )?;
+    let one = ExtensionFunction::new(first, style, one, Some(t), Vec::new(alloc));
+    let two = ExtensionFunction::new(second, style, two, Some(u), Vec::new(alloc));
     print_with(alloc, overloaded, one, two, out)
 }
 
@@ -45,14 +48,29 @@ fn print_with<W: Write>(
     second: ExtensionFunction,
     out: &mut W,
 ) -> io::Result<()> {
-    let functions = two(alloc, first, second)?;
-    let types = one(alloc, name(alloc, overloaded)?)?;
-    let all = one(
-        alloc,
-        Extension::new(name(alloc, "made")?, functions, types),
+    let (functions, (types, title)) = both(
+        two(alloc, first, second),
+        both(named(alloc, overloaded), name(alloc, "made")),
     )?;
+    let all = one(alloc, Extension::new(title, functions, types))?;
+    let printed = print_made(alloc, overloaded, &all, out);
+    drop(all);
+    printed
+}
+
+// A list of this name alone.
+fn named(alloc: Global, text: &str) -> Result<Vec<Name>, AllocError> {
+    one(alloc, name(alloc, text)?)
+}
+
+fn print_made<W: Write>(
+    alloc: Global,
+    overloaded: &str,
+    all: &[Extension],
+    out: &mut W,
+) -> io::Result<()> {
     writeln!(out, "{overloaded} is overloaded")?;
-    match Extensions::specific_extensions(alloc, &all) {
+    match Extensions::specific_extensions(alloc, all) {
         Ok(extensions) => print_comparisons(alloc, &extensions, out),
         Err(error) => writeln!(out, "{error}"),
     }
@@ -63,11 +81,36 @@ fn print_comparisons<W: Write>(
     extensions: &Extensions<'_>,
     out: &mut W,
 ) -> io::Result<()> {
-    let one = value_of(alloc, "one", extensions)?;
-    let two = value_of(alloc, "two", extensions)?;
-    let text = text(alloc, "a")?;
-    print_ordered(alloc, &one, &two, extensions, out)?;
-    print_mixed(alloc, &one, &text, extensions, out)
+    let ((one, two), text) = both(
+        both(
+            value_of(alloc, "one", extensions),
+            value_of(alloc, "two", extensions),
+        ),
+        text(alloc, "a"),
+    )?;
+    let printed = print_three(alloc, &one, &two, &text, extensions, out);
+    drop((one, two, text));
+    printed
+}
+
+fn print_three<W: Write>(
+    alloc: Global,
+    one: &Value,
+    two: &Value,
+    text: &Value,
+    extensions: &Extensions<'_>,
+    out: &mut W,
+) -> io::Result<()> {
+    print_ordered(alloc, one, two, extensions, out)?;
+    print_mixed(alloc, one, text, extensions, out)?;
+    let long = Value::from(1);
+    let printed = print_value(
+        "one() < 1",
+        binary_relation(alloc, BinaryOp::Less, one, &long, extensions),
+        out,
+    );
+    drop(long);
+    printed
 }
 
 fn print_ordered<W: Write>(
@@ -103,7 +146,6 @@ fn print_mixed<W: Write>(
     out: &mut W,
 ) -> io::Result<()> {
     let less = BinaryOp::Less;
-    let long = Value::from(1);
     print_value(
         "one() < \"a\"",
         binary_relation(alloc, less, one, text, extensions),
@@ -113,19 +155,25 @@ fn print_mixed<W: Write>(
         "\"a\" < one()",
         binary_relation(alloc, less, text, one, extensions),
         out,
-    )?;
-    print_value(
-        "one() < 1",
-        binary_relation(alloc, less, one, &long, extensions),
-        out,
     )
 }
 
 // What the function answers to no argument, or else `false`.
-fn value_of(alloc: Global, function: &str, extensions: &Extensions<'_>) -> io::Result<Value> {
-    match extensions.call(alloc, &name(alloc, function)?, &[]) {
+fn value_of(
+    alloc: Global,
+    function: &str,
+    extensions: &Extensions<'_>,
+) -> Result<Value, AllocError> {
+    let function = name(alloc, function)?;
+    match extensions.call(alloc, &function, &[]) {
         Ok(PartialValue::Value(value)) => Ok(value),
-        Ok(PartialValue::Residual(_)) => Ok(Value::from(false)),
-        Err(_) => Ok(Value::from(false)),
+        Ok(PartialValue::Residual(residual)) => {
+            drop(residual);
+            Ok(Value::from(false))
+        }
+        Err(error) => {
+            drop(error);
+            Ok(Value::from(false))
+        }
     }
 }

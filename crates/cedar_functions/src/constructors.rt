@@ -4,14 +4,14 @@ ghost use Rattle.cedar_extensions.specs.Outcomes.{ComesTo, is_lawful, abstracts}
 ghost use Rattle.cedar_functions.specs.Stored.{made_of};
 
 use crate::functions::made;
-use crate::names::{name, one, two, type_t};
+use crate::names::{both, name, one, two, type_t};
 use cedar_extensions::util::{CollectError, collect_no_duplicates};
 use cedar_extensions::{
     Extension, ExtensionFunction, ExtensionFunctionObject, ExtensionOutputValue, Extensions,
 };
 use cedar_layers::expressions::{CallStyle, Type, Value};
 use cedar_values::evaluator::err::EvaluationError;
-use std::alloc::Global;
+use std::alloc::{AllocError, Global};
 use std::io;
 use std::io::Write;
 
@@ -24,6 +24,7 @@ pub fn print_all<W: Write>(alloc: Global, out: &mut W) -> io::Result<()> {
 
 // Beside `make`, which takes a text, a function of this name in another extension, which takes an argument of this type.
 fn print<W: Write>(alloc: Global, second: &str, takes: Type, out: &mut W) -> io::Result<()> {
+    let (texts, others) = both(one(alloc, Type::String), one(alloc, takes))?;
     let first: ExtensionFunctionObject = Box::new(
         alloc,
         move |args: &[Value]| -> Result<ExtensionOutputValue, EvaluationError>
@@ -39,10 +40,12 @@ fn print<W: Write>(alloc: Global, second: &str, takes: Type, out: &mut W) -> io:
         { made(alloc, args, 2) },
     )?;
     let style = CallStyle::FunctionStyle;
-    let (t, u) = (type_t(alloc)?, type_t(alloc)?);
-    let (texts, others) = (one(alloc, Type::String)?, one(alloc, takes)?);
-    let make = ExtensionFunction::new(name(alloc, "make")?, style, first, Some(t), texts);
-    let other = ExtensionFunction::new(name(alloc, second)?, style, last, Some(u), others);
+    let ((name_of_first, t), (name_of_last, u)) = both(
+        both(name(alloc, "make"), type_t(alloc)),
+        both(name(alloc, second), type_t(alloc)),
+    )?;
+    let make = ExtensionFunction::new(name_of_first, style, first, Some(t), texts);
+    let other = ExtensionFunction::new(name_of_last, style, last, Some(u), others);
     print_with(alloc, second, make, other, out)
 }
 
@@ -53,10 +56,33 @@ fn print_with<W: Write>(
     other: ExtensionFunction,
     out: &mut W,
 ) -> io::Result<()> {
-    let makes = Extension::new(name(alloc, "makes")?, one(alloc, make)?, Vec::new(alloc));
-    let others = Extension::new(name(alloc, "others")?, one(alloc, other)?, Vec::new(alloc));
+    let (makes, others) = both(
+        extension(alloc, "makes", make),
+        extension(alloc, "others", other),
+    )?;
     let all = two(alloc, makes, others)?;
-    match Extensions::specific_extensions(alloc, &all) {
+    let printed = print_together(alloc, second, &all, out);
+    drop(all);
+    printed
+}
+
+// The extension of this name with this function alone.
+fn extension(
+    alloc: Global,
+    title: &str,
+    function: ExtensionFunction,
+) -> Result<Extension, AllocError> {
+    let (title, functions) = both(name(alloc, title), one(alloc, function))?;
+    Ok(Extension::new(title, functions, Vec::new(alloc)))
+}
+
+fn print_together<W: Write>(
+    alloc: Global,
+    second: &str,
+    all: &[Extension],
+    out: &mut W,
+) -> io::Result<()> {
+    match Extensions::specific_extensions(alloc, all) {
         Ok(_) => writeln!(out, "make and {second}: accepted"),
         Err(error) => writeln!(out, "make and {second}: {error}"),
     }

@@ -36,6 +36,16 @@ pub fn two<T: Drop>(alloc: Global, first: T, second: T) -> Result<Vec<T>, AllocE
     Ok(list)
 }
 
+/// Both, or the first error.
+pub fn both<A: Drop, B: Drop>(
+    first: Result<A, AllocError>,
+    second: Result<B, AllocError>,
+) -> Result<(A, B), AllocError> {
+    let first = first?;
+    let second = second?;
+    Ok((first, second))
+}
+
 /// The extension type `T`.
 pub fn type_t(alloc: Global) -> Result<Type, AllocError> {
     Ok(Type::Extension {
@@ -50,8 +60,16 @@ pub fn print_answer<W: Write>(
     out: &mut W,
 ) -> io::Result<()> {
     match answer {
-        Ok(value) => writeln!(out, "{call}: {value}"),
-        Err(error) => writeln!(out, "{call}: {error}"),
+        Ok(value) => {
+            let printed = writeln!(out, "{call}: {value}");
+            drop(value);
+            printed
+        }
+        Err(error) => {
+            let printed = writeln!(out, "{call}: {error}");
+            drop(error);
+            printed
+        }
     }
 }
 
@@ -62,7 +80,15 @@ pub fn print_value<W: Write>(
     out: &mut W,
 ) -> io::Result<()> {
     match answer {
-        Ok(value) => writeln!(out, "{comparison}: {value}"),
-        Err(error) => writeln!(out, "{comparison}: {error}"),
+        Ok(value) => {
+            let printed = writeln!(out, "{comparison}: {value}");
+            drop(value);
+            printed
+        }
+        Err(error) => {
+            let printed = writeln!(out, "{comparison}: {error}");
+            drop(error);
+            printed
+        }
     }
 }

@@ -34,9 +34,14 @@ fn read_many(alloc: Global, repeated: &str, parts: &mut Parts<Expr>) -> Result<(
     let (count, words) = repeated.split_once(':').ok_or("a count and words")?;
     let count = count.parse::<usize>()?;
     for _ in 0..count {
-        for word in words.split(';') {
-            read(alloc, word, parts)?;
-        }
+        read_joined(alloc, words, parts)?;
+    }
+    Ok(())
+}
+
+fn read_joined(alloc: Global, words: &str, parts: &mut Parts<Expr>) -> Result<(), Unanswered> {
+    for word in words.split(';') {
+        read(alloc, word, parts)?;
     }
     Ok(())
 }
@@ -63,25 +68,43 @@ fn popped(parts: &mut Parts<Expr>) -> Expr {
 
 // The part that the word makes of those before it: an operation, a leaf, a list, or a word on the part before it.
 fn part(alloc: Global, word: &str, parts: &mut Parts<Expr>) -> Result<Expr, Unanswered> {
-    if let Some(ends) = word.strip_prefix('@') {
-        let place = place(ends)?;
-        return Ok(popped(parts).with_maybe_source_loc(place));
+    match word.strip_prefix('@') {
+        Some(ends) => placed(ends, parts),
+        None => match word.split_once(':') {
+            Some((kind, rest)) => of_kind(alloc, kind, rest, parts),
+            None => operation(alloc, word, parts),
+        },
     }
-    match word.split_once(':') {
-        Some(("V", rest)) => Ok(Expr::var(variable(rest)?)),
-        Some(("S", rest)) => Ok(Expr::slot(slot(rest)?)),
-        Some(("U", rest)) => Ok(Expr::unknown(unknown(alloc, rest)?)),
-        Some(("M", rest)) => Ok(Expr::unknown(missing(alloc, rest)?)),
-        Some(("set", rest)) => listed(alloc, rest, parts),
-        Some(("record", keys)) => record(alloc, parts.named(alloc, keys)?),
-        Some(("fields", keys)) => {
-            let map = mapped(alloc, parts.named(alloc, keys)?)?;
-            Ok(Expr::record_map(alloc, map)?)
-        }
-        Some(("call", rest)) => call(alloc, rest, parts),
-        Some((kind, rest)) => on_one(alloc, kind, rest, parts),
-        None => operation(alloc, word, parts),
+}
+
+// The part before the word, at this place.
+fn placed(ends: &str, parts: &mut Parts<Expr>) -> Result<Expr, Unanswered> {
+    let place = place(ends)?;
+    Ok(popped(parts).with_maybe_source_loc(place))
+}
+
+fn of_kind(
+    alloc: Global,
+    kind: &str,
+    rest: &str,
+    parts: &mut Parts<Expr>,
+) -> Result<Expr, Unanswered> {
+    match kind {
+        "V" => Ok(Expr::var(variable(rest)?)),
+        "S" => Ok(Expr::slot(slot(rest)?)),
+        "U" => Ok(Expr::unknown(unknown(alloc, rest)?)),
+        "M" => Ok(Expr::unknown(missing(alloc, rest)?)),
+        "set" => listed(alloc, rest, parts),
+        "record" => record(alloc, parts.named(alloc, rest)?),
+        "fields" => fields(alloc, rest, parts),
+        "call" => call(alloc, rest, parts),
+        _ => on_one(alloc, kind, rest, parts),
     }
+}
+
+fn fields(alloc: Global, keys: &str, parts: &mut Parts<Expr>) -> Result<Expr, Unanswered> {
+    let map = mapped(alloc, parts.named(alloc, keys)?)?;
+    Ok(Expr::record_map(alloc, map)?)
 }
 
 fn record(alloc: Global, pairs: Vec<(RcStr, Expr)>) -> Result<Expr, Unanswered> {

@@ -128,6 +128,16 @@ impl<T: Drop> Parts<T> {
     }
 }
 
+/// Both, or the first reason.
+pub fn both<A: Drop, B: Drop>(
+    first: Result<A, Unanswered>,
+    second: Result<B, Unanswered>,
+) -> Result<(A, B), Unanswered> {
+    let first = first?;
+    let second = second?;
+    Ok((first, second))
+}
+
 /// Puts the part behind the others, under its key.
 pub fn pair<T: Drop>(pairs: &mut Vec<(RcStr, T)>, key: RcStr, part: T) -> Result<(), AllocError> {
     match pairs.push((key, part)) {

@@ -58,8 +58,8 @@ fn clause(alloc: Global, setting: &str, id: &str, stated: &str) -> Result<Policy
     let (ends, words) = headed(rest);
     let (effect, place) = (effect(effect_name)?, place(ends)?);
     let annotations = Rc::new(alloc, annotations(alloc, setting, id)?)?;
-    let clause = Rc::new(alloc, expression(alloc, words)?)?;
     let id = policy_id(alloc, id)?;
+    let clause = Rc::new(alloc, expression(alloc, words)?)?;
     Ok(Policy::from_when_clause_annos(alloc, effect, clause, id, place, annotations)?)
 }
 

@@ -21,7 +21,7 @@ use crate::expressions::restricted;
 use crate::leaves::{entity_type, place, slot, text, uid};
 use crate::unanswered::Unanswered;
 use crate::values::value;
-use crate::{fact, first_fact, headed, put};
+use crate::{both, fact, first_fact, headed, put};
 use cedar_extensions::Extensions;
 use cedar_layers::expressions::{EntityUID, Expr, PartialValue, ResidualExpr, SlotEnv, Value};
 use cedar_layers::policies::{Entities, Entity};
@@ -90,10 +90,10 @@ pub fn setting_of<'e, 'f>(
     facts: &str,
     extensions: &'e Extensions<'f>,
 ) -> Result<Setting<'e, 'f>, Unanswered> {
-    let slots = slots(alloc, facts)?;
-    let request = request(alloc, facts, extensions)?;
-    let entities = stored(alloc, facts)?;
-    let map = mapped_values(alloc, facts)?;
+    let ((slots, request), (entities, map)) = both(
+        both(slots(alloc, facts), request(alloc, facts, extensions)),
+        both(stored(alloc, facts), mapped_values(alloc, facts)),
+    )?;
     Ok(Setting {
         request,
         slots,
@@ -108,10 +108,16 @@ fn request(
     setting: &str,
     extensions: &Extensions<'_>,
 ) -> Result<Request, Unanswered> {
-    let principal = entry(alloc, setting, "principal")?;
-    let action = entry(alloc, setting, "action")?;
-    let resource = entry(alloc, setting, "resource")?;
-    let context = context(alloc, setting, extensions)?;
+    let ((principal, action), (resource, context)) = both(
+        both(
+            entry(alloc, setting, "principal"),
+            entry(alloc, setting, "action"),
+        ),
+        both(
+            entry(alloc, setting, "resource"),
+            context(alloc, setting, extensions),
+        ),
+    )?;
     Ok(Request::new_with_unknowns(principal, action, resource, context))
 }
 
@@ -218,10 +224,14 @@ fn entities(alloc: Global, setting: &str) -> Result<Vec<Entity>, Unanswered> {
 fn entity(alloc: Global, setting: &str, declared: &str) -> Result<Entity, Unanswered> {
     let (name, called) = headed(declared);
     let called = if called.is_empty() { name } else { called };
-    let ancestors = ancestors(alloc, setting, called)?;
-    let attributes = parts_of(alloc, setting, "attribute", called)?;
-    let tags = parts_of(alloc, setting, "tag", called)?;
-    Ok(Entity::new(uid(alloc, name)?, attributes.parts, ancestors, tags.parts))
+    let ((uid, ancestors), (attributes, tags)) = both(
+        both(uid(alloc, name), ancestors(alloc, setting, called)),
+        both(
+            parts_of(alloc, setting, "attribute", called),
+            parts_of(alloc, setting, "tag", called),
+        ),
+    )?;
+    Ok(Entity::new(uid, attributes.parts, ancestors, tags.parts))
 }
 
 fn ancestors(alloc: Global, setting: &str, called: &str) -> Result<HashSet<EntityUID>, Unanswered> {
@@ -254,9 +264,11 @@ fn with_part(alloc: Global, parts: StoredParts, named: &str) -> Result<StoredPar
     let (name, words) = headed(named);
     let name = text(alloc, name)?;
     if has_unknown(words) {
-        parts.with_residual(name, restricted(alloc, words)?)
+        let ((parts, name), residual) = both(Ok((parts, name)), restricted(alloc, words))?;
+        parts.with_residual(name, residual)
     } else {
-        Ok(parts.with(name, value(alloc, words)?)?)
+        let ((parts, name), value) = both(Ok((parts, name)), value(alloc, words))?;
+        Ok(parts.with(name, value)?)
     }
 }
 

@@ -34,23 +34,43 @@ fn read(alloc: Global, word: &str, parts: &mut Parts<Value>) -> Result<(), Unans
 
 // The value that the word makes of those before it.
 fn part(alloc: Global, word: &str, parts: &mut Parts<Value>) -> Result<Value, Unanswered> {
-    if let Some(ends) = word.strip_prefix('@') {
-        let place = place(ends)?;
-        return Ok(popped(parts).with_maybe_source_loc(place));
+    match word.strip_prefix('@') {
+        Some(ends) => placed(ends, parts),
+        None => match word.split_once(':') {
+            Some((kind, rest)) => of_kind(alloc, kind, rest, parts),
+            None => Err(Unanswered::Unreadable("a word that is no value")),
+        },
     }
-    match word.split_once(':') {
-        Some(("set", count)) => {
-            let count = count.parse::<usize>()?;
-            Ok(Value::set(alloc, parts.last(count)?, None)?)
-        }
-        Some(("record", keys)) => {
-            let map = mapped(alloc, parts.named(alloc, keys)?)?;
-            Ok(Value::record(alloc, map, None)?)
-        }
-        Some(("X", rest)) => extension(alloc, rest),
-        Some((kind, rest)) => Ok(Value::from(literal(alloc, kind, rest)?)),
-        None => Err(Unanswered::Unreadable("a word that is no value")),
+}
+
+// The value before the word, at this place.
+fn placed(ends: &str, parts: &mut Parts<Value>) -> Result<Value, Unanswered> {
+    let place = place(ends)?;
+    Ok(popped(parts).with_maybe_source_loc(place))
+}
+
+fn of_kind(
+    alloc: Global,
+    kind: &str,
+    rest: &str,
+    parts: &mut Parts<Value>,
+) -> Result<Value, Unanswered> {
+    match kind {
+        "set" => set(alloc, rest, parts),
+        "record" => record(alloc, rest, parts),
+        "X" => extension(alloc, rest),
+        _ => Ok(Value::from(literal(alloc, kind, rest)?)),
     }
+}
+
+fn set(alloc: Global, count: &str, parts: &mut Parts<Value>) -> Result<Value, Unanswered> {
+    let count = count.parse::<usize>()?;
+    Ok(Value::set(alloc, parts.last(count)?, None)?)
+}
+
+fn record(alloc: Global, keys: &str, parts: &mut Parts<Value>) -> Result<Value, Unanswered> {
+    let map = mapped(alloc, parts.named(alloc, keys)?)?;
+    Ok(Value::record(alloc, map, None)?)
 }
 
 fn popped(parts: &mut Parts<Value>) -> Value {
@@ -66,9 +86,10 @@ fn extension(alloc: Global, written: &str) -> Result<Value, Unanswered> {
 fn extension_value(alloc: Global, ty: &str, argument: &str) -> Result<ExtensionValue, Unanswered> {
     let mut key: Vec<u8> = Vec::new(alloc);
     key.extend_from_slice(argument.as_bytes())?;
+    let typename = name(alloc, ty)?;
     let representation = representation(alloc, name(alloc, ty)?, text(alloc, argument)?)?;
     Ok(ExtensionValue {
-        typename: name(alloc, ty)?,
+        typename,
         representation,
         key,
     })
