@@ -11,7 +11,7 @@ use cedar_extensions::{
 };
 use cedar_layers::expressions::{CallStyle, Type, Value};
 use cedar_values::evaluator::err::EvaluationError;
-use std::alloc::{AllocError, Global};
+use std::alloc::Global;
 use std::io;
 use std::io::Write;
 
@@ -56,24 +56,16 @@ fn print_with<W: Write>(
     other: ExtensionFunction,
     out: &mut W,
 ) -> io::Result<()> {
-    let (makes, others) = both(
-        extension(alloc, "makes", make),
-        extension(alloc, "others", other),
+    let ((makes, make), (others, other)) = both(
+        both(name(alloc, "makes"), one(alloc, make)),
+        both(name(alloc, "others"), one(alloc, other)),
     )?;
+    let makes = Extension::new(makes, make, Vec::new(alloc));
+    let others = Extension::new(others, other, Vec::new(alloc));
     let all = two(alloc, makes, others)?;
     let printed = print_together(alloc, second, &all, out);
     drop(all);
     printed
-}
-
-// The extension of this name with this function alone.
-fn extension(
-    alloc: Global,
-    title: &str,
-    function: ExtensionFunction,
-) -> Result<Extension, AllocError> {
-    let (title, functions) = both(name(alloc, title), one(alloc, function))?;
-    Ok(Extension::new(title, functions, Vec::new(alloc)))
 }
 
 fn print_together<W: Write>(
