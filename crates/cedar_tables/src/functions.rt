@@ -13,7 +13,7 @@ use cedar_extensions::{
 use cedar_layers::expressions::{CallStyle, Name, Type, Value};
 use cedar_notation::settings::setting_of;
 use cedar_notation::unanswered::Unanswered;
-use cedar_notation::{fact, first_fact};
+use cedar_notation::{both, fact, first_fact};
 use cedar_values::evaluator::err::EvaluationError;
 use std::alloc::{AllocError, Global};
 
@@ -63,16 +63,16 @@ fn tally_with_others(
         { ask(alloc, args) },
     )?;
     let style = CallStyle::FunctionStyle;
-    let (bool, long) = (Some(Type::Bool), vec![in alloc; Type::Long]?);
-    let even = ExtensionFunction::new(plain_name(alloc, "even")?, style, even, bool, long);
-    let none = Vec::new(alloc);
-    let fail = ExtensionFunction::new(plain_name(alloc, "fail")?, style, fail, None, none);
-    let none = Vec::new(alloc);
-    let ask = ExtensionFunction::new(plain_name(alloc, "ask")?, style, ask, None, none);
-    let mut functions: Vec<ExtensionFunction> = Vec::new(alloc);
-    put(facts, &mut functions, even)?;
-    put(facts, &mut functions, fail)?;
-    put(facts, &mut functions, ask)?;
+    let ((evens, longs), (fails, asks)) = both(
+        both(named(alloc, "even"), longs(alloc)),
+        both(named(alloc, "fail"), named(alloc, "ask")),
+    )?;
+    let even = ExtensionFunction::new(evens, style, even, Some(Type::Bool), longs);
+    let fail = ExtensionFunction::new(fails, style, fail, None, Vec::new(alloc));
+    let ask = ExtensionFunction::new(asks, style, ask, None, Vec::new(alloc));
+    let functions = with(facts, Ok(Vec::new(alloc)), even);
+    let functions = with(facts, functions, fail);
+    let functions = with(facts, functions, ask)?;
     tally_with(rt, alloc, facts, rows, functions)
 }
 
@@ -98,13 +98,38 @@ fn tally_with_makers(
         { made(alloc, args, 2) },
     )?;
     let style = CallStyle::FunctionStyle;
-    let (first, second) = (plain_name(alloc, "one")?, plain_name(alloc, "two")?);
+    let (first, second) = both(named(alloc, "one"), named(alloc, "two"))?;
     let one = ExtensionFunction::new(first, style, one, None, Vec::new(alloc));
     let two = ExtensionFunction::new(second, style, two, None, Vec::new(alloc));
-    let mut functions: Vec<ExtensionFunction> = Vec::new(alloc);
-    put(facts, &mut functions, one)?;
-    put(facts, &mut functions, two)?;
+    let functions = with(facts, Ok(Vec::new(alloc)), one);
+    let functions = with(facts, functions, two)?;
     tally_with(rt, alloc, facts, rows, functions)
+}
+
+fn named(alloc: Global, name: &str) -> Result<Name, Unanswered> {
+    Ok(plain_name(alloc, name)?)
+}
+
+// A long, as what a function takes.
+fn longs(alloc: Global) -> Result<Vec<Type>, Unanswered> {
+    Ok(vec![in alloc; Type::Long]?)
+}
+
+// The functions, and behind them this one, where the facts name it.
+fn with(
+    facts: &str,
+    functions: Result<Vec<ExtensionFunction>, Unanswered>,
+    function: ExtensionFunction,
+) -> Result<Vec<ExtensionFunction>, Unanswered> {
+    let (functions, function) = both(functions, Ok(function))?;
+    let mut functions = functions;
+    match put(facts, &mut functions, function) {
+        Ok(()) => Ok(functions),
+        Err(error) => {
+            drop(functions);
+            Err(error.into())
+        }
+    }
 }
 
 // Puts the function behind the others, where the facts name it.
@@ -141,16 +166,31 @@ fn tally_with(
     rows: &str,
     functions: Vec<ExtensionFunction>,
 ) -> Result<Tally, Unanswered> {
+    let (functions, (unknown, (title, types))) = both(
+        Ok(functions),
+        both(
+            or_memory(ExtensionFunction::unknown(alloc)),
+            both(named(alloc, "ext"), overloaded(alloc, facts)),
+        ),
+    )?;
     let mut functions = functions;
-    put(facts, &mut functions, ExtensionFunction::unknown(alloc)?)?;
-    let types = overloaded(alloc, facts)?;
-    let extension = Extension::new(plain_name(alloc, "ext")?, functions, types);
-    let all = vec![in alloc; extension]?;
-    tally_in(rt, alloc, facts, rows, all.as_slice())
+    if let Err(error) = put(facts, &mut functions, unknown) {
+        drop((functions, title, types));
+        return Err(error.into());
+    }
+    let all = vec![in alloc; Extension::new(title, functions, types)]?;
+    let tally = tally_in(rt, alloc, facts, rows, all.as_slice());
+    drop(all);
+    tally
+}
+
+// What was made, or that memory was wanting.
+fn or_memory<T: Drop>(made: Result<T, AllocError>) -> Result<T, Unanswered> {
+    Ok(made?)
 }
 
 // The types that `<` and `<=` take besides longs.
-fn overloaded(alloc: Global, facts: &str) -> Result<Vec<Name>, AllocError> {
+fn overloaded(alloc: Global, facts: &str) -> Result<Vec<Name>, Unanswered> {
     let mut types: Vec<Name> = Vec::new(alloc);
     for line in facts.lines() {
         if let Some(ty) = fact(line, "overloads") {
@@ -170,7 +210,9 @@ fn tally_in(
     match Extensions::specific_extensions(alloc, all) {
         Ok(extensions) => {
             let setting = setting_of(alloc, facts, &extensions)?;
-            tally_of_rows(rt, alloc, facts, &setting, rows)
+            let tally = tally_of_rows(rt, alloc, facts, &setting, rows);
+            drop(setting);
+            tally
         }
         Err(ExtensionInitializationError::FuncMultiplyDefined(_)) => {
             Err(Unanswered::Unreadable("a function is stored twice"))

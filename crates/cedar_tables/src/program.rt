@@ -6,11 +6,15 @@ use cedar_built_in_rows::steps::resource_is_b;
 use cedar_built_in_rows::stop::Stop;
 use cedar_built_in_rows::{OUT_OF_MEMORY, run, run_with_even, stopped};
 use cedar_extensions::Extensions;
+use cedar_layers::expressions::Value;
 use cedar_layers::policies::PolicySet;
+use cedar_notation::both;
 use cedar_notation::unanswered::Unanswered;
 use std::alloc::{AllocError, Global};
+use std::collections::HashMap;
 use std::io;
 use std::io::Write;
+use std::rc::RcStr;
 
 /// What is asked of these words.
 pub fn answer(
@@ -71,13 +75,34 @@ fn answered(alloc: Global, status: u8, out: &[u8]) -> Result<String, Unanswered>
 
 // What is printed where the row's request is taken further by a resource, which it has.
 fn refused_text(alloc: Global, row: Row) -> Result<String, Unanswered> {
-    let step = resource_is_b(alloc)?;
+    let (step, policies) = both(resource_step(alloc), no_policies(alloc))?;
+    let text = refused_by(alloc, row, &step, &policies);
+    drop((step, policies));
+    text
+}
+
+fn resource_step(alloc: Global) -> Result<HashMap<RcStr, Value>, Unanswered> {
+    Ok(resource_is_b(alloc)?)
+}
+
+fn refused_by(
+    alloc: Global,
+    row: Row,
+    step: &HashMap<RcStr, Value>,
+    policies: &PolicySet,
+) -> Result<String, Unanswered> {
     let none = Extensions::none();
     let authorizer = Authorizer::new(&none, LIMIT);
-    let policies = no_policies(alloc)?;
-    match in_one_step(alloc, row, &authorizer, &policies, &step) {
-        Ok(_) => Err(Unanswered::Unreadable("not refused")),
-        Err(stop) => stopped_text(alloc, &stop),
+    match in_one_step(alloc, row, &authorizer, policies, step) {
+        Ok(response) => {
+            drop(response);
+            Err(Unanswered::Unreadable("not refused"))
+        }
+        Err(stop) => {
+            let text = stopped_text(alloc, &stop);
+            drop(stop);
+            text
+        }
     }
 }
 
