@@ -85,12 +85,13 @@ pub enum PartialValue {
 impl PartialValue {
     ghost use Rattle.std.specs.Prelude.{IfOk};
     ghost use Rattle.cedar_expressions.specs.View.{expr_loc};
-    ghost use Rattle.cedar_data.specs.Residuals.{partial_view, partial_loc, partial_term};
+    ghost use Rattle.cedar_data.specs.Residuals.{partial_view, partial_loc, partial_inside, partial_term};
 
     /// The same value or residual with this location, or with none.
     pub fn with_maybe_source_loc(self, loc: Option<Loc>) -> PartialValue
         ensures view { partial_view result ≡ partial_view self }
         ensures loc { partial_loc result ≡ loc }
+        ensures inside { partial_inside result ≡ partial_inside self }
     {
         match self {
             PartialValue::Value(value) => PartialValue::Value(value.with_maybe_source_loc(loc)),
@@ -113,9 +114,10 @@ impl PartialValue {
 }
 
 impl Clone for PartialValue {
-    ghost use Rattle.cedar_data.specs.Residuals.{partial_view, partial_loc};
+    ghost use Rattle.cedar_data.specs.Residuals.{partial_view, partial_loc, partial_inside};
 
-    ghost is_clone = { λ p copy. (partial_view copy ≡ partial_view p) × (partial_loc copy ≡ partial_loc p) };
+    ghost is_clone = { λ p copy. (partial_view copy ≡ partial_view p) × (partial_loc copy ≡ partial_loc p) ×
+        (partial_inside copy ≡ partial_inside p) };
 
     fn clone(&self) -> Result<PartialValue, AllocError> {
         match self {

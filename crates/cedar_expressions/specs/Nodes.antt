@@ -1,5 +1,5 @@
 -- An expression's node: its kind with its parts whole, their locations included, whether they are shared or not.
-use Rattle.std.specs.Prelude.{List, [], ◌∷◌}
+use Rattle.std.specs.Prelude.{List, [], ◌∷◌, map}
 use Rattle.std.specs.declared.cmp.Ordering.{Ordering}
 use Rattle.std.specs.Ordering.{nat_cmp}
 use Rattle.std.specs.Cmp.Lexicographic.{slice_cmp}
@@ -67,6 +67,36 @@ kind_node k = node_step (out-ExprKind k)
 -- the node of an expression
 abbrev pub node_of : Expr → Node
 node_of e = kind_node (expr_kind_of e)
+
+-- ---- parts
+
+-- the parts of a node, in order
+abbrev pub parts_below : Node → List Expr
+parts_below (Lit l) = []
+parts_below (Var v) = []
+parts_below (Slot s) = []
+parts_below (Unknown u) = []
+parts_below (If c a b) = c ∷ a ∷ b ∷ []
+parts_below (And a b) = a ∷ b ∷ []
+parts_below (Or a b) = a ∷ b ∷ []
+parts_below (UnaryApp op a) = a ∷ []
+parts_below (BinaryApp op a b) = a ∷ b ∷ []
+parts_below (ExtensionFunctionApp f args) = args
+parts_below (GetAttr e a) = e ∷ []
+parts_below (HasAttr e a) = e ∷ []
+parts_below (ExtHasAttr e attrs) = e ∷ []
+parts_below (Like e p) = e ∷ []
+parts_below (Is e t) = e ∷ []
+parts_below (Set parts) = parts
+parts_below (Record fields) = map {B = Expr} (λ f. f.1) fields
+
+-- the parts of a kind
+abbrev pub kind_parts : ExprKind → List Expr
+kind_parts k = parts_below (kind_node k)
+
+-- the parts of an expression, whole: their locations and what is in them included
+abbrev pub parts_of : Expr → List Expr
+parts_of e = kind_parts (expr_kind_of e)
 
 -- ---- the entries of a record
 

@@ -1,11 +1,12 @@
-#![tactic(auto, using(crate::proofs::Levels::levels))]
+#![tactic(auto, using(crate::proofs::Levels::levels, crate::proofs::NodeLevels::nodes))]
 //! Copies of expressions. The parts lie behind `Rc`, so a copy is a copy of one node, and of the pattern that a `like` has.
-ghost use Rattle.std.specs.Prelude.{◌≡◌, IfOk};
+ghost use Rattle.std.specs.Prelude.{◌≡◌, ◌∷◌, [], IfOk};
 ghost use Rattle.std.specs.Rc.{rc_str_bytes};
 ghost use Rattle.cedar_model.specs.Terms.{if_then_else, both, either, unary, binary, call, get_attribute, has_attribute, extended_has, like, is_of_type};
 ghost use Rattle.cedar_names.specs.Names.{name_text, type_text};
 ghost use Rattle.cedar_names.specs.Leaves.{unary_view, binary_view, pattern_view, texts_view};
 ghost use Rattle.cedar_expressions.specs.View.{view, kind_view, expr_loc, terms_view};
+ghost use Rattle.cedar_expressions.specs.Nodes.{kind_parts, parts_of};
 
 use super::{Expr, ExprKind};
 use cedar_names::{BinaryOp, EntityType, FirstRest, Name, Pattern, UnaryOp};
@@ -13,7 +14,7 @@ use std::alloc::AllocError;
 use std::rc::{Rc, RcStr};
 
 impl Clone for Expr {
-    ghost is_clone = { λ e copy. (view copy ≡ view e) × (expr_loc copy ≡ expr_loc e) };
+    ghost is_clone = { λ e copy. (view copy ≡ view e) × (expr_loc copy ≡ expr_loc e) × (parts_of copy ≡ parts_of e) };
 
     fn clone(&self) -> Result<Expr, AllocError> {
         let expr_kind = self.expr_kind.clone()?;
@@ -25,7 +26,7 @@ impl Clone for Expr {
 }
 
 impl Clone for ExprKind {
-    ghost is_clone = { λ k copy. kind_view copy ≡ kind_view k };
+    ghost is_clone = { λ k copy. (kind_view copy ≡ kind_view k) × (kind_parts copy ≡ kind_parts k) };
 
     fn clone(&self) -> Result<ExprKind, AllocError> {
         match self {
@@ -59,7 +60,8 @@ fn copied_if(
     then_expr: &Rc<Expr>,
     else_expr: &Rc<Expr>,
 ) -> Result<ExprKind, AllocError>
-    ensures { IfOk result (λ k. kind_view k ≡ if_then_else (view test_expr.now.value) (view then_expr.now.value) (view else_expr.now.value)) }
+    ensures view { IfOk result (λ k. kind_view k ≡ if_then_else (view test_expr.now.value) (view then_expr.now.value) (view else_expr.now.value)) }
+    ensures parts { IfOk result (λ k. kind_parts k ≡ test_expr.now.value ∷ then_expr.now.value ∷ else_expr.now.value ∷ []) }
 {
     let test_expr = test_expr.clone()?;
     let then_expr = then_expr.clone()?;
@@ -72,7 +74,8 @@ fn copied_if(
 }
 
 fn copied_and(left: &Rc<Expr>, right: &Rc<Expr>) -> Result<ExprKind, AllocError>
-    ensures { IfOk result (λ k. kind_view k ≡ both (view left.now.value) (view right.now.value)) }
+    ensures view { IfOk result (λ k. kind_view k ≡ both (view left.now.value) (view right.now.value)) }
+    ensures parts { IfOk result (λ k. kind_parts k ≡ left.now.value ∷ right.now.value ∷ []) }
 {
     let left = left.clone()?;
     let right = right.clone()?;
@@ -80,7 +83,8 @@ fn copied_and(left: &Rc<Expr>, right: &Rc<Expr>) -> Result<ExprKind, AllocError>
 }
 
 fn copied_or(left: &Rc<Expr>, right: &Rc<Expr>) -> Result<ExprKind, AllocError>
-    ensures { IfOk result (λ k. kind_view k ≡ either (view left.now.value) (view right.now.value)) }
+    ensures view { IfOk result (λ k. kind_view k ≡ either (view left.now.value) (view right.now.value)) }
+    ensures parts { IfOk result (λ k. kind_parts k ≡ left.now.value ∷ right.now.value ∷ []) }
 {
     let left = left.clone()?;
     let right = right.clone()?;
@@ -88,14 +92,16 @@ fn copied_or(left: &Rc<Expr>, right: &Rc<Expr>) -> Result<ExprKind, AllocError>
 }
 
 fn copied_unary(op: UnaryOp, arg: &Rc<Expr>) -> Result<ExprKind, AllocError>
-    ensures { IfOk result (λ k. kind_view k ≡ unary (unary_view op) (view arg.now.value)) }
+    ensures view { IfOk result (λ k. kind_view k ≡ unary (unary_view op) (view arg.now.value)) }
+    ensures parts { IfOk result (λ k. kind_parts k ≡ arg.now.value ∷ []) }
 {
     let arg = arg.clone()?;
     Ok(ExprKind::UnaryApp { op, arg })
 }
 
 fn copied_binary(op: BinaryOp, arg1: &Rc<Expr>, arg2: &Rc<Expr>) -> Result<ExprKind, AllocError>
-    ensures { IfOk result (λ k. kind_view k ≡ binary (binary_view op) (view arg1.now.value) (view arg2.now.value)) }
+    ensures view { IfOk result (λ k. kind_view k ≡ binary (binary_view op) (view arg1.now.value) (view arg2.now.value)) }
+    ensures parts { IfOk result (λ k. kind_parts k ≡ arg1.now.value ∷ arg2.now.value ∷ []) }
 {
     let arg1 = arg1.clone()?;
     let arg2 = arg2.clone()?;
@@ -103,7 +109,8 @@ fn copied_binary(op: BinaryOp, arg1: &Rc<Expr>, arg2: &Rc<Expr>) -> Result<ExprK
 }
 
 fn copied_call(fn_name: &Name, args: &Rc<Vec<Expr>>) -> Result<ExprKind, AllocError>
-    ensures { IfOk result (λ k. kind_view k ≡ call (name_text fn_name.now) (terms_view args.now.value.items)) }
+    ensures view { IfOk result (λ k. kind_view k ≡ call (name_text fn_name.now) (terms_view args.now.value.items)) }
+    ensures parts { IfOk result (λ k. kind_parts k ≡ args.now.value.items) }
 {
     let fn_name = fn_name.clone()?;
     let args = args.clone()?;
@@ -111,7 +118,8 @@ fn copied_call(fn_name: &Name, args: &Rc<Vec<Expr>>) -> Result<ExprKind, AllocEr
 }
 
 fn copied_attribute(expr: &Rc<Expr>, attr: &RcStr) -> Result<ExprKind, AllocError>
-    ensures { IfOk result (λ k. kind_view k ≡ get_attribute (view expr.now.value) (rc_str_bytes attr.now)) }
+    ensures view { IfOk result (λ k. kind_view k ≡ get_attribute (view expr.now.value) (rc_str_bytes attr.now)) }
+    ensures parts { IfOk result (λ k. kind_parts k ≡ expr.now.value ∷ []) }
 {
     let attr = attr.clone()?;
     let expr = expr.clone()?;
@@ -119,7 +127,8 @@ fn copied_attribute(expr: &Rc<Expr>, attr: &RcStr) -> Result<ExprKind, AllocErro
 }
 
 fn copied_has(expr: &Rc<Expr>, attr: &RcStr) -> Result<ExprKind, AllocError>
-    ensures { IfOk result (λ k. kind_view k ≡ has_attribute (view expr.now.value) (rc_str_bytes attr.now)) }
+    ensures view { IfOk result (λ k. kind_view k ≡ has_attribute (view expr.now.value) (rc_str_bytes attr.now)) }
+    ensures parts { IfOk result (λ k. kind_parts k ≡ expr.now.value ∷ []) }
 {
     let attr = attr.clone()?;
     let expr = expr.clone()?;
@@ -130,7 +139,8 @@ fn copied_extended_has(
     expr: &Rc<Expr>,
     attrs: &Rc<FirstRest<RcStr>>,
 ) -> Result<ExprKind, AllocError>
-    ensures { IfOk result (λ k. kind_view k ≡ extended_has (view expr.now.value) (rc_str_bytes attrs.now.value.first) (texts_view attrs.now.value.rest.items)) }
+    ensures view { IfOk result (λ k. kind_view k ≡ extended_has (view expr.now.value) (rc_str_bytes attrs.now.value.first) (texts_view attrs.now.value.rest.items)) }
+    ensures parts { IfOk result (λ k. kind_parts k ≡ expr.now.value ∷ []) }
 {
     let attrs = attrs.clone()?;
     let expr = expr.clone()?;
@@ -138,7 +148,8 @@ fn copied_extended_has(
 }
 
 fn copied_like(expr: &Rc<Expr>, pattern: &Pattern) -> Result<ExprKind, AllocError>
-    ensures { IfOk result (λ k. kind_view k ≡ like (view expr.now.value) (pattern_view pattern.now)) }
+    ensures view { IfOk result (λ k. kind_view k ≡ like (view expr.now.value) (pattern_view pattern.now)) }
+    ensures parts { IfOk result (λ k. kind_parts k ≡ expr.now.value ∷ []) }
 {
     let pattern = pattern.clone()?;
     let expr = expr.clone()?;
@@ -146,7 +157,8 @@ fn copied_like(expr: &Rc<Expr>, pattern: &Pattern) -> Result<ExprKind, AllocErro
 }
 
 fn copied_is(expr: &Rc<Expr>, entity_type: &EntityType) -> Result<ExprKind, AllocError>
-    ensures { IfOk result (λ k. kind_view k ≡ is_of_type (view expr.now.value) (type_text entity_type.now)) }
+    ensures view { IfOk result (λ k. kind_view k ≡ is_of_type (view expr.now.value) (type_text entity_type.now)) }
+    ensures parts { IfOk result (λ k. kind_parts k ≡ expr.now.value ∷ []) }
 {
     let entity_type = entity_type.clone()?;
     let expr = expr.clone()?;

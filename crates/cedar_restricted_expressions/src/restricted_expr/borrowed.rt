@@ -3,6 +3,7 @@ ghost use Rattle.std.specs.Prelude.{◌≡◌, true, IfOk, IfErr};
 ghost use Rattle.cedar_model.specs.Shapes.{is_restricted};
 ghost use Rattle.cedar_model.specs.Restricted.{first_disallowed};
 ghost use Rattle.cedar_expressions.specs.View.{view};
+ghost use Rattle.cedar_expressions.specs.Nodes.{parts_of};
 ghost use Rattle.cedar_restricted_expressions.specs.Refusals.{IsRefusal};
 
 use super::disallowed::check;
@@ -13,7 +14,7 @@ use std::alloc::AllocError;
 
 impl<'a> BorrowedRestrictedExpr<'a> {
     ghost use Rattle.cedar_restricted_expressions.specs.Views.{borrowed_expr, borrowed_term, borrowed_loc};
-    ghost use Rattle.cedar_restricted_expressions.specs.Views.{restricted_term, restricted_loc};
+    ghost use Rattle.cedar_restricted_expressions.specs.Views.{expr_in, restricted_term, restricted_loc};
 
     /// The expression, as a restricted one. Refuses as `RestrictedExpr::new` does.
     pub fn new(expr: &'a Expr) -> Result<BorrowedRestrictedExpr<'a>, RestrictedExpressionError>
@@ -36,6 +37,7 @@ impl<'a> BorrowedRestrictedExpr<'a> {
     pub fn to_owned(self) -> Result<RestrictedExpr, AllocError>
         ensures view { IfOk result (λ r. restricted_term r ≡ borrowed_term self.entry) }
         ensures loc { IfOk result (λ r. restricted_loc r ≡ borrowed_loc self.entry) }
+        ensures parts { IfOk result (λ r. parts_of (expr_in r) ≡ parts_of (borrowed_expr self.entry)) }
     {
         let expr: Expr = self.expr.clone()?;
         Ok(RestrictedExpr { expr })
