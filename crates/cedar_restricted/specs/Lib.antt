@@ -4,3 +4,4 @@ pub mod Parts
 pub mod Frames
 pub mod Steps
 pub mod Laws
+pub mod Elements

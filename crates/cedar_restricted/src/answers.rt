@@ -9,6 +9,9 @@ ghost use Rattle.cedar_data.specs.Residuals.{partial_view, residual_term};
 ghost use Rattle.cedar_data.specs.Sound.{whats};
 ghost use mathlib.Core.Bool.{Bool-set};
 
+mod adding;
+
+use adding::{mixed_with, values_with};
 use cedar_data::{PartialValue, ResidualExpr, Value};
 use cedar_expressions::Expr;
 use std::alloc::{AllocError, Global};
@@ -31,6 +34,7 @@ pub struct Mixed {
 
 impl Answers {
     ghost use Rattle.cedar_restricted.specs.Parts.{count, Are};
+    ghost use Rattle.cedar_restricted.specs.Elements.{AreWith};
 
     /// How many there are.
     pub fn len(&self) -> usize
@@ -47,24 +51,11 @@ impl Answers {
         ensures count { IfOk result (λ a. count a ≡ suc (count self)) }
         ensures answers { IfOk result
             (λ a. (ps : List model.PartialValue) → Are self ps → Are a (ps ++ partial_view answer ∷ [])) }
+        ensures values { IfOk result (λ a. AreWith self answer a) }
     {
         match self {
-            Answers::Values(values) => match answer {
-                PartialValue::Value(value) => Ok(Answers::Values(with_value(values, value)?)),
-                PartialValue::Residual(residual) => {
-                    let exprs = exprs_of(alloc, values.as_slice())?;
-                    Ok(Answers::Mixed(first_residual(exprs, residual)?))
-                }
-            },
-            Answers::Mixed(mixed) => match answer {
-                PartialValue::Value(value) => {
-                    let expr = value.to_expr(alloc)?;
-                    Ok(Answers::Mixed(mixed.with(expr)?))
-                }
-                PartialValue::Residual(residual) => {
-                    Ok(Answers::Mixed(mixed.with(residual.into_expr())?))
-                }
-            },
+            Answers::Values(values) => values_with(alloc, values, answer),
+            Answers::Mixed(mixed) => mixed_with(alloc, mixed, answer),
         }
     }
 }

@@ -1,5 +1,5 @@
 //! The evaluator of restricted expressions.
-ghost use Rattle.std.specs.Prelude.{◌≡◌, ◌≢◌, ◌≤◌, IfOk};
+ghost use Rattle.std.specs.Prelude.{◌≡◌, ◌≢◌, ◌≤◌, ℕ, IfOk};
 ghost use Rattle.cedar_model.specs.Failures.{limit};
 ghost use Rattle.cedar_model.specs.Settings.{Setting};
 ghost use Rattle.cedar_model.specs.Agreement.{height};
@@ -7,10 +7,11 @@ ghost use Rattle.cedar_model.specs.Rules.{Meets};
 ghost use Rattle.cedar_model.specs.Restricted.{IsSoundPart};
 ghost use Rattle.cedar_model.specs.RestrictedLaws.{HoldsUnknown};
 ghost use Rattle.cedar_extensions.specs.Extensions.{extensions_view, calls_of};
-ghost use Rattle.cedar_restricted_expressions.specs.Views.{borrowed_term, borrowed_loc};
-ghost use Rattle.cedar_data.specs.Residuals.{partial_view, partial_loc};
+ghost use Rattle.cedar_restricted_expressions.specs.Views.{borrowed_expr, borrowed_term, borrowed_loc};
+ghost use Rattle.cedar_data.specs.Residuals.{partial_view, partial_loc, IfValue};
 ghost use Rattle.cedar_restricted.specs.Evaluations.{partial_answer, value_answer, IsBare, IsAnswerWithin};
 ghost use Rattle.cedar_restricted.specs.Evaluations.{IsValueWithin};
+ghost use Rattle.cedar_restricted.specs.Elements.{ElementsStand};
 
 use crate::errors::residual_left;
 use crate::machine::Restricted;
@@ -45,7 +46,8 @@ impl<'x, 'f> RestrictedEvaluator<'x, 'f> {
     /// function, `WrongNumArguments` where it takes more or fewer, or the function's own error, at the call's location
     /// where it has none. Fails with `RecursionLimit` exactly where the evaluation goes more levels deep than the
     /// limit, which it never does for an expression that is no higher; it is at the location of the nearest expression
-    /// around that has one.
+    /// around that has one. The elements of a set that is its value stand where the parts do of which they are the
+    /// values: of equal ones the first stays, with its location; and so do those of a set in it.
     pub fn partial_interpret(
         &self,
         alloc: Global,
@@ -57,6 +59,7 @@ impl<'x, 'f> RestrictedEvaluator<'x, 'f> {
         ensures place { IfOk result (λ p. partial_loc p ≡ borrowed_loc e.entry) }
         ensures restricted { IfOk result (λ p. IsSoundPart (partial_view p)) }
         ensures unknown { IfOk result (λ p. HoldsUnknown (partial_view p)) }
+        ensures elements { (n : ℕ) → IfOk result (λ p. IfValue p (ElementsStand n (borrowed_expr e.entry))) }
         ensures low { height (borrowed_term e.entry) ≤ self.now.limit → partial_answer result ≢ limit }
     {
         match e.to_owned() {
@@ -82,6 +85,7 @@ impl<'x, 'f> RestrictedEvaluator<'x, 'f> {
             Meets (IsValueWithin s (calls_of self.now.extensions.now) self.now.limit (borrowed_term e.entry))
             (value_answer result) }
         ensures place { IfOk result (λ v. v.loc ≡ borrowed_loc e.entry) }
+        ensures elements { (n : ℕ) → IfOk result (ElementsStand n (borrowed_expr e.entry)) }
         ensures low { height (borrowed_term e.entry) ≤ self.now.limit → value_answer result ≢ limit }
     {
         match self.partial_interpret(alloc, e) {

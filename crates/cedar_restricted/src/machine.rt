@@ -6,6 +6,7 @@ ghost use Rattle.cedar_extensions.specs.Extensions.{extensions_view, calls_of};
 ghost use Rattle.cedar_frames.specs.Frames.{Resumes, Fewer, Below};
 ghost use Rattle.cedar_restricted.specs.Evaluations.{ends_all, limit_error, want_error};
 ghost use Rattle.cedar_restricted.specs.Frames.{Waits, IsRight, left_of};
+ghost use Rattle.cedar_restricted.specs.Elements.{AnswerStands, FrameStands, ended_stands};
 ghost use Rattle.cedar_restricted.specs.Laws.{right_limit, right_want, right_upward, limit_ends, some_left, some_most};
 
 use crate::errors::{is_final, with_enclosing_loc};
@@ -32,9 +33,9 @@ impl<'x, 'f> Machine for Restricted<'x, 'f> {
 
     type Answer = Result<PartialValue, EvaluationError>;
 
-    ghost right = { λ s k t a. IsRight (extensions_view s.extensions.now) (calls_of s.extensions.now) k t a };
+    ghost right = { λ s k t a. IsRight (extensions_view s.extensions.now) (calls_of s.extensions.now) k t a × AnswerStands t a };
 
-    ghost waits = { λ s k f t c. Waits (extensions_view s.extensions.now) (calls_of s.extensions.now) k f t c };
+    ghost waits = { λ s k f t c. Waits (extensions_view s.extensions.now) (calls_of s.extensions.now) k f t c × FrameStands f t c };
 
     ghost left_of = { left_of };
 
@@ -74,14 +75,16 @@ impl<'x, 'f> Machine for Restricted<'x, 'f> {
         Err(EvaluationError::Memory(AllocError))
     }
 
-    ghost right_limit = { λ s t. right_limit (extensions_view s.extensions.now) (calls_of s.extensions.now) t };
+    ghost right_limit = { λ s t. (right_limit (extensions_view s.extensions.now) (calls_of s.extensions.now) t, λ n. tt) };
 
-    ghost right_want = { λ s k t. right_want (extensions_view s.extensions.now) (calls_of s.extensions.now) k t };
+    ghost right_want = { λ s k t. (right_want (extensions_view s.extensions.now) (calls_of s.extensions.now) k t, λ n. tt) };
 
     ghost limit_ends = { limit_ends };
 
-    ghost right_upward = { λ s k f t c a.
-        right_upward (extensions_view s.extensions.now) (calls_of s.extensions.now) k f t c a };
+    ghost right_upward = { λ s k f t c a ends waits right. (
+      right_upward (extensions_view s.extensions.now) (calls_of s.extensions.now) k f t c a ends waits.0 right.0,
+      ended_stands t a ends,
+    ) };
 
     ghost some_left = { some_left };
 
@@ -97,7 +100,8 @@ impl<'x, 'f> Restricted<'x, 'f> {
         expr: Expr,
         limit: usize,
     ) -> Result<PartialValue, EvaluationError>
-        ensures { IsRight (extensions_view self.now.extensions.now) (calls_of self.now.extensions.now) limit expr result }
+        ensures right { IsRight (extensions_view self.now.extensions.now) (calls_of self.now.extensions.now) limit expr result }
+        ensures elements { AnswerStands expr result }
     {
         let mut stack = Stack::new(alloc, limit);
         match interpret_on(self, alloc, &mut stack, expr) {

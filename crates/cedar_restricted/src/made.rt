@@ -11,10 +11,12 @@ ghost use Rattle.cedar_model.specs.Shapes.{has_unknown};
 ghost use Rattle.cedar_names.specs.Names.{name_text};
 ghost use Rattle.cedar_expressions.specs.View.{view, terms_view};
 ghost use Rattle.cedar_data.specs.Sound.{whats};
+ghost use Rattle.cedar_data.specs.Residuals.{IfValue};
 ghost use Rattle.cedar_extensions.specs.Extensions.{extensions_view, calls_of};
 ghost use Rattle.cedar_restricted.specs.Evaluations.{AnswersWith, partial_answer};
 ghost use Rattle.cedar_restricted.specs.declared.whole.Whole.TheVariants as wholes;
 ghost use Rattle.cedar_restricted.specs.Parts.{HasKeys, count, set_made, record_made, CallMakes, Makes};
+ghost use Rattle.cedar_restricted.specs.Elements.{IsMadeOf};
 ghost use Rattle.cedar_restricted.specs.Keys.{key_order, texts_of, fields_named, under};
 
 use crate::answers::{Answers, Mixed};
@@ -36,8 +38,9 @@ pub(crate) fn whole_of(
     answers: Answers,
 ) -> Result<PartialValue, EvaluationError>
     requires { HasKeys whole (count answers) }
-    ensures { Meets (Makes (extensions_view extensions.now) (calls_of extensions.now) whole answers)
+    ensures answer { Meets (Makes (extensions_view extensions.now) (calls_of extensions.now) whole answers)
         (partial_answer result) }
+    ensures elements { whole ≡ wholes.Set → IfOk result (λ p. IfValue p (IsMadeOf answers)) }
 {
     match whole {
         Whole::Set => set_of(alloc, answers),
@@ -47,7 +50,8 @@ pub(crate) fn whole_of(
 }
 
 fn set_of(alloc: Global, answers: Answers) -> Result<PartialValue, EvaluationError>
-    ensures { AnswersWith result (set_made answers) }
+    ensures answer { AnswersWith result (set_made answers) }
+    ensures elements { IfOk result (λ p. IfValue p (IsMadeOf answers)) }
 {
     match answers {
         Answers::Values(values) => Ok(PartialValue::Value(Value::set(alloc, values, None)?)),

@@ -1,9 +1,10 @@
 //! Sets, records and calls, part by part: the frame in which an evaluator waits for their parts.
-ghost use Rattle.std.specs.Prelude.{◌≡◌, ◌<◌, ◌≤◌, length, IfOk, IfSome};
+ghost use Rattle.std.specs.Prelude.{◌≡◌, ℕ, ◌<◌, ◌≤◌, length, IfOk, IfSome};
 ghost use Rattle.std.specs.List.Sorted.{IsStrictlySortedBy};
 ghost use Rattle.cedar_expressions.specs.View.{terms_view, fields_view};
 ghost use Rattle.cedar_restricted.specs.Keys.{key_order, texts_of, fields_named};
 ghost use Rattle.cedar_restricted.specs.Parts.{HasKeys, HasKeys-prop, count};
+ghost use Rattle.cedar_restricted.specs.declared.whole.Whole.TheVariants as wholes;
 
 use crate::answers::Answers;
 use crate::errors::with_enclosing_loc;
@@ -40,6 +41,7 @@ impl PartsFrame {
     ghost use Rattle.cedar_names.specs.Names.{name_text};
     ghost use Rattle.cedar_extensions.specs.Extensions.{extensions_view, calls_of};
     ghost use Rattle.cedar_restricted.specs.Frames.{Begins, GoesOn, Reads};
+    ghost use Rattle.cedar_restricted.specs.Elements.{FirstStand, SetLeads, SetGoesOn};
 
     /// A set at this location, before any part has answered.
     pub fn set(
@@ -48,8 +50,9 @@ impl PartsFrame {
         parts: &Rc<Vec<Expr>>,
         loc: Option<Loc>,
     ) -> NextPart
-        ensures { Begins (extensions_view extensions.now) (calls_of extensions.now)
+        ensures begins { Begins (extensions_view extensions.now) (calls_of extensions.now)
             (set_of (terms_view parts.now.value.items)) loc result }
+        ensures elements { SetLeads parts.now.value.items result }
     {
         match parts.clone() {
             Ok(parts) => PartsFrame::read(
@@ -127,7 +130,8 @@ impl PartsFrame {
         extensions: &Extensions<'_>,
         answer: Result<PartialValue, EvaluationError>,
     ) -> NextPart
-        ensures { GoesOn (extensions_view extensions.now) (calls_of extensions.now) self answer result }
+        ensures goes_on { GoesOn (extensions_view extensions.now) (calls_of extensions.now) self answer result }
+        ensures elements { SetGoesOn self answer result }
     {
         match answer {
             Ok(part) => match self.answers.with(alloc, part) {
@@ -158,7 +162,9 @@ impl PartsFrame {
     ) -> NextPart
         requires keys { HasKeys whole (length parts.value.items) }
         requires no_more { count answers ≤ length parts.value.items }
-        ensures { Reads (extensions_view extensions.now) (calls_of extensions.now) whole parts answers loc result }
+        ensures reads { Reads (extensions_view extensions.now) (calls_of extensions.now) whole parts answers loc result }
+        ensures elements { whole ≡ wholes.Set → ((n : ℕ) → FirstStand n parts.value.items answers) →
+            SetLeads parts.value.items result }
     {
         let done = answers.len();
         if done < parts.len() {

@@ -27,12 +27,14 @@ use std::rc::{Rc, RcStr};
 impl<'x, 'f> Restricted<'x, 'f> {
     ghost use Rattle.cedar_extensions.specs.Extensions.{extensions_view, calls_of};
     ghost use Rattle.cedar_restricted.specs.Frames.{Leads, left_of};
+    ghost use Rattle.cedar_restricted.specs.Elements.{SetLeads, StepStands};
 
     // Looks at an expression: a literal is its value, an unknown is left, and the others have parts.
-    #[tactic(auto, using(cedar_expressions::proofs::Levels::levels, crate::specs::Laws::below_any))]
+    #[tactic(auto, using(cedar_expressions::proofs::Levels::levels, cedar_expressions::proofs::NodeLevels::nodes, crate::specs::Laws::below_any))]
     pub(crate) fn first(&self, alloc: Global, e: &Expr) -> NextPart
         ensures right { (k : ℕ) → Leads (extensions_view self.now.extensions.now)
             (calls_of self.now.extensions.now) k e.now result }
+        ensures elements { StepStands e.now result }
         ensures below { Below left_of (2 ^ 64 + 1) result }
     {
         match e.expr_kind() {
@@ -89,8 +91,9 @@ impl<'x, 'f> Restricted<'x, 'f> {
 
     fn set(&self, alloc: Global, e: &Expr, parts: &Rc<Vec<Expr>>) -> NextPart
         requires { view e.now ≡ Terms.set_of (terms_view parts.now.value.items) }
-        ensures { (k : ℕ) → Leads (extensions_view self.now.extensions.now)
+        ensures right { (k : ℕ) → Leads (extensions_view self.now.extensions.now)
             (calls_of self.now.extensions.now) k e.now result }
+        ensures elements { SetLeads parts.now.value.items result }
     {
         PartsFrame::set(alloc, self.extensions, parts, e.source_loc().copied())
     }

@@ -6,6 +6,9 @@ use Rattle.cedar_expressions.specs.View.{view}
 use Rattle.cedar_extensions.specs.Extensions.{extensions_view, calls_of}
 use Rattle.cedar_extensions.specs.StoredLaws.{calls_functional, calls_meet_no_limit, calls_sound}
 use Rattle.cedar_restricted.specs.Evaluations.{partial_answer, IsAnswerWithin}
+use Rattle.cedar_expressions.specs.Nodes.{parts_of}
+use Rattle.cedar_restricted_expressions.specs.Views.{borrowed_expr}
+use Rattle.cedar_restricted.specs.Elements.{answer_for}
 use Rattle.cedar_restricted.specs.Frames.{IsRight}
 use Rattle.cedar_restricted.proofs.Promises.{promised, low_enough, sound_part}
 use Rattle.cedar_restricted.proofs.evaluator.RestrictedEvaluator.partial_interpret.Goals as goal
@@ -20,7 +23,7 @@ returns-in-Ok-clause-answer g c s b ok =
     let is_r : is_restricted (view c.from-expr.result) ≡ true = ap (λ e. is_restricted (view e)) c.from-expr.ensures ∙
     c.in-Ok.restricted.restricted in
     let right : IsRight x calls levels c.from-expr.result r =
-    record { answer = c.evaluated.ensures.answer; place = c.evaluated.ensures.place } in
+    record { answer = c.evaluated.ensures.right.answer; place = c.evaluated.ensures.right.place } in
     let seen = ap view c.from-expr.ensures ∙ c.in-Ok.ensures.view in
     subst (λ t. IsAnswerWithin s calls levels t (partial_answer r)) seen
     (promised x calls levels c.from-expr.result r is_r right (calls_functional stored) s b ok)
@@ -35,7 +38,7 @@ returns-in-Ok-clause-restricted g c =
     let is_r : is_restricted (view c.from-expr.result) ≡ true = ap (λ e. is_restricted (view e)) c.from-expr.ensures ∙
     c.in-Ok.restricted.restricted in
     let right : IsRight x calls levels c.from-expr.result r =
-    record { answer = c.evaluated.ensures.answer; place = c.evaluated.ensures.place } in
+    record { answer = c.evaluated.ensures.right.answer; place = c.evaluated.ensures.right.place } in
     sound_part x calls levels c.from-expr.result r is_r right (calls_sound stored)
 
 pub returns-in-Ok-clause-low : goal.returns-in-Ok-clause-low
@@ -48,7 +51,13 @@ returns-in-Ok-clause-low g c =
     let is_r : is_restricted (view c.from-expr.result) ≡ true = ap (λ e. is_restricted (view e)) c.from-expr.ensures ∙
     c.in-Ok.restricted.restricted in
     let right : IsRight x calls levels c.from-expr.result r =
-    record { answer = c.evaluated.ensures.answer; place = c.evaluated.ensures.place } in
+    record { answer = c.evaluated.ensures.right.answer; place = c.evaluated.ensures.right.place } in
     let seen = ap view c.from-expr.ensures ∙ c.in-Ok.ensures.view in
     subst (λ t. height t ≤ levels → partial_answer r ≢ limit) seen
     (low_enough x calls levels c.from-expr.result r is_r right (calls_meet_no_limit stored))
+
+pub returns-in-Ok-clause-elements : goal.returns-in-Ok-clause-elements
+returns-in-Ok-clause-elements g c n =
+    answer_for n c.from-expr.result (borrowed_expr c.args.e) c.evaluated.result
+    (ap view c.from-expr.ensures ∙ c.in-Ok.ensures.view) (ap parts_of c.from-expr.ensures ∙ c.in-Ok.ensures.parts)
+    (c.evaluated.ensures.elements n)

@@ -4,9 +4,9 @@ use Rattle.cedar_restricted.specs.Frames.{Begins}
 use Rattle.cedar_restricted.specs.Laws.{begins_right}
 use Rattle.cedar_restricted.proofs.machine.Restricted.set.Goals as goal
 
-pub returns : goal.returns
-returns g c k =
+pub returns-clause-right : goal.returns-clause-right
+returns-clause-right g c k =
     let x = extensions_view c.args.self.now.extensions.now in
     let calls = calls_of c.args.self.now.extensions.now in
-    let begun = subst (λ t. Begins x calls t c.copied.result c.set.result) (sym c.requires) c.set.ensures in
+    let begun = subst (λ t. Begins x calls t c.copied.result c.set.result) (sym c.requires) c.set.ensures.begins in
     begins_right x calls k c.args.e.now c.copied.result c.set.result (c.copied.ensures ∙ c.source_loc.ensures) begun

@@ -18,4 +18,4 @@ returns-in-Ok-clone g c =
     (wholes.Call c.in-Ok.fn_name) c.in-Ok-clone.args (answereds.Values c.new.result)
     c.args.loc (call (name_text c.args.fn_name.now) (terms_view c.args.args.now.value.items))
     c.read.result (λ i. call (name i) (terms_view (args i).items)) tt
-    (ap (λ l. all_values (whats l)) (sym c.new.ensures.items), ap length c.new.ensures.items) c.read.ensures
+    (ap (λ l. all_values (whats l)) (sym c.new.ensures.items), ap length c.new.ensures.items) c.read.ensures.reads

@@ -16,4 +16,4 @@ returns-in-Ok g c =
     c.args.loc (record_of (fields_view c.args.pairs.now.entries))
     c.read.result (ap record_of c.in-Ok.ensures.fields)
     c.in-Ok.ensures.keys (ap (λ l. all_values (whats l)) (sym c.new.ensures.items), ap length c.new.ensures.items)
-    c.read.ensures
+    c.read.ensures.reads
