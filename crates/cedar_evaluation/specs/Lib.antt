@@ -9,5 +9,6 @@ pub mod Operands
 pub mod Stored
 pub mod Frames
 pub mod PartsLaws
+pub mod Elements
 pub mod Laws
 pub mod Promises

@@ -9,6 +9,7 @@ ghost use Rattle.cedar_values.specs.Answers.{AnswersWith};
 ghost use Rattle.cedar_frames.specs.declared.machine.Step.TheVariants.{Done};
 ghost use Rattle.cedar_evaluation.specs.declared.stopped.Stopped.TheVariants as stops;
 ghost use Rattle.cedar_evaluation.specs.Tasks.{Gives};
+ghost use Rattle.cedar_evaluation.specs.Elements.{IsDone};
 
 use crate::failed::Failed;
 use crate::frame::Next;
@@ -35,7 +36,8 @@ pub(crate) fn answered(alloc: Global, answer: Result<PartialValue, EvaluationErr
 // This value or residual.
 #[inline(never)]
 pub(crate) fn done(alloc: Global, part: PartialValue) -> Next
-    ensures { Gives result (answers (partial_view part)) }
+    ensures answer { Gives result (answers (partial_view part)) }
+    ensures whole { IsDone part result }
 {
     match Box::new(alloc, part) {
         Ok(part) => Step::Done(Ok(part)),

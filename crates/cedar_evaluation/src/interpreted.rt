@@ -1,10 +1,12 @@
 //! The call that evaluates an expression.
-ghost use Rattle.std.specs.Prelude.{◌≡◌, IfOk};
+ghost use Rattle.std.specs.Prelude.{◌≡◌, ℕ, IfOk};
 ghost use Rattle.cedar_model.specs.RestrictedLaws.{HoldsUnknown};
 ghost use Rattle.cedar_model.specs.Rules.{Meets, Runs};
 ghost use Rattle.cedar_model.specs.Settings.{RequestPart};
 ghost use Rattle.cedar_expressions.specs.View.{view, expr_loc};
-ghost use Rattle.cedar_data.specs.Residuals.{partial_view, partial_loc};
+ghost use Rattle.cedar_expressions.specs.Nodes.{parts_of};
+ghost use Rattle.cedar_data.specs.Residuals.{partial_view, partial_loc, IfValue};
+ghost use Rattle.cedar_restricted.specs.Elements.{ElementsStand};
 ghost use Rattle.cedar_values.specs.Answers.{partial_answer};
 ghost use Rattle.cedar_values.specs.Failures.{failure_of};
 ghost use Rattle.cedar_evaluation.specs.Settings.{Speaks, setting_of, calls_in};
@@ -23,7 +25,9 @@ use std::alloc::{AllocError, Global};
 impl<'e, 'g, 'f> Evaluation<'e, 'g, 'f> {
     /// The value of the expression, or what is left of it, at the expression's location; at most `limit` levels deep, where an
     /// expression is one level and its parts one more. Fails with the first error in the order of evaluation, and with
-    /// `RecursionLimit` where it would go deeper, at the location of the nearest expression around that has one.
+    /// `RecursionLimit` where it would go deeper, at the location of the nearest expression around that has one. The elements
+    /// of a set that is its value stand where the parts do of which they are the values: of equal ones the first stays, with
+    /// its location; and so do those of a set in it.
     pub fn interpret(
         &self,
         alloc: Global,
@@ -33,6 +37,7 @@ impl<'e, 'g, 'f> Evaluation<'e, 'g, 'f> {
         ensures promised { (r : RequestPart) → Speaks r self.now → Meets (IsPromised (setting_of r self.now) (calls_in self.now) limit (view e.now)) (partial_answer result) }
         ensures place { IfOk result (λ p. partial_loc p ≡ expr_loc e.now) }
         ensures unknown { IfOk result (λ p. HoldsUnknown (partial_view p)) }
+        ensures elements { (n : ℕ) → IfOk result (λ p. IfValue p (ElementsStand n e.now)) }
     {
         match copied(alloc, e) {
             Ok(expr) => self.evaluated(alloc, expr, limit),
@@ -49,6 +54,7 @@ impl<'e, 'g, 'f> Evaluation<'e, 'g, 'f> {
     ) -> Result<PartialValue, EvaluationError>
         ensures answer { (r : RequestPart) → Speaks r self.now → Meets (Runs (setting_of r self.now) (calls_in self.now) limit (view expr.value)) (partial_answer result) }
         ensures place { IfOk result (λ p. partial_loc p ≡ expr_loc expr.value) }
+        ensures elements { (n : ℕ) → IfOk result (λ p. IfValue p (ElementsStand n expr.value)) }
     {
         let mut stack = Stack::new(alloc, limit);
         match interpret_on(self, alloc, &mut stack, Part::Own(expr)) {
@@ -62,6 +68,7 @@ impl<'e, 'g, 'f> Evaluation<'e, 'g, 'f> {
 fn copied(alloc: Global, e: &Expr) -> Result<Box<Expr>, AllocError>
     ensures view { IfOk result (λ x. view x.value ≡ view e.now) }
     ensures loc { IfOk result (λ x. expr_loc x.value ≡ expr_loc e.now) }
+    ensures parts { IfOk result (λ x. parts_of x.value ≡ parts_of e.now) }
 {
     Ok(Box::new(alloc, e.clone()?)?)
 }

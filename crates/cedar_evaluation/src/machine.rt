@@ -2,15 +2,16 @@
 ghost use Rattle.std.specs.Prelude.{◌≡◌, ℕ, ◌+◌, ◌^◌, Ok, Err, true};
 ghost use Rattle.cedar_model.specs.Failures.{answers, fails};
 ghost use Rattle.cedar_model.specs.Settings.{RequestPart};
-ghost use Rattle.cedar_data.specs.Residuals.{partial_view, partial_loc};
+ghost use Rattle.cedar_data.specs.Residuals.{partial_view, partial_loc, partial_inside};
 ghost use Rattle.cedar_values.specs.Failures.{failure_of};
 ghost use Rattle.cedar_frames.specs.declared.machine.Step.TheVariants.{Done};
 ghost use Rattle.cedar_evaluation.specs.declared.stopped.Stopped.TheVariants as stops;
-ghost use Rattle.cedar_evaluation.specs.Parts.{part_term};
+ghost use Rattle.cedar_evaluation.specs.Parts.{part_expr, part_term};
 ghost use Rattle.cedar_evaluation.specs.Endings.{outcome_answer, stopped_failure};
 ghost use Rattle.cedar_evaluation.specs.Settings.{Speaks, setting_of, calls_in};
 ghost use Rattle.cedar_evaluation.specs.Tasks.{Begins, Leads, LeftFewer};
 ghost use Rattle.cedar_evaluation.specs.Frames.{IsRight, Waits, IsPlaced, left_of, ends_all};
+ghost use Rattle.cedar_evaluation.specs.Elements.{OutcomeStands, FrameStands, TaskGoesOn, NextStands, IsSame, StaysSame, ended_stands};
 ghost use Rattle.cedar_evaluation.specs.Laws.{right_limit, right_want, right_upward, limit_ends, some_left, some_most};
 
 use crate::answers::passed_on;
@@ -32,9 +33,9 @@ impl<'e, 'g, 'f> Machine for Evaluation<'e, 'g, 'f> {
 
     type Answer = Outcome;
 
-    ghost right = { λ s k t a. IsRight (λ r. Speaks r s) (λ r. setting_of r s) (calls_in s) k t a };
+    ghost right = { λ s k t a. IsRight (λ r. Speaks r s) (λ r. setting_of r s) (calls_in s) k t a × OutcomeStands t a };
 
-    ghost waits = { λ s k f t c. Waits (λ r. Speaks r s) (λ r. setting_of r s) (calls_in s) k f t c };
+    ghost waits = { λ s k f t c. Waits (λ r. Speaks r s) (λ r. setting_of r s) (calls_in s) k f t c × FrameStands f t c };
 
     ghost left_of = { left_of };
 
@@ -74,13 +75,13 @@ impl<'e, 'g, 'f> Machine for Evaluation<'e, 'g, 'f> {
         Err(Stopped::Memory)
     }
 
-    ghost right_limit = { λ s t. right_limit (λ r. Speaks r s) (λ r. setting_of r s) (calls_in s) t };
+    ghost right_limit = { λ s t. (right_limit (λ r. Speaks r s) (λ r. setting_of r s) (calls_in s) t, λ n. tt) };
 
-    ghost right_want = { λ s k t. right_want (λ r. Speaks r s) (λ r. setting_of r s) (calls_in s) k t };
+    ghost right_want = { λ s k t. (right_want (λ r. Speaks r s) (λ r. setting_of r s) (calls_in s) k t, λ n. tt) };
 
     ghost limit_ends = { limit_ends };
 
-    ghost right_upward = { λ s k f t c a. right_upward (λ r. Speaks r s) (λ r. setting_of r s) (calls_in s) k f t c a };
+    ghost right_upward = { λ s k f t c a ends waits right. (right_upward (λ r. Speaks r s) (λ r. setting_of r s) (calls_in s) k f t c a ends waits.0 right.0, ended_stands t a ends) };
 
     ghost some_left = { some_left };
 
@@ -90,7 +91,8 @@ impl<'e, 'g, 'f> Machine for Evaluation<'e, 'g, 'f> {
 impl<'e, 'g, 'f> Evaluation<'e, 'g, 'f> {
     // What comes first of an expression.
     fn first(&self, alloc: Global, part: &Part) -> Next
-        ensures { (r : RequestPart) (k : ℕ) → Speaks r self.now → Begins (setting_of r self.now) (calls_in self.now) k (part_term part.now) result }
+        ensures begins { (r : RequestPart) (k : ℕ) → Speaks r self.now → Begins (setting_of r self.now) (calls_in self.now) k (part_term part.now) result }
+        ensures elements { NextStands (part_expr part.now) result }
     {
         match self.begin(alloc, part.as_expr()) {
             Ok(next) => next,
@@ -102,6 +104,7 @@ impl<'e, 'g, 'f> Evaluation<'e, 'g, 'f> {
     fn resumed(&self, alloc: Global, task: Task, answer: Outcome) -> Next
         ensures leads { (r : RequestPart) (k : ℕ) → Speaks r self.now → Leads (setting_of r self.now) (calls_in self.now) k task (outcome_answer answer) result }
         ensures fewer { LeftFewer task result }
+        ensures elements { TaskGoesOn task answer result }
     {
         match answer {
             Ok(value) => self.valued(alloc, task, value),
@@ -113,6 +116,7 @@ impl<'e, 'g, 'f> Evaluation<'e, 'g, 'f> {
     fn stopped(&self, alloc: Global, task: Task, stopped: Stopped) -> Next
         ensures leads { (r : RequestPart) (k : ℕ) → Speaks r self.now → Leads (setting_of r self.now) (calls_in self.now) k task (fails (stopped_failure stopped)) result }
         ensures fewer { LeftFewer task result }
+        ensures elements { TaskGoesOn task (Err stopped) result }
     {
         match stopped {
             Stopped::Memory => Step::Done(Err(Stopped::Memory)),
@@ -125,6 +129,7 @@ impl<'e, 'g, 'f> Evaluation<'e, 'g, 'f> {
     fn valued(&self, alloc: Global, task: Task, value: Box<PartialValue>) -> Next
         ensures leads { (r : RequestPart) (k : ℕ) → Speaks r self.now → Leads (setting_of r self.now) (calls_in self.now) k task (answers (partial_view value.value)) result }
         ensures fewer { LeftFewer task result }
+        ensures elements { TaskGoesOn task (Ok value) result }
     {
         match task {
             Task::Parts(frame) => {
@@ -146,6 +151,7 @@ impl<'e, 'g, 'f> Evaluation<'e, 'g, 'f> {
     fn kept_or_failed(&self, alloc: Global, task: Task, failed: Box<Failed>) -> Next
         ensures leads { (r : RequestPart) (k : ℕ) → Speaks r self.now → Leads (setting_of r self.now) (calls_in self.now) k task (fails (failure_of failed.value.error)) result }
         ensures fewer { LeftFewer task result }
+        ensures elements { TaskGoesOn task (Err (stops.Failed failed)) result }
     {
         match task {
             Task::Parts(frame) => passed_on(frame, failed),
@@ -159,7 +165,8 @@ impl<'e, 'g, 'f> Evaluation<'e, 'g, 'f> {
 
 // The same at this location.
 fn placed(alloc: Global, next: Next, loc: Option<Loc>) -> Step<Frame, Part, Outcome>
-    ensures { IsPlaced next loc result }
+    ensures place { IsPlaced next loc result }
+    ensures same { StaysSame next result }
 {
     match next {
         Step::Done(Ok(part)) => Step::Done(part_at(alloc, part, loc)),
@@ -170,7 +177,8 @@ fn placed(alloc: Global, next: Next, loc: Option<Loc>) -> Step<Frame, Part, Outc
 
 // The value or residual at this location.
 fn part_at(alloc: Global, mut part: Box<PartialValue>, loc: Option<Loc>) -> Outcome
-    ensures { IsPlaced (Done (Ok part)) loc (Done result) }
+    ensures place { IsPlaced (Done (Ok part)) loc (Done result) }
+    ensures same { IsSame (Ok part) result }
 {
     if is_value_put(&mut part, loc) {
         Ok(part)
@@ -182,6 +190,7 @@ fn part_at(alloc: Global, mut part: Box<PartialValue>, loc: Option<Loc>) -> Outc
 // Puts a value at this location; a residual stays.
 fn is_value_put(part: &mut PartialValue, loc: Option<Loc>) -> bool
     ensures view { partial_view part.new ≡ partial_view part.old }
+    ensures inside { partial_inside part.new ≡ partial_inside part.old }
     ensures put { result ≡ true → partial_loc part.new ≡ loc }
 {
     match part {
@@ -197,7 +206,8 @@ fn is_value_put(part: &mut PartialValue, loc: Option<Loc>) -> bool
 #[cold]
 #[inline(never)]
 fn residual_at(alloc: Global, part: Box<PartialValue>, loc: Option<Loc>) -> Outcome
-    ensures { IsPlaced (Done (Ok part)) loc (Done result) }
+    ensures place { IsPlaced (Done (Ok part)) loc (Done result) }
+    ensures same { IsSame (Ok part) result }
 {
     match Box::new(alloc, Box::into_inner(part).with_maybe_source_loc(loc)) {
         Ok(part) => Ok(part),

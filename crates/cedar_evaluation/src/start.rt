@@ -13,6 +13,7 @@ ghost use Rattle.cedar_frames.specs.declared.machine.Step.TheVariants.{Wait};
 ghost use Rattle.cedar_evaluation.specs.Settings.{Speaks, setting_of, calls_in, given_for};
 ghost use Rattle.cedar_evaluation.specs.Tasks.{Begins, Gives};
 ghost use Rattle.cedar_evaluation.specs.PartsLaws.{IsTaken};
+ghost use Rattle.cedar_evaluation.specs.Elements.{IsWhole, NextStands, SetNext};
 
 use crate::answers::done;
 use crate::boxed::boxed_both;
@@ -40,7 +41,8 @@ impl<'e, 'g, 'f> Evaluation<'e, 'g, 'f> {
     // Looks at an expression: answers it, or waits for its first part.
     #[tactic(auto, using(cedar_expressions::proofs::Levels::levels))]
     pub(crate) fn begin(&self, alloc: Global, e: &Expr) -> Result<Next, AllocError>
-        ensures { (r : RequestPart) (k : ℕ) → Speaks r self.now → IfOk result (Begins (setting_of r self.now) (calls_in self.now) k (view e.now)) }
+        ensures begins { (r : RequestPart) (k : ℕ) → Speaks r self.now → IfOk result (Begins (setting_of r self.now) (calls_in self.now) k (view e.now)) }
+        ensures elements { IfOk result (NextStands e.now) }
     {
         match e.expr_kind() {
             ExprKind::Lit(value) => self.literal(alloc, value),
@@ -181,7 +183,8 @@ impl<'e, 'g, 'f> Evaluation<'e, 'g, 'f> {
         parts: &Rc<Vec<Expr>>,
         loc: Option<Loc>,
     ) -> Result<Next, AllocError>
-        ensures { (r : RequestPart) (k : ℕ) → IfOk result (Begins (setting_of r self.now) (calls_in self.now) k (Terms.set_of (terms_view parts.now.value.items))) }
+        ensures begins { (r : RequestPart) (k : ℕ) → IfOk result (Begins (setting_of r self.now) (calls_in self.now) k (Terms.set_of (terms_view parts.now.value.items))) }
+        ensures elements { IfOk result (SetNext parts.now.value.items) }
     {
         Ok(taken(
             alloc,
@@ -249,7 +252,8 @@ fn slot_unlinked(alloc: Global, slot: SlotId) -> Next
 
 // What comes next of a set, a record or a call.
 pub(crate) fn taken(alloc: Global, next: NextPart) -> Next
-    ensures { IsTaken next result }
+    ensures taken { IsTaken next result }
+    ensures whole { IsWhole next result }
 {
     match next {
         Step::Done(Ok(part)) => done(alloc, part),

@@ -1,14 +1,16 @@
 //! The evaluator.
-ghost use Rattle.std.specs.Prelude.{◌≡◌, ◌≢◌, Option, None, true, Err, IfOk};
+ghost use Rattle.std.specs.Prelude.{◌≡◌, ◌≢◌, ℕ, Option, None, true, Err, IfOk};
 ghost use Rattle.cedar_model.specs.Failures.{fails, out_of_memory};
 ghost use Rattle.cedar_model.specs.RestrictedLaws.{HoldsUnknown};
 ghost use Rattle.cedar_model.specs.Responses.{errs_with, decided, result_of};
 ghost use Rattle.cedar_model.specs.Rules.{Meets};
 ghost use Rattle.cedar_names.specs.declared.names.Loc.{Loc};
 ghost use Rattle.cedar_expressions.specs.View.{view, expr_loc};
-ghost use Rattle.cedar_data.specs.Residuals.{partial_view, partial_loc};
+ghost use Rattle.cedar_data.specs.Sound.{Placed};
+ghost use Rattle.cedar_data.specs.Residuals.{partial_view, partial_loc, IfValue};
 ghost use Rattle.cedar_values.specs.Answers.{partial_answer, value_answer};
 ghost use Rattle.cedar_restricted.specs.Evaluations.{only_values};
+ghost use Rattle.cedar_restricted.specs.Elements.{ElementsStand};
 ghost use Rattle.cedar_evaluation.specs.Settings.{given_for};
 ghost use Rattle.cedar_evaluator.specs.Decisions.{decision_of, partly_decided};
 ghost use Rattle.cedar_evaluator.specs.Variables.{are_of_request};
@@ -41,7 +43,6 @@ impl<'e, 'f> Evaluator<'e, 'f> {
     ghost use Rattle.cedar_layers.specs.Policies.{slots_view, condition_term, policy_view};
     ghost use Rattle.cedar_layers.specs.Stores.{store_view};
     ghost use Rattle.cedar_expressions.specs.Mappings.{mapping_of};
-    ghost use Rattle.cedar_data.specs.Sound.{Placed};
     ghost use Rattle.cedar_extensions.specs.Extensions.{extensions_view};
     ghost use Rattle.cedar_requests.specs.Requests.{request_view};
     ghost use Rattle.cedar_evaluator.specs.Evaluations.{setting_for, setting_of, request_in, calls_in, limit_of, IsPromisedValue, IsDecidedExactly};
@@ -108,7 +109,8 @@ impl<'e, 'f> Evaluator<'e, 'f> {
     /// The value of the expression under these slots, or what is left of it where its value rests on what is unknown, at the
     /// expression's location. Fails with the first error in the order of evaluation, beside an unknown only where that error is
     /// the expression's whatever the unknown stands for; and with `RecursionLimit` exactly where the evaluation goes more levels
-    /// deep than the limit.
+    /// deep than the limit. Where the expression is a set, each element of its value stands where the part does of which it is
+    /// the value: of equal ones the first stays, with its location; and so do the elements of a set in it.
     pub fn partial_interpret(
         &self,
         alloc: Global,
@@ -118,6 +120,7 @@ impl<'e, 'f> Evaluator<'e, 'f> {
         ensures answer { Meets (IsPromised (setting_of self.now (slots_view slots.now)) (calls_in self.now) (limit_of self.now) (view e.now)) (partial_answer result) }
         ensures place { IfOk result (λ p. partial_loc p ≡ expr_loc e.now) }
         ensures unknown { IfOk result (λ p. HoldsUnknown (partial_view p)) }
+        ensures elements { (n : ℕ) → IfOk result (λ p. IfValue p (ElementsStand n e.now)) }
     {
         let evaluation = Evaluation {
             given: &self.given,
@@ -136,6 +139,7 @@ impl<'e, 'f> Evaluator<'e, 'f> {
     ) -> Result<Value, EvaluationError>
         ensures answer { Meets (IsPromisedValue (setting_of self.now (slots_view slots.now)) (calls_in self.now) (limit_of self.now) (view e.now)) (value_answer result) }
         ensures place { IfOk result (λ v. v.loc ≡ expr_loc e.now) }
+        ensures elements { (n : ℕ) → IfOk result (ElementsStand n e.now) }
         ensures known { value_answer result ≢ fails out_of_memory → IsKnownExactly (setting_of self.now (slots_view slots.now)) (calls_in self.now) (limit_of self.now) (view e.now) (value_answer result) }
     {
         only_value(self.partial_interpret(alloc, e, slots))
@@ -172,6 +176,7 @@ impl<'e, 'f> Evaluator<'e, 'f> {
 fn only_value(answer: Result<PartialValue, EvaluationError>) -> Result<Value, EvaluationError>
     ensures answer { value_answer result ≢ fails out_of_memory → value_answer result ≡ only_values (partial_answer answer) }
     ensures place { (l : Option Loc) → IfOk answer (λ p. partial_loc p ≡ l) → IfOk result (λ v. v.loc ≡ l) }
+    ensures value { (Is : Placed → Type 0) → IfOk answer (λ p. IfValue p Is) → IfOk result Is }
 {
     match answer {
         Ok(PartialValue::Value(value)) => Ok(value),

@@ -4,4 +4,4 @@ use Rattle.cedar_evaluation.proofs.evaluation.Evaluation.call.Goals as goal
 
 pub returns : goal.returns
 returns g c r k =
-    parts_begin (setting_of r c.args.self.now) (calls_in c.args.self.now) k _ c.args.loc c.call.result c.taken.result c.call.ensures c.taken.ensures
+    parts_begin (setting_of r c.args.self.now) (calls_in c.args.self.now) k _ c.args.loc c.call.result c.taken.result c.call.ensures c.taken.ensures.taken

@@ -4,6 +4,7 @@ use Rattle.cedar_expressions.specs.View.{view}
 use Rattle.cedar_values.specs.Answers.{partial_answer}
 use Rattle.cedar_extensions.specs.StoredLaws.{calls_functional, calls_meet_no_limit}
 use Rattle.cedar_evaluation.specs.Settings.{setting_of, calls_in}
+use Rattle.cedar_restricted.specs.Elements.{answer_for}
 use Rattle.cedar_evaluation.specs.Promises.{IsPromised, meets_promised}
 use Rattle.cedar_evaluation.proofs.evaluation.Evaluation.interpret.Goals as goal
 
@@ -14,3 +15,8 @@ returns-in-Ok-clause-promised g c r speaks =
     let answer = partial_answer c.evaluated.result in
     subst (λ t. Meets (IsPromised s (calls_in c.args.self.now) c.args.limit t) answer) c.in-Ok.ensures.view
     (meets_promised s (calls_in c.args.self.now) c.args.limit (view c.in-Ok.expr.value) (calls_functional stored) (calls_meet_no_limit stored) refl answer answer refl (c.evaluated.ensures.answer r speaks))
+
+pub returns-in-Ok-clause-elements : goal.returns-in-Ok-clause-elements
+returns-in-Ok-clause-elements g c n =
+    answer_for n c.in-Ok.expr.value c.args.e.now c.evaluated.result c.in-Ok.ensures.view c.in-Ok.ensures.parts
+    (c.evaluated.ensures.elements n)

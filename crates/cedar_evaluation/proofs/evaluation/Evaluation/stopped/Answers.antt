@@ -5,6 +5,7 @@ use Rattle.cedar_frames.specs.declared.machine.Step.TheVariants.{Done}
 use Rattle.cedar_evaluation.specs.Endings.{stopped_failure}
 use Rattle.cedar_evaluation.specs.Settings.{setting_of, calls_in}
 use Rattle.cedar_evaluation.specs.Tasks.{Leads}
+use Rattle.cedar_evaluation.specs.Elements.{TaskGoesOn}
 use Rattle.cedar_evaluation.specs.Laws.{limit_leads}
 use Rattle.cedar_evaluation.proofs.evaluation.Evaluation.stopped.Goals as goal
 
@@ -15,3 +16,7 @@ returns-in-Limit-clause-leads g c r k speaks =
 pub returns-in-Failed-clause-leads : goal.returns-in-Failed-clause-leads
 returns-in-Failed-clause-leads g c r k speaks =
     subst (λ s. Leads (setting_of r c.args.self.now) (calls_in c.args.self.now) k c.args.task (fails (stopped_failure s)) c.kept_or_failed.result) (sym c.in-Failed.is) (c.kept_or_failed.ensures.leads r k speaks)
+
+pub returns-in-Failed-clause-elements : goal.returns-in-Failed-clause-elements
+returns-in-Failed-clause-elements g c =
+    subst (λ s. TaskGoesOn c.args.task (Err s) c.kept_or_failed.result) (sym c.in-Failed.is) c.kept_or_failed.ensures.elements
