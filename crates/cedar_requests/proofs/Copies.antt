@@ -7,6 +7,7 @@ use Rattle.cedar_model.specs.Terms.{one_field}
 use Rattle.cedar_model.specs.Values.{one_represented_at}
 use Rattle.cedar_expressions.specs.declared.expr.Expr.{Expr}
 use Rattle.cedar_expressions.specs.View.{view, fields_view, expr_loc}
+use Rattle.cedar_expressions.specs.Nodes.{parts_of}
 use Rattle.cedar_data.specs.Sound.{Placed, whats_at}
 
 abbrev pub ValuePair : Type 0
@@ -19,9 +20,10 @@ ExprPair = RcStr Global × Expr
 abbrev pub IsCopy : ValuePair → ValuePair → Type 0
 IsCopy e f = (rc_str_bytes f.0 ≡ rc_str_bytes e.0) × (f.1 ≡ e.1)
 
--- the name has the same text, and the expression the same term and location
+-- the name has the same text, and the expression the same term, location and parts
 abbrev pub IsExprCopy : ExprPair → ExprPair → Type 0
-IsExprCopy e f = (rc_str_bytes f.0 ≡ rc_str_bytes e.0) × ((view f.1 ≡ view e.1) × (expr_loc f.1 ≡ expr_loc e.1))
+IsExprCopy e f = (rc_str_bytes f.0 ≡ rc_str_bytes e.0) ×
+    ((view f.1 ≡ view e.1) × (expr_loc f.1 ≡ expr_loc e.1) × (parts_of f.1 ≡ parts_of e.1))
 
 -- the values are the same under the same names
 pub whats_at-copied : (es fs : List ValuePair) → AllZip IsCopy es fs → whats_at fs ≡ whats_at es
