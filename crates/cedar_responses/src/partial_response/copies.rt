@@ -5,6 +5,7 @@ ghost use Rattle.cedar_responses.specs.Responses.{errors_view};
 ghost use Rattle.cedar_responses.specs.Rows.{located_view, true_rows, false_rows, residual_rows};
 
 use super::{EffectEntries, ErrorState, PartialResponse};
+use crate::beside::all_four;
 use crate::err::AuthorizationError;
 use cedar_expressions::Expr;
 use cedar_layers::policies::{Annotations, PolicyID};
@@ -21,14 +22,16 @@ impl Clone for PartialResponse {
             &self.satisfied_permits,
             &self.false_permits,
             &self.residual_permits,
-        )?;
+        );
         let forbids = copied_entries(
             &self.satisfied_forbids,
             &self.false_forbids,
             &self.residual_forbids,
-        )?;
-        let errors = copied_errors(&self.errors)?;
-        let request = self.request.clone()?;
+        );
+        let errors = copied_errors(&self.errors);
+        let request = shared(&self.request);
+        let copied = all_four(permits, forbids, errors, request)?;
+        let (permits, forbids, errors, request) = copied;
         Ok(PartialResponse {
             satisfied_permits: permits.satisfied,
             false_permits: permits.unsatisfied,
@@ -83,6 +86,13 @@ fn copied_residuals(
     ensures { IfOk result (λ m. (effect : Effect) → residual_rows effect m.entries ≡ residual_rows effect entries.now.entries) }
 {
     entries.clone()
+}
+
+// The same, shared.
+fn shared<T: Drop>(held: &Rc<T>) -> Result<Rc<T>, AllocError>
+    ensures { IfOk result (λ r. r.value ≡ held.now.value) }
+{
+    held.clone()
 }
 
 fn copied_errors(errors: &Vec<AuthorizationError>) -> Result<Vec<AuthorizationError>, AllocError>
