@@ -5,6 +5,7 @@ ghost use Rattle.cedar_model.specs.RestrictedLaws.{HoldsUnknown};
 ghost use Rattle.cedar_model.specs.Responses.{errs_with, decided, result_of};
 ghost use Rattle.cedar_model.specs.Rules.{Meets};
 ghost use Rattle.cedar_names.specs.declared.names.Loc.{Loc};
+ghost use Rattle.cedar_expressions.specs.declared.expr.Expr as expressions;
 ghost use Rattle.cedar_expressions.specs.View.{view, expr_loc};
 ghost use Rattle.cedar_data.specs.Sound.{Placed};
 ghost use Rattle.cedar_data.specs.Residuals.{partial_view, partial_loc, IfValue};
@@ -176,7 +177,7 @@ impl<'e, 'f> Evaluator<'e, 'f> {
 fn only_value(answer: Result<PartialValue, EvaluationError>) -> Result<Value, EvaluationError>
     ensures answer { value_answer result ≢ fails out_of_memory → value_answer result ≡ only_values (partial_answer answer) }
     ensures place { (l : Option Loc) → IfOk answer (λ p. partial_loc p ≡ l) → IfOk result (λ v. v.loc ≡ l) }
-    ensures value { (Is : Placed → Type 0) → IfOk answer (λ p. IfValue p Is) → IfOk result Is }
+    ensures elements { (n : ℕ) (e : expressions.Expr) → IfOk answer (λ p. IfValue p (ElementsStand n e)) → IfOk result (ElementsStand n e) }
 {
     match answer {
         Ok(PartialValue::Value(value)) => Ok(value),

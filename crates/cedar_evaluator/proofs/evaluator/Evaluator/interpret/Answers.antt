@@ -15,3 +15,7 @@ returns-clause-known g c =
     let s = setting_of c.args.self.now (slots_view c.args.slots.now) in
     known_value s (calls_in c.args.self.now) (limit_of c.args.self.now) (view c.args.e.now) (value_answer c.only_value.result)
     (only_promised s (calls_in c.args.self.now) (limit_of c.args.self.now) (view c.args.e.now) (partial_answer c.partial_interpret.result) (value_answer c.only_value.result) c.partial_interpret.ensures.answer c.only_value.ensures.answer)
+
+pub returns-clause-elements : goal.returns-clause-elements
+returns-clause-elements g c n =
+    c.only_value.ensures.elements n c.args.e.now (c.partial_interpret.ensures.elements n)
