@@ -1,3 +1,4 @@
 pub mod Decisions
 pub mod Variables
 pub mod Evaluations
+pub mod Told

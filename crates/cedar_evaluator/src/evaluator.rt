@@ -35,8 +35,8 @@ use std::rc::RcStr;
 /// An evaluator: a request, a store of entities, extensions, values for unknowns, and how many levels deep it goes.
 #[derive(Drop)]
 pub struct Evaluator<'e, 'f> {
-    given: Given<'e, 'f>,
-    limit: usize,
+    pub(crate) given: Given<'e, 'f>,
+    pub(crate) limit: usize,
     ghost of_request: { are_of_request (λ v. partial_view (given_for given v)) ≡ true } by { Bool-set _ _ },
 }
 
@@ -156,10 +156,7 @@ impl<'e, 'f> Evaluator<'e, 'f> {
         ensures { PartlyDecidesBy (IsPromised (setting_of self.now (policy_view policy.now).slots) (calls_in self.now) (limit_of self.now) (condition_term (policy_view policy.now))) result }
     {
         let condition = policy.condition(alloc)?;
-        decided_by(
-            alloc,
-            self.partial_interpret(alloc, &condition, policy.env()),
-        )
+        self.decide(alloc, &condition, policy.env())
     }
 
     /// Whether the policy's condition is true. A condition of another value than a boolean is a `TypeError` that expects `Bool`;
@@ -188,7 +185,7 @@ fn only_value(answer: Result<PartialValue, EvaluationError>) -> Result<Value, Ev
 
 // What this answer of a condition decides.
 #[tactic(auto, unfolding(cedar_model::specs::Responses::decided, cedar_model::specs::Responses::decided_bool))]
-fn decided_by(
+pub(crate) fn decided_by(
     alloc: Global,
     answer: Result<PartialValue, EvaluationError>,
 ) -> Result<Either<bool, Expr>, EvaluationError>

@@ -1,5 +1,6 @@
 //! Requests, and the evaluator: what an expression or a policy's condition means for a request.
 #![tactic(auto)]
 
+mod conditions;
 pub mod evaluator;
 pub mod request;

@@ -1,5 +1,6 @@
 -- A response that is made concrete.
-use Rattle.std.proofs.Common.{◌≡◌, Bool, true, false, cond, not, ◌&&◌, ◌||◌, List, [], ◌∷◌, ◌++◌, map, Option, refl, sym, ap, ◌∙◌}
+use Rattle.std.proofs.Common.{◌≡◌, Bool, true, false, cond, not, ◌&&◌, ◌||◌, List, [], ◌∷◌, ◌++◌, map, Option, refl, sym, ap, ◌∙◌, subst}
+use Rattle.std.specs.Prelude.{Result, Ok, IfOk}
 use Rattle.cedar_model.specs.Terms.{Text}
 use Rattle.cedar_model.specs.Outcomes.{has_text}
 use Rattle.cedar_model.specs.Failures.{Failure, residual_is_left}
@@ -15,6 +16,10 @@ use Rattle.cedar_responses.specs.Rows.{ResidualEntry, residual_rows, rows_in, lo
 use Rattle.cedar_responses.specs.Concrete.{id_texts, errors_left, places_left, concrete_places}
 use Rattle.cedar_responses.proofs.Naming.{ids_of_trues}
 use Rattle.cedar_responses.proofs.Rows.{residual_permits, residual_forbids, trues_permit, trues_forbid, residuals_permit, residuals_forbid}
+
+-- what holds of an answer, where it is this one
+pub of_ok : {A E : Type 0} (P : A → Type 0) (r : Result A E) (x : A) → r ≡ Ok x → IfOk r P → P x
+of_ok P r x is h = subst (λ y. IfOk y P) is h
 
 errors_of_residuals : (e : Effect) (es : List ResidualEntry) → map residual_error (rows_in (residual_rows e es)) ≡ errors_left es
 unfolding clause_of

@@ -30,7 +30,7 @@ pub fn print_document<W: Write>(
     }
 }
 
-// `ID: "TITLE", PAGES pages, owned by OWNER`, and whether it is public or sealed
+// `ID: "TITLE", PAGES pages, owned by OWNER`, and its marks
 fn print_parts<W: Write>(id: &str, document: &Entity, out: &mut W) -> Result<(), Stop> {
     let title = known(document.get("title")).and_then(as_text).unwrap_or("");
     let pages = known(document.get("pages")).and_then(as_long).unwrap_or(0);
@@ -38,6 +38,11 @@ fn print_parts<W: Write>(id: &str, document: &Entity, out: &mut W) -> Result<(),
     if let Some(owner) = known(document.get("owner")).and_then(as_entity) {
         write!(out, ", owned by {owner}")?;
     }
+    print_marks(document, out)
+}
+
+// Whether it is public or sealed
+fn print_marks<W: Write>(document: &Entity, out: &mut W) -> Result<(), Stop> {
     if let Some(true) = known(document.get("public")).and_then(as_bool) {
         write!(out, ", public")?;
     }

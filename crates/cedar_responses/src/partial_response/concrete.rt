@@ -1,5 +1,5 @@
 //! A partial response made concrete.
-ghost use Rattle.std.specs.Prelude.{◌≡◌, ◌++◌, ◌&&◌, Some, not, cond, map, IfOk, OnOk};
+ghost use Rattle.std.specs.Prelude.{◌≡◌, ◌++◌, ◌&&◌, Some, Ok, not, cond, map, IfOk, OnOk};
 ghost use Rattle.cedar_model.specs.Outcomes.{has_text};
 ghost use Rattle.cedar_model.specs.Policies.{skip, allow, deny};
 ghost use Rattle.cedar_model.specs.Policies as model;
@@ -45,11 +45,22 @@ impl PartialResponse {
             errors,
             request: _,
         } = self;
-        let reason = reasons(alloc, may_forbid, satisfied_permits, satisfied_forbids)?;
-        let errors = all_errors(alloc, residual_forbids, residual_permits, errors)?;
+        let reason: Result<HashSet<PolicyID>, AllocError> = reasons(
+            alloc,
+            may_forbid,
+            satisfied_permits,
+            satisfied_forbids,
+        );
+        let errors: Result<Vec<AuthorizationError>, AllocError> = all_errors(
+            alloc,
+            residual_forbids,
+            residual_permits,
+            errors,
+        );
+        let diagnostics = diagnostics_of(reason, errors)?;
         Ok(Response {
             decision: decide_concretely(has_true_permit, has_true_forbid),
-            diagnostics: Diagnostics { reason, errors },
+            diagnostics,
         })
     }
 }
@@ -64,6 +75,19 @@ impl TryFrom<PartialResponse> for Response {
         let alloc = *response.satisfied_permits.allocator();
         response.concretize(alloc)
     }
+}
+
+// Both, or the first that is refused.
+fn diagnostics_of(
+    reason: Result<HashSet<PolicyID>, AllocError>,
+    errors: Result<Vec<AuthorizationError>, AllocError>,
+) -> Result<Diagnostics, AllocError>
+    ensures reason { IfOk result (λ d. reason ≡ Ok d.reason) }
+    ensures errors { IfOk result (λ d. errors ≡ Ok d.errors) }
+{
+    let reason = reason?;
+    let errors = errors?;
+    Ok(Diagnostics { reason, errors })
 }
 
 fn decide_concretely(has_true_permit: bool, has_true_forbid: bool) -> Decision

@@ -1,0 +1,367 @@
+//! Conditions. A scope whose parts compare what is at hand is told at once, without the loop over frames.
+ghost use Rattle.std.specs.Prelude.{◌≡◌, ◌≢◌, ℕ, suc, true, IfSome};
+ghost use Rattle.cedar_model.specs.Terms.{Term, bool_literal, literal, variable, both, binary};
+ghost use Rattle.cedar_model.specs.Failures.{out_of_memory, answers_bool, answers_value};
+ghost use Rattle.cedar_model.specs.Responses.{errs_with, leaves, decided};
+ghost use Rattle.cedar_model.specs.Values.{abstract_value};
+ghost use Rattle.cedar_model.specs.Outcomes.{bool_of};
+ghost use Rattle.cedar_model.specs.Rules.{joined, bool_or_failure};
+ghost use Rattle.cedar_names.specs.Leaves.{literal_view, variable_view, binary_view};
+ghost use Rattle.cedar_expressions.specs.View.{view};
+ghost use Rattle.cedar_values.specs.Answers.{partial_answer};
+ghost use Rattle.cedar_values.specs.Failures.{failure_of};
+ghost use Rattle.cedar_layers.specs.Policies.{slots_view};
+ghost use Rattle.cedar_evaluation.specs.Promises.{IsPromised};
+ghost use Rattle.cedar_evaluation.specs.Settings.{given_for};
+ghost use Rattle.cedar_evaluator.specs.Decisions.{partly_decided, PartlyDecidesBy};
+ghost use Rattle.cedar_evaluator.specs.Evaluations.{setting_of, calls_in, limit_of};
+ghost use Rattle.cedar_evaluator.specs.Told.{IsTold};
+
+use crate::evaluator::{Evaluator, decided_by};
+use cedar_evaluation::Evaluation;
+use cedar_layers::expressions::{
+    BinaryOp, Expr, ExprKind, Literal, Loc, PartialValue, SlotEnv, Value, ValueKind, Var,
+};
+use cedar_operators::binary::binary_app;
+use cedar_operators::typed::{bool_in, get_as_bool};
+use cedar_values::evaluator::err::EvaluationError;
+use either::{Either, Left, Right};
+use std::alloc::{AllocError, Global};
+
+impl<'e, 'f> Evaluator<'e, 'f> {
+    // What the condition decides: by its scope, where that is told at once, and then by its clause alone.
+    pub(crate) fn decide(
+        &self,
+        alloc: Global,
+        condition: &Expr,
+        slots: &SlotEnv,
+    ) -> Result<Either<bool, Expr>, EvaluationError>
+        ensures { PartlyDecidesBy (IsPromised (setting_of self.now (slots_view slots.now)) (calls_in self.now) (limit_of self.now) (view condition.now)) result }
+    {
+        match sides(condition) {
+            Some((scope, clause)) => self.decide_by_scope(alloc, condition, scope, clause, slots),
+            None => self.decide_whole(alloc, condition, slots),
+        }
+    }
+
+    // The same by the whole condition.
+    fn decide_whole(
+        &self,
+        alloc: Global,
+        condition: &Expr,
+        slots: &SlotEnv,
+    ) -> Result<Either<bool, Expr>, EvaluationError>
+        ensures { PartlyDecidesBy (IsPromised (setting_of self.now (slots_view slots.now)) (calls_in self.now) (limit_of self.now) (view condition.now)) result }
+    {
+        decided_by(alloc, self.partial_interpret(alloc, condition, slots))
+    }
+
+    // The same by the scope and the clause that the condition has.
+    fn decide_by_scope(
+        &self,
+        alloc: Global,
+        condition: &Expr,
+        scope: &Expr,
+        clause: &Expr,
+        slots: &SlotEnv,
+    ) -> Result<Either<bool, Expr>, EvaluationError>
+        requires { view condition.now ≡ both (view scope.now) (view clause.now) }
+        ensures { PartlyDecidesBy (IsPromised (setting_of self.now (slots_view slots.now)) (calls_in self.now) (limit_of self.now) (view condition.now)) result }
+    {
+        if self.limit == 0 {
+            return self.decide_whole(alloc, condition, slots);
+        }
+        let below = self.limit - 1;
+        match self.told_scope(alloc, scope, below) {
+            Some(true) => {
+                let loc: Option<Loc> = condition.source_loc().copied();
+                self.decide_by_clause(alloc, clause, slots, below, loc)
+            }
+            Some(false) => Ok(Left(false)),
+            None => self.decide_whole(alloc, condition, slots),
+        }
+    }
+
+    // What the clause decides beside a true scope, at this location; with so many levels for the clause.
+    fn decide_by_clause(
+        &self,
+        alloc: Global,
+        clause: &Expr,
+        slots: &SlotEnv,
+        levels: usize,
+        loc: Option<Loc>,
+    ) -> Result<Either<bool, Expr>, EvaluationError>
+        ensures { (t : Term) → IsTold self.now levels t (answers_bool true) → PartlyDecidesBy (IsPromised (setting_of self.now (slots_view slots.now)) (calls_in self.now) (suc levels) (both t (view clause.now))) result }
+    {
+        match self.told_part(alloc, clause, levels) {
+            Some(is_true) => Ok(Left(is_true)),
+            None => {
+                let evaluation = Evaluation {
+                    given: &self.given,
+                    slots,
+                };
+                beside_true(alloc, evaluation.interpret(alloc, clause, levels), loc)
+            }
+        }
+    }
+
+    // Whether the scope is true, where that is told at once: `(principal && action) && resource`.
+    fn told_scope(&self, alloc: Global, scope: &Expr, levels: usize) -> Option<bool>
+        ensures { IfSome result (λ b. IsTold self.now levels (view scope.now) (answers_bool b)) }
+    {
+        match sides(scope) {
+            Some((pair, resource)) => {
+                if levels == 0 {
+                    return None;
+                }
+                let below = levels - 1;
+                let told = self.told_pair(alloc, pair, below);
+                self.told_beside(alloc, told, resource, below)
+            }
+            None => self.told_part(alloc, scope, levels),
+        }
+    }
+
+    // The same of `principal && action`.
+    fn told_pair(&self, alloc: Global, pair: &Expr, levels: usize) -> Option<bool>
+        ensures { IfSome result (λ b. IsTold self.now levels (view pair.now) (answers_bool b)) }
+    {
+        match sides(pair) {
+            Some((principal, action)) => {
+                if levels == 0 {
+                    return None;
+                }
+                let below = levels - 1;
+                let told = self.told_part(alloc, principal, below);
+                self.told_beside(alloc, told, action, below)
+            }
+            None => self.told_part(alloc, pair, levels),
+        }
+    }
+
+    // The same of a conjunction whose left side is told to be this, and whose sides have so many levels.
+    fn told_beside(
+        &self,
+        alloc: Global,
+        left: Option<bool>,
+        right: &Expr,
+        levels: usize,
+    ) -> Option<bool>
+        ensures { (t : Term) → IfSome left (λ b. IsTold self.now levels t (answers_bool b)) → IfSome result (λ b. IsTold self.now (suc levels) (both t (view right.now)) (answers_bool b)) }
+    {
+        match left {
+            Some(true) => self.told_part(alloc, right, levels),
+            Some(false) => Some(false),
+            None => None,
+        }
+    }
+
+    // The same of a boolean, and of a comparison of what is at hand.
+    fn told_part(&self, alloc: Global, e: &Expr, levels: usize) -> Option<bool>
+        ensures { IfSome result (λ b. IsTold self.now levels (view e.now) (answers_bool b)) }
+    {
+        if levels == 0 {
+            return None;
+        }
+        match e.expr_kind() {
+            ExprKind::Lit(literal) => bool_in_literal(literal),
+            ExprKind::BinaryApp { op, arg1, arg2 } => {
+                self.told_comparison(alloc, *op, arg1, arg2, levels)
+            }
+            _ => None,
+        }
+    }
+
+    // The same of a comparison of what is at hand.
+    fn told_comparison(
+        &self,
+        alloc: Global,
+        op: BinaryOp,
+        left: &Expr,
+        right: &Expr,
+        levels: usize,
+    ) -> Option<bool>
+        ensures { IfSome result (λ b. IsTold self.now levels (binary (binary_view op) (view left.now) (view right.now)) (answers_bool b)) }
+    {
+        if levels < 2 {
+            return None;
+        }
+        if !is_comparison(op) {
+            return None;
+        }
+        match self.at_hand(left) {
+            Some(left) => match self.at_hand(right) {
+                Some(right) => bool_answered(binary_app(
+                    alloc,
+                    self.given.entities,
+                    self.given.extensions,
+                    op,
+                    left,
+                    right,
+                    None,
+                )),
+                None => None,
+            },
+            None => None,
+        }
+    }
+
+    // The value of a literal, and of a variable that is known.
+    fn at_hand(&self, e: &Expr) -> Option<Value>
+        ensures { IfSome result (λ v. (n : ℕ) → IsTold self.now (suc n) (view e.now) (answers_value v.what)) }
+    {
+        match e.expr_kind() {
+            ExprKind::Lit(literal) => self.literal_value(literal),
+            ExprKind::Var(var) => self.variable_value(*var),
+            _ => None,
+        }
+    }
+
+    // The value of a literal, unless memory is wanting.
+    fn literal_value(&self, value: &Literal) -> Option<Value>
+        ensures { IfSome result (λ v. (n : ℕ) → IsTold self.now (suc n) (literal (literal_view value.now)) (answers_value v.what)) }
+    {
+        match value.clone() {
+            Ok(value) => Some(Value::new(ValueKind::Lit(value), None)),
+            Err(_) => None,
+        }
+    }
+
+    // The value that the variable stands for, if it is known, unless memory is wanting.
+    fn variable_value(&self, var: Var) -> Option<Value>
+        ensures { IfSome result (λ v. (n : ℕ) → IsTold self.now (suc n) (variable (variable_view var)) (answers_value v.what)) }
+    {
+        match self.given_for(var) {
+            PartialValue::Value(value) => copied(value),
+            PartialValue::Residual(_) => None,
+        }
+    }
+
+    // What is given for the variable.
+    fn given_for(&self, var: Var) -> &PartialValue
+        ensures { result.now ≡ given_for self.now.given (variable_view var) }
+    {
+        match var {
+            Var::Principal => &self.given.principal,
+            Var::Action => &self.given.action,
+            Var::Resource => &self.given.resource,
+            Var::Context => &self.given.context,
+        }
+    }
+}
+
+// The value, unless memory is wanting.
+fn copied(value: &Value) -> Option<Value>
+    ensures { IfSome result (λ v. v ≡ value.now) }
+{
+    match value.clone() {
+        Ok(value) => Some(value),
+        Err(_) => None,
+    }
+}
+
+// The sides of a conjunction.
+fn sides(e: &Expr) -> Option<(&Expr, &Expr)>
+    ensures { IfSome result (λ p. view e.now ≡ both (view p.0.now) (view p.1.now)) }
+{
+    match e.expr_kind() {
+        ExprKind::And { left, right } => Some((left, right)),
+        _ => None,
+    }
+}
+
+// The boolean that the literal is.
+fn bool_in_literal(value: &Literal) -> Option<bool>
+    ensures { IfSome result (λ b. literal_view value.now ≡ bool_literal b) }
+{
+    match value {
+        Literal::Bool(b) => Some(*b),
+        Literal::Long(_) => None,
+        Literal::String(_) => None,
+        Literal::EntityUID(_) => None,
+    }
+}
+
+// Whether the operator is `==` or `in`, as scopes have them.
+fn is_comparison(op: BinaryOp) -> bool {
+    match op {
+        BinaryOp::Eq => true,
+        BinaryOp::In => true,
+        BinaryOp::Less => false,
+        BinaryOp::LessEq => false,
+        BinaryOp::Add => false,
+        BinaryOp::Sub => false,
+        BinaryOp::Mul => false,
+        BinaryOp::Contains => false,
+        BinaryOp::ContainsAll => false,
+        BinaryOp::ContainsAny => false,
+        BinaryOp::GetTag => false,
+        BinaryOp::HasTag => false,
+    }
+}
+
+// The boolean that was answered, if it was one.
+fn bool_answered(answer: Result<PartialValue, EvaluationError>) -> Option<bool>
+    ensures { IfSome result (λ b. partial_answer answer ≡ answers_bool b) }
+{
+    match answer {
+        Ok(PartialValue::Value(value)) => bool_in(&value),
+        Ok(PartialValue::Residual(_)) => None,
+        Err(_) => None,
+    }
+}
+
+// What is decided by this answer of the clause beside a true scope, at this location.
+#[tactic(auto, unfolding(cedar_model::specs::Rules::joined, cedar_model::specs::Rules::bool_or_failure, cedar_model::specs::Responses::decided, cedar_model::specs::Responses::decided_bool, cedar_model::specs::Outcomes::bool_of))]
+fn beside_true(
+    alloc: Global,
+    answer: Result<PartialValue, EvaluationError>,
+    loc: Option<Loc>,
+) -> Result<Either<bool, Expr>, EvaluationError>
+    ensures { partly_decided result ≢ errs_with out_of_memory → partly_decided result ≡ decided (joined (both (literal (bool_literal true))) (partial_answer answer)) }
+{
+    match answer {
+        Ok(PartialValue::Value(value)) => bool_decided(alloc, &value, loc),
+        Ok(PartialValue::Residual(residual)) => residual_decided(alloc, residual.into_expr(), loc),
+        Err(error) => Err(at_location(error, loc)),
+    }
+}
+
+// The boolean that the value is, or that one is expected, at this location if the value has none.
+#[tactic(auto, unfolding(cedar_model::specs::Rules::bool_or_failure, cedar_model::specs::Responses::decided, cedar_model::specs::Responses::decided_bool, cedar_model::specs::Outcomes::bool_of))]
+fn bool_decided(
+    alloc: Global,
+    value: &Value,
+    loc: Option<Loc>,
+) -> Result<Either<bool, Expr>, EvaluationError>
+    ensures { partly_decided result ≢ errs_with out_of_memory → partly_decided result ≡ decided (bool_or_failure (bool_of (abstract_value value.now.what)) value.now.what) }
+{
+    match get_as_bool(alloc, value) {
+        Ok(is_true) => Ok(Left(is_true)),
+        Err(error) => Err(at_location(error, loc)),
+    }
+}
+
+// `true && ..` before what is left of the clause, at this location.
+fn residual_decided(
+    alloc: Global,
+    clause: Expr,
+    loc: Option<Loc>,
+) -> Result<Either<bool, Expr>, EvaluationError>
+    ensures { partly_decided result ≢ errs_with out_of_memory → partly_decided result ≡ leaves (both (literal (bool_literal true)) (view clause)) }
+{
+    let left = Expr::val(Literal::Bool(true));
+    let left_over = Expr::and(alloc, left, clause)?;
+    Ok(Right(left_over.with_maybe_source_loc(loc)))
+}
+
+// The error, at this location if it has none.
+fn at_location(error: EvaluationError, loc: Option<Loc>) -> EvaluationError
+    ensures { failure_of result ≡ failure_of error }
+{
+    if error.source_loc().is_none() {
+        error.with_maybe_source_loc(loc)
+    } else {
+        error
+    }
+}
