@@ -1,5 +1,5 @@
 -- What follows of an answer for what is made of it.
-use Rattle.std.specs.Prelude.{◌≡◌, ◌≢◌, ℕ, Bool, Result, Ok, Err}
+use Rattle.std.specs.Prelude.{◌≡◌, ◌≢◌, ℕ, Bool, Result, Err}
 use Rattle.std.proofs.Common.{refl, sym, ap, ◌∙◌, subst}
 use Rattle.cedar_model.specs.Terms.{Term}
 use Rattle.cedar_model.specs.World.{World, Functions}
@@ -8,7 +8,7 @@ use Rattle.cedar_model.specs.Settings.{Setting}
 use Rattle.cedar_model.specs.Rules.{StoredCalls, Meets}
 use Rattle.cedar_model.specs.Agreement.{own_world}
 use Rattle.cedar_model.specs.Authorizations.{evaluated, IsExact, IsExactDecision}
-use Rattle.cedar_model.specs.Responses.{Decided, decides, errs_with, leaves, decided, result_of}
+use Rattle.cedar_model.specs.Responses.{Decided, errs_with, decided, result_of}
 use Rattle.cedar_model.proofs.Exactly.{decision_exact}
 use Rattle.cedar_restricted.specs.Evaluations.{only_values}
 use Rattle.cedar_evaluation.specs.Promises.{IsPromised, IsKnownExactly}

@@ -1,6 +1,6 @@
 -- What stands for the variables of a request stands for that request alone.
-use Rattle.std.specs.Prelude.{◌≡◌, Bool, true, false, ◌&&◌, Option, Some, None, codes}
-use Rattle.std.proofs.Common.{refl, ap, sym, ◌∙◌, subst}
+use Rattle.std.specs.Prelude.{◌≡◌, Bool, true, false, ◌&&◌, Some, None, codes}
+use Rattle.std.proofs.Common.{refl, ap, ◌∙◌}
 use Rattle.std.proofs.lemmas.Slice.Eq.{bytes_eq-Decides}
 use Rattle.cedar_model.specs.Terms.{Text, bool_literal, long_literal, text_literal, entity_literal, Variable, principal, action, resource, context, bool_type, long_type, string_type, set_type, record_type, entity_type, extension_type, literal, variable, slot, unknown, if_then_else, both, either, unary, binary, call, get_attribute, has_attribute, extended_has, like, is_of_type, set_of, record_of}
 use Rattle.cedar_model.specs.Values.{plain_represented, set_represented, record_represented, extension_represented}

@@ -4,7 +4,6 @@ use Rattle.std.proofs.Common.{refl, sym, ap, ◌∙◌, subst, arith}
 use Rattle.cedar_model.specs.Terms.{Term, Literal, bool_literal, long_literal, text_literal, entity_literal, literal, Variable, variable, both, binary, BinaryOperator}
 use Rattle.cedar_model.specs.Values.{Represented, plain_represented, set_represented, record_represented, extension_represented, abstract_value}
 use Rattle.cedar_model.specs.Outcomes.{bool_of}
-use Rattle.cedar_model.specs.World.{Slots}
 use Rattle.cedar_model.specs.Alike.{AreFunctional}
 use Rattle.cedar_model.specs.LevelLaws.{FunctionsMeetNoLimit}
 use Rattle.cedar_model.specs.Failures.{out_of_memory, value, Answer, answers, fails, answers_bool, answers_value}
@@ -25,6 +24,10 @@ use Rattle.cedar_evaluator.specs.Evaluations.{variables_of, setting_of, calls_in
 use Rattle.cedar_evaluator.proofs.Requests.{says}
 use Rattle.cedar_evaluator.specs.Told.{IsTold}
 
+-- what holds of what is there
+pub of_some : {A : Type 0} (P : A → Type 0) (r : Option A) (x : A) → r ≡ Some x → IfSome r P → P x
+of_some P r x is h = subst (λ z. IfSome z P) is h
+
 module _ (s : Setting) (calls : StoredCalls) (n : ℕ) (t u : Term) where
   -- a false left side decides
   false_left : Runs s calls n t (answers_bool false) → Runs s calls (suc n) (both t u) (answers_bool false)
@@ -32,7 +35,7 @@ module _ (s : Setting) (calls : StoredCalls) (n : ℕ) (t u : Term) where
   false_left h = (answers_bool false, h, refl)
 
   -- beside a true one the right side does
-  pub true_left : (x : Answer) → Runs s calls n t (answers_bool true) → Runs s calls n u x →
+  true_left : (x : Answer) → Runs s calls n t (answers_bool true) → Runs s calls n u x →
       Runs s calls (suc n) (both t u) (joined (both (literal (bool_literal true))) x)
   unfolding bool_of
   true_left x h g = (answers_bool true, h, (x, g, refl))
@@ -53,7 +56,7 @@ module _ {X : Type 0} {F : X → Type 0} {g : _} (v : Evaluator X F g) (n : ℕ)
   pub told_false : IsTold v n t (answers_bool false) → IsTold v (suc n) (both t u) (answers_bool false)
   told_false h slots = false_left (setting_of v slots) (calls_in v) n t u (h slots)
 
-  pub told_true : (r : Option Bool) → IsTold v n t (answers_bool true) → IfSome r (λ b. IsTold v n u (answers_bool b)) →
+  told_true : (r : Option Bool) → IsTold v n t (answers_bool true) → IfSome r (λ b. IsTold v n u (answers_bool b)) →
       IfSome r (λ b. IsTold v (suc n) (both t u) (answers_bool b))
   told_true (Some b) h g = λ slots. true_bool (setting_of v slots) (calls_in v) n t u b (h slots) (g slots)
   told_true None h g = tt
@@ -87,12 +90,14 @@ module _ {X : Type 0} {F : X → Type 0} {g : _} (v : Evaluator X F g) (n : ℕ)
       (subst (λ z. IsTold v (suc (n - 1)) z (answers_bool b)) (sym (is ∙ ap literal that)) (λ slots. refl))
   told_literal l None one is that = tt
 
-  -- the same of a conjunction, which is a level more
-  pub told_whole : (below : ℕ) (p u : Term) (r : Option Bool) → suc below ≡ n → t ≡ both p u →
-      IfSome r (λ b. IsTold v (suc below) (both p u) (answers_bool b)) → IfSome r (λ b. IsTold v n t (answers_bool b))
-  told_whole below p u r levels is h =
-      subst (λ k. IfSome r (λ b. IsTold v k t (answers_bool b))) levels
-      (subst (λ z. IfSome r (λ b. IsTold v (suc below) z (answers_bool b))) (sym is) h)
+module _ {X : Type 0} {F : X → Type 0} {g : _} (v : Evaluator X F g) (n : ℕ) (t u : Term) where
+  -- the same of a conjunction with so many levels
+  pub beside_false : suc (n - 1) ≡ n → IsTold v (n - 1) t (answers_bool false) → IsTold v n (both t u) (answers_bool false)
+  beside_false levels h = subst (λ k. IsTold v k (both t u) (answers_bool false)) levels (told_false v (n - 1) t u h)
+
+  pub beside_true : (r : Option Bool) → suc (n - 1) ≡ n → IsTold v (n - 1) t (answers_bool true) →
+      IfSome r (λ b. IsTold v (n - 1) u (answers_bool b)) → IfSome r (λ b. IsTold v n (both t u) (answers_bool b))
+  beside_true r levels h g = subst (λ k. IfSome r (λ b. IsTold v k (both t u) (answers_bool b))) levels (told_true v (n - 1) t u r h g)
 
 -- what stands for a variable
 pub told_variable : {X : Type 0} {F : X → Type 0} {g : _} (v : Evaluator X F g) (x : Variable) (p : Placed) (r : Option Placed) →
@@ -132,7 +137,3 @@ bool_is (plain_represented (entity_literal e)) r h = subst (λ o. IfSome o (λ b
 bool_is (set_represented vs) r h = subst (λ o. IfSome o (λ b. answers_value (set_represented vs) ≡ answers_bool b)) (sym h) tt
 bool_is (record_represented fs) r h = subst (λ o. IfSome o (λ b. answers_value (record_represented fs) ≡ answers_bool b)) (sym h) tt
 bool_is (extension_represented t k f ts) r h = subst (λ o. IfSome o (λ b. answers_value (extension_represented t k f ts) ≡ answers_bool b)) (sym h) tt
-
--- what holds of what is there
-pub of_some : {A : Type 0} (P : A → Type 0) (r : Option A) (x : A) → r ≡ Some x → IfSome r P → P x
-of_some P r x is h = subst (λ z. IfSome z P) is h

@@ -1,5 +1,5 @@
 -- What an evaluator is given, and what it promises of a value that is asked for.
-use Rattle.std.specs.Prelude.{◌≡◌, ◌≢◌, ℕ, Bool, Option, Result, Err}
+use Rattle.std.specs.Prelude.{◌≡◌, ℕ, Bool, Option, Result}
 use Rattle.cedar_model.specs.Terms.{Text, Term, Variable}
 use Rattle.cedar_model.specs.Values.{AbstractValue, Represented}
 use Rattle.cedar_model.specs.World.{Slots, Extensions, Functions}

@@ -1,5 +1,5 @@
 -- The request that what stands for its variables says.
-use Rattle.std.specs.Prelude.{◌≡◌, Bool, true, false, ◌&&◌, Option, Some, None, codes}
+use Rattle.std.specs.Prelude.{Bool, true, false, ◌&&◌, Some, None, codes}
 use Rattle.cedar_model.specs.Terms.{Text, entity_literal, principal, action, resource, context, entity_type, unknown, record_of, Variable}
 use Rattle.cedar_model.specs.Values.{plain_represented, record_represented}
 use Rattle.cedar_model.specs.Outcomes.{text_eq}

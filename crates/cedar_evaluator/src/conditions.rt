@@ -1,11 +1,9 @@
 //! Conditions. A scope whose parts compare what is at hand is told at once, without the loop over frames.
-ghost use Rattle.std.specs.Prelude.{◌≡◌, ◌≢◌, ℕ, suc, true, IfSome};
+ghost use Rattle.std.specs.Prelude.{◌≡◌, ◌≢◌, ℕ, ◌-◌, suc, true, IfSome};
 ghost use Rattle.cedar_model.specs.Terms.{Term, bool_literal, literal, variable, both, binary};
 ghost use Rattle.cedar_model.specs.Failures.{out_of_memory, answers_bool, answers_value};
-ghost use Rattle.cedar_model.specs.Responses.{errs_with, leaves, decided};
-ghost use Rattle.cedar_model.specs.Values.{abstract_value};
-ghost use Rattle.cedar_model.specs.Outcomes.{bool_of};
-ghost use Rattle.cedar_model.specs.Rules.{joined, bool_or_failure};
+ghost use Rattle.cedar_model.specs.Responses.{errs_with, decided};
+ghost use Rattle.cedar_model.specs.Rules.{joined};
 ghost use Rattle.cedar_names.specs.Leaves.{literal_view, variable_view, binary_view};
 ghost use Rattle.cedar_expressions.specs.View.{view};
 ghost use Rattle.cedar_values.specs.Answers.{partial_answer};
@@ -23,10 +21,11 @@ use cedar_layers::expressions::{
     BinaryOp, Expr, ExprKind, Literal, Loc, PartialValue, SlotEnv, Value, ValueKind, Var,
 };
 use cedar_operators::binary::binary_app;
-use cedar_operators::typed::{bool_in, get_as_bool};
+use cedar_operators::typed::bool_in;
+use cedar_partial_operators::connectives::true_and;
 use cedar_values::evaluator::err::EvaluationError;
-use either::{Either, Left, Right};
-use std::alloc::{AllocError, Global};
+use either::{Either, Left};
+use std::alloc::Global;
 
 impl<'e, 'f> Evaluator<'e, 'f> {
     // What the condition decides: by its scope, where that is told at once, and then by its clause alone.
@@ -111,12 +110,8 @@ impl<'e, 'f> Evaluator<'e, 'f> {
     {
         match sides(scope) {
             Some((pair, resource)) => {
-                if levels == 0 {
-                    return None;
-                }
-                let below = levels - 1;
-                let told = self.told_pair(alloc, pair, below);
-                self.told_beside(alloc, told, resource, below)
+                let told = self.told_pair(alloc, pair, levels.saturating_sub(1));
+                self.told_beside(alloc, told, resource, levels)
             }
             None => self.told_part(alloc, scope, levels),
         }
@@ -128,18 +123,14 @@ impl<'e, 'f> Evaluator<'e, 'f> {
     {
         match sides(pair) {
             Some((principal, action)) => {
-                if levels == 0 {
-                    return None;
-                }
-                let below = levels - 1;
-                let told = self.told_part(alloc, principal, below);
-                self.told_beside(alloc, told, action, below)
+                let told = self.told_part(alloc, principal, levels.saturating_sub(1));
+                self.told_beside(alloc, told, action, levels)
             }
             None => self.told_part(alloc, pair, levels),
         }
     }
 
-    // The same of a conjunction whose left side is told to be this, and whose sides have so many levels.
+    // The same of a conjunction, whose left side is told to be this with a level less.
     fn told_beside(
         &self,
         alloc: Global,
@@ -147,10 +138,13 @@ impl<'e, 'f> Evaluator<'e, 'f> {
         right: &Expr,
         levels: usize,
     ) -> Option<bool>
-        ensures { (t : Term) → IfSome left (λ b. IsTold self.now levels t (answers_bool b)) → IfSome result (λ b. IsTold self.now (suc levels) (both t (view right.now)) (answers_bool b)) }
+        ensures { (t : Term) → IfSome left (λ b. IsTold self.now (levels - 1) t (answers_bool b)) → IfSome result (λ b. IsTold self.now levels (both t (view right.now)) (answers_bool b)) }
     {
+        if levels == 0 {
+            return None;
+        }
         match left {
-            Some(true) => self.told_part(alloc, right, levels),
+            Some(true) => self.told_part(alloc, right, levels - 1),
             Some(false) => Some(false),
             None => None,
         }
@@ -312,7 +306,7 @@ fn bool_answered(answer: Result<PartialValue, EvaluationError>) -> Option<bool>
 }
 
 // What is decided by this answer of the clause beside a true scope, at this location.
-#[tactic(auto, unfolding(cedar_model::specs::Rules::joined, cedar_model::specs::Rules::bool_or_failure, cedar_model::specs::Responses::decided, cedar_model::specs::Responses::decided_bool, cedar_model::specs::Outcomes::bool_of))]
+#[tactic(auto, unfolding(cedar_model::specs::Rules::joined, cedar_model::specs::Responses::decided))]
 fn beside_true(
     alloc: Global,
     answer: Result<PartialValue, EvaluationError>,
@@ -321,42 +315,26 @@ fn beside_true(
     ensures { partly_decided result ≢ errs_with out_of_memory → partly_decided result ≡ decided (joined (both (literal (bool_literal true))) (partial_answer answer)) }
 {
     match answer {
-        Ok(PartialValue::Value(value)) => bool_decided(alloc, &value, loc),
-        Ok(PartialValue::Residual(residual)) => residual_decided(alloc, residual.into_expr(), loc),
-        Err(error) => Err(at_location(error, loc)),
+        Ok(part) => decided_by(alloc, placed(true_and(alloc, part), loc)),
+        Err(error) => Err(with_enclosing_loc(error, loc)),
     }
 }
 
-// The boolean that the value is, or that one is expected, at this location if the value has none.
-#[tactic(auto, unfolding(cedar_model::specs::Rules::bool_or_failure, cedar_model::specs::Responses::decided, cedar_model::specs::Responses::decided_bool, cedar_model::specs::Outcomes::bool_of))]
-fn bool_decided(
-    alloc: Global,
-    value: &Value,
+// The answer at this location; an error, if it has none.
+fn placed(
+    answer: Result<PartialValue, EvaluationError>,
     loc: Option<Loc>,
-) -> Result<Either<bool, Expr>, EvaluationError>
-    ensures { partly_decided result ≢ errs_with out_of_memory → partly_decided result ≡ decided (bool_or_failure (bool_of (abstract_value value.now.what)) value.now.what) }
+) -> Result<PartialValue, EvaluationError>
+    ensures { partial_answer result ≡ partial_answer answer }
 {
-    match get_as_bool(alloc, value) {
-        Ok(is_true) => Ok(Left(is_true)),
-        Err(error) => Err(at_location(error, loc)),
+    match answer {
+        Ok(part) => Ok(part.with_maybe_source_loc(loc)),
+        Err(error) => Err(with_enclosing_loc(error, loc)),
     }
-}
-
-// `true && ..` before what is left of the clause, at this location.
-fn residual_decided(
-    alloc: Global,
-    clause: Expr,
-    loc: Option<Loc>,
-) -> Result<Either<bool, Expr>, EvaluationError>
-    ensures { partly_decided result ≢ errs_with out_of_memory → partly_decided result ≡ leaves (both (literal (bool_literal true)) (view clause)) }
-{
-    let left = Expr::val(Literal::Bool(true));
-    let left_over = Expr::and(alloc, left, clause)?;
-    Ok(Right(left_over.with_maybe_source_loc(loc)))
 }
 
 // The error, at this location if it has none.
-fn at_location(error: EvaluationError, loc: Option<Loc>) -> EvaluationError
+fn with_enclosing_loc(error: EvaluationError, loc: Option<Loc>) -> EvaluationError
     ensures { failure_of result ≡ failure_of error }
 {
     if error.source_loc().is_none() {

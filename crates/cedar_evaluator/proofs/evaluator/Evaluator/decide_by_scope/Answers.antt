@@ -7,7 +7,7 @@ use Rattle.cedar_layers.specs.Policies.{slots_view}
 use Rattle.cedar_extensions.specs.StoredLaws.{calls_functional, calls_meet_no_limit}
 use Rattle.cedar_evaluation.specs.Promises.{IsPromised}
 use Rattle.cedar_evaluator.specs.Decisions.{PartlyDecidesBy}
-use Rattle.cedar_evaluator.specs.Evaluations.{setting_of, calls_in, limit_of}
+use Rattle.cedar_evaluator.specs.Evaluations.{setting_of, calls_in}
 use Rattle.cedar_evaluator.specs.Told.{IsTold}
 use Rattle.cedar_evaluator.proofs.Told.{of_some, told_false, bool_promised}
 use Rattle.cedar_evaluator.proofs.evaluator.Evaluator.decide_by_scope.Goals as goal
