@@ -1,6 +1,6 @@
 -- Where the elements of an evaluated set stand, over the frames of an evaluation.
 use Rattle.std.specs.Prelude.{◌≡◌, ◌≢◌, ℕ, zero, suc, true, List, Option, Result, Ok, Err, IfOk}
-use Rattle.std.proofs.Common.{refl, sym, ap, ◌∙◌, subst}
+use Rattle.std.proofs.Common.{sym, ◌∙◌, subst}
 use Rattle.std.specs.declared.alloc.AllocError.{AllocError}
 use Rattle.cedar_model.specs.Terms.{Term, Terms, set_of}
 use Rattle.cedar_model.specs.Settings.{RequestPart, Setting}

@@ -9,6 +9,7 @@ pub mod Operands
 pub mod Stored
 pub mod Frames
 pub mod PartsLaws
+pub mod Booleans
 pub mod Elements
 pub mod Laws
 pub mod Promises

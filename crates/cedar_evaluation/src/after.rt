@@ -10,12 +10,13 @@ ghost use Rattle.cedar_data.specs.Residuals.{partial_view};
 ghost use Rattle.cedar_values.specs.Failures.{failure_of};
 ghost use Rattle.cedar_evaluation.specs.Settings.{setting_of, calls_in};
 ghost use Rattle.cedar_evaluation.specs.Tasks.{GoesOn};
+ghost use Rattle.cedar_evaluation.specs.declared.frame.Pending.TheVariants as pendings;
 
 use crate::answers::passed_on;
 use crate::evaluation::Evaluation;
 use crate::failed::Failed;
 use crate::frame::{Next, Pending};
-use cedar_data::PartialValue;
+use cedar_data::{PartialValue, ResidualExpr};
 use cedar_expressions::Expr;
 use cedar_frames::Step;
 use std::alloc::{AllocError, Global};
@@ -41,24 +42,18 @@ impl<'e, 'g, 'f> Evaluation<'e, 'g, 'f> {
                 guard,
                 then_expr,
                 else_expr,
-            } => self.second_branch(alloc, guard, then_expr, kept_part(alloc, answer), else_expr),
+            } => self.after_then(alloc, guard, then_expr, else_expr, answer),
             Pending::Else {
                 guard,
                 then_expr,
                 else_expr,
-            } => {
-                self.both_branches(alloc, guard, then_expr, else_expr, kept_part(alloc, answer))
-            }
+            } => self.after_else(alloc, guard, then_expr, else_expr, answer),
             Pending::AndLeft { right } => self.after_and_left(alloc, right, answer),
             Pending::AndRight => self.after_and_right(alloc, answer),
-            Pending::AndKept { left, right } => {
-                self.kept_conjunction(alloc, left, right, kept_part(alloc, answer))
-            }
+            Pending::AndKept { left, right } => self.after_and_kept(alloc, left, right, answer),
             Pending::OrLeft { right } => self.after_or_left(alloc, right, answer),
             Pending::OrRight => self.after_or_right(alloc, answer),
-            Pending::OrKept { left, right } => {
-                self.kept_disjunction(alloc, left, right, kept_part(alloc, answer))
-            }
+            Pending::OrKept { left, right } => self.after_or_kept(alloc, left, right, answer),
             Pending::Unary(op) => self.after_operand(alloc, op, answer),
             Pending::BinaryLeft { op, right } => self.after_left(op, right, answer),
             Pending::BinaryRight { op, left } => self.after_right(alloc, op, left, answer),
@@ -68,6 +63,68 @@ impl<'e, 'g, 'f> Evaluation<'e, 'g, 'f> {
             Pending::Like(pattern) => self.after_text(alloc, pattern, answer),
             Pending::Is(entity_type) => self.after_entity(alloc, entity_type, answer),
         }
+    }
+
+    // The second branch beside a residual guard, after the first.
+    #[cold]
+    #[inline(never)]
+    fn after_then(
+        &self,
+        alloc: Global,
+        guard: Box<ResidualExpr>,
+        then_expr: Rc<Expr>,
+        else_expr: Rc<Expr>,
+        answer: Box<PartialValue>,
+    ) -> Result<Next, AllocError>
+        ensures { (r : RequestPart) (k : ℕ) → IfOk result (GoesOn (setting_of r self.now) (calls_in self.now) k (pendings.Then guard then_expr else_expr) (answers (partial_view answer.value))) }
+    {
+        self.second_branch(alloc, guard, then_expr, kept_part(alloc, answer), else_expr)
+    }
+
+    // `if` beside a residual guard, after both branches.
+    #[cold]
+    #[inline(never)]
+    fn after_else(
+        &self,
+        alloc: Global,
+        guard: Box<ResidualExpr>,
+        then_expr: Box<Expr>,
+        else_expr: Rc<Expr>,
+        answer: Box<PartialValue>,
+    ) -> Result<Next, AllocError>
+        ensures { (r : RequestPart) (k : ℕ) → IfOk result (GoesOn (setting_of r self.now) (calls_in self.now) k (pendings.Else guard then_expr else_expr) (answers (partial_view answer.value))) }
+    {
+        self.both_branches(alloc, guard, then_expr, else_expr, kept_part(alloc, answer))
+    }
+
+    // `&&` beside a residual left side, after the right.
+    #[cold]
+    #[inline(never)]
+    fn after_and_kept(
+        &self,
+        alloc: Global,
+        left: Box<ResidualExpr>,
+        right: Rc<Expr>,
+        answer: Box<PartialValue>,
+    ) -> Result<Next, AllocError>
+        ensures { (r : RequestPart) (k : ℕ) → IfOk result (GoesOn (setting_of r self.now) (calls_in self.now) k (pendings.AndKept left right) (answers (partial_view answer.value))) }
+    {
+        self.kept_conjunction(alloc, left, right, kept_part(alloc, answer))
+    }
+
+    // `||` beside a residual left side, after the right.
+    #[cold]
+    #[inline(never)]
+    fn after_or_kept(
+        &self,
+        alloc: Global,
+        left: Box<ResidualExpr>,
+        right: Rc<Expr>,
+        answer: Box<PartialValue>,
+    ) -> Result<Next, AllocError>
+        ensures { (r : RequestPart) (k : ℕ) → IfOk result (GoesOn (setting_of r self.now) (calls_in self.now) k (pendings.OrKept left right) (answers (partial_view answer.value))) }
+    {
+        self.kept_disjunction(alloc, left, right, kept_part(alloc, answer))
     }
 
     // What comes next of what waited, after this error: beside a residual the part's original is kept, elsewhere it is the answer.

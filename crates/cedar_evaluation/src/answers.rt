@@ -1,6 +1,6 @@
 //! What expressions are answered at once.
 ghost use Rattle.std.specs.Prelude.{◌≡◌, ◌≢◌, IfOk, true, Err};
-ghost use Rattle.cedar_model.specs.Failures.{Answer, answers, fails, out_of_memory, answers_bool, answers_residual};
+ghost use Rattle.cedar_model.specs.Failures.{Answer, answers, fails, out_of_memory, answers_residual};
 ghost use Rattle.cedar_model.specs.Rules.{bool_expected};
 ghost use Rattle.cedar_model.specs.Shapes.{has_unknown};
 ghost use Rattle.cedar_expressions.specs.View.{view};
@@ -9,6 +9,7 @@ ghost use Rattle.cedar_values.specs.Answers.{AnswersWith};
 ghost use Rattle.cedar_frames.specs.declared.machine.Step.TheVariants.{Done};
 ghost use Rattle.cedar_evaluation.specs.declared.stopped.Stopped.TheVariants as stops;
 ghost use Rattle.cedar_evaluation.specs.Tasks.{Gives};
+ghost use Rattle.cedar_evaluation.specs.Booleans.{part_bool};
 ghost use Rattle.cedar_evaluation.specs.Elements.{IsDone};
 
 use crate::failed::Failed;
@@ -19,7 +20,7 @@ use cedar_expressions::Expr;
 use cedar_frames::Step;
 use cedar_layers::expressions::Type;
 use cedar_operators::failures::type_error;
-use cedar_operators::typed::bool_value;
+use cedar_operators::typed::bool_in;
 use cedar_values::evaluator::err::EvaluationError;
 use std::alloc::Global;
 
@@ -34,7 +35,7 @@ pub(crate) fn answered(alloc: Global, answer: Result<PartialValue, EvaluationErr
 }
 
 // This value or residual.
-#[inline(never)]
+#[inline(always)]
 pub(crate) fn done(alloc: Global, part: PartialValue) -> Next
     ensures answer { Gives result (answers (partial_view part)) }
     ensures whole { IsDone part result }
@@ -52,11 +53,15 @@ pub(crate) fn passed_on<T: Drop>(_held: T, failed: Box<Failed>) -> Next
     Step::Done(Err(Stopped::Failed(failed)))
 }
 
-// A boolean.
-pub(crate) fn bool_answer(alloc: Global, b: bool) -> Next
-    ensures { Gives result (answers_bool b) }
+// The boolean that an answer is, if it is one.
+#[inline(always)]
+pub(crate) fn known_bool(part: &PartialValue) -> Option<bool>
+    ensures { result ≡ part_bool (partial_view part.now) }
 {
-    done(alloc, PartialValue::Value(bool_value(b)))
+    match part {
+        PartialValue::Value(value) => bool_in(value),
+        PartialValue::Residual(_) => None,
+    }
 }
 
 // That a boolean is expected.

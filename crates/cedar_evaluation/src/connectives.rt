@@ -1,30 +1,30 @@
 //! `&&` and `||`.
-ghost use Rattle.std.specs.Prelude.{◌≡◌, ℕ, IfOk};
+ghost use Rattle.std.specs.Prelude.{◌≡◌, ℕ, None, IfOk};
 ghost use Rattle.std.specs.declared.alloc.Global.{Global};
 ghost use Rattle.std.specs.declared.rc.Rc.{Rc};
 ghost use Rattle.cedar_model.specs.Terms.{both, either};
 ghost use Rattle.cedar_model.specs.Values.{abstract_value};
 ghost use Rattle.cedar_model.specs.Outcomes.{bool_of};
 ghost use Rattle.cedar_model.specs.Failures.{Answer, answers, answers_residual};
-ghost use Rattle.cedar_model.specs.Rules.{best, kept, bool_or_failure};
+ghost use Rattle.cedar_model.specs.Rules.{best, kept};
 ghost use Rattle.cedar_model.specs.Settings.{RequestPart};
 ghost use Rattle.cedar_expressions.specs.View.{view};
 ghost use Rattle.cedar_expressions.specs.declared.expr.Expr.{Expr};
 ghost use Rattle.cedar_data.specs.Residuals.{partial_view, residual_term};
+ghost use Rattle.cedar_evaluation.specs.Booleans.{part_bool};
 ghost use Rattle.cedar_evaluation.specs.Settings.{setting_of, calls_in};
 ghost use Rattle.cedar_evaluation.specs.Tasks.{Begins, GoesOn, Gives};
 ghost use Rattle.cedar_evaluation.specs.declared.frame.Pending.TheVariants as pendings;
 
-use crate::answers::{bool_answer, no_bool, residual_answer};
+use crate::answers::{known_bool, no_bool, residual_answer};
 use crate::boxed::boxed_beside;
 use crate::evaluation::Evaluation;
 use crate::frame::{Next, Pending, Task};
 use crate::part::Part;
-use cedar_data::{PartialValue, ResidualExpr, Value};
+use cedar_data::{PartialValue, ResidualExpr};
 use cedar_expressions::Expr;
 use cedar_frames::Step;
 use cedar_names::Literal;
-use cedar_operators::typed::bool_in;
 use std::alloc::{AllocError, Global};
 use std::rc::Rc;
 
@@ -56,12 +56,33 @@ impl<'e, 'g, 'f> Evaluation<'e, 'g, 'f> {
     ) -> Result<Next, AllocError>
         ensures { (r : RequestPart) (k : ℕ) → IfOk result (GoesOn (setting_of r self.now) (calls_in self.now) k (pendings.AndLeft right) (answers (partial_view left.value))) }
     {
+        match known_bool(&left) {
+            Some(true) => {
+                drop(left);
+                Ok(Step::Wait(Task::Other(Pending::AndRight), Part::Shared(right)))
+            }
+            Some(false) => {
+                drop(right);
+                Ok(Step::Done(Ok(left)))
+            }
+            None => self.after_no_bool_and_left(alloc, right, left),
+        }
+    }
+
+    // The same after one that is no boolean.
+    #[cold]
+    #[inline(never)]
+    fn after_no_bool_and_left(
+        &self,
+        alloc: Global,
+        right: Rc<Expr>,
+        left: Box<PartialValue>,
+    ) -> Result<Next, AllocError>
+        requires { part_bool (partial_view left.value) ≡ None }
+        ensures { (r : RequestPart) (k : ℕ) → IfOk result (GoesOn (setting_of r self.now) (calls_in self.now) k (pendings.AndLeft right) (answers (partial_view left.value))) }
+    {
         match Box::into_inner(left) {
-            PartialValue::Value(value) => match bool_in(&value) {
-                Some(true) => Ok(Step::Wait(Task::Other(Pending::AndRight), Part::Shared(right))),
-                Some(false) => Ok(bool_answer(alloc, false)),
-                None => Ok(no_bool(alloc, &value)),
-            },
+            PartialValue::Value(value) => Ok(no_bool(alloc, &value)),
             PartialValue::Residual(left) => self.and_kept(alloc, left, right),
         }
     }
@@ -75,12 +96,33 @@ impl<'e, 'g, 'f> Evaluation<'e, 'g, 'f> {
     ) -> Result<Next, AllocError>
         ensures { (r : RequestPart) (k : ℕ) → IfOk result (GoesOn (setting_of r self.now) (calls_in self.now) k (pendings.OrLeft right) (answers (partial_view left.value))) }
     {
+        match known_bool(&left) {
+            Some(true) => {
+                drop(right);
+                Ok(Step::Done(Ok(left)))
+            }
+            Some(false) => {
+                drop(left);
+                Ok(Step::Wait(Task::Other(Pending::OrRight), Part::Shared(right)))
+            }
+            None => self.after_no_bool_or_left(alloc, right, left),
+        }
+    }
+
+    // The same after one that is no boolean.
+    #[cold]
+    #[inline(never)]
+    fn after_no_bool_or_left(
+        &self,
+        alloc: Global,
+        right: Rc<Expr>,
+        left: Box<PartialValue>,
+    ) -> Result<Next, AllocError>
+        requires { part_bool (partial_view left.value) ≡ None }
+        ensures { (r : RequestPart) (k : ℕ) → IfOk result (GoesOn (setting_of r self.now) (calls_in self.now) k (pendings.OrLeft right) (answers (partial_view left.value))) }
+    {
         match Box::into_inner(left) {
-            PartialValue::Value(value) => match bool_in(&value) {
-                Some(true) => Ok(bool_answer(alloc, true)),
-                Some(false) => Ok(Step::Wait(Task::Other(Pending::OrRight), Part::Shared(right))),
-                None => Ok(no_bool(alloc, &value)),
-            },
+            PartialValue::Value(value) => Ok(no_bool(alloc, &value)),
             PartialValue::Residual(left) => self.or_kept(alloc, left, right),
         }
     }
@@ -112,8 +154,26 @@ impl<'e, 'g, 'f> Evaluation<'e, 'g, 'f> {
     ) -> Result<Next, AllocError>
         ensures { (r : RequestPart) (k : ℕ) → IfOk result (GoesOn (setting_of r self.now) (calls_in self.now) k pendings.AndRight (answers (partial_view right.value))) }
     {
+        match known_bool(&right) {
+            Some(_) => Ok(Step::Done(Ok(right))),
+            None => self.after_no_bool_and_right(alloc, right),
+        }
+    }
+
+    // The same after one that is no boolean.
+    #[cold]
+    #[inline(never)]
+    #[tactic(auto, unfolding(cedar_model::specs::Rules::joined, cedar_model::specs::Rules::bool_or_failure))]
+    fn after_no_bool_and_right(
+        &self,
+        alloc: Global,
+        right: Box<PartialValue>,
+    ) -> Result<Next, AllocError>
+        requires { part_bool (partial_view right.value) ≡ None }
+        ensures { (r : RequestPart) (k : ℕ) → IfOk result (GoesOn (setting_of r self.now) (calls_in self.now) k pendings.AndRight (answers (partial_view right.value))) }
+    {
         match Box::into_inner(right) {
-            PartialValue::Value(value) => Ok(bool_or_failure(alloc, &value)),
+            PartialValue::Value(value) => Ok(no_bool(alloc, &value)),
             PartialValue::Residual(right) => {
                 let left = Expr::val(Literal::Bool(true));
                 Ok(residual_answer(alloc, Expr::and(alloc, left, right.into_expr())?))
@@ -148,8 +208,26 @@ impl<'e, 'g, 'f> Evaluation<'e, 'g, 'f> {
     ) -> Result<Next, AllocError>
         ensures { (r : RequestPart) (k : ℕ) → IfOk result (GoesOn (setting_of r self.now) (calls_in self.now) k pendings.OrRight (answers (partial_view right.value))) }
     {
+        match known_bool(&right) {
+            Some(_) => Ok(Step::Done(Ok(right))),
+            None => self.after_no_bool_or_right(alloc, right),
+        }
+    }
+
+    // The same after one that is no boolean.
+    #[cold]
+    #[inline(never)]
+    #[tactic(auto, unfolding(cedar_model::specs::Rules::joined, cedar_model::specs::Rules::bool_or_failure))]
+    fn after_no_bool_or_right(
+        &self,
+        alloc: Global,
+        right: Box<PartialValue>,
+    ) -> Result<Next, AllocError>
+        requires { part_bool (partial_view right.value) ≡ None }
+        ensures { (r : RequestPart) (k : ℕ) → IfOk result (GoesOn (setting_of r self.now) (calls_in self.now) k pendings.OrRight (answers (partial_view right.value))) }
+    {
         match Box::into_inner(right) {
-            PartialValue::Value(value) => Ok(bool_or_failure(alloc, &value)),
+            PartialValue::Value(value) => Ok(no_bool(alloc, &value)),
             PartialValue::Residual(right) => {
                 let left = Expr::val(Literal::Bool(false));
                 Ok(residual_answer(alloc, Expr::or(alloc, left, right.into_expr())?))
@@ -189,16 +267,5 @@ impl<'e, 'g, 'f> Evaluation<'e, 'g, 'f> {
             alloc,
             Expr::or(alloc, Box::into_inner(left).into_expr(), right)?,
         ))
-    }
-}
-
-// The boolean, or that one is expected.
-#[tactic(auto, unfolding(cedar_model::specs::Rules::bool_or_failure))]
-fn bool_or_failure(alloc: Global, value: &Value) -> Next
-    ensures { Gives result (bool_or_failure (bool_of (abstract_value value.now.what)) value.now.what) }
-{
-    match bool_in(value) {
-        Some(b) => bool_answer(alloc, b),
-        None => no_bool(alloc, value),
     }
 }

@@ -1,5 +1,5 @@
 //! `if`.
-ghost use Rattle.std.specs.Prelude.{◌≡◌, ℕ, IfOk};
+ghost use Rattle.std.specs.Prelude.{◌≡◌, ℕ, None, IfOk};
 ghost use Rattle.cedar_model.specs.Terms.{if_then_else};
 ghost use Rattle.cedar_model.specs.Failures.{Answer, answers, answers_residual};
 ghost use Rattle.cedar_model.specs.Rules.{best, kept};
@@ -9,11 +9,12 @@ ghost use Rattle.cedar_data.specs.Residuals.{partial_view, residual_term};
 ghost use Rattle.cedar_expressions.specs.declared.expr.Expr.{Expr};
 ghost use Rattle.std.specs.declared.alloc.Global.{Global};
 ghost use Rattle.std.specs.declared.rc.Rc.{Rc};
+ghost use Rattle.cedar_evaluation.specs.Booleans.{part_bool};
 ghost use Rattle.cedar_evaluation.specs.Settings.{setting_of, calls_in};
 ghost use Rattle.cedar_evaluation.specs.Tasks.{Begins, GoesOn};
 ghost use Rattle.cedar_evaluation.specs.declared.frame.Pending.TheVariants as pendings;
 
-use crate::answers::{no_bool, residual_answer};
+use crate::answers::{known_bool, no_bool, residual_answer};
 use crate::boxed::boxed_beside;
 use crate::evaluation::Evaluation;
 use crate::frame::{Next, Pending, Task};
@@ -21,7 +22,6 @@ use crate::part::Part;
 use cedar_data::{PartialValue, ResidualExpr};
 use cedar_expressions::Expr;
 use cedar_frames::Step;
-use cedar_operators::typed::bool_in;
 use std::alloc::{AllocError, Global};
 use std::rc::Rc;
 
@@ -55,15 +55,34 @@ impl<'e, 'g, 'f> Evaluation<'e, 'g, 'f> {
     ) -> Result<Next, AllocError>
         ensures { (r : RequestPart) (k : ℕ) → IfOk result (GoesOn (setting_of r self.now) (calls_in self.now) k (pendings.Guard then_expr else_expr) (answers (partial_view guard.value))) }
     {
+        match known_bool(&guard) {
+            Some(true) => {
+                drop((guard, else_expr));
+                Ok(Step::Wait(Task::Other(Pending::Passed), Part::Shared(then_expr)))
+            }
+            Some(false) => {
+                drop((guard, then_expr));
+                Ok(Step::Wait(Task::Other(Pending::Passed), Part::Shared(else_expr)))
+            }
+            None => self.after_no_bool_guard(alloc, then_expr, else_expr, guard),
+        }
+    }
+
+    // The same after one that is no boolean.
+    #[cold]
+    #[inline(never)]
+    fn after_no_bool_guard(
+        &self,
+        alloc: Global,
+        then_expr: Rc<Expr>,
+        else_expr: Rc<Expr>,
+        guard: Box<PartialValue>,
+    ) -> Result<Next, AllocError>
+        requires { part_bool (partial_view guard.value) ≡ None }
+        ensures { (r : RequestPart) (k : ℕ) → IfOk result (GoesOn (setting_of r self.now) (calls_in self.now) k (pendings.Guard then_expr else_expr) (answers (partial_view guard.value))) }
+    {
         match Box::into_inner(guard) {
-            PartialValue::Value(value) => match bool_in(&value) {
-                Some(true) => Ok(Step::Wait(Task::Other(Pending::Passed), Part::Shared(then_expr))),
-                Some(false) => Ok(Step::Wait(
-                    Task::Other(Pending::Passed),
-                    Part::Shared(else_expr),
-                )),
-                None => Ok(no_bool(alloc, &value)),
-            },
+            PartialValue::Value(value) => Ok(no_bool(alloc, &value)),
             PartialValue::Residual(guard) => self.first_branch(alloc, guard, then_expr, else_expr),
         }
     }

@@ -47,17 +47,20 @@ impl<'e, 'g, 'f> Machine for Evaluation<'e, 'g, 'f> {
 
     ghost at_want = { Err stops.Memory };
 
+    #[inline(always)]
     fn start(&self, alloc: Global, part: &Part) -> Step<Frame, Part, Outcome> {
         let e = part.as_expr();
         let loc: Option<Loc> = e.source_loc().copied();
         placed(alloc, self.first(alloc, part), loc)
     }
 
+    #[inline(always)]
     fn resume(&self, alloc: Global, frame: Frame, answer: Outcome) -> Step<Frame, Part, Outcome> {
         let Frame { task, loc } = frame;
         placed(alloc, self.resumed(alloc, task, answer), loc)
     }
 
+    #[inline(always)]
     fn ends(&self, answer: &Outcome) -> bool {
         match answer {
             Ok(_) => false,
@@ -90,6 +93,7 @@ impl<'e, 'g, 'f> Machine for Evaluation<'e, 'g, 'f> {
 
 impl<'e, 'g, 'f> Evaluation<'e, 'g, 'f> {
     // What comes first of an expression.
+    #[inline(always)]
     fn first(&self, alloc: Global, part: &Part) -> Next
         ensures begins { (r : RequestPart) (k : ℕ) → Speaks r self.now → Begins (setting_of r self.now) (calls_in self.now) k (part_term part.now) result }
         ensures elements { NextStands (part_expr part.now) result }
@@ -101,6 +105,7 @@ impl<'e, 'g, 'f> Evaluation<'e, 'g, 'f> {
     }
 
     // What comes next of what waited, after this answer.
+    #[inline(always)]
     fn resumed(&self, alloc: Global, task: Task, answer: Outcome) -> Next
         ensures leads { (r : RequestPart) (k : ℕ) → Speaks r self.now → Leads (setting_of r self.now) (calls_in self.now) k task (outcome_answer answer) result }
         ensures fewer { LeftFewer task result }
@@ -113,6 +118,8 @@ impl<'e, 'g, 'f> Evaluation<'e, 'g, 'f> {
     }
 
     // The same after what stopped the part.
+    #[cold]
+    #[inline(never)]
     fn stopped(&self, alloc: Global, task: Task, stopped: Stopped) -> Next
         ensures leads { (r : RequestPart) (k : ℕ) → Speaks r self.now → Leads (setting_of r self.now) (calls_in self.now) k task (fails (stopped_failure stopped)) result }
         ensures fewer { LeftFewer task result }
@@ -126,6 +133,7 @@ impl<'e, 'g, 'f> Evaluation<'e, 'g, 'f> {
     }
 
     // The same after a value or a residual.
+    #[inline(always)]
     fn valued(&self, alloc: Global, task: Task, value: Box<PartialValue>) -> Next
         ensures leads { (r : RequestPart) (k : ℕ) → Speaks r self.now → Leads (setting_of r self.now) (calls_in self.now) k task (answers (partial_view value.value)) result }
         ensures fewer { LeftFewer task result }
@@ -164,6 +172,7 @@ impl<'e, 'g, 'f> Evaluation<'e, 'g, 'f> {
 }
 
 // The same at this location.
+#[inline(always)]
 fn placed(alloc: Global, next: Next, loc: Option<Loc>) -> Step<Frame, Part, Outcome>
     ensures place { IsPlaced next loc result }
     ensures same { StaysSame next result }
@@ -176,6 +185,7 @@ fn placed(alloc: Global, next: Next, loc: Option<Loc>) -> Step<Frame, Part, Outc
 }
 
 // The value or residual at this location.
+#[inline(always)]
 fn part_at(alloc: Global, mut part: Box<PartialValue>, loc: Option<Loc>) -> Outcome
     ensures place { IsPlaced (Done (Ok part)) loc (Done result) }
     ensures same { IsSame (Ok part) result }
@@ -188,6 +198,7 @@ fn part_at(alloc: Global, mut part: Box<PartialValue>, loc: Option<Loc>) -> Outc
 }
 
 // Puts a value at this location; a residual stays.
+#[inline(always)]
 fn is_value_put(part: &mut PartialValue, loc: Option<Loc>) -> bool
     ensures view { partial_view part.new ≡ partial_view part.old }
     ensures inside { partial_inside part.new ≡ partial_inside part.old }

@@ -1,5 +1,9 @@
 //! Operators on the answers of parts.
-ghost use Rattle.std.specs.Prelude.{◌≡◌, ℕ, IfOk};
+ghost use Rattle.std.specs.Prelude.{◌≡◌, ℕ, true, false, IfOk};
+ghost use Rattle.cedar_model.specs.Terms.{unary};
+ghost use Rattle.cedar_model.specs.Operators.{unary_answer};
+ghost use Rattle.cedar_model.specs.Rules.{on_part};
+ghost use Rattle.cedar_names.specs.Leaves.{unary_view};
 ghost use Rattle.cedar_model.specs.Failures.{answers};
 ghost use Rattle.cedar_model.specs.Settings.{RequestPart};
 ghost use Rattle.cedar_data.specs.Residuals.{partial_view};
@@ -7,7 +11,7 @@ ghost use Rattle.cedar_evaluation.specs.Settings.{setting_of, calls_in};
 ghost use Rattle.cedar_evaluation.specs.Tasks.{GoesOn};
 ghost use Rattle.cedar_evaluation.specs.declared.frame.Pending.TheVariants as pendings;
 
-use crate::answers::answered;
+use crate::answers::{answered, known_bool};
 use crate::evaluation::Evaluation;
 use crate::frame::{Next, Pending, Task};
 use crate::part::Part;
@@ -16,17 +20,36 @@ use cedar_data::PartialValue;
 use cedar_expressions::Expr;
 use cedar_frames::Step;
 use cedar_names::{BinaryOp, EntityType, FirstRest, Pattern, UnaryOp};
+use cedar_operators::typed::bool_part;
 use cedar_partial_operators::attributes::{
     Projected, attribute_of_part, extended_has_of_part, has_of_part,
 };
 use cedar_partial_operators::binary::binary_of_parts;
 use cedar_partial_operators::unary::{is_of_part, like_of_part, unary_of_part};
 use std::alloc::{AllocError, Global};
+use std::mem;
 use std::rc::{Rc, RcStr};
 
 impl<'e, 'g, 'f> Evaluation<'e, 'g, 'f> {
     // An operator on its one operand.
     pub(crate) fn after_operand(
+        &self,
+        alloc: Global,
+        op: UnaryOp,
+        mut operand: Box<PartialValue>,
+    ) -> Result<Next, AllocError>
+        ensures { (r : RequestPart) (k : ℕ) → IfOk result (GoesOn (setting_of r self.now) (calls_in self.now) k (pendings.Unary op) (answers (partial_view operand.value))) }
+    {
+        if is_negated(op, &mut operand) {
+            Ok(Step::Done(Ok(operand)))
+        } else {
+            self.after_other_operand(alloc, op, operand)
+        }
+    }
+
+    // The same of any operator and operand.
+    #[inline(never)]
+    fn after_other_operand(
         &self,
         alloc: Global,
         op: UnaryOp,
@@ -164,5 +187,23 @@ impl<'e, 'g, 'f> Evaluation<'e, 'g, 'f> {
             alloc,
             is_of_part(alloc, Box::into_inner(entity), &entity_type),
         ))
+    }
+}
+
+// Negates a boolean where the operator is `!`. Anything else stays.
+fn is_negated(op: UnaryOp, part: &mut PartialValue) -> bool
+    ensures negated { result ≡ true → answers (partial_view part.new) ≡ on_part (unary_answer (unary_view op)) (unary (unary_view op)) (answers (partial_view part.old)) }
+    ensures same { result ≡ false → part.new ≡ part.old }
+{
+    match op {
+        UnaryOp::Not => match known_bool(part) {
+            Some(b) => {
+                drop(mem::replace(part, bool_part(!b)));
+                true
+            }
+            None => false,
+        },
+        UnaryOp::Neg => false,
+        UnaryOp::IsEmpty => false,
     }
 }

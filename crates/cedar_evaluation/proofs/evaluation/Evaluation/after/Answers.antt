@@ -1,6 +1,5 @@
 use Rattle.std.proofs.Common.{IfOk, sym, subst}
 use Rattle.cedar_model.specs.Failures.{answers}
-use Rattle.cedar_expressions.specs.View.{view}
 use Rattle.cedar_data.specs.Residuals.{partial_view}
 use Rattle.cedar_evaluation.specs.Settings.{setting_of, calls_in}
 use Rattle.cedar_evaluation.specs.Tasks.{GoesOn}
@@ -46,21 +45,13 @@ pub returns-in-Is : goal.returns-in-Is
 returns-in-Is g c r k = subst (λ p. IfOk c.after_entity.result (GoesOn (setting_of r c.args.self.now) (calls_in c.args.self.now) k p (answers (partial_view c.args.answer.value)))) (sym c.in-Is.is) (c.after_entity.ensures r k)
 
 pub returns-in-Then : goal.returns-in-Then
-returns-in-Then g c r k =
-    subst (λ p. IfOk c.second_branch.result (GoesOn (setting_of r c.args.self.now) (calls_in c.args.self.now) k p (answers (partial_view c.args.answer.value)))) (sym c.in-Then.is)
-    (c.second_branch.ensures r k (answers (partial_view c.args.answer.value)) (c.kept_part.ensures (view c.in-Then.then_expr.value)))
+returns-in-Then g c r k = subst (λ p. IfOk c.after_then.result (GoesOn (setting_of r c.args.self.now) (calls_in c.args.self.now) k p (answers (partial_view c.args.answer.value)))) (sym c.in-Then.is) (c.after_then.ensures r k)
 
 pub returns-in-Else : goal.returns-in-Else
-returns-in-Else g c r k =
-    subst (λ p. IfOk c.both_branches.result (GoesOn (setting_of r c.args.self.now) (calls_in c.args.self.now) k p (answers (partial_view c.args.answer.value)))) (sym c.in-Else.is)
-    (c.both_branches.ensures r k (answers (partial_view c.args.answer.value)) (c.kept_part-in-Else.ensures (view c.in-Else.else_expr.value)))
+returns-in-Else g c r k = subst (λ p. IfOk c.after_else.result (GoesOn (setting_of r c.args.self.now) (calls_in c.args.self.now) k p (answers (partial_view c.args.answer.value)))) (sym c.in-Else.is) (c.after_else.ensures r k)
 
 pub returns-in-AndKept : goal.returns-in-AndKept
-returns-in-AndKept g c r k =
-    subst (λ p. IfOk c.kept_conjunction.result (GoesOn (setting_of r c.args.self.now) (calls_in c.args.self.now) k p (answers (partial_view c.args.answer.value)))) (sym c.in-AndKept.is)
-    (c.kept_conjunction.ensures r k (answers (partial_view c.args.answer.value)) (c.kept_part-in-AndKept.ensures (view c.in-AndKept.right.value)))
+returns-in-AndKept g c r k = subst (λ p. IfOk c.after_and_kept.result (GoesOn (setting_of r c.args.self.now) (calls_in c.args.self.now) k p (answers (partial_view c.args.answer.value)))) (sym c.in-AndKept.is) (c.after_and_kept.ensures r k)
 
 pub returns-in-OrKept : goal.returns-in-OrKept
-returns-in-OrKept g c r k =
-    subst (λ p. IfOk c.kept_disjunction.result (GoesOn (setting_of r c.args.self.now) (calls_in c.args.self.now) k p (answers (partial_view c.args.answer.value)))) (sym c.in-OrKept.is)
-    (c.kept_disjunction.ensures r k (answers (partial_view c.args.answer.value)) (c.kept_part-in-OrKept.ensures (view c.in-OrKept.right.value)))
+returns-in-OrKept g c r k = subst (λ p. IfOk c.after_or_kept.result (GoesOn (setting_of r c.args.self.now) (calls_in c.args.self.now) k p (answers (partial_view c.args.answer.value)))) (sym c.in-OrKept.is) (c.after_or_kept.ensures r k)

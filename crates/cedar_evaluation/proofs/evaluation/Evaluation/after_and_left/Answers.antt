@@ -1,11 +1,12 @@
-use Rattle.std.proofs.Common.{IfOk, sym, ◌∙◌, subst}
-use Rattle.cedar_model.specs.Failures.{answers}
+use Rattle.std.proofs.Common.{sym, ap, ◌≡◌, ◌∙◌, subst, Some, false}
+use Rattle.cedar_model.specs.Rules.{Runs}
+use Rattle.cedar_expressions.specs.View.{view}
 use Rattle.cedar_data.specs.Residuals.{partial_view}
-use Rattle.cedar_evaluation.specs.declared.frame.Pending.TheVariants as pendings
+use Rattle.cedar_evaluation.specs.Booleans.{part_bool, and_false}
 use Rattle.cedar_evaluation.specs.Settings.{setting_of, calls_in}
-use Rattle.cedar_evaluation.specs.Tasks.{GoesOn}
 use Rattle.cedar_evaluation.proofs.evaluation.Evaluation.after_and_left.Goals as goal
 
-pub returns-in-Residual : goal.returns-in-Residual
-returns-in-Residual g c r k =
-    subst (λ p. IfOk c.and_kept.result (GoesOn (setting_of r c.args.self.now) (calls_in c.args.self.now) k (pendings.AndLeft c.args.right) (answers (partial_view p)))) (sym c.in-Residual.is ∙ c.into_inner.ensures) (c.and_kept.ensures r k)
+pub returns-in-Some-false : goal.returns-in-Some-false
+returns-in-Some-false g c r k = λ ok.
+    and_false (Runs (setting_of r c.args.self.now) (calls_in c.args.self.now) k) (partial_view c.args.left.value) (view c.args.right.value)
+    (subst (λ x. part_bool (partial_view x) ≡ Some false) c.deref.ensures (sym c.known_bool.ensures ∙ c.in-Some-false.is ∙ ap Some c.in-Some-false.field-0-test))

@@ -1,12 +1,12 @@
+use Rattle.std.proofs.Common.{IfOk, ◌∙◌, subst}
 use Rattle.cedar_model.specs.Failures.{answers}
 use Rattle.cedar_data.specs.Residuals.{partial_view}
 use Rattle.cedar_evaluation.specs.declared.frame.Pending.TheVariants as pendings
 use Rattle.cedar_evaluation.specs.Settings.{setting_of, calls_in}
-use Rattle.cedar_evaluation.specs.Laws.{gives_goes_on}
+use Rattle.cedar_evaluation.specs.Tasks.{GoesOn}
 use Rattle.cedar_evaluation.proofs.evaluation.Evaluation.after_operand.Goals as goal
 
-pub returns : goal.returns
-returns g c r k =
-    let s = setting_of r c.args.self.now in
-    gives_goes_on s (calls_in c.args.self.now) k (pendings.Unary c.args.op) (answers (partial_view c.args.operand.value)) _ c.answered.result
-    (λ a ok is. is) (c.answered.ensures _ (rw (c.into_inner.ensures) at c.unary_of_part.ensures))
+pub returns-else-is_negated : goal.returns-else-is_negated
+returns-else-is_negated g c r k =
+    subst (λ p. IfOk c.after_other_operand.result (GoesOn (setting_of r c.args.self.now) (calls_in c.args.self.now) k (pendings.Unary c.args.op) (answers (partial_view p))))
+    (c.is_negated.ensures.same c.if-is_negated.false ∙ c.deref_mut.ensures.value) (c.after_other_operand.ensures r k)

@@ -4,8 +4,8 @@ use Rattle.cedar_data.specs.Residuals.{partial_view}
 use Rattle.cedar_evaluation.specs.declared.frame.Pending.TheVariants as pendings
 use Rattle.cedar_evaluation.specs.Settings.{setting_of, calls_in}
 use Rattle.cedar_evaluation.specs.Tasks.{GoesOn}
-use Rattle.cedar_evaluation.proofs.evaluation.Evaluation.after_guard.Goals as goal
+use Rattle.cedar_evaluation.proofs.evaluation.Evaluation.after_no_bool_and_left.Goals as goal
 
 pub returns-in-Residual : goal.returns-in-Residual
 returns-in-Residual g c r k =
-    subst (λ p. IfOk c.first_branch.result (GoesOn (setting_of r c.args.self.now) (calls_in c.args.self.now) k (pendings.Guard c.args.then_expr c.args.else_expr) (answers (partial_view p)))) (sym c.in-Residual.is ∙ c.into_inner.ensures) (c.first_branch.ensures r k)
+    subst (λ p. IfOk c.and_kept.result (GoesOn (setting_of r c.args.self.now) (calls_in c.args.self.now) k (pendings.AndLeft c.args.right) (answers (partial_view p)))) (sym c.in-Residual.is ∙ c.into_inner.ensures) (c.and_kept.ensures r k)

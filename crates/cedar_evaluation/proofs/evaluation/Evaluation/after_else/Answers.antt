@@ -1,0 +1,7 @@
+use Rattle.cedar_model.specs.Failures.{answers}
+use Rattle.cedar_expressions.specs.View.{view}
+use Rattle.cedar_data.specs.Residuals.{partial_view}
+use Rattle.cedar_evaluation.proofs.evaluation.Evaluation.after_else.Goals as goal
+
+pub returns : goal.returns
+returns g c r k = c.both_branches.ensures r k (answers (partial_view c.args.answer.value)) (c.kept_part.ensures (view c.args.else_expr.value))

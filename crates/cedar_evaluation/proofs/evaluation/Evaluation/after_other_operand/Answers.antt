@@ -1,0 +1,12 @@
+use Rattle.cedar_model.specs.Failures.{answers}
+use Rattle.cedar_data.specs.Residuals.{partial_view}
+use Rattle.cedar_evaluation.specs.declared.frame.Pending.TheVariants as pendings
+use Rattle.cedar_evaluation.specs.Settings.{setting_of, calls_in}
+use Rattle.cedar_evaluation.specs.Laws.{gives_goes_on}
+use Rattle.cedar_evaluation.proofs.evaluation.Evaluation.after_other_operand.Goals as goal
+
+pub returns : goal.returns
+returns g c r k =
+    let s = setting_of r c.args.self.now in
+    gives_goes_on s (calls_in c.args.self.now) k (pendings.Unary c.args.op) (answers (partial_view c.args.operand.value)) _ c.answered.result
+    (λ a ok is. is) (c.answered.ensures _ (rw (c.into_inner.ensures) at c.unary_of_part.ensures))
