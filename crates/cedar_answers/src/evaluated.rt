@@ -181,8 +181,11 @@ fn fewest_levels(
 ) -> Result<usize, Unanswered> {
     for limit in 0..LIMIT {
         let outcome = partial_outcome(alloc, setting, limit, expr);
-        let is_met = is_limit(&outcome);
+        let (is_met, is_wanting) = (is_limit(&outcome), is_want(&outcome));
         drop(outcome);
+        if is_wanting {
+            return Err(Unanswered::Memory);
+        }
         if !is_met {
             return Ok(limit);
         }
