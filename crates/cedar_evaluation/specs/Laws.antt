@@ -1,14 +1,17 @@
 -- The laws of the evaluation over frames.
-use Rattle.std.specs.Prelude.{◌≡◌, ◌≢◌, ℕ, suc, ◌+◌, ◌^◌, ◌<◌, ◌≤◌, true, List, Option, None, Result, Ok, Err, IfOk}
-use Rattle.std.proofs.Common.{refl, sym, ◌∙◌, subst, arith}
+use Rattle.std.specs.Prelude.{◌≡◌, ◌≢◌, ℕ, suc, ◌+◌, ◌^◌, ◌<◌, ◌≤◌, Bool, true, false, List, Option, None, Some, Result, Ok, Err, IfOk}
+use Rattle.std.proofs.Common.{refl, sym, ap, ◌∙◌, subst, arith}
 use Rattle.std.specs.declared.alloc.AllocError.{AllocError}
-use Rattle.cedar_model.specs.Terms.{Text, Term}
+use Rattle.cedar_model.specs.Terms.{Text, Term, bool_literal, literal, both, either}
+use Rattle.cedar_model.specs.Values.{plain_represented}
+use Rattle.cedar_model.specs.Outcomes.{bool_of}
 use Rattle.cedar_model.specs.Failures as model
-use Rattle.cedar_model.specs.Failures.{Answer, answers, fails, limit, out_of_memory, failure_kind}
+use Rattle.cedar_model.specs.Failures.{Answer, value, answers, answers_bool, fails, limit, out_of_memory, failure_kind}
 use Rattle.cedar_model.specs.Settings.{RequestPart, Store, Resolution, shallow, deep, Setting}
-use Rattle.cedar_model.specs.Rules.{MayAnswer, StoredCalls, Runs, Resolves, AtPath, best, best_of_kind, joined, on_part, beside_residual, binary_beside, has_part, is_part}
+use Rattle.cedar_model.specs.Rules.{MayAnswer, StoredCalls, Runs, Meets, Resolves, AtPath, best, best_of_kind, joined, on_part, beside_residual, binary_beside, has_part, is_part}
 use Rattle.cedar_names.specs.declared.names.Loc.{Loc}
-use Rattle.cedar_expressions.specs.View.{expr_loc}
+use Rattle.cedar_expressions.specs.declared.expr.Expr.{Expr}
+use Rattle.cedar_expressions.specs.View.{view, expr_loc}
 use Rattle.cedar_data.specs.declared.partial_value.PartialValue.{PartialValue}
 use Rattle.cedar_data.specs.Residuals.{partial_view, partial_loc}
 use Rattle.cedar_frames.specs.declared.machine.Step.TheVariants.{Done, Wait}
@@ -26,41 +29,170 @@ use Rattle.cedar_evaluation.specs.declared.frame.Pending.{Pending}
 use Rattle.cedar_evaluation.specs.declared.frame.Pending.TheVariants as pendings
 use Rattle.cedar_evaluation.specs.declared.frame.Task.{Task}
 use Rattle.cedar_evaluation.specs.declared.frame.Task.TheVariants as tasks
-use Rattle.cedar_evaluation.specs.declared.part.Part.{Part}
 use Rattle.cedar_evaluation.specs.declared.stopped.Stopped.TheVariants as stops
-use Rattle.cedar_evaluation.specs.Parts.{part_expr, part_term}
 use Rattle.cedar_evaluation.specs.Endings.{Outcome, outcome_answer}
-use Rattle.cedar_evaluation.specs.Tasks.{Next, Uses, WaitsFor, Begins, Gives, GoesOn, Leads, LeftFewer, pending_left, task_left}
-use Rattle.cedar_evaluation.specs.Frames.{Placed, IsRight, Waits, IsPlaced, ends_all, left_of}
-use Rattle.cedar_evaluation.specs.PartsLaws.{IsTaken, no_fail, parts_fail, parts_go_on}
+use Rattle.cedar_evaluation.specs.Tasks.{Part, Next, StandsAt, Uses, WaitsFor, Begins, Gives, HasPlace, IsOrWant, IsWaiting, IsRightSide, IsPassed, WaitsAgain, GoesOn, Leads, LeftFewer, pending_left, task_left}
+use Rattle.cedar_evaluation.specs.Frames.{IsRight, Waits, ends_all, left_of}
+use Rattle.cedar_evaluation.specs.Booleans.{part_bool, joins, and_true, or_false}
+use Rattle.cedar_evaluation.specs.PartsLaws.{IsTaken, IsNextPart, no_fail, parts_fail, parts_go_on}
 
 limit_no_want : limit ≢ fails out_of_memory
 limit_no_want h = cc
 
 -- ---- on with an answer
 
--- what is given is what the rules make of the part's answer
-pub gives_goes_on : (s : Setting) (calls : StoredCalls) (k : ℕ) (p : Pending) (x b : Answer) (n : Next) →
-    ((a : Answer) → a ≢ fails out_of_memory → a ≡ b → Uses s (Runs s calls k) p x a) → Gives n b → GoesOn s calls k p x n
-gives_goes_on s calls k p x b (Done r) uses gives = λ ok. uses (outcome_answer r) ok (gives ok)
-gives_goes_on s calls k p x b (Wait task c) uses gives = absurd gives
+-- what is given is what the rules make of an expression without parts
+pub gives_begins : (s : Setting) (calls : StoredCalls) (k : ℕ) (l : Option Loc) (t : Term) (b : Answer) (n : Next) →
+    ((a : Answer) → a ≢ fails out_of_memory → a ≡ b → Runs s calls (suc k) t a) → Gives l n b → Begins s calls k l t n
+gives_begins s calls k l t b (Done r) runs gives = (λ ok. runs (outcome_answer r) ok (gives.0 ok), gives.1)
+gives_begins s calls k l t b (Wait f c) runs gives = absurd gives
 
--- the same, where memory may be wanting for the next step
-pub some_goes_on : (s : Setting) (calls : StoredCalls) (k : ℕ) (p : Pending) (x b : Answer) (n : Result Next AllocError) →
-    ((a : Answer) → a ≢ fails out_of_memory → a ≡ b → Uses s (Runs s calls k) p x a) → IfOk n (λ m. Gives m b) → IfOk n (GoesOn s calls k p x)
-some_goes_on s calls k p x b (Ok n) uses gives = gives_goes_on s calls k p x b n uses gives
-some_goes_on s calls k p x b (Err e) uses gives = tt
+-- where what comes next stands
+pub begins_placed : (s : Setting) (calls : StoredCalls) (k : ℕ) (l : Option Loc) (t : Term) (n : Next) → Begins s calls k l t n → HasPlace l n
+begins_placed s calls k l t (Done r) begins = begins.1
+begins_placed s calls k l t (Wait f c) begins = begins.1
+
+pub goes_on_placed : (s : Setting) (calls : StoredCalls) (k : ℕ) (l : Option Loc) (p : Pending) (x : Answer) (n : Next) → GoesOn s calls k l p x n → HasPlace l n
+goes_on_placed s calls k l p x (Done r) goes = goes.1
+goes_on_placed s calls k l p x (Wait f c) goes = goes.1
+
+pub taken_placed : (l : Option Loc) (x : NextPart) (n : Next) → IsTaken l x n → HasPlace l n
+taken_placed l (Wait f c) (Wait g d) taken = taken.1
+taken_placed l (Wait f c) (Done o) taken = subst (StandsAt l) (sym taken) tt
+taken_placed l (Done r) (Done o) taken = taken.1
+taken_placed l (Done r) (Wait g d) taken = absurd taken
+
+pub given_fewer : (l : Option Loc) (task : Task) (n : Next) (a : Answer) → Gives l n a → LeftFewer task n
+given_fewer l task (Done r) a gives = tt
+given_fewer l task (Wait f c) a gives = absurd gives
+
+pub gives_placed : (l : Option Loc) (n : Next) (a : Answer) → Gives l n a → HasPlace l n
+gives_placed l (Done r) a gives = gives.1
+gives_placed l (Wait f c) a gives = absurd gives
+
+-- what is given, where memory may be wanting
+pub or_want_gives : (l : Option Loc) (b : Answer) (m : Result Next AllocError) (n : Next) → IfOk m (λ x. Gives l x b) → IsOrWant m n → Gives l n b
+or_want_gives l b (Ok m) n gives is = subst (λ x. Gives l x b) (sym is) gives
+or_want_gives l b (Err e) n gives is = subst (λ x. Gives l x b) (sym is) (λ ok. absurd (ok refl), tt)
+
+pub or_want_next : (l : Option Loc) (f : PartsFrame) (c : Expr) (m : Result Next AllocError) (n : Next) → IfOk m (IsNextPart l f c) → IsOrWant m n → IsNextPart l f c n
+or_want_next l f c (Ok m) n next is = subst (IsNextPart l f c) (sym is) next
+or_want_next l f c (Err e) n next is = subst (IsNextPart l f c) (sym is) refl
+
+-- what is given is what the rules make of the part's answer
+pub gives_goes_on : (s : Setting) (calls : StoredCalls) (k : ℕ) (l : Option Loc) (p : Pending) (x b : Answer) (n : Next) →
+    ((a : Answer) → a ≢ fails out_of_memory → a ≡ b → Uses s (Runs s calls k) p x a) → Gives l n b → GoesOn s calls k l p x n
+gives_goes_on s calls k l p x b (Done r) uses gives = (λ ok. uses (outcome_answer r) ok (gives.0 ok), gives.1)
+gives_goes_on s calls k l p x b (Wait f c) uses gives = absurd gives
 
 -- what waited for a part other than one of a set, a record or a call
-pub goes_on_leads : (s : Setting) (calls : StoredCalls) (k : ℕ) (p : Pending) (x : Answer) (n : Next) → x ≢ fails out_of_memory → GoesOn s calls k p x n → Leads s calls k (tasks.Other p) x n
-goes_on_leads s calls k p x (Done r) no_want goes t c waits meets = λ ok. waits x (outcome_answer r) (meets no_want) (goes ok)
-goes_on_leads s calls k p x (Wait (tasks.Parts f) d) no_want goes t c waits meets = absurd goes
-goes_on_leads s calls k p x (Wait (tasks.Other q) d) no_want goes t c waits meets = λ y a runs uses. waits x a (meets no_want) (goes.1 y a runs uses)
+waits_again_leads : (s : Setting) (calls : StoredCalls) (k : ℕ) (p : Pending) (x : Answer) (task : Task) (d : Term) → x ≢ fails out_of_memory →
+    WaitsAgain s calls k p x task d → (t c : Term) → WaitsFor s calls k (tasks.Other p) t c → Meets (Runs s calls k c) x → WaitsFor s calls k task t d
+waits_again_leads s calls k p x (tasks.Parts f) d no_want goes t c waits meets = absurd goes
+waits_again_leads s calls k p x (tasks.Other q) d no_want goes t c waits meets = λ y a runs uses. waits x a (meets no_want) (goes.1 y a runs uses)
 
-pub goes_on_fewer : (s : Setting) (calls : StoredCalls) (k : ℕ) (p : Pending) (x : Answer) (n : Next) → GoesOn s calls k p x n → LeftFewer (tasks.Other p) n
-goes_on_fewer s calls k p x (Done r) goes = tt
-goes_on_fewer s calls k p x (Wait (tasks.Parts f) d) goes = absurd goes
-goes_on_fewer s calls k p x (Wait (tasks.Other q) d) goes = goes.0
+pub goes_on_leads : (s : Setting) (calls : StoredCalls) (k : ℕ) (l : Option Loc) (p : Pending) (x : Answer) (n : Next) → x ≢ fails out_of_memory → GoesOn s calls k l p x n → Leads s calls k l (tasks.Other p) x n
+goes_on_leads s calls k l p x (Done r) no_want goes t c waits meets = (λ ok. waits x (outcome_answer r) (meets no_want) (goes.0 ok), goes.1)
+goes_on_leads s calls k l p x (Wait f d) no_want goes t c waits meets = (waits_again_leads s calls k p x f.task (view d.value) no_want goes.0 t c waits meets, goes.1)
+
+waits_again_fewer : (s : Setting) (calls : StoredCalls) (k : ℕ) (p : Pending) (x : Answer) (task : Task) (d : Term) → WaitsAgain s calls k p x task d → task_left task < pending_left p
+waits_again_fewer s calls k p x (tasks.Parts f) d goes = absurd goes
+waits_again_fewer s calls k p x (tasks.Other q) d goes = goes.0
+
+pub goes_on_fewer : (s : Setting) (calls : StoredCalls) (k : ℕ) (l : Option Loc) (p : Pending) (x : Answer) (n : Next) → GoesOn s calls k l p x n → LeftFewer (tasks.Other p) n
+goes_on_fewer s calls k l p x (Done r) goes = tt
+goes_on_fewer s calls k l p x (Wait f d) goes = waits_again_fewer s calls k p x f.task (view d.value) goes.0
+
+-- what goes on, where memory may be wanting
+pub or_want_goes_on : (s : Setting) (calls : StoredCalls) (k : ℕ) (l : Option Loc) (p : Pending) (x : Answer) (m : Result Next AllocError) (n : Next) →
+    IfOk m (GoesOn s calls k l p x) → IsOrWant m n → GoesOn s calls k l p x n
+or_want_goes_on s calls k l p x (Ok m) n goes is = subst (GoesOn s calls k l p x) (sym is) goes
+or_want_goes_on s calls k l p x (Err e) n goes is = subst (GoesOn s calls k l p x) (sym is) (λ ok. absurd (ok refl), tt)
+
+-- a literal boolean on the right is given
+pub gives_right_side : (l : Option Loc) (p : Pending) (c : Part) (n : Next) (b : Bool) → view c.value ≡ literal (bool_literal b) → Gives l n (answers_bool b) → IsRightSide l p c n
+gives_right_side l p c (Done r) b seen gives = (b, seen, gives)
+gives_right_side l p c (Wait f d) b seen gives = absurd gives
+
+literal_joined : (with_left : Term → Term) (b : Bool) → answers_bool b ≡ joined with_left (answers_bool b)
+unfolding bool_of
+literal_joined with_left b = joins with_left (value (plain_represented (bool_literal b))) b refl
+
+module _ (s : Setting) (calls : StoredCalls) (k : ℕ) (l : Option Loc) (right : Part) (p : model.PartialValue) where
+  literal_right : (b : Bool) → view right.value ≡ literal (bool_literal b) → Runs s calls (suc k) (view right.value) (answers_bool b)
+  literal_right b seen = subst (λ t. Runs s calls (suc k) t (answers_bool b)) (sym seen) refl
+
+  -- a true left side of `&&`
+  pub and_right_side : (n : Next) → part_bool p ≡ Some true → IsRightSide l pendings.AndRight right n → GoesOn s calls (suc k) l (pendings.AndLeft right) (answers p) n
+  and_right_side (Done r) is (b, seen, (gives, place)) = (
+    λ ok. and_true (Runs s calls (suc k)) p (view right.value) (answers_bool b) (outcome_answer r) is (literal_right b seen)
+        (gives ok ∙ literal_joined (both (literal (bool_literal true))) b),
+    place,
+  )
+  and_right_side (Wait f d) is (task, part, place) = (
+    subst (λ x. WaitsAgain s calls (suc k) (pendings.AndLeft right) (answers p) x (view d.value)) (sym task)
+        (subst (λ c. WaitsAgain s calls (suc k) (pendings.AndLeft right) (answers p) (tasks.Other pendings.AndRight) (view c.value)) (sym part)
+        (omega arith, λ y a runs uses. and_true (Runs s calls (suc k)) p (view right.value) y a is runs uses)),
+    place,
+  )
+
+  -- a false left side of `||`
+  pub or_right_side : (n : Next) → part_bool p ≡ Some false → IsRightSide l pendings.OrRight right n → GoesOn s calls (suc k) l (pendings.OrLeft right) (answers p) n
+  or_right_side (Done r) is (b, seen, (gives, place)) = (
+    λ ok. or_false (Runs s calls (suc k)) p (view right.value) (answers_bool b) (outcome_answer r) is (literal_right b seen)
+        (gives ok ∙ literal_joined (either (literal (bool_literal false))) b),
+    place,
+  )
+  or_right_side (Wait f d) is (task, part, place) = (
+    subst (λ x. WaitsAgain s calls (suc k) (pendings.OrLeft right) (answers p) x (view d.value)) (sym task)
+        (subst (λ c. WaitsAgain s calls (suc k) (pendings.OrLeft right) (answers p) (tasks.Other pendings.OrRight) (view c.value)) (sym part)
+        (omega arith, λ y a runs uses. or_false (Runs s calls (suc k)) p (view right.value) y a is runs uses)),
+    place,
+  )
+
+-- the next operand
+pub waiting_goes_on : (s : Setting) (calls : StoredCalls) (k : ℕ) (w : Part) (p q : Pending) (x : Answer) (c : Part) (n : Next) →
+    pending_left q < pending_left p → ((y a : Answer) → Runs s calls k (view c.value) y → Uses s (Runs s calls k) q y a → Uses s (Runs s calls k) p x a) →
+    IsWaiting w (tasks.Other q) c n → GoesOn s calls k (expr_loc w.value) p x n
+waiting_goes_on s calls k w p q x c (Done r) fewer uses is =
+    subst (λ o. GoesOn s calls k (expr_loc w.value) p x (Done o)) (sym is) (λ ok. absurd (ok refl), tt)
+waiting_goes_on s calls k w p q x c (Wait f d) fewer uses (task, part, whole) = (
+  subst (λ t. WaitsAgain s calls k p x t (view d.value)) (sym task)
+      (subst (λ e. WaitsAgain s calls k p x (tasks.Other q) (view e)) (sym part) (fewer, uses)),
+  ap expr_loc whole,
+)
+
+-- what goes on of one wait goes on of another, where what the rules make of it is what they make of the other
+waits_through : (s : Setting) (calls : StoredCalls) (k : ℕ) (p q : Pending) (x y : Answer) (task : Task) (d : Term) →
+    pending_left q < pending_left p → ((a : Answer) → Uses s (Runs s calls k) q y a → Uses s (Runs s calls k) p x a) →
+    WaitsAgain s calls k q y task d → WaitsAgain s calls k p x task d
+waits_through s calls k p q x y (tasks.Parts f) d fewer lift waits = absurd waits
+waits_through s calls k p q x y (tasks.Other o) d fewer lift (less, again) =
+    (omega (arith, fewer, less), λ z a runs uses. lift a (again z a runs uses))
+
+pub goes_on_through : (s : Setting) (calls : StoredCalls) (k : ℕ) (l : Option Loc) (p q : Pending) (x y : Answer) (n : Next) →
+    pending_left q < pending_left p → ((a : Answer) → Uses s (Runs s calls k) q y a → Uses s (Runs s calls k) p x a) →
+    GoesOn s calls k l q y n → GoesOn s calls k l p x n
+goes_on_through s calls k l p q x y (Done r) fewer lift (goes, place) = (λ ok. lift (outcome_answer r) (goes ok), place)
+goes_on_through s calls k l p q x y (Wait f d) fewer lift (waits, place) =
+    (waits_through s calls k p q x y f.task (view d.value) fewer lift waits, place)
+
+-- and can wait less often
+pub fewer_through : (p q : Pending) (n : Next) → pending_left q < pending_left p → LeftFewer (tasks.Other q) n → LeftFewer (tasks.Other p) n
+fewer_through p q (Done r) fewer less = tt
+fewer_through p q (Wait f d) fewer less = omega (arith, fewer, less)
+
+-- a part that is the answer
+pub passed_again : (s : Setting) (calls : StoredCalls) (k : ℕ) (l : Option Loc) (p : Pending) (x : Answer) (e : Expr) (n : Next) →
+    pending_left pendings.Passed < pending_left p → ((y a : Answer) → Runs s calls k (view e) y → a ≡ y → Uses s (Runs s calls k) p x a) →
+    IsPassed l e n → GoesOn s calls k l p x n
+passed_again s calls k l p x e (Done r) fewer uses is =
+    subst (λ o. GoesOn s calls k l p x (Done o)) (sym is) (λ ok. absurd (ok refl), tt)
+passed_again s calls k l p x e (Wait f d) fewer uses (task, part, place) = (
+  subst (λ t. WaitsAgain s calls k p x t (view d.value)) (sym task)
+      (subst (λ c. WaitsAgain s calls k p x (tasks.Other pendings.Passed) (view c)) (sym part) (fewer, uses)),
+  place,
+)
 
 resolved : (May : MayAnswer) (q : Resolution) (a : Answer) → Resolves May q None a a
 resolved May shallow a = refl
@@ -76,8 +208,8 @@ uses_limit : (s : Setting) (May : MayAnswer) (p : Pending) → Uses s May p limi
 unfolding best best_of_kind joined on_part binary_beside beside_residual has_part is_part failure_kind
 uses_limit s May pendings.Passed = refl
 uses_limit s May (pendings.Guard t e) = refl
-uses_limit s May (pendings.Then g t e) = refl
-uses_limit s May (pendings.Else g t e) = refl
+uses_limit s May (pendings.Then f) = refl
+uses_limit s May (pendings.Else f) = refl
 uses_limit s May (pendings.AndLeft r) = refl
 uses_limit s May pendings.AndRight = refl
 uses_limit s May (pendings.AndKept l r) = refl
@@ -97,8 +229,8 @@ uses_limit s May (pendings.Is t) = refl
 abbrev pub IsPassedOn : Pending → Type 0
 IsPassedOn pendings.Passed = Unit {0}
 IsPassedOn (pendings.Guard t e) = Unit {0}
-IsPassedOn (pendings.Then g t e) = ⊥
-IsPassedOn (pendings.Else g t e) = ⊥
+IsPassedOn (pendings.Then f) = ⊥
+IsPassedOn (pendings.Else f) = ⊥
 IsPassedOn (pendings.AndLeft r) = Unit {0}
 IsPassedOn pendings.AndRight = Unit {0}
 IsPassedOn (pendings.AndKept l r) = ⊥
@@ -123,8 +255,8 @@ pub passed_on : (s : Setting) (May : MayAnswer) (p : Pending) (e : model.Failure
 unfolding joined on_part binary_beside beside_residual has_part is_part
 passed_on s May pendings.Passed e h = refl
 passed_on s May (pendings.Guard t u) e h = refl
-passed_on s May (pendings.Then g t u) e h = absurd h
-passed_on s May (pendings.Else g t u) e h = absurd h
+passed_on s May (pendings.Then f) e h = absurd h
+passed_on s May (pendings.Else f) e h = absurd h
 passed_on s May (pendings.AndLeft r) e h = refl
 passed_on s May pendings.AndRight e h = refl
 passed_on s May (pendings.AndKept l r) e h = absurd h
@@ -140,51 +272,57 @@ passed_on s May (pendings.ExtHasAttr ks) e h = passed_path May s.resolution s.st
 passed_on s May (pendings.Like q) e h = refl
 passed_on s May (pendings.Is t) e h = refl
 
+-- an error of a part is given where it is passed on
+pub passed_goes_on : (s : Setting) (calls : StoredCalls) (k : ℕ) (l : Option Loc) (p : Pending) (e : model.Failure) (n : Next) →
+    IsPassedOn p → Gives l n (fails e) → GoesOn s calls k l p (fails e) n
+passed_goes_on s calls k l p e n h gives =
+    gives_goes_on s calls k l p (fails e) (fails e) n
+    (λ a ok is. subst (Uses s (Runs s calls k) p (fails e)) (sym is) (passed_on s (Runs s calls k) p e h)) gives
+
 -- the recursion limit of what is waited for is that of what waits
 pub limit_upward : (calls : StoredCalls) (s : Setting) (k : ℕ) (task : Task) (t c : Term) → WaitsFor s calls k task t c → Runs s calls k c limit → Runs s calls (suc k) t limit
-limit_upward calls s k (tasks.Parts f) t c waits runs = parts_fail s calls k t f.value c waits model.recursion_limit runs
+limit_upward calls s k (tasks.Parts f) t c waits runs = parts_fail s calls k t None f.value c waits model.recursion_limit runs
 limit_upward calls s k (tasks.Other p) t c waits runs = waits limit limit runs (uses_limit s (Runs s calls k) p)
 
 -- ---- what an answer leads to
 
-module _ (s : Setting) (calls : StoredCalls) (k : ℕ) where
-  pub want_leads : (task : Task) (x : Answer) → Leads s calls k task x (Done (Err stops.Memory))
-  want_leads task x t c waits meets = λ ok. absurd (ok refl)
+module _ (s : Setting) (calls : StoredCalls) (k : ℕ) (l : Option Loc) where
+  pub want_leads : (task : Task) (x : Answer) → Leads s calls k l task x (Done (Err stops.Memory))
+  want_leads task x t c waits meets = (λ ok. absurd (ok refl), tt)
 
-  pub limit_leads : (task : Task) → Leads s calls k task limit (Done (Err stops.Limit))
-  limit_leads task t c waits meets = λ ok. limit_upward calls s k task t c waits (meets limit_no_want)
+  pub limit_leads : (task : Task) → Leads s calls k l task limit (Done (Err stops.Limit))
+  limit_leads task t c waits meets = (λ ok. limit_upward calls s k task t c waits (meets limit_no_want), tt)
 
-  pub parts_lead : (f : Box PartsFrame Global) (p : PartialValue) (x : NextPart) (n : Next) → restricted.GoesOn s.extensions calls f.value (Ok p) x → IsTaken x n → Leads s calls k (tasks.Parts f) (answers (partial_view p)) n
-  parts_lead f p x n goes taken t c waits meets = parts_go_on s calls k t f.value c waits p x n (meets (no_fail (partial_view p) out_of_memory)) goes taken
+  pub parts_lead : (f : Box PartsFrame Global) (p : PartialValue) (x : NextPart) (n : Next) → restricted.GoesOn s.extensions calls f.value (Ok p) x → IsTaken l x n → Leads s calls k l (tasks.Parts f) (answers (partial_view p)) n
+  parts_lead f p x n goes taken t c waits meets = parts_go_on s calls k t l f.value c waits p x n (meets (no_fail (partial_view p) out_of_memory)) goes taken
 
-  pub failed_leads : (f : Box PartsFrame Global) (e : Box Failed Global) → Leads s calls k (tasks.Parts f) (fails (failure_of e.value.error)) (Done (Err (stops.Failed e)))
-  failed_leads f e t c waits meets = λ ok. parts_fail s calls k t f.value c waits (failure_of e.value.error) (meets ok)
+  pub failed_leads : (f : Box PartsFrame Global) (e : model.Failure) (n : Next) → Gives l n (fails e) → Leads s calls k l (tasks.Parts f) (fails e) n
+  failed_leads f e n gives t c waits meets =
+      gives_begins s calls k l t (fails e) n
+      (λ a ok is. subst (Runs s calls (suc k) t) (sym is) (parts_fail s calls k t l f.value c waits e (meets (λ w. ok (is ∙ w))))) gives
 
 -- ---- the loop
 
 module _ (Says : RequestPart → Type 0) (setting : RequestPart → Setting) (calls : StoredCalls) where
-  pub start_right : (k : ℕ) (p : Part) (n : Next) (l : Option Loc) (x : Placed) →
-      ((r : RequestPart) → Says r → Begins (setting r) calls k (part_term p) n) → l ≡ expr_loc (part_expr p) →
-      IsPlaced n l x → Resumes (IsRight Says setting calls) (Waits Says setting calls) k p x
-  start_right k p (Done o) l (Done r) begins place (same, at) = record {
-    answer = λ q speaks ok.
-        let is : outcome_answer r ≡ outcome_answer o = same ok in
-        subst (Runs (setting q) calls (suc k) (part_term p)) (sym is) (begins q speaks (λ w. ok (is ∙ w)));
-    place = subst (λ y. IfOk r (λ v. partial_loc v.value ≡ y)) place at;
+  pub start_right : (k : ℕ) (p : Part) (l : Option Loc) (x : Next) →
+      ((r : RequestPart) → Says r → Begins (setting r) calls k l (view p.value) x) → HasPlace l x → l ≡ expr_loc p.value →
+      Resumes (IsRight Says setting calls) (Waits Says setting calls) k p x
+  start_right k p l (Done r) begins has place = record {
+    answer = λ q speaks ok. (begins q speaks).0 ok;
+    place = subst (λ y. StandsAt y r) place has;
   }
-  start_right k p (Done o) l (Wait f c) begins place x = absurd x
-  start_right k p (Wait t d) l (Wait f c) begins place (task, at, part) = record {
-    waits = λ q speaks. subst (λ y. WaitsFor (setting q) calls k y (part_term p) (part_term c)) (sym task) (subst (λ y. WaitsFor (setting q) calls k t (part_term p) (part_term y)) (sym part) (begins q speaks));
-    place = at ∙ place;
+  start_right k p l (Wait f c) begins has place = record {
+    waits = λ q speaks. (begins q speaks).0;
+    place = has ∙ place;
   }
-  start_right k p (Wait t d) l (Done r) begins place x = absurd x
 
-  pub resume_right : (k : ℕ) (f : Frame) (p c : Part) (y : Outcome) (n : Next) (x : Placed) →
+  pub resume_right : (k : ℕ) (f : Frame) (p c : Part) (y : Outcome) (x : Next) →
       Waits Says setting calls k f p c → IsRight Says setting calls k c y →
-      ((r : RequestPart) (j : ℕ) → Says r → Leads (setting r) calls j f.task (outcome_answer y) n) →
-      IsPlaced n f.loc x → Resumes (IsRight Says setting calls) (Waits Says setting calls) k p x
-  resume_right k f p c y n x waits right leads placed =
-      start_right k p n f.loc x (λ q speaks. leads q k speaks (part_term p) (part_term c) (waits.waits q speaks) (right.answer q speaks)) waits.place placed
+      ((r : RequestPart) → Says r → Leads (setting r) calls k (expr_loc f.whole.value) f.task (outcome_answer y) x) →
+      HasPlace (expr_loc f.whole.value) x → Resumes (IsRight Says setting calls) (Waits Says setting calls) k p x
+  resume_right k f p c y x waits right leads has =
+      start_right k p (expr_loc f.whole.value) x
+      (λ q speaks. leads q speaks (view p.value) (view c.value) (waits.waits q speaks) (right.answer q speaks)) has waits.place
 
   pub right_limit : (p : Part) → IsRight Says setting calls 0 p (Err stops.Limit)
   right_limit p = record { answer = λ q speaks ok. refl; place = tt }
@@ -196,7 +334,7 @@ module _ (Says : RequestPart → Type 0) (setting : RequestPart → Setting) (ca
   right_upward k f p c (Ok v) ends waits right = absurd (cc)
   right_upward k f p c (Err stops.Memory) ends waits right = right_want (suc k) p
   right_upward k f p c (Err stops.Limit) ends waits right = record {
-    answer = λ q speaks ok. limit_upward calls (setting q) k f.task (part_term p) (part_term c) (waits.waits q speaks) (right.answer q speaks limit_no_want);
+    answer = λ q speaks ok. limit_upward calls (setting q) k f.task (view p.value) (view c.value) (waits.waits q speaks) (right.answer q speaks limit_no_want);
     place = tt;
   }
   right_upward k f p c (Err (stops.Failed x)) ends waits right = absurd (cc)
@@ -204,8 +342,8 @@ module _ (Says : RequestPart → Type 0) (setting : RequestPart → Setting) (ca
 pub some_pending : (p : Pending) → 1 ≤ pending_left p
 some_pending pendings.Passed = omega arith
 some_pending (pendings.Guard t e) = omega arith
-some_pending (pendings.Then g t e) = omega arith
-some_pending (pendings.Else g t e) = omega arith
+some_pending (pendings.Then f) = omega arith
+some_pending (pendings.Else f) = omega arith
 some_pending (pendings.AndLeft r) = omega arith
 some_pending pendings.AndRight = omega arith
 some_pending (pendings.AndKept l r) = omega arith
@@ -231,8 +369,8 @@ some_left f = some_task f.task
 few_pending : (p : Pending) → pending_left p < 2 ^ 64 + 1
 few_pending pendings.Passed = omega arith
 few_pending (pendings.Guard t e) = omega arith
-few_pending (pendings.Then g t e) = omega arith
-few_pending (pendings.Else g t e) = omega arith
+few_pending (pendings.Then f) = omega arith
+few_pending (pendings.Else f) = omega arith
 few_pending (pendings.AndLeft r) = omega arith
 few_pending pendings.AndRight = omega arith
 few_pending (pendings.AndKept l r) = omega arith
@@ -252,15 +390,13 @@ few_task : (t : Task) → task_left t < 2 ^ 64 + 1
 few_task (tasks.Parts g) = left_below g.value
 few_task (tasks.Other p) = few_pending p
 
-pub below_any : (x : Placed) → Below left_of (2 ^ 64 + 1) x
+pub below_any : (x : Next) → Below left_of (2 ^ 64 + 1) x
 below_any (Done r) = tt
 below_any (Wait f c) = few_task f.task
 
-pub placed_fewer : (f : Frame) (n : Next) (l : Option Loc) (x : Placed) → LeftFewer f.task n → IsPlaced n l x → Fewer left_of f x
-placed_fewer f (Done o) l (Done r) fewer at = tt
-placed_fewer f (Done o) l (Wait g c) fewer at = absurd at
-placed_fewer f (Wait t d) l (Wait g c) fewer (task, at, part) = subst (λ y. task_left y < task_left f.task) (sym task) fewer
-placed_fewer f (Wait t d) l (Done r) fewer at = absurd at
+pub left_fewer : (f : Frame) (x : Next) → LeftFewer f.task x → Fewer left_of f x
+left_fewer f (Done r) fewer = tt
+left_fewer f (Wait g c) fewer = fewer
 
 pub limit_ends : ends_all (Err stops.Limit) ≡ true
 limit_ends = refl

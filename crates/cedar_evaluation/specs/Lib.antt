@@ -1,4 +1,3 @@
-pub mod Parts
 pub mod Finals
 pub mod Endings
 pub mod Kept
@@ -12,4 +11,6 @@ pub mod PartsLaws
 pub mod Booleans
 pub mod Elements
 pub mod Laws
+pub mod Steps
+pub mod Told
 pub mod Promises

@@ -23,6 +23,16 @@ unfoldable pub remapped : (Text → Option Represented) → Answer → Answer
 remapped map (answers (residual (unknown n t))) = unknown_answer map n t
 remapped map a = a
 
+-- a value stays
+pub value_stays : (map : Text → Option Represented) (v : Represented) (b : Answer) → answers (value v) ≡ b → answers (value v) ≡ remapped map b
+unfolding remapped
+value_stays map v b is = subst (λ x. answers (value v) ≡ remapped map x) is refl
+
+-- and so does a failure
+pub failure_stays : (map : Text → Option Represented) (e : Failure) (b : Answer) → fails e ≡ b → fails e ≡ remapped map b
+unfolding remapped
+failure_stays map e b is = subst (λ x. fails e ≡ remapped map x) is refl
+
 -- the term is no unknown
 abbrev pub IsNoUnknown : Term → Type 0
 IsNoUnknown t = (map : Text → Option Represented) → remapped map (answers_residual t) ≡ answers_residual t

@@ -1,31 +1,44 @@
 -- What frames wait for, and what comes next.
-use Rattle.std.specs.Prelude.{◌≡◌, ◌≢◌, ◌<◌, ℕ, suc, true, false}
+use Rattle.std.specs.Prelude.{◌≡◌, ◌≢◌, ◌<◌, ℕ, suc, Bool, true, false, Option, Result, Ok, Err, IfOk}
+use Rattle.std.specs.declared.alloc.AllocError.{AllocError}
+use Rattle.std.specs.declared.alloc.Global.{Global}
+use Rattle.std.specs.declared.rc.Rc.{Rc}
 use Rattle.std.specs.Rc.{rc_str_bytes}
 use Rattle.cedar_model.specs.Terms.{Terms, one_term, Term, bool_literal, literal, if_then_else, both, either, unary, like}
-use Rattle.cedar_model.specs.Failures.{Answer, fails, out_of_memory, answers_residual}
+use Rattle.cedar_model.specs.Failures.{Answer, fails, out_of_memory, answers_bool, answers_residual}
 use Rattle.cedar_model.specs.Operators.{unary_answer, like_answer}
 use Rattle.cedar_model.specs.Settings.{Setting}
 use Rattle.cedar_model.specs.Rules.{MayAnswer, StoredCalls, Runs, Meets, best, AfterBest, AfterGuard, AfterAndLeft, AfterOrLeft, joined, on_part, AfterLeft, Resolves, beside_residual, binary_beside, AtAttribute, has_part, AtPath, is_part}
 use Rattle.cedar_names.specs.Names.{type_text}
 use Rattle.cedar_names.specs.Leaves.{unary_view, binary_view, pattern_view, texts_view}
-use Rattle.cedar_expressions.specs.View.{view, terms_view}
-use Rattle.cedar_data.specs.Residuals.{partial_view, residual_term}
+use Rattle.cedar_names.specs.declared.names.Loc.{Loc}
+use Rattle.cedar_expressions.specs.declared.expr.Expr.{Expr}
+use Rattle.cedar_expressions.specs.View.{view, terms_view, expr_loc}
+use Rattle.cedar_data.specs.Residuals.{partial_view, partial_loc, residual_term}
 use Rattle.cedar_frames.specs.declared.machine.Step.{Step}
 use Rattle.cedar_frames.specs.declared.machine.Step.TheVariants.{Done, Wait}
 use Rattle.cedar_restricted.specs.declared.parts.PartsFrame.{PartsFrame}
 use Rattle.cedar_restricted.specs.Parts.{whole_term}
 use Rattle.cedar_restricted.specs.Frames.{HasRead, parts_left, left_of}
+use Rattle.cedar_evaluation.specs.declared.frame.Frame.{Frame}
 use Rattle.cedar_evaluation.specs.declared.frame.Pending.{Pending}
 use Rattle.cedar_evaluation.specs.declared.frame.Pending.TheVariants as pendings
 use Rattle.cedar_evaluation.specs.declared.frame.Task.{Task}
 use Rattle.cedar_evaluation.specs.declared.frame.Task.TheVariants as tasks
-use Rattle.cedar_evaluation.specs.declared.part.Part.{Part}
-use Rattle.cedar_evaluation.specs.Parts.{part_term}
+use Rattle.cedar_evaluation.specs.declared.stopped.Stopped.TheVariants as stops
 use Rattle.cedar_evaluation.specs.Endings.{Outcome, outcome_answer}
+
+-- what is evaluated
+abbrev pub Part : Type 0
+Part = Rc Expr Global
 
 -- what comes next of an expression
 abbrev pub Next : Type 0
-Next = Step Task Part Outcome
+Next = Step Frame Part Outcome
+
+-- a value or residual stands at this place
+abbrev pub StandsAt : Option Loc → Outcome → Type 0
+StandsAt l o = IfOk o (λ v. partial_loc v.value ≡ l)
 
 -- ---- what is done with the answer of a part
 
@@ -33,11 +46,13 @@ Next = Step Task Part Outcome
 abbrev pub Uses : Setting → MayAnswer → Pending → Answer → Answer → Type 0
 Uses s May pendings.Passed x a = a ≡ x
 Uses s May (pendings.Guard t e) x a = AfterGuard May x (view t.value) (view e.value) a
-Uses s May (pendings.Then g t e) x a =
-    AfterBest (best x (view t.value)) (λ t' b. (y : Answer) × May (view e.value) y
-    × AfterBest (best y (view e.value)) (λ e' c. c ≡ answers_residual (if_then_else (residual_term g.value) t' e')) b) a
-Uses s May (pendings.Else g t e) x a =
-    AfterBest (best x (view e.value)) (λ e' c. c ≡ answers_residual (if_then_else (residual_term g.value) (view t.value) e')) a
+Uses s May (pendings.Then f) x a =
+    AfterBest (best x (view f.value.then_expr.value)) (λ t b. (y : Answer) × May (view f.value.else_expr.value) y
+    × AfterBest (best y (view f.value.else_expr.value))
+    (λ e c. c ≡ answers_residual (if_then_else (residual_term f.value.guard) t e)) b) a
+Uses s May (pendings.Else f) x a =
+    AfterBest (best x (view f.value.else_expr.value))
+    (λ e c. c ≡ answers_residual (if_then_else (residual_term f.value.guard) (view f.value.then_expr) e)) a
 Uses s May (pendings.AndLeft r) x a = AfterAndLeft May x (view r.value) a
 Uses s May pendings.AndRight x a = a ≡ joined (both (literal (bool_literal true))) x
 Uses s May (pendings.AndKept l r) x a =
@@ -75,22 +90,49 @@ WaitsFor s Calls k (tasks.Other p) t c =
 
 -- ---- what comes next
 
--- the answer is this, unless memory is wanting
-abbrev pub Gives : Next → Answer → Type 0
-Gives (Done r) a = outcome_answer r ≢ fails out_of_memory → outcome_answer r ≡ a
-Gives (Wait task c) a = ⊥
+-- the answer is this, at this place, unless memory is wanting
+abbrev pub Gives : Option Loc → Next → Answer → Type 0
+Gives l (Done r) a = (outcome_answer r ≢ fails out_of_memory → outcome_answer r ≡ a) × StandsAt l r
+Gives l (Wait f c) a = ⊥
 
--- the term is answered, or waits for a part
-abbrev pub Begins : Setting → StoredCalls → ℕ → Term → Next → Type 0
-Begins s Calls k t (Done r) = outcome_answer r ≢ fails out_of_memory → Runs s Calls (suc k) t (outcome_answer r)
-Begins s Calls k t (Wait task c) = WaitsFor s Calls k task t (part_term c)
+-- the term, which stands at this place, is answered, or waits for a part
+abbrev pub Begins : Setting → StoredCalls → ℕ → Option Loc → Term → Next → Type 0
+Begins s Calls k l t (Done r) =
+    (outcome_answer r ≢ fails out_of_memory → Runs s Calls (suc k) t (outcome_answer r)) × StandsAt l r
+Begins s Calls k l t (Wait f c) = WaitsFor s Calls k f.task t (view c.value) × (expr_loc f.whole.value ≡ l)
+
+-- what comes next of the whole at this place stands there, or waits as it
+abbrev pub HasPlace : Option Loc → Next → Type 0
+HasPlace l (Done r) = StandsAt l r
+HasPlace l (Wait f c) = expr_loc f.whole.value ≡ l
+
+-- the whole waits for this part, with this to be done, unless memory is wanting
+abbrev pub IsWaiting : Part → Task → Part → Next → Type 0
+IsWaiting w t c (Done r) = r ≡ Err stops.Memory
+IsWaiting w t c (Wait f d) = (f.task ≡ t) × (d.value ≡ c.value) × (f.whole.value ≡ w.value)
+
+-- what comes next, or want of memory
+abbrev pub IsOrWant : Result Next AllocError → Next → Type 0
+IsOrWant (Ok n) x = x ≡ n
+IsOrWant (Err e) x = x ≡ Done (Err stops.Memory)
+
+-- the right side of `&&` or `||`, which must be a boolean: a literal that is one is the answer at this place, and anything else is
+-- waited for
+abbrev pub IsRightSide : Option Loc → Pending → Part → Next → Type 0
+IsRightSide l p c (Done r) = (b : Bool) × (view c.value ≡ literal (bool_literal b)) × Gives l (Done r) (answers_bool b)
+IsRightSide l p c (Wait f d) = (f.task ≡ tasks.Other p) × (d ≡ c) × (expr_loc f.whole.value ≡ l)
+
+-- the answer of this expression is that of the whole at this place, unless memory is wanting
+abbrev pub IsPassed : Option Loc → Expr → Next → Type 0
+IsPassed l e (Done r) = r ≡ Err stops.Memory
+IsPassed l e (Wait f c) = (f.task ≡ tasks.Other pendings.Passed) × (c.value ≡ e) × (expr_loc f.whole.value ≡ l)
 
 -- how often what waits can still wait, this time included
 abbrev pub pending_left : Pending → ℕ
 pending_left pendings.Passed = 1
 pending_left (pendings.Guard t e) = 3
-pending_left (pendings.Then g t e) = 2
-pending_left (pendings.Else g t e) = 1
+pending_left (pendings.Then f) = 2
+pending_left (pendings.Else f) = 1
 pending_left (pendings.AndLeft r) = 2
 pending_left pendings.AndRight = 1
 pending_left (pendings.AndKept l r) = 1
@@ -106,19 +148,23 @@ pending_left (pendings.ExtHasAttr ks) = 1
 pending_left (pendings.Like p) = 1
 pending_left (pendings.Is t) = 1
 
--- what waited is answered, or waits for another part, after the first answered x
-abbrev pub GoesOn : Setting → StoredCalls → ℕ → Pending → Answer → Next → Type 0
-GoesOn s Calls k p x (Done r) =
-    outcome_answer r ≢ fails out_of_memory → Uses s (Runs s Calls k) p x (outcome_answer r)
-GoesOn s Calls k p x (Wait (tasks.Parts f) c) = ⊥
-GoesOn s Calls k p x (Wait (tasks.Other q) c) =
+-- after the first part answered x this task waits for another
+abbrev pub WaitsAgain : Setting → StoredCalls → ℕ → Pending → Answer → Task → Term → Type 0
+WaitsAgain s Calls k p x (tasks.Parts f) c = ⊥
+WaitsAgain s Calls k p x (tasks.Other q) c =
     (pending_left q < pending_left p)
-    × ((y a : Answer) → Runs s Calls k (part_term c) y → Uses s (Runs s Calls k) q y a → Uses s (Runs s Calls k) p x a)
+    × ((y a : Answer) → Runs s Calls k c y → Uses s (Runs s Calls k) q y a → Uses s (Runs s Calls k) p x a)
+
+-- what waited, for the whole at this place, is answered, or waits for another part, after the first answered x
+abbrev pub GoesOn : Setting → StoredCalls → ℕ → Option Loc → Pending → Answer → Next → Type 0
+GoesOn s Calls k l p x (Done r) =
+    (outcome_answer r ≢ fails out_of_memory → Uses s (Runs s Calls k) p x (outcome_answer r)) × StandsAt l r
+GoesOn s Calls k l p x (Wait f c) = WaitsAgain s Calls k p x f.task (view c.value) × (expr_loc f.whole.value ≡ l)
 
 -- a term that waits for a part is answered, or waits for another, after the part answered x
-abbrev pub Leads : Setting → StoredCalls → ℕ → Task → Answer → Next → Type 0
-Leads s Calls k task x n =
-    (t c : Term) → WaitsFor s Calls k task t c → Meets (Runs s Calls k c) x → Begins s Calls k t n
+abbrev pub Leads : Setting → StoredCalls → ℕ → Option Loc → Task → Answer → Next → Type 0
+Leads s Calls k l task x n =
+    (t c : Term) → WaitsFor s Calls k task t c → Meets (Runs s Calls k c) x → Begins s Calls k l t n
 
 -- how often a task can still wait
 abbrev pub task_left : Task → ℕ
@@ -128,4 +174,4 @@ task_left (tasks.Other p) = pending_left p
 -- a task that waits again can wait less often than before
 abbrev pub LeftFewer : Task → Next → Type 0
 LeftFewer task (Done r) = Unit {0}
-LeftFewer task (Wait next c) = task_left next < task_left task
+LeftFewer task (Wait f c) = task_left f.task < task_left task

@@ -1,24 +1,23 @@
 //! What comes after the answer of a part.
 ghost use Rattle.std.specs.Prelude.{◌≡◌, ℕ, IfOk};
-ghost use Rattle.std.specs.declared.alloc.Global.{Global};
 ghost use Rattle.cedar_model.specs.Terms.{Term};
 ghost use Rattle.cedar_model.specs.Failures.{answers, fails};
 ghost use Rattle.cedar_model.specs.Settings.{RequestPart};
 ghost use Rattle.cedar_model.specs.Rules.{best, kept};
-ghost use Rattle.cedar_expressions.specs.View.{view};
+ghost use Rattle.cedar_expressions.specs.View.{view, expr_loc};
 ghost use Rattle.cedar_data.specs.Residuals.{partial_view};
 ghost use Rattle.cedar_values.specs.Failures.{failure_of};
 ghost use Rattle.cedar_evaluation.specs.Settings.{setting_of, calls_in};
 ghost use Rattle.cedar_evaluation.specs.Tasks.{GoesOn};
+ghost use Rattle.cedar_evaluation.specs.Steps.{GoesOnIn};
 ghost use Rattle.cedar_evaluation.specs.declared.frame.Pending.TheVariants as pendings;
 
-use crate::answers::passed_on;
+use crate::answers::{or_want, passed_on, put_at};
 use crate::evaluation::Evaluation;
 use crate::failed::Failed;
-use crate::frame::{Next, Pending};
+use crate::frame::{FirstBranch, Next, Part, Pending, SecondBranch};
 use cedar_data::{PartialValue, ResidualExpr};
 use cedar_expressions::Expr;
-use cedar_frames::Step;
 use std::alloc::{AllocError, Global};
 use std::rc::Rc;
 
@@ -27,41 +26,43 @@ impl<'e, 'g, 'f> Evaluation<'e, 'g, 'f> {
     pub(crate) fn after(
         &self,
         alloc: Global,
+        whole: Part,
         pending: Pending,
         answer: Box<PartialValue>,
-    ) -> Result<Next, AllocError>
-        ensures { (r : RequestPart) (k : ℕ) → IfOk result (GoesOn (setting_of r self.now) (calls_in self.now) k pending (answers (partial_view answer.value))) }
+        levels: usize,
+    ) -> Next
+        ensures { GoesOnIn self.now levels (expr_loc whole.value) pending (answers (partial_view answer.value)) result }
     {
         match pending {
-            Pending::Passed => Ok(Step::Done(Ok(answer))),
+            Pending::Passed => put_at(alloc, &whole, answer),
             Pending::Guard {
                 then_expr,
                 else_expr,
-            } => self.after_guard(alloc, then_expr, else_expr, answer),
-            Pending::Then {
-                guard,
-                then_expr,
-                else_expr,
-            } => self.after_then(alloc, guard, then_expr, else_expr, answer),
-            Pending::Else {
-                guard,
-                then_expr,
-                else_expr,
-            } => self.after_else(alloc, guard, then_expr, else_expr, answer),
-            Pending::AndLeft { right } => self.after_and_left(alloc, right, answer),
-            Pending::AndRight => self.after_and_right(alloc, answer),
-            Pending::AndKept { left, right } => self.after_and_kept(alloc, left, right, answer),
-            Pending::OrLeft { right } => self.after_or_left(alloc, right, answer),
-            Pending::OrRight => self.after_or_right(alloc, answer),
-            Pending::OrKept { left, right } => self.after_or_kept(alloc, left, right, answer),
-            Pending::Unary(op) => self.after_operand(alloc, op, answer),
-            Pending::BinaryLeft { op, right } => self.after_left(op, right, answer),
-            Pending::BinaryRight { op, left } => self.after_right(alloc, op, left, answer),
-            Pending::GetAttr(attr) => self.after_container(alloc, attr, answer),
-            Pending::HasAttr(attr) => self.after_tested(alloc, attr, answer),
-            Pending::ExtHasAttr(attrs) => self.after_walked(alloc, attrs, answer),
-            Pending::Like(pattern) => self.after_text(alloc, pattern, answer),
-            Pending::Is(entity_type) => self.after_entity(alloc, entity_type, answer),
+            } => self.after_guard(alloc, whole, then_expr, else_expr, answer),
+            Pending::Then(first) => self.after_then(alloc, whole, first, answer),
+            Pending::Else(second) => self.after_else(alloc, whole, second, answer),
+            Pending::AndLeft { right } => self.after_and_left(alloc, whole, right, answer),
+            Pending::AndRight => self.after_and_right(alloc, whole, answer),
+            Pending::AndKept { left, right } => {
+                self.after_and_kept(alloc, whole, left, right, answer)
+            }
+            Pending::OrLeft { right } => self.after_or_left(alloc, whole, right, answer),
+            Pending::OrRight => self.after_or_right(alloc, whole, answer),
+            Pending::OrKept { left, right } => {
+                self.after_or_kept(alloc, whole, left, right, answer)
+            }
+            Pending::Unary(op) => self.after_operand(alloc, &whole, op, answer),
+            Pending::BinaryLeft { op, right } => {
+                self.after_left(alloc, &whole, op, &right, answer, levels)
+            },
+            Pending::BinaryRight { op, left } => {
+                self.after_right(alloc, &whole, op, left, answer)
+            },
+            Pending::GetAttr(attr) => self.after_container(alloc, &whole, &attr, answer),
+            Pending::HasAttr(attr) => self.after_tested(alloc, &whole, &attr, answer),
+            Pending::ExtHasAttr(attrs) => self.after_walked(alloc, &whole, &attrs, answer),
+            Pending::Like(pattern) => self.after_text(alloc, &whole, &pattern, answer),
+            Pending::Is(entity_type) => self.after_entity(alloc, &whole, &entity_type, answer),
         }
     }
 
@@ -71,14 +72,14 @@ impl<'e, 'g, 'f> Evaluation<'e, 'g, 'f> {
     fn after_then(
         &self,
         alloc: Global,
-        guard: Box<ResidualExpr>,
-        then_expr: Rc<Expr>,
-        else_expr: Rc<Expr>,
+        whole: Part,
+        first: Box<FirstBranch>,
         answer: Box<PartialValue>,
-    ) -> Result<Next, AllocError>
-        ensures { (r : RequestPart) (k : ℕ) → IfOk result (GoesOn (setting_of r self.now) (calls_in self.now) k (pendings.Then guard then_expr else_expr) (answers (partial_view answer.value))) }
+    ) -> Next
+        ensures { (r : RequestPart) (k : ℕ) → GoesOn (setting_of r self.now) (calls_in self.now) k (expr_loc whole.value) (pendings.Then first) (answers (partial_view answer.value)) result }
     {
-        self.second_branch(alloc, guard, then_expr, kept_part(alloc, answer), else_expr)
+        let kept = kept_part(alloc, answer);
+        or_want(self.second_branch(alloc, whole, first, kept))
     }
 
     // `if` beside a residual guard, after both branches.
@@ -87,14 +88,14 @@ impl<'e, 'g, 'f> Evaluation<'e, 'g, 'f> {
     fn after_else(
         &self,
         alloc: Global,
-        guard: Box<ResidualExpr>,
-        then_expr: Box<Expr>,
-        else_expr: Rc<Expr>,
+        whole: Part,
+        second: Box<SecondBranch>,
         answer: Box<PartialValue>,
-    ) -> Result<Next, AllocError>
-        ensures { (r : RequestPart) (k : ℕ) → IfOk result (GoesOn (setting_of r self.now) (calls_in self.now) k (pendings.Else guard then_expr else_expr) (answers (partial_view answer.value))) }
+    ) -> Next
+        ensures { (r : RequestPart) (k : ℕ) → GoesOn (setting_of r self.now) (calls_in self.now) k (expr_loc whole.value) (pendings.Else second) (answers (partial_view answer.value)) result }
     {
-        self.both_branches(alloc, guard, then_expr, else_expr, kept_part(alloc, answer))
+        let kept = kept_part(alloc, answer);
+        self.both_branches(alloc, whole, second, kept)
     }
 
     // `&&` beside a residual left side, after the right.
@@ -103,13 +104,15 @@ impl<'e, 'g, 'f> Evaluation<'e, 'g, 'f> {
     fn after_and_kept(
         &self,
         alloc: Global,
+        whole: Part,
         left: Box<ResidualExpr>,
         right: Rc<Expr>,
         answer: Box<PartialValue>,
-    ) -> Result<Next, AllocError>
-        ensures { (r : RequestPart) (k : ℕ) → IfOk result (GoesOn (setting_of r self.now) (calls_in self.now) k (pendings.AndKept left right) (answers (partial_view answer.value))) }
+    ) -> Next
+        ensures { (r : RequestPart) (k : ℕ) → GoesOn (setting_of r self.now) (calls_in self.now) k (expr_loc whole.value) (pendings.AndKept left right) (answers (partial_view answer.value)) result }
     {
-        self.kept_conjunction(alloc, left, right, kept_part(alloc, answer))
+        let kept = kept_part(alloc, answer);
+        self.kept_conjunction(alloc, whole, left, right, kept)
     }
 
     // `||` beside a residual left side, after the right.
@@ -118,13 +121,15 @@ impl<'e, 'g, 'f> Evaluation<'e, 'g, 'f> {
     fn after_or_kept(
         &self,
         alloc: Global,
+        whole: Part,
         left: Box<ResidualExpr>,
         right: Rc<Expr>,
         answer: Box<PartialValue>,
-    ) -> Result<Next, AllocError>
-        ensures { (r : RequestPart) (k : ℕ) → IfOk result (GoesOn (setting_of r self.now) (calls_in self.now) k (pendings.OrKept left right) (answers (partial_view answer.value))) }
+    ) -> Next
+        ensures { (r : RequestPart) (k : ℕ) → GoesOn (setting_of r self.now) (calls_in self.now) k (expr_loc whole.value) (pendings.OrKept left right) (answers (partial_view answer.value)) result }
     {
-        self.kept_disjunction(alloc, left, right, kept_part(alloc, answer))
+        let kept = kept_part(alloc, answer);
+        self.kept_disjunction(alloc, whole, left, right, kept)
     }
 
     // What comes next of what waited, after this error: beside a residual the part's original is kept, elsewhere it is the answer.
@@ -133,54 +138,69 @@ impl<'e, 'g, 'f> Evaluation<'e, 'g, 'f> {
     pub(crate) fn failed(
         &self,
         alloc: Global,
+        whole: Part,
         pending: Pending,
         failed: Box<Failed>,
-    ) -> Result<Next, AllocError>
-        ensures { (r : RequestPart) (k : ℕ) → IfOk result (GoesOn (setting_of r self.now) (calls_in self.now) k pending (fails (failure_of failed.value.error))) }
+    ) -> Next
+        ensures { (r : RequestPart) (k : ℕ) → GoesOn (setting_of r self.now) (calls_in self.now) k (expr_loc whole.value) pending (fails (failure_of failed.value.error)) result }
     {
         match pending {
-            Pending::Then {
-                guard,
-                then_expr,
-                else_expr,
-            } => {
-                let kept = Failed::original(failed, &then_expr);
-                self.second_branch(alloc, guard, then_expr, kept, else_expr)
-            }
-            Pending::Else {
-                guard,
-                then_expr,
-                else_expr,
-            } => {
-                let kept = Failed::original(failed, &else_expr);
-                self.both_branches(alloc, guard, then_expr, else_expr, kept)
-            }
+            Pending::Then(first) => self.failed_then(alloc, whole, first, failed),
+            Pending::Else(second) => self.failed_else(alloc, whole, second, failed),
             Pending::AndKept { left, right } => {
-                let kept = Failed::original(failed, &right);
-                self.kept_conjunction(alloc, left, right, kept)
+                let kept = original_of(failed, &right);
+                self.kept_conjunction(alloc, whole, left, right, kept)
             }
             Pending::OrKept { left, right } => {
-                let kept = Failed::original(failed, &right);
-                self.kept_disjunction(alloc, left, right, kept)
+                let kept = original_of(failed, &right);
+                self.kept_disjunction(alloc, whole, left, right, kept)
             }
-            Pending::Passed => Ok(passed_on((), failed)),
+            Pending::Passed => passed_on(alloc, &whole, (), failed),
             Pending::Guard {
                 then_expr,
                 else_expr,
-            } => Ok(passed_on((then_expr, else_expr), failed)),
-            Pending::AndLeft { right } => Ok(passed_on(right, failed)),
-            Pending::AndRight => Ok(passed_on((), failed)),
-            Pending::OrLeft { right } => Ok(passed_on(right, failed)),
-            Pending::OrRight => Ok(passed_on((), failed)),
-            Pending::Unary(op) => Ok(passed_on(op, failed)),
-            Pending::BinaryLeft { op: _, right } => Ok(passed_on(right, failed)),
-            Pending::BinaryRight { op: _, left } => Ok(passed_on(left, failed)),
-            Pending::GetAttr(attr) => Ok(passed_on(attr, failed)),
-            Pending::HasAttr(attr) => Ok(passed_on(attr, failed)),
-            Pending::ExtHasAttr(attrs) => Ok(passed_on(attrs, failed)),
-            Pending::Like(pattern) => Ok(passed_on(pattern, failed)),
-            Pending::Is(entity_type) => Ok(passed_on(entity_type, failed)),
+            } => passed_on(alloc, &whole, (then_expr, else_expr), failed),
+            Pending::AndLeft { right } => passed_on(alloc, &whole, right, failed),
+            Pending::AndRight => passed_on(alloc, &whole, (), failed),
+            Pending::OrLeft { right } => passed_on(alloc, &whole, right, failed),
+            Pending::OrRight => passed_on(alloc, &whole, (), failed),
+            Pending::Unary(op) => passed_on(alloc, &whole, op, failed),
+            Pending::BinaryLeft { op: _, right } => passed_on(alloc, &whole, right, failed),
+            Pending::BinaryRight { op: _, left } => passed_on(alloc, &whole, left, failed),
+            Pending::GetAttr(attr) => passed_on(alloc, &whole, attr, failed),
+            Pending::HasAttr(attr) => passed_on(alloc, &whole, attr, failed),
+            Pending::ExtHasAttr(attrs) => passed_on(alloc, &whole, attrs, failed),
+            Pending::Like(pattern) => passed_on(alloc, &whole, pattern, failed),
+            Pending::Is(entity_type) => passed_on(alloc, &whole, entity_type, failed),
         }
+    }
+
+    // The second branch beside a residual guard, after an error in the first.
+    fn failed_then(
+        &self,
+        alloc: Global,
+        whole: Part,
+        first: Box<FirstBranch>,
+        failed: Box<Failed>,
+    ) -> Next
+        ensures { (r : RequestPart) (k : ℕ) → GoesOn (setting_of r self.now) (calls_in self.now) k (expr_loc whole.value) (pendings.Then first) (fails (failure_of failed.value.error)) result }
+    {
+        let kept = original_of(failed, &first.then_expr);
+        or_want(self.second_branch(alloc, whole, first, kept))
+    }
+
+    // `if` beside a residual guard, after an error in the second branch.
+    fn failed_else(
+        &self,
+        alloc: Global,
+        whole: Part,
+        second: Box<SecondBranch>,
+        failed: Box<Failed>,
+    ) -> Next
+        ensures { (r : RequestPart) (k : ℕ) → GoesOn (setting_of r self.now) (calls_in self.now) k (expr_loc whole.value) (pendings.Else second) (fails (failure_of failed.value.error)) result }
+    {
+        let kept = original_of(failed, &second.else_expr);
+        self.both_branches(alloc, whole, second, kept)
     }
 }
 
@@ -193,4 +213,11 @@ fn kept_part(alloc: Global, answer: Box<PartialValue>) -> Result<Expr, AllocErro
         PartialValue::Value(value) => Ok(value.to_expr(alloc)?),
         PartialValue::Residual(residual) => Ok(residual.into_expr()),
     }
+}
+
+// What is kept of a part that failed: its original.
+fn original_of(failed: Box<Failed>, part: &Part) -> Result<Expr, AllocError>
+    ensures { IfOk result (λ e. best (fails (failure_of failed.value.error)) (view part.now.value) ≡ kept (view e)) }
+{
+    Failed::original(failed, part)
 }

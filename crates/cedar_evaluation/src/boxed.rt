@@ -4,20 +4,6 @@ ghost use Rattle.std.specs.Prelude.{◌≡◌, IfOk};
 use std::alloc::{AllocError, Global};
 use std::rc::Rc;
 
-// Each in a box.
-pub(crate) fn boxed_both<A: Drop, B: Drop>(
-    alloc: Global,
-    first: A,
-    second: B,
-) -> Result<(Box<A>, Box<B>), AllocError>
-    ensures first { IfOk result (λ p. p.0.value ≡ first) }
-    ensures second { IfOk result (λ p. p.1.value ≡ second) }
-{
-    let first = Box::new(alloc, first)?;
-    let second = Box::new(alloc, second)?;
-    Ok((first, second))
-}
-
 // The one in a box, and the shared one twice.
 pub(crate) fn boxed_beside<A: Drop, B: Drop>(
     alloc: Global,

@@ -1,71 +1,86 @@
 //! `&&` and `||`.
-ghost use Rattle.std.specs.Prelude.{◌≡◌, ℕ, None, IfOk};
+ghost use Rattle.std.specs.Prelude.{◌≡◌, ℕ, suc, true, false, Some, None, IfOk, IfSome};
 ghost use Rattle.std.specs.declared.alloc.Global.{Global};
 ghost use Rattle.std.specs.declared.rc.Rc.{Rc};
-ghost use Rattle.cedar_model.specs.Terms.{both, either};
-ghost use Rattle.cedar_model.specs.Values.{abstract_value};
-ghost use Rattle.cedar_model.specs.Outcomes.{bool_of};
-ghost use Rattle.cedar_model.specs.Failures.{Answer, answers, answers_residual};
+ghost use Rattle.cedar_model.specs.Terms.{bool_literal, literal, both, either};
+ghost use Rattle.cedar_model.specs.Values.{plain_represented};
+ghost use Rattle.cedar_model.specs.Failures.{Answer, value, answers, answers_residual};
 ghost use Rattle.cedar_model.specs.Rules.{best, kept};
 ghost use Rattle.cedar_model.specs.Settings.{RequestPart};
-ghost use Rattle.cedar_expressions.specs.View.{view};
+ghost use Rattle.cedar_expressions.specs.View.{view, expr_loc};
 ghost use Rattle.cedar_expressions.specs.declared.expr.Expr.{Expr};
 ghost use Rattle.cedar_data.specs.Residuals.{partial_view, residual_term};
 ghost use Rattle.cedar_evaluation.specs.Booleans.{part_bool};
 ghost use Rattle.cedar_evaluation.specs.Settings.{setting_of, calls_in};
-ghost use Rattle.cedar_evaluation.specs.Tasks.{Begins, GoesOn, Gives};
+ghost use Rattle.cedar_evaluation.specs.Tasks.{Begins, GoesOn, IsRightSide};
 ghost use Rattle.cedar_evaluation.specs.declared.frame.Pending.TheVariants as pendings;
 
-use crate::answers::{known_bool, no_bool, residual_answer};
+use crate::answers::{answered, both, known_bool, no_bool, or_want, put_at};
 use crate::boxed::boxed_beside;
 use crate::evaluation::Evaluation;
-use crate::frame::{Next, Pending, Task};
-use crate::part::Part;
+use crate::frame::{Frame, Next, Part, Pending, Task};
+use crate::stopped::Stopped;
 use cedar_data::{PartialValue, ResidualExpr};
 use cedar_expressions::Expr;
 use cedar_frames::Step;
 use cedar_names::Literal;
+use cedar_operators::typed::bool_part;
+use cedar_partial_operators::connectives::{false_or, residual_and, residual_or, true_and};
+use cedar_restricted::literal_in;
 use std::alloc::{AllocError, Global};
+use std::mem;
 use std::rc::Rc;
 
 impl<'e, 'g, 'f> Evaluation<'e, 'g, 'f> {
     // `&&` waits for its left side.
-    pub(crate) fn conjunction(&self, left: &Rc<Expr>, right: &Rc<Expr>) -> Result<Next, AllocError>
-        ensures { (r : RequestPart) (k : ℕ) → IfOk result (Begins (setting_of r self.now) (calls_in self.now) k (both (view left.now.value) (view right.now.value))) }
+    pub(crate) fn conjunction(&self, whole: &Part, left: &Part, right: &Part) -> Next
+        ensures { (r : RequestPart) (k : ℕ) → Begins (setting_of r self.now) (calls_in self.now) k (expr_loc whole.now.value) (both (view left.now.value) (view right.now.value)) result }
     {
-        let right = right.clone()?;
-        let left = left.clone()?;
-        Ok(Step::Wait(Task::Other(Pending::AndLeft { right }), Part::Shared(left)))
+        match right.clone() {
+            Ok(right) => match both(whole, left) {
+                Ok((whole, left)) => {
+                    let task = Task::Other(Pending::AndLeft { right });
+                    Step::Wait(Frame { whole, task }, left)
+                }
+                Err(_) => Step::Done(Err(Stopped::Memory)),
+            },
+            Err(_) => Step::Done(Err(Stopped::Memory)),
+        }
     }
 
     // `||` waits for its left side.
-    pub(crate) fn disjunction(&self, left: &Rc<Expr>, right: &Rc<Expr>) -> Result<Next, AllocError>
-        ensures { (r : RequestPart) (k : ℕ) → IfOk result (Begins (setting_of r self.now) (calls_in self.now) k (either (view left.now.value) (view right.now.value))) }
+    pub(crate) fn disjunction(&self, whole: &Part, left: &Part, right: &Part) -> Next
+        ensures { (r : RequestPart) (k : ℕ) → Begins (setting_of r self.now) (calls_in self.now) k (expr_loc whole.now.value) (either (view left.now.value) (view right.now.value)) result }
     {
-        let right = right.clone()?;
-        let left = left.clone()?;
-        Ok(Step::Wait(Task::Other(Pending::OrLeft { right }), Part::Shared(left)))
+        match right.clone() {
+            Ok(right) => match both(whole, left) {
+                Ok((whole, left)) => {
+                    let task = Task::Other(Pending::OrLeft { right });
+                    Step::Wait(Frame { whole, task }, left)
+                }
+                Err(_) => Step::Done(Err(Stopped::Memory)),
+            },
+            Err(_) => Step::Done(Err(Stopped::Memory)),
+        }
     }
 
     // After the left side of `&&`: a false one decides.
     pub(crate) fn after_and_left(
         &self,
         alloc: Global,
+        whole: Part,
         right: Rc<Expr>,
         left: Box<PartialValue>,
-    ) -> Result<Next, AllocError>
-        ensures { (r : RequestPart) (k : ℕ) → IfOk result (GoesOn (setting_of r self.now) (calls_in self.now) k (pendings.AndLeft right) (answers (partial_view left.value))) }
+    ) -> Next
+        ensures { (r : RequestPart) (k : ℕ) → GoesOn (setting_of r self.now) (calls_in self.now) (suc k) (expr_loc whole.value) (pendings.AndLeft right) (answers (partial_view left.value)) result }
     {
         match known_bool(&left) {
-            Some(true) => {
-                drop(left);
-                Ok(Step::Wait(Task::Other(Pending::AndRight), Part::Shared(right)))
-            }
+            Some(true) => right_of_and(alloc, whole, right, left),
             Some(false) => {
                 drop(right);
-                Ok(Step::Done(Ok(left)))
+                put_at(alloc, &whole, left)
             }
-            None => self.after_no_bool_and_left(alloc, right, left),
+            None => or_want(self.after_no_bool_and_left(alloc, whole, right, left)),
         }
     }
 
@@ -75,55 +90,16 @@ impl<'e, 'g, 'f> Evaluation<'e, 'g, 'f> {
     fn after_no_bool_and_left(
         &self,
         alloc: Global,
+        whole: Part,
         right: Rc<Expr>,
         left: Box<PartialValue>,
     ) -> Result<Next, AllocError>
         requires { part_bool (partial_view left.value) ≡ None }
-        ensures { (r : RequestPart) (k : ℕ) → IfOk result (GoesOn (setting_of r self.now) (calls_in self.now) k (pendings.AndLeft right) (answers (partial_view left.value))) }
+        ensures { (r : RequestPart) (k : ℕ) → IfOk result (GoesOn (setting_of r self.now) (calls_in self.now) k (expr_loc whole.value) (pendings.AndLeft right) (answers (partial_view left.value))) }
     {
         match Box::into_inner(left) {
-            PartialValue::Value(value) => Ok(no_bool(alloc, &value)),
-            PartialValue::Residual(left) => self.and_kept(alloc, left, right),
-        }
-    }
-
-    // After the left side of `||`: a true one decides.
-    pub(crate) fn after_or_left(
-        &self,
-        alloc: Global,
-        right: Rc<Expr>,
-        left: Box<PartialValue>,
-    ) -> Result<Next, AllocError>
-        ensures { (r : RequestPart) (k : ℕ) → IfOk result (GoesOn (setting_of r self.now) (calls_in self.now) k (pendings.OrLeft right) (answers (partial_view left.value))) }
-    {
-        match known_bool(&left) {
-            Some(true) => {
-                drop(right);
-                Ok(Step::Done(Ok(left)))
-            }
-            Some(false) => {
-                drop(left);
-                Ok(Step::Wait(Task::Other(Pending::OrRight), Part::Shared(right)))
-            }
-            None => self.after_no_bool_or_left(alloc, right, left),
-        }
-    }
-
-    // The same after one that is no boolean.
-    #[cold]
-    #[inline(never)]
-    fn after_no_bool_or_left(
-        &self,
-        alloc: Global,
-        right: Rc<Expr>,
-        left: Box<PartialValue>,
-    ) -> Result<Next, AllocError>
-        requires { part_bool (partial_view left.value) ≡ None }
-        ensures { (r : RequestPart) (k : ℕ) → IfOk result (GoesOn (setting_of r self.now) (calls_in self.now) k (pendings.OrLeft right) (answers (partial_view left.value))) }
-    {
-        match Box::into_inner(left) {
-            PartialValue::Value(value) => Ok(no_bool(alloc, &value)),
-            PartialValue::Residual(left) => self.or_kept(alloc, left, right),
+            PartialValue::Value(value) => Ok(no_bool(alloc, &whole, &value)),
+            PartialValue::Residual(left) => self.and_kept(alloc, whole, left, right),
         }
     }
 
@@ -133,16 +109,15 @@ impl<'e, 'g, 'f> Evaluation<'e, 'g, 'f> {
     fn and_kept(
         &self,
         alloc: Global,
+        whole: Part,
         left: ResidualExpr,
         right: Rc<Expr>,
     ) -> Result<Next, AllocError>
-        ensures { (r : RequestPart) (k : ℕ) → IfOk result (GoesOn (setting_of r self.now) (calls_in self.now) k (pendings.AndLeft right) (answers_residual (residual_term left))) }
+        ensures { (r : RequestPart) (k : ℕ) → IfOk result (GoesOn (setting_of r self.now) (calls_in self.now) k (expr_loc whole.value) (pendings.AndLeft right) (answers_residual (residual_term left))) }
     {
         let (left, right, part) = boxed_beside(alloc, left, right)?;
-        Ok(Step::Wait(
-            Task::Other(Pending::AndKept { left, right }),
-            Part::Shared(part),
-        ))
+        let task = Task::Other(Pending::AndKept { left, right });
+        Ok(Step::Wait(Frame { whole, task }, part))
     }
 
     // After the right side of `true && ..`: it must be a boolean.
@@ -150,34 +125,82 @@ impl<'e, 'g, 'f> Evaluation<'e, 'g, 'f> {
     pub(crate) fn after_and_right(
         &self,
         alloc: Global,
+        whole: Part,
         right: Box<PartialValue>,
-    ) -> Result<Next, AllocError>
-        ensures { (r : RequestPart) (k : ℕ) → IfOk result (GoesOn (setting_of r self.now) (calls_in self.now) k pendings.AndRight (answers (partial_view right.value))) }
+    ) -> Next
+        ensures { (r : RequestPart) (k : ℕ) → GoesOn (setting_of r self.now) (calls_in self.now) k (expr_loc whole.value) pendings.AndRight (answers (partial_view right.value)) result }
     {
         match known_bool(&right) {
-            Some(_) => Ok(Step::Done(Ok(right))),
-            None => self.after_no_bool_and_right(alloc, right),
+            Some(_) => put_at(alloc, &whole, right),
+            None => self.after_no_bool_and_right(alloc, whole, right),
         }
     }
 
     // The same after one that is no boolean.
     #[cold]
     #[inline(never)]
-    #[tactic(auto, unfolding(cedar_model::specs::Rules::joined, cedar_model::specs::Rules::bool_or_failure))]
-    fn after_no_bool_and_right(
+    fn after_no_bool_and_right(&self, alloc: Global, whole: Part, right: Box<PartialValue>) -> Next
+        ensures { (r : RequestPart) (k : ℕ) → GoesOn (setting_of r self.now) (calls_in self.now) k (expr_loc whole.value) pendings.AndRight (answers (partial_view right.value)) result }
+    {
+        answered(alloc, &whole, true_and(alloc, Box::into_inner(right)))
+    }
+
+    // `&&` with a residual left side and what is kept of the right.
+    pub(crate) fn kept_conjunction(
         &self,
         alloc: Global,
-        right: Box<PartialValue>,
-    ) -> Result<Next, AllocError>
-        requires { part_bool (partial_view right.value) ≡ None }
-        ensures { (r : RequestPart) (k : ℕ) → IfOk result (GoesOn (setting_of r self.now) (calls_in self.now) k pendings.AndRight (answers (partial_view right.value))) }
+        whole: Part,
+        left: Box<ResidualExpr>,
+        right: Rc<Expr>,
+        right_kept: Result<Expr, AllocError>,
+    ) -> Next
+        ensures { (r : RequestPart) (k : ℕ) (x : Answer) → IfOk right_kept (λ e. best x (view right.value) ≡ kept (view e)) → GoesOn (setting_of r self.now) (calls_in self.now) k (expr_loc whole.value) (pendings.AndKept left right) x result }
     {
-        match Box::into_inner(right) {
-            PartialValue::Value(value) => Ok(no_bool(alloc, &value)),
-            PartialValue::Residual(right) => {
-                let left = Expr::val(Literal::Bool(true));
-                Ok(residual_answer(alloc, Expr::and(alloc, left, right.into_expr())?))
+        match right_kept {
+            Ok(right) => {
+                let answer = residual_and(alloc, Box::into_inner(left), right);
+                answered(alloc, &whole, answer)
             }
+            Err(_) => Step::Done(Err(Stopped::Memory)),
+        }
+    }
+
+    // After the left side of `||`: a true one decides.
+    pub(crate) fn after_or_left(
+        &self,
+        alloc: Global,
+        whole: Part,
+        right: Rc<Expr>,
+        left: Box<PartialValue>,
+    ) -> Next
+        ensures { (r : RequestPart) (k : ℕ) → GoesOn (setting_of r self.now) (calls_in self.now) (suc k) (expr_loc whole.value) (pendings.OrLeft right) (answers (partial_view left.value)) result }
+    {
+        match known_bool(&left) {
+            Some(true) => {
+                drop(right);
+                put_at(alloc, &whole, left)
+            }
+            Some(false) => right_of_or(alloc, whole, right, left),
+            None => or_want(self.after_no_bool_or_left(alloc, whole, right, left)),
+        }
+    }
+
+    // The same after one that is no boolean.
+    #[cold]
+    #[inline(never)]
+    fn after_no_bool_or_left(
+        &self,
+        alloc: Global,
+        whole: Part,
+        right: Rc<Expr>,
+        left: Box<PartialValue>,
+    ) -> Result<Next, AllocError>
+        requires { part_bool (partial_view left.value) ≡ None }
+        ensures { (r : RequestPart) (k : ℕ) → IfOk result (GoesOn (setting_of r self.now) (calls_in self.now) k (expr_loc whole.value) (pendings.OrLeft right) (answers (partial_view left.value))) }
+    {
+        match Box::into_inner(left) {
+            PartialValue::Value(value) => Ok(no_bool(alloc, &whole, &value)),
+            PartialValue::Residual(left) => self.or_kept(alloc, whole, left, right),
         }
     }
 
@@ -187,16 +210,15 @@ impl<'e, 'g, 'f> Evaluation<'e, 'g, 'f> {
     fn or_kept(
         &self,
         alloc: Global,
+        whole: Part,
         left: ResidualExpr,
         right: Rc<Expr>,
     ) -> Result<Next, AllocError>
-        ensures { (r : RequestPart) (k : ℕ) → IfOk result (GoesOn (setting_of r self.now) (calls_in self.now) k (pendings.OrLeft right) (answers_residual (residual_term left))) }
+        ensures { (r : RequestPart) (k : ℕ) → IfOk result (GoesOn (setting_of r self.now) (calls_in self.now) k (expr_loc whole.value) (pendings.OrLeft right) (answers_residual (residual_term left))) }
     {
         let (left, right, part) = boxed_beside(alloc, left, right)?;
-        Ok(Step::Wait(
-            Task::Other(Pending::OrKept { left, right }),
-            Part::Shared(part),
-        ))
+        let task = Task::Other(Pending::OrKept { left, right });
+        Ok(Step::Wait(Frame { whole, task }, part))
     }
 
     // After the right side of `false || ..`: it must be a boolean.
@@ -204,68 +226,98 @@ impl<'e, 'g, 'f> Evaluation<'e, 'g, 'f> {
     pub(crate) fn after_or_right(
         &self,
         alloc: Global,
+        whole: Part,
         right: Box<PartialValue>,
-    ) -> Result<Next, AllocError>
-        ensures { (r : RequestPart) (k : ℕ) → IfOk result (GoesOn (setting_of r self.now) (calls_in self.now) k pendings.OrRight (answers (partial_view right.value))) }
+    ) -> Next
+        ensures { (r : RequestPart) (k : ℕ) → GoesOn (setting_of r self.now) (calls_in self.now) k (expr_loc whole.value) pendings.OrRight (answers (partial_view right.value)) result }
     {
         match known_bool(&right) {
-            Some(_) => Ok(Step::Done(Ok(right))),
-            None => self.after_no_bool_or_right(alloc, right),
+            Some(_) => put_at(alloc, &whole, right),
+            None => self.after_no_bool_or_right(alloc, whole, right),
         }
     }
 
     // The same after one that is no boolean.
     #[cold]
     #[inline(never)]
-    #[tactic(auto, unfolding(cedar_model::specs::Rules::joined, cedar_model::specs::Rules::bool_or_failure))]
-    fn after_no_bool_or_right(
-        &self,
-        alloc: Global,
-        right: Box<PartialValue>,
-    ) -> Result<Next, AllocError>
-        requires { part_bool (partial_view right.value) ≡ None }
-        ensures { (r : RequestPart) (k : ℕ) → IfOk result (GoesOn (setting_of r self.now) (calls_in self.now) k pendings.OrRight (answers (partial_view right.value))) }
+    fn after_no_bool_or_right(&self, alloc: Global, whole: Part, right: Box<PartialValue>) -> Next
+        ensures { (r : RequestPart) (k : ℕ) → GoesOn (setting_of r self.now) (calls_in self.now) k (expr_loc whole.value) pendings.OrRight (answers (partial_view right.value)) result }
     {
-        match Box::into_inner(right) {
-            PartialValue::Value(value) => Ok(no_bool(alloc, &value)),
-            PartialValue::Residual(right) => {
-                let left = Expr::val(Literal::Bool(false));
-                Ok(residual_answer(alloc, Expr::or(alloc, left, right.into_expr())?))
-            }
-        }
-    }
-
-    // `&&` with a residual left side and what is kept of the right.
-    pub(crate) fn kept_conjunction(
-        &self,
-        alloc: Global,
-        left: Box<ResidualExpr>,
-        right: Rc<Expr>,
-        right_kept: Result<Expr, AllocError>,
-    ) -> Result<Next, AllocError>
-        ensures { (r : RequestPart) (k : ℕ) (x : Answer) → IfOk right_kept (λ e. best x (view right.value) ≡ kept (view e)) → IfOk result (GoesOn (setting_of r self.now) (calls_in self.now) k (pendings.AndKept left right) x) }
-    {
-        let right = right_kept?;
-        Ok(residual_answer(
-            alloc,
-            Expr::and(alloc, Box::into_inner(left).into_expr(), right)?,
-        ))
+        answered(alloc, &whole, false_or(alloc, Box::into_inner(right)))
     }
 
     // `||` with a residual left side and what is kept of the right.
     pub(crate) fn kept_disjunction(
         &self,
         alloc: Global,
+        whole: Part,
         left: Box<ResidualExpr>,
         right: Rc<Expr>,
         right_kept: Result<Expr, AllocError>,
-    ) -> Result<Next, AllocError>
-        ensures { (r : RequestPart) (k : ℕ) (x : Answer) → IfOk right_kept (λ e. best x (view right.value) ≡ kept (view e)) → IfOk result (GoesOn (setting_of r self.now) (calls_in self.now) k (pendings.OrKept left right) x) }
+    ) -> Next
+        ensures { (r : RequestPart) (k : ℕ) (x : Answer) → IfOk right_kept (λ e. best x (view right.value) ≡ kept (view e)) → GoesOn (setting_of r self.now) (calls_in self.now) k (expr_loc whole.value) (pendings.OrKept left right) x result }
     {
-        let right = right_kept?;
-        Ok(residual_answer(
-            alloc,
-            Expr::or(alloc, Box::into_inner(left).into_expr(), right)?,
-        ))
+        match right_kept {
+            Ok(right) => {
+                let answer = residual_or(alloc, Box::into_inner(left), right);
+                answered(alloc, &whole, answer)
+            }
+            Err(_) => Step::Done(Err(Stopped::Memory)),
+        }
     }
+}
+
+// The right side of `true && ..`: a boolean is the answer, in the box of the left one.
+fn right_of_and(alloc: Global, whole: Part, right: Part, left: Box<PartialValue>) -> Next
+    requires { part_bool (partial_view left.value) ≡ Some true }
+    ensures { IsRightSide (expr_loc whole.value) pendings.AndRight right result }
+{
+    match bool_literal_in(&right) {
+        Some(true) => put_at(alloc, &whole, left),
+        Some(false) => put_at(alloc, &whole, with_bool(left, false)),
+        None => wait_for_right(whole, Pending::AndRight, right),
+    }
+}
+
+// The right side of `false || ..`: a boolean is the answer, in the box of the left one.
+fn right_of_or(alloc: Global, whole: Part, right: Part, left: Box<PartialValue>) -> Next
+    requires { part_bool (partial_view left.value) ≡ Some false }
+    ensures { IsRightSide (expr_loc whole.value) pendings.OrRight right result }
+{
+    match bool_literal_in(&right) {
+        Some(false) => put_at(alloc, &whole, left),
+        Some(true) => put_at(alloc, &whole, with_bool(left, true)),
+        None => wait_for_right(whole, Pending::OrRight, right),
+    }
+}
+
+// The boolean that the expression is, if it is a literal that is one.
+#[inline(always)]
+fn bool_literal_in(e: &Expr) -> Option<bool>
+    ensures { IfSome result (λ b. view e.now ≡ literal (bool_literal b)) }
+{
+    match literal_in(e) {
+        Some(Literal::Bool(b)) => Some(*b),
+        Some(Literal::Long(_)) => None,
+        Some(Literal::String(_)) => None,
+        Some(Literal::EntityUID(_)) => None,
+        None => None,
+    }
+}
+
+// The box with this boolean in it.
+#[inline(always)]
+fn with_bool(mut part: Box<PartialValue>, b: bool) -> Box<PartialValue>
+    ensures { partial_view result.value ≡ value (plain_represented (bool_literal b)) }
+{
+    drop(mem::replace(&mut *part, bool_part(b)));
+    part
+}
+
+// The right side is waited for.
+fn wait_for_right(whole: Part, pending: Pending, right: Part) -> Next
+    ensures { IsRightSide (expr_loc whole.value) pending right result }
+{
+    let task = Task::Other(pending);
+    Step::Wait(Frame { whole, task }, right)
 }

@@ -1,18 +1,20 @@
 //! What waits for the answer of a part.
-use crate::part::Part;
 use crate::stopped::Stopped;
 use cedar_data::{PartialValue, ResidualExpr};
 use cedar_expressions::Expr;
 use cedar_frames::Step;
-use cedar_names::{BinaryOp, EntityType, FirstRest, Loc, Pattern, UnaryOp};
+use cedar_names::{BinaryOp, EntityType, FirstRest, Pattern, UnaryOp};
 use cedar_restricted::PartsFrame;
 use std::rc::{Rc, RcStr};
 
-/// An expression that waits for the answer of a part: what is to be done with it, and where the expression stands.
+/// What is evaluated: an expression that others may hold too.
+pub type Part = Rc<Expr>;
+
+/// An expression that waits for the answer of a part, and what is to be done with it.
 #[derive(Drop)]
 pub struct Frame {
+    pub(crate) whole: Rc<Expr>,
     pub(crate) task: Task,
-    pub(crate) loc: Option<Loc>,
 }
 
 /// What is to be done with the answer of a part.
@@ -35,17 +37,9 @@ pub enum Pending {
         else_expr: Rc<Expr>,
     },
     /// It is that of the first branch beside a residual guard.
-    Then {
-        guard: Box<ResidualExpr>,
-        then_expr: Rc<Expr>,
-        else_expr: Rc<Expr>,
-    },
+    Then(Box<FirstBranch>),
     /// It is that of the second branch beside a residual guard, after what is kept of the first.
-    Else {
-        guard: Box<ResidualExpr>,
-        then_expr: Box<Expr>,
-        else_expr: Rc<Expr>,
-    },
+    Else(Box<SecondBranch>),
     /// It is the left side of `&&`.
     AndLeft {
         right: Rc<Expr>,
@@ -92,8 +86,24 @@ pub enum Pending {
     Is(Box<EntityType>),
 }
 
+/// A residual guard, and both branches, of which the first is waited for.
+#[derive(Drop)]
+pub struct FirstBranch {
+    pub(crate) guard: ResidualExpr,
+    pub(crate) then_expr: Rc<Expr>,
+    pub(crate) else_expr: Rc<Expr>,
+}
+
+/// A residual guard, what is kept of the first branch, and the second, which is waited for.
+#[derive(Drop)]
+pub struct SecondBranch {
+    pub(crate) guard: ResidualExpr,
+    pub(crate) then_expr: Expr,
+    pub(crate) else_expr: Rc<Expr>,
+}
+
 /// What an evaluation ends with.
 pub type Outcome = Result<Box<PartialValue>, Stopped>;
 
 /// What comes next of an expression: its answer, or the part that it waits for.
-pub type Next = Step<Task, Part, Outcome>;
+pub type Next = Step<Frame, Part, Outcome>;

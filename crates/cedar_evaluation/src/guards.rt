@@ -4,7 +4,7 @@ ghost use Rattle.cedar_model.specs.Terms.{if_then_else};
 ghost use Rattle.cedar_model.specs.Failures.{Answer, answers, answers_residual};
 ghost use Rattle.cedar_model.specs.Rules.{best, kept};
 ghost use Rattle.cedar_model.specs.Settings.{RequestPart};
-ghost use Rattle.cedar_expressions.specs.View.{view};
+ghost use Rattle.cedar_expressions.specs.View.{view, expr_loc};
 ghost use Rattle.cedar_data.specs.Residuals.{partial_view, residual_term};
 ghost use Rattle.cedar_expressions.specs.declared.expr.Expr.{Expr};
 ghost use Rattle.std.specs.declared.alloc.Global.{Global};
@@ -14,14 +14,14 @@ ghost use Rattle.cedar_evaluation.specs.Settings.{setting_of, calls_in};
 ghost use Rattle.cedar_evaluation.specs.Tasks.{Begins, GoesOn};
 ghost use Rattle.cedar_evaluation.specs.declared.frame.Pending.TheVariants as pendings;
 
-use crate::answers::{known_bool, no_bool, residual_answer};
-use crate::boxed::boxed_beside;
+use crate::answers::{answered, both, known_bool, no_bool, or_want};
 use crate::evaluation::Evaluation;
-use crate::frame::{Next, Pending, Task};
-use crate::part::Part;
+use crate::frame::{FirstBranch, Frame, Next, Part, Pending, SecondBranch, Task};
+use crate::stopped::Stopped;
 use cedar_data::{PartialValue, ResidualExpr};
 use cedar_expressions::Expr;
 use cedar_frames::Step;
+use cedar_partial_operators::connectives::residual_if;
 use std::alloc::{AllocError, Global};
 use std::rc::Rc;
 
@@ -29,42 +29,51 @@ impl<'e, 'g, 'f> Evaluation<'e, 'g, 'f> {
     // `if` waits for its guard.
     pub(crate) fn branches(
         &self,
-        test_expr: &Rc<Expr>,
-        then_expr: &Rc<Expr>,
-        else_expr: &Rc<Expr>,
-    ) -> Result<Next, AllocError>
-        ensures { (r : RequestPart) (k : ℕ) → IfOk result (Begins (setting_of r self.now) (calls_in self.now) k (if_then_else (view test_expr.now.value) (view then_expr.now.value) (view else_expr.now.value))) }
+        whole: &Part,
+        test_expr: &Part,
+        then_expr: &Part,
+        else_expr: &Part,
+    ) -> Next
+        ensures { (r : RequestPart) (k : ℕ) → Begins (setting_of r self.now) (calls_in self.now) k (expr_loc whole.now.value) (if_then_else (view test_expr.now.value) (view then_expr.now.value) (view else_expr.now.value)) result }
     {
-        let then_expr = then_expr.clone()?;
-        let else_expr = else_expr.clone()?;
-        let test_expr = test_expr.clone()?;
-        let pending = Pending::Guard {
-            then_expr,
-            else_expr,
-        };
-        Ok(Step::Wait(Task::Other(pending), Part::Shared(test_expr)))
+        match both(then_expr, else_expr) {
+            Ok((then_expr, else_expr)) => match both(whole, test_expr) {
+                Ok((whole, test_expr)) => {
+                    let task = Task::Other(Pending::Guard {
+                        then_expr,
+                        else_expr,
+                    });
+                    Step::Wait(Frame { whole, task }, test_expr)
+                }
+                Err(_) => Step::Done(Err(Stopped::Memory)),
+            },
+            Err(_) => Step::Done(Err(Stopped::Memory)),
+        }
     }
 
     // The branch that the guard takes, or beside a residual guard the first of both.
     pub(crate) fn after_guard(
         &self,
         alloc: Global,
+        whole: Part,
         then_expr: Rc<Expr>,
         else_expr: Rc<Expr>,
         guard: Box<PartialValue>,
-    ) -> Result<Next, AllocError>
-        ensures { (r : RequestPart) (k : ℕ) → IfOk result (GoesOn (setting_of r self.now) (calls_in self.now) k (pendings.Guard then_expr else_expr) (answers (partial_view guard.value))) }
+    ) -> Next
+        ensures { (r : RequestPart) (k : ℕ) → GoesOn (setting_of r self.now) (calls_in self.now) k (expr_loc whole.value) (pendings.Guard then_expr else_expr) (answers (partial_view guard.value)) result }
     {
         match known_bool(&guard) {
             Some(true) => {
                 drop((guard, else_expr));
-                Ok(Step::Wait(Task::Other(Pending::Passed), Part::Shared(then_expr)))
+                let task = Task::Other(Pending::Passed);
+                Step::Wait(Frame { whole, task }, then_expr)
             }
             Some(false) => {
                 drop((guard, then_expr));
-                Ok(Step::Wait(Task::Other(Pending::Passed), Part::Shared(else_expr)))
+                let task = Task::Other(Pending::Passed);
+                Step::Wait(Frame { whole, task }, else_expr)
             }
-            None => self.after_no_bool_guard(alloc, then_expr, else_expr, guard),
+            None => or_want(self.after_no_bool_guard(alloc, whole, then_expr, else_expr, guard)),
         }
     }
 
@@ -74,16 +83,19 @@ impl<'e, 'g, 'f> Evaluation<'e, 'g, 'f> {
     fn after_no_bool_guard(
         &self,
         alloc: Global,
+        whole: Part,
         then_expr: Rc<Expr>,
         else_expr: Rc<Expr>,
         guard: Box<PartialValue>,
     ) -> Result<Next, AllocError>
         requires { part_bool (partial_view guard.value) ≡ None }
-        ensures { (r : RequestPart) (k : ℕ) → IfOk result (GoesOn (setting_of r self.now) (calls_in self.now) k (pendings.Guard then_expr else_expr) (answers (partial_view guard.value))) }
+        ensures { (r : RequestPart) (k : ℕ) → IfOk result (GoesOn (setting_of r self.now) (calls_in self.now) k (expr_loc whole.value) (pendings.Guard then_expr else_expr) (answers (partial_view guard.value))) }
     {
         match Box::into_inner(guard) {
-            PartialValue::Value(value) => Ok(no_bool(alloc, &value)),
-            PartialValue::Residual(guard) => self.first_branch(alloc, guard, then_expr, else_expr),
+            PartialValue::Value(value) => Ok(no_bool(alloc, &whole, &value)),
+            PartialValue::Residual(guard) => {
+                self.first_branch(alloc, whole, guard, then_expr, else_expr)
+            }
         }
     }
 
@@ -93,62 +105,70 @@ impl<'e, 'g, 'f> Evaluation<'e, 'g, 'f> {
     fn first_branch(
         &self,
         alloc: Global,
+        whole: Part,
         guard: ResidualExpr,
         then_expr: Rc<Expr>,
         else_expr: Rc<Expr>,
     ) -> Result<Next, AllocError>
-        ensures { (r : RequestPart) (k : ℕ) → IfOk result (GoesOn (setting_of r self.now) (calls_in self.now) k (pendings.Guard then_expr else_expr) (answers_residual (residual_term guard))) }
+        ensures { (r : RequestPart) (k : ℕ) → IfOk result (GoesOn (setting_of r self.now) (calls_in self.now) k (expr_loc whole.value) (pendings.Guard then_expr else_expr) (answers_residual (residual_term guard))) }
     {
-        let (guard, then_expr, part) = boxed_beside(alloc, guard, then_expr)?;
-        let pending = Pending::Then {
+        let part = then_expr.clone()?;
+        let first = FirstBranch {
             guard,
             then_expr,
             else_expr,
         };
-        Ok(Step::Wait(Task::Other(pending), Part::Shared(part)))
+        let task = Task::Other(Pending::Then(Box::new(alloc, first)?));
+        Ok(Step::Wait(Frame { whole, task }, part))
     }
 
     // The second branch beside a residual guard, after what is kept of the first.
     pub(crate) fn second_branch(
         &self,
         alloc: Global,
-        guard: Box<ResidualExpr>,
-        then_expr: Rc<Expr>,
+        whole: Part,
+        first: Box<FirstBranch>,
         then_kept: Result<Expr, AllocError>,
-        else_expr: Rc<Expr>,
     ) -> Result<Next, AllocError>
-        ensures { (r : RequestPart) (k : ℕ) (x : Answer) → IfOk then_kept (λ e. best x (view then_expr.value) ≡ kept (view e)) → IfOk result (GoesOn (setting_of r self.now) (calls_in self.now) k (pendings.Then guard then_expr else_expr) x) }
+        ensures { (r : RequestPart) (k : ℕ) (x : Answer) → IfOk then_kept (λ e. best x (view first.value.then_expr.value) ≡ kept (view e)) → IfOk result (GoesOn (setting_of r self.now) (calls_in self.now) k (expr_loc whole.value) (pendings.Then first) x) }
     {
-        let then_expr = Box::new(alloc, then_kept?)?;
+        let then_expr = then_kept?;
+        let FirstBranch {
+            guard,
+            then_expr: _,
+            else_expr,
+        } = Box::into_inner(first);
         let part = else_expr.clone()?;
-        let pending = Pending::Else {
+        let second = SecondBranch {
             guard,
             then_expr,
             else_expr,
         };
-        Ok(Step::Wait(Task::Other(pending), Part::Shared(part)))
+        let task = Task::Other(Pending::Else(Box::new(alloc, second)?));
+        Ok(Step::Wait(Frame { whole, task }, part))
     }
 
     // `if` with a residual guard and what is kept of both branches.
     pub(crate) fn both_branches(
         &self,
         alloc: Global,
-        guard: Box<ResidualExpr>,
-        then_expr: Box<Expr>,
-        else_expr: Rc<Expr>,
+        whole: Part,
+        second: Box<SecondBranch>,
         else_kept: Result<Expr, AllocError>,
-    ) -> Result<Next, AllocError>
-        ensures { (r : RequestPart) (k : ℕ) (x : Answer) → IfOk else_kept (λ e. best x (view else_expr.value) ≡ kept (view e)) → IfOk result (GoesOn (setting_of r self.now) (calls_in self.now) k (pendings.Else guard then_expr else_expr) x) }
+    ) -> Next
+        ensures { (r : RequestPart) (k : ℕ) (x : Answer) → IfOk else_kept (λ e. best x (view second.value.else_expr.value) ≡ kept (view e)) → GoesOn (setting_of r self.now) (calls_in self.now) k (expr_loc whole.value) (pendings.Else second) x result }
     {
-        let else_expr = else_kept?;
-        Ok(residual_answer(
-            alloc,
-            Expr::ite(
-                alloc,
-                Box::into_inner(guard).into_expr(),
-                Box::into_inner(then_expr),
-                else_expr,
-            )?,
-        ))
+        match else_kept {
+            Ok(else_expr) => {
+                let SecondBranch {
+                    guard,
+                    then_expr,
+                    else_expr: _,
+                } = Box::into_inner(second);
+                let answer = residual_if(alloc, guard, then_expr, else_expr);
+                answered(alloc, &whole, answer)
+            }
+            Err(_) => Step::Done(Err(Stopped::Memory)),
+        }
     }
 }

@@ -12,15 +12,16 @@ ghost use Rattle.cedar_values.specs.Failures.{failure_of};
 ghost use Rattle.cedar_evaluation.specs.Settings.{Speaks, setting_of, calls_in};
 ghost use Rattle.cedar_evaluation.specs.Promises.{IsPromised};
 
+use crate::answers::loc_of;
 use crate::evaluation::Evaluation;
 use crate::frame::Frame;
-use crate::part::Part;
 use cedar_data::PartialValue;
 use cedar_expressions::Expr;
 use cedar_frames::{Stack, interpret_on};
 use cedar_names::Loc;
 use cedar_values::evaluator::err::EvaluationError;
 use std::alloc::{AllocError, Global};
+use std::rc::Rc;
 
 impl<'e, 'g, 'f> Evaluation<'e, 'g, 'f> {
     /// The value of the expression, or what is left of it, at the expression's location; at most `limit` levels deep, where an
@@ -49,7 +50,7 @@ impl<'e, 'g, 'f> Evaluation<'e, 'g, 'f> {
     fn evaluated(
         &self,
         alloc: Global,
-        expr: Box<Expr>,
+        expr: Rc<Expr>,
         limit: usize,
     ) -> Result<PartialValue, EvaluationError>
         ensures answer { (r : RequestPart) → Speaks r self.now → Meets (Runs (setting_of r self.now) (calls_in self.now) limit (view expr.value)) (partial_answer result) }
@@ -57,7 +58,7 @@ impl<'e, 'g, 'f> Evaluation<'e, 'g, 'f> {
         ensures elements { (n : ℕ) → IfOk result (λ p. IfValue p (ElementsStand n expr.value)) }
     {
         let mut stack = Stack::new(alloc, limit);
-        match interpret_on(self, alloc, &mut stack, Part::Own(expr)) {
+        match interpret_on(self, alloc, &mut stack, expr) {
             Ok(answer) => Ok(Box::into_inner(answer)),
             Err(stopped) => Err(within(stack.frames(), stopped.into_error())),
         }
@@ -65,12 +66,12 @@ impl<'e, 'g, 'f> Evaluation<'e, 'g, 'f> {
 }
 
 // The expression, as one that is its own.
-fn copied(alloc: Global, e: &Expr) -> Result<Box<Expr>, AllocError>
+fn copied(alloc: Global, e: &Expr) -> Result<Rc<Expr>, AllocError>
     ensures view { IfOk result (λ x. view x.value ≡ view e.now) }
     ensures loc { IfOk result (λ x. expr_loc x.value ≡ expr_loc e.now) }
     ensures parts { IfOk result (λ x. parts_of x.value ≡ parts_of e.now) }
 {
-    Ok(Box::new(alloc, e.clone()?)?)
+    Ok(Rc::new(alloc, e.clone()?)?)
 }
 
 // The error that came up in these frames, at the location of the last that has one, if the error has none.
@@ -88,8 +89,9 @@ fn within(frames: &[Frame], error: EvaluationError) -> EvaluationError
 
 fn last_loc(frames: &[Frame]) -> Option<Loc> {
     for frame in frames.iter().rev() {
-        if frame.loc.is_some() {
-            return frame.loc;
+        let loc = loc_of(&frame.whole);
+        if loc.is_some() {
+            return loc;
         }
     }
     None

@@ -12,13 +12,12 @@ mod guards;
 mod interpreted;
 mod machine;
 mod operators;
-mod part;
 mod start;
 mod stopped;
 mod stored;
+mod told;
 
 pub use evaluation::{Evaluation, Given, Mapper};
 pub use failed::Failed;
-pub use frame::{Next, Pending, Task};
-pub use part::Part;
+pub use frame::{FirstBranch, Frame, Next, Part, Pending, SecondBranch, Task};
 pub use stopped::Stopped;

@@ -1,21 +1,24 @@
 //! Operators on the answers of parts.
-ghost use Rattle.std.specs.Prelude.{◌≡◌, ℕ, true, false, IfOk};
+ghost use Rattle.std.specs.Prelude.{◌≡◌, ℕ, true, false};
 ghost use Rattle.cedar_model.specs.Terms.{unary};
 ghost use Rattle.cedar_model.specs.Operators.{unary_answer};
 ghost use Rattle.cedar_model.specs.Rules.{on_part};
 ghost use Rattle.cedar_names.specs.Leaves.{unary_view};
 ghost use Rattle.cedar_model.specs.Failures.{answers};
 ghost use Rattle.cedar_model.specs.Settings.{RequestPart};
+ghost use Rattle.cedar_expressions.specs.View.{expr_loc};
 ghost use Rattle.cedar_data.specs.Residuals.{partial_view};
 ghost use Rattle.cedar_evaluation.specs.Settings.{setting_of, calls_in};
-ghost use Rattle.cedar_evaluation.specs.Tasks.{GoesOn};
+ghost use Rattle.cedar_evaluation.specs.Tasks.{GoesOn, IsPassed, IsWaiting};
+ghost use Rattle.cedar_evaluation.specs.Steps.{GoesOnIn};
 ghost use Rattle.cedar_evaluation.specs.declared.frame.Pending.TheVariants as pendings;
+ghost use Rattle.cedar_evaluation.specs.declared.frame.Task.TheVariants as tasks;
 
-use crate::answers::{answered, known_bool};
+use crate::answers::{answered_in, both, known_bool, put_at, taken_out};
 use crate::evaluation::Evaluation;
-use crate::frame::{Next, Pending, Task};
-use crate::part::Part;
-use crate::stored::stored;
+use crate::frame::{Frame, Next, Part, Pending, Task};
+use crate::stopped::Stopped;
+use crate::stored::stored_in;
 use cedar_data::PartialValue;
 use cedar_expressions::Expr;
 use cedar_frames::Step;
@@ -26,7 +29,7 @@ use cedar_partial_operators::attributes::{
 };
 use cedar_partial_operators::binary::binary_of_parts;
 use cedar_partial_operators::unary::{is_of_part, like_of_part, unary_of_part};
-use std::alloc::{AllocError, Global};
+use std::alloc::Global;
 use std::mem;
 use std::rc::{Rc, RcStr};
 
@@ -35,15 +38,16 @@ impl<'e, 'g, 'f> Evaluation<'e, 'g, 'f> {
     pub(crate) fn after_operand(
         &self,
         alloc: Global,
+        whole: &Part,
         op: UnaryOp,
         mut operand: Box<PartialValue>,
-    ) -> Result<Next, AllocError>
-        ensures { (r : RequestPart) (k : ℕ) → IfOk result (GoesOn (setting_of r self.now) (calls_in self.now) k (pendings.Unary op) (answers (partial_view operand.value))) }
+    ) -> Next
+        ensures { (r : RequestPart) (k : ℕ) → GoesOn (setting_of r self.now) (calls_in self.now) k (expr_loc whole.now.value) (pendings.Unary op) (answers (partial_view operand.value)) result }
     {
         if is_negated(op, &mut operand) {
-            Ok(Step::Done(Ok(operand)))
+            put_at(alloc, whole, operand)
         } else {
-            self.after_other_operand(alloc, op, operand)
+            self.after_other_operand(alloc, whole, op, operand)
         }
     }
 
@@ -52,73 +56,86 @@ impl<'e, 'g, 'f> Evaluation<'e, 'g, 'f> {
     fn after_other_operand(
         &self,
         alloc: Global,
+        whole: &Part,
         op: UnaryOp,
-        operand: Box<PartialValue>,
-    ) -> Result<Next, AllocError>
-        ensures { (r : RequestPart) (k : ℕ) → IfOk result (GoesOn (setting_of r self.now) (calls_in self.now) k (pendings.Unary op) (answers (partial_view operand.value))) }
+        mut operand: Box<PartialValue>,
+    ) -> Next
+        ensures { (r : RequestPart) (k : ℕ) → GoesOn (setting_of r self.now) (calls_in self.now) k (expr_loc whole.now.value) (pendings.Unary op) (answers (partial_view operand.value)) result }
     {
-        Ok(answered(
-            alloc,
-            unary_of_part(alloc, op, Box::into_inner(operand), None),
-        ))
+        let part = taken_out(&mut operand);
+        answered_in(alloc, whole, operand, unary_of_part(alloc, op, part, None))
     }
 
     // The right operand, after the left one.
     pub(crate) fn after_left(
         &self,
+        alloc: Global,
+        whole: &Part,
         op: BinaryOp,
-        right: Rc<Expr>,
+        right: &Part,
         left: Box<PartialValue>,
-    ) -> Result<Next, AllocError>
-        ensures { (r : RequestPart) (k : ℕ) → IfOk result (GoesOn (setting_of r self.now) (calls_in self.now) k (pendings.BinaryLeft op right) (answers (partial_view left.value))) }
+        levels: usize,
+    ) -> Next
+        ensures { GoesOnIn self.now levels (expr_loc whole.now.value) (pendings.BinaryLeft op right.now) (answers (partial_view left.value)) result }
     {
-        Ok(Step::Wait(
-            Task::Other(Pending::BinaryRight { op, left }),
-            Part::Shared(right),
-        ))
+        match self.told(alloc, right, levels) {
+            Some(right) => self.applied(alloc, whole, op, left, PartialValue::Value(right)),
+            None => right_operand(whole, op, right, left),
+        }
     }
 
     // An operator on its two operands.
     pub(crate) fn after_right(
         &self,
         alloc: Global,
+        whole: &Part,
         op: BinaryOp,
         left: Box<PartialValue>,
         right: Box<PartialValue>,
-    ) -> Result<Next, AllocError>
-        ensures { (r : RequestPart) (k : ℕ) → IfOk result (GoesOn (setting_of r self.now) (calls_in self.now) k (pendings.BinaryRight op left) (answers (partial_view right.value))) }
+    ) -> Next
+        ensures { (r : RequestPart) (k : ℕ) → GoesOn (setting_of r self.now) (calls_in self.now) k (expr_loc whole.now.value) (pendings.BinaryRight op left) (answers (partial_view right.value)) result }
     {
-        let left_part = Box::into_inner(left);
-        let right_part = Box::into_inner(right);
+        self.applied(alloc, whole, op, left, Box::into_inner(right))
+    }
+
+    // The same.
+    pub(crate) fn applied(
+        &self,
+        alloc: Global,
+        whole: &Part,
+        op: BinaryOp,
+        mut left: Box<PartialValue>,
+        right: PartialValue,
+    ) -> Next
+        ensures { (r : RequestPart) (k : ℕ) → GoesOn (setting_of r self.now) (calls_in self.now) k (expr_loc whole.now.value) (pendings.BinaryRight op left) (answers (partial_view right)) result }
+    {
+        let left_part = taken_out(&mut left);
         let entities = self.given.entities;
         let extensions = self.given.extensions;
-        Ok(answered(
+        answered_in(
             alloc,
-            binary_of_parts(alloc, entities, extensions, op, left_part, right_part, None),
-        ))
+            whole,
+            left,
+            binary_of_parts(alloc, entities, extensions, op, left_part, right, None),
+        )
     }
 
     // The attribute; that of a projectable record is evaluated again.
     pub(crate) fn after_container(
         &self,
         alloc: Global,
-        attr: RcStr,
-        container: Box<PartialValue>,
-    ) -> Result<Next, AllocError>
-        ensures { (r : RequestPart) (k : ℕ) → IfOk result (GoesOn (setting_of r self.now) (calls_in self.now) k (pendings.GetAttr attr) (answers (partial_view container.value))) }
+        whole: &Part,
+        attr: &RcStr,
+        mut container: Box<PartialValue>,
+    ) -> Next
+        ensures { (r : RequestPart) (k : ℕ) → GoesOn (setting_of r self.now) (calls_in self.now) k (expr_loc whole.now.value) (pendings.GetAttr attr.now) (answers (partial_view container.value)) result }
     {
-        match attribute_of_part(
-            alloc,
-            self.given.entities,
-            Box::into_inner(container),
-            &attr,
-            None,
-        ) {
-            Projected::Answer(answer) => stored(alloc, &self.given.mapper, answer),
-            Projected::Part(part) => {
-                let part = Box::new(alloc, part)?;
-                Ok(Step::Wait(Task::Other(Pending::Passed), Part::Own(part)))
+        let part = taken_out(&mut container);
+        match attribute_of_part(alloc, self.given.entities, part, attr, None) {
+            Projected::Answer(answer) => {
+                stored_in(alloc, whole, &self.given.mapper, container, answer)
             }
+            Projected::Part(part) => projected(alloc, whole, part),
         }
     }
 
@@ -126,67 +143,97 @@ impl<'e, 'g, 'f> Evaluation<'e, 'g, 'f> {
     pub(crate) fn after_tested(
         &self,
         alloc: Global,
-        attr: RcStr,
-        container: Box<PartialValue>,
-    ) -> Result<Next, AllocError>
-        ensures { (r : RequestPart) (k : ℕ) → IfOk result (GoesOn (setting_of r self.now) (calls_in self.now) k (pendings.HasAttr attr) (answers (partial_view container.value))) }
+        whole: &Part,
+        attr: &RcStr,
+        mut container: Box<PartialValue>,
+    ) -> Next
+        ensures { (r : RequestPart) (k : ℕ) → GoesOn (setting_of r self.now) (calls_in self.now) k (expr_loc whole.now.value) (pendings.HasAttr attr.now) (answers (partial_view container.value)) result }
     {
-        Ok(answered(
+        let part = taken_out(&mut container);
+        answered_in(
             alloc,
-            has_of_part(
-                alloc,
-                self.given.entities,
-                Box::into_inner(container),
-                &attr,
-            ),
-        ))
+            whole,
+            container,
+            has_of_part(alloc, self.given.entities, part, attr),
+        )
     }
 
     // Whether there are the attributes, one in the other.
     pub(crate) fn after_walked(
         &self,
         alloc: Global,
-        attrs: Rc<FirstRest<RcStr>>,
-        container: Box<PartialValue>,
-    ) -> Result<Next, AllocError>
-        ensures { (r : RequestPart) (k : ℕ) → IfOk result (GoesOn (setting_of r self.now) (calls_in self.now) k (pendings.ExtHasAttr attrs) (answers (partial_view container.value))) }
+        whole: &Part,
+        attrs: &Rc<FirstRest<RcStr>>,
+        mut container: Box<PartialValue>,
+    ) -> Next
+        ensures { (r : RequestPart) (k : ℕ) → GoesOn (setting_of r self.now) (calls_in self.now) k (expr_loc whole.now.value) (pendings.ExtHasAttr attrs.now) (answers (partial_view container.value)) result }
     {
-        Ok(answered(
+        let part = taken_out(&mut container);
+        answered_in(
             alloc,
-            extended_has_of_part(
-                alloc,
-                self.given.entities,
-                Box::into_inner(container),
-                &attrs,
-            ),
-        ))
+            whole,
+            container,
+            extended_has_of_part(alloc, self.given.entities, part, attrs),
+        )
     }
 
     // Whether the text matches.
     pub(crate) fn after_text(
         &self,
         alloc: Global,
-        pattern: Box<Pattern>,
-        text: Box<PartialValue>,
-    ) -> Result<Next, AllocError>
-        ensures { (r : RequestPart) (k : ℕ) → IfOk result (GoesOn (setting_of r self.now) (calls_in self.now) k (pendings.Like pattern) (answers (partial_view text.value))) }
+        whole: &Part,
+        pattern: &Box<Pattern>,
+        mut text: Box<PartialValue>,
+    ) -> Next
+        ensures { (r : RequestPart) (k : ℕ) → GoesOn (setting_of r self.now) (calls_in self.now) k (expr_loc whole.now.value) (pendings.Like pattern.now) (answers (partial_view text.value)) result }
     {
-        Ok(answered(alloc, like_of_part(alloc, Box::into_inner(text), &pattern)))
+        let part = taken_out(&mut text);
+        answered_in(alloc, whole, text, like_of_part(alloc, part, pattern))
     }
 
     // Whether the entity is of the type.
     pub(crate) fn after_entity(
         &self,
         alloc: Global,
-        entity_type: Box<EntityType>,
-        entity: Box<PartialValue>,
-    ) -> Result<Next, AllocError>
-        ensures { (r : RequestPart) (k : ℕ) → IfOk result (GoesOn (setting_of r self.now) (calls_in self.now) k (pendings.Is entity_type) (answers (partial_view entity.value))) }
+        whole: &Part,
+        entity_type: &Box<EntityType>,
+        mut entity: Box<PartialValue>,
+    ) -> Next
+        ensures { (r : RequestPart) (k : ℕ) → GoesOn (setting_of r self.now) (calls_in self.now) k (expr_loc whole.now.value) (pendings.Is entity_type.now) (answers (partial_view entity.value)) result }
     {
-        Ok(answered(
-            alloc,
-            is_of_part(alloc, Box::into_inner(entity), &entity_type),
-        ))
+        let part = taken_out(&mut entity);
+        answered_in(alloc, whole, entity, is_of_part(alloc, part, entity_type))
+    }
+}
+
+// The right operand is waited for, beside the left one.
+fn right_operand(whole: &Part, op: BinaryOp, right: &Part, left: Box<PartialValue>) -> Next
+    ensures { IsWaiting whole.now (tasks.Other (pendings.BinaryRight op left)) right.now result }
+{
+    match both(whole, right) {
+        Ok((whole, right)) => {
+            let task = Task::Other(Pending::BinaryRight { op, left });
+            Step::Wait(Frame { whole, task }, right)
+        }
+        Err(_) => Step::Done(Err(Stopped::Memory)),
+    }
+}
+
+// A part of a record is evaluated again, and is the answer.
+#[cold]
+#[inline(never)]
+fn projected(alloc: Global, whole: &Part, part: Expr) -> Next
+    ensures { IsPassed (expr_loc whole.now.value) part result }
+{
+    match whole.clone() {
+        Ok(whole) => match Rc::new(alloc, part) {
+            Ok(part) => {
+                let task = Task::Other(Pending::Passed);
+                Step::Wait(Frame { whole, task }, part)
+            }
+            Err(_) => Step::Done(Err(Stopped::Memory)),
+        },
+        Err(_) => Step::Done(Err(Stopped::Memory)),
     }
 }
 

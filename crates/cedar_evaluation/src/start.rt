@@ -7,28 +7,26 @@ ghost use Rattle.cedar_model.specs.Failures.{fails, slot_is_unlinked};
 ghost use Rattle.cedar_model.specs.Operators.{slot_answer};
 ghost use Rattle.cedar_names.specs.Names.{name_text, type_text};
 ghost use Rattle.cedar_names.specs.Leaves.{literal_view, variable_view, slot_view, type_view, unary_view, binary_view, pattern_view, texts_view};
-ghost use Rattle.cedar_expressions.specs.View.{view, terms_view, fields_view};
+ghost use Rattle.cedar_expressions.specs.View.{view, terms_view, fields_view, expr_loc};
 ghost use Rattle.cedar_layers.specs.Policies.{slots_view};
-ghost use Rattle.cedar_frames.specs.declared.machine.Step.TheVariants.{Wait};
-ghost use Rattle.cedar_evaluation.specs.Settings.{Speaks, setting_of, calls_in, given_for};
+ghost use Rattle.cedar_evaluation.specs.Settings.{setting_of, calls_in, given_for};
 ghost use Rattle.cedar_evaluation.specs.Tasks.{Begins, Gives};
-ghost use Rattle.cedar_evaluation.specs.PartsLaws.{IsTaken};
-ghost use Rattle.cedar_evaluation.specs.Elements.{IsWhole, NextStands, SetNext};
+ghost use Rattle.cedar_evaluation.specs.Steps.{BeginsIn};
+ghost use Rattle.cedar_evaluation.specs.PartsLaws.{IsTaken, IsNextPart};
+ghost use Rattle.cedar_evaluation.specs.Elements.{IsPartTaken, NextStands, SetNext};
 
-use crate::answers::done;
-use crate::boxed::boxed_both;
+use crate::answers::{both, done, loc_of, or_want};
 use crate::evaluation::Evaluation;
-use crate::frame::{Next, Pending, Task};
-use crate::part::Part;
+use crate::frame::{Frame, Next, Part, Pending, Task};
 use crate::stopped::Stopped;
 use crate::stored::mapped;
+use crate::told::literal_value;
 use cedar_data::{PartialValue, Value, ValueKind};
 use cedar_expressions::{Expr, ExprKind};
 use cedar_frames::Step;
 use cedar_layers::expressions::SlotEnv;
 use cedar_names::{
-    BinaryOp, EntityType, FirstRest, Literal, Loc, Name, Pattern, SlotId, Type, UnaryOp, Unknown,
-    Var,
+    BinaryOp, EntityType, FirstRest, Literal, Name, Pattern, SlotId, Type, UnaryOp, Unknown, Var,
 };
 use cedar_restricted::{NextPart, PartsFrame};
 use cedar_values::evaluator::err::{EvaluationError, evaluation_errors};
@@ -38,54 +36,63 @@ use std::collections::BTreeMap;
 use std::rc::{Rc, RcStr};
 
 impl<'e, 'g, 'f> Evaluation<'e, 'g, 'f> {
-    // Looks at an expression: answers it, or waits for its first part.
+    // Looks at an expression, which is that of the whole: answers it, or waits for its first part.
     #[tactic(auto, using(cedar_expressions::proofs::Levels::levels))]
-    pub(crate) fn begin(&self, alloc: Global, e: &Expr) -> Result<Next, AllocError>
-        ensures begins { (r : RequestPart) (k : ℕ) → Speaks r self.now → IfOk result (Begins (setting_of r self.now) (calls_in self.now) k (view e.now)) }
-        ensures elements { IfOk result (NextStands e.now) }
+    pub(crate) fn begin(&self, alloc: Global, whole: &Part, e: &Expr, levels: usize) -> Next
+        ensures begins { BeginsIn self.now levels (expr_loc whole.now.value) (view e.now) result }
+        ensures elements { NextStands e.now result }
     {
         match e.expr_kind() {
-            ExprKind::Lit(value) => self.literal(alloc, value),
-            ExprKind::Var(var) => self.variable(alloc, *var),
-            ExprKind::Slot(slot) => self.slot(alloc, *slot),
-            ExprKind::Unknown(unknown) => self.unknown(alloc, e, unknown),
+            ExprKind::Lit(value) => self.literal(alloc, whole, value),
+            ExprKind::Var(var) => self.variable(alloc, whole, *var),
+            ExprKind::Slot(slot) => self.slot(alloc, whole, *slot),
+            ExprKind::Unknown(unknown) => self.unknown(alloc, whole, e, unknown),
             ExprKind::If {
                 test_expr,
                 then_expr,
                 else_expr,
-            } => self.branches(test_expr, then_expr, else_expr),
-            ExprKind::And { left, right } => self.conjunction(left, right),
-            ExprKind::Or { left, right } => self.disjunction(left, right),
-            ExprKind::UnaryApp { op, arg } => self.operand(*op, arg),
-            ExprKind::BinaryApp { op, arg1, arg2 } => self.operands(*op, arg1, arg2),
-            ExprKind::ExtensionFunctionApp { fn_name, args } => {
-                self.call(alloc, fn_name, args, e.source_loc().copied())
+            } => self.branches(whole, test_expr, then_expr, else_expr),
+            ExprKind::And { left, right } => self.conjunction(whole, left, right),
+            ExprKind::Or { left, right } => self.disjunction(whole, left, right),
+            ExprKind::UnaryApp { op, arg } => self.operand(whole, *op, arg),
+            ExprKind::BinaryApp { op, arg1, arg2 } => {
+                self.operands(alloc, whole, *op, arg1, arg2, levels)
             }
-            ExprKind::GetAttr { expr, attr } => self.attribute(expr, attr),
-            ExprKind::HasAttr { expr, attr } => self.tested(expr, attr),
-            ExprKind::ExtHasAttr { expr, attrs } => self.walked(expr, attrs),
-            ExprKind::Like { expr, pattern } => self.likeness(alloc, expr, pattern),
-            ExprKind::Is { expr, entity_type } => self.typed(alloc, expr, entity_type),
-            ExprKind::Set(parts) => self.set(alloc, parts, e.source_loc().copied()),
-            ExprKind::Record(pairs) => self.record(alloc, pairs, e.source_loc().copied()),
+            ExprKind::ExtensionFunctionApp { fn_name, args } => {
+                self.call(alloc, whole, fn_name, args)
+            }
+            ExprKind::GetAttr { expr, attr } => { self.attribute(alloc, whole, expr, attr, levels) }
+            ExprKind::HasAttr { expr, attr } => { self.tested(alloc, whole, expr, attr, levels) }
+            ExprKind::ExtHasAttr { expr, attrs } => {
+                self.walked(alloc, whole, expr, attrs, levels)
+            }
+            ExprKind::Like { expr, pattern } => { self.likeness(alloc, whole, expr, pattern) }
+            ExprKind::Is { expr, entity_type } => { self.typed(alloc, whole, expr, entity_type) }
+            ExprKind::Set(parts) => self.set(alloc, whole, parts),
+            ExprKind::Record(pairs) => self.record(alloc, whole, pairs),
         }
     }
 
-    fn literal(&self, alloc: Global, value: &Literal) -> Result<Next, AllocError>
-        ensures { (r : RequestPart) (k : ℕ) → IfOk result (Begins (setting_of r self.now) (calls_in self.now) k (Terms.literal (literal_view value.now))) }
+    fn literal(&self, alloc: Global, whole: &Part, value: &Literal) -> Next
+        ensures { (r : RequestPart) (k : ℕ) → Begins (setting_of r self.now) (calls_in self.now) k (expr_loc whole.now.value) (Terms.literal (literal_view value.now)) result }
     {
-        let literal = Value::new(ValueKind::Lit(value.clone()?), None);
-        Ok(done(alloc, PartialValue::Value(literal)))
+        match literal_value(value) {
+            Some(value) => done(alloc, whole, PartialValue::Value(value)),
+            None => Step::Done(Err(Stopped::Memory)),
+        }
     }
 
-    fn variable(&self, alloc: Global, var: Var) -> Result<Next, AllocError>
-        ensures { (r : RequestPart) (k : ℕ) → Speaks r self.now → IfOk result (Begins (setting_of r self.now) (calls_in self.now) k (Terms.variable (variable_view var))) }
+    fn variable(&self, alloc: Global, whole: &Part, var: Var) -> Next
+        ensures { (levels : ℕ) → BeginsIn self.now levels (expr_loc whole.now.value) (Terms.variable (variable_view var)) result }
     {
-        Ok(done(alloc, self.given_for(var).clone()?))
+        match self.given_for(var).clone() {
+            Ok(part) => done(alloc, whole, part),
+            Err(_) => Step::Done(Err(Stopped::Memory)),
+        }
     }
 
     // What is given for the variable.
-    fn given_for(&self, var: Var) -> &PartialValue
+    pub(crate) fn given_for(&self, var: Var) -> &PartialValue
         ensures { result.now ≡ given_for self.now.given.now (variable_view var) }
     {
         match var {
@@ -96,179 +103,277 @@ impl<'e, 'g, 'f> Evaluation<'e, 'g, 'f> {
         }
     }
 
-    fn slot(&self, alloc: Global, slot: SlotId) -> Result<Next, AllocError>
-        ensures { (r : RequestPart) (k : ℕ) → IfOk result (Begins (setting_of r self.now) (calls_in self.now) k (Terms.slot (slot_view slot))) }
+    fn slot(&self, alloc: Global, whole: &Part, slot: SlotId) -> Next
+        ensures { (r : RequestPart) (k : ℕ) → Begins (setting_of r self.now) (calls_in self.now) k (expr_loc whole.now.value) (Terms.slot (slot_view slot)) result }
     {
-        slot_answer(alloc, self.slots, slot)
+        or_want(slot_answer(alloc, whole, self.slots, slot))
     }
 
-    fn unknown(&self, alloc: Global, e: &Expr, unknown: &Unknown) -> Result<Next, AllocError>
+    fn unknown(&self, alloc: Global, whole: &Part, e: &Expr, unknown: &Unknown) -> Next
         requires { view e.now ≡ Terms.unknown (rc_str_bytes unknown.now.name) (option_map type_view unknown.now.type_annotation) }
-        ensures { (r : RequestPart) (k : ℕ) → IfOk result (Begins (setting_of r self.now) (calls_in self.now) k (view e.now)) }
+        ensures { (r : RequestPart) (k : ℕ) → Begins (setting_of r self.now) (calls_in self.now) k (expr_loc whole.now.value) (view e.now) result }
     {
-        mapped(alloc, &self.given.mapper, e, unknown)
+        or_want(mapped(alloc, whole, &self.given.mapper, e, unknown))
     }
 
-    fn operand(&self, op: UnaryOp, arg: &Rc<Expr>) -> Result<Next, AllocError>
-        ensures { (r : RequestPart) (k : ℕ) → IfOk result (Begins (setting_of r self.now) (calls_in self.now) k (Terms.unary (unary_view op) (view arg.now.value))) }
+    fn operand(&self, whole: &Part, op: UnaryOp, arg: &Part) -> Next
+        ensures { (r : RequestPart) (k : ℕ) → Begins (setting_of r self.now) (calls_in self.now) k (expr_loc whole.now.value) (Terms.unary (unary_view op) (view arg.now.value)) result }
     {
-        let arg = arg.clone()?;
-        Ok(Step::Wait(Task::Other(Pending::Unary(op)), Part::Shared(arg)))
+        match both(whole, arg) {
+            Ok((whole, arg)) => {
+                let task = Task::Other(Pending::Unary(op));
+                Step::Wait(Frame { whole, task }, arg)
+            }
+            Err(_) => Step::Done(Err(Stopped::Memory)),
+        }
     }
 
-    fn operands(&self, op: BinaryOp, left: &Rc<Expr>, right: &Rc<Expr>) -> Result<Next, AllocError>
-        ensures { (r : RequestPart) (k : ℕ) → IfOk result (Begins (setting_of r self.now) (calls_in self.now) k (Terms.binary (binary_view op) (view left.now.value) (view right.now.value))) }
-    {
-        let right = right.clone()?;
-        let left = left.clone()?;
-        Ok(Step::Wait(
-            Task::Other(Pending::BinaryLeft { op, right }),
-            Part::Shared(left),
-        ))
-    }
-
-    fn attribute(&self, expr: &Rc<Expr>, attr: &RcStr) -> Result<Next, AllocError>
-        ensures { (r : RequestPart) (k : ℕ) → IfOk result (Begins (setting_of r self.now) (calls_in self.now) k (Terms.get_attribute (view expr.now.value) (rc_str_bytes attr.now))) }
-    {
-        let attr = attr.clone()?;
-        let expr = expr.clone()?;
-        Ok(Step::Wait(Task::Other(Pending::GetAttr(attr)), Part::Shared(expr)))
-    }
-
-    fn tested(&self, expr: &Rc<Expr>, attr: &RcStr) -> Result<Next, AllocError>
-        ensures { (r : RequestPart) (k : ℕ) → IfOk result (Begins (setting_of r self.now) (calls_in self.now) k (Terms.has_attribute (view expr.now.value) (rc_str_bytes attr.now))) }
-    {
-        let attr = attr.clone()?;
-        let expr = expr.clone()?;
-        Ok(Step::Wait(Task::Other(Pending::HasAttr(attr)), Part::Shared(expr)))
-    }
-
-    fn walked(&self, expr: &Rc<Expr>, attrs: &Rc<FirstRest<RcStr>>) -> Result<Next, AllocError>
-        ensures { (r : RequestPart) (k : ℕ) → IfOk result (Begins (setting_of r self.now) (calls_in self.now) k (Terms.extended_has (view expr.now.value) (rc_str_bytes attrs.now.value.first) (texts_view attrs.now.value.rest.items))) }
-    {
-        let attrs = attrs.clone()?;
-        let expr = expr.clone()?;
-        Ok(Step::Wait(Task::Other(Pending::ExtHasAttr(attrs)), Part::Shared(expr)))
-    }
-
-    fn likeness(
+    fn operands(
         &self,
         alloc: Global,
-        expr: &Rc<Expr>,
-        pattern: &Pattern,
-    ) -> Result<Next, AllocError>
-        ensures { (r : RequestPart) (k : ℕ) → IfOk result (Begins (setting_of r self.now) (calls_in self.now) k (Terms.like (view expr.now.value) (pattern_view pattern.now))) }
+        whole: &Part,
+        op: BinaryOp,
+        left: &Part,
+        right: &Part,
+        levels: usize,
+    ) -> Next
+        ensures { BeginsIn self.now levels (expr_loc whole.now.value) (Terms.binary (binary_view op) (view left.now.value) (view right.now.value)) result }
     {
-        let pattern = Box::new(alloc, pattern.clone()?)?;
-        let expr = expr.clone()?;
-        Ok(Step::Wait(Task::Other(Pending::Like(pattern)), Part::Shared(expr)))
+        match self.told_boxed(alloc, left, levels) {
+            Some(told) => self.after_left(alloc, whole, op, right, told, levels),
+            None => self.wait_for_left(whole, op, left, right),
+        }
     }
 
-    fn typed(
-        &self,
-        alloc: Global,
-        expr: &Rc<Expr>,
-        entity_type: &EntityType,
-    ) -> Result<Next, AllocError>
-        ensures { (r : RequestPart) (k : ℕ) → IfOk result (Begins (setting_of r self.now) (calls_in self.now) k (Terms.is_of_type (view expr.now.value) (type_text entity_type.now))) }
+    fn wait_for_left(&self, whole: &Part, op: BinaryOp, left: &Part, right: &Part) -> Next
+        ensures { (r : RequestPart) (k : ℕ) → Begins (setting_of r self.now) (calls_in self.now) k (expr_loc whole.now.value) (Terms.binary (binary_view op) (view left.now.value) (view right.now.value)) result }
     {
-        let entity_type = Box::new(alloc, entity_type.clone()?)?;
-        let expr = expr.clone()?;
-        Ok(Step::Wait(Task::Other(Pending::Is(entity_type)), Part::Shared(expr)))
+        match right.clone() {
+            Ok(right) => match both(whole, left) {
+                Ok((whole, left)) => {
+                    let task = Task::Other(Pending::BinaryLeft { op, right });
+                    Step::Wait(Frame { whole, task }, left)
+                }
+                Err(_) => Step::Done(Err(Stopped::Memory)),
+            },
+            Err(_) => Step::Done(Err(Stopped::Memory)),
+        }
     }
 
-    fn set(
+    fn attribute(
         &self,
         alloc: Global,
-        parts: &Rc<Vec<Expr>>,
-        loc: Option<Loc>,
-    ) -> Result<Next, AllocError>
-        ensures begins { (r : RequestPart) (k : ℕ) → IfOk result (Begins (setting_of r self.now) (calls_in self.now) k (Terms.set_of (terms_view parts.now.value.items))) }
-        ensures elements { IfOk result (SetNext parts.now.value.items) }
+        whole: &Part,
+        expr: &Part,
+        attr: &RcStr,
+        levels: usize,
+    ) -> Next
+        ensures { BeginsIn self.now levels (expr_loc whole.now.value) (Terms.get_attribute (view expr.now.value) (rc_str_bytes attr.now)) result }
     {
-        Ok(taken(
-            alloc,
-            PartsFrame::set(alloc, self.given.extensions, parts, loc),
-        ))
+        match self.told_boxed(alloc, expr, levels) {
+            Some(told) => self.after_container(alloc, whole, attr, told),
+            None => self.wait_for_container(whole, expr, attr),
+        }
     }
 
-    fn record(
-        &self,
-        alloc: Global,
-        pairs: &BTreeMap<RcStr, Expr>,
-        loc: Option<Loc>,
-    ) -> Result<Next, AllocError>
-        ensures { (r : RequestPart) (k : ℕ) → IfOk result (Begins (setting_of r self.now) (calls_in self.now) k (Terms.record_of (fields_view pairs.now.entries))) }
+    fn wait_for_container(&self, whole: &Part, expr: &Part, attr: &RcStr) -> Next
+        ensures { (r : RequestPart) (k : ℕ) → Begins (setting_of r self.now) (calls_in self.now) k (expr_loc whole.now.value) (Terms.get_attribute (view expr.now.value) (rc_str_bytes attr.now)) result }
     {
-        Ok(taken(
-            alloc,
-            PartsFrame::record(alloc, self.given.extensions, pairs, loc),
-        ))
+        match attr.clone() {
+            Ok(attr) => match both(whole, expr) {
+                Ok((whole, expr)) => {
+                    let task = Task::Other(Pending::GetAttr(attr));
+                    Step::Wait(Frame { whole, task }, expr)
+                }
+                Err(_) => Step::Done(Err(Stopped::Memory)),
+            },
+            Err(_) => Step::Done(Err(Stopped::Memory)),
+        }
     }
 
-    fn call(
+    fn tested(&self, alloc: Global, whole: &Part, expr: &Part, attr: &RcStr, levels: usize) -> Next
+        ensures { BeginsIn self.now levels (expr_loc whole.now.value) (Terms.has_attribute (view expr.now.value) (rc_str_bytes attr.now)) result }
+    {
+        match self.told_boxed(alloc, expr, levels) {
+            Some(told) => self.after_tested(alloc, whole, attr, told),
+            None => self.wait_for_tested(whole, expr, attr),
+        }
+    }
+
+    fn wait_for_tested(&self, whole: &Part, expr: &Part, attr: &RcStr) -> Next
+        ensures { (r : RequestPart) (k : ℕ) → Begins (setting_of r self.now) (calls_in self.now) k (expr_loc whole.now.value) (Terms.has_attribute (view expr.now.value) (rc_str_bytes attr.now)) result }
+    {
+        match attr.clone() {
+            Ok(attr) => match both(whole, expr) {
+                Ok((whole, expr)) => {
+                    let task = Task::Other(Pending::HasAttr(attr));
+                    Step::Wait(Frame { whole, task }, expr)
+                }
+                Err(_) => Step::Done(Err(Stopped::Memory)),
+            },
+            Err(_) => Step::Done(Err(Stopped::Memory)),
+        }
+    }
+
+    fn walked(
         &self,
         alloc: Global,
-        fn_name: &Name,
-        args: &Rc<Vec<Expr>>,
-        loc: Option<Loc>,
-    ) -> Result<Next, AllocError>
-        ensures { (r : RequestPart) (k : ℕ) → IfOk result (Begins (setting_of r self.now) (calls_in self.now) k (Terms.call (name_text fn_name.now) (terms_view args.now.value.items))) }
+        whole: &Part,
+        expr: &Part,
+        attrs: &Rc<FirstRest<RcStr>>,
+        levels: usize,
+    ) -> Next
+        ensures { BeginsIn self.now levels (expr_loc whole.now.value) (Terms.extended_has (view expr.now.value) (rc_str_bytes attrs.now.value.first) (texts_view attrs.now.value.rest.items)) result }
     {
-        Ok(taken(
-            alloc,
-            PartsFrame::call(alloc, self.given.extensions, fn_name, args, loc),
-        ))
+        match self.told_boxed(alloc, expr, levels) {
+            Some(told) => self.after_walked(alloc, whole, attrs, told),
+            None => self.wait_for_walked(whole, expr, attrs),
+        }
     }
+
+    fn wait_for_walked(&self, whole: &Part, expr: &Part, attrs: &Rc<FirstRest<RcStr>>) -> Next
+        ensures { (r : RequestPart) (k : ℕ) → Begins (setting_of r self.now) (calls_in self.now) k (expr_loc whole.now.value) (Terms.extended_has (view expr.now.value) (rc_str_bytes attrs.now.value.first) (texts_view attrs.now.value.rest.items)) result }
+    {
+        match attrs.clone() {
+            Ok(attrs) => match both(whole, expr) {
+                Ok((whole, expr)) => {
+                    let task = Task::Other(Pending::ExtHasAttr(attrs));
+                    Step::Wait(Frame { whole, task }, expr)
+                }
+                Err(_) => Step::Done(Err(Stopped::Memory)),
+            },
+            Err(_) => Step::Done(Err(Stopped::Memory)),
+        }
+    }
+
+    fn likeness(&self, alloc: Global, whole: &Part, expr: &Part, pattern: &Pattern) -> Next
+        ensures { (r : RequestPart) (k : ℕ) → Begins (setting_of r self.now) (calls_in self.now) k (expr_loc whole.now.value) (Terms.like (view expr.now.value) (pattern_view pattern.now)) result }
+    {
+        match boxed_pattern(alloc, pattern) {
+            Ok(pattern) => match both(whole, expr) {
+                Ok((whole, expr)) => {
+                    let task = Task::Other(Pending::Like(pattern));
+                    Step::Wait(Frame { whole, task }, expr)
+                }
+                Err(_) => Step::Done(Err(Stopped::Memory)),
+            },
+            Err(_) => Step::Done(Err(Stopped::Memory)),
+        }
+    }
+
+    fn typed(&self, alloc: Global, whole: &Part, expr: &Part, entity_type: &EntityType) -> Next
+        ensures { (r : RequestPart) (k : ℕ) → Begins (setting_of r self.now) (calls_in self.now) k (expr_loc whole.now.value) (Terms.is_of_type (view expr.now.value) (type_text entity_type.now)) result }
+    {
+        match boxed_type(alloc, entity_type) {
+            Ok(entity_type) => match both(whole, expr) {
+                Ok((whole, expr)) => {
+                    let task = Task::Other(Pending::Is(entity_type));
+                    Step::Wait(Frame { whole, task }, expr)
+                }
+                Err(_) => Step::Done(Err(Stopped::Memory)),
+            },
+            Err(_) => Step::Done(Err(Stopped::Memory)),
+        }
+    }
+
+    fn set(&self, alloc: Global, whole: &Part, parts: &Rc<Vec<Expr>>) -> Next
+        ensures begins { (r : RequestPart) (k : ℕ) → Begins (setting_of r self.now) (calls_in self.now) k (expr_loc whole.now.value) (Terms.set_of (terms_view parts.now.value.items)) result }
+        ensures elements { SetNext parts.now.value.items result }
+    {
+        let next = PartsFrame::set(alloc, self.given.extensions, parts, loc_of(whole));
+        first_part(alloc, whole, next)
+    }
+
+    fn record(&self, alloc: Global, whole: &Part, pairs: &BTreeMap<RcStr, Expr>) -> Next
+        ensures { (r : RequestPart) (k : ℕ) → Begins (setting_of r self.now) (calls_in self.now) k (expr_loc whole.now.value) (Terms.record_of (fields_view pairs.now.entries)) result }
+    {
+        let next = PartsFrame::record(alloc, self.given.extensions, pairs, loc_of(whole));
+        first_part(alloc, whole, next)
+    }
+
+    fn call(&self, alloc: Global, whole: &Part, fn_name: &Name, args: &Rc<Vec<Expr>>) -> Next
+        ensures { (r : RequestPart) (k : ℕ) → Begins (setting_of r self.now) (calls_in self.now) k (expr_loc whole.now.value) (Terms.call (name_text fn_name.now) (terms_view args.now.value.items)) result }
+    {
+        let next = PartsFrame::call(alloc, self.given.extensions, fn_name, args, loc_of(whole));
+        first_part(alloc, whole, next)
+    }
+}
+
+// A copy of the pattern in a box.
+fn boxed_pattern(alloc: Global, pattern: &Pattern) -> Result<Box<Pattern>, AllocError>
+    ensures { IfOk result (λ p. pattern_view p.value ≡ pattern_view pattern.now) }
+{
+    Ok(Box::new(alloc, pattern.clone()?)?)
+}
+
+// A copy of the entity type in a box.
+fn boxed_type(alloc: Global, entity_type: &EntityType) -> Result<Box<EntityType>, AllocError>
+    ensures { IfOk result (λ t. type_text t.value ≡ type_text entity_type.now) }
+{
+    Ok(Box::new(alloc, entity_type.clone()?)?)
 }
 
 // The entity that the slot is linked to.
 #[tactic(auto, unfolding(cedar_model::specs::Operators::slot_answer))]
-fn slot_answer(alloc: Global, slots: &SlotEnv, slot: SlotId) -> Result<Next, AllocError>
-    ensures { IfOk result (λ n. Gives n (slot_answer (slot_view slot) (slots_view slots.now (slot_view slot)))) }
+fn slot_answer(
+    alloc: Global,
+    whole: &Part,
+    slots: &SlotEnv,
+    slot: SlotId,
+) -> Result<Next, AllocError>
+    ensures { IfOk result (λ n. Gives (expr_loc whole.now.value) n (slot_answer (slot_view slot) (slots_view slots.now (slot_view slot)))) }
 {
     match slots.get(&slot) {
         Some(uid) => {
             let uid = Rc::new(alloc, uid.clone()?)?;
             let value = Value::new(ValueKind::Lit(Literal::EntityUID(uid)), None);
-            Ok(done(alloc, PartialValue::Value(value)))
+            Ok(done(alloc, whole, PartialValue::Value(value)))
         }
-        None => Ok(slot_unlinked(alloc, slot)),
+        None => Ok(slot_unlinked(alloc, whole, slot)),
     }
 }
 
 // That the slot is linked to no entity.
 #[cold]
 #[inline(never)]
-fn slot_unlinked(alloc: Global, slot: SlotId) -> Next
-    ensures { Gives result (fails (slot_is_unlinked (slot_view slot))) }
+fn slot_unlinked(alloc: Global, whole: &Part, slot: SlotId) -> Next
+    ensures { Gives (expr_loc whole.now.value) result (fails (slot_is_unlinked (slot_view slot))) }
 {
     let error = EvaluationError::UnlinkedSlot(UnlinkedSlotError {
         slot,
         source_loc: None,
     });
-    Step::Done(Err(Stopped::of(alloc, error, None)))
+    Step::Done(Err(Stopped::of(alloc, error, loc_of(whole))))
+}
+
+// What comes first of a set, a record or a call.
+fn first_part(alloc: Global, whole: &Part, next: NextPart) -> Next
+    ensures taken { IsTaken (expr_loc whole.now.value) next result }
+    ensures same { IsPartTaken next result }
+{
+    match whole.clone() {
+        Ok(whole) => taken(alloc, whole, next),
+        Err(_) => Step::Done(Err(Stopped::Memory)),
+    }
 }
 
 // What comes next of a set, a record or a call.
-pub(crate) fn taken(alloc: Global, next: NextPart) -> Next
-    ensures taken { IsTaken next result }
-    ensures whole { IsWhole next result }
+pub(crate) fn taken(alloc: Global, whole: Part, next: NextPart) -> Next
+    ensures taken { IsTaken (expr_loc whole.value) next result }
+    ensures same { IsPartTaken next result }
 {
     match next {
-        Step::Done(Ok(part)) => done(alloc, part),
-        Step::Done(Err(error)) => Step::Done(Err(Stopped::of(alloc, error, None))),
-        Step::Wait(frame, part) => match waiting(alloc, frame, part) {
-            Ok(next) => next,
-            Err(_) => Step::Done(Err(Stopped::Memory)),
-        },
+        Step::Done(Ok(part)) => done(alloc, &whole, part),
+        Step::Done(Err(error)) => Step::Done(Err(Stopped::of(alloc, error, loc_of(&whole)))),
+        Step::Wait(frame, part) => or_want(next_part(alloc, whole, frame, part)),
     }
 }
 
 // A set, a record or a call waits for this part.
-fn waiting(alloc: Global, frame: PartsFrame, part: Expr) -> Result<Next, AllocError>
-    ensures { IfOk result (IsTaken (Wait frame part)) }
+fn next_part(alloc: Global, whole: Part, frame: PartsFrame, part: Expr) -> Result<Next, AllocError>
+    ensures { IfOk result (IsNextPart (expr_loc whole.value) frame part) }
 {
-    let (frame, part) = boxed_both(alloc, frame, part)?;
-    Ok(Step::Wait(Task::Parts(frame), Part::Own(part)))
+    let part = Rc::new(alloc, part)?;
+    let task = Task::Parts(Box::new(alloc, frame)?);
+    Ok(Step::Wait(Frame { whole, task }, part))
 }

@@ -8,7 +8,7 @@ ghost use Rattle.cedar_model.specs.Outcomes.{type_eq};
 ghost use Rattle.cedar_model.specs.Failures.{Answer, fails, answers_residual, wrong_type};
 ghost use Rattle.cedar_model.specs.Operators.{unknown_answer, typed_value};
 ghost use Rattle.cedar_names.specs.Leaves.{type_view};
-ghost use Rattle.cedar_expressions.specs.View.{view};
+ghost use Rattle.cedar_expressions.specs.View.{view, expr_loc};
 ghost use Rattle.cedar_data.specs.Residuals.{residual_term};
 ghost use Rattle.cedar_data.specs.Sound.{Placed};
 ghost use Rattle.cedar_values.specs.Answers.{AnswersWith};
@@ -16,9 +16,9 @@ ghost use Rattle.cedar_evaluation.specs.Settings.{mapper_view};
 ghost use Rattle.cedar_evaluation.specs.Tasks.{Gives};
 ghost use Rattle.cedar_evaluation.specs.Stored.{remapped, IsNoUnknown};
 
-use crate::answers::done;
+use crate::answers::{answered_in, done, loc_of, or_want};
 use crate::evaluation::Mapper;
-use crate::frame::Next;
+use crate::frame::{Next, Part};
 use crate::stopped::Stopped;
 use cedar_data::{PartialValue, ResidualExpr, Value};
 use cedar_expressions::{Expr, ExprKind};
@@ -30,38 +30,45 @@ use cedar_values::evaluator::err::EvaluationError;
 use std::alloc::{AllocError, Global};
 use std::rc::RcStr;
 
-// What a stored attribute answers: one that is an unknown goes through the map.
+// What a stored attribute answers, in the box of its container: one that is an unknown goes through the map.
 #[tactic(auto, unfolding(crate::specs::Stored::remapped))]
-pub(crate) fn stored(
+pub(crate) fn stored_in(
     alloc: Global,
+    whole: &Part,
     mapper: &Mapper<'_>,
+    container: Box<PartialValue>,
     answer: Result<PartialValue, EvaluationError>,
-) -> Result<Next, AllocError>
-    ensures { (b : Answer) → AnswersWith answer b → IfOk result (λ n. Gives n (remapped (mapper_view mapper.now) b)) }
+) -> Next
+    ensures { (b : Answer) → AnswersWith answer b → Gives (expr_loc whole.now.value) result (remapped (mapper_view mapper.now) b) }
 {
     match answer {
-        Ok(PartialValue::Value(value)) => Ok(done(alloc, PartialValue::Value(value))),
-        Ok(PartialValue::Residual(residual)) => stored_residual(alloc, mapper, residual),
-        Err(error) => Ok(Step::Done(Err(Stopped::of(alloc, error, None)))),
+        Ok(PartialValue::Value(value)) => {
+            answered_in(alloc, whole, container, Ok(PartialValue::Value(value)))
+        }
+        Ok(PartialValue::Residual(residual)) => {
+            or_want(stored_residual(alloc, whole, mapper, residual))
+        }
+        Err(error) => answered_in(alloc, whole, container, Err(error)),
     }
 }
 
-// The same of what is stored unevaluated.
+// What an attribute that is stored unevaluated answers: one that is an unknown goes through the map.
 #[tactic(auto, unfolding(crate::specs::Stored::remapped))]
 fn stored_residual(
     alloc: Global,
+    whole: &Part,
     mapper: &Mapper<'_>,
     residual: ResidualExpr,
 ) -> Result<Next, AllocError>
-    ensures { IfOk result (λ n. Gives n (remapped (mapper_view mapper.now) (answers_residual (residual_term residual)))) }
+    ensures { IfOk result (λ n. Gives (expr_loc whole.now.value) n (remapped (mapper_view mapper.now) (answers_residual (residual_term residual)))) }
 {
     match unknown_in(residual.as_expr()) {
         Some(unknown) => {
-            let next = mapped(alloc, mapper, residual.as_expr(), unknown);
+            let next = mapped(alloc, whole, mapper, residual.as_expr(), unknown);
             drop(residual);
             next
         }
-        None => Ok(done(alloc, PartialValue::Residual(residual))),
+        None => Ok(done(alloc, whole, PartialValue::Residual(residual))),
     }
 }
 
@@ -112,19 +119,20 @@ fn unknown_in(e: &Expr) -> Option<&Unknown>
 #[tactic(auto, unfolding(cedar_model::specs::Operators::mapped, cedar_model::specs::Operators::typed_value))]
 pub(crate) fn mapped(
     alloc: Global,
+    whole: &Part,
     mapper: &Mapper<'_>,
     e: &Expr,
     unknown: &Unknown,
 ) -> Result<Next, AllocError>
     requires { view e.now ≡ Terms.unknown (rc_str_bytes unknown.now.name) (option_map type_view unknown.now.type_annotation) }
-    ensures { IfOk result (λ n. Gives n (unknown_answer (mapper_view mapper.now) (rc_str_bytes unknown.now.name) (option_map type_view unknown.now.type_annotation))) }
+    ensures { IfOk result (λ n. Gives (expr_loc whole.now.value) n (unknown_answer (mapper_view mapper.now) (rc_str_bytes unknown.now.name) (option_map type_view unknown.now.type_annotation))) }
 {
     match value_of(mapper, &unknown.name) {
         Some(value) => match &unknown.type_annotation {
-            Some(ty) => of_type(alloc, value, ty),
-            None => Ok(done(alloc, PartialValue::Value(value.clone()?))),
+            Some(ty) => of_type(alloc, whole, value, ty),
+            None => Ok(done(alloc, whole, PartialValue::Value(value.clone()?))),
         },
-        None => Ok(left(alloc, e.clone()?)),
+        None => Ok(left(alloc, whole, e.clone()?)),
     }
 }
 
@@ -140,13 +148,13 @@ fn value_of<'v>(mapper: &Mapper<'v>, name: &RcStr) -> Option<&'v Value>
 
 // The value, if it is of this type.
 #[tactic(auto, unfolding(cedar_model::specs::Operators::typed_value))]
-fn of_type(alloc: Global, value: &Value, ty: &Type) -> Result<Next, AllocError>
-    ensures { IfOk result (λ n. Gives n (typed_value (Some (type_view ty.now)) value.now.what)) }
+fn of_type(alloc: Global, whole: &Part, value: &Value, ty: &Type) -> Result<Next, AllocError>
+    ensures { IfOk result (λ n. Gives (expr_loc whole.now.value) n (typed_value (Some (type_view ty.now)) value.now.what)) }
 {
     if same_type(&value.type_of()?, ty) {
-        Ok(done(alloc, PartialValue::Value(value.clone()?)))
+        Ok(done(alloc, whole, PartialValue::Value(value.clone()?)))
     } else {
-        Ok(wrong_type(alloc, ty.clone()?, value))
+        Ok(wrong_type(alloc, whole, ty.clone()?, value))
     }
 }
 
@@ -161,16 +169,16 @@ fn same_type(ty: &Type, other: &Type) -> bool
 // That a value of this type is expected.
 #[cold]
 #[inline(never)]
-fn wrong_type(alloc: Global, ty: Type, value: &Value) -> Next
-    ensures { Gives result (fails (wrong_type (type_view ty) [] (abstract_value value.now.what))) }
+fn wrong_type(alloc: Global, whole: &Part, ty: Type, value: &Value) -> Next
+    ensures { Gives (expr_loc whole.now.value) result (fails (wrong_type (type_view ty) [] (abstract_value value.now.what))) }
 {
-    Step::Done(Err(Stopped::of(alloc, type_error(alloc, ty, value), None)))
+    Step::Done(Err(Stopped::of(alloc, type_error(alloc, ty, value), loc_of(whole))))
 }
 
 // The unknown is left.
-fn left(alloc: Global, e: Expr) -> Next
+fn left(alloc: Global, whole: &Part, e: Expr) -> Next
     requires { has_unknown (view e) ≡ true }
-    ensures { Gives result (answers_residual (view e)) }
+    ensures { Gives (expr_loc whole.now.value) result (answers_residual (view e)) }
 {
-    done(alloc, PartialValue::Residual(ResidualExpr::new(e)))
+    done(alloc, whole, PartialValue::Residual(ResidualExpr::new(e)))
 }

@@ -1,8 +1,8 @@
 -- What follows of a scope that is told.
 use Rattle.std.specs.Prelude.{◌≡◌, ◌≢◌, ◌≤◌, ◌-◌, ℕ, suc, Bool, true, false, Option, Some, None, IfSome}
 use Rattle.std.proofs.Common.{refl, sym, ap, ◌∙◌, subst, arith}
-use Rattle.cedar_model.specs.Terms.{Term, Literal, bool_literal, long_literal, text_literal, entity_literal, literal, Variable, variable, both, binary, BinaryOperator}
-use Rattle.cedar_model.specs.Values.{Represented, plain_represented, set_represented, record_represented, extension_represented, abstract_value}
+use Rattle.cedar_model.specs.Terms.{Term, Literal, bool_literal, literal, Variable, variable, both, binary, BinaryOperator}
+use Rattle.cedar_model.specs.Values.{Represented, abstract_value}
 use Rattle.cedar_model.specs.Outcomes.{bool_of}
 use Rattle.cedar_model.specs.Alike.{AreFunctional}
 use Rattle.cedar_model.specs.LevelLaws.{FunctionsMeetNoLimit}
@@ -16,6 +16,7 @@ use Rattle.cedar_data.specs.Sound.{Placed}
 use Rattle.cedar_layers.specs.Stores.{store_view}
 use Rattle.cedar_extensions.specs.Extensions.{extensions_view}
 use Rattle.cedar_operators.specs.Operands.{given}
+use Rattle.cedar_evaluation.specs.Booleans.{is_bool}
 use Rattle.cedar_evaluation.specs.Operands.{parts_alike}
 use Rattle.cedar_evaluation.specs.Promises.{IsPromised, promised}
 use Rattle.cedar_evaluation.specs.Settings.{given_for}
@@ -129,11 +130,5 @@ module _ (s : Setting) (calls : StoredCalls) (functional : AreFunctional calls) 
 
 -- a value that is this boolean
 pub bool_is : (v : Represented) (r : Option Bool) → r ≡ bool_of (abstract_value v) → IfSome r (λ b. answers_value v ≡ answers_bool b)
-unfolding bool_of
-bool_is (plain_represented (bool_literal c)) r h = subst (λ z. IfSome z (λ b. answers_bool c ≡ answers_bool b)) (sym h) refl
-bool_is (plain_represented (long_literal z)) r h = subst (λ o. IfSome o (λ b. answers_value (plain_represented (long_literal z)) ≡ answers_bool b)) (sym h) tt
-bool_is (plain_represented (text_literal t)) r h = subst (λ o. IfSome o (λ b. answers_value (plain_represented (text_literal t)) ≡ answers_bool b)) (sym h) tt
-bool_is (plain_represented (entity_literal e)) r h = subst (λ o. IfSome o (λ b. answers_value (plain_represented (entity_literal e)) ≡ answers_bool b)) (sym h) tt
-bool_is (set_represented vs) r h = subst (λ o. IfSome o (λ b. answers_value (set_represented vs) ≡ answers_bool b)) (sym h) tt
-bool_is (record_represented fs) r h = subst (λ o. IfSome o (λ b. answers_value (record_represented fs) ≡ answers_bool b)) (sym h) tt
-bool_is (extension_represented t k f ts) r h = subst (λ o. IfSome o (λ b. answers_value (extension_represented t k f ts) ≡ answers_bool b)) (sym h) tt
+bool_is v None h = tt
+bool_is v (Some b) h = is_bool v b (sym h)

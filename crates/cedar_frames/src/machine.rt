@@ -45,19 +45,26 @@ pub trait Machine {
     /// The answer where memory is wanting.
     ghost at_want: { Self.Answer };
 
-    /// Looks at a part: answers it, or waits for a part of it.
-    fn start(&self, alloc: Global, part: &Self::Part) -> Step<Self::Frame, Self::Part, Self::Answer>
-        ensures right { (k : ℕ) → Resumes (right self.now) (waits self.now) k part.now result }
+    /// Looks at a part: answers it, or waits for a part of it. So many levels are left for the part, at least one: it is one of them
+    /// itself, and its parts are one more.
+    fn start(
+        &self,
+        alloc: Global,
+        part: Self::Part,
+        levels: usize,
+    ) -> Step<Self::Frame, Self::Part, Self::Answer>
+        ensures right { (k : ℕ) → suc k ≡ levels → Resumes (right self.now) (waits self.now) k part result }
         ensures below { Below left_of most result };
 
-    /// Goes on with the answer of the part that the frame waits for.
+    /// Goes on with the answer of the part that the frame waits for. So many levels are left for what waits, at least one.
     fn resume(
         &self,
         alloc: Global,
         frame: Self::Frame,
         answer: Self::Answer,
+        levels: usize,
     ) -> Step<Self::Frame, Self::Part, Self::Answer>
-        ensures right { (k : ℕ) (t c : Self.Part) → waits self.now k frame t c → right self.now k c answer → Resumes (right self.now) (waits self.now) k t result }
+        ensures right { (k : ℕ) (t c : Self.Part) → suc k ≡ levels → waits self.now k frame t c → right self.now k c answer → Resumes (right self.now) (waits self.now) k t result }
         ensures fewer { Fewer left_of frame result };
 
     /// Whether the answer ends the whole at once.

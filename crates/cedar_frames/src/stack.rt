@@ -1,5 +1,5 @@
 //! The stack of frames.
-ghost use Rattle.std.specs.Prelude.{◌≡◌, ◌++◌, ◌∷◌, [], ◌<◌, ◌≤◌, IfOk, IfSome, MatchOption, vec_len, length, IsTrue, ◌↔◌};
+ghost use Rattle.std.specs.Prelude.{◌≡◌, ◌+◌, ◌++◌, ◌∷◌, [], ◌<◌, ◌≤◌, IfOk, IfSome, MatchOption, vec_len, length};
 
 use std::alloc::{AllocError, Global};
 
@@ -30,11 +30,11 @@ impl<F> Stack<F> {
         &self.frames
     }
 
-    /// Whether there are as many frames as the limit allows.
-    pub fn is_full(&self) -> bool
-        ensures { IsTrue result ↔ length self.now.frames.items ≡ self.now.limit }
+    /// How many more frames the limit allows.
+    pub fn levels_left(&self) -> usize
+        ensures { result + length self.now.frames.items ≡ self.now.limit }
     {
-        self.frames.len() == self.limit
+        self.limit - self.frames.len()
     }
 
     // Puts a frame on top. Refuses only for want of memory.

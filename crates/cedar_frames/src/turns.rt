@@ -55,6 +55,7 @@ pub fn interpret_on<M: Machine>(
 }
 
 /// One turn: looks at a part, or hands an answer to the last frame. An answer that ends the whole is handed to none.
+#[inline(always)]
 pub fn advance<M: Machine>(
     machine: &M,
     alloc: Global,
@@ -67,28 +68,59 @@ pub fn advance<M: Machine>(
     ensures handed_on { IsHandedOn M.ends_all result }
 {
     match mode {
-        Mode::Eval(part) => {
-            if stack.is_full() {
-                return Turn::End(machine.limit());
-            }
-            match machine.start(alloc, &part) {
-                Step::Done(answer) => answered(machine, answer),
-                Step::Wait(frame, next) => waiting(machine, stack, frame, next),
-            }
-        }
-        Mode::Answer(answer) => {
-            let Some(frame) = stack.pop() else {
-                return Turn::End(answer);
-            };
-            match machine.resume(alloc, frame, answer) {
-                Step::Done(answer) => answered(machine, answer),
-                Step::Wait(frame, next) => waiting(machine, stack, frame, next),
-            }
-        }
+        Mode::Eval(part) => looked_at(machine, alloc, stack, part),
+        Mode::Answer(answer) => handed_on(machine, alloc, stack, answer),
+    }
+}
+
+// A part is looked at, or the end where no level is left.
+#[inline]
+fn looked_at<M: Machine>(
+    machine: &M,
+    alloc: Global,
+    stack: &mut Stack<M::Frame>,
+    part: M::Part,
+) -> Turn<M::Part, M::Answer>
+    ensures limit { stack.new.limit ≡ stack.old.limit }
+    ensures right { (e : M.Part) → State (M.right machine.now) (M.waits machine.now) stack.old.limit e stack.old.frames.items (Eval part) → Turned (M.right machine.now) (M.waits machine.now) stack.old.limit e stack.new.frames.items result }
+    ensures less { Less M.left_of (work_left {P = M.Part} {A = M.Answer} M.left_of M.most stack.old.limit stack.old.frames.items (Eval part)) M.most stack.old.limit stack.new.frames.items result }
+    ensures handed_on { IsHandedOn M.ends_all result }
+{
+    let levels = stack.levels_left();
+    if levels == 0 {
+        return Turn::End(machine.limit());
+    }
+    match machine.start(alloc, part, levels) {
+        Step::Done(answer) => answered(machine, answer),
+        Step::Wait(frame, next) => waiting(machine, stack, frame, next),
+    }
+}
+
+// An answer is handed to the last frame, or is the end where there is none.
+#[inline]
+fn handed_on<M: Machine>(
+    machine: &M,
+    alloc: Global,
+    stack: &mut Stack<M::Frame>,
+    answer: M::Answer,
+) -> Turn<M::Part, M::Answer>
+    ensures limit { stack.new.limit ≡ stack.old.limit }
+    ensures right { (e : M.Part) → State (M.right machine.now) (M.waits machine.now) stack.old.limit e stack.old.frames.items (Answer answer) → Turned (M.right machine.now) (M.waits machine.now) stack.old.limit e stack.new.frames.items result }
+    ensures less { Less M.left_of (work_left {P = M.Part} {A = M.Answer} M.left_of M.most stack.old.limit stack.old.frames.items (Answer answer)) M.most stack.old.limit stack.new.frames.items result }
+    ensures handed_on { IsHandedOn M.ends_all result }
+{
+    let Some(frame) = stack.pop() else {
+        return Turn::End(answer);
+    };
+    let levels = stack.levels_left();
+    match machine.resume(alloc, frame, answer, levels) {
+        Step::Done(answer) => answered(machine, answer),
+        Step::Wait(frame, next) => waiting(machine, stack, frame, next),
     }
 }
 
 // On with an answer, or the end.
+#[inline(always)]
 fn answered<M: Machine>(machine: &M, answer: M::Answer) -> Turn<M::Part, M::Answer>
     ensures right { (limit : ℕ) (e : M.Part) (fs : List M.Frame) → State (M.right machine.now) (M.waits machine.now) limit e fs (Answer answer) → Turned (M.right machine.now) (M.waits machine.now) limit e fs result }
     ensures less { (n limit : ℕ) (fs : List M.Frame) → work_left {P = M.Part} M.left_of M.most limit fs (Answer answer) < n → Less M.left_of n M.most limit fs result }
@@ -102,6 +134,7 @@ fn answered<M: Machine>(machine: &M, answer: M::Answer) -> Turn<M::Part, M::Answ
 }
 
 // On with a part that a new frame waits for, or the end where the stack finds no memory.
+#[inline(always)]
 fn waiting<M: Machine>(
     machine: &M,
     stack: &mut Stack<M::Frame>,

@@ -1,9 +1,11 @@
 -- Where the elements of an evaluated set stand: each where the part stands of which it is the value.
-use Rattle.std.specs.Prelude.{◌≡◌, true, ℕ, zero, suc, ◌<◌, ◌++◌, List, [], ◌∷◌, length, get_or, Result, Ok, Err, IfOk}
+use Rattle.std.specs.Prelude.{◌≡◌, ◌≢◌, true, ℕ, zero, suc, ◌<◌, ◌++◌, List, [], ◌∷◌, length, drop, get_or}
+use Rattle.std.specs.Prelude.{Result, Ok, Err, IfOk}
 use Rattle.std.proofs.Common.{refl, sym, ap, ◌∙◌, subst, arith}
-use Rattle.cedar_model.specs.Terms.{Terms, set_of}
+use Rattle.cedar_model.specs.Terms.{Terms, Literal, literal, set_of}
 use Rattle.cedar_model.specs.Values.{set_represented}
 use Rattle.cedar_model.specs.Sets.{canonical_set}
+use Rattle.cedar_model.specs.Failures as model
 use Rattle.cedar_model.specs.World as world
 use Rattle.cedar_model.specs.Rules.{StoredCalls}
 use Rattle.cedar_expressions.specs.declared.expr.Expr.{Expr}
@@ -20,7 +22,8 @@ use Rattle.cedar_restricted.specs.declared.answers.Answers.{Answers}
 use Rattle.cedar_restricted.specs.declared.answers.Answers.TheVariants as answereds
 use Rattle.cedar_restricted.specs.declared.parts.PartsFrame.{PartsFrame}
 use Rattle.cedar_restricted.specs.declared.whole.Whole.TheVariants as wholes
-use Rattle.cedar_restricted.specs.Parts.{count}
+use Rattle.cedar_restricted.specs.Parts.{count, Are}
+use Rattle.cedar_restricted.specs.Literals.{IsOfLiteral, AreOfLiterals, AreBehind}
 use Rattle.cedar_restricted.specs.Evaluations.{ends_all}
 use Rattle.cedar_restricted.specs.Frames.{NextPart, IsRight, Waits}
 
@@ -100,6 +103,14 @@ AreWith (answereds.Values vs) (partials.Residual r) (answereds.Mixed m) = Unit {
 AreWith (answereds.Mixed k) p (answereds.Values ws) = ⊥
 AreWith (answereds.Mixed k) p (answereds.Mixed m) = Unit {0}
 
+-- one more answer, and behind it, where answers are values, those of the literals that follow its part
+pub record GrowsWith (es : List Expr) (a : Answers) (p : PartialValue) (b : Answers) : Type 0 where
+  pub one : Answers
+  pub counted : count one ≡ suc (count a)
+  pub answers : (ps : List model.PartialValue) → Are a ps → Are one (ps ++ partial_view p ∷ [])
+  pub values : AreWith a p one
+  pub follow : AreBehind es one b
+
 -- the value is the set of these answers, which are values
 abbrev pub IsMadeOf : Answers → Placed → Type 0
 IsMadeOf (answereds.Values vs) v =
@@ -152,6 +163,32 @@ first_with n es (answereds.Values vs) (answereds.Values ws) c (partials.Residual
 first_with n es (answereds.Values vs) (answereds.Mixed m) c (partials.Residual r) is h part stands = tt
 first_with n es (answereds.Mixed k) (answereds.Values ws) c p is h part stands = absurd is
 first_with n es (answereds.Mixed k) (answereds.Mixed m) c p is h part stands = tt
+
+literal_stands : (n : ℕ) (e : Expr) (v : Placed) → IsOfLiteral e v → ElementsStand n e v
+literal_stands zero e v o = tt
+literal_stands (suc n) e v o = λ ts is. absurd (no_set o.of ts (sym o.seen ∙ is))
+  where
+    no_set : (l : Literal) (ts : Terms) → literal l ≢ set_of ts
+    no_set l ts h = cc
+
+literals_stand : (n : ℕ) (es : List Expr) (vs : List Placed) → AreOfLiterals es vs → AreOfFirst (ElementsStand n) es vs
+literals_stand n es [] h = tt
+literals_stand n [] (v ∷ vs) h = absurd h
+literals_stand n (e ∷ es) (v ∷ vs) (o, h) = (o.place, literal_stands n e v o, literals_stand n es vs h)
+
+with_literals : (n : ℕ) (es : List Expr) (vs more : List Placed) → AreOfFirst (ElementsStand n) es vs →
+    AreOfLiterals (drop (length vs) es) more → AreOfFirst (ElementsStand n) es (vs ++ more)
+with_literals n es [] more h o = literals_stand n es more o
+with_literals n [] (v ∷ vs) more h o = absurd h
+with_literals n (e ∷ es) (v ∷ vs) more (l, of, h) o = (l, of, with_literals n es vs more h o)
+
+-- and the values of the literals that follow
+pub first_behind : (n : ℕ) (es : List Expr) (a b : Answers) → AreBehind es a b → FirstStand n es a → FirstStand n es b
+first_behind n es (answereds.Values vs) (answereds.Values ws) grown h =
+    subst (AreOfFirst (ElementsStand n) es) (sym grown.all) (with_literals n es vs.items grown.values h grown.each)
+first_behind n es (answereds.Values vs) (answereds.Mixed m) grown h = tt
+first_behind n es (answereds.Mixed k) (answereds.Values ws) grown h = absurd grown
+first_behind n es (answereds.Mixed k) (answereds.Mixed m) grown h = tt
 
 -- what all answers make is the set of their parts
 made_of_all : (n : ℕ) (es : List Expr) (a : Answers) (v : Placed) → FirstStand n es a → count a ≡ length es →

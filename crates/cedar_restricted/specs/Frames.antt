@@ -1,10 +1,10 @@
 -- What the frames of the evaluation wait for.
-use Rattle.std.specs.Prelude.{◌≡◌, ◌≢◌, ℕ, suc, ◌-◌, true, List, [], ◌∷◌, ◌++◌, length, drop, Option, Result, Ok, Err}
+use Rattle.std.specs.Prelude.{◌≡◌, ◌≢◌, ℕ, suc, ◌+◌, ◌-◌, true, List, [], ◌∷◌, ◌++◌, length, drop, Option, Result, Ok, Err}
 use Rattle.std.specs.Prelude.{IfOk}
 use Rattle.std.specs.declared.alloc.Global.{Global}
 use Rattle.std.specs.declared.rc.Rc.{Rc}
 use Rattle.std.specs.declared.vec.Vec.{Vec}
-use Rattle.cedar_model.specs.Terms.{Term, Terms, one_term}
+use Rattle.cedar_model.specs.Terms.{Term, Terms, Literal, one_term}
 use Rattle.cedar_model.specs.Failures as model
 use Rattle.cedar_model.specs.Failures.{fails, out_of_memory}
 use Rattle.cedar_model.specs.Shapes.{is_restricted}
@@ -25,6 +25,7 @@ use Rattle.cedar_restricted.specs.declared.parts.PartsFrame.{PartsFrame}
 use Rattle.cedar_restricted.specs.declared.whole.Whole.{Whole}
 use Rattle.cedar_restricted.specs.Evaluations.{partial_answer, bare}
 use Rattle.cedar_restricted.specs.Parts.{whole_term, HasKeys, count, Are, Makes, SoFar}
+use Rattle.cedar_restricted.specs.Literals.{literals_then, literal_answers}
 
 -- what comes next of a set, a record or a call
 abbrev pub NextPart : Type 0
@@ -36,6 +37,10 @@ Parts = Rc (Vec Expr Global) Global
 -- the terms of the parts that have not answered yet
 abbrev pub parts_left : Parts → Answers → Terms
 parts_left parts answers = terms_view (drop (count answers) parts.value.items)
+
+-- and of those behind the next one
+abbrev pub parts_behind : Parts → Answers → Terms
+parts_behind parts answers = terms_view (drop (suc (count answers)) parts.value.items)
 
 -- this part answers next
 abbrev pub IsNext : Parts → Answers → Expr → Type 0
@@ -67,12 +72,15 @@ Begins x calls t loc (Wait f c) = Begun x calls t loc (Wait f c)
 Begins x calls t loc (Done r) = (partial_answer r ≢ fails out_of_memory → Begun x calls t loc (Done r)) ×
     IfOk r (λ p. partial_loc p ≡ loc)
 
--- with one more answer
+-- with one more answer, and those of the literals that follow its part, which are their values
 pub record Continued (x : world.Extensions) (calls : StoredCalls) (f : PartsFrame) (p : PartialValue) (s : NextPart) :
     Type 0 where
   pub answers : Answers
-  pub one_more : (ps : List model.PartialValue) → Are f.answers ps → Are answers (ps ++ partial_view p ∷ [])
-  pub counted : count answers ≡ suc (count f.answers)
+  pub literals : List Literal
+  pub follow : parts_behind f.parts f.answers ≡ literals_then literals (parts_left f.parts answers)
+  pub one_more : (ps : List model.PartialValue) → Are f.answers ps →
+      Are answers (ps ++ partial_view p ∷ literal_answers literals)
+  pub counted : count answers ≡ suc (count f.answers) + length literals
   pub reads : Reads x calls f.whole f.parts answers f.loc s
 
 -- with the next answer: the next part, or the whole, unless memory is wanting; an error is the whole's

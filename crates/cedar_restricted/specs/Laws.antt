@@ -1,14 +1,15 @@
 -- The laws of the evaluation over frames.
-use Rattle.std.specs.Prelude.{◌≡◌, ◌≢◌, ℕ, suc, ◌+◌, ◌-◌, ◌^◌, ◌<◌, ◌≤◌, true, false, List, [], ◌∷◌, ◌++◌, length, drop}
+use Rattle.std.specs.Prelude.{◌≡◌, ◌≢◌, ℕ, zero, suc, ◌+◌, ◌-◌, ◌^◌, ◌<◌, ◌≤◌, true, false, List, [], ◌∷◌, ◌++◌, length, drop}
 use Rattle.std.specs.Prelude.{Option, Result, Ok, Err, IfOk}
-use Rattle.std.proofs.Common.{refl, sym, ap, ◌∙◌, subst, arith}
-use Rattle.cedar_model.specs.Terms.{Text, Term, Literal, ValueType, literal, unknown}
+use Rattle.std.proofs.Common.{refl, sym, ap, ◌∙◌, subst, arith, append_assoc}
+use Rattle.cedar_model.specs.Terms.{Text, Term, Terms, Literal, ValueType, literal, unknown, one_term}
 use Rattle.cedar_model.specs.Values.{plain_represented}
 use Rattle.cedar_model.specs.Operators.{mapped}
 use Rattle.cedar_model.specs.Failures as model
 use Rattle.cedar_model.specs.Failures.{Failure, Answer, answers, fails, out_of_memory}
 use Rattle.cedar_model.specs.Shapes.{is_restricted}
-use Rattle.cedar_model.specs.Rules.{StoredCalls, Rule, Runs, Parts}
+use Rattle.cedar_model.specs.Settings.{Setting}
+use Rattle.cedar_model.specs.Rules.{StoredCalls, MayAnswer, Rule, Runs, Parts}
 use Rattle.cedar_model.specs.World as world
 use Rattle.cedar_names.specs.declared.names.Loc.{Loc}
 use Rattle.cedar_expressions.specs.declared.expr.Expr.{Expr}
@@ -27,9 +28,11 @@ use Rattle.cedar_restricted.specs.Evaluations.{want_error}
 use Rattle.cedar_restricted.specs.Parts as shapes
 use Rattle.cedar_restricted.specs.Parts.{whole_term, HasKeys, count, Are, Makes}
 use Rattle.cedar_restricted.specs.Frames.{NextPart, Reads, Begun, Begins, Continued, GoesOn, HasRead, IsNext, Waits}
-use Rattle.cedar_restricted.specs.Frames.{IsRight, left_of}
+use Rattle.cedar_restricted.specs.Frames.{IsRight, left_of, parts_left, parts_behind}
 use Rattle.cedar_restricted.specs.Frames as frames
-use Rattle.cedar_restricted.specs.Steps.{so_far_none, so_far_more, so_far_all, so_far_fails, whole_fails, whole_answers}
+use Rattle.cedar_restricted.specs.Literals.{literals_then, literal_answers, AreBehind, Behind, behind}
+use Rattle.cedar_restricted.specs.Steps.{so_far_none, so_far_more, so_far_literals, so_far_all, so_far_fails}
+use Rattle.cedar_restricted.specs.Steps.{whole_fails, whole_answers}
 use Rattle.cedar_restricted.specs.Steps.{parts_restricted, next_restricted, left_after, none_left}
 
 no_fail : (p : model.PartialValue) (e : Failure) → answers p ≢ fails e
@@ -104,6 +107,34 @@ module _ (x : world.Extensions) (calls : StoredCalls) (k : ℕ) (t : Expr) where
 
 -- ---- on with an answer
 
+-- what an answer is right of has a level, in which a literal is its value
+pub literal_runs : (s : Setting) (calls : StoredCalls) (k : ℕ) (t : Term) (p : model.PartialValue) →
+    Runs s calls k t (answers p) → (l : Literal) → Runs s calls k (literal l) (answers (model.value (plain_represented l)))
+literal_runs s calls zero t p h l = absurd (no_fail p model.recursion_limit h)
+literal_runs s calls (suc k) t p h l = refl
+
+-- the answers of the first parts, after one more and those of the literals that follow
+pub grown_read : (May : MayAnswer) (x : world.Extensions) (calls : StoredCalls) (f : PartsFrame) (p : PartialValue)
+    (s : NextPart) (c : Term) (rest : Terms) →
+    ((l : Literal) → May (literal l) (answers (model.value (plain_represented l)))) → HasRead May f.parts f.answers →
+    parts_left f.parts f.answers ≡ one_term c rest → May c (answers (partial_view p)) → (h : Continued x calls f p s) →
+    HasRead May f.parts h.answers
+grown_read May x calls f p s c rest literals read next gives h =
+    let items = f.parts.value.items in
+    let all = terms_view items in
+    let ps = read.0 ++ partial_view p ∷ [] in
+    let now : shapes.SoFar May all (parts_behind f.parts f.answers) ps =
+    so_far_more May all (parts_left f.parts f.answers) (parts_behind f.parts f.answers) c read.0 (partial_view p) read.2
+    (next ∙ ap (one_term c) (sym (left_after items (count f.answers) c rest next))) gives in
+    let literals_now : shapes.SoFar May all (literals_then h.literals (parts_left f.parts h.answers)) ps =
+    subst (λ ts. shapes.SoFar May all ts ps) h.follow now in (
+      read.0 ++ partial_view p ∷ literal_answers h.literals,
+      h.one_more read.0 read.1,
+      subst (shapes.SoFar May all (parts_left f.parts h.answers))
+          (append_assoc read.0 (partial_view p ∷ []) (literal_answers h.literals))
+          (so_far_literals May all (parts_left f.parts h.answers) h.literals ps literals literals_now),
+    )
+
 -- this failure of the part is right
 abbrev pub IsRightFailure : world.Extensions → StoredCalls → ℕ → Expr → Failure → Type 0
 IsRightFailure x calls k c e =
@@ -136,29 +167,20 @@ module _ (x : world.Extensions) (calls : StoredCalls) (k : ℕ) (f : PartsFrame)
     place = no_place (expr_loc t) r e is;
   }
 
-  continued_read : (p : PartialValue) (a : Answers) → IsRight x calls k c (Ok p) →
-      ((ps : List model.PartialValue) → Are f.answers ps → Are a (ps ++ partial_view p ∷ [])) → count a ≡
-      suc (count f.answers) →
-      is_restricted (view t) ≡ true → HasRead (Runs (bare x) calls k) f.parts a
-  continued_read p a right one_more counted is_r =
-      let items = f.parts.value.items in
-      let so_far = w.read is_r in
+  continued_read : (p : PartialValue) (s : NextPart) → IsRight x calls k c (Ok p) →
+      (more : Continued x calls f p s) → is_restricted (view t) ≡ true →
+      HasRead (Runs (bare x) calls k) f.parts more.answers
+  continued_read p s right more is_r =
       let gives : Runs (bare x) calls k (view c) (answers (partial_view p)) =
       right.answer (part_restricted is_r) (no_fail (partial_view p) out_of_memory) in
-      let rest : terms_view (drop (count a) items) ≡ w.next.0 = ap (λ n. terms_view (drop n items)) counted ∙
-      left_after items (count f.answers) (view c) w.next.0 w.next.1 in (
-        so_far.0 ++ partial_view p ∷ [],
-        one_more so_far.0 so_far.1,
-        subst (λ ts. shapes.SoFar (Runs (bare x) calls k) (terms_view items) ts (so_far.0 ++ partial_view p ∷ []))
-            (sym rest) (so_far_more (Runs (bare x) calls k)
-            (terms_view items) _ w.next.0 (view c) so_far.0 (partial_view p) so_far.2 w.next.1 gives),
-      )
+      grown_read (Runs (bare x) calls k) x calls f p s (view c) w.next.0
+      (literal_runs (bare x) calls k (view c) (partial_view p) gives) (w.read is_r) w.next.1 gives more
 
   continued_right : (p : PartialValue) (s : NextPart) → IsRight x calls k c (Ok p) → Continued x calls f p s →
       Resumes (IsRight x calls) (Waits x calls) k t s
   continued_right p s right more =
       reads_right x calls k t f.whole f.parts more.answers f.loc s
-      w.term f.keys w.place (continued_read p more.answers right more.one_more more.counted) more.reads
+      w.term f.keys w.place (continued_read p s right more) more.reads
 
   pub goes_on_right : (y : Result PartialValue EvaluationError) (s : NextPart) → IsRight x calls k c y →
       GoesOn x calls f y s → Resumes (IsRight x calls) (Waits x calls) k t s
@@ -205,8 +227,8 @@ pub below_any : (s : NextPart) → Below left_of (2 ^ 64 + 1) s
 below_any (Done r) = tt
 below_any (Wait f c) = left_below f
 
-fewer_after : (len before after : ℕ) → before < len → after ≡ suc before → len - after < len - before
-fewer_after len before after h is = omega (arith, h, is)
+fewer_after : (len before after more : ℕ) → before < len → after ≡ suc before + more → len - after < len - before
+fewer_after len before after more h is = omega (arith, h, is)
 
 -- with whatever is stored
 module _ (x : world.Extensions) (calls : StoredCalls) where
@@ -215,9 +237,10 @@ module _ (x : world.Extensions) (calls : StoredCalls) where
   goes_on_fewer f (Ok p) (Done r) more = tt
   goes_on_fewer f (Ok p) (Wait g c) more =
       let (w, parts, now, l, n) = more.reads in
-      let counted : count g.answers ≡ suc (count f.answers) = ap count now ∙ more.counted in
+      let counted : count g.answers ≡ suc (count f.answers) + length more.literals = ap count now ∙ more.counted in
       subst (λ v. length v.value.items - count g.answers < length f.parts.value.items - count f.answers) (sym parts)
-      (fewer_after (length f.parts.value.items) (count f.answers) (count g.answers) f.waits counted)
+      (fewer_after (length f.parts.value.items) (count f.answers) (count g.answers) (length more.literals)
+      f.waits counted)
   goes_on_fewer f (Err e) (Wait g c) more = absurd more
   goes_on_fewer f (Err e) (Done r) more = tt
 
@@ -233,14 +256,37 @@ module _ (x : world.Extensions) (calls : StoredCalls) where
     reads.1,
   )
 
-  pub continues : (f : PartsFrame) (p : PartialValue) (a : Answers) (s : NextPart) →
-      ((ps : List model.PartialValue) → Are f.answers ps → Are a (ps ++ partial_view p ∷ [])) → count a ≡
-      suc (count f.answers) →
+  pub continues : (f : PartsFrame) (p : PartialValue) (one a : Answers) (s : NextPart) →
+      ((ps : List model.PartialValue) → Are f.answers ps → Are one (ps ++ partial_view p ∷ [])) → count one ≡
+      suc (count f.answers) → AreBehind f.parts.value.items one a →
       Reads x calls f.whole f.parts a f.loc s → GoesOn x calls f (Ok p) s
-  continues f p a (Wait g c) one_more counted reads =
-      record { answers = a; one_more = one_more; counted = counted; reads = reads }
-  continues f p a (Done r) one_more counted reads =
-      (λ ok. record { answers = a; one_more = one_more; counted = counted; reads = reads }, reads.1)
+  continues f p one a s one_more counted follow reads = goes_on s reads
+    where
+      items : List Expr
+      items = f.parts.value.items
+
+      more : Behind items one a
+      more = behind items one a follow
+
+      with_literals : (ps : List model.PartialValue) → Are f.answers ps →
+          Are a (ps ++ partial_view p ∷ literal_answers more.literals)
+      with_literals ps are =
+          subst (Are a) (append_assoc ps (partial_view p ∷ []) (literal_answers more.literals))
+          (more.answers (ps ++ partial_view p ∷ []) (one_more ps are))
+
+      continued : (y : NextPart) → Reads x calls f.whole f.parts a f.loc y → Continued x calls f p y
+      continued y h = record {
+        answers = a;
+        literals = more.literals;
+        follow = ap (λ n. terms_view (drop n items)) (sym counted) ∙ more.follow;
+        one_more = with_literals;
+        counted = more.counted ∙ ap (λ n. n + length more.literals) counted;
+        reads = h;
+      }
+
+      goes_on : (y : NextPart) → Reads x calls f.whole f.parts a f.loc y → GoesOn x calls f (Ok p) y
+      goes_on (Wait g c) h = continued (Wait g c) h
+      goes_on (Done r) h = (λ ok. continued (Done r) h, h.1)
 
 -- ---- expressions without parts
 

@@ -1,11 +1,12 @@
 -- Sets, records and calls against the rules, part by part.
 use Rattle.std.specs.Prelude.{◌≡◌, ℕ, zero, suc, true, false, ◌&&◌, List, [], ◌∷◌, ◌++◌, length, drop, get_or, ◌<◌}
 use Rattle.std.specs.Prelude.{Option, Some, None, Result, Ok, Err}
-use Rattle.std.proofs.Common.{refl, sym, ap, ◌∙◌, subst, arith}
+use Rattle.std.proofs.Common.{refl, sym, ap, ◌∙◌, subst, arith, append_assoc}
+use Rattle.std.proofs.lemmas.List.{append-nil}
 use Rattle.std.specs.declared.alloc.Global.{Global}
 use Rattle.std.specs.declared.rc.RcStr.{RcStr}
-use Rattle.cedar_model.specs.Terms.{Text, Term, call, set_of, record_of, Terms, no_terms, one_term, terms_of}
-use Rattle.cedar_model.specs.Values.{Represented}
+use Rattle.cedar_model.specs.Terms.{Text, Term, Literal, literal, call, set_of, record_of, Terms, no_terms, one_term, terms_of}
+use Rattle.cedar_model.specs.Values.{Represented, plain_represented}
 use Rattle.cedar_model.specs.Shapes.{is_restricted, are_restricted, are_restricted_at}
 use Rattle.cedar_model.specs.Failures as model
 use Rattle.cedar_model.specs.Failures.{Failure, value, residual, Answer, answers, fails}
@@ -25,6 +26,7 @@ use Rattle.cedar_restricted.specs.declared.answers.Answers.{Answers}
 use Rattle.cedar_restricted.specs.declared.answers.Answers.TheVariants as answereds
 use Rattle.cedar_restricted.specs.Keys.{texts_of, fields_named, under}
 use Rattle.cedar_restricted.specs.Parts.{whole_term, HasKeys, count, all_values, Are, Makes, parts_after, SoFar}
+use Rattle.cedar_restricted.specs.Literals.{literals_then, literal_answers}
 
 abbrev Found : Type 0
 Found = Result (List model.PartialValue) Failure
@@ -56,6 +58,17 @@ module _ (May : MayAnswer) where
       let now : Parts May rest (part_then p r) =
       subst (λ ts. Parts May ts (part_then p r)) (sym is) (answers p, may, (r, h, refl)) in
       subst (Parts May all) (sym (parts_after-append ps p r)) (so_far (part_then p r) now)
+
+  -- literals, which are their values
+  pub so_far_literals : (all rest : Terms) (ls : List Literal) (ps : List model.PartialValue) →
+      ((l : Literal) → May (literal l) (answers (value (plain_represented l)))) →
+      SoFar May all (literals_then ls rest) ps → SoFar May all rest (ps ++ literal_answers ls)
+  so_far_literals all rest [] ps may so_far = subst (SoFar May all rest) (sym (append-nil ps)) so_far
+  so_far_literals all rest (l ∷ ls) ps may so_far =
+      let v = value (plain_represented l) in
+      subst (SoFar May all rest) (append_assoc ps (v ∷ []) (literal_answers ls))
+      (so_far_literals all rest ls (ps ++ v ∷ []) may
+      (so_far_more all (literals_then (l ∷ ls) rest) (literals_then ls rest) (literal l) ps v so_far refl (may l)))
 
   pub so_far_all : (all rest : Terms) (ps : List model.PartialValue) → SoFar May all rest ps → rest ≡ no_terms →
       Parts May all (Ok ps)

@@ -4,6 +4,7 @@
 mod answers;
 mod errors;
 mod evaluator;
+mod literals;
 mod machine;
 mod made;
 mod parts;
@@ -12,5 +13,6 @@ mod whole;
 
 pub use answers::{Answers, Mixed};
 pub use evaluator::RestrictedEvaluator;
+pub use literals::literal_in;
 pub use parts::{NextPart, PartsFrame};
 pub use whole::Whole;

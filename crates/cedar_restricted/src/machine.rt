@@ -47,8 +47,8 @@ impl<'x, 'f> Machine for Restricted<'x, 'f> {
 
     ghost at_want = { Err want_error };
 
-    fn start(&self, alloc: Global, part: &Expr) -> NextPart {
-        self.first(alloc, part)
+    fn start(&self, alloc: Global, part: Expr, _levels: usize) -> NextPart {
+        self.first(alloc, &part)
     }
 
     fn resume(
@@ -56,6 +56,7 @@ impl<'x, 'f> Machine for Restricted<'x, 'f> {
         alloc: Global,
         frame: PartsFrame,
         answer: Result<PartialValue, EvaluationError>,
+        _levels: usize,
     ) -> NextPart {
         frame.answered(alloc, self.extensions, answer)
     }

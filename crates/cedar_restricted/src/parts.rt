@@ -8,6 +8,7 @@ ghost use Rattle.cedar_restricted.specs.declared.whole.Whole.TheVariants as whol
 
 use crate::answers::Answers;
 use crate::errors::with_enclosing_loc;
+use crate::literals::answers_with;
 use crate::made::whole_of;
 use crate::whole::Whole;
 use cedar_data::PartialValue;
@@ -123,7 +124,8 @@ impl PartsFrame {
         self.loc
     }
 
-    /// The same after the answer of the part that it waits for: an error is its own, at its location if it has none.
+    /// The same after the answer of the part that it waits for: an error is its own, at its location if it has none. While the
+    /// answers are values, literals that follow the part take no turn of their own.
     pub fn answered(
         self,
         alloc: Global,
@@ -134,7 +136,7 @@ impl PartsFrame {
         ensures elements { SetGoesOn self answer result }
     {
         match answer {
-            Ok(part) => match self.answers.with(alloc, part) {
+            Ok(part) => match answers_with(alloc, self.answers, part, self.parts.as_slice()) {
                 Ok(answers) => PartsFrame::read(
                     alloc, extensions, self.whole, self.parts, answers, self.loc,
                 ),
@@ -202,8 +204,8 @@ fn keys_and_parts(
     ensures keys { IfOk result
         (λ p. (length p.0.items ≡ length p.1.value.items) × IsStrictlySortedBy key_order p.0.items) }
 {
-    let mut keys: Vec<RcStr> = Vec::new(alloc);
-    let mut parts: Vec<Expr> = Vec::new(alloc);
+    let mut keys: Vec<RcStr> = Vec::with_capacity(alloc, pairs.len())?;
+    let mut parts: Vec<Expr> = Vec::with_capacity(alloc, pairs.len())?;
     'fields: for (key, part) in pairs.iter() {
         keys.push(key.clone()?)?;
         parts.push(part.clone()?)?;

@@ -1,12 +1,32 @@
-use Rattle.std.proofs.Common.{sym, ap, ◌≡◌, ◌∙◌, subst, Some, true}
+use Rattle.std.proofs.Common.{sym, ap, ◌≡◌, ◌∙◌, subst, true, false, Some, suc}
+use Rattle.cedar_model.specs.Failures.{answers}
 use Rattle.cedar_model.specs.Rules.{Runs}
-use Rattle.cedar_expressions.specs.View.{view}
+use Rattle.cedar_expressions.specs.View.{view, expr_loc}
 use Rattle.cedar_data.specs.Residuals.{partial_view}
+use Rattle.cedar_evaluation.specs.declared.frame.Pending.TheVariants as pendings
 use Rattle.cedar_evaluation.specs.Booleans.{part_bool, or_true}
 use Rattle.cedar_evaluation.specs.Settings.{setting_of, calls_in}
+use Rattle.cedar_evaluation.specs.Tasks.{Uses}
+use Rattle.cedar_evaluation.specs.Laws.{gives_goes_on, or_want_goes_on, or_right_side}
 use Rattle.cedar_evaluation.proofs.evaluation.Evaluation.after_or_left.Goals as goal
 
+pub returns-in-Some-false : goal.returns-in-Some-false
+returns-in-Some-false g c r k =
+    or_right_side (setting_of r c.args.self.now) (calls_in c.args.self.now) k (expr_loc c.args.whole.value) c.args.right (partial_view c.args.left.value) c.right_of_or.result
+    (subst (λ x. part_bool (partial_view x) ≡ Some false) c.deref.ensures (sym c.known_bool.ensures ∙ c.in-Some-false.is ∙ ap Some c.in-Some-false.field-0-test))
+    c.right_of_or.ensures
+
 pub returns-in-Some-true : goal.returns-in-Some-true
-returns-in-Some-true g c r k = λ ok.
-    or_true (Runs (setting_of r c.args.self.now) (calls_in c.args.self.now) k) (partial_view c.args.left.value) (view c.args.right.value)
-    (subst (λ x. part_bool (partial_view x) ≡ Some true) c.deref.ensures (sym c.known_bool.ensures ∙ c.in-Some-true.is ∙ ap Some c.in-Some-true.field-0-test))
+returns-in-Some-true g c r k =
+    let s = setting_of r c.args.self.now in
+    let calls = calls_in c.args.self.now in
+    let p = partial_view c.args.left.value in
+    let is = subst (λ x. part_bool (partial_view x) ≡ Some true) c.deref.ensures (sym c.known_bool.ensures ∙ c.in-Some-true.is ∙ ap Some c.in-Some-true.field-0-test) in
+    gives_goes_on s calls (suc k) (expr_loc c.args.whole.value) (pendings.OrLeft c.args.right) (answers p) (answers p) c.put_at.result
+    (λ a ok same. subst (λ b. Uses s (Runs s calls (suc k)) (pendings.OrLeft c.args.right) (answers p) b) (sym same) (or_true (Runs s calls (suc k)) p (view c.args.right.value) is))
+    c.put_at.ensures.answer
+
+pub returns-in-None : goal.returns-in-None
+returns-in-None g c r k =
+    or_want_goes_on (setting_of r c.args.self.now) (calls_in c.args.self.now) (suc k) (expr_loc c.args.whole.value) (pendings.OrLeft c.args.right) (answers (partial_view c.args.left.value)) c.after_no_bool_or_left.result c.or_want.result
+    (c.after_no_bool_or_left.ensures r (suc k)) c.or_want.ensures

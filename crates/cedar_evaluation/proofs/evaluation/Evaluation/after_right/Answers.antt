@@ -1,17 +1,12 @@
-use Rattle.std.proofs.Common.{◌∙◌}
-use Rattle.cedar_model.specs.Rules.{binary_beside}
-use Rattle.cedar_names.specs.Leaves.{binary_view}
-use Rattle.cedar_evaluation.specs.Operands.{parts_alike}
+use Rattle.std.proofs.Common.{subst}
 use Rattle.cedar_model.specs.Failures.{answers}
+use Rattle.cedar_expressions.specs.View.{expr_loc}
 use Rattle.cedar_data.specs.Residuals.{partial_view}
 use Rattle.cedar_evaluation.specs.declared.frame.Pending.TheVariants as pendings
 use Rattle.cedar_evaluation.specs.Settings.{setting_of, calls_in}
-use Rattle.cedar_evaluation.specs.Laws.{gives_goes_on}
+use Rattle.cedar_evaluation.specs.Tasks.{GoesOn}
 use Rattle.cedar_evaluation.proofs.evaluation.Evaluation.after_right.Goals as goal
 
 pub returns : goal.returns
-unfolding binary_beside
 returns g c r k =
-    let s = setting_of r c.args.self.now in
-    gives_goes_on s (calls_in c.args.self.now) k (pendings.BinaryRight c.args.op c.args.left) (answers (partial_view c.args.right.value)) _ c.answered.result
-    (λ a ok is. is ∙ parts_alike s (binary_view c.args.op) (partial_view c.args.left.value) (partial_view c.args.right.value)) (c.answered.ensures _ (rw (c.into_inner-left_part.ensures, c.into_inner-right_part.ensures) at c.binary_of_parts.ensures s))
+    subst (λ p. GoesOn (setting_of r c.args.self.now) (calls_in c.args.self.now) k (expr_loc c.args.whole.now.value) (pendings.BinaryRight c.args.op c.args.left) (answers (partial_view p)) c.applied.result) c.into_inner.ensures (c.applied.ensures r k)

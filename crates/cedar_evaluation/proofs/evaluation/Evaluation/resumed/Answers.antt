@@ -1,17 +1,17 @@
 use Rattle.std.proofs.Common.{sym, subst}
+use Rattle.cedar_expressions.specs.View.{expr_loc}
 use Rattle.cedar_evaluation.specs.Endings.{outcome_answer}
-use Rattle.cedar_evaluation.specs.Settings.{setting_of, calls_in}
-use Rattle.cedar_evaluation.specs.Tasks.{Leads}
+use Rattle.cedar_evaluation.specs.Steps.{LeadsIn}
 use Rattle.cedar_evaluation.specs.Elements.{TaskGoesOn}
 use Rattle.cedar_evaluation.proofs.evaluation.Evaluation.resumed.Goals as goal
 
 pub returns-in-Ok-clause-leads : goal.returns-in-Ok-clause-leads
-returns-in-Ok-clause-leads g c r k speaks =
-    subst (λ o. Leads (setting_of r c.args.self.now) (calls_in c.args.self.now) k c.args.task (outcome_answer o) c.valued.result) (sym c.in-Ok.is) (c.valued.ensures.leads r k speaks)
+returns-in-Ok-clause-leads g c =
+    subst (λ o. LeadsIn c.args.self.now c.args.levels (expr_loc c.args.whole.value) c.args.task (outcome_answer o) c.valued.result) (sym c.in-Ok.is) c.valued.ensures.leads
 
 pub returns-in-Err-clause-leads : goal.returns-in-Err-clause-leads
-returns-in-Err-clause-leads g c r k speaks =
-    subst (λ o. Leads (setting_of r c.args.self.now) (calls_in c.args.self.now) k c.args.task (outcome_answer o) c.stopped.result) (sym c.in-Err.is) (c.stopped.ensures.leads r k speaks)
+returns-in-Err-clause-leads g c =
+    subst (λ o. LeadsIn c.args.self.now c.args.levels (expr_loc c.args.whole.value) c.args.task (outcome_answer o) c.stopped.result) (sym c.in-Err.is) (c.stopped.ensures.leads c.args.levels)
 
 pub returns-in-Ok-clause-elements : goal.returns-in-Ok-clause-elements
 returns-in-Ok-clause-elements g c =

@@ -4,7 +4,7 @@ use Rattle.cedar_restricted.specs.Elements.{goes_on_standing, both_lead}
 use Rattle.cedar_restricted.proofs.machine.RestrictedMachine.resume.Goals as goal
 
 pub returns-clause-right : goal.returns-clause-right
-returns-clause-right g c k t d waits right =
+returns-clause-right g c k t d is waits right =
     let stored = c.args.self.now.extensions.now in
     let x = extensions_view stored in
     let calls = calls_of stored in

@@ -3,7 +3,7 @@ use Rattle.cedar_restricted.specs.Elements.{both_lead}
 use Rattle.cedar_restricted.proofs.machine.RestrictedMachine.start.Goals as goal
 
 pub returns-clause-right : goal.returns-clause-right
-returns-clause-right g c k =
+returns-clause-right g c k levels =
     let stored = c.args.self.now.extensions.now in
-    both_lead (extensions_view stored) (calls_of stored) k c.args.part.now c.first.result
+    both_lead (extensions_view stored) (calls_of stored) k c.args.part c.first.result
     (c.first.ensures.right k) c.first.ensures.elements

@@ -1,0 +1,112 @@
+-- What an evaluation's steps promise, where so many levels are left for the whole.
+use Rattle.std.specs.Prelude.{◌≡◌, ◌≢◌, ◌≤◌, ℕ, zero, suc, Option, Ok, Err}
+use Rattle.std.proofs.Common.{refl, subst}
+use Rattle.std.specs.declared.alloc.Global.{Global}
+use Rattle.std.specs.declared.boxed.Box.{Box}
+use Rattle.cedar_model.specs.Terms.{Term}
+use Rattle.cedar_model.specs.Failures as model
+use Rattle.cedar_model.specs.Failures.{Answer, answers, fails, limit, out_of_memory}
+use Rattle.cedar_model.specs.Settings.{RequestPart, Setting}
+use Rattle.cedar_model.specs.Rules.{StoredCalls, Runs}
+use Rattle.cedar_names.specs.declared.names.Loc.{Loc}
+use Rattle.cedar_data.specs.declared.partial_value.PartialValue.{PartialValue}
+use Rattle.cedar_data.specs.Residuals.{partial_view}
+use Rattle.cedar_extensions.specs.Extensions.{extensions_view}
+use Rattle.cedar_frames.specs.declared.machine.Step.TheVariants.{Done}
+use Rattle.cedar_restricted.specs.declared.parts.PartsFrame.{PartsFrame}
+use Rattle.cedar_restricted.specs.Frames as restricted
+use Rattle.cedar_restricted.specs.Frames.{NextPart}
+use Rattle.cedar_evaluation.specs.declared.stopped.Stopped.TheVariants as stops
+use Rattle.cedar_evaluation.specs.declared.evaluation.Evaluation.{Evaluation}
+use Rattle.cedar_evaluation.specs.declared.frame.Pending.{Pending}
+use Rattle.cedar_evaluation.specs.declared.frame.Task.{Task}
+use Rattle.cedar_evaluation.specs.declared.frame.Task.TheVariants as tasks
+use Rattle.cedar_evaluation.specs.Settings.{Speaks, setting_of, calls_in, some_request}
+use Rattle.cedar_evaluation.specs.Tasks.{Next, Begins, Gives, GoesOn, Leads, LeftFewer, HasPlace}
+use Rattle.cedar_evaluation.specs.PartsLaws.{IsTaken, no_fail, parts_fewer}
+use Rattle.cedar_evaluation.specs.Laws.{begins_placed, goes_on_placed, taken_placed, gives_placed, given_fewer, goes_on_fewer, goes_on_leads, parts_lead, failed_leads, limit_leads, want_leads}
+
+-- the term begins so, for whatever request the evaluation speaks of
+abbrev pub BeginsIn : {X : Type 0} {F : X → Type 0} {g : _} → Evaluation X F g → ℕ → Option Loc → Term → Next → Type 0
+BeginsIn e levels l t n =
+    ((r : RequestPart) (k : ℕ) → Speaks r e → levels ≤ suc k → Begins (setting_of r e) (calls_in e) k l t n) × HasPlace l n
+
+-- what waited goes on so, after a value or a residual
+abbrev pub GoesOnIn : {X : Type 0} {F : X → Type 0} {g : _} → Evaluation X F g → ℕ → Option Loc → Pending → Answer → Next → Type 0
+GoesOnIn e levels l p x n =
+    ((r : RequestPart) (k : ℕ) → Speaks r e → levels ≤ suc (suc k) → GoesOn (setting_of r e) (calls_in e) (suc k) l p x n)
+    × HasPlace l n × LeftFewer (tasks.Other p) n
+
+-- what an answer leads to
+abbrev pub LeadsIn : {X : Type 0} {F : X → Type 0} {g : _} → Evaluation X F g → ℕ → Option Loc → Task → Answer → Next → Type 0
+LeadsIn e levels l task x n =
+    ((r : RequestPart) (k : ℕ) → Speaks r e → levels ≤ suc k → Leads (setting_of r e) (calls_in e) k l task x n)
+    × HasPlace l n × LeftFewer task n
+
+-- ---- laws
+
+pub begins_in : {X : Type 0} {F : X → Type 0} {g : _} (e : Evaluation X F g) (levels : ℕ) (l : Option Loc) (t : Term) (n : Next) →
+    ((r : RequestPart) (k : ℕ) → Begins (setting_of r e) (calls_in e) k l t n) → BeginsIn e levels l t n
+begins_in e levels l t n h =
+    (λ r k speaks low. h r k, begins_placed (setting_of some_request e) (calls_in e) 0 l t n (h some_request 0))
+
+pub goes_on_in : {X : Type 0} {F : X → Type 0} {g : _} (e : Evaluation X F g) (levels : ℕ) (l : Option Loc) (p : Pending) (x : Answer) (n : Next) →
+    ((r : RequestPart) (k : ℕ) → GoesOn (setting_of r e) (calls_in e) (suc k) l p x n) → GoesOnIn e levels l p x n
+goes_on_in e levels l p x n h = (
+  λ r k speaks low. h r k,
+  goes_on_placed (setting_of some_request e) (calls_in e) 1 l p x n (h some_request 0),
+  goes_on_fewer (setting_of some_request e) (calls_in e) 1 l p x n (h some_request 0),
+)
+
+-- a value or residual shows that parts have a level
+value_leads : (s : Setting) (calls : StoredCalls) (k : ℕ) (l : Option Loc) (p : Pending) (v : model.PartialValue) (n : Next) →
+    ((j : ℕ) → k ≡ suc j → GoesOn s calls (suc j) l p (answers v) n) → Leads s calls k l (tasks.Other p) (answers v) n
+value_leads s calls zero l p v n h =
+    λ t c waits meets. absurd (no_fail v model.recursion_limit (meets (no_fail v out_of_memory)))
+value_leads s calls (suc j) l p v n h = goes_on_leads s calls (suc j) l p (answers v) n (no_fail v out_of_memory) (h j refl)
+
+-- what goes on after a value or a residual leads on
+pub value_leads_in : {X : Type 0} {F : X → Type 0} {g : _} (e : Evaluation X F g) (levels : ℕ) (l : Option Loc) (p : Pending) (v : model.PartialValue) (n : Next) →
+    GoesOnIn e levels l p (answers v) n → LeadsIn e levels l (tasks.Other p) (answers v) n
+value_leads_in e levels l p v n (goes, place, fewer) = (
+  λ r k speaks low. value_leads (setting_of r e) (calls_in e) k l p v n (λ j is. goes r j speaks (subst (λ i. levels ≤ suc i) is low)),
+  place,
+  fewer,
+)
+
+-- what goes on after an error leads on
+pub failure_leads_in : {X : Type 0} {F : X → Type 0} {g : _} (e : Evaluation X F g) (levels : ℕ) (l : Option Loc) (p : Pending) (f : model.Failure) (n : Next) →
+    fails f ≢ fails out_of_memory → ((r : RequestPart) (k : ℕ) → GoesOn (setting_of r e) (calls_in e) k l p (fails f) n) →
+    LeadsIn e levels l (tasks.Other p) (fails f) n
+failure_leads_in e levels l p f n ordinary h = (
+  λ r k speaks low. goes_on_leads (setting_of r e) (calls_in e) k l p (fails f) n ordinary (h r k),
+  goes_on_placed (setting_of some_request e) (calls_in e) 0 l p (fails f) n (h some_request 0),
+  goes_on_fewer (setting_of some_request e) (calls_in e) 0 l p (fails f) n (h some_request 0),
+)
+
+-- in a set, a record or a call
+pub parts_failure_in : {X : Type 0} {F : X → Type 0} {g : _} (e : Evaluation X F g) (levels : ℕ) (l : Option Loc) (f : Box PartsFrame Global) (x : model.Failure) (n : Next) →
+    Gives l n (fails x) → LeadsIn e levels l (tasks.Parts f) (fails x) n
+parts_failure_in e levels l f x n gives = (
+  λ r k speaks low. failed_leads (setting_of r e) (calls_in e) k l f x n gives,
+  gives_placed l n (fails x) gives,
+  given_fewer l (tasks.Parts f) n (fails x) gives,
+)
+
+pub parts_lead_in : {X : Type 0} {F : X → Type 0} {g : _} (e : Evaluation X F g) (levels : ℕ) (l : Option Loc) (f : Box PartsFrame Global) (p : PartialValue) (x : NextPart) (n : Next) →
+    restricted.GoesOn (extensions_view e.given.now.extensions.now) (calls_in e) f.value (Ok p) x → IsTaken l x n →
+    LeadsIn e levels l (tasks.Parts f) (answers (partial_view p)) n
+parts_lead_in e levels l f p x n goes taken = (
+  λ r k speaks low. parts_lead (setting_of r e) (calls_in e) k l f p x n goes taken,
+  taken_placed l x n taken,
+  parts_fewer (extensions_view e.given.now.extensions.now) (calls_in e) l f p x n goes taken,
+)
+
+-- what ends all
+pub limit_leads_in : {X : Type 0} {F : X → Type 0} {g : _} (e : Evaluation X F g) (levels : ℕ) (l : Option Loc) (task : Task) →
+    LeadsIn e levels l task limit (Done (Err stops.Limit))
+limit_leads_in e levels l task = (λ r k speaks low. limit_leads (setting_of r e) (calls_in e) k l task, tt, tt)
+
+pub want_leads_in : {X : Type 0} {F : X → Type 0} {g : _} (e : Evaluation X F g) (levels : ℕ) (l : Option Loc) (task : Task) (x : Answer) →
+    LeadsIn e levels l task x (Done (Err stops.Memory))
+want_leads_in e levels l task x = (λ r k speaks low. want_leads (setting_of r e) (calls_in e) k l task x, tt, tt)
