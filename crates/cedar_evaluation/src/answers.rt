@@ -1,5 +1,5 @@
 //! What expressions are answered at once.
-ghost use Rattle.std.specs.Prelude.{◌≡◌, IfOk, true};
+ghost use Rattle.std.specs.Prelude.{◌≡◌, Bool, true, Some, IfOk};
 ghost use Rattle.cedar_model.specs.Failures.{Answer, answers, fails};
 ghost use Rattle.cedar_model.specs.Rules.{bool_expected};
 ghost use Rattle.cedar_expressions.specs.View.{expr_loc};
@@ -96,12 +96,24 @@ pub(crate) fn put_at(alloc: Global, whole: &Part, mut part: Box<PartialValue>) -
     }
 }
 
+// An answer that is this boolean, where the whole stands. It is no step, which would be copied once more.
+#[inline(always)]
+pub(crate) fn bool_at(whole: &Part, mut part: Box<PartialValue>, _b: bool) -> Box<PartialValue>
+    requires { part_bool (partial_view part.value) ≡ Some _b }
+    ensures view { partial_view result.value ≡ partial_view part.value }
+    ensures place { partial_loc result.value ≡ expr_loc whole.now.value }
+{
+    let _is_put = is_value_put(&mut part, whole);
+    part
+}
+
 // Puts a value where the whole stands; a residual stays.
 #[inline(always)]
 fn is_value_put(part: &mut PartialValue, whole: &Part) -> bool
     ensures view { partial_view part.new ≡ partial_view part.old }
     ensures inside { partial_inside part.new ≡ partial_inside part.old }
     ensures put { result ≡ true → partial_loc part.new ≡ expr_loc whole.now.value }
+    ensures known { (b : Bool) → part_bool (partial_view part.old) ≡ Some b → result ≡ true }
 {
     match part {
         PartialValue::Value(value) => {

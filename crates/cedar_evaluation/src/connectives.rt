@@ -15,7 +15,7 @@ ghost use Rattle.cedar_evaluation.specs.Settings.{setting_of, calls_in};
 ghost use Rattle.cedar_evaluation.specs.Tasks.{Begins, GoesOn, IsRightSide};
 ghost use Rattle.cedar_evaluation.specs.declared.frame.Pending.TheVariants as pendings;
 
-use crate::answers::{answered, both, known_bool, no_bool, or_want, put_at};
+use crate::answers::{answered, bool_at, both, known_bool, no_bool, or_want};
 use crate::boxed::boxed_beside;
 use crate::evaluation::Evaluation;
 use crate::frame::{Frame, Next, Part, Pending, Task};
@@ -75,10 +75,10 @@ impl<'e, 'g, 'f> Evaluation<'e, 'g, 'f> {
         ensures { (r : RequestPart) (k : ℕ) → GoesOn (setting_of r self.now) (calls_in self.now) (suc k) (expr_loc whole.value) (pendings.AndLeft right) (answers (partial_view left.value)) result }
     {
         match known_bool(&left) {
-            Some(true) => right_of_and(alloc, whole, right, left),
+            Some(true) => right_of_and(whole, right, left),
             Some(false) => {
                 drop(right);
-                put_at(alloc, &whole, left)
+                Step::Done(Ok(bool_at(&whole, left, false)))
             }
             None => or_want(self.after_no_bool_and_left(alloc, whole, right, left)),
         }
@@ -131,7 +131,7 @@ impl<'e, 'g, 'f> Evaluation<'e, 'g, 'f> {
         ensures { (r : RequestPart) (k : ℕ) → GoesOn (setting_of r self.now) (calls_in self.now) k (expr_loc whole.value) pendings.AndRight (answers (partial_view right.value)) result }
     {
         match known_bool(&right) {
-            Some(_) => put_at(alloc, &whole, right),
+            Some(b) => Step::Done(Ok(bool_at(&whole, right, b))),
             None => self.after_no_bool_and_right(alloc, whole, right),
         }
     }
@@ -178,9 +178,9 @@ impl<'e, 'g, 'f> Evaluation<'e, 'g, 'f> {
         match known_bool(&left) {
             Some(true) => {
                 drop(right);
-                put_at(alloc, &whole, left)
+                Step::Done(Ok(bool_at(&whole, left, true)))
             }
-            Some(false) => right_of_or(alloc, whole, right, left),
+            Some(false) => right_of_or(whole, right, left),
             None => or_want(self.after_no_bool_or_left(alloc, whole, right, left)),
         }
     }
@@ -232,7 +232,7 @@ impl<'e, 'g, 'f> Evaluation<'e, 'g, 'f> {
         ensures { (r : RequestPart) (k : ℕ) → GoesOn (setting_of r self.now) (calls_in self.now) k (expr_loc whole.value) pendings.OrRight (answers (partial_view right.value)) result }
     {
         match known_bool(&right) {
-            Some(_) => put_at(alloc, &whole, right),
+            Some(b) => Step::Done(Ok(bool_at(&whole, right, b))),
             None => self.after_no_bool_or_right(alloc, whole, right),
         }
     }
@@ -268,25 +268,25 @@ impl<'e, 'g, 'f> Evaluation<'e, 'g, 'f> {
 }
 
 // The right side of `true && ..`: a boolean is the answer, in the box of the left one.
-fn right_of_and(alloc: Global, whole: Part, right: Part, left: Box<PartialValue>) -> Next
+fn right_of_and(whole: Part, right: Part, left: Box<PartialValue>) -> Next
     requires { part_bool (partial_view left.value) ≡ Some true }
     ensures { IsRightSide (expr_loc whole.value) pendings.AndRight right result }
 {
     match bool_literal_in(&right) {
-        Some(true) => put_at(alloc, &whole, left),
-        Some(false) => put_at(alloc, &whole, with_bool(left, false)),
+        Some(true) => Step::Done(Ok(bool_at(&whole, left, true))),
+        Some(false) => Step::Done(Ok(bool_at(&whole, with_bool(left, false), false))),
         None => wait_for_right(whole, Pending::AndRight, right),
     }
 }
 
 // The right side of `false || ..`: a boolean is the answer, in the box of the left one.
-fn right_of_or(alloc: Global, whole: Part, right: Part, left: Box<PartialValue>) -> Next
+fn right_of_or(whole: Part, right: Part, left: Box<PartialValue>) -> Next
     requires { part_bool (partial_view left.value) ≡ Some false }
     ensures { IsRightSide (expr_loc whole.value) pendings.OrRight right result }
 {
     match bool_literal_in(&right) {
-        Some(false) => put_at(alloc, &whole, left),
-        Some(true) => put_at(alloc, &whole, with_bool(left, true)),
+        Some(false) => Step::Done(Ok(bool_at(&whole, left, false))),
+        Some(true) => Step::Done(Ok(bool_at(&whole, with_bool(left, true), true))),
         None => wait_for_right(whole, Pending::OrRight, right),
     }
 }
@@ -307,8 +307,10 @@ fn bool_literal_in(e: &Expr) -> Option<bool>
 
 // The box with this boolean in it.
 #[inline(always)]
+#[tactic(auto, unfolding(cedar_model::specs::Outcomes::bool_of))]
 fn with_bool(mut part: Box<PartialValue>, b: bool) -> Box<PartialValue>
-    ensures { partial_view result.value ≡ value (plain_represented (bool_literal b)) }
+    ensures view { partial_view result.value ≡ value (plain_represented (bool_literal b)) }
+    ensures known { part_bool (partial_view result.value) ≡ Some b }
 {
     drop(mem::replace(&mut *part, bool_part(b)));
     part

@@ -7,7 +7,7 @@ use Rattle.cedar_evaluation.specs.declared.frame.Pending.TheVariants as pendings
 use Rattle.cedar_evaluation.specs.Booleans.{part_bool, and_false}
 use Rattle.cedar_evaluation.specs.Settings.{setting_of, calls_in}
 use Rattle.cedar_evaluation.specs.Tasks.{Uses}
-use Rattle.cedar_evaluation.specs.Laws.{gives_goes_on, or_want_goes_on, and_right_side}
+use Rattle.cedar_evaluation.specs.Laws.{or_want_goes_on, and_right_side}
 use Rattle.cedar_evaluation.proofs.evaluation.Evaluation.after_and_left.Goals as goal
 
 pub returns-in-Some-true : goal.returns-in-Some-true
@@ -21,10 +21,10 @@ returns-in-Some-false g c r k =
     let s = setting_of r c.args.self.now in
     let calls = calls_in c.args.self.now in
     let p = partial_view c.args.left.value in
-    let is = subst (λ x. part_bool (partial_view x) ≡ Some false) c.deref.ensures (sym c.known_bool.ensures ∙ c.in-Some-false.is ∙ ap Some c.in-Some-false.field-0-test) in
-    gives_goes_on s calls (suc k) (expr_loc c.args.whole.value) (pendings.AndLeft c.args.right) (answers p) (answers p) c.put_at.result
-    (λ a ok same. subst (λ b. Uses s (Runs s calls (suc k)) (pendings.AndLeft c.args.right) (answers p) b) (sym same) (and_false (Runs s calls (suc k)) p (view c.args.right.value) is))
-    c.put_at.ensures.answer
+    let is = subst (λ x. part_bool (partial_view x) ≡ Some false) c.deref.ensures (sym c.known_bool.ensures ∙ c.in-Some-false.is ∙ ap Some c.in-Some-false.field-0-test) in (
+      λ ok. subst (λ q. Uses s (Runs s calls (suc k)) (pendings.AndLeft c.args.right) (answers p) (answers q)) (sym c.bool_at.ensures.view) (and_false (Runs s calls (suc k)) p (view c.args.right.value) is),
+      c.bool_at.ensures.place,
+    )
 
 pub returns-in-None : goal.returns-in-None
 returns-in-None g c r k =

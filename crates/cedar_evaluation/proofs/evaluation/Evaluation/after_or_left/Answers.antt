@@ -7,7 +7,7 @@ use Rattle.cedar_evaluation.specs.declared.frame.Pending.TheVariants as pendings
 use Rattle.cedar_evaluation.specs.Booleans.{part_bool, or_true}
 use Rattle.cedar_evaluation.specs.Settings.{setting_of, calls_in}
 use Rattle.cedar_evaluation.specs.Tasks.{Uses}
-use Rattle.cedar_evaluation.specs.Laws.{gives_goes_on, or_want_goes_on, or_right_side}
+use Rattle.cedar_evaluation.specs.Laws.{or_want_goes_on, or_right_side}
 use Rattle.cedar_evaluation.proofs.evaluation.Evaluation.after_or_left.Goals as goal
 
 pub returns-in-Some-false : goal.returns-in-Some-false
@@ -21,10 +21,10 @@ returns-in-Some-true g c r k =
     let s = setting_of r c.args.self.now in
     let calls = calls_in c.args.self.now in
     let p = partial_view c.args.left.value in
-    let is = subst (λ x. part_bool (partial_view x) ≡ Some true) c.deref.ensures (sym c.known_bool.ensures ∙ c.in-Some-true.is ∙ ap Some c.in-Some-true.field-0-test) in
-    gives_goes_on s calls (suc k) (expr_loc c.args.whole.value) (pendings.OrLeft c.args.right) (answers p) (answers p) c.put_at.result
-    (λ a ok same. subst (λ b. Uses s (Runs s calls (suc k)) (pendings.OrLeft c.args.right) (answers p) b) (sym same) (or_true (Runs s calls (suc k)) p (view c.args.right.value) is))
-    c.put_at.ensures.answer
+    let is = subst (λ x. part_bool (partial_view x) ≡ Some true) c.deref.ensures (sym c.known_bool.ensures ∙ c.in-Some-true.is ∙ ap Some c.in-Some-true.field-0-test) in (
+      λ ok. subst (λ q. Uses s (Runs s calls (suc k)) (pendings.OrLeft c.args.right) (answers p) (answers q)) (sym c.bool_at.ensures.view) (or_true (Runs s calls (suc k)) p (view c.args.right.value) is),
+      c.bool_at.ensures.place,
+    )
 
 pub returns-in-None : goal.returns-in-None
 returns-in-None g c r k =
