@@ -1,7 +1,6 @@
 -- Where the elements of an evaluated set stand, over the frames of an evaluation.
-use Rattle.std.specs.Prelude.{◌≡◌, ◌≢◌, ℕ, zero, suc, true, List, Option, Result, Ok, Err, IfOk}
+use Rattle.std.specs.Prelude.{◌≡◌, ◌≢◌, ℕ, zero, suc, true, List, Option, Ok, Err, IfOk}
 use Rattle.std.proofs.Common.{sym, ◌∙◌, subst}
-use Rattle.std.specs.declared.alloc.AllocError.{AllocError}
 use Rattle.cedar_model.specs.Terms.{Term, Terms, set_of}
 use Rattle.cedar_model.specs.Failures.{Failure, fails, out_of_memory}
 use Rattle.cedar_model.specs.Settings.{RequestPart, Setting}
@@ -21,10 +20,9 @@ use Rattle.cedar_restricted.specs.Elements.{IsSetOf, ElementsStand, SetWaits, Se
 use Rattle.cedar_evaluation.specs.declared.frame.Frame.{Frame}
 use Rattle.cedar_evaluation.specs.declared.frame.Task.{Task}
 use Rattle.cedar_evaluation.specs.declared.frame.Task.TheVariants as tasks
-use Rattle.cedar_evaluation.specs.declared.stopped.Stopped.{Stopped}
 use Rattle.cedar_evaluation.specs.Endings.{Outcome}
 use Rattle.cedar_evaluation.specs.Tasks.{Part, Next, Gives}
-use Rattle.cedar_evaluation.specs.PartsLaws.{IsTaken, IsTakenAs, IsNextPart, no_fail}
+use Rattle.cedar_evaluation.specs.PartsLaws.{IsTaken, IsTakenAs, no_fail}
 use Rattle.cedar_evaluation.specs.Frames.{IsRight, Waits, ends_all}
 
 -- ---- what stands where

@@ -1,8 +1,8 @@
 -- The laws of the evaluation over frames.
-use Rattle.std.specs.Prelude.{◌≡◌, ◌≢◌, ℕ, suc, ◌+◌, ◌^◌, ◌<◌, ◌≤◌, Bool, true, false, List, Option, None, Some, Result, Ok, Err, IfOk}
+use Rattle.std.specs.Prelude.{◌≡◌, ◌≢◌, ℕ, suc, ◌+◌, ◌^◌, ◌<◌, ◌≤◌, Bool, true, List, Option, None, Result, Ok, Err, IfOk}
 use Rattle.std.proofs.Common.{refl, sym, ap, ◌∙◌, subst, arith}
 use Rattle.std.specs.declared.alloc.AllocError.{AllocError}
-use Rattle.cedar_model.specs.Terms.{Text, Term, bool_literal, literal, both, either}
+use Rattle.cedar_model.specs.Terms.{Text, Term, bool_literal}
 use Rattle.cedar_model.specs.Values.{plain_represented}
 use Rattle.cedar_model.specs.Outcomes.{bool_of}
 use Rattle.cedar_model.specs.Failures as model
@@ -13,15 +13,13 @@ use Rattle.cedar_names.specs.declared.names.Loc.{Loc}
 use Rattle.cedar_expressions.specs.declared.expr.Expr.{Expr}
 use Rattle.cedar_expressions.specs.View.{view, expr_loc}
 use Rattle.cedar_data.specs.declared.partial_value.PartialValue.{PartialValue}
-use Rattle.cedar_data.specs.Residuals.{partial_view, partial_loc}
+use Rattle.cedar_data.specs.Residuals.{partial_view}
 use Rattle.cedar_frames.specs.declared.machine.Step.TheVariants.{Done, Wait}
 use Rattle.cedar_frames.specs.Frames.{Resumes, Fewer, Below}
 use Rattle.cedar_restricted.specs.declared.parts.PartsFrame.{PartsFrame}
 use Rattle.cedar_restricted.specs.Frames as restricted
 use Rattle.cedar_restricted.specs.Frames.{NextPart}
 use Rattle.cedar_restricted.specs.Laws.{left_below}
-use Rattle.cedar_values.specs.Failures.{failure_of}
-use Rattle.cedar_evaluation.specs.declared.failed.Failed.{Failed}
 use Rattle.std.specs.declared.alloc.Global.{Global}
 use Rattle.std.specs.declared.boxed.Box.{Box}
 use Rattle.cedar_evaluation.specs.declared.frame.Frame.{Frame}
@@ -31,9 +29,9 @@ use Rattle.cedar_evaluation.specs.declared.frame.Task.{Task}
 use Rattle.cedar_evaluation.specs.declared.frame.Task.TheVariants as tasks
 use Rattle.cedar_evaluation.specs.declared.stopped.Stopped.TheVariants as stops
 use Rattle.cedar_evaluation.specs.Endings.{Outcome, outcome_answer}
-use Rattle.cedar_evaluation.specs.Tasks.{Part, Next, StandsAt, Uses, WaitsFor, Begins, Gives, HasPlace, IsOrWant, IsWaiting, IsRightSide, IsPassed, WaitsAgain, GoesOn, Leads, LeftFewer, pending_left, task_left}
+use Rattle.cedar_evaluation.specs.Tasks.{Part, Next, StandsAt, Uses, WaitsFor, Begins, Gives, HasPlace, IsOrWant, IsWaiting, IsPassed, WaitsAgain, GoesOn, Leads, LeftFewer, pending_left, task_left}
 use Rattle.cedar_evaluation.specs.Frames.{IsRight, Waits, ends_all, left_of}
-use Rattle.cedar_evaluation.specs.Booleans.{part_bool, joins, and_true, or_false}
+use Rattle.cedar_evaluation.specs.Booleans.{joins}
 use Rattle.cedar_evaluation.specs.PartsLaws.{IsTaken, IsNextPart, no_fail, parts_fail, parts_go_on}
 
 limit_no_want : limit ≢ fails out_of_memory
@@ -109,46 +107,10 @@ pub or_want_goes_on : (s : Setting) (calls : StoredCalls) (k : ℕ) (l : Option 
 or_want_goes_on s calls k l p x (Ok m) n goes is = subst (GoesOn s calls k l p x) (sym is) goes
 or_want_goes_on s calls k l p x (Err e) n goes is = subst (GoesOn s calls k l p x) (sym is) (λ ok. absurd (ok refl), tt)
 
--- a literal boolean on the right is given
-pub gives_right_side : (l : Option Loc) (p : Pending) (c : Part) (n : Next) (b : Bool) → view c.value ≡ literal (bool_literal b) → Gives l n (answers_bool b) → IsRightSide l p c n
-gives_right_side l p c (Done r) b seen gives = (b, seen, gives)
-gives_right_side l p c (Wait f d) b seen gives = absurd gives
-
-literal_joined : (with_left : Term → Term) (b : Bool) → answers_bool b ≡ joined with_left (answers_bool b)
+-- a boolean on the right is the answer
+pub literal_joined : (with_left : Term → Term) (b : Bool) → answers_bool b ≡ joined with_left (answers_bool b)
 unfolding bool_of
 literal_joined with_left b = joins with_left (value (plain_represented (bool_literal b))) b refl
-
-module _ (s : Setting) (calls : StoredCalls) (k : ℕ) (l : Option Loc) (right : Part) (p : model.PartialValue) where
-  literal_right : (b : Bool) → view right.value ≡ literal (bool_literal b) → Runs s calls (suc k) (view right.value) (answers_bool b)
-  literal_right b seen = subst (λ t. Runs s calls (suc k) t (answers_bool b)) (sym seen) refl
-
-  -- a true left side of `&&`
-  pub and_right_side : (n : Next) → part_bool p ≡ Some true → IsRightSide l pendings.AndRight right n → GoesOn s calls (suc k) l (pendings.AndLeft right) (answers p) n
-  and_right_side (Done r) is (b, seen, (gives, place)) = (
-    λ ok. and_true (Runs s calls (suc k)) p (view right.value) (answers_bool b) (outcome_answer r) is (literal_right b seen)
-        (gives ok ∙ literal_joined (both (literal (bool_literal true))) b),
-    place,
-  )
-  and_right_side (Wait f d) is (task, part, place) = (
-    subst (λ x. WaitsAgain s calls (suc k) (pendings.AndLeft right) (answers p) x (view d.value)) (sym task)
-        (subst (λ c. WaitsAgain s calls (suc k) (pendings.AndLeft right) (answers p) (tasks.Other pendings.AndRight) (view c.value)) (sym part)
-        (omega arith, λ y a runs uses. and_true (Runs s calls (suc k)) p (view right.value) y a is runs uses)),
-    place,
-  )
-
-  -- a false left side of `||`
-  pub or_right_side : (n : Next) → part_bool p ≡ Some false → IsRightSide l pendings.OrRight right n → GoesOn s calls (suc k) l (pendings.OrLeft right) (answers p) n
-  or_right_side (Done r) is (b, seen, (gives, place)) = (
-    λ ok. or_false (Runs s calls (suc k)) p (view right.value) (answers_bool b) (outcome_answer r) is (literal_right b seen)
-        (gives ok ∙ literal_joined (either (literal (bool_literal false))) b),
-    place,
-  )
-  or_right_side (Wait f d) is (task, part, place) = (
-    subst (λ x. WaitsAgain s calls (suc k) (pendings.OrLeft right) (answers p) x (view d.value)) (sym task)
-        (subst (λ c. WaitsAgain s calls (suc k) (pendings.OrLeft right) (answers p) (tasks.Other pendings.OrRight) (view c.value)) (sym part)
-        (omega arith, λ y a runs uses. or_false (Runs s calls (suc k)) p (view right.value) y a is runs uses)),
-    place,
-  )
 
 -- the next operand
 pub waiting_goes_on : (s : Setting) (calls : StoredCalls) (k : ℕ) (w : Part) (p q : Pending) (x : Answer) (c : Part) (n : Next) →

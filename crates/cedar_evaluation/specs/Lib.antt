@@ -13,4 +13,5 @@ pub mod Elements
 pub mod Laws
 pub mod Steps
 pub mod Told
+pub mod Tellers
 pub mod Promises

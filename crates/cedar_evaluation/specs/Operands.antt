@@ -10,7 +10,7 @@ use Rattle.cedar_model.specs.Rules.{binary_of_parts, has_part}
 use Rattle.cedar_operators.specs.Operands.{over}
 use Rattle.cedar_operators.specs.Operands.{given}
 
-values_alike : (s : Setting) (op : BinaryOperator) (v w : Represented) → binary_answer (given s s.store s.extensions) op v w ≡ binary_answer s op v w
+pub values_alike : (s : Setting) (op : BinaryOperator) (v w : Represented) → binary_answer (given s s.store s.extensions) op v w ≡ binary_answer s op v w
 unfolding binary_answer
 values_alike s eq_operator v w = refl
 values_alike s less_operator v w = refl

@@ -1,5 +1,5 @@
 -- Sets, records and calls, part by part.
-use Rattle.std.specs.Prelude.{◌≡◌, ◌≢◌, ◌<◌, ℕ, suc, List, [], ◌∷◌, ◌++◌, length, drop, Option, Ok, Err}
+use Rattle.std.specs.Prelude.{◌≡◌, ◌≢◌, ◌<◌, ℕ, suc, [], length, drop, Option, Ok, Err}
 use Rattle.std.proofs.Common.{refl, sym, ap, ◌∙◌, subst}
 use Rattle.std.specs.declared.alloc.Global.{Global}
 use Rattle.std.specs.declared.boxed.Box.{Box}
@@ -28,7 +28,7 @@ use Rattle.cedar_restricted.specs.Steps.{so_far_none, so_far_all, so_far_fails, 
 use Rattle.cedar_evaluation.specs.declared.frame.Task.TheVariants as tasks
 use Rattle.cedar_evaluation.specs.declared.frame.Task.{Task}
 use Rattle.cedar_evaluation.specs.declared.stopped.Stopped.TheVariants as stops
-use Rattle.cedar_evaluation.specs.Endings.{Outcome, outcome_answer}
+use Rattle.cedar_evaluation.specs.Endings.{outcome_answer}
 use Rattle.cedar_evaluation.specs.Tasks.{Next, StandsAt, WaitsForPart, WaitsFor, Begins, LeftFewer, task_left}
 
 pub no_fail : (p : model.PartialValue) (e : Failure) → answers p ≢ fails e

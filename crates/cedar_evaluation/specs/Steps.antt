@@ -7,7 +7,7 @@ use Rattle.cedar_model.specs.Terms.{Term}
 use Rattle.cedar_model.specs.Failures as model
 use Rattle.cedar_model.specs.Failures.{Answer, answers, fails, limit, out_of_memory}
 use Rattle.cedar_model.specs.Settings.{RequestPart, Setting}
-use Rattle.cedar_model.specs.Rules.{StoredCalls, Runs}
+use Rattle.cedar_model.specs.Rules.{StoredCalls}
 use Rattle.cedar_names.specs.declared.names.Loc.{Loc}
 use Rattle.cedar_data.specs.declared.partial_value.PartialValue.{PartialValue}
 use Rattle.cedar_data.specs.Residuals.{partial_view}

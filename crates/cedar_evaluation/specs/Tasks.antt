@@ -1,11 +1,11 @@
 -- What frames wait for, and what comes next.
-use Rattle.std.specs.Prelude.{◌≡◌, ◌≢◌, ◌<◌, ℕ, suc, Bool, true, false, Option, Result, Ok, Err, IfOk}
+use Rattle.std.specs.Prelude.{◌≡◌, ◌≢◌, ◌<◌, ℕ, suc, true, false, Option, Result, Ok, Err, IfOk}
 use Rattle.std.specs.declared.alloc.AllocError.{AllocError}
 use Rattle.std.specs.declared.alloc.Global.{Global}
 use Rattle.std.specs.declared.rc.Rc.{Rc}
 use Rattle.std.specs.Rc.{rc_str_bytes}
 use Rattle.cedar_model.specs.Terms.{Terms, one_term, Term, bool_literal, literal, if_then_else, both, either, unary, like}
-use Rattle.cedar_model.specs.Failures.{Answer, fails, out_of_memory, answers_bool, answers_residual}
+use Rattle.cedar_model.specs.Failures.{Answer, fails, out_of_memory, answers_residual}
 use Rattle.cedar_model.specs.Operators.{unary_answer, like_answer}
 use Rattle.cedar_model.specs.Settings.{Setting}
 use Rattle.cedar_model.specs.Rules.{MayAnswer, StoredCalls, Runs, Meets, best, AfterBest, AfterGuard, AfterAndLeft, AfterOrLeft, joined, on_part, AfterLeft, Resolves, beside_residual, binary_beside, AtAttribute, has_part, AtPath, is_part}
@@ -115,12 +115,6 @@ IsWaiting w t c (Wait f d) = (f.task ≡ t) × (d.value ≡ c.value) × (f.whole
 abbrev pub IsOrWant : Result Next AllocError → Next → Type 0
 IsOrWant (Ok n) x = x ≡ n
 IsOrWant (Err e) x = x ≡ Done (Err stops.Memory)
-
--- the right side of `&&` or `||`, which must be a boolean: a literal that is one is the answer at this place, and anything else is
--- waited for
-abbrev pub IsRightSide : Option Loc → Pending → Part → Next → Type 0
-IsRightSide l p c (Done r) = (b : Bool) × (view c.value ≡ literal (bool_literal b)) × Gives l (Done r) (answers_bool b)
-IsRightSide l p c (Wait f d) = (f.task ≡ tasks.Other p) × (d ≡ c) × (expr_loc f.whole.value ≡ l)
 
 -- the answer of this expression is that of the whole at this place, unless memory is wanting
 abbrev pub IsPassed : Option Loc → Expr → Next → Type 0

@@ -1,26 +1,32 @@
 -- What is told without a turn of its own.
-use Rattle.std.specs.Prelude.{◌≡◌, ◌≤◌, ◌<◌, ℕ, zero, suc, Option, Some, None, Result, IfSome}
-use Rattle.std.proofs.Common.{sym, ap, ◌∙◌, subst, arith}
+use Rattle.std.specs.Prelude.{◌≡◌, ◌≤◌, ◌<◌, ℕ, zero, suc, Bool, true, false, Option, Some, None, Result, IfSome}
+use Rattle.std.proofs.Common.{refl, sym, ap, ◌∙◌, subst, arith}
 use Rattle.std.specs.declared.alloc.Global.{Global}
 use Rattle.std.specs.declared.boxed.Box.{Box}
-use Rattle.cedar_model.specs.Terms.{Text, Variable, Literal, Term, literal, variable, get_attribute}
-use Rattle.cedar_model.specs.Values.{Represented, plain_represented}
-use Rattle.cedar_model.specs.Failures.{Answer, value, answers, answers_value, out_of_memory}
+use Rattle.cedar_model.specs.Terms.{Text, Literal, Term, bool_literal, literal, both, either, get_attribute}
+use Rattle.cedar_model.specs.Values.{Represented, plain_represented, abstract_value}
+use Rattle.cedar_model.specs.Outcomes.{bool_of}
+use Rattle.cedar_model.specs.Failures.{Answer, value, answers, answers_value, answers_bool, out_of_memory}
 use Rattle.cedar_model.specs.Operators.{attribute_answer}
-use Rattle.cedar_model.specs.Settings.{Setting, shallow, variable_part}
+use Rattle.cedar_model.specs.Settings.{Setting, shallow}
 use Rattle.cedar_model.specs.Rules.{StoredCalls, Runs}
+use Rattle.cedar_expressions.specs.View.{view, expr_loc}
 use Rattle.cedar_data.specs.Sound.{Placed}
 use Rattle.cedar_data.specs.declared.partial_value.PartialValue.{PartialValue}
 use Rattle.cedar_data.specs.Residuals.{partial_view}
 use Rattle.cedar_model.specs.Failures as model
 use Rattle.cedar_model.specs.Settings.{RequestPart}
 use Rattle.cedar_names.specs.declared.names.Loc.{Loc}
+use Rattle.cedar_frames.specs.declared.machine.Step.TheVariants.{Done, Wait}
 use Rattle.cedar_evaluation.specs.declared.evaluation.Evaluation.{Evaluation}
 use Rattle.cedar_evaluation.specs.declared.frame.Pending.{Pending}
+use Rattle.cedar_evaluation.specs.declared.frame.Pending.TheVariants as pendings
 use Rattle.cedar_evaluation.specs.declared.frame.Task.TheVariants as tasks
+use Rattle.cedar_evaluation.specs.Endings.{outcome_answer}
+use Rattle.cedar_evaluation.specs.Booleans.{part_bool, is_bool, and_true, or_false}
 use Rattle.cedar_evaluation.specs.Settings.{Speaks, setting_of, calls_in, some_request}
-use Rattle.cedar_evaluation.specs.Tasks.{Next, Uses, WaitsFor, GoesOn, pending_left}
-use Rattle.cedar_evaluation.specs.Laws.{goes_on_through, fewer_through, goes_on_placed, goes_on_fewer}
+use Rattle.cedar_evaluation.specs.Tasks.{Part, Next, Uses, WaitsFor, WaitsAgain, Gives, GoesOn, pending_left}
+use Rattle.cedar_evaluation.specs.Laws.{goes_on_through, fewer_through, goes_on_placed, goes_on_fewer, gives_begins, gives_placed, literal_joined}
 use Rattle.cedar_evaluation.specs.PartsLaws.{no_fail}
 use Rattle.cedar_values.specs.declared.evaluator.err.EvaluationError.{EvaluationError}
 use Rattle.cedar_values.specs.Answers.{partial_answer, AnswersWith}
@@ -28,7 +34,7 @@ use Rattle.cedar_operators.specs.Operands.{over}
 use Rattle.cedar_partial_operators.specs.Parts.{projection}
 use Rattle.cedar_partial_operators.proofs.Projections.{at_attribute}
 use Rattle.cedar_evaluation.specs.Stored.{of_value, value_stays}
-use Rattle.cedar_evaluation.specs.Steps.{BeginsIn, GoesOnIn, LeadsIn}
+use Rattle.cedar_evaluation.specs.Steps.{BeginsIn, GoesOnIn, LeadsIn, goes_on_in}
 
 -- the value, if there is one, is right of the term, with so many levels
 abbrev pub IsTold : Setting → StoredCalls → ℕ → Term → Option Placed → Type 0
@@ -40,17 +46,54 @@ abbrev pub IsBoxedTold : Setting → StoredCalls → ℕ → Term → Option (Bo
 IsBoxedTold s calls k t None = Unit {0}
 IsBoxedTold s calls k t (Some b) = Runs s calls k t (answers (partial_view b.value))
 
--- what is told with one level, or with two, is told where there are so many
-pub told_at_one : (s : Setting) (calls : StoredCalls) (levels k : ℕ) (t u : Term) (o : Option Placed) → ((j : ℕ) → IsTold s calls (suc j) t o) →
-    2 ≤ levels → levels ≤ suc k → t ≡ u → IsTold s calls k u o
-told_at_one s calls levels zero t u o told some low is = absurd (omega (arith, some, low))
-told_at_one s calls levels (suc j) t u o told some low is = subst (λ x. IsTold s calls (suc j) x o) is (told j)
+-- the boolean, if there is one, is right of the term, with so many levels
+abbrev pub IsBoolTold : Setting → StoredCalls → ℕ → Term → Option Bool → Type 0
+IsBoolTold s calls k t None = Unit {0}
+IsBoolTold s calls k t (Some b) = Runs s calls k t (answers_bool b)
 
-pub told_at_two : (s : Setting) (calls : StoredCalls) (levels k : ℕ) (t u : Term) (o : Option Placed) → ((j : ℕ) → IsTold s calls (suc (suc j)) t o) →
-    3 ≤ levels → levels ≤ suc k → t ≡ u → IsTold s calls k u o
-told_at_two s calls levels zero t u o told some low is = absurd (omega (arith, some, low))
-told_at_two s calls levels (suc zero) t u o told some low is = absurd (omega (arith, some, low))
-told_at_two s calls levels (suc (suc j)) t u o told some low is = subst (λ x. IsTold s calls (suc (suc j)) x o) is (told j)
+-- the value in a box, unless memory is wanting
+abbrev pub IsBoxOf : Option Placed → Option (Box PartialValue Global) → Type 0
+IsBoxOf o None = Unit {0}
+IsBoxOf None (Some b) = ⊥
+IsBoxOf (Some v) (Some b) = partial_view b.value ≡ value v.what
+
+-- the boolean that the value is, if it is one
+abbrev pub IsBoolOf : Option Placed → Option Bool → Type 0
+IsBoolOf o None = Unit {0}
+IsBoolOf None (Some b) = ⊥
+IsBoolOf (Some v) (Some b) = bool_of (abstract_value v.what) ≡ Some b
+
+-- the boolean as a value, if there is one
+abbrev pub IsValueOf : Option Bool → Option Placed → Type 0
+IsValueOf o None = Unit {0}
+IsValueOf None (Some v) = ⊥
+IsValueOf (Some b) (Some v) = v.what ≡ plain_represented (bool_literal b)
+
+-- the value, at this place
+abbrev pub IsPlaced : Option Placed → Option Loc → Option Placed → Type 0
+IsPlaced o l None = Unit {0}
+IsPlaced None l (Some w) = ⊥
+IsPlaced (Some v) l (Some w) = (w.what ≡ v.what) × (w.loc ≡ l)
+
+-- the right side of `&&` or `||`, which must be a boolean: one that is told is the answer at this place, and anything else is waited
+-- for
+abbrev pub IsRightSide : {X : Type 0} {F : X → Type 0} {g : _} → Evaluation X F g → ℕ → Option Loc → Pending → Part → Next → Type 0
+IsRightSide e levels l p c (Done o) =
+    (b : Bool) × ((r : RequestPart) (k : ℕ) → Speaks r e → levels ≤ suc (suc k) → Runs (setting_of r e) (calls_in e) (suc k) (view c.value) (answers_bool b)) × Gives l (Done o) (answers_bool b)
+IsRightSide e levels l p c (Wait f d) = (f.task ≡ tasks.Other p) × (d ≡ c) × (expr_loc f.whole.value ≡ l)
+
+-- the right side is waited for
+abbrev pub IsAwaited : Option Loc → Pending → Part → Next → Type 0
+IsAwaited l p c (Done o) = ⊥
+IsAwaited l p c (Wait f d) = (f.task ≡ tasks.Other p) × (d ≡ c) × (expr_loc f.whole.value ≡ l)
+
+-- ---- laws
+
+-- what is told with one level more than these
+pub told_above : (s : Setting) (calls : StoredCalls) (h k : ℕ) (t u : Term) (o : Option Placed) → ((j : ℕ) → h ≤ j → IsTold s calls (suc j) t o) →
+    suc h ≤ k → t ≡ u → IsTold s calls k u o
+told_above s calls h zero t u o told low is = absurd (omega (arith, low))
+told_above s calls h (suc j) t u o told low is = subst (λ x. IsTold s calls (suc j) x o) is (told j (omega (arith, low)))
 
 pub literal_told : (s : Setting) (calls : StoredCalls) (j : ℕ) (l : Literal) (o : Option Placed) → IfSome o (λ v. v.what ≡ plain_represented l) →
     IsTold s calls (suc j) (literal l) o
@@ -63,19 +106,43 @@ pub value_found : (x : Result PartialValue EvaluationError) (o : Option Placed) 
 value_found x None b same found = tt
 value_found x (Some v) b same found = sym same ∙ found (λ w. no_fail (value v.what) out_of_memory (sym same ∙ w))
 
--- an attribute of a variable that is known
-pub attribute_told : (s : Setting) (calls : StoredCalls) (j : ℕ) (v : Variable) (w : Represented) (k : Text) (o : Option Placed) →
-    s.resolution ≡ shallow → answers_value w ≡ answers (variable_part s.request v) →
+-- an attribute of what is told
+pub attribute_told : (s : Setting) (calls : StoredCalls) (j : ℕ) (t : Term) (w : Represented) (k : Text) (o : Option Placed) →
+    s.resolution ≡ shallow → Runs s calls j t (answers_value w) →
     IfSome o (λ a. answers_value a.what ≡ attribute_answer (over s s.store) w k) →
-    IsTold s calls (suc (suc j)) (get_attribute (variable v) k) o
+    IsTold s calls (suc j) (get_attribute t k) o
 unfolding projection
-attribute_told s calls j v w k None is_shallow known found = tt
-attribute_told s calls j v w k (Some a) is_shallow known found = (
+attribute_told s calls j t w k None is_shallow runs found = tt
+attribute_told s calls j t w k (Some a) is_shallow runs found = (
   answers_value w,
-  known,
-  at_attribute (Runs s calls (suc j)) s (value w) k (answers_value a.what) is_shallow
+  runs,
+  at_attribute (Runs s calls j) s (value w) k (answers_value a.what) is_shallow
       (value_stays s.map a.what (attribute_answer (over s s.store) w k) found ∙ sym (of_value s w k)),
 )
+
+-- what is told, in a box, as a boolean, or at a place
+pub boxed_told : (s : Setting) (calls : StoredCalls) (k : ℕ) (t : Term) (o : Option Placed) (b : Option (Box PartialValue Global)) →
+    IsTold s calls k t o → IsBoxOf o b → IsBoxedTold s calls k t b
+boxed_told s calls k t o None told is = tt
+boxed_told s calls k t None (Some b) told is = absurd is
+boxed_told s calls k t (Some v) (Some b) told is = subst (λ p. Runs s calls k t (answers p)) (sym is) told
+
+pub bool_told : (s : Setting) (calls : StoredCalls) (k : ℕ) (t : Term) (o : Option Placed) (b : Option Bool) →
+    IsTold s calls k t o → IsBoolOf o b → IsBoolTold s calls k t b
+bool_told s calls k t o None told is = tt
+bool_told s calls k t None (Some b) told is = absurd is
+bool_told s calls k t (Some v) (Some b) told is = subst (Runs s calls k t) (is_bool v.what b is) told
+
+pub placed_told : (s : Setting) (calls : StoredCalls) (k : ℕ) (t : Term) (o : Option Placed) (l : Option Loc) (p : Option Placed) →
+    IsTold s calls k t o → IsPlaced o l p → IsTold s calls k t p
+placed_told s calls k t o l None told is = tt
+placed_told s calls k t None l (Some w) told is = absurd is
+placed_told s calls k t (Some v) l (Some w) told is = subst (λ x. Runs s calls k t (answers_value x)) (sym is.0) told
+
+pub placed_there : (o : Option Placed) (l : Option Loc) (p : Option Placed) → IsPlaced o l p → IfSome p (λ v. v.loc ≡ l)
+placed_there o l None is = tt
+placed_there None l (Some w) is = absurd is
+placed_there (Some v) l (Some w) is = is.1
 
 -- where the first part of a term is told, what its answer leads to is what begins
 pub told_begins : {X : Type 0} {F : X → Type 0} {g : _} (e : Evaluation X F g) (levels : ℕ) (l : Option Loc) (p : Pending) (t c : Term) (v : model.PartialValue) (n : Next) →
@@ -84,6 +151,16 @@ pub told_begins : {X : Type 0} {F : X → Type 0} {g : _} (e : Evaluation X F g)
     LeadsIn e levels l (tasks.Other p) (answers v) n → BeginsIn e levels l t n
 told_begins e levels l p t c v n waits told (leads, place, fewer) =
     (λ r k speaks low. leads r k speaks low t c (waits r k) (λ ok. told r k speaks low), place)
+
+-- where the first part of a term is told, what the rules make of it is the answer
+pub told_gives : {X : Type 0} {F : X → Type 0} {g : _} (e : Evaluation X F g) (levels : ℕ) (l : Option Loc) (u t : Term) (v : Represented) (f : Answer → Answer) (n : Next) →
+    ((r : RequestPart) (k : ℕ) (x a : Answer) → Runs (setting_of r e) (calls_in e) k t x → a ≡ f x → Runs (setting_of r e) (calls_in e) (suc k) u a) →
+    ((r : RequestPart) (k : ℕ) → Speaks r e → levels ≤ suc k → Runs (setting_of r e) (calls_in e) k t (answers_value v)) →
+    Gives l n (f (answers_value v)) → BeginsIn e levels l u n
+told_gives e levels l u t v f n rule told gives = (
+  λ r k speaks low. gives_begins (setting_of r e) (calls_in e) k l u (f (answers_value v)) n (λ a ok is. rule r k (answers_value v) a (told r k speaks low) is) gives,
+  gives_placed l n (f (answers_value v)) gives,
+)
 
 -- where the next part is told, what goes on after it goes on
 pub told_goes_on : {X : Type 0} {F : X → Type 0} {g : _} (e : Evaluation X F g) (levels : ℕ) (l : Option Loc) (p q : Pending) (x y : Answer) (n : Next) →
@@ -97,3 +174,57 @@ told_goes_on e levels l p q x y n fewer lift goes = (
   goes_on_placed (setting_of some_request e) (calls_in e) 0 l q y n (goes some_request 0),
   fewer_through p q n fewer (goes_on_fewer (setting_of some_request e) (calls_in e) 0 l q y n (goes some_request 0)),
 )
+
+-- ---- right sides
+
+pub awaited : {X : Type 0} {F : X → Type 0} {g : _} (e : Evaluation X F g) (levels : ℕ) (l : Option Loc) (p : Pending) (c : Part) (n : Next) →
+    IsAwaited l p c n → IsRightSide e levels l p c n
+awaited e levels l p c (Done o) is = absurd is
+awaited e levels l p c (Wait f d) is = is
+
+pub right_given : {X : Type 0} {F : X → Type 0} {g : _} (e : Evaluation X F g) (levels : ℕ) (l : Option Loc) (p : Pending) (c : Part) (n : Next) (b : Bool) →
+    ((r : RequestPart) (k : ℕ) → Speaks r e → levels ≤ suc (suc k) → Runs (setting_of r e) (calls_in e) (suc k) (view c.value) (answers_bool b)) →
+    Gives l n (answers_bool b) → IsRightSide e levels l p c n
+right_given e levels l p c (Done o) b runs gives = (b, runs, gives)
+right_given e levels l p c (Wait f d) b runs gives = absurd gives
+
+-- a literal boolean
+pub literal_right : {X : Type 0} {F : X → Type 0} {g : _} (e : Evaluation X F g) (levels : ℕ) (l : Option Loc) (p : Pending) (c : Part) (n : Next) (b : Bool) →
+    view c.value ≡ literal (bool_literal b) → Gives l n (answers_bool b) → IsRightSide e levels l p c n
+literal_right e levels l p c n b seen gives =
+    right_given e levels l p c n b (λ r k speaks low. subst (λ t. Runs (setting_of r e) (calls_in e) (suc k) t (answers_bool b)) (sym seen) refl) gives
+
+module _ {X : Type 0} {F : X → Type 0} {g : _} (e : Evaluation X F g) (levels : ℕ) (l : Option Loc) (right : Part) (p : model.PartialValue) where
+  -- a true left side of `&&`
+  pub and_right_side : (n : Next) → part_bool p ≡ Some true → IsRightSide e levels l pendings.AndRight right n → GoesOnIn e levels l (pendings.AndLeft right) (answers p) n
+  and_right_side (Done o) is (b, runs, (gives, place)) = (
+    λ r k speaks low.
+        (λ ok. and_true (Runs (setting_of r e) (calls_in e) (suc k)) p (view right.value) (answers_bool b) (outcome_answer o) is (runs r k speaks low) (gives ok ∙ literal_joined (both (literal (bool_literal true))) b), place),
+    place,
+    tt,
+  )
+  and_right_side (Wait f d) is (task, part, place) =
+      goes_on_in e levels l (pendings.AndLeft right) (answers p) (Wait f d)
+      (λ r k. (
+        subst (λ x. WaitsAgain (setting_of r e) (calls_in e) (suc k) (pendings.AndLeft right) (answers p) x (view d.value)) (sym task)
+            (subst (λ c. WaitsAgain (setting_of r e) (calls_in e) (suc k) (pendings.AndLeft right) (answers p) (tasks.Other pendings.AndRight) (view c.value)) (sym part)
+            (omega arith, λ y a runs uses. and_true (Runs (setting_of r e) (calls_in e) (suc k)) p (view right.value) y a is runs uses)),
+        place,
+      ))
+
+  -- a false left side of `||`
+  pub or_right_side : (n : Next) → part_bool p ≡ Some false → IsRightSide e levels l pendings.OrRight right n → GoesOnIn e levels l (pendings.OrLeft right) (answers p) n
+  or_right_side (Done o) is (b, runs, (gives, place)) = (
+    λ r k speaks low.
+        (λ ok. or_false (Runs (setting_of r e) (calls_in e) (suc k)) p (view right.value) (answers_bool b) (outcome_answer o) is (runs r k speaks low) (gives ok ∙ literal_joined (either (literal (bool_literal false))) b), place),
+    place,
+    tt,
+  )
+  or_right_side (Wait f d) is (task, part, place) =
+      goes_on_in e levels l (pendings.OrLeft right) (answers p) (Wait f d)
+      (λ r k. (
+        subst (λ x. WaitsAgain (setting_of r e) (calls_in e) (suc k) (pendings.OrLeft right) (answers p) x (view d.value)) (sym task)
+            (subst (λ c. WaitsAgain (setting_of r e) (calls_in e) (suc k) (pendings.OrLeft right) (answers p) (tasks.Other pendings.OrRight) (view c.value)) (sym part)
+            (omega arith, λ y a runs uses. or_false (Runs (setting_of r e) (calls_in e) (suc k)) p (view right.value) y a is runs uses)),
+        place,
+      ))

@@ -41,12 +41,12 @@ impl<'e, 'g, 'f> Evaluation<'e, 'g, 'f> {
             } => self.after_guard(alloc, whole, then_expr, else_expr, answer),
             Pending::Then(first) => self.after_then(alloc, whole, first, answer),
             Pending::Else(second) => self.after_else(alloc, whole, second, answer),
-            Pending::AndLeft { right } => self.after_and_left(alloc, whole, right, answer),
+            Pending::AndLeft { right } => self.after_and_left(alloc, whole, right, answer, levels),
             Pending::AndRight => self.after_and_right(alloc, whole, answer),
             Pending::AndKept { left, right } => {
                 self.after_and_kept(alloc, whole, left, right, answer)
             }
-            Pending::OrLeft { right } => self.after_or_left(alloc, whole, right, answer),
+            Pending::OrLeft { right } => self.after_or_left(alloc, whole, right, answer, levels),
             Pending::OrRight => self.after_or_right(alloc, whole, answer),
             Pending::OrKept { left, right } => {
                 self.after_or_kept(alloc, whole, left, right, answer)

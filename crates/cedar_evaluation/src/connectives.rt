@@ -12,7 +12,9 @@ ghost use Rattle.cedar_expressions.specs.declared.expr.Expr.{Expr};
 ghost use Rattle.cedar_data.specs.Residuals.{partial_view, residual_term};
 ghost use Rattle.cedar_evaluation.specs.Booleans.{part_bool};
 ghost use Rattle.cedar_evaluation.specs.Settings.{setting_of, calls_in};
-ghost use Rattle.cedar_evaluation.specs.Tasks.{Begins, GoesOn, IsRightSide};
+ghost use Rattle.cedar_evaluation.specs.Tasks.{Begins, GoesOn};
+ghost use Rattle.cedar_evaluation.specs.Steps.{GoesOnIn};
+ghost use Rattle.cedar_evaluation.specs.Told.{IsRightSide, IsAwaited};
 ghost use Rattle.cedar_evaluation.specs.declared.frame.Pending.TheVariants as pendings;
 
 use crate::answers::{answered, bool_at, both, known_bool, no_bool, or_want};
@@ -71,11 +73,12 @@ impl<'e, 'g, 'f> Evaluation<'e, 'g, 'f> {
         whole: Part,
         right: Rc<Expr>,
         left: Box<PartialValue>,
+        levels: usize,
     ) -> Next
-        ensures { (r : RequestPart) (k : ℕ) → GoesOn (setting_of r self.now) (calls_in self.now) (suc k) (expr_loc whole.value) (pendings.AndLeft right) (answers (partial_view left.value)) result }
+        ensures { GoesOnIn self.now levels (expr_loc whole.value) (pendings.AndLeft right) (answers (partial_view left.value)) result }
     {
         match known_bool(&left) {
-            Some(true) => right_of_and(whole, right, left),
+            Some(true) => self.right_of_and(alloc, whole, right, left, levels),
             Some(false) => {
                 drop(right);
                 Step::Done(Ok(bool_at(&whole, left, false)))
@@ -172,15 +175,16 @@ impl<'e, 'g, 'f> Evaluation<'e, 'g, 'f> {
         whole: Part,
         right: Rc<Expr>,
         left: Box<PartialValue>,
+        levels: usize,
     ) -> Next
-        ensures { (r : RequestPart) (k : ℕ) → GoesOn (setting_of r self.now) (calls_in self.now) (suc k) (expr_loc whole.value) (pendings.OrLeft right) (answers (partial_view left.value)) result }
+        ensures { GoesOnIn self.now levels (expr_loc whole.value) (pendings.OrLeft right) (answers (partial_view left.value)) result }
     {
         match known_bool(&left) {
             Some(true) => {
                 drop(right);
                 Step::Done(Ok(bool_at(&whole, left, true)))
             }
-            Some(false) => right_of_or(whole, right, left),
+            Some(false) => self.right_of_or(alloc, whole, right, left, levels),
             None => or_want(self.after_no_bool_or_left(alloc, whole, right, left)),
         }
     }
@@ -265,29 +269,79 @@ impl<'e, 'g, 'f> Evaluation<'e, 'g, 'f> {
             Err(_) => Step::Done(Err(Stopped::Memory)),
         }
     }
-}
 
-// The right side of `true && ..`: a boolean is the answer, in the box of the left one.
-fn right_of_and(whole: Part, right: Part, left: Box<PartialValue>) -> Next
-    requires { part_bool (partial_view left.value) ≡ Some true }
-    ensures { IsRightSide (expr_loc whole.value) pendings.AndRight right result }
-{
-    match bool_literal_in(&right) {
-        Some(true) => Step::Done(Ok(bool_at(&whole, left, true))),
-        Some(false) => Step::Done(Ok(bool_at(&whole, with_bool(left, false), false))),
-        None => wait_for_right(whole, Pending::AndRight, right),
+    // The right side of `true && ..`: a boolean that is told is the answer, in the box of the left one.
+    fn right_of_and(
+        &self,
+        alloc: Global,
+        whole: Part,
+        right: Part,
+        left: Box<PartialValue>,
+        levels: usize,
+    ) -> Next
+        requires { part_bool (partial_view left.value) ≡ Some true }
+        ensures { IsRightSide self.now levels (expr_loc whole.value) pendings.AndRight right result }
+    {
+        match bool_literal_in(&right) {
+            Some(true) => Step::Done(Ok(bool_at(&whole, left, true))),
+            Some(false) => Step::Done(Ok(bool_at(&whole, with_bool(left, false), false))),
+            None => self.other_right_of_and(alloc, whole, right, left, levels),
+        }
     }
-}
 
-// The right side of `false || ..`: a boolean is the answer, in the box of the left one.
-fn right_of_or(whole: Part, right: Part, left: Box<PartialValue>) -> Next
-    requires { part_bool (partial_view left.value) ≡ Some false }
-    ensures { IsRightSide (expr_loc whole.value) pendings.OrRight right result }
-{
-    match bool_literal_in(&right) {
-        Some(false) => Step::Done(Ok(bool_at(&whole, left, false))),
-        Some(true) => Step::Done(Ok(bool_at(&whole, with_bool(left, true), true))),
-        None => wait_for_right(whole, Pending::OrRight, right),
+    // The same of one that is no literal.
+    fn other_right_of_and(
+        &self,
+        alloc: Global,
+        whole: Part,
+        right: Part,
+        left: Box<PartialValue>,
+        levels: usize,
+    ) -> Next
+        requires { part_bool (partial_view left.value) ≡ Some true }
+        ensures { IsRightSide self.now levels (expr_loc whole.value) pendings.AndRight right result }
+    {
+        match self.told_bool(alloc, &right, levels) {
+            Some(b) => Step::Done(Ok(bool_at(&whole, with_bool(left, b), b))),
+            None => wait_for_right(whole, Pending::AndRight, right),
+        }
+    }
+
+    // The right side of `false || ..`: a boolean that is told is the answer, in the box of the left one.
+    fn right_of_or(
+        &self,
+        alloc: Global,
+        whole: Part,
+        right: Part,
+        left: Box<PartialValue>,
+        levels: usize,
+    ) -> Next
+        requires { part_bool (partial_view left.value) ≡ Some false }
+        ensures { IsRightSide self.now levels (expr_loc whole.value) pendings.OrRight right result }
+    {
+        match bool_literal_in(&right) {
+            Some(false) => Step::Done(Ok(bool_at(&whole, left, false))),
+            Some(true) => Step::Done(Ok(bool_at(&whole, with_bool(left, true), true))),
+            None => self.other_right_of_or(alloc, whole, right, left, levels),
+        }
+    }
+
+    // The same of one that is no literal.
+    fn other_right_of_or(
+        &self,
+        alloc: Global,
+        whole: Part,
+        right: Part,
+        left: Box<PartialValue>,
+        levels: usize,
+    ) -> Next
+        requires { part_bool (partial_view left.value) ≡ Some false }
+        ensures { IsRightSide self.now levels (expr_loc whole.value) pendings.OrRight right result }
+    {
+        match self.told_bool(alloc, &right, levels) {
+            Some(b) => Step::Done(Ok(bool_at(&whole, with_bool(left, b), b))),
+            None => wait_for_right(whole, Pending::OrRight, right),
+        }
     }
 }
 
@@ -318,7 +372,7 @@ fn with_bool(mut part: Box<PartialValue>, b: bool) -> Box<PartialValue>
 
 // The right side is waited for.
 fn wait_for_right(whole: Part, pending: Pending, right: Part) -> Next
-    ensures { IsRightSide (expr_loc whole.value) pending right result }
+    ensures { IsAwaited (expr_loc whole.value) pending right result }
 {
     let task = Task::Other(pending);
     Step::Wait(Frame { whole, task }, right)

@@ -15,6 +15,7 @@ mod operators;
 mod start;
 mod stopped;
 mod stored;
+mod tellers;
 mod told;
 
 pub use evaluation::{Evaluation, Given, Mapper};

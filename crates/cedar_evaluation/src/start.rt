@@ -15,7 +15,7 @@ ghost use Rattle.cedar_evaluation.specs.Steps.{BeginsIn};
 ghost use Rattle.cedar_evaluation.specs.PartsLaws.{IsTaken, IsNextPart};
 ghost use Rattle.cedar_evaluation.specs.Elements.{IsPartTaken, NextStands, SetNext};
 
-use crate::answers::{both, done, loc_of, or_want};
+use crate::answers::{answered, both, done, loc_of, or_want};
 use crate::evaluation::Evaluation;
 use crate::frame::{Frame, Next, Part, Pending, Task};
 use crate::stopped::Stopped;
@@ -28,6 +28,7 @@ use cedar_layers::expressions::SlotEnv;
 use cedar_names::{
     BinaryOp, EntityType, FirstRest, Literal, Name, Pattern, SlotId, Type, UnaryOp, Unknown, Var,
 };
+use cedar_partial_operators::unary::{is_of_part, like_of_part};
 use cedar_restricted::{NextPart, PartsFrame};
 use cedar_values::evaluator::err::{EvaluationError, evaluation_errors};
 use evaluation_errors::UnlinkedSlotError;
@@ -66,8 +67,12 @@ impl<'e, 'g, 'f> Evaluation<'e, 'g, 'f> {
             ExprKind::ExtHasAttr { expr, attrs } => {
                 self.walked(alloc, whole, expr, attrs, levels)
             }
-            ExprKind::Like { expr, pattern } => { self.likeness(alloc, whole, expr, pattern) }
-            ExprKind::Is { expr, entity_type } => { self.typed(alloc, whole, expr, entity_type) }
+            ExprKind::Like { expr, pattern } => {
+                self.likeness(alloc, whole, expr, pattern, levels)
+            }
+            ExprKind::Is { expr, entity_type } => {
+                self.typed(alloc, whole, expr, entity_type, levels)
+            }
             ExprKind::Set(parts) => self.set(alloc, whole, parts),
             ExprKind::Record(pairs) => self.record(alloc, whole, pairs),
         }
@@ -246,7 +251,29 @@ impl<'e, 'g, 'f> Evaluation<'e, 'g, 'f> {
         }
     }
 
-    fn likeness(&self, alloc: Global, whole: &Part, expr: &Part, pattern: &Pattern) -> Next
+    fn likeness(
+        &self,
+        alloc: Global,
+        whole: &Part,
+        expr: &Part,
+        pattern: &Pattern,
+        levels: usize,
+    ) -> Next
+        ensures { BeginsIn self.now levels (expr_loc whole.now.value) (Terms.like (view expr.now.value) (pattern_view pattern.now)) result }
+    {
+        match self.told(alloc, expr, levels) {
+            Some(told) => {
+                answered(
+                    alloc,
+                    whole,
+                    like_of_part(alloc, PartialValue::Value(told), pattern),
+                )
+            }
+            None => self.wait_for_text(alloc, whole, expr, pattern),
+        }
+    }
+
+    fn wait_for_text(&self, alloc: Global, whole: &Part, expr: &Part, pattern: &Pattern) -> Next
         ensures { (r : RequestPart) (k : ℕ) → Begins (setting_of r self.now) (calls_in self.now) k (expr_loc whole.now.value) (Terms.like (view expr.now.value) (pattern_view pattern.now)) result }
     {
         match boxed_pattern(alloc, pattern) {
@@ -261,7 +288,35 @@ impl<'e, 'g, 'f> Evaluation<'e, 'g, 'f> {
         }
     }
 
-    fn typed(&self, alloc: Global, whole: &Part, expr: &Part, entity_type: &EntityType) -> Next
+    fn typed(
+        &self,
+        alloc: Global,
+        whole: &Part,
+        expr: &Part,
+        entity_type: &EntityType,
+        levels: usize,
+    ) -> Next
+        ensures { BeginsIn self.now levels (expr_loc whole.now.value) (Terms.is_of_type (view expr.now.value) (type_text entity_type.now)) result }
+    {
+        match self.told(alloc, expr, levels) {
+            Some(told) => {
+                answered(
+                    alloc,
+                    whole,
+                    is_of_part(alloc, PartialValue::Value(told), entity_type),
+                )
+            }
+            None => self.wait_for_entity(alloc, whole, expr, entity_type),
+        }
+    }
+
+    fn wait_for_entity(
+        &self,
+        alloc: Global,
+        whole: &Part,
+        expr: &Part,
+        entity_type: &EntityType,
+    ) -> Next
         ensures { (r : RequestPart) (k : ℕ) → Begins (setting_of r self.now) (calls_in self.now) k (expr_loc whole.now.value) (Terms.is_of_type (view expr.now.value) (type_text entity_type.now)) result }
     {
         match boxed_type(alloc, entity_type) {

@@ -1,7 +1,6 @@
-use Rattle.std.proofs.Common.{ap, ◌∙◌, subst, IfOk, Ok, Err}
-use Rattle.cedar_model.specs.Failures.{value, residual, answers, fails, out_of_memory, answers_residual}
+use Rattle.std.proofs.Common.{ap, ◌∙◌, subst, IfOk, Ok}
+use Rattle.cedar_model.specs.Failures.{value, residual, out_of_memory}
 use Rattle.cedar_expressions.specs.View.{expr_loc}
-use Rattle.cedar_data.specs.declared.partial_value.PartialValue.TheVariants as partials
 use Rattle.cedar_data.specs.Residuals.{residual_term}
 use Rattle.cedar_values.specs.Answers.{AnswersWith}
 use Rattle.cedar_evaluation.specs.Settings.{mapper_view}

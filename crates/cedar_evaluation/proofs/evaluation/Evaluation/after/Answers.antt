@@ -33,7 +33,7 @@ returns-in-Else g c =
 pub returns-in-AndLeft : goal.returns-in-AndLeft
 returns-in-AndLeft g c =
     subst (λ p. GoesOnIn c.args.self.now c.args.levels (expr_loc c.args.whole.value) p (answers (partial_view c.args.answer.value)) c.after_and_left.result) (sym c.in-AndLeft.is)
-    (goes_on_in c.args.self.now c.args.levels (expr_loc c.args.whole.value) (pendings.AndLeft c.in-AndLeft.right) (answers (partial_view c.args.answer.value)) c.after_and_left.result (λ r k. c.after_and_left.ensures r k))
+    c.after_and_left.ensures
 
 pub returns-in-AndRight : goal.returns-in-AndRight
 returns-in-AndRight g c =
@@ -48,7 +48,7 @@ returns-in-AndKept g c =
 pub returns-in-OrLeft : goal.returns-in-OrLeft
 returns-in-OrLeft g c =
     subst (λ p. GoesOnIn c.args.self.now c.args.levels (expr_loc c.args.whole.value) p (answers (partial_view c.args.answer.value)) c.after_or_left.result) (sym c.in-OrLeft.is)
-    (goes_on_in c.args.self.now c.args.levels (expr_loc c.args.whole.value) (pendings.OrLeft c.in-OrLeft.right) (answers (partial_view c.args.answer.value)) c.after_or_left.result (λ r k. c.after_or_left.ensures r k))
+    c.after_or_left.ensures
 
 pub returns-in-OrRight : goal.returns-in-OrRight
 returns-in-OrRight g c =

@@ -1,4 +1,4 @@
-use Rattle.std.proofs.Common.{sym, subst, Ok}
+use Rattle.std.proofs.Common.{subst, Ok}
 use Rattle.cedar_expressions.specs.View.{expr_loc}
 use Rattle.cedar_extensions.specs.Extensions.{extensions_view, calls_of}
 use Rattle.cedar_restricted.specs.Frames as restricted

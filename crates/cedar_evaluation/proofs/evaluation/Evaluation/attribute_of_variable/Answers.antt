@@ -1,5 +1,6 @@
-use Rattle.std.proofs.Common.{refl, sym, ap, ◌∙◌}
+use Rattle.std.proofs.Common.{refl, suc, sym, ap, ◌∙◌}
 use Rattle.std.specs.Rc.{rc_str_bytes}
+use Rattle.cedar_model.specs.Terms.{variable}
 use Rattle.cedar_model.specs.Failures.{answers}
 use Rattle.cedar_names.specs.Leaves.{variable_view}
 use Rattle.cedar_data.specs.Residuals.{partial_view}
@@ -10,6 +11,6 @@ use Rattle.cedar_evaluation.proofs.evaluation.Evaluation.attribute_of_variable.G
 pub returns-in-Value : goal.returns-in-Value
 returns-in-Value g c r k speaks =
     let s = setting_of r c.args.self.now in
-    attribute_told s (calls_in c.args.self.now) k (variable_view c.args.var) c.in-Value.value.what (rc_str_bytes c.args.attr.now) c.value_in.result refl
+    attribute_told s (calls_in c.args.self.now) (suc k) (variable (variable_view c.args.var)) c.in-Value.value.what (rc_str_bytes c.args.attr.now) c.value_in.result refl
     (sym (ap (λ p. answers (partial_view p)) c.in-Value.is) ∙ ap (λ p. answers (partial_view p)) c.given_for.ensures ∙ ap answers (speaks (variable_view c.args.var)))
     (value_found c.attribute_of.result c.value_in.result _ c.value_in.ensures (c.attribute_of.ensures s))

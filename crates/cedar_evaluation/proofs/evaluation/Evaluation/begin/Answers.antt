@@ -3,9 +3,9 @@ use Rattle.cedar_model.specs.Settings.{RequestPart}
 use Rattle.cedar_expressions.specs.Nodes.{parts_below, kind_parts}
 use Rattle.cedar_expressions.proofs.NodeLevels.{kind_node-Set}
 use Rattle.cedar_evaluation.specs.Elements.{set_next}
-use Rattle.cedar_model.specs.Terms.{literal, slot, if_then_else, both, either, unary, call, like, is_of_type, set_of, record_of}
-use Rattle.cedar_names.specs.Names.{name_text, type_text}
-use Rattle.cedar_names.specs.Leaves.{literal_view, slot_view, unary_view, pattern_view}
+use Rattle.cedar_model.specs.Terms.{literal, slot, if_then_else, both, either, unary, call, set_of, record_of}
+use Rattle.cedar_names.specs.Names.{name_text}
+use Rattle.cedar_names.specs.Leaves.{literal_view, slot_view, unary_view}
 use Rattle.cedar_expressions.specs.View.{view, kind_view, terms_view, fields_view, expr_loc}
 use Rattle.cedar_expressions.proofs.Levels as levels
 use Rattle.cedar_evaluation.specs.Settings.{setting_of, calls_in}
@@ -76,12 +76,12 @@ returns-in-ExtHasAttr-clause-begins g c =
 pub returns-in-Like-clause-begins : goal.returns-in-Like-clause-begins
 returns-in-Like-clause-begins g c =
     subst (λ t. BeginsIn c.args.self.now c.args.levels (expr_loc c.args.whole.now.value) t c.likeness.result) (sym (levels.kind_view-Like _ _) ∙ sym (ap kind_view c.in-Like.is) ∙ c.expr_kind.ensures.view)
-    (begins_in c.args.self.now c.args.levels (expr_loc c.args.whole.now.value) (like (view c.in-Like.expr.value) (pattern_view c.in-Like.pattern)) c.likeness.result (λ r k. c.likeness.ensures r k))
+    c.likeness.ensures
 
 pub returns-in-Is-clause-begins : goal.returns-in-Is-clause-begins
 returns-in-Is-clause-begins g c =
     subst (λ t. BeginsIn c.args.self.now c.args.levels (expr_loc c.args.whole.now.value) t c.typed.result) (sym (levels.kind_view-Is _ _) ∙ sym (ap kind_view c.in-Is.is) ∙ c.expr_kind.ensures.view)
-    (begins_in c.args.self.now c.args.levels (expr_loc c.args.whole.now.value) (is_of_type (view c.in-Is.expr.value) (type_text c.in-Is.entity_type)) c.typed.result (λ r k. c.typed.ensures r k))
+    c.typed.ensures
 
 pub returns-in-Set-clause-begins : goal.returns-in-Set-clause-begins
 returns-in-Set-clause-begins g c =

@@ -2,7 +2,6 @@ use Rattle.std.proofs.Common.{sym, subst}
 use Rattle.cedar_model.specs.Failures.{fails}
 use Rattle.cedar_expressions.specs.View.{expr_loc}
 use Rattle.cedar_values.specs.Failures.{failure_of}
-use Rattle.cedar_evaluation.specs.Endings.{Outcome}
 use Rattle.cedar_evaluation.specs.Elements.{TaskWaits, failed_next}
 use Rattle.cedar_evaluation.specs.Kept.{ordinary_no_want}
 use Rattle.cedar_evaluation.specs.Steps.{LeadsIn, failure_leads_in, parts_failure_in}

@@ -1,14 +1,13 @@
-use Rattle.std.proofs.Common.{suc, subst}
-use Rattle.std.specs.Rc.{rc_str_bytes}
-use Rattle.cedar_model.specs.Terms.{binary, get_attribute, has_attribute, extended_has}
+use Rattle.std.proofs.Common.{subst}
+use Rattle.cedar_model.specs.Terms.{binary}
 use Rattle.cedar_model.specs.Failures.{answers}
 use Rattle.cedar_model.specs.Rules.{Runs}
-use Rattle.cedar_names.specs.Leaves.{binary_view, texts_view}
+use Rattle.cedar_names.specs.Leaves.{binary_view}
 use Rattle.cedar_expressions.specs.View.{view, expr_loc}
 use Rattle.cedar_data.specs.Residuals.{partial_view}
 use Rattle.cedar_evaluation.specs.declared.frame.Pending.TheVariants as pendings
 use Rattle.cedar_evaluation.specs.Settings.{setting_of, calls_in}
-use Rattle.cedar_evaluation.specs.Steps.{begins_in, goes_on_in, value_leads_in}
+use Rattle.cedar_evaluation.specs.Steps.{begins_in, value_leads_in}
 use Rattle.cedar_evaluation.specs.Told.{told_begins}
 use Rattle.cedar_evaluation.proofs.evaluation.Evaluation.operands.Goals as goal
 

@@ -1,11 +1,11 @@
-use Rattle.std.proofs.Common.{sym, ap, subst}
-use Rattle.cedar_model.specs.Failures.{answers}
-use Rattle.cedar_model.specs.Rules.{Runs}
+use Rattle.std.proofs.Common.{◌≤◌, arith}
 use Rattle.cedar_expressions.specs.View.{view}
-use Rattle.cedar_data.specs.Residuals.{partial_view}
 use Rattle.cedar_evaluation.specs.Settings.{setting_of, calls_in}
+use Rattle.cedar_evaluation.specs.Told.{boxed_told}
 use Rattle.cedar_evaluation.proofs.evaluation.Evaluation.told_boxed.Goals as goal
 
-pub returns-in-Ok : goal.returns-in-Ok
-returns-in-Ok g c r k speaks low =
-    subst (λ p. Runs (setting_of r c.args.self.now) (calls_in c.args.self.now) k (view c.args.part.now) (answers (partial_view p))) (sym c.in-Ok.ensures.ok) (c.in-Some.ensures.told r k speaks low)
+pub returns-then-is_tried : goal.returns-then-is_tried
+returns-then-is_tried g c r k speaks low =
+    let enough = c.is_tried.ensures c.if-is_tried.true in
+    let some : 5 ≤ k = omega (arith, enough, low) in
+    boxed_told (setting_of r c.args.self.now) (calls_in c.args.self.now) k (view c.args.part.now) c.told_value.result c.boxed_at.result (c.told_value.ensures r k speaks some) c.boxed_at.ensures

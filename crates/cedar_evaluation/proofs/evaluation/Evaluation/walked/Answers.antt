@@ -1,9 +1,9 @@
 use Rattle.std.proofs.Common.{suc, subst}
 use Rattle.std.specs.Rc.{rc_str_bytes}
-use Rattle.cedar_model.specs.Terms.{binary, get_attribute, has_attribute, extended_has}
+use Rattle.cedar_model.specs.Terms.{extended_has}
 use Rattle.cedar_model.specs.Failures.{answers}
 use Rattle.cedar_model.specs.Rules.{Runs}
-use Rattle.cedar_names.specs.Leaves.{binary_view, texts_view}
+use Rattle.cedar_names.specs.Leaves.{texts_view}
 use Rattle.cedar_expressions.specs.View.{view, expr_loc}
 use Rattle.cedar_data.specs.Residuals.{partial_view}
 use Rattle.cedar_evaluation.specs.declared.frame.Pending.TheVariants as pendings

@@ -1,5 +1,4 @@
 use Rattle.std.proofs.Common.{◌≤◌, suc, arith}
-use Rattle.cedar_expressions.specs.View.{expr_loc}
 use Rattle.cedar_evaluation.specs.Settings.{Speaks, setting_of, calls_in}
 use Rattle.cedar_evaluation.specs.Laws.{resume_right, left_fewer}
 use Rattle.cedar_evaluation.specs.Elements.{both_resume, goes_on_standing}

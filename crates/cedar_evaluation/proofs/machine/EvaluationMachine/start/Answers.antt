@@ -1,4 +1,4 @@
-use Rattle.std.proofs.Common.{◌≤◌, ◌≡◌, suc, refl, subst, arith}
+use Rattle.std.proofs.Common.{◌≤◌, suc, refl, subst, arith}
 use Rattle.cedar_expressions.specs.View.{view, expr_loc}
 use Rattle.cedar_evaluation.specs.Settings.{Speaks, setting_of, calls_in}
 use Rattle.cedar_evaluation.specs.Steps.{BeginsIn}
