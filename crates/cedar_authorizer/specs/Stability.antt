@@ -6,7 +6,7 @@ use Rattle.cedar_model.specs.Meaning.{meaning}
 use Rattle.cedar_model.specs.Policies.{Policy, permit, forbid, erring, verdict}
 use Rattle.cedar_model.specs.Reordering.{IsReordering}
 use Rattle.cedar_model.specs.Authorizations.{IsExactResponse}
-use Rattle.cedar_responses.specs.declared.response.Decision.TheVariants.{Allow, Deny}
+use Rattle.cedar_decisions.specs.declared.decision.Decision.TheVariants.{Allow, Deny}
 use Rattle.cedar_responses.specs.declared.response.Response.{Response}
 use Rattle.cedar_responses.specs.Responses.{has_id, response_view}
 

@@ -1,6 +1,7 @@
 -- A response that is made concrete.
-use Rattle.std.proofs.Common.{◌≡◌, Bool, true, false, cond, not, ◌&&◌, ◌||◌, List, [], ◌∷◌, ◌++◌, map, Option, refl, sym, ap, ◌∙◌, subst}
-use Rattle.std.specs.Prelude.{Result, Ok, IfOk}
+use Rattle.std.proofs.Common.{◌≡◌, Bool, true, false, cond, not, ◌&&◌, ◌||◌, List, [], ◌∷◌, ◌++◌, map, Option, refl, sym, ap, ◌∙◌, subst, append_assoc}
+use Rattle.std.proofs.lemmas.List.{map-append}
+use Rattle.std.specs.Prelude.{Result, Ok, IfOk, OnOk}
 use Rattle.cedar_model.specs.Terms.{Text}
 use Rattle.cedar_model.specs.Outcomes.{has_text}
 use Rattle.cedar_model.specs.Failures.{Failure, residual_is_left}
@@ -20,6 +21,16 @@ use Rattle.cedar_responses.proofs.Rows.{residual_permits, residual_forbids, true
 -- what holds of an answer, where it is this one
 pub of_ok : {A E : Type 0} (P : A → Type 0) (r : Result A E) (x : A) → r ≡ Ok x → IfOk r P → P x
 of_ok P r x is h = subst (λ y. IfOk y P) is h
+
+pub on_ok : {A E P : Type 0} (r : Result A E) (x : A) → r ≡ Ok x → OnOk r P → P
+on_ok {P = P} r x is h = subst (λ y. OnOk y P) is h
+
+-- what comes of a list to which some are added, then others, and then a list
+pub left_then : {A B : Type 0} (f : A → B) (none first both added all : List A) (forbids permits these : List B) → none ≡ [] → map f first ≡ map f none ++ forbids → map f both ≡ map f first ++ these → these ≡ permits → all ≡ both ++ added → map f all ≡ forbids ++ (permits ++ map f added)
+left_then f none first both added all forbids permits these hn h1 h2 ht ha =
+    ap (map f) ha ∙ map-append f both added
+    ∙ ap (λ xs. xs ++ map f added) (h2 ∙ (λ i. (h1 ∙ ap (λ xs. map f xs ++ forbids) hn) i ++ ht i))
+    ∙ append_assoc forbids permits (map f added)
 
 errors_of_residuals : (e : Effect) (es : List ResidualEntry) → map residual_error (rows_in (residual_rows e es)) ≡ errors_left es
 unfolding clause_of

@@ -1,5 +1,6 @@
 -- What `get` finds.
-use Rattle.std.proofs.Common.{◌≡◌, Bool, true, false, cond, List, [], ◌∷◌, ◌++◌, map, Option, Some, None, option_map, refl, sym, ap, ◌∙◌}
+use Rattle.std.proofs.Common.{◌≡◌, Bool, true, false, cond, List, [], ◌∷◌, ◌++◌, map, Option, Some, None, option_map, refl, sym, ap, ◌∙◌, subst}
+use Rattle.std.specs.Prelude.{Result, Ok, Err, IfOk}
 use Rattle.std.proofs.lemmas.List.{map-append}
 use Rattle.std.proofs.lemmas.Slice.Eq.{bytes_eq-Decides}
 use Rattle.std.specs.Map.{lookup}
@@ -20,6 +21,7 @@ use Rattle.cedar_layers.specs.declared.policies.policy.Policy.{Policy}
 use Rattle.cedar_layers.specs.declared.policies.policy.PolicyID.{PolicyID}
 use Rattle.cedar_layers.specs.Policies.{policy_id_text, annotations_view, policy_view, decides_as}
 use Rattle.cedar_responses.specs.declared.partial_response.ErrorState.{ErrorState}
+use Rattle.cedar_responses.specs.Found.{found_in}
 use Rattle.cedar_responses.specs.Kept.{is_same_id}
 use Rattle.cedar_responses.specs.Rows.{TrueEntry, FalseEntry, ResidualEntry, Located, located, is_error, true_rows, false_rows, residual_rows, rows_in, located_of}
 use Rattle.cedar_responses.specs.Readers.{made_view, made, made_of, first_at, in_order_of_get, located_at}
@@ -114,6 +116,15 @@ firsts f (Some x) = refl
 pub got_policy : (o : Option Policy) (id : Text) (ls : List Located) → option_map made_view o ≡ option_map made_of (located_at id ls) → option_map (λ p. decides_as (policy_view p)) o ≡ reports.get id (rows_in ls)
 got_policy o id ls h =
     firsts made_view o ∙ ap (option_map (λ (p : model.Policy × Option Loc). p.0)) h ∙ sym (firsts made_of (located_at id ls)) ∙ sym (get_located id ls)
+
+-- ---- what is made, as what is found
+
+pub if_found : {A E : Type 0} (r : Result A E) (s : Result (Option A) E) (P : A → Type 0) (Q : Option A → Type 0) → s ≡ found_in r → IfOk r P → ((x : A) → P x → Q (Some x)) → IfOk s Q
+if_found {A = A} {E = E} r s P Q is h step = subst (λ y. IfOk y Q) (sym is) (on r h)
+  where
+    on : (r : Result A E) → IfOk r P → IfOk (found_in r) Q
+    on (Ok x) h = step x h
+    on (Err e) h = tt
 
 -- ---- look-ups in the three kinds of map
 

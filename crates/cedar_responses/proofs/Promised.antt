@@ -5,8 +5,8 @@ use Rattle.cedar_model.specs.Responses.{Row}
 use Rattle.cedar_model.specs.Policies.{permit, forbid, allow, deny}
 use Rattle.cedar_model.specs.Reports.{some_row, trues, residuals, given_decision, must_determine, may_determine}
 use Rattle.cedar_model.proofs.Bounds
-use Rattle.cedar_responses.specs.declared.response.Decision.{Decision}
-use Rattle.cedar_responses.specs.Responses.{decision_view}
+use Rattle.cedar_decisions.specs.declared.decision.Decision.{Decision}
+use Rattle.cedar_decisions.specs.Decisions.{decision_view}
 use Rattle.cedar_responses.specs.Promises.{IsDecisionOf, AreReasonsOf, HoldReasonsOf}
 
 pub given_holds : (rows : List Row) (o : Option Decision) → option_map decision_view o ≡ given_decision rows → IfSome o (λ d. IsDecisionOf rows (decision_view d))

@@ -9,24 +9,15 @@ use Rattle.cedar_model.specs.Outcomes.{text_eq}
 use Rattle.cedar_model.specs.Failures.{Failure}
 use Rattle.cedar_model.specs.Policies as model
 use Rattle.cedar_model.specs.Authorizations.{Authorized}
+use Rattle.cedar_decisions.specs.Decisions.{decision_view}
 use Rattle.cedar_names.specs.declared.names.Loc.{Loc}
 use Rattle.cedar_layers.specs.declared.policies.policy.PolicyID.{PolicyID}
 use Rattle.cedar_layers.specs.Policies.{policy_id_text}
 use Rattle.cedar_values.specs.Errors.{error_loc}
 use Rattle.cedar_values.specs.Failures.{failure_of}
-use Rattle.cedar_responses.specs.declared.response.Decision.{Decision}
-use Rattle.cedar_responses.specs.declared.response.Decision.TheVariants as decisions
 use Rattle.cedar_responses.specs.declared.response.Response.{Response}
 use Rattle.cedar_responses.specs.declared.err.AuthorizationError.{AuthorizationError}
 use Rattle.cedar_responses.specs.declared.err.AuthorizationError.TheVariants.{PolicyEvaluationError}
-
-abbrev pub decision_view : Decision → model.Decision
-decision_view decisions.Allow = model.allow
-decision_view decisions.Deny = model.deny
-
-abbrev pub decision_text : Decision → Text
-decision_text decisions.Allow = codes "Allow"
-decision_text decisions.Deny = codes "Deny"
 
 -- a set of ids
 abbrev pub PolicyIDs : Type 0

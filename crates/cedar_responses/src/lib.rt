@@ -8,6 +8,7 @@ mod response;
 pub mod shared;
 mod sheet;
 
+pub use cedar_decisions::Decision;
 pub use err::AuthorizationError;
 pub use partial_response::{ErrorState, PartialResponse, ReportedIds, ReportedPolicies};
-pub use response::{Decision, Diagnostics, Response};
+pub use response::{Diagnostics, Response};

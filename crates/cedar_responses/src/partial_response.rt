@@ -4,7 +4,7 @@ ghost use Rattle.std.specs.Iterator.{IsFinite};
 ghost use Rattle.cedar_model.specs.Policies.{permit, forbid, allow, deny};
 ghost use Rattle.cedar_model.specs.Reports.{some_row, trues, residuals, given_decision};
 ghost use Rattle.cedar_responses.specs.Kept.{Keeps, Gives};
-ghost use Rattle.cedar_responses.specs.Responses.{decision_view};
+ghost use Rattle.cedar_decisions.specs.Decisions.{decision_view};
 ghost use Rattle.cedar_responses.specs.Rows.{rows_view};
 ghost use Rattle.cedar_responses.specs.Promises.{IsDecisionOf};
 
@@ -17,7 +17,7 @@ mod policies;
 
 use crate::beside::beside;
 use crate::err::AuthorizationError;
-use crate::response::Decision;
+use cedar_decisions::{Decision, decide};
 use cedar_expressions::Expr;
 use cedar_layers::policies::{Annotations, PolicyID};
 use cedar_requests::Request;
@@ -220,23 +220,4 @@ fn given<I: Iterator<Item = AuthorizationError> + Drop>(
     ensures { IfOk result (λ es. Gives I.next_gives errors es.items) }
 {
     Vec::from_iter(alloc, errors)
-}
-
-// The decision by whether there are such policies.
-fn decide(
-    true_permit: bool,
-    residual_permit: bool,
-    true_forbid: bool,
-    residual_forbid: bool,
-) -> Option<Decision>
-    ensures { option_map decision_view result ≡ cond true_forbid (Some deny) (cond (not (true_permit || residual_permit)) (Some deny) (cond residual_forbid None (cond true_permit (Some allow) None))) }
-{
-    match (true_forbid, true_permit, residual_permit, residual_forbid) {
-        (true, _, _, _) => Some(Decision::Deny),
-        (false, false, false, _) => Some(Decision::Deny),
-        (false, true, _, true) => None,
-        (false, false, true, true) => None,
-        (false, false, true, false) => None,
-        (false, true, _, false) => Some(Decision::Allow),
-    }
 }

@@ -1,22 +1,14 @@
 //! A decision, and what led to it.
 ghost use Rattle.std.specs.Prelude.{◌≡◌};
-ghost use Rattle.cedar_responses.specs.Responses.{has_id, response_view, decision_view, errors_view};
+ghost use Rattle.cedar_decisions.specs.Decisions.{decision_view};
+ghost use Rattle.cedar_responses.specs.Responses.{has_id, response_view, errors_view};
 
 mod copies;
-mod texts;
 
 use crate::err::AuthorizationError;
+use cedar_decisions::Decision;
 use cedar_layers::policies::PolicyID;
 use std::collections::HashSet;
-
-/// Whether the request is allowed.
-#[derive(Debug, Clone, Copy, PartialEq, Eq)]
-pub enum Decision {
-    /// Some permit is satisfied and no forbid is.
-    Allow,
-    /// Each other case.
-    Deny,
-}
 
 /// A decision with what led to it. Equality is that of the parts.
 #[derive(Debug, PartialEq, Eq, Drop)]

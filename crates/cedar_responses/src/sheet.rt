@@ -7,7 +7,7 @@ ghost use Rattle.cedar_values.specs.Failures.{failure_of};
 ghost use Rattle.cedar_responses.specs.Rows.{located};
 ghost use Rattle.cedar_responses.specs.Sheets.{sheet_view, nothing_noted, noted_also, outcome_view, placed_row};
 
-use crate::beside::beside;
+use crate::beside::{add_last, beside};
 use crate::err::AuthorizationError;
 use crate::partial_response::ErrorState;
 use cedar_expressions::Expr;
@@ -88,8 +88,8 @@ impl Sheet {
         ensures { OnOk result (sheet_view self.new ≡ noted_also (sheet_view self.old) (located (effect_view effect) (policy_id_text id) (annotations_view annotations.value) reported_true None) None) }
     {
         match effect {
-            Effect::Permit => self.true_permits.push((id, annotations))?,
-            Effect::Forbid => self.true_forbids.push((id, annotations))?,
+            Effect::Permit => add_last(&mut self.true_permits, (id, annotations))?,
+            Effect::Forbid => add_last(&mut self.true_forbids, (id, annotations))?,
         }
         Ok(())
     }
@@ -105,12 +105,14 @@ impl Sheet {
         ensures { OnOk result (sheet_view self.new ≡ noted_also (sheet_view self.old) (located (effect_view effect) (policy_id_text id) (annotations_view annotations.value) (reported_false false) None) None) }
     {
         match effect {
-            Effect::Permit => self
-                .false_permits
-                .push((id, (ErrorState::NoError, annotations)))?,
-            Effect::Forbid => self
-                .false_forbids
-                .push((id, (ErrorState::NoError, annotations)))?,
+            Effect::Permit => add_last(
+                &mut self.false_permits,
+                (id, (ErrorState::NoError, annotations)),
+            )?,
+            Effect::Forbid => add_last(
+                &mut self.false_forbids,
+                (id, (ErrorState::NoError, annotations)),
+            )?,
         }
         Ok(())
     }
@@ -127,8 +129,8 @@ impl Sheet {
         ensures { OnOk result (sheet_view self.new ≡ noted_also (sheet_view self.old) (located (effect_view effect) (policy_id_text id) (annotations_view annotations.value) (reported_residual (view residual.value)) (expr_loc residual.value)) None) }
     {
         match effect {
-            Effect::Permit => self.residual_permits.push((id, (residual, annotations)))?,
-            Effect::Forbid => self.residual_forbids.push((id, (residual, annotations)))?,
+            Effect::Permit => add_last(&mut self.residual_permits, (id, (residual, annotations)))?,
+            Effect::Forbid => add_last(&mut self.residual_forbids, (id, (residual, annotations)))?,
         }
         Ok(())
     }
@@ -145,14 +147,19 @@ impl Sheet {
         ensures { OnOk result (sheet_view self.new ≡ noted_also (sheet_view self.old) (located (effect_view effect) (policy_id_text id) (annotations_view annotations.value) (reported_false true) None) (Some (failure_of error))) }
     {
         let (error, erring) = beside(error, id.clone())?;
-        self.errors.push(AuthorizationError::PolicyEvaluationError { id: erring, error })?;
+        add_last(
+            &mut self.errors,
+            AuthorizationError::PolicyEvaluationError { id: erring, error },
+        )?;
         match effect {
-            Effect::Permit => self
-                .false_permits
-                .push((id, (ErrorState::Error, annotations)))?,
-            Effect::Forbid => self
-                .false_forbids
-                .push((id, (ErrorState::Error, annotations)))?,
+            Effect::Permit => add_last(
+                &mut self.false_permits,
+                (id, (ErrorState::Error, annotations)),
+            )?,
+            Effect::Forbid => add_last(
+                &mut self.false_forbids,
+                (id, (ErrorState::Error, annotations)),
+            )?,
         }
         Ok(())
     }

@@ -1,45 +1,67 @@
-//! What is answered to a row, as text, under the question that is asked of it: of policies, of what is known of them, and of the program of the
-//! built-in rows. All other questions are those of `cedar_answers` and `cedar_written`.
+//! What is answered to a row, as text, that is evaluated in the setting or reads what the setting holds.
 //!
-//! - Of the ids of policies: `decide LIMIT`, `decide-texts LIMIT` (the errors' own texts), `decide-copy LIMIT` (whether a copy
-//!   is equal), `evaluate LIMIT`, `partly-evaluate LIMIT`, `set`, `set-debug`, `policy` and `condition`;
-//! - of the ids of policies and the steps behind them: `chain LIMIT` (what is known after the last step, which is the same by `authorize_in_steps` and by
-//!   one `reauthorize` a step), `in-steps LIMIT` and `one-by-one LIMIT` (by the first, and by the second alone);
-//! - of the notes that a response is made of and the steps behind them: `made`, `made readers` and `made get ID`;
-//! - of a step: `context-with LIMIT` (the context of the setting with its values);
-//! - of the arguments of the program of the built-in rows, `run` and, where no function is stored, `run-without-functions`; of a row, `step-refused`;
-//!   of a number of writes, `failing-output memory` and `failing-output pipe`, the statuses where the writer fails after one less each.
-use crate::{judged, program, stepped};
-use cedar_notation::headed;
-use cedar_notation::settings::Setting;
-use cedar_notation::unanswered::Unanswered;
+//! - of the words of an expression: `value LIMIT`, `place LIMIT`, `elements LIMIT` and `error LIMIT` (what it evaluates to, where that or its error
+//!   stands, where each element of a set does, and the error's text; with no limit as many levels as it needs), `partial LIMIT`,
+//!   `partial-place LIMIT` and `residual LIMIT` (what it partly evaluates to, where that stands, and the words of what is left of it);
+//! - of the words of values and then an operator: `operator PLACE`; of the words of an error: `built-error PLACE`;
+//! - of the setting: `request` and `entity`;
+//! - of a number: `negations LIMIT`, what `true` evaluates to under so many.
+//!
+//! Questions on what words write alone are those of `written`.
+
+pub mod deep;
+pub mod described;
+pub mod evaluated;
+pub mod operated;
+pub mod stored;
+
+use crate::notation::settings::Setting;
+use crate::notation::unanswered::Unanswered;
 use std::alloc::Global;
 
-/// What is answered to these words, where the answer that is wanted is this one. The facts are those of the setting.
+/// The questions that are answered here.
+const QUESTIONS: [&str; 12] = [
+    "value",
+    "place",
+    "elements",
+    "error",
+    "partial",
+    "partial-place",
+    "residual",
+    "operator",
+    "built-error",
+    "request",
+    "entity",
+    "negations",
+];
+
+/// Whether the question is answered here.
+pub fn is_asked(kind: &str) -> bool {
+    for question in QUESTIONS {
+        if question == kind {
+            return true;
+        }
+    }
+    false
+}
+
+/// What is answered to these words, where the answer that is wanted is this one.
 pub fn answer(
     alloc: Global,
-    facts: &str,
     setting: &Setting<'_, '_>,
-    question: &str,
+    kind: &str,
+    argument: &str,
     words: &str,
     want: &str,
 ) -> Result<String, Unanswered> {
-    let (kind, argument) = headed(question);
     match kind {
-        "decide" | "decide-texts" | "decide-copy" | "evaluate" | "partly-evaluate" => {
-            judged::answer(alloc, facts, setting, kind, argument, words)
-        }
-        "set" | "set-debug" | "policy" | "condition" => judged::listed(alloc, facts, kind, words),
-        "chain" | "in-steps" | "one-by-one" | "made" | "context-with" => {
-            stepped::answer(alloc, facts, setting, kind, argument, words)
-        }
-        "run" | "run-without-functions" | "step-refused" | "failing-output" => {
-            program::answer(alloc, kind, argument, words)
-        }
-        _ => if cedar_answers::is_asked(kind) {
-            cedar_answers::answer(alloc, setting, kind, argument, words, want)
-        } else {
-            cedar_written::answer(alloc, setting.extensions, kind, argument, words, want)
-        },
+        "partial" | "partial-place" | "residual" => evaluated::partly(
+            alloc, setting, kind, argument, words, want,
+        ),
+        "operator" => operated::answer(alloc, argument, words),
+        "built-error" => operated::built_error(alloc, argument, words),
+        "request" | "entity" => stored::answer(alloc, setting, kind, words),
+        "negations" => deep::answer(alloc, setting, argument, words),
+        _ => evaluated::answer(alloc, setting, kind, argument, words),
     }
 }

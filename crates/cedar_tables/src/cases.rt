@@ -1,12 +1,12 @@
 //! Tables. A file has cases, with a line `case` between them; a case has facts, a line `rows`, and rows. A row has words, ` => ` and the answer
 //! that is wanted. A line `ask QUESTION` says what is asked of the rows below it; before the first one it is what expressions evaluate to. A line
-//! that begins with `#` is a title. The facts are those that `cedar_notation` reads, and `in FILE`: the facts of that file stand behind them.
-//! `answers` says which questions there are.
-use crate::answers::answer;
+//! that begins with `#` is a title. The facts are those that `notation` reads, and `in FILE`: the facts of that file stand behind them.
+//! `questions` says which there are.
 use crate::functions::tally;
-use cedar_notation::settings::Setting;
-use cedar_notation::unanswered::Unanswered;
-use cedar_notation::{fact, first_fact};
+use crate::notation::settings::Setting;
+use crate::notation::unanswered::Unanswered;
+use crate::notation::{fact, first_fact};
+use crate::questions::answer;
 use std::alloc::Global;
 use std::fs;
 use std::rc::RcStr;

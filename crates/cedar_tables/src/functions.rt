@@ -5,15 +5,15 @@ ghost use Rattle.cedar_extensions.specs.Outcomes.{ComesTo, is_lawful, abstracts}
 ghost use Rattle.cedar_built_in_rows.specs.Stored.{even_of, fail_of, ask_of, made_of};
 
 use crate::cases::{Tally, tally_of_rows};
+use crate::notation::settings::setting_of;
+use crate::notation::unanswered::Unanswered;
+use crate::notation::{both, fact, first_fact};
 use cedar_built_in_rows::functions::{ask, even, fail, made, plain_name};
 use cedar_extensions::{
     Extension, ExtensionFunction, ExtensionFunctionObject, ExtensionInitializationError,
     ExtensionOutputValue, Extensions,
 };
 use cedar_layers::expressions::{CallStyle, Name, Type, Value};
-use cedar_notation::settings::setting_of;
-use cedar_notation::unanswered::Unanswered;
-use cedar_notation::{both, fact, first_fact};
 use cedar_values::evaluator::err::EvaluationError;
 use std::alloc::{AllocError, Global};
 

@@ -1,14 +1,14 @@
 //! What policies decide, and what a policy holds.
-use cedar_answers::described::described;
+use crate::answers::described::described;
+use crate::notation::policies::{policies, policy, policy_set};
+use crate::notation::settings::Setting;
+use crate::notation::shown::{Place, is_equal, limit, or_fail, text_of};
+use crate::notation::unanswered::Unanswered;
 use cedar_authorizer::authorizer::{AuthorizationError, Authorizer, Response};
 use cedar_built_in_rows::lines::{decision_text, joined, reasons_text};
 use cedar_evaluator::evaluator::{EvaluationError, Evaluator};
 use cedar_layers::expressions::{Expr, ExprKind};
 use cedar_layers::policies::{Effect, Policy, PolicySet};
-use cedar_notation::policies::{policies, policy, policy_set};
-use cedar_notation::settings::Setting;
-use cedar_notation::shown::{Place, is_equal, limit, or_fail, text_of};
-use cedar_notation::unanswered::Unanswered;
 use either::Either;
 use std::alloc::{AllocError, Global};
 

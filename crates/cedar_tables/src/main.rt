@@ -6,12 +6,15 @@ mod answers;
 mod cases;
 mod functions;
 mod judged;
+mod notation;
 mod program;
+mod questions;
 mod stepped;
 mod steps;
+mod written;
 
+use crate::notation::unanswered::Unanswered;
 use cases::file_holds;
-use cedar_notation::unanswered::Unanswered;
 use std::env;
 use std::env::Env;
 use std::process::ExitCode;

@@ -1,4 +1,6 @@
 //! What the program of the built-in rows prints, and its statuses.
+use crate::notation::both;
+use crate::notation::unanswered::Unanswered;
 use cedar_authorizer::authorizer::Authorizer;
 use cedar_built_in_rows::lines::{LIMIT, in_one_step};
 use cedar_built_in_rows::rows::{Row, row_named};
@@ -8,8 +10,6 @@ use cedar_built_in_rows::{OUT_OF_MEMORY, run, run_with_even, stopped};
 use cedar_extensions::Extensions;
 use cedar_layers::expressions::Value;
 use cedar_layers::policies::PolicySet;
-use cedar_notation::both;
-use cedar_notation::unanswered::Unanswered;
 use std::alloc::{AllocError, Global};
 use std::collections::HashMap;
 use std::io;

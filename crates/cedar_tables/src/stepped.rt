@@ -1,7 +1,12 @@
 //! What is known of policies, and what becomes of that in steps.
+use crate::answers::described::kind;
 use crate::judged::effect_text;
+use crate::notation::headed;
+use crate::notation::policies::{policy_id, policy_set};
+use crate::notation::settings::Setting;
+use crate::notation::shown::{is_equal, limit, or_fail, told};
+use crate::notation::unanswered::Unanswered;
 use crate::steps::{Step, mapping, sheet, steps};
-use cedar_answers::described::kind;
 use cedar_authorizer::authorizer::{
     AuthorizationError, Authorizer, ConcretizationError, Decision, PartialResponse,
     ReauthorizationError, Reauthorize, ReportedIds, ReportedPolicies, Response,
@@ -9,11 +14,6 @@ use cedar_authorizer::authorizer::{
 use cedar_built_in_rows::lines::{decision_text, joined, reasons_text};
 use cedar_layers::expressions::Value;
 use cedar_layers::policies::{Entities, Policy, PolicyID, PolicySet};
-use cedar_notation::headed;
-use cedar_notation::policies::{policy_id, policy_set};
-use cedar_notation::settings::Setting;
-use cedar_notation::shown::{is_equal, limit, or_fail, told};
-use cedar_notation::unanswered::Unanswered;
 use cedar_requests::{Context, Request};
 use cedar_responses::shared::Sheet;
 use indexmap::IndexMap;

@@ -4,16 +4,16 @@
 //! - `then x L:1` is a step over the second store, of which each fact stands behind `then` in the setting.
 //! - `permit a true, permit b=note error, forbid c U:x` is what a response is made of: `a` is satisfied, `b` erred and has the annotation `note`, and
 //!   `c` has these words left.
+use crate::notation::errors::error;
+use crate::notation::expressions::expression;
+use crate::notation::leaves::text;
+use crate::notation::policies::{effect, policy_id};
+use crate::notation::settings::stored;
+use crate::notation::unanswered::Unanswered;
+use crate::notation::values::value;
+use crate::notation::{fact, headed, put};
 use cedar_layers::expressions::{Expr, Literal, Value};
 use cedar_layers::policies::{Annotations, Effect, Entities, Policy};
-use cedar_notation::errors::error;
-use cedar_notation::expressions::expression;
-use cedar_notation::leaves::text;
-use cedar_notation::policies::{effect, policy_id};
-use cedar_notation::settings::stored;
-use cedar_notation::unanswered::Unanswered;
-use cedar_notation::values::value;
-use cedar_notation::{fact, headed, put};
 use cedar_responses::shared::{Outcome, Sheet};
 use std::alloc::{AllocError, Global};
 use std::collections::HashMap;

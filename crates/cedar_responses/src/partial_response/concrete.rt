@@ -1,5 +1,5 @@
 //! A partial response made concrete.
-ghost use Rattle.std.specs.Prelude.{◌≡◌, ◌++◌, ◌&&◌, Some, Ok, not, cond, map, IfOk, OnOk};
+ghost use Rattle.std.specs.Prelude.{◌≡◌, [], ◌∷◌, ◌++◌, ◌&&◌, Some, Ok, not, cond, map, IfOk, OnOk};
 ghost use Rattle.cedar_model.specs.Outcomes.{has_text};
 ghost use Rattle.cedar_model.specs.Policies.{skip, allow, deny};
 ghost use Rattle.cedar_model.specs.Policies as model;
@@ -7,13 +7,16 @@ ghost use Rattle.cedar_model.specs.Reports.{given_decision, concretized};
 ghost use Rattle.cedar_layers.specs.Policies.{policy_id_text};
 ghost use Rattle.cedar_expressions.specs.View.{view, expr_loc};
 ghost use Rattle.cedar_model.specs.Failures.{residual_is_left};
-ghost use Rattle.cedar_responses.specs.Responses.{decision_view, error_view, errors_view, error_place, error_places, has_id, response_view};
+ghost use Rattle.cedar_decisions.specs.Decisions.{decision_view};
+ghost use Rattle.cedar_responses.specs.Responses.{error_view, errors_view, error_place, error_places, has_id, response_view};
 ghost use Rattle.cedar_responses.specs.Rows.{located_view, rows_view};
 ghost use Rattle.cedar_responses.specs.Concrete.{id_texts, errors_left, places_left, concrete_places};
 
 use super::PartialResponse;
+use crate::beside::{add_last, beside, both};
 use crate::err::AuthorizationError;
-use crate::response::{Decision, Diagnostics, Response};
+use crate::response::{Diagnostics, Response};
+use cedar_decisions::decide_concretely;
 use cedar_expressions::Expr;
 use cedar_layers::policies::{Annotations, PolicyID};
 use cedar_values::evaluator::err::EvaluationError;
@@ -37,14 +40,17 @@ impl PartialResponse {
         let may_forbid = self.may_forbid();
         let PartialResponse {
             satisfied_permits,
-            false_permits: _,
+            false_permits,
             residual_permits,
             satisfied_forbids,
-            false_forbids: _,
+            false_forbids,
             residual_forbids,
             errors,
-            request: _,
+            request,
         } = self;
+        drop(false_permits);
+        drop(false_forbids);
+        drop(request);
         let reason: Result<HashSet<PolicyID>, AllocError> = reasons(
             alloc,
             may_forbid,
@@ -85,19 +91,8 @@ fn diagnostics_of(
     ensures reason { IfOk result (λ d. reason ≡ Ok d.reason) }
     ensures errors { IfOk result (λ d. errors ≡ Ok d.errors) }
 {
-    let reason = reason?;
-    let errors = errors?;
+    let (reason, errors) = both(reason, errors)?;
     Ok(Diagnostics { reason, errors })
-}
-
-fn decide_concretely(has_true_permit: bool, has_true_forbid: bool) -> Decision
-    ensures { decision_view result ≡ cond (has_true_permit && not has_true_forbid) allow deny }
-{
-    if has_true_permit && !has_true_forbid {
-        Decision::Allow
-    } else {
-        Decision::Deny
-    }
 }
 
 // The ids of the satisfied forbids where a forbid is satisfied or may be, else of the satisfied permits.
@@ -110,8 +105,10 @@ fn reasons(
     ensures { IfOk result (λ s. has_id s ≡ (λ t. has_text t (cond may_forbid (id_texts forbids.entries) (id_texts permits.entries)))) }
 {
     if may_forbid {
+        drop(permits);
         ids_of(alloc, forbids)
     } else {
+        drop(forbids);
         ids_of(alloc, permits)
     }
 }
@@ -136,7 +133,10 @@ fn all_errors(
     ensures errors { IfOk result (λ es. errors_view es.items ≡ errors_left residual_forbids.entries ++ (errors_left residual_permits.entries ++ errors_view recorded.items)) }
 {
     let mut errors = Vec::new(alloc);
-    add_errors(&mut errors, residual_forbids)?;
+    let (residual_permits, ()) = beside(
+        residual_permits,
+        add_errors(&mut errors, residual_forbids),
+    )?;
     add_errors(&mut errors, residual_permits)?;
     errors.append(&mut recorded)?;
     Ok(errors)
@@ -150,10 +150,23 @@ fn add_errors(
     ensures errors { OnOk result (errors_view errors.new.items ≡ errors_view errors.old.items ++ errors_left entries.entries) }
 {
     'residuals: for (id, entry) in entries {
-        let error = non_value(id, &entry.0)?;
-        errors.push(error)?;
+        let added = add_error(errors, id, &entry.0);
+        drop(entry);
+        added?;
     }
     Ok(())
+}
+
+fn add_error(
+    errors: &mut Vec<AuthorizationError>,
+    id: PolicyID,
+    residual: &Expr,
+) -> Result<(), AllocError>
+    ensures place { OnOk result (error_places errors.new.items ≡ error_places errors.old.items ++ (expr_loc residual.now ∷ [])) }
+    ensures error { OnOk result (errors_view errors.new.items ≡ errors_view errors.old.items ++ ((policy_id_text id, residual_is_left (view residual.now)) ∷ [])) }
+{
+    let error = non_value(id, residual)?;
+    add_last(errors, error)
 }
 
 // The error that a residual is left, at the residual's location.

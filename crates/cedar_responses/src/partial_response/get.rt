@@ -8,6 +8,7 @@ ghost use Rattle.cedar_responses.specs.Readers.{made_view, made_of, first_at, in
 
 use super::made::{policy_of_residual, policy_of_truth};
 use super::{ErrorState, PartialResponse};
+use crate::beside::found;
 use cedar_expressions::Expr;
 use cedar_layers::policies::{Annotations, Effect, Policy, PolicyID};
 use indexmap::IndexMap;
@@ -66,13 +67,13 @@ fn get_of(
     ensures { IfOk result (λ o. option_map made_view o ≡ option_map made_of (first_at (policy_id_text id.now) (residual_rows (effect_view effect) residual.now.entries ++ (true_rows (effect_view effect) satisfied.now.entries ++ false_rows (effect_view effect) unsatisfied.now.entries)))) }
 {
     if let Some(entry) = residual.get(id) {
-        return Ok(Some(policy_of_residual(alloc, effect, &entry.0, id, &entry.1)?));
+        return found(policy_of_residual(alloc, effect, &entry.0, id, &entry.1));
     }
     if let Some(annotations) = satisfied.get(id) {
-        return Ok(Some(policy_of_truth(alloc, effect, true, id, annotations)?));
+        return found(policy_of_truth(alloc, effect, true, id, annotations));
     }
     if let Some(entry) = unsatisfied.get(id) {
-        return Ok(Some(policy_of_truth(alloc, effect, false, id, &entry.1)?));
+        return found(policy_of_truth(alloc, effect, false, id, &entry.1));
     }
     Ok(None)
 }

@@ -5,6 +5,7 @@ ghost use Rattle.cedar_expressions.specs.View.{view, expr_loc};
 ghost use Rattle.cedar_layers.specs.Policies.{effect_view, policy_id_text, annotations_view};
 ghost use Rattle.cedar_responses.specs.Readers.{made_view, made};
 
+use crate::beside::{both, in_rc};
 use cedar_expressions::Expr;
 use cedar_layers::policies::{Annotations, Effect, Policy, PolicyID};
 use cedar_names::Literal;
@@ -21,15 +22,10 @@ pub(super) fn policy_of_truth(
 ) -> Result<Policy, AllocError>
     ensures { IfOk result (λ p. made_view p ≡ made (effect_view effect) (policy_id_text id.now) (annotations_view annotations.now.value) (literal (bool_literal is_true)) None) }
 {
-    let clause = Rc::new(alloc, Expr::val(Literal::Bool(is_true)))?;
-    Policy::from_when_clause_annos(
-        alloc,
-        effect,
-        clause,
-        id.clone()?,
-        None,
-        annotations.clone()?,
-    )
+    let clause = in_rc(alloc, Expr::val(Literal::Bool(is_true)));
+    let named = both(id.clone(), annotations.clone());
+    let (clause, (id, annotations)) = both(clause, named)?;
+    Policy::from_when_clause_annos(alloc, effect, clause, id, None, annotations)
 }
 
 // The policy whose clause is this residual.
@@ -42,12 +38,8 @@ pub(super) fn policy_of_residual(
 ) -> Result<Policy, AllocError>
     ensures { IfOk result (λ p. made_view p ≡ made (effect_view effect) (policy_id_text id.now) (annotations_view annotations.now.value) (view residual.now.value) (expr_loc residual.now.value)) }
 {
-    Policy::from_when_clause_annos(
-        alloc,
-        effect,
-        residual.clone()?,
-        id.clone()?,
-        residual.source_loc().copied(),
-        annotations.clone()?,
-    )
+    let loc = residual.source_loc().copied();
+    let named = both(id.clone(), annotations.clone());
+    let (clause, (id, annotations)) = both(residual.clone(), named)?;
+    Policy::from_when_clause_annos(alloc, effect, clause, id, loc, annotations)
 }

@@ -1,8 +1,8 @@
 use Rattle.std.proofs.Common.{◌≡◌, refl, ap}
 use Rattle.cedar_model.proofs.Stability as stable
-use Rattle.cedar_responses.specs.declared.response.Decision.{Decision}
-use Rattle.cedar_responses.specs.declared.response.Decision.TheVariants.{Allow, Deny}
-use Rattle.cedar_responses.specs.Responses.{decision_view}
+use Rattle.cedar_decisions.specs.declared.decision.Decision.{Decision}
+use Rattle.cedar_decisions.specs.declared.decision.Decision.TheVariants.{Allow, Deny}
+use Rattle.cedar_decisions.specs.Decisions.{decision_view}
 use Rattle.cedar_authorizer.proofs.authorizer.laws.responses_are_stable.Goals as goal
 
 same_decision : (d e : Decision) → decision_view d ≡ decision_view e → d ≡ e

@@ -1,0 +1,6 @@
+-- What is made, as what is found.
+use Rattle.std.specs.Prelude.{Result, Ok, Err, Option, Some}
+
+abbrev pub found_in : {A E : Type 0} → Result A E → Result (Option A) E
+found_in (Ok x) = Ok (Some x)
+found_in (Err e) = Err e

@@ -1,0 +1,174 @@
+//! Reads what a line of a table says: expressions and values as words, policies, and the setting that rows are answered in; and shows what answers have
+//! in common.
+//!
+//! A text stands in a word as it is, but for `␣`, which stands for a space. A place is written as its ends, `1-2`.
+
+pub mod errors;
+pub mod expressions;
+pub mod leaves;
+pub mod policies;
+pub mod settings;
+pub mod shown;
+pub mod unanswered;
+pub mod values;
+
+use leaves::text;
+use std::alloc::{AllocError, Global};
+use std::collections::{BTreeMap, HashMap};
+use std::rc::RcStr;
+use unanswered::Unanswered;
+
+/// The fact of this keyword that the line states, if it states one.
+pub fn fact<'a>(line: &'a str, keyword: &str) -> Option<&'a str> {
+    match line.split_once(' ') {
+        Some((word, rest)) => if word == keyword { Some(rest) } else { None },
+        None => None,
+    }
+}
+
+/// The first fact of this keyword.
+pub fn first_fact<'a>(setting: &'a str, keyword: &str) -> Option<&'a str> {
+    for line in setting.lines() {
+        if let Some(rest) = fact(line, keyword) {
+            return Some(rest);
+        }
+    }
+    None
+}
+
+/// The first word, and the others.
+pub fn headed(text: &str) -> (&str, &str) {
+    match text.split_once(' ') {
+        Some((first, rest)) => (first, rest),
+        None => (text, ""),
+    }
+}
+
+/// The parts that were read and that no later word has taken, the latest one last.
+#[derive(Drop)]
+pub struct Parts<T: Drop> {
+    parts: Vec<T>,
+    lacks_one: bool,
+}
+
+impl<T: Drop> Parts<T> {
+    /// No parts.
+    pub fn new(alloc: Global) -> Parts<T> {
+        Parts {
+            parts: Vec::new(alloc),
+            lacks_one: false,
+        }
+    }
+
+    /// Puts the part behind the others.
+    pub fn push(&mut self, part: T) -> Result<(), AllocError> {
+        match self.parts.push(part) {
+            Ok(()) => Ok(()),
+            Err(_) => Err(AllocError),
+        }
+    }
+
+    /// Takes the latest part. Where there is none, it is the one that is given, and the words are not well made.
+    pub fn pop(&mut self, instead: T) -> T {
+        match self.parts.pop() {
+            Some(part) => part,
+            None => {
+                self.lacks_one = true;
+                instead
+            }
+        }
+    }
+
+    /// Takes the latest parts, so many, in their order.
+    pub fn last(&mut self, count: usize) -> Result<Vec<T>, AllocError> {
+        let length = self.parts.len();
+        if count > length {
+            self.lacks_one = true;
+        }
+        self.parts.split_off(length.saturating_sub(count))
+    }
+
+    /// Takes the latest parts, one for each of these keys, with their keys.
+    pub fn named(&mut self, alloc: Global, keys: &str) -> Result<Vec<(RcStr, T)>, AllocError> {
+        let mut pairs: Vec<(RcStr, T)> = Vec::new(alloc);
+        if keys.is_empty() {
+            return Ok(pairs);
+        }
+        for key in keys.rsplit(',') {
+            let key = text(alloc, key)?;
+            match self.parts.pop() {
+                Some(part) => pair(&mut pairs, key, part)?,
+                None => self.lacks_one = true,
+            }
+        }
+        Ok(pairs)
+    }
+
+    /// The parts, in their order.
+    pub fn all(self) -> Result<Vec<T>, Unanswered> {
+        if self.lacks_one {
+            Err(Unanswered::Unreadable("a part is missing"))
+        } else {
+            Ok(self.parts)
+        }
+    }
+
+    /// The only part.
+    pub fn only(self) -> Result<T, Unanswered> {
+        let mut parts = self.all()?;
+        match parts.pop() {
+            Some(part) => if parts.is_empty() {
+                Ok(part)
+            } else {
+                Err(Unanswered::Unreadable("more than one part is left"))
+            },
+            None => Err(Unanswered::Unreadable("no part is left")),
+        }
+    }
+}
+
+/// Both, or the first reason.
+pub fn both<A: Drop, B: Drop>(
+    first: Result<A, Unanswered>,
+    second: Result<B, Unanswered>,
+) -> Result<(A, B), Unanswered> {
+    let first = first?;
+    let second = second?;
+    Ok((first, second))
+}
+
+// What was made, or that memory was wanting.
+pub(crate) fn made<T: Drop>(part: Result<T, AllocError>) -> Result<T, Unanswered> {
+    Ok(part?)
+}
+
+/// Puts the part behind the others, under its key.
+pub fn pair<T: Drop>(pairs: &mut Vec<(RcStr, T)>, key: RcStr, part: T) -> Result<(), AllocError> {
+    match pairs.push((key, part)) {
+        Ok(()) => Ok(()),
+        Err(_) => Err(AllocError),
+    }
+}
+
+/// Puts the part into the map, under its key.
+pub fn put<T: Drop>(map: &mut HashMap<RcStr, T>, key: RcStr, part: T) -> Result<(), AllocError> {
+    match map.insert(key, part) {
+        Ok(_) => Ok(()),
+        Err(_) => Err(AllocError),
+    }
+}
+
+/// The map of these pairs.
+pub fn mapped<T: Drop>(
+    alloc: Global,
+    pairs: Vec<(RcStr, T)>,
+) -> Result<BTreeMap<RcStr, T>, AllocError> {
+    let mut map: BTreeMap<RcStr, T> = BTreeMap::new(alloc);
+    for (key, part) in pairs {
+        match map.insert(key, part) {
+            Ok(_) => {}
+            Err(_) => return Err(AllocError),
+        }
+    }
+    Ok(map)
+}

@@ -1,0 +1,77 @@
+//! Reads errors of evaluation: `TypeError Bool Long,String` has the type that was given and those that were expected, `WrongNumArguments f 2 1` the
+//! function, the count that it takes and the count that it was given, `FailedExtensionFunctionExecution f text` the extension and what it says.
+use crate::notation::leaves::{name, named_type, text};
+use crate::notation::unanswered::Unanswered;
+use crate::notation::{both, headed};
+use cedar_layers::expressions::{FirstRest, Type};
+use cedar_values::evaluator::err::EvaluationError;
+use cedar_values::evaluator::err::evaluation_errors::{
+    ExtensionFunctionExecutionError, TypeError, WrongNumArgumentsError,
+};
+use std::alloc::Global;
+
+/// The error that these words write, at no known place.
+pub fn error(alloc: Global, words: &str) -> Result<EvaluationError, Unanswered> {
+    let (kind, rest) = headed(words);
+    let (first, rest) = headed(rest);
+    match kind {
+        "TypeError" => type_error(alloc, first, rest),
+        "WrongNumArguments" => wrong_count(alloc, first, rest),
+        "FailedExtensionFunctionExecution" => failed_execution(alloc, first, rest),
+        _ => Err(Unanswered::Unreadable("no such error")),
+    }
+}
+
+fn type_error(alloc: Global, actual: &str, expected: &str) -> Result<EvaluationError, Unanswered> {
+    let (expected, actual) = both(types(alloc, expected), named_type(alloc, actual))?;
+    Ok(EvaluationError::from(TypeError {
+        expected,
+        actual,
+        source_loc: None,
+    }))
+}
+
+fn types(alloc: Global, written: &str) -> Result<FirstRest<Type>, Unanswered> {
+    let (first, others) = match written.split_once(',') {
+        Some((first, others)) => (first, Some(others)),
+        None => (written, None),
+    };
+    let mut rest: Vec<Type> = Vec::new(alloc);
+    if let Some(others) = others {
+        for other in others.split(',') {
+            rest.push(named_type(alloc, other)?)?;
+        }
+    }
+    Ok(FirstRest {
+        first: named_type(alloc, first)?,
+        rest,
+    })
+}
+
+fn wrong_count(alloc: Global, function: &str, counts: &str) -> Result<EvaluationError, Unanswered> {
+    let (expected, actual) = headed(counts);
+    let (expected, actual) = (expected.parse::<usize>()?, actual.parse::<usize>()?);
+    let function_name = name(alloc, function)?;
+    let error = WrongNumArgumentsError {
+        function_name,
+        expected,
+        actual,
+        source_loc: None,
+    };
+    Ok(EvaluationError::from(error))
+}
+
+fn failed_execution(
+    alloc: Global,
+    extension: &str,
+    says: &str,
+) -> Result<EvaluationError, Unanswered> {
+    let msg = String::from_str(alloc, text(alloc, says)?.as_str())?;
+    let extension_name = name(alloc, extension)?;
+    let error = ExtensionFunctionExecutionError {
+        extension_name,
+        msg,
+        source_loc: None,
+    };
+    Ok(EvaluationError::from(error))
+}

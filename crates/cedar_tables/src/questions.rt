@@ -1,0 +1,45 @@
+//! What is answered to a row, as text, under the question that is asked of it: of policies, of what is known of them, and of the program of the
+//! built-in rows. All other questions are those of `answers` and `written`.
+//!
+//! - Of the ids of policies: `decide LIMIT`, `decide-texts LIMIT` (the errors' own texts), `decide-copy LIMIT` (whether a copy
+//!   is equal), `evaluate LIMIT`, `partly-evaluate LIMIT`, `set`, `set-debug`, `policy` and `condition`;
+//! - of the ids of policies and the steps behind them: `chain LIMIT` (what is known after the last step, which is the same by `authorize_in_steps` and by
+//!   one `reauthorize` a step), `in-steps LIMIT` and `one-by-one LIMIT` (by the first, and by the second alone);
+//! - of the notes that a response is made of and the steps behind them: `made`, `made readers` and `made get ID`;
+//! - of a step: `context-with LIMIT` (the context of the setting with its values);
+//! - of the arguments of the program of the built-in rows, `run` and, where no function is stored, `run-without-functions`; of a row, `step-refused`;
+//!   of a number of writes, `failing-output memory` and `failing-output pipe`, the statuses where the writer fails after one less each.
+use crate::notation::headed;
+use crate::notation::settings::Setting;
+use crate::notation::unanswered::Unanswered;
+use crate::{judged, program, stepped};
+use std::alloc::Global;
+
+/// What is answered to these words, where the answer that is wanted is this one. The facts are those of the setting.
+pub fn answer(
+    alloc: Global,
+    facts: &str,
+    setting: &Setting<'_, '_>,
+    question: &str,
+    words: &str,
+    want: &str,
+) -> Result<String, Unanswered> {
+    let (kind, argument) = headed(question);
+    match kind {
+        "decide" | "decide-texts" | "decide-copy" | "evaluate" | "partly-evaluate" => {
+            judged::answer(alloc, facts, setting, kind, argument, words)
+        }
+        "set" | "set-debug" | "policy" | "condition" => judged::listed(alloc, facts, kind, words),
+        "chain" | "in-steps" | "one-by-one" | "made" | "context-with" => {
+            stepped::answer(alloc, facts, setting, kind, argument, words)
+        }
+        "run" | "run-without-functions" | "step-refused" | "failing-output" => {
+            program::answer(alloc, kind, argument, words)
+        }
+        _ => if crate::answers::is_asked(kind) {
+            crate::answers::answer(alloc, setting, kind, argument, words, want)
+        } else {
+            crate::written::answer(alloc, setting.extensions, kind, argument, words, want)
+        },
+    }
+}

@@ -1,0 +1,52 @@
+//! What is answered to a row, as text, of what its words write, where no policy and no store has a part in it: expressions, values, leaves, contexts
+//! and restricted expressions.
+//!
+//! - of the words of an expression: `text`, `cut BOUND` (`all` for no bound), `copy`, `shape`, and `substitute x WORDS`, which is answered by the
+//!   words of an expression;
+//! - of the words of a value: `value-text`, `value-cut BOUND`, `value-expression`, `value-type`, `value-copy`, `value-elements`, `part-text`,
+//!   `part-cut BOUND`, `part-copy` and `part-expression`;
+//! - of two expressions with ` ~ ` between them: `equal`; of the keys of a record: `keys`; of two values: `order`; of a leaf: `leaf`;
+//! - of the words of a restricted expression: `restricted value LIMIT`, `restricted kind LIMIT`, `restricted place LIMIT` (what it partly evaluates to),
+//!   `restricted wholly LIMIT`, `restricted type`, `restricted read`, and `restricted shape` of two with ` ~ ` between them; of the words of any
+//!   expression: `restricted text`, `restricted borrowed` and `restricted refused` (the feature and the part that may not stand there); of those of a
+//!   residual: `restricted residual` and `restricted residual-text`; of keys: `restricted pairs`;
+//! - of the pairs of a context: `context pairs LIMIT`, `context record LIMIT` and `context converted LIMIT`; of words: `context expression LIMIT`.
+
+pub mod contexts;
+pub mod expressions;
+pub mod leaves;
+pub mod restricted;
+pub mod values;
+
+use crate::notation::headed;
+use crate::notation::unanswered::Unanswered;
+use cedar_extensions::Extensions;
+use std::alloc::Global;
+
+/// What is answered to these words, where the answer that is wanted is this one.
+pub fn answer(
+    alloc: Global,
+    extensions: &Extensions<'_>,
+    kind: &str,
+    argument: &str,
+    words: &str,
+    want: &str,
+) -> Result<String, Unanswered> {
+    match kind {
+        "restricted" => {
+            let (kind, limit) = headed(argument);
+            restricted::answer(alloc, extensions, kind, limit, words, want)
+        }
+        "context" => {
+            let (kind, limit) = headed(argument);
+            contexts::answer(alloc, extensions, kind, limit, words)
+        }
+        "substitute" => expressions::substituted(alloc, argument, words, want),
+        "leaf" => leaves::answer(alloc, words),
+        _ => if kind.starts_with("value-") || kind.starts_with("part-") {
+            values::answer(alloc, kind, argument, words)
+        } else {
+            expressions::answer(alloc, kind, argument, words)
+        },
+    }
+}
