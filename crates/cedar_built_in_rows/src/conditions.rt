@@ -1,5 +1,5 @@
 //! The conditions of the policies.
-use crate::entities::{literal, name};
+use crate::entities::{both, literal, name};
 use cedar_layers::expressions::{BinaryOp, Expr, Literal, Unknown, Var};
 use std::alloc::{AllocError, Global};
 use std::rc::RcStr;
@@ -34,8 +34,10 @@ pub fn attribute_is(alloc: Global, name: &str, number: i64) -> Result<Expr, Allo
 
 /// `principal == NS::"a" && resource == NS::"b"`
 pub fn of_a_and_b(alloc: Global) -> Result<Expr, AllocError> {
-    let is_a = variable_is(alloc, Var::Principal, "a")?;
-    let is_b = variable_is(alloc, Var::Resource, "b")?;
+    let (is_a, is_b) = both(
+        variable_is(alloc, Var::Principal, "a"),
+        variable_is(alloc, Var::Resource, "b"),
+    )?;
     Expr::and(alloc, is_a, is_b)
 }
 
@@ -47,15 +49,13 @@ fn variable_is(alloc: Global, variable: Var, id: &str) -> Result<Expr, AllocErro
 
 /// `context.c && context.d == 10`
 pub fn of_c_and_d(alloc: Global) -> Result<Expr, AllocError> {
-    let c = attribute(alloc, "c")?;
-    let d_is_ten = attribute_is(alloc, "d", 10)?;
+    let (c, d_is_ten) = both(attribute(alloc, "c"), attribute_is(alloc, "d", 10))?;
     Expr::and(alloc, c, d_is_ten)
 }
 
 /// `unknown("x") && (1 + "a")`
 pub fn of_wrong_sum(alloc: Global) -> Result<Expr, AllocError> {
-    let x = unknown(alloc, "x")?;
-    let sum = wrong_sum(alloc)?;
+    let (x, sum) = both(unknown(alloc, "x"), wrong_sum(alloc))?;
     Expr::and(alloc, x, sum)
 }
 
@@ -67,7 +67,7 @@ fn wrong_sum(alloc: Global) -> Result<Expr, AllocError> {
 
 /// `even(context.n)`
 pub fn of_even_number(alloc: Global) -> Result<Expr, AllocError> {
-    let even = name(alloc, "even")?;
     let number = vec![in alloc; attribute(alloc, "n")?]?;
+    let even = name(alloc, "even")?;
     Expr::call_extension_fn(alloc, even, number)
 }

@@ -6,6 +6,7 @@ ghost use Rattle.cedar_built_in_rows.specs.Ids.{ids_of, id_one, ids_to_two, ids_
 use crate::conditions::{
     attribute, attribute_is, of_a_and_b, of_c_and_d, of_even_number, of_wrong_sum, truth, unknown,
 };
+use crate::entities::both;
 use crate::rows::Row;
 use cedar_layers::expressions::{Expr, SlotEnv};
 use cedar_layers::policies::{Annotations, Effect, Policy, PolicyID};
@@ -148,8 +149,8 @@ fn when_c_and_d(alloc: Global, effect: Effect, id: &str) -> Result<Policy, Alloc
 fn when(alloc: Global, effect: Effect, id: &str, condition: Expr) -> Result<Policy, AllocError>
     ensures { IfOk result (λ p. (policy_view p).id ≡ id.now) }
 {
-    let id = PolicyID::from_string(RcStr::from_str(alloc, id)?);
-    policy(alloc, effect, id, condition)
+    let (id, condition) = both(RcStr::from_str(alloc, id), Ok(condition))?;
+    policy(alloc, effect, PolicyID::from_string(id), condition)
 }
 
 // A policy with no constraint on its scope.

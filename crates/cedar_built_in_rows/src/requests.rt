@@ -1,5 +1,5 @@
 //! The requests of the rows.
-use crate::entities::entity;
+use crate::entities::{both, entity};
 use crate::lines::LIMIT;
 use crate::rows::Row;
 use crate::stop::{Stop, context_refused};
@@ -44,12 +44,14 @@ fn in_unknown_context(alloc: Global, attribute: &str, name: &str) -> Result<Requ
 }
 
 fn in_context(alloc: Global, context: Context) -> Result<Request, AllocError> {
-    Ok(Request::new(
-        (entity(alloc, "User", "alice")?, None),
-        (entity(alloc, "Action", "view")?, None),
-        (entity(alloc, "Photo", "sunset")?, None),
-        context,
-    ))
+    let ((user, action), (photo, context)) = both(
+        both(
+            entity(alloc, "User", "alice"),
+            entity(alloc, "Action", "view"),
+        ),
+        both(entity(alloc, "Photo", "sunset"), Ok(context)),
+    )?;
+    Ok(Request::new((user, None), (action, None), (photo, None), context))
 }
 
 // The principal is `NS::"a"`. The action, the resource, and `c` and `d` of the context are not known.
@@ -64,8 +66,9 @@ fn of_a_alone(alloc: Global) -> Result<Request, Stop> {
 }
 
 fn of_a_in_context(alloc: Global, context: Context) -> Result<Request, AllocError> {
+    let (a, context) = both(entity(alloc, "NS", "a"), Ok(context))?;
     Ok(Request::new_with_unknowns(
-        EntityUIDEntry::known(entity(alloc, "NS", "a")?, None),
+        EntityUIDEntry::known(a, None),
         EntityUIDEntry::unknown(),
         EntityUIDEntry::unknown(),
         Some(context),

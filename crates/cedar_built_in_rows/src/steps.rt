@@ -12,7 +12,7 @@ pub fn truth_of(
     is_true: bool,
 ) -> Result<HashMap<RcStr, Value>, AllocError> {
     let mut map: HashMap<RcStr, Value> = HashMap::new(alloc);
-    map.insert(RcStr::from_str(alloc, name)?, Value::from(is_true))?;
+    put(alloc, &mut map, name, Value::from(is_true))?;
     Ok(map)
 }
 
@@ -23,7 +23,7 @@ pub fn number_of(
     number: i64,
 ) -> Result<HashMap<RcStr, Value>, AllocError> {
     let mut map: HashMap<RcStr, Value> = HashMap::new(alloc);
-    map.insert(RcStr::from_str(alloc, name)?, Value::from(number))?;
+    put(alloc, &mut map, name, Value::from(number))?;
     Ok(map)
 }
 
@@ -31,13 +31,24 @@ pub fn number_of(
 pub fn resource_is_b(alloc: Global) -> Result<HashMap<RcStr, Value>, AllocError> {
     let mut map: HashMap<RcStr, Value> = HashMap::new(alloc);
     let b = Value::from(literal(alloc, "NS", "b")?);
-    map.insert(RcStr::from_str(alloc, "resource")?, b)?;
+    put(alloc, &mut map, "resource", b)?;
     Ok(map)
 }
 
 /// `c` is true, and `d` is 10.
 pub fn c_and_d(alloc: Global) -> Result<HashMap<RcStr, Value>, AllocError> {
     let mut map = truth_of(alloc, "c", true)?;
-    map.insert(RcStr::from_str(alloc, "d")?, Value::from(10))?;
+    put(alloc, &mut map, "d", Value::from(10))?;
     Ok(map)
+}
+
+// Puts the value into the map, under this name.
+fn put<V: Drop>(
+    alloc: Global,
+    map: &mut HashMap<RcStr, V>,
+    name: &str,
+    value: V,
+) -> Result<(), AllocError> {
+    map.insert(RcStr::from_str(alloc, name)?, value)?;
+    Ok(())
 }

@@ -10,6 +10,7 @@ ghost use Rattle.cedar_evaluation.specs.Tasks.{Gives, IsOrWant};
 ghost use Rattle.cedar_evaluation.specs.Booleans.{part_bool};
 ghost use Rattle.cedar_evaluation.specs.Elements.{IsBoxed};
 
+use crate::boxed::boxed;
 use crate::failed::Failed;
 use crate::frame::{Next, Part};
 use crate::stopped::Stopped;
@@ -131,7 +132,7 @@ fn residual_at(alloc: Global, whole: &Part, part: Box<PartialValue>) -> Next
     ensures answer { Gives (expr_loc whole.now.value) result (answers (partial_view part.value)) }
     ensures boxed { IsBoxed part.value result }
 {
-    match Box::new(
+    match boxed(
         alloc,
         Box::into_inner(part).with_maybe_source_loc(loc_of(whole)),
     ) {

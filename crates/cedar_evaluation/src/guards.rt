@@ -15,6 +15,7 @@ ghost use Rattle.cedar_evaluation.specs.Tasks.{Begins, GoesOn};
 ghost use Rattle.cedar_evaluation.specs.declared.frame.Pending.TheVariants as pendings;
 
 use crate::answers::{answered, both, known_bool, no_bool, or_want};
+use crate::boxed::boxed_with;
 use crate::evaluation::Evaluation;
 use crate::frame::{FirstBranch, Frame, Next, Part, Pending, SecondBranch, Task};
 use crate::stopped::Stopped;
@@ -92,7 +93,11 @@ impl<'e, 'g, 'f> Evaluation<'e, 'g, 'f> {
         ensures { (r : RequestPart) (k : ℕ) → IfOk result (GoesOn (setting_of r self.now) (calls_in self.now) k (expr_loc whole.value) (pendings.Guard then_expr else_expr) (answers (partial_view guard.value))) }
     {
         match Box::into_inner(guard) {
-            PartialValue::Value(value) => Ok(no_bool(alloc, &whole, &value)),
+            PartialValue::Value(value) => {
+                let next = no_bool(alloc, &whole, &value);
+                drop(value);
+                Ok(next)
+            }
             PartialValue::Residual(guard) => {
                 self.first_branch(alloc, whole, guard, then_expr, else_expr)
             }
@@ -112,13 +117,14 @@ impl<'e, 'g, 'f> Evaluation<'e, 'g, 'f> {
     ) -> Result<Next, AllocError>
         ensures { (r : RequestPart) (k : ℕ) → IfOk result (GoesOn (setting_of r self.now) (calls_in self.now) k (expr_loc whole.value) (pendings.Guard then_expr else_expr) (answers_residual (residual_term guard))) }
     {
-        let part = then_expr.clone()?;
+        let part: Result<Rc<Expr>, AllocError> = then_expr.clone();
         let first = FirstBranch {
             guard,
             then_expr,
             else_expr,
         };
-        let task = Task::Other(Pending::Then(Box::new(alloc, first)?));
+        let (first, part) = boxed_with(alloc, first, part)?;
+        let task = Task::Other(Pending::Then(first));
         Ok(Step::Wait(Frame { whole, task }, part))
     }
 
@@ -138,13 +144,14 @@ impl<'e, 'g, 'f> Evaluation<'e, 'g, 'f> {
             then_expr: _,
             else_expr,
         } = Box::into_inner(first);
-        let part = else_expr.clone()?;
+        let part: Result<Rc<Expr>, AllocError> = else_expr.clone();
         let second = SecondBranch {
             guard,
             then_expr,
             else_expr,
         };
-        let task = Task::Other(Pending::Else(Box::new(alloc, second)?));
+        let (second, part) = boxed_with(alloc, second, part)?;
+        let task = Task::Other(Pending::Else(second));
         Ok(Step::Wait(Frame { whole, task }, part))
     }
 

@@ -1,4 +1,5 @@
 //! Why an evaluation stopped, small enough to be handed on from frame to frame.
+use crate::boxed::boxed;
 use crate::failed::{Failed, is_limit, is_want};
 use cedar_names::Loc;
 use cedar_values::evaluator::err::{EvaluationError, evaluation_errors};
@@ -63,7 +64,7 @@ impl Stopped {
     fn kept(alloc: Global, failed: Failed, loc: Option<Loc>) -> Stopped
         ensures { stopped_failure result ≢ out_of_memory → stopped_failure result ≡ failure_of failed.error }
     {
-        match Box::new(alloc, failed.within(loc)) {
+        match boxed(alloc, failed.within(loc)) {
             Ok(failed) => Stopped::Failed(failed),
             Err(_) => Stopped::Memory,
         }

@@ -425,8 +425,8 @@ impl<T: Teller> TellerAbove<T> {
         'pairs: for (key, part) in pairs.iter() {
             match self.below.tell(within, alloc, part) {
                 Some(value) => {
-                    keys.push(key.clone()?)?;
                     values.push(standing_at(value, part))?;
+                    keys.push(key.clone()?)?;
                 }
                 None => return Ok(None),
             }

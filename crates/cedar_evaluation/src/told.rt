@@ -146,7 +146,11 @@ pub(crate) fn bool_value(value: Option<Value>) -> Option<bool>
     ensures { IsBoolOf value result }
 {
     match value {
-        Some(value) => bool_in(&value),
+        Some(value) => {
+            let found = bool_in(&value);
+            drop(value);
+            found
+        }
         None => None,
     }
 }
@@ -180,7 +184,13 @@ pub(crate) fn value_in(answer: Result<PartialValue, EvaluationError>) -> Option<
 {
     match answer {
         Ok(PartialValue::Value(value)) => Some(value),
-        Ok(PartialValue::Residual(_)) => None,
-        Err(_) => None,
+        Ok(PartialValue::Residual(residual)) => {
+            drop(residual);
+            None
+        }
+        Err(error) => {
+            drop(error);
+            None
+        }
     }
 }

@@ -3,12 +3,12 @@ ghost use Rattle.std.specs.Prelude.{◌≡◌, true};
 ghost use Rattle.cedar_extensions.specs.Outcomes.{ComesTo, is_lawful, abstracts};
 ghost use Rattle.cedar_functions.specs.Stored.{even_of};
 
-use crate::functions::even;
-use crate::names::{both, name, one, print_answer, text, two};
+use crate::functions::{even, stored};
+use crate::names::{both, name, one, print_answer, print_line, text, two};
 use cedar_extensions::{
     Extension, ExtensionFunction, ExtensionFunctionObject, ExtensionOutputValue, Extensions,
 };
-use cedar_layers::expressions::{CallStyle, Type, Value};
+use cedar_layers::expressions::{Type, Value};
 use cedar_values::evaluator::err::EvaluationError;
 use std::alloc::Global;
 use std::io;
@@ -16,6 +16,7 @@ use std::io::Write;
 
 /// Prints what `even` and the built-in `unknown` answer.
 pub fn print<W: Write>(alloc: Global, out: &mut W) -> io::Result<()> {
+    let takes = one(alloc, Ok(Type::Long))?;
     let func: ExtensionFunctionObject = Box::new(
         alloc,
         move |args: &[Value]| -> Result<ExtensionOutputValue, EvaluationError>
@@ -23,95 +24,51 @@ pub fn print<W: Write>(alloc: Global, out: &mut W) -> io::Result<()> {
             ensures lawful { is_lawful result ≡ true }
         { even(alloc, args) },
     )?;
-    let (name, takes) = both(name(alloc, "even"), one(alloc, Type::Long))?;
-    let even = ExtensionFunction::new(
-        name,
-        CallStyle::FunctionStyle,
-        func,
-        Some(Type::Bool),
-        takes,
-    );
-    print_with(alloc, even, out)
-}
-
-fn print_with<W: Write>(alloc: Global, even: ExtensionFunction, out: &mut W) -> io::Result<()> {
-    let (even, (unknown, title)) = both(
-        Ok(even),
-        both(ExtensionFunction::unknown(alloc), name(alloc, "numbers")),
-    )?;
-    let (functions, title) = both(two(alloc, even, unknown), Ok(title))?;
-    let all = one(alloc, Extension::new(title, functions, Vec::new(alloc)))?;
-    let printed = print_calls(alloc, &all, out);
-    drop(all);
-    printed
-}
-
-fn print_calls<W: Write>(alloc: Global, all: &[Extension], out: &mut W) -> io::Result<()> {
-    match Extensions::specific_extensions(alloc, all) {
-        Ok(extensions) => {
-            print_evens(alloc, &extensions, out)?;
-            print_unknowns(alloc, &extensions, out)
-        }
-        Err(error) => writeln!(out, "{error}"),
+    let even = stored(alloc, "even", func, Ok(Type::Bool), takes);
+    let functions = two(alloc, even, ExtensionFunction::unknown(alloc));
+    let (name, functions) = both(name(alloc, "numbers"), functions)?;
+    let numbers = Extension::new(name, functions, Vec::new(alloc));
+    let all = one(alloc, Ok(numbers))?;
+    match Extensions::specific_extensions(alloc, &all) {
+        Ok(extensions) => print_calls(alloc, &extensions, out),
+        Err(error) => print_line(error, out),
     }
 }
 
-fn print_evens<W: Write>(
-    alloc: Global,
-    extensions: &Extensions<'_>,
-    out: &mut W,
-) -> io::Result<()> {
-    print_of_one(alloc, "even(4)", extensions, "even", Value::from(4), out)?;
-    print_of_one(alloc, "even(5)", extensions, "even", Value::from(5), out)?;
-    let text = text(alloc, "a")?;
-    print_of_one(alloc, "even(\"a\")", extensions, "even", text, out)?;
-    let args = [Value::from(4), Value::from(5)];
-    print_of(alloc, "even(4, 5)", extensions, "even", args, out)?;
-    print_of_one(alloc, "odd(4)", extensions, "odd", Value::from(4), out)
-}
-
-fn print_unknowns<W: Write>(
+fn print_calls<W: Write>(
     alloc: Global,
     extensions: &Extensions<'_>,
     out: &mut W,
 ) -> io::Result<()> {
     let text = text(alloc, "a")?;
-    print_of_one(alloc, "unknown(\"a\")", extensions, "unknown", text, out)?;
-    print_of_one(
-        alloc,
-        "unknown(4)",
-        extensions,
-        "unknown",
-        Value::from(4),
-        out,
-    )
-}
-
-fn print_of_one<W: Write>(
-    alloc: Global,
-    call: &str,
-    extensions: &Extensions<'_>,
-    function: &str,
-    arg: Value,
-    out: &mut W,
-) -> io::Result<()> {
-    let args = [arg];
-    let printed = print_call(alloc, call, extensions, function, &args, out);
-    drop(args);
+    let values = [Value::from(4), Value::from(5), text];
+    let printed = print_calls_on(alloc, extensions, &values, out);
+    drop(values);
     printed
 }
 
-fn print_of<W: Write>(
+// Calls on 4, on 5 and on a text.
+fn print_calls_on<W: Write>(
     alloc: Global,
-    call: &str,
     extensions: &Extensions<'_>,
-    function: &str,
-    args: [Value; 2],
+    values: &[Value; 3],
     out: &mut W,
 ) -> io::Result<()> {
-    let printed = print_call(alloc, call, extensions, function, &args, out);
-    drop(args);
-    printed
+    let values = &values[..];
+    let (four, five, text, numbers) = (&values[..1], &values[1..2], &values[2..], &values[..2]);
+    let calls = [
+        ("even(4)", "even", four),
+        ("even(5)", "even", five),
+        ("even(\"a\")", "even", text),
+        ("even(4, 5)", "even", numbers),
+        ("odd(4)", "odd", four),
+        ("unknown(\"a\")", "unknown", text),
+        ("unknown(4)", "unknown", four),
+    ];
+    for (call, function, args) in calls {
+        print_call(alloc, call, extensions, function, args, out)?;
+    }
+    Ok(())
 }
 
 // `CALL: ANSWER`

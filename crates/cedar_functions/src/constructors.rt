@@ -3,13 +3,11 @@ ghost use Rattle.std.specs.Prelude.{◌≡◌, true};
 ghost use Rattle.cedar_extensions.specs.Outcomes.{ComesTo, is_lawful, abstracts};
 ghost use Rattle.cedar_functions.specs.Stored.{made_of};
 
-use crate::functions::made;
-use crate::names::{both, name, one, two, type_t};
+use crate::functions::{made, stored};
+use crate::names::{both, name, one, print_line, two, type_t};
 use cedar_extensions::util::{CollectError, collect_no_duplicates};
-use cedar_extensions::{
-    Extension, ExtensionFunction, ExtensionFunctionObject, ExtensionOutputValue, Extensions,
-};
-use cedar_layers::expressions::{CallStyle, Type, Value};
+use cedar_extensions::{Extension, ExtensionFunctionObject, ExtensionOutputValue, Extensions};
+use cedar_layers::expressions::{Type, Value};
 use cedar_values::evaluator::err::EvaluationError;
 use std::alloc::Global;
 use std::io;
@@ -24,7 +22,7 @@ pub fn print_all<W: Write>(alloc: Global, out: &mut W) -> io::Result<()> {
 
 // Beside `make`, which takes a text, a function of this name in another extension, which takes an argument of this type.
 fn print<W: Write>(alloc: Global, second: &str, takes: Type, out: &mut W) -> io::Result<()> {
-    let (texts, others) = both(one(alloc, Type::String), one(alloc, takes))?;
+    let (texts, takes) = both(one(alloc, Ok(Type::String)), one(alloc, Ok(takes)))?;
     let first: ExtensionFunctionObject = Box::new(
         alloc,
         move |args: &[Value]| -> Result<ExtensionOutputValue, EvaluationError>
@@ -39,33 +37,16 @@ fn print<W: Write>(alloc: Global, second: &str, takes: Type, out: &mut W) -> io:
             ensures lawful { is_lawful result ≡ true }
         { made(alloc, args, 2) },
     )?;
-    let style = CallStyle::FunctionStyle;
-    let ((name_of_first, t), (name_of_last, u)) = both(
-        both(name(alloc, "make"), type_t(alloc)),
-        both(name(alloc, second), type_t(alloc)),
-    )?;
-    let make = ExtensionFunction::new(name_of_first, style, first, Some(t), texts);
-    let other = ExtensionFunction::new(name_of_last, style, last, Some(u), others);
-    print_with(alloc, second, make, other, out)
-}
-
-fn print_with<W: Write>(
-    alloc: Global,
-    second: &str,
-    make: ExtensionFunction,
-    other: ExtensionFunction,
-    out: &mut W,
-) -> io::Result<()> {
+    let make = one(alloc, stored(alloc, "make", first, type_t(alloc), texts));
+    let other = one(alloc, stored(alloc, second, last, type_t(alloc), takes));
     let ((makes, make), (others, other)) = both(
-        both(name(alloc, "makes"), one(alloc, make)),
-        both(name(alloc, "others"), one(alloc, other)),
+        both(name(alloc, "makes"), make),
+        both(name(alloc, "others"), other),
     )?;
     let makes = Extension::new(makes, make, Vec::new(alloc));
     let others = Extension::new(others, other, Vec::new(alloc));
-    let all = two(alloc, makes, others)?;
-    let printed = print_together(alloc, second, &all, out);
-    drop(all);
-    printed
+    let all = two(alloc, Ok(makes), Ok(others))?;
+    print_together(alloc, second, &all, out)
 }
 
 fn print_together<W: Write>(
@@ -74,18 +55,19 @@ fn print_together<W: Write>(
     all: &[Extension],
     out: &mut W,
 ) -> io::Result<()> {
+    write!(out, "make and {second}: ")?;
     match Extensions::specific_extensions(alloc, all) {
-        Ok(_) => writeln!(out, "make and {second}: accepted"),
-        Err(error) => writeln!(out, "make and {second}: {error}"),
+        Ok(_) => print_line("accepted", out),
+        Err(error) => print_line(error, out),
     }
 }
 
 /// Prints which key of some pairs comes again.
 pub fn print_pairs<W: Write>(alloc: Global, out: &mut W) -> io::Result<()> {
-    let pairs = vec![in alloc; ("a", 1u8), ("b", 2), ("a", 3)]?;
+    let pairs = [("a", 1u8), ("b", 2), ("a", 3)];
     match collect_no_duplicates(alloc, pairs.into_iter()) {
         Ok(map) => writeln!(out, "{} pairs", map.len()),
         Err(CollectError::Duplicate(key)) => writeln!(out, "{key} comes again"),
-        Err(CollectError::Memory(_)) => writeln!(out, "out of memory"),
+        Err(CollectError::Memory(_)) => print_line("out of memory", out),
     }
 }

@@ -2,9 +2,9 @@
 ghost use Rattle.std.specs.Prelude.{◌≡◌, IfOk};
 ghost use Rattle.cedar_names.specs.Names.{name_text};
 
-use cedar_layers::expressions::{Name, PartialValue, Type, Value};
-use cedar_values::evaluator::err::EvaluationError;
+use cedar_layers::expressions::{Name, Type, Value};
 use std::alloc::{AllocError, Global};
+use std::fmt::Display;
 use std::io;
 use std::io::Write;
 use std::rc::RcStr;
@@ -21,15 +21,21 @@ pub fn text(alloc: Global, text: &str) -> Result<Value, AllocError> {
     Ok(Value::from(RcStr::from_str(alloc, text)?))
 }
 
-/// A list of this alone.
-pub fn one<T: Drop>(alloc: Global, item: T) -> Result<Vec<T>, AllocError> {
+/// A list of this alone, or its error.
+pub fn one<T: Drop>(alloc: Global, item: Result<T, AllocError>) -> Result<Vec<T>, AllocError> {
+    let item = item?;
     let mut list = Vec::with_capacity(alloc, 1)?;
     list.push(item)?;
     Ok(list)
 }
 
-/// A list of these two.
-pub fn two<T: Drop>(alloc: Global, first: T, second: T) -> Result<Vec<T>, AllocError> {
+/// A list of these two, or the first error.
+pub fn two<T: Drop>(
+    alloc: Global,
+    first: Result<T, AllocError>,
+    second: Result<T, AllocError>,
+) -> Result<Vec<T>, AllocError> {
+    let (first, second) = both(first, second)?;
     let mut list = Vec::with_capacity(alloc, 2)?;
     list.push(first)?;
     list.push(second)?;
@@ -54,41 +60,18 @@ pub fn type_t(alloc: Global) -> Result<Type, AllocError> {
 }
 
 /// `CALL: ANSWER`
-pub fn print_answer<W: Write>(
+pub fn print_answer<T: Display + Drop, E: Display + Drop, W: Write>(
     call: &str,
-    answer: Result<PartialValue, EvaluationError>,
+    answer: Result<T, E>,
     out: &mut W,
 ) -> io::Result<()> {
     match answer {
-        Ok(value) => {
-            let printed = writeln!(out, "{call}: {value}");
-            drop(value);
-            printed
-        }
-        Err(error) => {
-            let printed = writeln!(out, "{call}: {error}");
-            drop(error);
-            printed
-        }
+        Ok(value) => writeln!(out, "{call}: {value}"),
+        Err(error) => writeln!(out, "{call}: {error}"),
     }
 }
 
-/// `COMPARISON: ANSWER`
-pub fn print_value<W: Write>(
-    comparison: &str,
-    answer: Result<Value, EvaluationError>,
-    out: &mut W,
-) -> io::Result<()> {
-    match answer {
-        Ok(value) => {
-            let printed = writeln!(out, "{comparison}: {value}");
-            drop(value);
-            printed
-        }
-        Err(error) => {
-            let printed = writeln!(out, "{comparison}: {error}");
-            drop(error);
-            printed
-        }
-    }
+/// Prints this as a line.
+pub fn print_line<T: Display + Drop, W: Write>(line: T, out: &mut W) -> io::Result<()> {
+    writeln!(out, "{line}")
 }

@@ -1,7 +1,7 @@
 -- A map's look-up and its keys beside the fields that its values are seen as.
 use Rattle.std.proofs.Math.Seq.{take-append_seam}
 use Rattle.std.proofs.lemmas.List.{take_all, length-map, map-append, append-nil}
-use Rattle.std.proofs.Common.{◌≡◌, ◌≤◌, ℕ, List, [], ◌∷◌, ◌++◌, length, take, map, append_assoc, Option, Some, None, option_map, cond, Bool, true, false, refl, sym, ap, ◌∙◌}
+use Rattle.std.proofs.Common.{◌≡◌, ◌≤◌, ℕ, List, [], ◌∷◌, ◌++◌, length, take, map, append_assoc, Option, Some, None, option_map, option_copied, is_some, Bor, cond, Bool, true, false, refl, sym, ap, ◌∙◌}
 use Rattle.std.proofs.lemmas.Map.Text.{is_eq-slice_cmp}
 use Rattle.std.specs.Ordering.{nat_cmp}
 use Rattle.std.specs.Cmp.Lexicographic.{slice_cmp}
@@ -68,3 +68,14 @@ unfolding value_or_failure
 missing_value name es o failure is none =
     let e : represented_at name (whats_at es) ≡ None = sym (whats-lookup name es) ∙ ap (option_map (λ (p : Placed). p.what)) (sym is ∙ none) in
     ap (λ r. value_or_failure r failure) e
+
+module _ {A B : Type 0} (f : A → B) where
+  is_some-map : (o : Option A) → is_some (option_map f o) ≡ is_some o
+  is_some-map None = refl
+  is_some-map (Some x) = refl
+
+module _ {A B : Type 0} (f : A → B) where
+  -- whether a look-up finds something
+  pub is_some-found : (r : Option (Bor A)) (o : Option B) → option_map f (option_copied r) ≡ o → is_some r ≡ is_some o
+  is_some-found r o is =
+      sym (is_some-map (λ (x : Bor A). x.now) r) ∙ sym (is_some-map f (option_copied r)) ∙ ap is_some is

@@ -25,10 +25,18 @@ pub(crate) fn negated(
 ) -> Result<Value, EvaluationError>
     ensures { Answers result (unary_answer neg_operator arg.what) }
 {
-    let n = get_as_long(alloc, &arg)?;
-    match n.checked_neg() {
-        Some(m) => Ok(long_value(m)),
-        None => Err(unary_overflow(arg, loc)),
+    match get_as_long(alloc, &arg) {
+        Ok(n) => match n.checked_neg() {
+            Some(m) => {
+                drop(arg);
+                Ok(long_value(m))
+            }
+            None => Err(unary_overflow(arg, loc)),
+        },
+        Err(error) => {
+            drop(arg);
+            Err(error)
+        }
     }
 }
 
@@ -45,11 +53,24 @@ pub(crate) fn arithmetic(
     requires { is_arithmetic (binary_view op) ≡ true }
     ensures { Answers result (arithmetic_answer (binary_view op) (arithmetic_of (binary_view op)) a.what b.what) }
 {
-    let m = get_as_long(alloc, &a)?;
-    let n = get_as_long(alloc, &b)?;
-    match checked(op, m, n) {
-        Some(k) => Ok(long_value(k)),
-        None => Err(overflow(op, a, b, loc)),
+    match get_as_long(alloc, &a) {
+        Ok(m) => match get_as_long(alloc, &b) {
+            Ok(n) => match checked(op, m, n) {
+                Some(k) => {
+                    drop((a, b));
+                    Ok(long_value(k))
+                }
+                None => Err(overflow(op, a, b, loc)),
+            },
+            Err(error) => {
+                drop((a, b));
+                Err(error)
+            }
+        },
+        Err(error) => {
+            drop((a, b));
+            Err(error)
+        }
     }
 }
 

@@ -1,5 +1,5 @@
 //! Residuals: an operator around what is not known. None stands at a location.
-ghost use Rattle.std.specs.Prelude.{◌≡◌, ◌||◌, ◌∷◌, ◌++◌, true, IfOk};
+ghost use Rattle.std.specs.Prelude.{◌≡◌, ◌||◌, ◌∷◌, ◌++◌, true, Ok, IfOk};
 ghost use Rattle.std.specs.Rc.{rc_str_bytes};
 ghost use Rattle.cedar_model.specs.Terms.{binary, get_attribute, has_attribute, extended_has};
 ghost use Rattle.cedar_model.specs.Shapes.{has_unknown};
@@ -44,7 +44,7 @@ pub fn residual_attribute(
 ) -> Result<PartialValue, EvaluationError>
     ensures { AnswersWith result (answers_residual (get_attribute (residual_term part) (rc_str_bytes attr.now))) }
 {
-    let attr = attr.clone()?;
+    let (part, attr) = beside(part, attr.clone())?;
     let expr = Expr::get_attr(alloc, part.into_expr(), attr)?;
     Ok(PartialValue::Residual(ResidualExpr::new(expr)))
 }
@@ -57,9 +57,18 @@ pub fn residual_has(
 ) -> Result<PartialValue, EvaluationError>
     ensures { AnswersWith result (answers_residual (has_attribute (residual_term part) (rc_str_bytes attr.now))) }
 {
-    let attr = attr.clone()?;
+    let (part, attr) = beside(part, attr.clone())?;
     let expr = Expr::has_attr(alloc, part.into_expr(), attr)?;
     Ok(PartialValue::Residual(ResidualExpr::new(expr)))
+}
+
+// What is held, and the answer beside it.
+fn beside<H: Drop, T: Drop>(held: H, answer: Result<T, AllocError>) -> Result<(H, T), AllocError>
+    ensures held { IfOk result (λ p. p.0 ≡ held) }
+    ensures answer { IfOk result (λ p. answer ≡ Ok p.1) }
+{
+    let answer = answer?;
+    Ok((held, answer))
 }
 
 /// `part has first.other..`, at no location. Refuses only for want of memory.

@@ -4,6 +4,7 @@ use Rattle.cedar_model.specs.Terms.{Text, Term, get_attribute, Fields}
 use Rattle.cedar_model.specs.Shapes.{is_projectable}
 use Rattle.cedar_model.specs.Failures as model
 use Rattle.cedar_model.specs.Failures.{out_of_memory, value, residual, Answer, answers, fails, answers_residual}
+use Rattle.cedar_model.specs.Failures.{FailureKind, of_meaning, of_residual, of_limit, of_memory}
 use Rattle.cedar_model.specs.Settings.{Setting}
 use Rattle.cedar_model.specs.Operators.{attribute_answer, term_at, field_names, key_is_missing}
 use Rattle.cedar_model.specs.Rules.{MayAnswer, Best, kept, handed_up, fields_of_record}
@@ -63,3 +64,10 @@ best_view (Err e) = handed_up (failure_of e)
 -- a call keeps or hands up this, unless it finds no memory
 abbrev pub IsBest : Result Expr EvaluationError → Best → Type 0
 IsBest r b = best_view r ≢ handed_up out_of_memory → best_view r ≡ b
+
+-- whether an error of this kind is handed up
+unfoldable pub is_handed_up : FailureKind → Bool
+is_handed_up (of_meaning k) = false
+is_handed_up of_residual = false
+is_handed_up of_limit = true
+is_handed_up of_memory = true

@@ -152,7 +152,11 @@ pub(crate) fn into_expr(alloc: Global, part: PartialValue) -> Result<Expr, Alloc
     ensures { IfOk result (λ e. view e ≡ part_expression (partial_view part)) }
 {
     match part {
-        PartialValue::Value(value) => Ok(value.to_expr(alloc)?),
+        PartialValue::Value(value) => {
+            let expr = value.to_expr(alloc);
+            drop(value);
+            expr
+        }
         PartialValue::Residual(residual) => Ok(residual.into_expr()),
     }
 }

@@ -1,5 +1,5 @@
 //! The right side of `&&` and `||`, and best effort.
-ghost use Rattle.std.specs.Prelude.{true, false};
+ghost use Rattle.std.specs.Prelude.{◌≡◌, true, false};
 ghost use Rattle.cedar_model.specs.Terms.{both, either, if_then_else, literal, bool_literal};
 ghost use Rattle.cedar_model.specs.Values.{abstract_value};
 ghost use Rattle.cedar_model.specs.Outcomes.{bool_of};
@@ -10,7 +10,7 @@ ghost use Rattle.cedar_expressions.specs.View.{view};
 ghost use Rattle.cedar_data.specs.Residuals.{partial_view, residual_term};
 ghost use Rattle.cedar_values.specs.Answers.{partial_answer, AnswersWith};
 ghost use Rattle.cedar_values.specs.Failures.{failure_of};
-ghost use Rattle.cedar_partial_operators.specs.Parts.{IsBest};
+ghost use Rattle.cedar_partial_operators.specs.Parts.{IsBest, is_handed_up};
 
 use crate::binary::into_expr;
 use crate::residuals::{false_or_residual, true_and_residual};
@@ -27,7 +27,11 @@ pub fn true_and(alloc: Global, part: PartialValue) -> Result<PartialValue, Evalu
     ensures { AnswersWith result (joined (both (literal (bool_literal true))) (answers (partial_view part))) }
 {
     match part {
-        PartialValue::Value(value) => as_bool(alloc, &value),
+        PartialValue::Value(value) => {
+            let answer = as_bool(alloc, &value);
+            drop(value);
+            answer
+        }
         PartialValue::Residual(residual) => true_and_residual(alloc, residual),
     }
 }
@@ -39,7 +43,11 @@ pub fn false_or(alloc: Global, part: PartialValue) -> Result<PartialValue, Evalu
     ensures { AnswersWith result (joined (either (literal (bool_literal false))) (answers (partial_view part))) }
 {
     match part {
-        PartialValue::Value(value) => as_bool(alloc, &value),
+        PartialValue::Value(value) => {
+            let answer = as_bool(alloc, &value);
+            drop(value);
+            answer
+        }
         PartialValue::Residual(residual) => false_or_residual(alloc, residual),
     }
 }
@@ -113,23 +121,36 @@ pub fn best(
 }
 
 // The original expression, or an error that is handed up.
-#[tactic(auto, using(crate::proofs::KeptErrors::lookups_keep, crate::proofs::KeptErrors::overflows_keep), unfolding(cedar_model::specs::Rules::best_of_kind, cedar_model::specs::Failures::failure_kind))]
+#[tactic(auto, using(crate::proofs::KeptErrors::keeps, crate::proofs::KeptErrors::hands_up))]
 fn best_of_error(error: EvaluationError, original: &Expr) -> Result<Expr, EvaluationError>
     ensures { IsBest result (best_of_kind (failure_kind (failure_of error)) (failure_of error) (view original.now)) }
 {
+    if is_handed_up(&error) {
+        Err(error)
+    } else {
+        drop(error);
+        kept(original)
+    }
+}
+
+// Whether the error is handed up: the recursion limit, or want of memory.
+#[tactic(auto, using(crate::proofs::KeptErrors::lookups_stay, crate::proofs::KeptErrors::overflows_stay), unfolding(crate::specs::Parts::is_handed_up, cedar_model::specs::Failures::failure_kind))]
+fn is_handed_up(error: &EvaluationError) -> bool
+    ensures { result ≡ is_handed_up (failure_kind (failure_of error.now)) }
+{
     match error {
-        EvaluationError::EntityDoesNotExist(_) => kept(original),
-        EvaluationError::EntityAttrDoesNotExist(_) => kept(original),
-        EvaluationError::RecordAttrDoesNotExist(_) => kept(original),
-        EvaluationError::FailedExtensionFunctionLookup(_) => kept(original),
-        EvaluationError::TypeError(_) => kept(original),
-        EvaluationError::WrongNumArguments(_) => kept(original),
-        EvaluationError::IntegerOverflow(_) => kept(original),
-        EvaluationError::UnlinkedSlot(_) => kept(original),
-        EvaluationError::FailedExtensionFunctionExecution(_) => kept(original),
-        EvaluationError::NonValue(_) => kept(original),
-        EvaluationError::RecursionLimit(limit) => Err(EvaluationError::RecursionLimit(limit)),
-        EvaluationError::Memory(want) => Err(EvaluationError::Memory(want)),
+        EvaluationError::EntityDoesNotExist(_) => false,
+        EvaluationError::EntityAttrDoesNotExist(_) => false,
+        EvaluationError::RecordAttrDoesNotExist(_) => false,
+        EvaluationError::FailedExtensionFunctionLookup(_) => false,
+        EvaluationError::TypeError(_) => false,
+        EvaluationError::WrongNumArguments(_) => false,
+        EvaluationError::IntegerOverflow(_) => false,
+        EvaluationError::UnlinkedSlot(_) => false,
+        EvaluationError::FailedExtensionFunctionExecution(_) => false,
+        EvaluationError::NonValue(_) => false,
+        EvaluationError::RecursionLimit(_) => true,
+        EvaluationError::Memory(_) => true,
     }
 }
 

@@ -83,7 +83,7 @@ impl EntityUIDEntry {
         ensures place { IfOk result (λ p. partial_loc p ≡ entry_loc self.now) }
     {
         let entry = self.clone()?;
-        Ok(entry.into_part(alloc, var)?)
+        entry.into_part(alloc, var)
     }
 
     /// What `evaluate` answers; the entity is moved there.
@@ -94,8 +94,8 @@ impl EntityUIDEntry {
         ensures place { IfOk result (λ p. partial_loc p ≡ entry_loc self) }
     {
         match self {
-            EntityUIDEntry::Known { euid, loc } => Ok(known_part(alloc, euid, loc)?),
-            EntityUIDEntry::Unknown { ty, loc } => Ok(unknown_part(alloc, var, ty, loc)?),
+            EntityUIDEntry::Known { euid, loc } => known_part(alloc, euid, loc),
+            EntityUIDEntry::Unknown { ty, loc } => unknown_part(alloc, var, ty, loc),
         }
     }
 }

@@ -48,7 +48,9 @@ impl<'x, 'f> Machine for Restricted<'x, 'f> {
     ghost at_want = { Err want_error };
 
     fn start(&self, alloc: Global, part: Expr, _levels: usize) -> NextPart {
-        self.first(alloc, &part)
+        let step = self.first(alloc, &part);
+        drop(part);
+        step
     }
 
     fn resume(

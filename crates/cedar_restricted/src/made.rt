@@ -120,7 +120,7 @@ fn record_value(alloc: Global, keys: Vec<RcStr>, values: Vec<Value>) -> Result<V
     ensures { IfOk result
         (λ v. v.what ≡ record_represented (represented_fields_of (under (texts_of keys.items) (whats values.items)))) }
 {
-    let fields = values_under(alloc, keys, values)?;
+    let fields = map_under(alloc, keys, values)?;
     Ok(Value::record(alloc, fields, None)?)
 }
 
@@ -131,28 +131,17 @@ fn record_expr(alloc: Global, keys: Vec<RcStr>, mixed: Mixed) -> Result<Expr, Al
         (λ e. view e ≡ Terms.record_of (fields_named (texts_of keys.items) (terms_view mixed.exprs.items))) }
     ensures unknown { IfOk result (λ e. has_unknown (view e) ≡ true) }
 {
-    let fields = exprs_under(alloc, keys, mixed.into_exprs())?;
+    let fields = map_under(alloc, keys, mixed.into_exprs())?;
     Ok(Expr::record_map(alloc, fields)?)
 }
 
 // The map of the values under the keys, in turn.
-fn values_under(
+fn map_under<V: Drop>(
     alloc: Global,
     keys: Vec<RcStr>,
-    values: Vec<Value>,
-) -> Result<BTreeMap<RcStr, Value>, AllocError>
+    values: Vec<V>,
+) -> Result<BTreeMap<RcStr, V>, AllocError>
     ensures { IfOk result (λ m. IsFromIterResult key_order (zip keys.items values.items) m) }
 {
     keys.into_iter().zip(values).collect(alloc)
-}
-
-// The map of the expressions under the keys, in turn.
-fn exprs_under(
-    alloc: Global,
-    keys: Vec<RcStr>,
-    exprs: Vec<Expr>,
-) -> Result<BTreeMap<RcStr, Expr>, AllocError>
-    ensures { IfOk result (λ m. IsFromIterResult key_order (zip keys.items exprs.items) m) }
-{
-    keys.into_iter().zip(exprs).collect(alloc)
 }

@@ -30,7 +30,6 @@ impl<'x, 'f> Restricted<'x, 'f> {
     ghost use Rattle.cedar_restricted.specs.Elements.{SetLeads, StepStands};
 
     // Looks at an expression: a literal is its value, an unknown is left, and the others have parts.
-    #[tactic(auto, using(cedar_expressions::proofs::Levels::levels, cedar_expressions::proofs::NodeLevels::nodes, crate::specs::Laws::below_any))]
     pub(crate) fn first(&self, alloc: Global, e: &Expr) -> NextPart
         ensures right { (k : ℕ) → Leads (extensions_view self.now.extensions.now)
             (calls_of self.now.extensions.now) k e.now result }

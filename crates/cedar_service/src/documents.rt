@@ -1,5 +1,5 @@
 //! The store: the users with their roles, and the documents.
-use crate::names::{entity, text_value, uid};
+use crate::names::{entity, put, text_value, uid};
 use cedar_layers::expressions::{EntityUID, Value};
 use cedar_layers::policies::{Entities, Entity};
 use std::alloc::{AllocError, Global};
@@ -43,7 +43,7 @@ fn plan(alloc: Global) -> Result<Entity, AllocError> {
 // The public handbook.
 fn handbook(alloc: Global) -> Result<Entity, AllocError> {
     let mut attributes = described(alloc, "The handbook", 80, "alice")?;
-    attributes.insert(RcStr::from_str(alloc, "public")?, Value::from(true))?;
+    put(alloc, &mut attributes, "public", Ok(Value::from(true)))?;
     document(alloc, "handbook", attributes, BTreeMap::new(alloc))
 }
 
@@ -51,10 +51,7 @@ fn handbook(alloc: Global) -> Result<Entity, AllocError> {
 fn deed(alloc: Global) -> Result<Entity, AllocError> {
     let attributes = described(alloc, "The deed", 2, "bob")?;
     let mut tags = BTreeMap::new(alloc);
-    tags.insert(
-        RcStr::from_str(alloc, "sealed")?,
-        text_value(alloc, "by court")?,
-    )?;
+    put(alloc, &mut tags, "sealed", text_value(alloc, "by court"))?;
     document(alloc, "deed", attributes, tags)
 }
 
@@ -84,9 +81,9 @@ fn described(
     owner: &str,
 ) -> Result<BTreeMap<RcStr, Value>, AllocError> {
     let mut attributes: BTreeMap<RcStr, Value> = BTreeMap::new(alloc);
-    attributes.insert(RcStr::from_str(alloc, "title")?, text_value(alloc, title)?)?;
-    attributes.insert(RcStr::from_str(alloc, "pages")?, Value::from(pages))?;
+    put(alloc, &mut attributes, "title", text_value(alloc, title))?;
+    put(alloc, &mut attributes, "pages", Ok(Value::from(pages)))?;
     let owner = Value::from(entity(alloc, "User", owner)?);
-    attributes.insert(RcStr::from_str(alloc, "owner")?, owner)?;
+    put(alloc, &mut attributes, "owner", Ok(owner))?;
     Ok(attributes)
 }

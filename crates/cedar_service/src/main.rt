@@ -19,6 +19,7 @@ use cedar_extensions::{
     Extension, ExtensionFunction, ExtensionFunctionObject, ExtensionOutputValue, Extensions,
 };
 use cedar_layers::expressions::{CallStyle, Type, Value};
+use cedar_layers::policies::{Entities, PolicySet};
 use cedar_values::evaluator::err::EvaluationError;
 use hours::is_open;
 use names::name;
@@ -84,12 +85,35 @@ fn print_with<W: Write>(
     out: &mut W,
 ) -> Result<(), Stop> {
     let entities = documents::stored(alloc)?;
+    let printed = print_stored(alloc, &entities, extensions, out);
+    drop(entities);
+    printed
+}
+
+fn print_stored<W: Write>(
+    alloc: Global,
+    entities: &Entities,
+    extensions: &Extensions<'_>,
+    out: &mut W,
+) -> Result<(), Stop> {
     let policies = policies::policies(alloc)?;
+    let printed = print_lines(alloc, entities, &policies, extensions, out);
+    drop(policies);
+    printed
+}
+
+fn print_lines<W: Write>(
+    alloc: Global,
+    entities: &Entities,
+    policies: &PolicySet,
+    extensions: &Extensions<'_>,
+    out: &mut W,
+) -> Result<(), Stop> {
     for id in documents::DOCUMENTS {
-        report::print_document(alloc, &entities, id, out)?;
+        report::print_document(alloc, entities, id, out)?;
     }
     for asked in &requests::ASKED {
-        report::print_request(alloc, asked, &policies, &entities, extensions, out)?;
+        report::print_request(alloc, asked, policies, entities, extensions, out)?;
     }
     Ok(())
 }

@@ -1,6 +1,7 @@
 //! Names, entities and texts.
 use cedar_layers::expressions::{EntityType, EntityUID, Expr, Literal, Name, Value};
 use std::alloc::{AllocError, Global};
+use std::collections::BTreeMap;
 use std::rc::{Rc, RcStr};
 
 /// The name of this text.
@@ -32,4 +33,26 @@ pub fn text_expr(alloc: Global, text: &str) -> Result<Expr, AllocError> {
 /// A text, as a value.
 pub fn text_value(alloc: Global, text: &str) -> Result<Value, AllocError> {
     Ok(Value::from(RcStr::from_str(alloc, text)?))
+}
+
+/// Both, or the first error.
+pub fn both<A: Drop, B: Drop>(
+    first: Result<A, AllocError>,
+    second: Result<B, AllocError>,
+) -> Result<(A, B), AllocError> {
+    let first = first?;
+    let second = second?;
+    Ok((first, second))
+}
+
+/// Puts the value into the map, under this name.
+pub fn put<V: Drop>(
+    alloc: Global,
+    map: &mut BTreeMap<RcStr, V>,
+    name: &str,
+    value: Result<V, AllocError>,
+) -> Result<(), AllocError> {
+    let value = value?;
+    map.insert(RcStr::from_str(alloc, name)?, value)?;
+    Ok(())
 }

@@ -1,5 +1,5 @@
 //! The policies.
-use crate::names::{entity_expr, name, text_expr};
+use crate::names::{both, entity_expr, name, text_expr};
 use crate::stop::Stop;
 use cedar_layers::expressions::{BinaryOp, Expr, Literal, SlotEnv, Var};
 use cedar_layers::policies::{Annotations, Effect, Policy, PolicyID, PolicySet};
@@ -76,16 +76,6 @@ fn policy_id(alloc: Global, id: &str) -> Result<PolicyID, AllocError> {
     Ok(PolicyID::from_string(RcStr::from_str(alloc, id)?))
 }
 
-// Both, or the first error.
-fn both<A: Drop, B: Drop>(
-    first: Result<A, AllocError>,
-    second: Result<B, AllocError>,
-) -> Result<(A, B), AllocError> {
-    let first = first?;
-    let second = second?;
-    Ok((first, second))
-}
-
 // true
 fn any() -> Expr {
     Expr::val(Literal::Bool(true))
@@ -111,8 +101,8 @@ fn is_sealed(alloc: Global) -> Result<Expr, AllocError> {
 
 // isOpen(context.hour)
 fn is_open(alloc: Global) -> Result<Expr, AllocError> {
-    let name = name(alloc, "isOpen")?;
     let hours = vec![in alloc; attribute(alloc, Var::Context, "hour")?]?;
+    let name = name(alloc, "isOpen")?;
     Expr::call_extension_fn(alloc, name, hours)
 }
 

@@ -23,9 +23,14 @@ pub fn print_document<W: Write>(
     out: &mut W,
 ) -> Result<(), Stop> {
     let uid = uid(alloc, "Document", id)?;
-    match entities.entity(alloc, &uid)? {
+    let found = entities.entity(alloc, &uid);
+    drop(uid);
+    match found? {
         Dereference::Data(document) => print_parts(id, document, out),
-        Dereference::Residual(_) => Ok(()),
+        Dereference::Residual(unknown) => {
+            drop(unknown);
+            Ok(())
+        }
         Dereference::NoSuchEntity => Ok(()),
     }
 }
@@ -67,11 +72,15 @@ pub fn print_request<W: Write>(
     match asked.user {
         Some(user) => {
             let response = decide(alloc, asked, policies, entities, &authorizer)?;
-            print_response(alloc, user, asked, &response, out)
+            let printed = print_response(alloc, user, asked, &response, out);
+            drop(response);
+            printed
         }
         None => {
             let response = partly_decide(alloc, asked, policies, entities, &authorizer)?;
-            print_partial_response(alloc, asked, &response, out)
+            let printed = print_partial_response(alloc, asked, &response, out);
+            drop(response);
+            printed
         }
     }
 }

@@ -1,5 +1,5 @@
 //! The requests.
-use crate::names::{name, uid};
+use crate::names::{both, name, put, uid};
 use cedar_evaluator::request::{Context, EntityUIDEntry, Request};
 use cedar_layers::expressions::{EntityType, Value};
 use std::alloc::{AllocError, Global};
@@ -73,11 +73,18 @@ pub static ASKED: [Asked; 8] = [
 impl Asked {
     /// The request.
     pub fn request(&self, alloc: Global) -> Result<Request, AllocError> {
+        let ((user, action), (document, context)) = both(
+            both(self.principal(alloc), uid(alloc, "Action", self.action)),
+            both(
+                uid(alloc, "Document", self.document),
+                context(alloc, self.hour),
+            ),
+        )?;
         Ok(Request::new_with_unknowns(
-            self.principal(alloc)?,
-            EntityUIDEntry::known(uid(alloc, "Action", self.action)?, None),
-            EntityUIDEntry::known(uid(alloc, "Document", self.document)?, None),
-            Some(context(alloc, self.hour)?),
+            user,
+            EntityUIDEntry::known(action, None),
+            EntityUIDEntry::known(document, None),
+            Some(context),
         ))
     }
 
@@ -96,6 +103,6 @@ impl Asked {
 // {"hour": hour}
 fn context(alloc: Global, hour: i64) -> Result<Context, AllocError> {
     let mut pairs: BTreeMap<RcStr, Value> = BTreeMap::new(alloc);
-    pairs.insert(RcStr::from_str(alloc, "hour")?, Value::from(hour))?;
+    put(alloc, &mut pairs, "hour", Ok(Value::from(hour)))?;
     Ok(Context::from_values(alloc, pairs))
 }

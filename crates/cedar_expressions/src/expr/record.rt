@@ -57,11 +57,12 @@ fn put_new(
     ensures refused { IfErr result (IsRefusalOf (repeated_key (keys_view fields.old.entries) (rc_str_bytes key)) (codes "in record literal")) }
 {
     if fields.contains_key(&key) {
+        drop(part);
         return Err(ExpressionConstructionError::DuplicateKey {
             key,
             context: "in record literal",
         });
     }
-    fields.insert(key, part)?;
+    drop(fields.insert(key, part)?);
     Ok(())
 }

@@ -73,7 +73,11 @@ impl Context {
         ensures low { height (record_of_pairs (pairs_in pairs.items)) ≤ limit → IfErr result (λ e. ¬ (IsAtLimit e)) }
     {
         match RestrictedExpr::record(alloc, pairs) {
-            Ok(record) => of_record(alloc, record.as_borrowed(), extensions, limit),
+            Ok(record) => {
+                let context = of_record(alloc, record.as_borrowed(), extensions, limit);
+                drop(record);
+                context
+            }
             Err(error) => Err(ContextCreationError::from(error.with_context("in context"))),
         }
     }
@@ -187,8 +191,9 @@ fn pairs_of(residual: ResidualExpr) -> Result<ResidualPairs, AllocError>
     ensures { IfOk result (λ r. record_of (residual_fields r) ≡ residual_term residual) }
 {
     let expr = residual.into_expr();
-    let shared = shared_pairs(&expr)?;
+    let shared = shared_pairs(&expr);
     drop(expr);
+    let shared = shared?;
     Ok(ResidualPairs::new(Rc::unwrap_or_clone(shared)?))
 }
 

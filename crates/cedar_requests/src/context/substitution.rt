@@ -54,7 +54,9 @@ impl Context {
             ContextPairs::Values(_) => Ok(self),
             ContextPairs::Residual(residual) => {
                 let record = record_with(alloc, residual, map)?;
-                evaluated(alloc, record.as_borrowed(), extensions, limit)
+                let context = evaluated(alloc, record.as_borrowed(), extensions, limit);
+                drop(record);
+                context
             }
         }
     }
@@ -70,6 +72,8 @@ fn record_with(
         ≡ record_of (substituted_at (values_for map.now.entries) (residual_fields residual))) }
 {
     let record = Expr::record_map(alloc, residual.into_map())?;
-    let expr = record.substitute(alloc, map)?;
+    let expr = record.substitute(alloc, map);
+    drop(record);
+    let expr = expr?;
     Ok(RestrictedExpr::new_unchecked(expr))
 }

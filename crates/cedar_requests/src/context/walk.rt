@@ -75,14 +75,14 @@ impl Iterator for IntoIter {
 
     fn next(&mut self) -> Option<Result<(RcStr, RestrictedExpr), AllocError>> {
         match &mut self.pairs {
-            PairsIter::Values(pairs) => {
-                let (name, value) = pairs.next()?;
-                Some(IntoIter::written(self.alloc, name, value))
-            }
-            PairsIter::Residual(residual) => {
-                let attribute = residual.next()?;
-                Some(Ok(attribute))
-            }
+            PairsIter::Values(pairs) => match pairs.next() {
+                Some((name, value)) => Some(IntoIter::written(self.alloc, name, value)),
+                None => None,
+            },
+            PairsIter::Residual(residual) => match residual.next() {
+                Some(attribute) => Some(Ok(attribute)),
+                None => None,
+            },
         }
     }
 }
@@ -106,8 +106,10 @@ impl ResidualIter {
     fn next(&mut self) -> Option<(RcStr, RestrictedExpr)>
         ensures { YieldsFirstBy attribute_given exprs_left self.old result self.new }
     {
-        let (name, expr) = self.pairs.next()?;
-        Some((name, RestrictedExpr::new_unchecked(expr)))
+        match self.pairs.next() {
+            Some((name, expr)) => Some((name, RestrictedExpr::new_unchecked(expr))),
+            None => None,
+        }
     }
 }
 

@@ -3,6 +3,7 @@ ghost use Rattle.std.specs.Prelude.{◌≡◌, IfOk};
 ghost use Rattle.cedar_requests.specs.Requests.{entry_view, entry_loc, context_given, given_locs};
 
 use super::Request;
+use crate::beside::beside;
 use crate::context::Context;
 use crate::entry::EntityUIDEntry;
 use std::alloc::AllocError;
@@ -14,9 +15,12 @@ impl Clone for Request {
 
     fn clone(&self) -> Result<Request, AllocError> {
         let principal = copied(&self.principal)?;
-        let action = copied(&self.action)?;
-        let resource = copied(&self.resource)?;
-        let context = copied_context(&self.context)?;
+        let entities = beside(principal, copied(&self.action))?;
+        let entities = beside(entities, copied(&self.resource))?;
+        let (((principal, action), resource), context) = beside(
+            entities,
+            copied_context(&self.context),
+        )?;
         Ok(Request {
             principal,
             action,

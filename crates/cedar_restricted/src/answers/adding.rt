@@ -40,8 +40,13 @@ fn mixed_of(alloc: Global, values: &[Value], residual: ResidualExpr) -> Result<M
     ensures answers { IfOk result (λ m. Are (answereds.Mixed m)
         (all_values (whats values.now) ++ model.residual (residual_term residual) ∷ [])) }
 {
-    let exprs = exprs_of(alloc, values)?;
-    Ok(first_residual(exprs, residual)?)
+    match exprs_of(alloc, values) {
+        Ok(exprs) => Ok(first_residual(exprs, residual)?),
+        Err(error) => {
+            drop(residual);
+            Err(error)
+        }
+    }
 }
 
 // Expressions and one more answer.

@@ -16,8 +16,8 @@ pairs-preserved g c =
     let l = c.pairs in
     let v = c.standing_at.result in
     let part = c.in-Some.part.now in
-    let keys = c.in_ok-push-in-Some-tell.ensures.items in
-    let values = c.in_ok-push-in-Some-tell-2.ensures.items in
+    let keys = c.in_ok-push-in-Some-tell-2.ensures.items in
+    let values = c.in_ok-push-in-Some-tell.ensures.items in
     let steps = c.in-Some.ensures.steps in
     record {
       names = ap (λ ks. texts_of ks ++ names_under left) keys ∙

@@ -15,34 +15,34 @@ use Rattle.cedar_requests.proofs.Records.{is_record-record_of}
 use Rattle.cedar_requests.proofs.Substituting.{step_answer, residual_height, low_error}
 use Rattle.cedar_requests.proofs.context.Context.substitute.Goals as goal
 
-pub evaluated-requires : goal.evaluated-requires
-evaluated-requires g c =
+pub evaluated-context-requires : goal.evaluated-context-requires
+evaluated-context-requires g c =
     ap is_record (ap view c.as_borrowed.ensures ∙ c.in_ok-record-in-Residual.ensures) ∙ is_record-record_of _
 
 pub returns-in_ok-record-in-Residual-clause-substituted : goal.returns-in_ok-record-in-Residual-clause-substituted
 returns-in_ok-record-in-Residual-clause-substituted g c = λ s has.
     let calls = calls_of c.args.extensions.now in
     let m = values_for c.args.map.now.entries in
-    let r = c.evaluated.result in
+    let r = c.evaluated-context.result in
     step_answer s calls c.args.limit m (context_view c.args.self) r
     (subst (λ p. IsSubstitutedWithin (without_map s) calls c.args.limit m (pairs_view p) r) (sym c.in-Residual.is)
     (subst (λ t. Meets (IsAnswerWithin (without_map s) calls c.args.limit t) (context_answer r))
     (ap view c.as_borrowed.ensures ∙ (rw c.in-Residual.residual-is at c.in_ok-record-in-Residual.ensures))
-    (c.evaluated.ensures.answer (without_map s) record { no_map = refl; has_extensions = has })))
+    (c.evaluated-context.ensures.answer (without_map s) record { no_map = refl; has_extensions = has })))
 
 pub returns-in_ok-record-in-Residual-clause-answer : goal.returns-in_ok-record-in-Residual-clause-answer
 returns-in_ok-record-in-Residual-clause-answer g c = λ s is_bare.
     let calls = calls_of c.args.extensions.now in
     let m = values_for c.args.map.now.entries in
-    let r = c.evaluated.result in
+    let r = c.evaluated-context.result in
     subst (λ p. IsSubstitutedWithin s calls c.args.limit m (pairs_view p) r) (sym c.in-Residual.is)
     (subst (λ t. Meets (IsAnswerWithin s calls c.args.limit t) (context_answer r))
-    (ap view c.as_borrowed.ensures ∙ (rw c.in-Residual.residual-is at c.in_ok-record-in-Residual.ensures)) (c.evaluated.ensures.answer s is_bare))
+    (ap view c.as_borrowed.ensures ∙ (rw c.in-Residual.residual-is at c.in_ok-record-in-Residual.ensures)) (c.evaluated-context.ensures.answer s is_bare))
 
 pub returns-in_ok-record-in-Residual-clause-low : goal.returns-in_ok-record-in-Residual-clause-low
 returns-in_ok-record-in-Residual-clause-low g c = λ low.
     let m = values_for c.args.map.now.entries in
-    low_error c.evaluated.result (c.evaluated.ensures.low (subst (λ n. n ≤ c.args.limit)
+    low_error c.evaluated-context.result (c.evaluated-context.ensures.low (subst (λ n. n ≤ c.args.limit)
     (ap (λ p. substituted_height m (context_value (pairs_view p))) c.in-Residual.is
     ∙ residual_height m c.in-Residual.residual
     ∙ ap height (sym (ap view c.as_borrowed.ensures ∙ (rw c.in-Residual.residual-is at c.in_ok-record-in-Residual.ensures)))) low))
@@ -52,8 +52,8 @@ returns-in_ok-record-in-Residual-clause-completions g c =
     let x = extensions_view c.args.extensions.now in
     let calls = calls_of c.args.extensions.now in
     let m = values_for c.args.map.now.entries in
-    let r = c.evaluated.result in
+    let r = c.evaluated-context.result in
     subst (λ p. KeepsCompletions x calls m (pairs_view p) r) (sym c.in-Residual.is)
     (kept x calls c.args.limit m c.in-Residual.residual r (λ s is_bare.
     subst (λ t. Meets (IsAnswerWithin s calls c.args.limit t) (context_answer r))
-    (ap view c.as_borrowed.ensures ∙ (rw c.in-Residual.residual-is at c.in_ok-record-in-Residual.ensures)) (c.evaluated.ensures.answer s is_bare)))
+    (ap view c.as_borrowed.ensures ∙ (rw c.in-Residual.residual-is at c.in_ok-record-in-Residual.ensures)) (c.evaluated-context.ensures.answer s is_bare)))

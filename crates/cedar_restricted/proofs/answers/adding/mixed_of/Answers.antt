@@ -7,13 +7,13 @@ use Rattle.cedar_restricted.specs.Parts.{all_values}
 use Rattle.cedar_restricted.proofs.Collected.{terms-all, residual_term_added, residual_added}
 use Rattle.cedar_restricted.proofs.answers.adding.mixed_of.Goals as goal
 
-pub returns-clause-answers : goal.returns-clause-answers
-returns-clause-answers c =
+pub returns-in_ok-first_residual-in-Ok-clause-answers : goal.returns-in_ok-first_residual-in-Ok-clause-answers
+returns-in_ok-first_residual-in-Ok-clause-answers c =
     let ps = all_values (whats c.args.values.now) in
-    let exprs = c.in_ok-exprs.exprs.items in
-    let made = c.in_ok-first_residual.ensures in
+    let exprs = c.in-Ok.exprs.items in
+    let made = c.in_ok-first_residual-in-Ok.ensures in
     let t = residual_term c.args.residual in
-    let terms : terms_of_parts ps ≡ terms_view exprs = terms-all (whats c.args.values.now) ∙ sym c.in_ok-exprs.ensures.terms in (
+    let terms : terms_of_parts ps ≡ terms_view exprs = terms-all (whats c.args.values.now) ∙ sym c.in-Ok.ensures.terms in (
       residual_term_added ps exprs t made.0 terms made.2 ∙ ap terms_view (sym made.1),
       residual_added ps t,
     )

@@ -1,0 +1,8 @@
+use Rattle.std.proofs.Common.{refl, ◌∙◌}
+use Rattle.cedar_data.specs.Residuals.{partial_view}
+use Rattle.cedar_operators.proofs.Keys.{is_some-found}
+use Rattle.cedar_operators.proofs.missing.missing_attribute.Goals as goal
+
+pub returns : goal.returns
+returns c =
+    rw (c.in_ok-attr_or_tag.ensures.cases, c.in_ok-uid.ensures.cases, c.is_some.ensures ∙ is_some-found partial_view _ _ c.get_tag.ensures.value, c.deref.ensures.value, c.in_ok-available_attrs_or_tags.ensures, c.keys.ensures.names, c.attrs_len.ensures) refl
