@@ -1,6 +1,7 @@
 pub mod Sound
 pub mod Representations
 pub mod Kinds
+pub mod Left
 pub mod Sizes
 pub mod Compared
 pub mod Hashed

@@ -1,6 +1,7 @@
 //! What a partial evaluation gives: a value, or an expression that still holds an unknown.
 ghost use Rattle.std.specs.Prelude.{◌≡◌, true};
 ghost use Rattle.cedar_model.specs.Shapes.{has_unknown};
+ghost use Rattle.cedar_expressions.specs.View as expressions;
 ghost use Rattle.cedar_expressions.specs.View.{view};
 ghost use mathlib.Core.Bool.{Bool-set};
 
@@ -11,12 +12,23 @@ use crate::value::Value;
 use cedar_expressions::Expr;
 use cedar_names::Loc;
 use std::alloc::{AllocError, Global};
+use std::marker::Model;
 
 /// An expression that holds at least one unknown.
 #[derive(Debug, Drop)]
 pub struct ResidualExpr {
     expr: Expr,
-    ghost unknown: { has_unknown (view expr) ≡ true } by { Bool-set _ _ },
+    ghost unknown: { has_unknown (expressions.view expr) ≡ true } by { Bool-set _ _ },
+}
+
+impl Model for ResidualExpr {
+    ghost use Rattle.cedar_data.specs.Left.{Left, left_code};
+
+    ghost Value = { Left };
+
+    ghost coded = { left_code };
+
+    ghost view = { λ a. record { expr = a.expr; unknown = a.unknown } };
 }
 
 impl ResidualExpr {

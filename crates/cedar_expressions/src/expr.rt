@@ -21,10 +21,22 @@ pub use substitution::AsExpression;
 
 /// An expression: its kind with its parts, and where it stands in its source, if that is known.
 #[cycle(expr)]
-#[derive(Debug, Drop)]
+#[derive(Debug)]
 pub struct Expr {
     expr_kind: ExprKind,
     source_loc: Option<Loc>,
+}
+
+impl Drop for Expr {
+    #[cycle(expr)]
+    fn drop(self) {
+        match self {
+            Expr {
+                expr_kind: _,
+                source_loc: _,
+            } => {}
+        }
+    }
 }
 
 /// The kind of an expression, with its parts.
@@ -133,8 +145,12 @@ impl Expr {
         ensures kind { expr_kind_of result ≡ expr_kind_of self }
         ensures loc { expr_loc result ≡ source_loc }
     {
+        let Expr {
+            expr_kind,
+            source_loc: _,
+        } = self;
         Expr {
-            expr_kind: self.expr_kind,
+            expr_kind,
             source_loc,
         }
     }

@@ -25,7 +25,6 @@ pub use stored::{ExtensionFunctionObject, ExtensionOutputValue};
 
 /// A function of an extension: its name, how it is written at a call, the type of what it answers where that is known,
 /// and the types of its arguments.
-#[derive(Drop)]
 pub struct ExtensionFunction {
     name: Name,
     style: CallStyle,
@@ -33,6 +32,18 @@ pub struct ExtensionFunction {
     return_type: Option<Type>,
     arg_types: Vec<Type>,
     ghost counted: { arity_of callee ≡ length arg_types.items },
+}
+
+impl Drop for ExtensionFunction {
+    fn drop(self) {
+        let ExtensionFunction {
+            name: _,
+            style: _,
+            callee: _,
+            return_type: _,
+            arg_types: _,
+        } = self;
+    }
 }
 
 impl ExtensionFunction {

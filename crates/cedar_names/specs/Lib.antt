@@ -5,3 +5,7 @@ pub mod Equality
 pub mod EqualityLaws
 pub mod Hashing
 pub mod Looks
+pub mod NameFields
+pub mod EntityFields
+pub mod UnknownFields
+pub mod PatternFields

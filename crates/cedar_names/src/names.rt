@@ -7,6 +7,7 @@ mod parts;
 mod texts;
 
 use std::collections::HashMap;
+use std::marker::Model;
 use std::rc::RcStr;
 
 /// A location in a source text: from the byte `start` up to, but not including, the byte `end`.
@@ -25,6 +26,16 @@ pub struct Name {
     text: RcStr,
     #[derive_where(skip(EqHashOrd))]
     loc: Option<Loc>,
+}
+
+impl Model for Name {
+    ghost use Rattle.cedar_names.specs.NameFields.{NameFields};
+
+    ghost Value = { NameFields };
+
+    ghost view = { λ a. record { text = a.text; loc = a.loc } };
+
+    ghost inverse = { λ a. record { text = a.text; loc = a.loc } };
 }
 
 impl Name {
@@ -65,6 +76,16 @@ pub struct EntityUID {
     eid: RcStr,
     #[derive_where(skip(EqHashOrd))]
     loc: Option<Loc>,
+}
+
+impl Model for EntityUID {
+    ghost use Rattle.cedar_names.specs.EntityFields.{EntityFields};
+
+    ghost Value = { EntityFields };
+
+    ghost view = { λ a. record { ty = a.ty; eid = a.eid; loc = a.loc } };
+
+    ghost inverse = { λ a. record { ty = a.ty; eid = a.eid; loc = a.loc } };
 }
 
 impl EntityUID {

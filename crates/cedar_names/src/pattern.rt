@@ -5,6 +5,7 @@ mod matching;
 pub(crate) mod texts;
 
 use std::alloc::AllocError;
+use std::marker::Model;
 
 /// A part of a pattern: a character that stands for itself, or any run of characters.
 #[derive(Clone, Copy, Debug, PartialEq, Eq, Hash)]
@@ -19,6 +20,16 @@ pub enum PatternElem {
 #[derive(Debug, PartialEq, Eq, Hash, Drop)]
 pub struct Pattern {
     elems: Vec<PatternElem>,
+}
+
+impl Model for Pattern {
+    ghost use Rattle.cedar_names.specs.PatternFields.{PatternFields};
+
+    ghost Value = { PatternFields };
+
+    ghost view = { λ a. record { elems = a.elems } };
+
+    ghost inverse = { λ a. record { elems = a.elems } };
 }
 
 impl Clone for Pattern {

@@ -2,6 +2,7 @@
 ghost use Rattle.std.specs.Prelude.{◌≡◌, None, Some};
 
 use crate::names::{EntityType, EntityUID, Name};
+use std::marker::Model;
 use std::rc::{Rc, RcStr};
 
 /// The type of a value.
@@ -43,6 +44,16 @@ pub struct Unknown {
     pub name: RcStr,
     /// The type that its value must have, if that is known.
     pub type_annotation: Option<Type>,
+}
+
+impl Model for Unknown {
+    ghost use Rattle.cedar_names.specs.UnknownFields.{UnknownFields};
+
+    ghost Value = { UnknownFields };
+
+    ghost view = { λ a. record { name = a.name; type_annotation = a.type_annotation } };
+
+    ghost inverse = { λ a. record { name = a.name; type_annotation = a.type_annotation } };
 }
 
 impl Unknown {

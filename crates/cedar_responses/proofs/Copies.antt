@@ -1,9 +1,10 @@
 -- What errors and ids say, and what their copies say, is the same.
-use Rattle.std.proofs.Common.{◌≡◌, ◌||◌, List, [], ◌∷◌, map, Global, refl, rules}
+use Rattle.std.proofs.Common.{◌≡◌, ◌||◌, List, [], ◌∷◌, map, Global, refl, sym, ap, ◌∙◌, rules}
 use Rattle.std.specs.List.{AllZip, list_any}
 use Rattle.std.specs.Rc.{rc_str_bytes}
 use Rattle.std.specs.declared.rc.RcStr.{RcStr}
 use Rattle.cedar_model.specs.Terms.{Text}
+use Rattle.cedar_model.specs.Failures.{Failure}
 use Rattle.cedar_model.specs.Outcomes.{text_eq}
 use Rattle.cedar_names.specs.declared.types.«Type».{«Type» as RType}
 use Rattle.cedar_names.specs.declared.types.«Type».TheVariants as types
@@ -18,6 +19,7 @@ use Rattle.cedar_values.specs.contracts.evaluator.err.evaluation_errors.IntegerO
 use Rattle.cedar_values.specs.declared.evaluator.err.EvaluationError.{EvaluationError}
 use Rattle.cedar_values.specs.declared.evaluator.err.EvaluationError.TheVariants as errors
 use Rattle.cedar_values.specs.contracts.evaluator.err.EvaluationErrorClone.TheImpl as error_clones
+use Rattle.cedar_values.specs.Fields.{MissingEntityAttribute, MissingRecordAttribute}
 use Rattle.cedar_values.specs.Failures.{lookup_failure, overflow_failure, failure_of}
 use Rattle.cedar_layers.specs.declared.policies.policy.PolicyID.{PolicyID}
 use Rattle.cedar_layers.specs.Policies.{policy_id_text}
@@ -62,9 +64,11 @@ overflow_failure-copied e d h = absurd h
 pub failure_of-copied : (e d : EvaluationError) → error_clones.by_variants e d → failure_of d ≡ failure_of e
 failure_of-copied (errors.EntityDoesNotExist e) (errors.EntityDoesNotExist d) h = search rules
 failure_of-copied (errors.EntityAttrDoesNotExist e) (errors.EntityAttrDoesNotExist d) h =
-    search (rules, texts_view-copied)
+    let failure : MissingEntityAttribute → Failure = λ r. failure_of (errors.EntityAttrDoesNotExist r) in
+    ap failure (sym h.3) ∙ search (rules, texts_view-copied) ∙ ap failure h.2
 failure_of-copied (errors.RecordAttrDoesNotExist e) (errors.RecordAttrDoesNotExist d) h =
-    search (rules, texts_view-copied)
+    let failure : MissingRecordAttribute → Failure = λ r. failure_of (errors.RecordAttrDoesNotExist r) in
+    ap failure (sym h.3) ∙ search (rules, texts_view-copied) ∙ ap failure h.2
 failure_of-copied (errors.FailedExtensionFunctionLookup e) (errors.FailedExtensionFunctionLookup d) h =
     lookup_failure-copied e d h
 failure_of-copied (errors.TypeError e) (errors.TypeError d) h =

@@ -5,3 +5,4 @@ pub mod Readers
 pub mod Iterators
 pub mod Shapes
 pub mod Types
+pub mod Restricted

@@ -1,4 +1,5 @@
 pub mod Answers
 pub mod Errors
+pub mod Fields
 pub mod Failures
 pub mod Texts

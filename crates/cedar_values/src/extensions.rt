@@ -18,6 +18,7 @@ pub enum ExtensionFunctionLookupError {
 /// The structs of `ExtensionFunctionLookupError`.
 pub mod extension_function_lookup_errors {
     use cedar_names::{Loc, Name};
+    use std::marker::Model;
     use thiserror::Error;
 
     /// No extension has a function of this name.
@@ -28,6 +29,16 @@ pub mod extension_function_lookup_errors {
         pub name: Name,
         /// Where it was called, if that is known.
         pub source_loc: Option<Loc>,
+    }
+
+    impl Model for FuncDoesNotExistError {
+        ghost use Rattle.cedar_values.specs.Fields.{MissingFunction};
+
+        ghost Value = { MissingFunction };
+
+        ghost view = { λ a. record { name = a.name; source_loc = a.source_loc } };
+
+        ghost inverse = { λ a. record { name = a.name; source_loc = a.source_loc } };
     }
 }
 

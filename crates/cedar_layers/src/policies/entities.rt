@@ -12,7 +12,7 @@ use std::rc::RcStr;
 
 /// An entity: its uid, its attributes and tags under their names, and the entities that it is in. A residual among the
 /// attributes and tags is a restricted expression.
-#[derive(Debug, Drop)]
+#[derive(Debug)]
 pub struct Entity {
     uid: EntityUID,
     attrs: BTreeMap<RcStr, PartialValue>,
@@ -20,6 +20,17 @@ pub struct Entity {
     tags: BTreeMap<RcStr, PartialValue>,
     ghost attrs_restricted: { are_restricted_parts (parts_view attrs.entries) ≡ true } by { Bool-set _ _ },
     ghost tags_restricted: { are_restricted_parts (parts_view tags.entries) ≡ true } by { Bool-set _ _ },
+}
+
+impl Drop for Entity {
+    fn drop(self) {
+        let Entity {
+            uid: _,
+            attrs: _,
+            ancestors: _,
+            tags: _,
+        } = self;
+    }
 }
 
 impl Entity {

@@ -62,7 +62,7 @@ impl Annotations {
 
 /// A policy: its effect, and the condition under which it applies. The condition is in four parts: the constraints on the
 /// principal, on the action and on the resource, and the when clause. Slots in these parts have the values of `env`.
-#[derive(Debug, Drop)]
+#[derive(Debug)]
 pub struct Policy {
     effect: Effect,
     id: PolicyID,
@@ -73,6 +73,22 @@ pub struct Policy {
     when: Rc<Expr>,
     env: Rc<SlotEnv>,
     loc: Option<Loc>,
+}
+
+impl Drop for Policy {
+    fn drop(self) {
+        let Policy {
+            effect: _,
+            id: _,
+            annotations: _,
+            principal: _,
+            action: _,
+            resource: _,
+            when: _,
+            env: _,
+            loc: _,
+        } = self;
+    }
 }
 
 impl Policy {

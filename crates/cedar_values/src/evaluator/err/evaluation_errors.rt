@@ -9,6 +9,7 @@ use cedar_expressions::Expr;
 use cedar_names::{BinaryOp, EntityUID, FirstRest, Loc, Name, SlotId, Type, UnaryOp};
 use std::fmt;
 use std::fmt::Display;
+use std::marker::Model;
 use std::rc::{Rc, RcStr};
 use thiserror::Error;
 
@@ -20,6 +21,16 @@ pub struct EntityDoesNotExistError {
     pub uid: Rc<EntityUID>,
     /// Where the error arose, if that is known.
     pub source_loc: Option<Loc>,
+}
+
+impl Model for EntityDoesNotExistError {
+    ghost use Rattle.cedar_values.specs.Fields.{MissingEntity};
+
+    ghost Value = { MissingEntity };
+
+    ghost view = { λ a. record { uid = a.uid; source_loc = a.source_loc } };
+
+    ghost inverse = { λ a. record { uid = a.uid; source_loc = a.source_loc } };
 }
 
 /// An attribute or a tag was read that the entity does not have.
@@ -42,6 +53,16 @@ pub struct EntityAttrDoesNotExistError {
     pub source_loc: Option<Loc>,
 }
 
+impl Model for EntityAttrDoesNotExistError {
+    ghost use Rattle.cedar_values.specs.Fields.{MissingEntityAttribute};
+
+    ghost Value = { MissingEntityAttribute };
+
+    ghost view = { λ a. record { entity = a.entity; attr_or_tag = a.attr_or_tag; was_attr = a.was_attr; exists_the_other_kind = a.exists_the_other_kind; available_attrs_or_tags = a.available_attrs_or_tags; total_attrs_or_tags = a.total_attrs_or_tags; source_loc = a.source_loc } };
+
+    ghost inverse = { λ a. record { entity = a.entity; attr_or_tag = a.attr_or_tag; was_attr = a.was_attr; exists_the_other_kind = a.exists_the_other_kind; available_attrs_or_tags = a.available_attrs_or_tags; total_attrs_or_tags = a.total_attrs_or_tags; source_loc = a.source_loc } };
+}
+
 fn attr_or_tag_word(was_attr: bool) -> &'static str {
     if was_attr { "attribute" } else { "tag" }
 }
@@ -60,6 +81,16 @@ pub struct RecordAttrDoesNotExistError {
     pub source_loc: Option<Loc>,
 }
 
+impl Model for RecordAttrDoesNotExistError {
+    ghost use Rattle.cedar_values.specs.Fields.{MissingRecordAttribute};
+
+    ghost Value = { MissingRecordAttribute };
+
+    ghost view = { λ a. record { attr = a.attr; available_attrs = a.available_attrs; total_attrs = a.total_attrs; source_loc = a.source_loc } };
+
+    ghost inverse = { λ a. record { attr = a.attr; available_attrs = a.available_attrs; total_attrs = a.total_attrs; source_loc = a.source_loc } };
+}
+
 /// A value was of another type than its place takes.
 #[derive(Debug, Clone, PartialEq, Eq, Drop)]
 pub struct TypeError {
@@ -69,6 +100,16 @@ pub struct TypeError {
     pub actual: Type,
     /// Where the error arose, if that is known.
     pub source_loc: Option<Loc>,
+}
+
+impl Model for TypeError {
+    ghost use Rattle.cedar_values.specs.Fields.{WrongType};
+
+    ghost Value = { WrongType };
+
+    ghost view = { λ a. record { expected = a.expected; actual = a.actual; source_loc = a.source_loc } };
+
+    ghost inverse = { λ a. record { expected = a.expected; actual = a.actual; source_loc = a.source_loc } };
 }
 
 impl std::error::Error for TypeError {}
@@ -141,6 +182,16 @@ pub struct WrongNumArgumentsError {
     pub source_loc: Option<Loc>,
 }
 
+impl Model for WrongNumArgumentsError {
+    ghost use Rattle.cedar_values.specs.Fields.{MiscountedArguments};
+
+    ghost Value = { MiscountedArguments };
+
+    ghost view = { λ a. record { function_name = a.function_name; expected = a.expected; actual = a.actual; source_loc = a.source_loc } };
+
+    ghost inverse = { λ a. record { function_name = a.function_name; expected = a.expected; actual = a.actual; source_loc = a.source_loc } };
+}
+
 /// An operator on two longs gave a number that needs more than 64 bits.
 #[derive(Debug, Clone, PartialEq, Eq, Drop, Error)]
 #[error("integer overflow while attempting to {} the values `{arg1}` and `{arg2}`", binary_verb(*.op))]
@@ -153,6 +204,20 @@ pub struct BinaryOpOverflowError {
     pub arg2: Value,
     /// Where the error arose, if that is known.
     pub source_loc: Option<Loc>,
+}
+
+impl Model for BinaryOpOverflowError {
+    ghost use Rattle.std.specs.Coded.{codes};
+    ghost use Rattle.cedar_data.specs.Sound.{placed_code};
+    ghost use Rattle.cedar_values.specs.Fields.{BinaryOverflow};
+
+    ghost Value = { BinaryOverflow };
+
+    ghost coded = { Prim.hlevel (codes, placed_code) };
+
+    ghost view = { λ a. record { op = a.op; arg1 = a.arg1; arg2 = a.arg2; source_loc = a.source_loc } };
+
+    ghost inverse = { λ a. record { op = a.op; arg1 = a.arg1; arg2 = a.arg2; source_loc = a.source_loc } };
 }
 
 fn binary_verb(op: BinaryOp) -> &'static str {
@@ -184,6 +249,20 @@ pub struct UnaryOpOverflowError {
     pub source_loc: Option<Loc>,
 }
 
+impl Model for UnaryOpOverflowError {
+    ghost use Rattle.std.specs.Coded.{codes};
+    ghost use Rattle.cedar_data.specs.Sound.{placed_code};
+    ghost use Rattle.cedar_values.specs.Fields.{UnaryOverflow};
+
+    ghost Value = { UnaryOverflow };
+
+    ghost coded = { Prim.hlevel (codes, placed_code) };
+
+    ghost view = { λ a. record { op = a.op; arg = a.arg; source_loc = a.source_loc } };
+
+    ghost inverse = { λ a. record { op = a.op; arg = a.arg; source_loc = a.source_loc } };
+}
+
 fn unary_verb(op: UnaryOp) -> &'static str {
     match op {
         UnaryOp::Neg => "negate",
@@ -201,6 +280,16 @@ pub struct UnlinkedSlotError {
     pub source_loc: Option<Loc>,
 }
 
+impl Model for UnlinkedSlotError {
+    ghost use Rattle.cedar_values.specs.Fields.{UnlinkedSlot};
+
+    ghost Value = { UnlinkedSlot };
+
+    ghost view = { λ a. record { slot = a.slot; source_loc = a.source_loc } };
+
+    ghost inverse = { λ a. record { slot = a.slot; source_loc = a.source_loc } };
+}
+
 /// An extension function answered an error of its own.
 #[derive(Debug, Clone, PartialEq, Eq, Drop, Error)]
 #[error("error while evaluating `{extension_name}` extension function: {msg}")]
@@ -213,6 +302,16 @@ pub struct ExtensionFunctionExecutionError {
     pub source_loc: Option<Loc>,
 }
 
+impl Model for ExtensionFunctionExecutionError {
+    ghost use Rattle.cedar_values.specs.Fields.{FailedFunction};
+
+    ghost Value = { FailedFunction };
+
+    ghost view = { λ a. record { extension_name = a.extension_name; msg = a.msg; source_loc = a.source_loc } };
+
+    ghost inverse = { λ a. record { extension_name = a.extension_name; msg = a.msg; source_loc = a.source_loc } };
+}
+
 /// The expression holds an unknown, where a value was asked for.
 #[derive(Debug, Clone, PartialEq, Eq, Drop, Error)]
 #[error("the expression contains unknown(s): `{expr}`")]
@@ -221,6 +320,20 @@ pub struct NonValueError {
     pub expr: Expr,
     /// Where the error arose, if that is known.
     pub source_loc: Option<Loc>,
+}
+
+impl Model for NonValueError {
+    ghost use Rattle.std.specs.Coded.{codes};
+    ghost use Rattle.cedar_expressions.specs.contracts.expr.Expr as expressions;
+    ghost use Rattle.cedar_values.specs.Fields.{Residual};
+
+    ghost Value = { Residual };
+
+    ghost coded = { Prim.hlevel (codes, expressions.the_row.coded) };
+
+    ghost view = { λ a. record { expr = a.expr; source_loc = a.source_loc } };
+
+    ghost inverse = { λ a. record { expr = a.expr; source_loc = a.source_loc } };
 }
 
 /// The depth of evaluation passed the limit, which counts levels of evaluation.
