@@ -1,4 +1,7 @@
 pub mod Contexts
+pub mod LeftPairs
+pub mod ContextFields
+pub mod RequestFields
 pub mod Requests
 pub mod Types
 pub mod Texts

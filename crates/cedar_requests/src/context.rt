@@ -15,6 +15,7 @@ use cedar_expressions::Expr;
 use pairs::ContextPairs;
 use std::alloc::Global;
 use std::collections::BTreeMap;
+use std::marker::Model;
 use std::rc::RcStr;
 pub use walk::IntoIter;
 
@@ -24,6 +25,22 @@ pub use walk::IntoIter;
 pub struct Context {
     pairs: ContextPairs,
     alloc: Global,
+}
+
+impl Model for Context {
+    ghost use Rattle.std.specs.Coded.{codes};
+    ghost use Rattle.std_collections.specs.Layout.BTreeMap.{btree_map_code};
+    ghost use Rattle.cedar_data.specs.Sound.{placed_code};
+    ghost use Rattle.cedar_requests.specs.contracts.context.pairs.ResidualPairs as residuals;
+    ghost use Rattle.cedar_requests.specs.ContextFields.{ContextFields};
+
+    ghost Value = { ContextFields };
+
+    ghost coded = { Prim.hlevel (codes, btree_map_code, placed_code, residuals.the_row.coded) };
+
+    ghost view = { λ a. record { pairs = a.pairs; alloc = a.alloc } };
+
+    ghost inverse = { λ a. record { pairs = a.pairs; alloc = a.alloc } };
 }
 
 impl Context {

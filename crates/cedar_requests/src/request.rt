@@ -9,6 +9,7 @@ mod values;
 use crate::context::Context;
 use crate::entry::EntityUIDEntry;
 use cedar_names::{EntityUID, Loc};
+use std::marker::Model;
 pub use types::RequestType;
 
 /// A request: who asks to do what with what, and in which context. Each of the four may be unknown.
@@ -18,6 +19,20 @@ pub struct Request {
     action: EntityUIDEntry,
     resource: EntityUIDEntry,
     context: Option<Context>,
+}
+
+impl Model for Request {
+    ghost use Rattle.std.specs.Coded.{codes};
+    ghost use Rattle.cedar_requests.specs.RequestFields.{RequestFields};
+    ghost use Rattle.cedar_requests.specs.contracts.context.Context as contexts;
+
+    ghost Value = { RequestFields };
+
+    ghost coded = { Prim.hlevel (codes, contexts.the_row.coded) };
+
+    ghost view = { λ a. record { principal = a.principal; action = a.action; resource = a.resource; context = a.context } };
+
+    ghost inverse = { λ a. record { principal = a.principal; action = a.action; resource = a.resource; context = a.context } };
 }
 
 impl Request {

@@ -7,6 +7,7 @@ ghost use mathlib.Core.Bool.{Bool-set};
 use cedar_data::Value;
 use cedar_expressions::Expr;
 use std::collections::BTreeMap;
+use std::marker::Model;
 use std::rc::RcStr;
 
 /// The attributes of a context.
@@ -24,6 +25,20 @@ pub struct ResidualPairs {
     pairs: BTreeMap<RcStr, Expr>,
     ghost restricted: { are_restricted_at (fields_view pairs.entries) ≡ true } by { Bool-set _ _ },
     ghost unknown: { have_unknown_at (fields_view pairs.entries) ≡ true } by { Bool-set _ _ },
+}
+
+impl Model for ResidualPairs {
+    ghost use base.Stored.{coded_via};
+    ghost use Rattle.std.specs.Coded.{codes};
+    ghost use Rattle.std_collections.specs.Layout.BTreeMap.{btree_map_code};
+    ghost use Rattle.cedar_expressions.specs.contracts.expr.Expr as expressions;
+    ghost use Rattle.cedar_requests.specs.LeftPairs.{LeftPairs, same_left_pairs};
+
+    ghost Value = { LeftPairs };
+
+    ghost coded = { coded_via (Prim.hlevel (codes, btree_map_code, expressions.the_row.coded)) (λ r. r.pairs) same_left_pairs };
+
+    ghost view = { λ a. record { pairs = a.pairs; restricted = a.restricted; unknown = a.unknown } };
 }
 
 impl ContextPairs {

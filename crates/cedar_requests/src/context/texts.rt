@@ -54,7 +54,8 @@ impl fmt::Display for Bounded<'_> {
     ghost output = { λ b. Some (shown b.bound (partial_term (context_part_value b.context.now))) };
 
     fn fmt<W: fmt::Write>(&self, f: &mut fmt::Formatter<W>) -> fmt::Result {
-        show(&self.context.pairs, self.bound, f)
+        let context = self.context;
+        show(&context.pairs, self.bound, f)
     }
 }
 

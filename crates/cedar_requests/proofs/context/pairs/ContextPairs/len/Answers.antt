@@ -1,4 +1,5 @@
-use Rattle.std.proofs.Common.{◌∙◌, sym, ap, length}
+use Rattle.std.proofs.Common.{◌∙◌, sym, ap, length, btree_map_len}
+use Rattle.cedar_requests.specs.LeftPairs.{LeftPairs}
 use Rattle.cedar_requests.specs.Contexts.{pairs_view, context_keys}
 use Rattle.cedar_requests.proofs.Names.{represented_names-count, field_names-count}
 use Rattle.cedar_requests.proofs.context.pairs.ContextPairs.len.Goals as goal
@@ -10,5 +11,6 @@ returns-in-Values c =
 
 pub returns-in-Residual : goal.returns-in-Residual
 returns-in-Residual c =
-    c.len-in-Residual.ensures.len ∙ sym (ap (λ p. length (context_keys (pairs_view p))) c.in-Residual.is
+    c.len-in-Residual.ensures.len ∙ ap (λ (r : LeftPairs). btree_map_len r.pairs) c.residual.view_is
+    ∙ sym (ap (λ p. length (context_keys (pairs_view p))) c.in-Residual.is
     ∙ field_names-count c.in-Residual.residual.pairs.entries)

@@ -1,5 +1,6 @@
+use Rattle.std.proofs.Common.{sym}
 use Rattle.cedar_requests.proofs.Texts.{record_of-pairs}
 use Rattle.cedar_requests.proofs.context.texts.BoundedFmtDisplay.fmt.Goals as goal
 
 pub returns-clause-writes : goal.returns-clause-writes
-returns-clause-writes g c = rw (record_of-pairs c.args.self.now.context.now.pairs) c.show.ensures
+returns-clause-writes g c = rw (sym c.context.view_is) (rw (record_of-pairs c.context.inside.pairs) c.show.ensures)
