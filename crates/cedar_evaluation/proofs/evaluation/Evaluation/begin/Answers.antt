@@ -2,7 +2,7 @@ use Rattle.std.proofs.Common.{ℕ, sym, ap, ◌∙◌, subst}
 use Rattle.cedar_model.specs.Settings.{RequestPart}
 use Rattle.cedar_expressions.specs.Nodes.{parts_below, kind_parts}
 use Rattle.cedar_expressions.proofs.NodeLevels.{kind_node-Set}
-use Rattle.cedar_evaluation.specs.Elements.{set_next}
+use Rattle.cedar_evaluation.specs.Elements.{set_next, no_set_next}
 use Rattle.cedar_model.specs.Terms.{literal, slot, if_then_else, both, either, unary, call, set_of, record_of}
 use Rattle.cedar_names.specs.Names.{name_text}
 use Rattle.cedar_names.specs.Leaves.{literal_view, slot_view, unary_view}
@@ -102,3 +102,67 @@ pub returns-in-Set-clause-elements : goal.returns-in-Set-clause-elements
 returns-in-Set-clause-elements g c =
     set_next c.args.e.now c.in-Set.parts.value.items c.set.result
     (ap kind_parts (sym c.expr_kind.ensures.node ∙ c.in-Set.is) ∙ ap parts_below (kind_node-Set c.in-Set.parts)) c.set.ensures.elements
+
+pub returns-in-Lit-clause-elements : goal.returns-in-Lit-clause-elements
+returns-in-Lit-clause-elements g c =
+    no_set_next c.args.e.now _ c.literal.result (sym (levels.kind_view-Lit _) ∙ sym (ap kind_view c.in-Lit.is) ∙ c.expr_kind.ensures.view) (λ ts is. cc)
+
+pub returns-in-Var-clause-elements : goal.returns-in-Var-clause-elements
+returns-in-Var-clause-elements g c =
+    no_set_next c.args.e.now _ c.variable.result (sym (levels.kind_view-Var _) ∙ sym (ap kind_view c.in-Var.is) ∙ c.expr_kind.ensures.view) (λ ts is. cc)
+
+pub returns-in-Slot-clause-elements : goal.returns-in-Slot-clause-elements
+returns-in-Slot-clause-elements g c =
+    no_set_next c.args.e.now _ c.slot.result (sym (levels.kind_view-Slot _) ∙ sym (ap kind_view c.in-Slot.is) ∙ c.expr_kind.ensures.view) (λ ts is. cc)
+
+pub returns-in-Unknown-clause-elements : goal.returns-in-Unknown-clause-elements
+returns-in-Unknown-clause-elements g c =
+    no_set_next c.args.e.now _ c.unknown.result (sym (levels.kind_view-Unknown _) ∙ sym (ap kind_view c.in-Unknown.is) ∙ c.expr_kind.ensures.view) (λ ts is. cc)
+
+pub returns-in-If-clause-elements : goal.returns-in-If-clause-elements
+returns-in-If-clause-elements g c =
+    no_set_next c.args.e.now _ c.branches.result (sym (levels.kind_view-If _ _ _) ∙ sym (ap kind_view c.in-If.is) ∙ c.expr_kind.ensures.view) (λ ts is. cc)
+
+pub returns-in-And-clause-elements : goal.returns-in-And-clause-elements
+returns-in-And-clause-elements g c =
+    no_set_next c.args.e.now _ c.conjunction.result (sym (levels.kind_view-And _ _) ∙ sym (ap kind_view c.in-And.is) ∙ c.expr_kind.ensures.view) (λ ts is. cc)
+
+pub returns-in-Or-clause-elements : goal.returns-in-Or-clause-elements
+returns-in-Or-clause-elements g c =
+    no_set_next c.args.e.now _ c.disjunction.result (sym (levels.kind_view-Or _ _) ∙ sym (ap kind_view c.in-Or.is) ∙ c.expr_kind.ensures.view) (λ ts is. cc)
+
+pub returns-in-UnaryApp-clause-elements : goal.returns-in-UnaryApp-clause-elements
+returns-in-UnaryApp-clause-elements g c =
+    no_set_next c.args.e.now _ c.operand.result (sym (levels.kind_view-UnaryApp _ _) ∙ sym (ap kind_view c.in-UnaryApp.is) ∙ c.expr_kind.ensures.view) (λ ts is. cc)
+
+pub returns-in-BinaryApp-clause-elements : goal.returns-in-BinaryApp-clause-elements
+returns-in-BinaryApp-clause-elements g c =
+    no_set_next c.args.e.now _ c.operands.result (sym (levels.kind_view-BinaryApp _ _ _) ∙ sym (ap kind_view c.in-BinaryApp.is) ∙ c.expr_kind.ensures.view) (λ ts is. cc)
+
+pub returns-in-ExtensionFunctionApp-clause-elements : goal.returns-in-ExtensionFunctionApp-clause-elements
+returns-in-ExtensionFunctionApp-clause-elements g c =
+    no_set_next c.args.e.now _ c.call.result (sym (levels.kind_view-ExtensionFunctionApp _ _) ∙ sym (ap kind_view c.in-ExtensionFunctionApp.is) ∙ c.expr_kind.ensures.view) (λ ts is. cc)
+
+pub returns-in-GetAttr-clause-elements : goal.returns-in-GetAttr-clause-elements
+returns-in-GetAttr-clause-elements g c =
+    no_set_next c.args.e.now _ c.attribute.result (sym (levels.kind_view-GetAttr _ _) ∙ sym (ap kind_view c.in-GetAttr.is) ∙ c.expr_kind.ensures.view) (λ ts is. cc)
+
+pub returns-in-HasAttr-clause-elements : goal.returns-in-HasAttr-clause-elements
+returns-in-HasAttr-clause-elements g c =
+    no_set_next c.args.e.now _ c.tested.result (sym (levels.kind_view-HasAttr _ _) ∙ sym (ap kind_view c.in-HasAttr.is) ∙ c.expr_kind.ensures.view) (λ ts is. cc)
+
+pub returns-in-ExtHasAttr-clause-elements : goal.returns-in-ExtHasAttr-clause-elements
+returns-in-ExtHasAttr-clause-elements g c =
+    no_set_next c.args.e.now _ c.walked.result (sym (levels.kind_view-ExtHasAttr _ _) ∙ sym (ap kind_view c.in-ExtHasAttr.is) ∙ c.expr_kind.ensures.view) (λ ts is. cc)
+
+pub returns-in-Like-clause-elements : goal.returns-in-Like-clause-elements
+returns-in-Like-clause-elements g c =
+    no_set_next c.args.e.now _ c.likeness.result (sym (levels.kind_view-Like _ _) ∙ sym (ap kind_view c.in-Like.is) ∙ c.expr_kind.ensures.view) (λ ts is. cc)
+
+pub returns-in-Is-clause-elements : goal.returns-in-Is-clause-elements
+returns-in-Is-clause-elements g c =
+    no_set_next c.args.e.now _ c.typed.result (sym (levels.kind_view-Is _ _) ∙ sym (ap kind_view c.in-Is.is) ∙ c.expr_kind.ensures.view) (λ ts is. cc)
+
+pub returns-in-Record-clause-elements : goal.returns-in-Record-clause-elements
+returns-in-Record-clause-elements g c =
+    no_set_next c.args.e.now _ c.«record».result (sym (levels.kind_view-Record _) ∙ sym (ap kind_view c.in-Record.is) ∙ c.expr_kind.ensures.view) (λ ts is. cc)
