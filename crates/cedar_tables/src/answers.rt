@@ -17,33 +17,8 @@ pub mod stored;
 
 use crate::notation::settings::Setting;
 use crate::notation::unanswered::Unanswered;
+use crate::written;
 use std::alloc::Global;
-
-/// The questions that are answered here.
-const QUESTIONS: [&str; 12] = [
-    "value",
-    "place",
-    "elements",
-    "error",
-    "partial",
-    "partial-place",
-    "residual",
-    "operator",
-    "built-error",
-    "request",
-    "entity",
-    "negations",
-];
-
-/// Whether the question is answered here.
-pub fn is_asked(kind: &str) -> bool {
-    for question in QUESTIONS {
-        if question == kind {
-            return true;
-        }
-    }
-    false
-}
 
 /// What is answered to these words, where the answer that is wanted is this one.
 pub fn answer(
@@ -62,6 +37,9 @@ pub fn answer(
         "built-error" => operated::built_error(alloc, argument, words),
         "request" | "entity" => stored::answer(alloc, setting, kind, words),
         "negations" => deep::answer(alloc, setting, argument, words),
-        _ => evaluated::answer(alloc, setting, kind, argument, words),
+        "value" | "place" | "elements" | "error" => {
+            evaluated::answer(alloc, setting, kind, argument, words)
+        }
+        _ => written::answer(alloc, setting.extensions, kind, argument, words, want),
     }
 }

@@ -7,7 +7,7 @@ ghost use Rattle.cedar_built_in_rows.specs.Stored.{even_of, fail_of, ask_of, mad
 use crate::cases::{Tally, tally_of_rows};
 use crate::notation::settings::setting_of;
 use crate::notation::unanswered::Unanswered;
-use crate::notation::{both, fact, first_fact};
+use crate::notation::{both, fact, first_fact, made as or_memory};
 use cedar_built_in_rows::functions::{ask, even, fail, made, plain_name};
 use cedar_extensions::{
     Extension, ExtensionFunction, ExtensionFunctionObject, ExtensionInitializationError,
@@ -182,11 +182,6 @@ fn tally_with(
     let tally = tally_in(rt, alloc, facts, rows, all.as_slice());
     drop(all);
     tally
-}
-
-// What was made, or that memory was wanting.
-fn or_memory<T: Drop>(made: Result<T, AllocError>) -> Result<T, Unanswered> {
-    Ok(made?)
 }
 
 // The types that `<` and `<=` take besides longs.

@@ -12,7 +12,7 @@
 use crate::notation::headed;
 use crate::notation::settings::Setting;
 use crate::notation::unanswered::Unanswered;
-use crate::{judged, program, stepped};
+use crate::{answers, judged, program, stepped};
 use std::alloc::Global;
 
 /// What is answered to these words, where the answer that is wanted is this one. The facts are those of the setting.
@@ -36,10 +36,6 @@ pub fn answer(
         "run" | "run-without-functions" | "step-refused" | "failing-output" => {
             program::answer(alloc, kind, argument, words)
         }
-        _ => if crate::answers::is_asked(kind) {
-            crate::answers::answer(alloc, setting, kind, argument, words, want)
-        } else {
-            crate::written::answer(alloc, setting.extensions, kind, argument, words, want)
-        },
+        _ => answers::answer(alloc, setting, kind, argument, words, want),
     }
 }

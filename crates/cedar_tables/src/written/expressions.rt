@@ -1,9 +1,10 @@
 //! Expressions as they are printed, copied, compared and changed.
 use crate::notation::expressions::expression;
+use crate::notation::pair;
 use crate::notation::shown::{are_equal, same_text, text_of, wanted_or_text};
 use crate::notation::unanswered::Unanswered;
-use crate::notation::values::{value, values};
-use crate::notation::{headed, pair, put};
+use crate::notation::values::values;
+use crate::steps::mapping;
 use cedar_layers::expressions::{
     BoundedDisplay, Expr, ExpressionConstructionError, Literal, Value,
 };
@@ -75,7 +76,7 @@ pub fn substituted(
     words: &str,
     want: &str,
 ) -> Result<String, Unanswered> {
-    let map = mapping(alloc, map)?;
+    let map = mapping(alloc, if map.is_empty() { "none" } else { map })?;
     let text = substituted_by(alloc, &map, words, want);
     drop(map);
     text
@@ -98,19 +99,6 @@ fn substituted_by(
         }
         Err(_) => Err(Unanswered::Memory),
     }
-}
-
-fn mapping(alloc: Global, written: &str) -> Result<HashMap<RcStr, Value>, Unanswered> {
-    let mut map: HashMap<RcStr, Value> = HashMap::new(alloc);
-    if !written.is_empty() {
-        let (name, words) = headed(written);
-        put(
-            &mut map,
-            RcStr::from_str(alloc, name)?,
-            value(alloc, words)?,
-        )?;
-    }
-    Ok(map)
 }
 
 // Whether the two expressions are equal.
