@@ -1,7 +1,7 @@
 -- A chain, step by step, and the headline.
-use Rattle.std.specs.Prelude.{◌≡◌, ℕ, true, false, List, [], ◌∷◌, map, Option, Some, None, option_map, IfSome, MatchBool, MatchResult, Result, Ok, Err}
+use Rattle.std.specs.Prelude.{◌≡◌, ℕ, true, false, List, [], ◌∷◌, map, Option, Some, None, option_map, IfSome, IfOk, MatchBool, MatchResult, Result, Ok, Err}
 use Rattle.std.proofs.Common.{refl, sym, ap, ◌∙◌, subst}
-use Rattle.cedar_model.specs.Failures.{Failure}
+use Rattle.cedar_model.specs.World.{Extensions}
 use Rattle.cedar_model.specs.Settings.{RequestPart, Store, Setting}
 use Rattle.cedar_model.specs.Rules.{StoredCalls}
 use Rattle.cedar_model.specs.Agreement.{AgreesWithFunctions, HasNothingUnknown}
@@ -18,7 +18,10 @@ use Rattle.cedar_requests.specs.Requests.{request_view}
 use Rattle.cedar_responses.specs.declared.partial_response.PartialResponse.{PartialResponse}
 use Rattle.cedar_responses.specs.Responses.{errors_view}
 use Rattle.cedar_responses.specs.Rows.{rows_view}
-use Rattle.cedar_authorizer.specs.Headline.{IsHeadline, LeavesNothing, IsChain}
+use Rattle.cedar_reauthorization.specs.declared.err.ReauthorizationError.{ReauthorizationError}
+use Rattle.cedar_reauthorization.specs.Errors.{step_answer_by}
+use Rattle.cedar_authorizer.specs.Responding.{authorization_of}
+use Rattle.cedar_authorizer.specs.Headline.{LeadsTo, IsTakenFurther, IsHeadline, LeavesNothing, IsChain}
 use Rattle.cedar_authorizer.specs.Running.{IsRun}
 use Rattle.cedar_authorizer.specs.Steps.{response_said, Says, IsStep}
 use Rattle.cedar_authorizer.proofs.Left.{none_left}
@@ -30,43 +33,25 @@ pub conditions_of : (ps : List PolicyView) → AreConditions (map decides_as ps)
 conditions_of [] = tt
 conditions_of (p ∷ ps) = (tt, conditions_of ps)
 
-module _ (s : Setting) (calls : StoredCalls) (levels : ℕ) (ps : List Policy) (all : List (Mapping × Store)) where
-  -- steps were taken up to this response, which the model's says, and these are left: what they lead to is what the
-  -- whole chain leads to
+module _ (s : Setting) (calls : StoredCalls) (levels : ℕ) (first : Response) (all : List (Mapping × Store)) where
+  -- steps were taken up to this response, which the model's says, and these are left: what they lead to is what all of
+  -- them lead to
   pub record IsOnTheWay (left : List (Mapping × Store)) (r : PartialResponse) : Type 0 where
-    pub first : Response
-    pub begins : Begins skip s calls levels ps first
     pub now : Response
     pub says : Says r now
     pub leads : (x : Result Response Refusal) → ChainAnswers skip s calls levels now left x → ChainAnswers skip s calls levels first all x
 
-  pub on_the_way : (r : PartialResponse) → without_map s ≡ s → IsRun skip s calls levels ps r → request_view r.request.value ≡ s.request → IsOnTheWay all r
-  on_the_way r first run e =
-      let now : Response = record { mode = skip; request = s.request; rows = run.rows; errors = errors_view r.errors.items } in
-      record {
-        first = now;
-        begins = record { mode_is = refl; request_is = refl; runs = subst (λ (z : Setting). RunOf skip z calls levels ps run.rows (errors_view r.errors.items)) (sym first) run.run };
-        now = now;
-        says = record { mode_is = refl; request_is = sym e; errors_are = refl; held = run.held };
-        leads = λ x h. h;
-      }
-
-  pub stops_here : (step : Mapping × Store) (left : List (Mapping × Store)) (r : PartialResponse) → IsOnTheWay (step ∷ left) r → has_limit (errors_view r.errors.items) ≡ true → IsChain s calls ps all levels (Ok r)
+  stops_here : (step : Mapping × Store) (left : List (Mapping × Store)) (r : PartialResponse) → IsOnTheWay (step ∷ left) r → has_limit (errors_view r.errors.items) ≡ true → LeadsTo s calls levels all first (Ok r)
   stops_here step left r way e =
       let met : has_limit way.now.errors ≡ true = ap has_limit way.says.errors_are ∙ e in (
-        way.first,
-        way.begins,
-        (
-          way.now,
-          way.leads (Ok way.now) (subst (λ b. MatchBool b (◌≡◌ {A = Result Response Refusal} (Ok way.now) (Ok way.now)) ((y : Result Response Refusal) × Steps skip s calls levels step.0 step.1 way.now y
-              × MatchResult y (λ next. ChainAnswers skip s calls levels next left (Ok way.now)) (λ x. ◌≡◌ {A = Result Response Refusal} (Ok way.now) (Err x)))) (sym met) refl),
-          way.says,
-        ),
+        way.now,
+        way.leads (Ok way.now) (subst (λ b. MatchBool b (◌≡◌ {A = Result Response Refusal} (Ok way.now) (Ok way.now)) ((y : Result Response Refusal) × Steps skip s calls levels step.0 step.1 way.now y
+            × MatchResult y (λ next. ChainAnswers skip s calls levels next left (Ok way.now)) (λ x. ◌≡◌ {A = Result Response Refusal} (Ok way.now) (Err x)))) (sym met) refl),
+        way.says,
       )
 
-  pub ends_here : (left : List (Mapping × Store)) (r : PartialResponse) → left ≡ [] → IsOnTheWay left r → IsChain s calls ps all levels (Ok r)
-  ends_here left r e way =
-      (way.first, way.begins, (way.now, way.leads (Ok way.now) (subst (λ l. ChainAnswers skip s calls levels way.now l (Ok way.now)) (sym e) refl), way.says))
+  ends_here : (left : List (Mapping × Store)) (r : PartialResponse) → left ≡ [] → IsOnTheWay left r → LeadsTo s calls levels all first (Ok r)
+  ends_here left r e way = (way.now, way.leads (Ok way.now) (subst (λ l. ChainAnswers skip s calls levels way.now l (Ok way.now)) (sym e) refl), way.says)
 
   -- ---- a step more
 
@@ -83,26 +68,61 @@ module _ (s : Setting) (calls : StoredCalls) (levels : ℕ) (ps : List Policy) (
         subst (λ b. MatchBool b (x ≡ Ok way.now) ((y : Result Response Refusal) × Steps skip s calls levels step.0 step.1 way.now y
         × MatchResult y (λ next. ChainAnswers skip s calls levels next left x) (λ e. x ≡ Err e))) (sym (ap has_limit way.says.errors_are ∙ quiet)) h
 
-    pub one_step_more : (n : PartialResponse) → IsStep z calls levels step.0 step.1 (response_said r) (Ok n) → IsOnTheWay left n
+    one_step_more : (n : PartialResponse) → IsStep z calls levels step.0 step.1 (response_said r) (Ok n) → IsOnTheWay left n
     one_step_more n (new, taken_to, says) = record {
-      first = way.first;
-      begins = way.begins;
       now = new;
       says = says;
       leads = λ x h. way.leads x (by_step x (Ok new, from_now (Ok new) taken_to, h));
     }
 
-    pub step_is_refused : (e : Refusal) → IsStep z calls levels step.0 step.1 (response_said r) (Err e) → IsChain s calls ps all levels (Err e)
-    step_is_refused e h =
-        (way.first, way.begins, way.leads (Err e) (by_step (Err e) (Err e, from_now (Err e) h, refl)))
+    step_is_refused : (e : Refusal) → IsStep z calls levels step.0 step.1 (response_said r) (Err e) → LeadsTo s calls levels all first (Err e)
+    step_is_refused e h = way.leads (Err e) (by_step (Err e) (Err e, from_now (Err e) h, refl))
 
-    pub refused_here : (o : Option Refusal) → IfSome (option_map {U = Result PartialResponse Refusal} Err o) (IsStep z calls levels step.0 step.1 (response_said r)) → IfSome (option_map {U = Result PartialResponse Refusal} Err o) (IsChain s calls ps all levels)
-    refused_here None h = tt
-    refused_here (Some e) h = step_is_refused e h
+-- ---- taken further from a response, whatever was given before it
 
-  -- ---- what follows of a chain
+module _ (X : Extensions) (calls : StoredCalls) (levels : ℕ) (begun : PartialResponse) (all : List (Mapping × Store)) where
+  abbrev pub AreTaken : List (Mapping × Store) → PartialResponse → Type 0
+  AreTaken left r =
+      (request : RequestPart) (store : Store) (first : Response) → Says begun first → IsOnTheWay (authorization_of request store X) calls levels first all left r
 
-  pub chain_headline : (r : PartialResponse) → AreConditions ps → IsChain s calls ps all levels (Ok r) → IsHeadline s calls ps all r
+  pub none_taken : AreTaken all begun
+  none_taken request store first says = record { now = first; says = says; leads = λ x h. h }
+
+  pub ends_with : (left : List (Mapping × Store)) (r : PartialResponse) → left ≡ [] → AreTaken left r → IsTakenFurther X calls levels all begun (Ok r)
+  ends_with left r e taken request store first says = ends_here (authorization_of request store X) calls levels first all left r e (taken request store first says)
+
+  module _ (step : Mapping × Store) (left : List (Mapping × Store)) (r : PartialResponse) (taken : AreTaken (step ∷ left) r) where
+    pub stops_with : has_limit (errors_view r.errors.items) ≡ true → IsTakenFurther X calls levels all begun (Ok r)
+    stops_with e request store first says = stops_here (authorization_of request store X) calls levels first all step left r (taken request store first says) e
+
+    module _ (quiet : has_limit (errors_view r.errors.items) ≡ false) where
+      given_now : Setting
+      given_now = authorization_of (response_said r).request step.1 X
+
+      pub one_taken : (n : PartialResponse) → IsStep given_now calls levels step.0 step.1 (response_said r) (Ok n) → AreTaken left n
+      one_taken n h request store first says =
+          one_step_more (authorization_of request store X) calls levels first all given_now step (λ q. refl) left r (taken request store first says) quiet n h
+
+      pub refused_with : (o : Option Refusal) → IfSome (option_map {U = Result PartialResponse Refusal} Err o) (IsStep given_now calls levels step.0 step.1 (response_said r)) → IfSome (option_map {U = Result PartialResponse Refusal} Err o) (IsTakenFurther X calls levels all begun)
+      refused_with None h = tt
+      refused_with (Some e) h request store first says =
+          step_is_refused (authorization_of request store X) calls levels first all given_now step (λ q. refl) left r (taken request store first says) quiet e h
+
+-- ---- a chain, from the first response
+
+module _ (request : RequestPart) (store : Store) (X : Extensions) (calls : StoredCalls) (levels : ℕ) (ps : List Policy) (steps : List (Mapping × Store)) (r : PartialResponse)
+    (run : IsRun skip (authorization_of request store X) calls levels ps r) (asked : request_view r.request.value ≡ request) where
+  pub chain_of : (o : Option (Result PartialResponse Refusal)) → IfSome o (IsTakenFurther X calls levels steps r) → IfSome o (IsChain (authorization_of request store X) calls ps steps levels)
+  chain_of None h = tt
+  chain_of (Some x) h =
+      let first : Response = record { mode = skip; request = request; rows = run.rows; errors = errors_view r.errors.items } in
+      let begins : Begins skip (authorization_of request store X) calls levels ps first = record { mode_is = refl; request_is = refl; runs = run.run } in
+      (first, begins, h request store first record { mode_is = refl; request_is = sym asked; errors_are = refl; held = run.held })
+
+-- ---- what follows of a chain
+
+module _ (s : Setting) (calls : StoredCalls) (levels : ℕ) (ps : List Policy) (all : List (Mapping × Store)) where
+  chain_headline : (r : PartialResponse) → AreConditions ps → IsChain s calls ps all levels (Ok r) → IsHeadline s calls ps all r
   chain_headline r conditions (first, begins, (last, chain, says)) ans w p =
       let h = chaining.headline skip calls ans w s levels ps all last record {
         request_agrees = p.request_agrees;
@@ -126,8 +146,16 @@ module _ (s : Setting) (calls : StoredCalls) (levels : ℕ) (ps : List Policy) (
         defined = λ none. concrete.concrete_is_defined skip s.extensions ans w ps (rows_view r) stands none;
       }
 
-  pub chain_known : (r : PartialResponse) → without_map s ≡ s → IsChain s calls ps all levels (Ok r) → LeavesNothing s calls ps all r
+  chain_known : (r : PartialResponse) → without_map s ≡ s → IsChain s calls ps all levels (Ok r) → LeavesNothing s calls ps all r
   chain_known r same (first, begins, (last, chain, says)) known ans agree k =
       let run : RunOf skip s calls levels ps first.rows first.errors = subst (λ (z : Setting). RunOf skip z calls levels ps first.rows first.errors) same begins.runs in
       let none = run_known s calls levels known ans agree ps first.rows first.errors k run in
       none_residual last.rows (rows_view r) (same_rows last.rows r says.held) (none_left s calls levels all first last chain none)
+
+  pub chain_headlines : (x : Result PartialResponse ReauthorizationError) → AreConditions ps → IfSome (step_answer_by (λ (r : PartialResponse). r) x) (IsChain s calls ps all levels) → IfOk x (IsHeadline s calls ps all)
+  chain_headlines (Ok r) conditions h = chain_headline r conditions h
+  chain_headlines (Err e) conditions h = tt
+
+  pub chains_known : (x : Result PartialResponse ReauthorizationError) → without_map s ≡ s → IfSome (step_answer_by (λ (r : PartialResponse). r) x) (IsChain s calls ps all levels) → IfOk x (LeavesNothing s calls ps all)
+  chains_known (Ok r) same h = chain_known r same h
+  chains_known (Err e) same h = tt

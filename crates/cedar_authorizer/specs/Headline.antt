@@ -7,9 +7,9 @@ use Rattle.std.specs.declared.hash.FoldHasher.{FoldHasher}
 use Rattle.std.specs.declared.rc.RcStr.{RcStr}
 use denote.Ref.{Bor}
 use Rattle.cedar_model.specs.Terms.{Text}
-use Rattle.cedar_model.specs.World.{World, Functions}
+use Rattle.cedar_model.specs.World.{World, Extensions, Functions}
 use Rattle.cedar_model.specs.Failures.{Failure}
-use Rattle.cedar_model.specs.Settings.{Store, Setting}
+use Rattle.cedar_model.specs.Settings.{RequestPart, Store, Setting}
 use Rattle.cedar_model.specs.Rules.{StoredCalls}
 use Rattle.cedar_model.specs.Agreement.{AgreesWithFunctions, AgreesWithRequest, IsFaithfulContext, FitsContext}
 use Rattle.cedar_model.specs.Agreement.{AnswerFaithfully, HasNothingUnknown}
@@ -28,6 +28,7 @@ use Rattle.cedar_requests.specs.Substitutions.{values_for}
 use Rattle.cedar_responses.specs.declared.partial_response.PartialResponse.{PartialResponse}
 use Rattle.cedar_responses.specs.Responses.{errors_view}
 use Rattle.cedar_responses.specs.Rows.{rows_view}
+use Rattle.cedar_authorizer.specs.Responding.{authorization_of}
 use Rattle.cedar_authorizer.specs.Steps.{Says, AreDecidedAs}
 
 -- a step: values for unknowns, and a store
@@ -39,6 +40,17 @@ step_view p = (values_for p.0.now.entries, store_view p.1.now)
 
 abbrev pub steps_view : List StepTaken → List (Mapping × Store)
 steps_view steps = map step_view steps
+
+-- from a response of the model the chain of these steps leads to one that says this, or is refused so
+module _ (s : Setting) (calls : StoredCalls) (levels : ℕ) (steps : List (Mapping × Store)) where
+  abbrev pub LeadsTo : Response → Result PartialResponse Refusal → Type 0
+  LeadsTo first (Ok r) = (last : Response) × ChainOf skip s calls levels first steps last × Says r last
+  LeadsTo first (Err e) = ChainAnswers skip s calls levels first steps (Err e)
+
+-- it is so from each response of the model that this one says, whatever was given before it
+abbrev pub IsTakenFurther : Extensions → StoredCalls → ℕ → List (Mapping × Store) → PartialResponse → Result PartialResponse Refusal → Type 0
+IsTakenFurther X calls levels steps r x =
+    (request : RequestPart) (store : Store) (first : Response) → Says r first → LeadsTo (authorization_of request store X) calls levels steps first x
 
 module _ (s : Setting) (calls : StoredCalls) (ps : List Policy) (steps : List (Mapping × Store)) where
   -- what the headline takes of a world and functions, of a chain whose last response has these errors
@@ -75,9 +87,5 @@ module _ (s : Setting) (calls : StoredCalls) (ps : List Policy) (steps : List (M
 
   -- the model's chain of these steps leads to a response that says this, or is refused so
   abbrev pub IsChain : ℕ → Result PartialResponse Refusal → Type 0
-  IsChain levels (Ok r) =
-      (first : Response) × Begins skip s calls levels ps first
-      × ((last : Response) × ChainOf skip s calls levels first steps last × Says r last)
-  IsChain levels (Err e) =
-      (first : Response) × Begins skip s calls levels ps first
-      × ChainAnswers skip s calls levels first steps (Err e)
+  IsChain levels x =
+      (first : Response) × Begins skip s calls levels ps first × LeadsTo s calls levels steps first x

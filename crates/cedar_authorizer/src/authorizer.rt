@@ -34,7 +34,7 @@ use std::alloc::{AllocError, Global};
 use std::collections::{HashMap, HashSet};
 use std::rc::{Rc, RcStr};
 pub use steps::Reauthorize;
-use steps::has_recursion_limit;
+use steps::take_steps;
 
 pub mod laws;
 mod steps;
@@ -142,18 +142,8 @@ impl<'x, 'f> Authorizer<'x, 'f> {
         ensures headline { IfOk result (IsHeadline (authorization_of (request_view request) (store_view entities.now) (extensions_view self.now.extensions.now)) (calls_of self.now.extensions.now) (deciding policies.now) (steps_view steps.now)) }
         ensures known { IfOk result (LeavesNothing (authorization_of (request_view request) (store_view entities.now) (extensions_view self.now.extensions.now)) (calls_of self.now.extensions.now) (deciding policies.now) (steps_view steps.now)) }
     {
-        let mut response = self.is_authorized_core(alloc, request, policies, entities)?;
-        'steps: for step in steps {
-            if has_recursion_limit(&response) {
-                return Ok(response);
-            }
-            let (map, store) = step;
-            match response.reauthorize(alloc, map, self, store) {
-                Ok(next) => response = next,
-                Err(error) => return Err(error),
-            }
-        }
-        Ok(response)
+        let response = self.is_authorized_core(alloc, request, policies, entities)?;
+        take_steps(alloc, response, self, steps)
     }
 }
 

@@ -8,3 +8,4 @@ pub mod Keeping
 pub mod Writing
 pub mod Texts
 pub mod Walks
+pub mod Opened

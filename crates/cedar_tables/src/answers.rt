@@ -20,7 +20,8 @@ use crate::notation::unanswered::Unanswered;
 use crate::written;
 use std::alloc::Global;
 
-/// What is answered to these words, where the answer that is wanted is this one.
+/// What is answered to these words, where the answer that is wanted is this one. A question of another kind than those above is
+/// handed to `written`.
 pub fn answer(
     alloc: Global,
     setting: &Setting<'_, '_>,

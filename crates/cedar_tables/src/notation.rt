@@ -138,7 +138,7 @@ pub fn both<A: Drop, B: Drop>(
 }
 
 // What was made, or that memory was wanting.
-pub(crate) fn made<T: Drop>(part: Result<T, AllocError>) -> Result<T, Unanswered> {
+pub(crate) fn or_memory<T: Drop>(part: Result<T, AllocError>) -> Result<T, Unanswered> {
     Ok(part?)
 }
 

@@ -1,6 +1,6 @@
 //! What the program of the built-in rows prints, and its statuses.
 use crate::notation::unanswered::Unanswered;
-use crate::notation::{both, made};
+use crate::notation::{both, or_memory};
 use cedar_authorizer::authorizer::Authorizer;
 use cedar_built_in_rows::lines::{LIMIT, in_one_step};
 use cedar_built_in_rows::rows::{Row, row_named};
@@ -75,7 +75,7 @@ fn answered(alloc: Global, status: u8, out: &[u8]) -> Result<String, Unanswered>
 
 // What is printed where the row's request is taken further by a resource, which it has.
 fn refused_text(alloc: Global, row: Row) -> Result<String, Unanswered> {
-    let (step, policies) = both(made(resource_is_b(alloc)), no_policies(alloc))?;
+    let (step, policies) = both(or_memory(resource_is_b(alloc)), no_policies(alloc))?;
     let text = refused_by(alloc, row, &step, &policies);
     drop((step, policies));
     text

@@ -15,6 +15,7 @@ ghost use Rattle.cedar_responses.specs.declared.partial_response.PartialResponse
 ghost use Rattle.cedar_responses.specs.Responses.{error_view, errors_view};
 ghost use Rattle.cedar_reauthorization.specs.Concretizations.{entity_locs, concrete_locs, IsResidualNoHigher};
 ghost use Rattle.cedar_reauthorization.specs.Errors.{step_answer_by, step_refusal};
+ghost use Rattle.cedar_authorizer.specs.Headline.{steps_view, IsTakenFurther};
 ghost use Rattle.cedar_authorizer.specs.Responding.{authorization_of, deciding};
 ghost use Rattle.cedar_authorizer.specs.Running.{IsRun, IsNotedRun};
 ghost use Rattle.cedar_authorizer.specs.Steps.{response_said, IsDecidedAgain, IsStep, KeepsWhatStands, TakesNothingBack, Finishes, IsDeepEnough};
@@ -167,8 +168,43 @@ fn next_sheet(
     sheet
 }
 
+// The response, taken further by each step in turn, up to one whose errors hold the recursion limit.
+pub(super) fn take_steps(
+    alloc: Global,
+    first: PartialResponse,
+    authorizer: &Authorizer<'_, '_>,
+    steps: &[(&HashMap<RcStr, Value>, &Entities)],
+) -> Result<PartialResponse, ReauthorizationError>
+    ensures { IfSome (step_answer_by (λ (r : PartialResponse). r) result) (IsTakenFurther (extensions_view authorizer.now.extensions.now) (calls_of authorizer.now.extensions.now) authorizer.now.limit (steps_view steps.now) first) }
+{
+    let mut response = first;
+    'steps: for step in steps {
+        if has_recursion_limit(&response) {
+            return Ok(response);
+        }
+        let (map, store) = step;
+        response = take_step(alloc, response, map, authorizer, store)?;
+    }
+    Ok(response)
+}
+
+// One step from the response, which is done with.
+fn take_step(
+    alloc: Global,
+    response: PartialResponse,
+    map: &HashMap<RcStr, Value>,
+    authorizer: &Authorizer<'_, '_>,
+    entities: &Entities,
+) -> Result<PartialResponse, ReauthorizationError>
+    ensures { IfSome (step_answer_by (λ (r : PartialResponse). r) result) (IsStep (authorization_of (response_said response).request (store_view entities.now) (extensions_view authorizer.now.extensions.now)) (calls_of authorizer.now.extensions.now) authorizer.now.limit (values_for map.now.entries) (store_view entities.now) (response_said response)) }
+{
+    let next = reauthorized(alloc, &response, map, authorizer, entities);
+    drop(response);
+    next
+}
+
 // Whether the recursion limit is among the response's errors.
-pub(super) fn has_recursion_limit(response: &PartialResponse) -> bool
+fn has_recursion_limit(response: &PartialResponse) -> bool
     ensures { result ≡ has_limit (errors_view response.now.errors.items) }
 {
     has_limit(&response.errors)

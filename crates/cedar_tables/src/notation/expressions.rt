@@ -12,7 +12,7 @@ use crate::notation::leaves::{
     unknown, variable,
 };
 use crate::notation::unanswered::Unanswered;
-use crate::notation::{Parts, made, mapped};
+use crate::notation::{Parts, mapped, or_memory};
 use cedar_layers::expressions::{Expr, ExpressionConstructionError, Literal};
 use cedar_restricted_expressions::{RestrictedExpr, RestrictedExpressionError};
 use std::alloc::Global;
@@ -152,23 +152,23 @@ fn on_one(
     match kind {
         "get" => {
             let attribute = text(alloc, rest)?;
-            made(Expr::get_attr(alloc, popped(parts), attribute))
+            or_memory(Expr::get_attr(alloc, popped(parts), attribute))
         }
         "has" => {
             let attribute = text(alloc, rest)?;
-            made(Expr::has_attr(alloc, popped(parts), attribute))
+            or_memory(Expr::has_attr(alloc, popped(parts), attribute))
         }
         "ext" => {
             let path = attributes(alloc, rest)?;
-            made(Expr::ext_has_attr(alloc, popped(parts), path))
+            or_memory(Expr::ext_has_attr(alloc, popped(parts), path))
         }
         "like" => {
             let pattern = pattern(alloc, rest)?;
-            made(Expr::like(alloc, popped(parts), pattern))
+            or_memory(Expr::like(alloc, popped(parts), pattern))
         }
         "is" => {
             let ty = entity_type(alloc, rest)?;
-            made(Expr::is_entity_type(alloc, popped(parts), ty))
+            or_memory(Expr::is_entity_type(alloc, popped(parts), ty))
         }
         _ => Ok(Expr::val(literal(alloc, kind, rest)?)),
     }
@@ -178,16 +178,16 @@ fn on_one(
 fn operation(alloc: Global, word: &str, parts: &mut Parts<Expr>) -> Result<Expr, Unanswered> {
     let right = popped(parts);
     if let Some(op) = unary(word) {
-        return made(Expr::unary_app(alloc, op, right));
+        return or_memory(Expr::unary_app(alloc, op, right));
     }
     let left = popped(parts);
     if let Some(op) = binary(word) {
-        return made(Expr::binary_app(alloc, op, left, right));
+        return or_memory(Expr::binary_app(alloc, op, left, right));
     }
     match word {
-        "and" => made(Expr::and(alloc, left, right)),
-        "or" => made(Expr::or(alloc, left, right)),
-        "if" => made(Expr::ite(alloc, popped(parts), left, right)),
+        "and" => or_memory(Expr::and(alloc, left, right)),
+        "or" => or_memory(Expr::or(alloc, left, right)),
+        "if" => or_memory(Expr::ite(alloc, popped(parts), left, right)),
         _ => {
             drop(left);
             drop(right);

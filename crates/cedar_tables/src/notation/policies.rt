@@ -8,7 +8,7 @@ use crate::notation::expressions::expression;
 use crate::notation::leaves::{place, text};
 use crate::notation::settings::{fact_of, slots};
 use crate::notation::unanswered::Unanswered;
-use crate::notation::{Parts, both, headed, made};
+use crate::notation::{Parts, both, headed, or_memory};
 use cedar_layers::expressions::{Expr, Literal};
 use cedar_layers::policies::{Annotations, Effect, Policy, PolicyID, PolicySet, PolicySetError};
 use std::alloc::{AllocError, Global};
@@ -60,11 +60,11 @@ fn clause(alloc: Global, setting: &str, id: &str, stated: &str) -> Result<Policy
     let ((annotations, id), clause) = both(
         both(
             shared(alloc, annotations(alloc, setting, id)),
-            made(policy_id(alloc, id)),
+            or_memory(policy_id(alloc, id)),
         ),
         shared(alloc, expression(alloc, words)),
     )?;
-    made(Policy::from_when_clause_annos(alloc, effect, clause, id, place, annotations))
+    or_memory(Policy::from_when_clause_annos(alloc, effect, clause, id, place, annotations))
 }
 
 // The part, to be shared.
@@ -78,13 +78,13 @@ fn of_parts(alloc: Global, setting: &str, id: &str, stated: &str) -> Result<Poli
     let effect = effect(effect_name)?;
     let ((annotations, slots), (id, conjuncts)) = both(
         both(annotations(alloc, setting, id), slots(alloc, setting)),
-        both(made(policy_id(alloc, id)), conjuncts(alloc, words)),
+        both(or_memory(policy_id(alloc, id)), conjuncts(alloc, words)),
     )?;
     let mut parts = conjuncts;
     let when = part(&mut parts);
     let (resource, action, principal) = (part(&mut parts), part(&mut parts), part(&mut parts));
     drop(parts);
-    made(Policy::new(
+    or_memory(Policy::new(
         alloc,
         effect,
         id,

@@ -1,32 +1,32 @@
-use Rattle.std.proofs.Common.{◌∙◌, sym, ap}
+use Rattle.std.proofs.Common.{◌∙◌, sym}
 use Rattle.cedar_model.specs.Terms.{record_of}
 use Rattle.cedar_model.specs.Settings.{context_value}
 use Rattle.cedar_names.specs.Equality.{term_eq}
 use Rattle.cedar_expressions.specs.View.{fields_view}
 use Rattle.cedar_data.specs.Compared.{partial_eq}
-use Rattle.cedar_requests.specs.ContextFields.{ContextFields}
 use Rattle.cedar_requests.specs.Contexts.{ExprMap, pairs_view}
 use Rattle.cedar_requests.proofs.Equality.{values_eq, exprs_eq}
+use Rattle.cedar_requests.proofs.Opened.{opened}
 use Rattle.cedar_requests.proofs.context.equality.ContextPartialEq.eq.Goals as goal
 
 pub returns-in-Values-pairs : goal.returns-in-Values-pairs
 unfolding context_value
 returns-in-Values-pairs c =
     c.eq.ensures ∙ values_eq c.in-Values.pairs.entries c.in-Values-pairs.other_pairs.entries
-    ∙ sym (λ i. partial_eq (context_value (pairs_view ((sym (ap (λ (x : ContextFields). x.pairs) c.self.view_is) ∙ c.in-Values.is) i)))
-    (context_value (pairs_view ((sym (ap (λ (x : ContextFields). x.pairs) c.other.view_is) ∙ c.in-Values-pairs.is) i))))
+    ∙ sym (λ i. partial_eq (context_value (pairs_view ((opened c.self.view_is c.in-Values.is) i)))
+    (context_value (pairs_view ((opened c.other.view_is c.in-Values-pairs.is) i))))
 
 pub returns-in-Residual-pairs : goal.returns-in-Residual-pairs
 unfolding context_value
 returns-in-Residual-pairs c =
-    sym (λ i. partial_eq (context_value (pairs_view ((sym (ap (λ (x : ContextFields). x.pairs) c.self.view_is) ∙ c.in-Values.is) i)))
-    (context_value (pairs_view ((sym (ap (λ (x : ContextFields). x.pairs) c.other.view_is) ∙ c.in-Residual-pairs.is) i))))
+    sym (λ i. partial_eq (context_value (pairs_view ((opened c.self.view_is c.in-Values.is) i)))
+    (context_value (pairs_view ((opened c.other.view_is c.in-Residual-pairs.is) i))))
 
 pub returns-in-Values-pairs-2 : goal.returns-in-Values-pairs-2
 unfolding context_value
 returns-in-Values-pairs-2 c =
-    sym (λ i. partial_eq (context_value (pairs_view ((sym (ap (λ (x : ContextFields). x.pairs) c.self.view_is) ∙ c.in-Residual.is) i)))
-    (context_value (pairs_view ((sym (ap (λ (x : ContextFields). x.pairs) c.other.view_is) ∙ c.in-Values-pairs-2.is) i))))
+    sym (λ i. partial_eq (context_value (pairs_view ((opened c.self.view_is c.in-Residual.is) i)))
+    (context_value (pairs_view ((opened c.other.view_is c.in-Values-pairs-2.is) i))))
 
 pub returns-in-Residual-pairs-2 : goal.returns-in-Residual-pairs-2
 unfolding context_value
@@ -36,5 +36,5 @@ returns-in-Residual-pairs-2 c =
     let seen = λ (m n : ExprMap). term_eq (record_of (fields_view m.entries)) (record_of (fields_view n.entries)) in
     c.eq-in-Residual-pairs-2.ensures ∙ exprs_eq m.entries n.entries
     ∙ (λ i. seen (c.as_map.ensures.map i) (c.as_map-in-Residual-pairs-2.ensures.map i))
-    ∙ sym (λ i. partial_eq (context_value (pairs_view ((sym (ap (λ (x : ContextFields). x.pairs) c.self.view_is) ∙ c.in-Residual.is) i)))
-    (context_value (pairs_view ((sym (ap (λ (x : ContextFields). x.pairs) c.other.view_is) ∙ c.in-Residual-pairs-2.is) i))))
+    ∙ sym (λ i. partial_eq (context_value (pairs_view ((opened c.self.view_is c.in-Residual.is) i)))
+    (context_value (pairs_view ((opened c.other.view_is c.in-Residual-pairs-2.is) i))))
