@@ -96,7 +96,8 @@ module _ (X : Extensions) (calls : StoredCalls) (levels : ℕ) (begun : PartialR
     stops_with e request store first says = stops_here (authorization_of request store X) calls levels first all step left r (taken request store first says) e
 
     module _ (quiet : has_limit (errors_view r.errors.items) ≡ false) where
-      given_now : Setting
+      -- what the step is given: this response's request, and its own store
+      abbrev pub given_now : Setting
       given_now = authorization_of (response_said r).request step.1 X
 
       pub one_taken : (n : PartialResponse) → IsStep given_now calls levels step.0 step.1 (response_said r) (Ok n) → AreTaken left n
@@ -105,7 +106,7 @@ module _ (X : Extensions) (calls : StoredCalls) (levels : ℕ) (begun : PartialR
 
       pub refused_with : (o : Option Refusal) → IfSome (option_map {U = Result PartialResponse Refusal} Err o) (IsStep given_now calls levels step.0 step.1 (response_said r)) → IfSome (option_map {U = Result PartialResponse Refusal} Err o) (IsTakenFurther X calls levels all begun)
       refused_with None h = tt
-      refused_with (Some e) h request store first says =
+      refused_with (Some e) h = λ request store first says.
           step_is_refused (authorization_of request store X) calls levels first all given_now step (λ q. refl) left r (taken request store first says) quiet e h
 
 -- ---- a chain, from the first response

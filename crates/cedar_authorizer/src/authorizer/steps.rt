@@ -183,7 +183,10 @@ pub(super) fn take_steps(
             return Ok(response);
         }
         let (map, store) = step;
-        response = take_step(alloc, response, map, authorizer, store)?;
+        match take_step(alloc, response, map, authorizer, store) {
+            Ok(next) => response = next,
+            Err(error) => return Err(error),
+        }
     }
     Ok(response)
 }

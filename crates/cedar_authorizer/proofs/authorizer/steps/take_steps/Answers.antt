@@ -33,8 +33,8 @@ returns g c =
     let steps = c.args.steps.now in
     ends_with x calls c.args.authorizer.now.limit c.args.first (steps_view steps) (steps_view (drop c.steps.step-index steps)) c.steps.response (ap steps_view (drop_all c.steps.step-index steps c.steps-test.false)) c.steps.invariant
 
-pub returns-in_err-take_step : goal.returns-in_err-take_step
-returns-in_err-take_step g c =
+pub returns-in-Err : goal.returns-in-Err
+returns-in-Err g c =
     let x = extensions_view c.args.authorizer.now.extensions.now in
     let calls = calls_of c.args.authorizer.now.extensions.now in
     let levels = c.args.authorizer.now.limit in
@@ -46,7 +46,7 @@ returns-in_err-take_step g c =
     let next : drop i steps ≡ item ∷ drop (i + 1) steps = drop-cons steps i item c.steps-test.true ∙ ap (λ p. p ∷ drop (suc i) steps) (sym c.step-item.is) ∙ ap (λ j. item ∷ drop j steps) more in
     let left = steps_view (drop (i + 1) steps) in
     let taken : AreTaken x calls levels c.args.first all (step_view item ∷ left) c.steps.response = subst (λ l. AreTaken x calls levels c.args.first all (steps_view l) c.steps.response) next c.steps.invariant in
-    refused_with x calls levels c.args.first all (step_view item) left c.steps.response taken (sym c.has_recursion_limit.ensures ∙ c.if-has_recursion_limit.false) (step_refusal c.in_err-take_step.error) c.in_err-take_step.ensures
+    refused_with x calls levels c.args.first all (step_view item) left c.steps.response taken (sym c.has_recursion_limit.ensures ∙ c.if-has_recursion_limit.false) (step_refusal c.in-Err.error) c.in-Err.ensures
 
 pub steps-preserved : goal.steps-preserved
 steps-preserved g c =
@@ -61,4 +61,4 @@ steps-preserved g c =
     let next : drop i steps ≡ item ∷ drop (i + 1) steps = drop-cons steps i item c.steps-test.true ∙ ap (λ p. p ∷ drop (suc i) steps) (sym c.step-item.is) ∙ ap (λ j. item ∷ drop j steps) more in
     let left = steps_view (drop (i + 1) steps) in
     let taken : AreTaken x calls levels c.args.first all (step_view item ∷ left) c.steps.response = subst (λ l. AreTaken x calls levels c.args.first all (steps_view l) c.steps.response) next c.steps.invariant in
-    one_taken x calls levels c.args.first all (step_view item) left c.steps.response taken (sym c.has_recursion_limit.ensures ∙ c.if-has_recursion_limit.false) c.in_ok-take_step.value c.in_ok-take_step.ensures
+    one_taken x calls levels c.args.first all (step_view item) left c.steps.response taken (sym c.has_recursion_limit.ensures ∙ c.if-has_recursion_limit.false) c.in-Ok.next c.in-Ok.ensures
