@@ -13,12 +13,21 @@ use std::hash::{Hash, Hasher};
 use std::rc::Rc;
 
 /// How an extension value is written: a function and its arguments. The arguments are restricted expressions and hold no unknown.
-#[derive(Debug, Drop)]
+#[derive(Debug)]
 pub struct Representation {
     fn_name: Name,
     args: Rc<Vec<Expr>>,
     ghost restricted: { are_restricted (terms_view args.value.items) ≡ true } by { Bool-set _ _ },
     ghost known: { have_unknown (terms_view args.value.items) ≡ false } by { Bool-set _ _ },
+}
+
+impl Drop for Representation {
+    fn drop(self) {
+        let Representation {
+            fn_name: _,
+            args: _,
+        } = self;
+    }
 }
 
 /// An extension value: its type, how it is written, and its key.

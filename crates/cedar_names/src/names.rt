@@ -20,12 +20,18 @@ pub struct Loc {
 }
 
 /// A name: of a function, of an extension type or of an entity type. Equality and hash ignore its location.
-#[derive(Clone, Debug, Drop)]
+#[derive(Clone, Debug)]
 #[derive_where(PartialEq, Eq, Hash)]
 pub struct Name {
     text: RcStr,
     #[derive_where(skip(EqHashOrd))]
     loc: Option<Loc>,
+}
+
+impl Drop for Name {
+    fn drop(self) {
+        let Name { text: _, loc: _ } = self;
+    }
 }
 
 impl Model for Name {
@@ -56,8 +62,14 @@ impl Name {
 }
 
 /// The name of an entity type.
-#[derive(Clone, Debug, PartialEq, Eq, Hash, Drop)]
+#[derive(Clone, Debug, PartialEq, Eq, Hash)]
 pub struct EntityType(Name);
+
+impl Drop for EntityType {
+    fn drop(self) {
+        let EntityType(_) = self;
+    }
+}
 
 impl EntityType {
     /// The entity type of this name.
@@ -69,13 +81,23 @@ impl EntityType {
 }
 
 /// The name of an entity: its type and its id. Equality and hash ignore its location.
-#[derive(Clone, Debug, Drop)]
+#[derive(Clone, Debug)]
 #[derive_where(PartialEq, Eq, Hash)]
 pub struct EntityUID {
     ty: EntityType,
     eid: RcStr,
     #[derive_where(skip(EqHashOrd))]
     loc: Option<Loc>,
+}
+
+impl Drop for EntityUID {
+    fn drop(self) {
+        let EntityUID {
+            ty: _,
+            eid: _,
+            loc: _,
+        } = self;
+    }
 }
 
 impl Model for EntityUID {

@@ -31,11 +31,17 @@ pub mod context_creation_errors {
     use thiserror::Error;
 
     /// The expression is no record.
-    #[derive(Debug, Drop, Error)]
+    #[derive(Debug, Error)]
     #[error("expression is not a record: {expr}")]
     pub struct NotARecord {
         /// The expression, with its location.
         pub expr: Expr,
+    }
+
+    impl Drop for NotARecord {
+        fn drop(self) {
+            let NotARecord { expr: _ } = self;
+        }
     }
 }
 

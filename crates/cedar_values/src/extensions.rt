@@ -22,13 +22,22 @@ pub mod extension_function_lookup_errors {
     use thiserror::Error;
 
     /// No extension has a function of this name.
-    #[derive(Debug, Clone, PartialEq, Eq, Drop, Error)]
+    #[derive(Debug, Clone, PartialEq, Eq, Error)]
     #[error("extension function `{name}` does not exist")]
     pub struct FuncDoesNotExistError {
         /// The name that was called.
         pub name: Name,
         /// Where it was called, if that is known.
         pub source_loc: Option<Loc>,
+    }
+
+    impl Drop for FuncDoesNotExistError {
+        fn drop(self) {
+            let FuncDoesNotExistError {
+                name: _,
+                source_loc: _,
+            } = self;
+        }
     }
 
     impl Model for FuncDoesNotExistError {
@@ -61,11 +70,9 @@ impl ExtensionFunctionLookupError {
         ensures { result ≡ lookup_at self source_loc }
     {
         match self {
-            ExtensionFunctionLookupError::FuncDoesNotExist(e) => {
-                ExtensionFunctionLookupError::FuncDoesNotExist(FuncDoesNotExistError {
-                    source_loc,
-                    ..e
-                })
+            ExtensionFunctionLookupError::FuncDoesNotExist(mut e) => {
+                e.source_loc = source_loc;
+                ExtensionFunctionLookupError::FuncDoesNotExist(e)
             }
             ExtensionFunctionLookupError::Memory(e) => ExtensionFunctionLookupError::Memory(e),
         }

@@ -180,10 +180,19 @@ pub enum Dereference<'a> {
 }
 
 /// A store of entities. A concrete store has every entity; of a partial one a missing entity is not known.
-#[derive(Debug, Drop)]
+#[derive(Debug)]
 pub struct Entities {
     entities: HashMap<EntityUID, Entity>,
     partial: bool,
+}
+
+impl Drop for Entities {
+    fn drop(self) {
+        let Entities {
+            entities: _,
+            partial: _,
+        } = self;
+    }
 }
 
 impl Entities {

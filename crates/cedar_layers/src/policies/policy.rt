@@ -20,8 +20,14 @@ pub enum Effect {
 }
 
 /// The id of a policy. Ids are ordered by the bytes of their texts.
-#[derive(Clone, Debug, PartialEq, Eq, PartialOrd, Ord, Hash, Drop)]
+#[derive(Clone, Debug, PartialEq, Eq, PartialOrd, Ord, Hash)]
 pub struct PolicyID(RcStr);
+
+impl Drop for PolicyID {
+    fn drop(self) {
+        let PolicyID(_) = self;
+    }
+}
 
 impl PolicyID {
     ghost use Rattle.cedar_layers.specs.Policies.{policy_id_text};

@@ -10,10 +10,16 @@ use std::alloc::{AllocError, Global};
 use thiserror::Error;
 
 /// Policies in order of insertion, no two of one id.
-#[derive(Debug, Drop)]
+#[derive(Debug)]
 pub struct PolicySet {
     policies: IndexMap<PolicyID, Policy>,
     ghost distinct: { first_repeated (policy_ids (map policy_view (values_of policies.entries))) ≡ None },
+}
+
+impl Drop for PolicySet {
+    fn drop(self) {
+        let PolicySet { policies: _ } = self;
+    }
 }
 
 /// Why policies can't be put into one set.

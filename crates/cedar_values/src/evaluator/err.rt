@@ -82,43 +82,47 @@ impl EvaluationError {
         ensures { result ≡ error_at self source_loc }
     {
         match self {
-            EvaluationError::EntityDoesNotExist(e) => EvaluationError::EntityDoesNotExist(
-                EntityDoesNotExistError { source_loc, ..e },
-            ),
-            EvaluationError::EntityAttrDoesNotExist(e) => EvaluationError::EntityAttrDoesNotExist(
-                EntityAttrDoesNotExistError { source_loc, ..e },
-            ),
-            EvaluationError::RecordAttrDoesNotExist(e) => EvaluationError::RecordAttrDoesNotExist(
-                RecordAttrDoesNotExistError { source_loc, ..e },
-            ),
+            EvaluationError::EntityDoesNotExist(mut e) => {
+                e.source_loc = source_loc;
+                EvaluationError::EntityDoesNotExist(e)
+            }
+            EvaluationError::EntityAttrDoesNotExist(mut e) => {
+                e.source_loc = source_loc;
+                EvaluationError::EntityAttrDoesNotExist(e)
+            }
+            EvaluationError::RecordAttrDoesNotExist(mut e) => {
+                e.source_loc = source_loc;
+                EvaluationError::RecordAttrDoesNotExist(e)
+            }
             EvaluationError::FailedExtensionFunctionLookup(e) =>
                 EvaluationError::FailedExtensionFunctionLookup(e.with_maybe_source_loc(source_loc)),
-            EvaluationError::TypeError(e) => EvaluationError::TypeError(TypeError {
-                source_loc,
-                ..e
-            }),
-            EvaluationError::WrongNumArguments(e) => EvaluationError::WrongNumArguments(
-                WrongNumArgumentsError { source_loc, ..e },
-            ),
+            EvaluationError::TypeError(mut e) => {
+                e.source_loc = source_loc;
+                EvaluationError::TypeError(e)
+            }
+            EvaluationError::WrongNumArguments(mut e) => {
+                e.source_loc = source_loc;
+                EvaluationError::WrongNumArguments(e)
+            }
             EvaluationError::IntegerOverflow(e) => EvaluationError::IntegerOverflow(
                 e.with_maybe_source_loc(source_loc),
             ),
-            EvaluationError::UnlinkedSlot(e) => EvaluationError::UnlinkedSlot(UnlinkedSlotError {
-                source_loc,
-                ..e
-            }),
-            EvaluationError::FailedExtensionFunctionExecution(e) =>
-                EvaluationError::FailedExtensionFunctionExecution(ExtensionFunctionExecutionError {
-                    source_loc,
-                    ..e
-                }),
-            EvaluationError::NonValue(e) => EvaluationError::NonValue(NonValueError {
-                source_loc,
-                ..e
-            }),
-            EvaluationError::RecursionLimit(_) => EvaluationError::RecursionLimit(
-                RecursionLimitError { source_loc },
-            ),
+            EvaluationError::UnlinkedSlot(mut e) => {
+                e.source_loc = source_loc;
+                EvaluationError::UnlinkedSlot(e)
+            }
+            EvaluationError::FailedExtensionFunctionExecution(mut e) => {
+                e.source_loc = source_loc;
+                EvaluationError::FailedExtensionFunctionExecution(e)
+            }
+            EvaluationError::NonValue(mut e) => {
+                e.source_loc = source_loc;
+                EvaluationError::NonValue(e)
+            }
+            EvaluationError::RecursionLimit(mut e) => {
+                e.source_loc = source_loc;
+                EvaluationError::RecursionLimit(e)
+            }
             EvaluationError::Memory(e) => EvaluationError::Memory(e),
         }
     }

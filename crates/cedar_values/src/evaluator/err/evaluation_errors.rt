@@ -14,13 +14,22 @@ use std::rc::{Rc, RcStr};
 use thiserror::Error;
 
 /// An entity was read that the store does not have.
-#[derive(Debug, Clone, PartialEq, Eq, Drop, Error)]
+#[derive(Debug, Clone, PartialEq, Eq, Error)]
 #[error("entity `{uid}` does not exist")]
 pub struct EntityDoesNotExistError {
     /// The entity that the store does not have.
     pub uid: Rc<EntityUID>,
     /// Where the error arose, if that is known.
     pub source_loc: Option<Loc>,
+}
+
+impl Drop for EntityDoesNotExistError {
+    fn drop(self) {
+        let EntityDoesNotExistError {
+            uid: _,
+            source_loc: _,
+        } = self;
+    }
 }
 
 impl Model for EntityDoesNotExistError {
@@ -34,7 +43,7 @@ impl Model for EntityDoesNotExistError {
 }
 
 /// An attribute or a tag was read that the entity does not have.
-#[derive(Debug, Clone, PartialEq, Eq, Drop, Error)]
+#[derive(Debug, Clone, PartialEq, Eq, Error)]
 #[error("`{entity}` does not have the {} `{attr_or_tag}`", attr_or_tag_word(*.was_attr))]
 pub struct EntityAttrDoesNotExistError {
     /// The entity.
@@ -53,6 +62,20 @@ pub struct EntityAttrDoesNotExistError {
     pub source_loc: Option<Loc>,
 }
 
+impl Drop for EntityAttrDoesNotExistError {
+    fn drop(self) {
+        let EntityAttrDoesNotExistError {
+            entity: _,
+            attr_or_tag: _,
+            was_attr: _,
+            exists_the_other_kind: _,
+            available_attrs_or_tags: _,
+            total_attrs_or_tags: _,
+            source_loc: _,
+        } = self;
+    }
+}
+
 impl Model for EntityAttrDoesNotExistError {
     ghost use Rattle.cedar_values.specs.Fields.{MissingEntityAttribute};
 
@@ -68,7 +91,7 @@ fn attr_or_tag_word(was_attr: bool) -> &'static str {
 }
 
 /// An attribute was read that the record does not have.
-#[derive(Debug, Clone, PartialEq, Eq, Drop, Error)]
+#[derive(Debug, Clone, PartialEq, Eq, Error)]
 #[error("record does not have the attribute `{attr}`")]
 pub struct RecordAttrDoesNotExistError {
     /// The attribute that it does not have.
@@ -79,6 +102,17 @@ pub struct RecordAttrDoesNotExistError {
     pub total_attrs: usize,
     /// Where the error arose, if that is known.
     pub source_loc: Option<Loc>,
+}
+
+impl Drop for RecordAttrDoesNotExistError {
+    fn drop(self) {
+        let RecordAttrDoesNotExistError {
+            attr: _,
+            available_attrs: _,
+            total_attrs: _,
+            source_loc: _,
+        } = self;
+    }
 }
 
 impl Model for RecordAttrDoesNotExistError {
@@ -92,7 +126,7 @@ impl Model for RecordAttrDoesNotExistError {
 }
 
 /// A value was of another type than its place takes.
-#[derive(Debug, Clone, PartialEq, Eq, Drop)]
+#[derive(Debug, Clone, PartialEq, Eq)]
 pub struct TypeError {
     /// The types that the place takes.
     pub expected: FirstRest<Type>,
@@ -100,6 +134,16 @@ pub struct TypeError {
     pub actual: Type,
     /// Where the error arose, if that is known.
     pub source_loc: Option<Loc>,
+}
+
+impl Drop for TypeError {
+    fn drop(self) {
+        let TypeError {
+            expected: _,
+            actual: _,
+            source_loc: _,
+        } = self;
+    }
 }
 
 impl Model for TypeError {
@@ -169,7 +213,7 @@ fn write_other<W: fmt::Write>(ty: &Type, f: &mut fmt::Formatter<W>) -> fmt::Resu
 }
 
 /// An extension function was called with more or fewer arguments than it takes.
-#[derive(Debug, Clone, PartialEq, Eq, Drop, Error)]
+#[derive(Debug, Clone, PartialEq, Eq, Error)]
 #[error("wrong number of arguments provided to extension function `{function_name}`: expected {expected}, got {actual}")]
 pub struct WrongNumArgumentsError {
     /// The function.
@@ -180,6 +224,17 @@ pub struct WrongNumArgumentsError {
     pub actual: usize,
     /// Where the error arose, if that is known.
     pub source_loc: Option<Loc>,
+}
+
+impl Drop for WrongNumArgumentsError {
+    fn drop(self) {
+        let WrongNumArgumentsError {
+            function_name: _,
+            expected: _,
+            actual: _,
+            source_loc: _,
+        } = self;
+    }
 }
 
 impl Model for WrongNumArgumentsError {
@@ -193,7 +248,7 @@ impl Model for WrongNumArgumentsError {
 }
 
 /// An operator on two longs gave a number that needs more than 64 bits.
-#[derive(Debug, Clone, PartialEq, Eq, Drop, Error)]
+#[derive(Debug, Clone, PartialEq, Eq, Error)]
 #[error("integer overflow while attempting to {} the values `{arg1}` and `{arg2}`", binary_verb(*.op))]
 pub struct BinaryOpOverflowError {
     /// The operator: `Add`, `Sub` or `Mul`.
@@ -204,6 +259,17 @@ pub struct BinaryOpOverflowError {
     pub arg2: Value,
     /// Where the error arose, if that is known.
     pub source_loc: Option<Loc>,
+}
+
+impl Drop for BinaryOpOverflowError {
+    fn drop(self) {
+        let BinaryOpOverflowError {
+            op: _,
+            arg1: _,
+            arg2: _,
+            source_loc: _,
+        } = self;
+    }
 }
 
 impl Model for BinaryOpOverflowError {
@@ -238,7 +304,7 @@ fn binary_verb(op: BinaryOp) -> &'static str {
 }
 
 /// An operator on a long gave a number that needs more than 64 bits.
-#[derive(Debug, Clone, PartialEq, Eq, Drop, Error)]
+#[derive(Debug, Clone, PartialEq, Eq, Error)]
 #[error("integer overflow while attempting to {} the value `{arg}`", unary_verb(*.op))]
 pub struct UnaryOpOverflowError {
     /// The operator: `Neg`.
@@ -247,6 +313,16 @@ pub struct UnaryOpOverflowError {
     pub arg: Value,
     /// Where the error arose, if that is known.
     pub source_loc: Option<Loc>,
+}
+
+impl Drop for UnaryOpOverflowError {
+    fn drop(self) {
+        let UnaryOpOverflowError {
+            op: _,
+            arg: _,
+            source_loc: _,
+        } = self;
+    }
 }
 
 impl Model for UnaryOpOverflowError {
@@ -291,7 +367,7 @@ impl Model for UnlinkedSlotError {
 }
 
 /// An extension function answered an error of its own.
-#[derive(Debug, Clone, PartialEq, Eq, Drop, Error)]
+#[derive(Debug, Clone, PartialEq, Eq, Error)]
 #[error("error while evaluating `{extension_name}` extension function: {msg}")]
 pub struct ExtensionFunctionExecutionError {
     /// The extension of the function.
@@ -300,6 +376,16 @@ pub struct ExtensionFunctionExecutionError {
     pub msg: String,
     /// Where the error arose, if that is known.
     pub source_loc: Option<Loc>,
+}
+
+impl Drop for ExtensionFunctionExecutionError {
+    fn drop(self) {
+        let ExtensionFunctionExecutionError {
+            extension_name: _,
+            msg: _,
+            source_loc: _,
+        } = self;
+    }
 }
 
 impl Model for ExtensionFunctionExecutionError {
@@ -313,13 +399,22 @@ impl Model for ExtensionFunctionExecutionError {
 }
 
 /// The expression holds an unknown, where a value was asked for.
-#[derive(Debug, Clone, PartialEq, Eq, Drop, Error)]
+#[derive(Debug, Clone, PartialEq, Eq, Error)]
 #[error("the expression contains unknown(s): `{expr}`")]
 pub struct NonValueError {
     /// What is left of the expression.
     pub expr: Expr,
     /// Where the error arose, if that is known.
     pub source_loc: Option<Loc>,
+}
+
+impl Drop for NonValueError {
+    fn drop(self) {
+        let NonValueError {
+            expr: _,
+            source_loc: _,
+        } = self;
+    }
 }
 
 impl Model for NonValueError {
@@ -396,11 +491,13 @@ impl IntegerOverflowError {
         ensures { result ≡ overflow_at self source_loc }
     {
         match self {
-            IntegerOverflowError::BinaryOp(e) => {
-                IntegerOverflowError::BinaryOp(BinaryOpOverflowError { source_loc, ..e })
+            IntegerOverflowError::BinaryOp(mut e) => {
+                e.source_loc = source_loc;
+                IntegerOverflowError::BinaryOp(e)
             }
-            IntegerOverflowError::UnaryOp(e) => {
-                IntegerOverflowError::UnaryOp(UnaryOpOverflowError { source_loc, ..e })
+            IntegerOverflowError::UnaryOp(mut e) => {
+                e.source_loc = source_loc;
+                IntegerOverflowError::UnaryOp(e)
             }
         }
     }
