@@ -1,19 +1,7 @@
 -- What stored functions answer.
-use Rattle.std.specs.Prelude.{ℕ, ℤ, pos, negsuc, Bool, true, false, List, [], ◌∷◌, codes, int_rem}
-use Rattle.std.proofs.Common.{zero}
-use Rattle.cedar_model.specs.Terms.{bool_literal, long_literal}
-use Rattle.cedar_model.specs.Values.{AbstractValue, plain, extension_value}
-use Rattle.cedar_model.specs.Outcomes.{type_error}
-use Rattle.cedar_model.specs.World.{FunctionAnswer, function_gives, function_errs}
-
-abbrev pub is_zero : ℤ → Bool
-is_zero (pos zero) = true
-is_zero n = false
-
--- one long gives whether it is even
-unfoldable pub even_of : List AbstractValue → FunctionAnswer
-even_of (plain (long_literal n) ∷ vs) = function_gives (plain (bool_literal (is_zero (int_rem n (pos 2)))))
-even_of vs = function_errs type_error
+use Rattle.std.specs.Prelude.{ℕ, List, [], ◌∷◌, codes}
+use Rattle.cedar_model.specs.Values.{AbstractValue, extension_value}
+use Rattle.cedar_model.specs.World.{FunctionAnswer, function_gives}
 
 abbrev pub made_of : ℕ → List AbstractValue → FunctionAnswer
 made_of k vs = function_gives (extension_value (codes "T") (k ∷ []))

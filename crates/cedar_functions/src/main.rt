@@ -1,9 +1,6 @@
-//! A program that stores functions of its own: it calls them, compares what they make, and hands in extensions that can't be used
-//! together. It prints a line for each.
+//! A program that stores functions of its own and hands in extensions that can't be used together. It prints a line for each.
 #![tactic(auto)]
 
-mod calls;
-mod comparisons;
 mod constructors;
 mod functions;
 mod names;
@@ -17,9 +14,6 @@ fn main(rt: HostRuntime) -> io::Result<()> {
 }
 
 fn print_all<W: Write>(alloc: Global, out: &mut W) -> io::Result<()> {
-    calls::print(alloc, out)?;
-    comparisons::print(alloc, "T", out)?;
-    comparisons::print(alloc, "V", out)?;
     constructors::print_all(alloc, out)?;
     constructors::print_pairs(alloc, out)
 }

@@ -1,8 +1,8 @@
-//! What the modules of the program share: names, arguments, and how answers print.
+//! What the modules of the program share: names, lists, and how a line is printed.
 ghost use Rattle.std.specs.Prelude.{◌≡◌, IfOk};
 ghost use Rattle.cedar_names.specs.Names.{name_text};
 
-use cedar_layers::expressions::{Name, Type, Value};
+use cedar_layers::expressions::{Name, Type};
 use std::alloc::{AllocError, Global};
 use std::fmt::Display;
 use std::io;
@@ -14,11 +14,6 @@ pub fn name(alloc: Global, text: &str) -> Result<Name, AllocError>
     ensures { IfOk result (λ n. name_text n ≡ text.now) }
 {
     Ok(Name::new(RcStr::from_str(alloc, text)?, None))
-}
-
-/// The text as a value.
-pub fn text(alloc: Global, text: &str) -> Result<Value, AllocError> {
-    Ok(Value::from(RcStr::from_str(alloc, text)?))
 }
 
 /// A list of this alone, or its error.
@@ -57,18 +52,6 @@ pub fn type_t(alloc: Global) -> Result<Type, AllocError> {
     Ok(Type::Extension {
         name: name(alloc, "T")?,
     })
-}
-
-/// `CALL: ANSWER`
-pub fn print_answer<T: Display + Drop, E: Display + Drop, W: Write>(
-    call: &str,
-    answer: Result<T, E>,
-    out: &mut W,
-) -> io::Result<()> {
-    match answer {
-        Ok(value) => writeln!(out, "{call}: {value}"),
-        Err(error) => writeln!(out, "{call}: {error}"),
-    }
 }
 
 /// Prints this as a line.
