@@ -16,7 +16,7 @@ use std::rt::Files;
 const REQUEST: &str = "principal User:a\naction Action:view\nresource Photo:p";
 
 /// How many rows there are, and how many of them hold.
-#[derive(Debug, Clone, Copy, PartialEq, Eq)]
+#[derive(Clone, Copy)]
 pub struct Tally {
     pub rows: usize,
     pub held: usize,

@@ -6,19 +6,22 @@
 //! - of the words of a value: `value-text`, `value-cut BOUND`, `value-expression`, `value-type`, `value-copy`, `value-elements`, `part-text`,
 //!   `part-cut BOUND`, `part-copy` and `part-expression`;
 //! - of two expressions with ` ~ ` between them: `equal`; of the keys of a record: `keys`; of two values: `order`; of a leaf: `leaf`;
-//! - of the words of a restricted expression: `restricted value LIMIT`, `restricted kind LIMIT`, `restricted place LIMIT` (what it partly evaluates to),
+//! - of the words of a restricted expression: `restricted value LIMIT` and `restricted place LIMIT` (what it partly evaluates to, and where that stands),
 //!   `restricted wholly LIMIT`, `restricted type`, `restricted read`, and `restricted shape` of two with ` ~ ` between them; of the words of any
 //!   expression: `restricted text`, `restricted borrowed` and `restricted refused` (the feature and the part that may not stand there); of those of a
 //!   residual: `restricted residual` and `restricted residual-text`; of keys: `restricted pairs`;
+//! - of a name and a type: `together`, whether the two functions can be used together; of keys: `collected`, how many pairs they make;
 //! - of the pairs of a context: `context pairs LIMIT`, `context record LIMIT` and `context converted LIMIT`; of words: `context expression LIMIT`.
 
 pub mod contexts;
 pub mod expressions;
 pub mod leaves;
 pub mod restricted;
+pub mod together;
 pub mod values;
 
 use crate::notation::headed;
+use crate::notation::shown::or_fail;
 use crate::notation::unanswered::Unanswered;
 use cedar_extensions::Extensions;
 use std::alloc::Global;
@@ -43,6 +46,8 @@ pub fn answer(
         }
         "substitute" => expressions::substituted(alloc, argument, words, want),
         "leaf" => leaves::answer(alloc, words),
+        "together" => together::together(alloc, words),
+        "collected" => or_fail(together::collected(alloc, words)),
         _ => if kind.starts_with("value-") || kind.starts_with("part-") {
             values::answer(alloc, kind, argument, words)
         } else {

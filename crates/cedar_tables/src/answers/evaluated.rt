@@ -98,7 +98,7 @@ pub fn outcome_place(
     }
 }
 
-// Each element of a set, in order, and where it stands.
+// The elements of the value, or the error.
 fn elements_places(
     alloc: Global,
     outcome: &Result<Value, EvaluationError>,
@@ -109,7 +109,8 @@ fn elements_places(
     }
 }
 
-fn elements_text(alloc: Global, value: &Value) -> Result<String, AllocError> {
+/// Each element of the value, if it is a set, in order, and where it stands.
+pub fn elements_text(alloc: Global, value: &Value) -> Result<String, AllocError> {
     let mut text = String::from_str(alloc, "elements")?;
     if let ValueKind::Set(set) = value.value_kind() {
         for element in set {
@@ -280,8 +281,8 @@ fn part_by(
     evaluator.partial_interpret(alloc, expr, &setting.slots)
 }
 
-// The value, the residual, or the error with all its fields but the place.
-fn partial_text(
+/// The value, the residual, or the error with all its fields but the place.
+pub fn partial_text(
     alloc: Global,
     outcome: &Result<PartialValue, EvaluationError>,
 ) -> Result<String, AllocError> {
@@ -291,8 +292,8 @@ fn partial_text(
     }
 }
 
-// Where the value, the residual or the error stands.
-fn partial_place(
+/// Which of a value, a residual and an error it is, and where that stands.
+pub fn partial_place(
     alloc: Global,
     outcome: &Result<PartialValue, EvaluationError>,
 ) -> Result<String, AllocError> {

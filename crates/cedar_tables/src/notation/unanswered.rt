@@ -5,7 +5,7 @@ use std::str::{ParseBoolError, Utf8Error};
 use std::{fmt, io};
 
 /// Why a row has no answer.
-#[derive(Debug, Clone, Copy, PartialEq, Eq)]
+#[derive(Clone, Copy)]
 pub enum Unanswered {
     /// Memory was wanting.
     Memory,

@@ -1,7 +1,8 @@
 //! What is answered of restricted expressions, of which the words write one.
+use crate::answers::evaluated::{partial_place, partial_text};
 use crate::notation::expressions::{expression, restricted};
 use crate::notation::pair;
-use crate::notation::shown::{Place, error_place, limit, or_fail, told};
+use crate::notation::shown::{limit, or_fail, told};
 use crate::notation::unanswered::Unanswered;
 use cedar_extensions::Extensions;
 use cedar_layers::expressions::{Expr, Literal, PartialValue, ResidualExpr, Unknown, Value};
@@ -75,9 +76,8 @@ fn partly_asked(
     outcome: &Result<PartialValue, EvaluationError>,
 ) -> Result<String, Unanswered> {
     match kind {
-        "value" => Ok(part_text(alloc, outcome)?),
-        "kind" => Ok(kind_text(alloc, outcome)?),
-        "place" => Ok(part_place(alloc, outcome)?),
+        "value" => Ok(partial_text(alloc, outcome)?),
+        "place" => Ok(partial_place(alloc, outcome)?),
         _ => Err(Unanswered::Unreadable("no such question")),
     }
 }
@@ -306,43 +306,6 @@ fn partly(
     limit: usize,
 ) -> Result<PartialValue, EvaluationError> {
     RestrictedEvaluator::new(extensions, limit).partial_interpret(alloc, expr.as_borrowed())
-}
-
-fn part_text(
-    alloc: Global,
-    outcome: &Result<PartialValue, EvaluationError>,
-) -> Result<String, AllocError> {
-    match outcome {
-        Ok(part) => part.to_string(alloc),
-        Err(error) => error.to_string(alloc),
-    }
-}
-
-// Whether a value or a residual is answered, or the error.
-fn kind_text(
-    alloc: Global,
-    outcome: &Result<PartialValue, EvaluationError>,
-) -> Result<String, AllocError> {
-    match outcome {
-        Ok(PartialValue::Value(_)) => String::from_str(alloc, "value"),
-        Ok(PartialValue::Residual(_)) => String::from_str(alloc, "residual"),
-        Err(error) => error.to_string(alloc),
-    }
-}
-
-// Where a residual or an error stands.
-fn part_place(
-    alloc: Global,
-    outcome: &Result<PartialValue, EvaluationError>,
-) -> Result<String, AllocError> {
-    match outcome {
-        Ok(PartialValue::Value(_)) => String::from_str(alloc, "a value"),
-        Ok(PartialValue::Residual(residual)) => {
-            let place = Place(residual.as_expr().source_loc());
-            format!(in alloc; "residual {place}")
-        }
-        Err(error) => error_place(alloc, error),
-    }
 }
 
 fn value_text(

@@ -1,10 +1,11 @@
 //! Values and partial values as they are printed and copied.
+use crate::answers::evaluated::elements_text;
 use crate::notation::leaves::unknown;
 use crate::notation::shown::{same_text, text_of};
 use crate::notation::unanswered::Unanswered;
 use crate::notation::values::value;
 use crate::written::expressions::{copy_text, cut};
-use cedar_layers::expressions::{Expr, PartialValue, ResidualExpr, Value, ValueKind};
+use cedar_layers::expressions::{Expr, PartialValue, ResidualExpr, Value};
 use std::alloc::{AllocError, Global};
 
 /// What is asked of the value that the words write, or of the partial value.
@@ -46,22 +47,6 @@ fn value_copy(alloc: Global, value: &Value) -> Result<String, AllocError> {
     let text = same_text(alloc, &copy, value, copy.source_loc());
     drop(copy);
     text
-}
-
-// The elements of a set, in order.
-fn elements_text(alloc: Global, value: &Value) -> Result<String, AllocError> {
-    let mut text = String::from_str(alloc, "elements")?;
-    if let ValueKind::Set(set) = value.value_kind() {
-        for element in set {
-            put_element(alloc, &mut text, element)?;
-        }
-    }
-    Ok(text)
-}
-
-fn put_element(alloc: Global, text: &mut String, element: &Value) -> Result<(), AllocError> {
-    text.push_str(" ")?;
-    text.push_str(element.to_string(alloc)?.as_str())
 }
 
 // The value that the words write, or the unknown.

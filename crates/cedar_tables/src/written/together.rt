@@ -1,0 +1,96 @@
+//! Extensions that are handed in side by side, and pairs that are put into one map.
+ghost use Rattle.std.specs.Prelude.{◌≡◌, true};
+ghost use Rattle.cedar_extensions.specs.Outcomes.{ComesTo, is_lawful, abstracts};
+ghost use Rattle.cedar_built_in_rows.specs.Stored.{made_of};
+
+use crate::notation::leaves::{name, named_type, text};
+use crate::notation::shown::or_fail;
+use crate::notation::unanswered::Unanswered;
+use crate::notation::{both, headed, pair};
+use cedar_built_in_rows::functions::made;
+use cedar_extensions::util::{CollectError, collect_no_duplicates};
+use cedar_extensions::{
+    Extension, ExtensionFunction, ExtensionFunctionObject, ExtensionInitializationError,
+    ExtensionOutputValue, Extensions,
+};
+use cedar_layers::expressions::{CallStyle, Name, Type, Value};
+use cedar_values::evaluator::err::EvaluationError;
+use std::alloc::{AllocError, Global};
+use std::rc::RcStr;
+
+/// Whether a function of this name that takes this type can be used beside `make`, which takes a text. Each is in an extension of its own, and makes
+/// values of the type `T`.
+pub fn together(alloc: Global, words: &str) -> Result<String, Unanswered> {
+    let (second, takes) = headed(words);
+    let first: ExtensionFunctionObject = Box::new(
+        alloc,
+        move |args: &[Value]| -> Result<ExtensionOutputValue, EvaluationError>
+            ensures computes { ComesTo result (made_of 1 (abstracts args.now)) }
+            ensures lawful { is_lawful result ≡ true }
+        { made(alloc, args, 1) },
+    )?;
+    let last: ExtensionFunctionObject = Box::new(
+        alloc,
+        move |args: &[Value]| -> Result<ExtensionOutputValue, EvaluationError>
+            ensures computes { ComesTo result (made_of 2 (abstracts args.now)) }
+            ensures lawful { is_lawful result ≡ true }
+        { made(alloc, args, 2) },
+    )?;
+    let style = CallStyle::FunctionStyle;
+    let (((makes, make), (others, other)), ((of_make, texts), (of_other, takes))) = both(
+        both(
+            both(name(alloc, "makes"), name(alloc, "make")),
+            both(name(alloc, "others"), name(alloc, second)),
+        ),
+        both(types(alloc, "String"), types(alloc, takes)),
+    )?;
+    let make = ExtensionFunction::new(make, style, first, Some(of_make), texts);
+    let other = ExtensionFunction::new(other, style, last, Some(of_other), takes);
+    let (makes, others) = both(alone(alloc, makes, make), alone(alloc, others, other))?;
+    let all = vec![in alloc; makes, others]?;
+    let text = accepted(alloc, all.as_slice());
+    drop(all);
+    or_fail(text)
+}
+
+// The type `T`, and this type alone in a list.
+fn types(alloc: Global, takes: &str) -> Result<(Type, Vec<Type>), Unanswered> {
+    let (made, taken) = both(named_type(alloc, "Extension:T"), named_type(alloc, takes))?;
+    Ok((made, vec![in alloc; taken]?))
+}
+
+// The extension of this name that has this function.
+fn alone(alloc: Global, title: Name, function: ExtensionFunction) -> Result<Extension, Unanswered> {
+    Ok(Extension::new(title, vec![in alloc; function]?, Vec::new(alloc)))
+}
+
+fn accepted(alloc: Global, all: &[Extension]) -> Result<String, AllocError> {
+    match Extensions::specific_extensions(alloc, all) {
+        Ok(_) => String::from_str(alloc, "accepted"),
+        Err(ExtensionInitializationError::Memory(error)) => Err(error),
+        Err(error) => {
+            let text = error.to_string(alloc);
+            drop(error);
+            text
+        }
+    }
+}
+
+/// How many pairs of these keys there are in a map, or which key comes again.
+pub fn collected(alloc: Global, keys: &str) -> Result<String, AllocError> {
+    match collect_no_duplicates(alloc, pairs(alloc, keys)?.into_iter()) {
+        Ok(map) => format!(in alloc; "{} pairs", map.len()),
+        Err(CollectError::Duplicate(key)) => format!(in alloc; "{key} comes again"),
+        Err(CollectError::Memory(error)) => Err(error),
+    }
+}
+
+// These keys, each with how many stand before it.
+fn pairs(alloc: Global, keys: &str) -> Result<Vec<(RcStr, usize)>, AllocError> {
+    let mut pairs: Vec<(RcStr, usize)> = Vec::new(alloc);
+    for key in keys.split(' ') {
+        let before = pairs.len();
+        pair(&mut pairs, text(alloc, key)?, before)?;
+    }
+    Ok(pairs)
+}
