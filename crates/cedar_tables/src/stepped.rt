@@ -19,7 +19,6 @@ use cedar_responses::shared::Sheet;
 use indexmap::IndexMap;
 use std::alloc::{AllocError, Global};
 use std::collections::HashMap;
-use std::mem;
 use std::rc::{Rc, RcStr};
 
 /// What is known after the steps, or why one of them was refused.
@@ -201,18 +200,28 @@ fn one_by_one(
     first: PartialResponse,
     steps: &[Step],
 ) -> Result<PartialResponse, ReauthorizationError> {
-    let authorizer = Authorizer::new(setting.extensions, limit);
-    let mut response = first;
-    'steps: for step in steps {
-        match response.reauthorize(alloc, &step.map, &authorizer, &step.entities) {
-            Ok(next) => drop(mem::replace(&mut response, next)),
-            Err(error) => {
-                drop(response);
-                return Err(error);
-            }
+    match steps {
+        [] => Ok(first),
+        [step] => taken(alloc, setting, limit, first, step),
+        [step, next, ..] => {
+            let response = taken(alloc, setting, limit, first, step)?;
+            taken(alloc, setting, limit, response, next)
         }
     }
-    Ok(response)
+}
+
+// What is known once the response is taken further by this step.
+fn taken(
+    alloc: Global,
+    setting: &Setting<'_, '_>,
+    limit: usize,
+    response: PartialResponse,
+    step: &Step,
+) -> Result<PartialResponse, ReauthorizationError> {
+    let authorizer = Authorizer::new(setting.extensions, limit);
+    let next = response.reauthorize(alloc, &step.map, &authorizer, &step.entities);
+    drop(response);
+    next
 }
 
 // The response that is made of these notes.

@@ -2,7 +2,7 @@
 //! function, the count that it takes and the count that it was given, `FailedExtensionFunctionExecution f text` the extension and what it says.
 use crate::notation::leaves::{name, named_type, text};
 use crate::notation::unanswered::Unanswered;
-use crate::notation::{both, headed};
+use crate::notation::{Parts, both, headed};
 use cedar_layers::expressions::{FirstRest, Type};
 use cedar_values::evaluator::err::EvaluationError;
 use cedar_values::evaluator::err::evaluation_errors::{
@@ -36,16 +36,18 @@ fn types(alloc: Global, written: &str) -> Result<FirstRest<Type>, Unanswered> {
         Some((first, others)) => (first, Some(others)),
         None => (written, None),
     };
-    let mut rest: Vec<Type> = Vec::new(alloc);
+    let (first, rest) = both(named_type(alloc, first), other_types(alloc, others))?;
+    Ok(FirstRest { first, rest })
+}
+
+fn other_types(alloc: Global, others: Option<&str>) -> Result<Vec<Type>, Unanswered> {
+    let mut types: Parts<Type> = Parts::new(alloc);
     if let Some(others) = others {
         for other in others.split(',') {
-            rest.push(named_type(alloc, other)?)?;
+            types.push(named_type(alloc, other)?)?;
         }
     }
-    Ok(FirstRest {
-        first: named_type(alloc, first)?,
-        rest,
-    })
+    types.all()
 }
 
 fn wrong_count(alloc: Global, function: &str, counts: &str) -> Result<EvaluationError, Unanswered> {

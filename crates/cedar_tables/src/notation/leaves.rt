@@ -102,8 +102,8 @@ pub fn uid(alloc: Global, written: &str) -> Result<EntityUID, Unanswered> {
     let (ty, id) = written
         .rsplit_once(':')
         .ok_or("an entity has a type and an id")?;
-    let ty = entity_type(alloc, ty)?;
-    Ok(EntityUID::new(ty, text(alloc, id)?, None))
+    let id = text(alloc, id)?;
+    Ok(EntityUID::new(entity_type(alloc, ty)?, id, None))
 }
 
 /// The literal of this kind: `B`, `L`, `T` or `E`.
@@ -151,8 +151,8 @@ fn plain_type(written: &str) -> Option<Type> {
 pub fn unknown(alloc: Global, written: &str) -> Result<Unknown, Unanswered> {
     match written.split_once(':') {
         Some((name, ty)) => {
-            let ty = named_type(alloc, ty)?;
-            Ok(Unknown::new_with_type(text(alloc, name)?, ty))
+            let name = text(alloc, name)?;
+            Ok(Unknown::new_with_type(name, named_type(alloc, ty)?))
         }
         None => Ok(Unknown::new_untyped(text(alloc, written)?)),
     }
@@ -165,9 +165,10 @@ pub fn missing(alloc: Global, written: &str) -> Result<Unknown, Unanswered> {
 }
 
 fn standing_for(alloc: Global, uid: &EntityUID) -> Result<Unknown, AllocError> {
-    let name = uid.to_string(alloc)?;
+    let shown = uid.to_string(alloc)?;
+    let name = RcStr::from_str(alloc, shown.as_str())?;
     let ty = uid.entity_type().clone()?;
-    Ok(Unknown::new_with_type(RcStr::from_str(alloc, name.as_str())?, Type::Entity { ty }))
+    Ok(Unknown::new_with_type(name, Type::Entity { ty }))
 }
 
 /// The attributes of a path, as `k.l`.

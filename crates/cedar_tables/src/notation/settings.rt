@@ -127,7 +127,8 @@ fn request(
 fn entry(alloc: Global, setting: &str, variable: &str) -> Result<EntityUIDEntry, Unanswered> {
     let (name, rest) = headed(first_fact(setting, variable).ok_or("no such entity")?);
     if name != "unknown" {
-        Ok(EntityUIDEntry::known(uid(alloc, name)?, place(rest)?))
+        let place = place(rest)?;
+        Ok(EntityUIDEntry::known(uid(alloc, name)?, place))
     } else if rest.is_empty() {
         Ok(EntityUIDEntry::unknown())
     } else {
