@@ -7,7 +7,7 @@ ghost use Rattle.cedar_built_in_rows.specs.Stored.{even_of, fail_of, ask_of, mad
 use crate::cases::{Tally, tally_of_rows};
 use crate::notation::settings::setting_of;
 use crate::notation::unanswered::Unanswered;
-use crate::notation::{both, fact, first_fact, or_memory};
+use crate::notation::{add, both, fact, first_fact, or_memory};
 use cedar_built_in_rows::functions::{ask, even, fail, made, plain_name};
 use cedar_extensions::{
     Extension, ExtensionFunction, ExtensionFunctionObject, ExtensionInitializationError,
@@ -139,10 +139,7 @@ fn put(
     function: ExtensionFunction,
 ) -> Result<(), AllocError> {
     if is_named(names_in(facts), function.name().text().as_str()) {
-        match functions.push(function) {
-            Ok(()) => Ok(()),
-            Err(_) => Err(AllocError),
-        }
+        add(functions, function)
     } else {
         Ok(())
     }

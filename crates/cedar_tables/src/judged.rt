@@ -99,8 +99,13 @@ fn condition_answer(
     policy: &Policy,
 ) -> Result<String, AllocError> {
     let request = setting.request.clone()?;
-    let evaluator = Evaluator::new(alloc, request, &setting.entities, setting.extensions, limit)?;
-    let evaluator = evaluator.with_unknowns_mapper(&setting.map);
+    let evaluator = Evaluator::new(
+        alloc,
+        request,
+        &setting.entities,
+        setting.extensions,
+        limit,
+    )?.with_unknowns_mapper(&setting.map);
     let text = condition_by(alloc, &evaluator, kind, policy);
     drop(evaluator);
     text

@@ -62,10 +62,7 @@ impl<T: Drop> Parts<T> {
 
     /// Puts the part behind the others.
     pub fn push(&mut self, part: T) -> Result<(), AllocError> {
-        match self.parts.push(part) {
-            Ok(()) => Ok(()),
-            Err(_) => Err(AllocError),
-        }
+        add(&mut self.parts, part)
     }
 
     /// Takes the latest part. Where there is none, it is the one that is given, and the words are not well made.
@@ -142,12 +139,17 @@ pub(crate) fn or_memory<T: Drop>(part: Result<T, AllocError>) -> Result<T, Unans
     Ok(part?)
 }
 
-/// Puts the part behind the others, under its key.
-pub fn pair<T: Drop>(pairs: &mut Vec<(RcStr, T)>, key: RcStr, part: T) -> Result<(), AllocError> {
-    match pairs.push((key, part)) {
+/// Puts the part behind the others.
+pub fn add<T: Drop>(parts: &mut Vec<T>, part: T) -> Result<(), AllocError> {
+    match parts.push(part) {
         Ok(()) => Ok(()),
         Err(_) => Err(AllocError),
     }
+}
+
+/// Puts the part behind the others, under its key.
+pub fn pair<T: Drop>(pairs: &mut Vec<(RcStr, T)>, key: RcStr, part: T) -> Result<(), AllocError> {
+    add(pairs, (key, part))
 }
 
 /// Puts the part into the map, under its key.

@@ -1,5 +1,6 @@
 //! An expression that is deeper than the machine's stack would allow.
 use crate::answers::evaluated::of_expression;
+use crate::notation::add;
 use crate::notation::settings::Setting;
 use crate::notation::shown::limit;
 use crate::notation::unanswered::Unanswered;
@@ -39,7 +40,7 @@ fn last_answer(
 // one before it, so that no drop goes deeper than one.
 fn negations(alloc: Global, count: usize) -> Result<Vec<Expr>, AllocError> {
     let mut all: Vec<Expr> = Vec::new(alloc);
-    all.push(Expr::val(Literal::Bool(true)))?;
+    add(&mut all, Expr::val(Literal::Bool(true)))?;
     for _ in 0..count {
         put_negation(alloc, &mut all)?;
     }
@@ -49,9 +50,10 @@ fn negations(alloc: Global, count: usize) -> Result<Vec<Expr>, AllocError> {
 fn put_negation(alloc: Global, all: &mut Vec<Expr>) -> Result<(), AllocError> {
     if let Some(last) = all.last() {
         let negation = negation(alloc, last)?;
-        all.push(negation)?;
+        add(all, negation)
+    } else {
+        Ok(())
     }
-    Ok(())
 }
 
 fn negation(alloc: Global, expr: &Expr) -> Result<Expr, AllocError> {

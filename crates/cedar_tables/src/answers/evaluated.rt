@@ -60,8 +60,13 @@ fn outcome(
     expr: &Expr,
 ) -> Result<Value, EvaluationError> {
     let request = setting.request.clone()?;
-    let evaluator = Evaluator::new(alloc, request, &setting.entities, setting.extensions, limit)?;
-    let evaluator = evaluator.with_unknowns_mapper(&setting.map);
+    let evaluator = Evaluator::new(
+        alloc,
+        request,
+        &setting.entities,
+        setting.extensions,
+        limit,
+    )?.with_unknowns_mapper(&setting.map);
     let outcome = value_by(alloc, &evaluator, setting, expr);
     drop(evaluator);
     outcome
@@ -265,8 +270,13 @@ fn partial_outcome(
     expr: &Expr,
 ) -> Result<PartialValue, EvaluationError> {
     let request = setting.request.clone()?;
-    let evaluator = Evaluator::new(alloc, request, &setting.entities, setting.extensions, limit)?;
-    let evaluator = evaluator.with_unknowns_mapper(&setting.map);
+    let evaluator = Evaluator::new(
+        alloc,
+        request,
+        &setting.entities,
+        setting.extensions,
+        limit,
+    )?.with_unknowns_mapper(&setting.map);
     let outcome = part_by(alloc, &evaluator, setting, expr);
     drop(evaluator);
     outcome

@@ -6,14 +6,14 @@ ghost use Rattle.cedar_built_in_rows.specs.Stored.{made_of};
 use crate::notation::leaves::{name, named_type, text};
 use crate::notation::shown::or_fail;
 use crate::notation::unanswered::Unanswered;
-use crate::notation::{both, headed, pair};
+use crate::notation::{add, both, headed, pair};
 use cedar_built_in_rows::functions::made;
 use cedar_extensions::util::{CollectError, collect_no_duplicates};
 use cedar_extensions::{
     Extension, ExtensionFunction, ExtensionFunctionObject, ExtensionInitializationError,
     ExtensionOutputValue, Extensions,
 };
-use cedar_layers::expressions::{CallStyle, Name, Type, Value};
+use cedar_layers::expressions::{CallStyle, Type, Value};
 use cedar_values::evaluator::err::EvaluationError;
 use std::alloc::{AllocError, Global};
 use std::rc::RcStr;
@@ -46,7 +46,9 @@ pub fn together(alloc: Global, words: &str) -> Result<String, Unanswered> {
     )?;
     let make = ExtensionFunction::new(make, style, first, Some(of_make), texts);
     let other = ExtensionFunction::new(other, style, last, Some(of_other), takes);
-    let (makes, others) = both(alone(alloc, makes, make), alone(alloc, others, other))?;
+    let (make, other) = both(alone(alloc, make), alone(alloc, other))?;
+    let makes = Extension::new(makes, make, Vec::new(alloc));
+    let others = Extension::new(others, other, Vec::new(alloc));
     let all = vec![in alloc; makes, others]?;
     let text = accepted(alloc, all.as_slice());
     drop(all);
@@ -56,12 +58,14 @@ pub fn together(alloc: Global, words: &str) -> Result<String, Unanswered> {
 // The type `T`, and this type alone in a list.
 fn types(alloc: Global, takes: &str) -> Result<(Type, Vec<Type>), Unanswered> {
     let (made, taken) = both(named_type(alloc, "Extension:T"), named_type(alloc, takes))?;
-    Ok((made, vec![in alloc; taken]?))
+    Ok((made, alone(alloc, taken)?))
 }
 
-// The extension of this name that has this function.
-fn alone(alloc: Global, title: Name, function: ExtensionFunction) -> Result<Extension, Unanswered> {
-    Ok(Extension::new(title, vec![in alloc; function]?, Vec::new(alloc)))
+// A list of this alone.
+fn alone<T: Drop>(alloc: Global, item: T) -> Result<Vec<T>, Unanswered> {
+    let mut list: Vec<T> = Vec::new(alloc);
+    add(&mut list, item)?;
+    Ok(list)
 }
 
 fn accepted(alloc: Global, all: &[Extension]) -> Result<String, AllocError> {
