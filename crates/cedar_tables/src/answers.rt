@@ -1,4 +1,4 @@
-//! What is answered to a row, as text, that is evaluated in the setting or reads what the setting holds.
+//! What is answered to a row that is evaluated in the setting or reads what the setting holds.
 //!
 //! - of the words of an expression: `value LIMIT`, `place LIMIT`, `elements LIMIT` and `error LIMIT` (what it evaluates to, where that or its error
 //!   stands, where each element of a set does, and the error's text; with no limit as many levels as it needs), `partial LIMIT`,
@@ -15,32 +15,31 @@ pub mod evaluated;
 pub mod operated;
 pub mod stored;
 
+use crate::notation::answer::Answer;
 use crate::notation::settings::Setting;
-use crate::notation::unanswered::Unanswered;
 use crate::written;
-use std::alloc::Global;
 
-/// What is answered to these words, where the answer that is wanted is this one. A question of another kind than those above is
-/// handed to `written`.
-pub fn answer(
-    alloc: Global,
+/// Answers these words, where the answer that is wanted is this one. A question of another kind than those above is handed to `written`.
+pub fn ask(
+    answer: &mut Answer,
     setting: &Setting<'_, '_>,
     kind: &str,
     argument: &str,
     words: &str,
     want: &str,
-) -> Result<String, Unanswered> {
+) {
     match kind {
-        "partial" | "partial-place" | "residual" => evaluated::partly(
-            alloc, setting, kind, argument, words, want,
+        "partial" | "partial-place" | "residual" => evaluated::ask_partly(
+            answer, setting, kind, argument, words, want,
         ),
-        "operator" => operated::answer(alloc, argument, words),
-        "built-error" => operated::built_error(alloc, argument, words),
-        "request" | "entity" => stored::answer(alloc, setting, kind, words),
-        "negations" => deep::answer(alloc, setting, argument, words),
+        "operator" => operated::ask(answer, argument, words),
+        "built-error" => operated::ask_error(answer, argument, words),
+        "request" => stored::ask_request(answer, &setting.request, words),
+        "entity" => stored::ask_entity(answer, &setting.entities, words),
+        "negations" => deep::ask(answer, setting, argument, words),
         "value" | "place" | "elements" | "error" => {
-            evaluated::answer(alloc, setting, kind, argument, words)
+            evaluated::ask(answer, setting, kind, argument, words)
         }
-        _ => written::answer(alloc, setting.extensions, kind, argument, words, want),
+        _ => written::ask(answer, setting.extensions, kind, argument, words, want),
     }
 }

@@ -3,10 +3,11 @@
 //! that begins with `#` is a title. The facts are those that `notation` reads, and `in FILE`: the facts of that file stand behind them.
 //! `questions` says which there are.
 use crate::functions::tally;
+use crate::notation::answer::Answer;
 use crate::notation::settings::Setting;
 use crate::notation::unanswered::Unanswered;
 use crate::notation::{fact, first_fact};
-use crate::questions::answer;
+use crate::questions::ask;
 use std::alloc::Global;
 use std::fs;
 use std::rc::RcStr;
@@ -117,7 +118,9 @@ fn row_holds(
     row: &str,
 ) -> Result<bool, Unanswered> {
     let (words, want) = row.split_once(" => ").ok_or("a row without an answer")?;
-    match answer(alloc, facts, setting, question, words, want) {
+    let mut answer = Answer::new(alloc);
+    ask(&mut answer, facts, setting, question, words, want);
+    match answer.finish() {
         Ok(answer) => is_wanted(rt, question, words, answer.as_str(), want),
         Err(Unanswered::Unreadable(reason)) => is_wanted(rt, question, words, reason, want),
         Err(Unanswered::Memory) => Err(Unanswered::Memory),

@@ -6,7 +6,7 @@ ghost use Rattle.cedar_built_in_rows.specs.Stored.{even_of, fail_of, ask_of, mad
 
 use crate::cases::{Tally, tally_of_rows};
 use crate::notation::settings::setting_of;
-use crate::notation::unanswered::Unanswered;
+use crate::notation::unanswered::{Noted, Unanswered};
 use crate::notation::{add, both, fact, first_fact, or_memory};
 use cedar_built_in_rows::functions::{ask, even, fail, made, plain_name};
 use cedar_extensions::{
@@ -201,8 +201,12 @@ fn tally_in(
 ) -> Result<Tally, Unanswered> {
     match Extensions::specific_extensions(alloc, all) {
         Ok(extensions) => {
-            let setting = setting_of(alloc, facts, &extensions)?;
-            let tally = tally_of_rows(rt, alloc, facts, &setting, rows);
+            let mut noted = Noted::none();
+            let setting = setting_of(alloc, facts, &extensions, &mut noted);
+            let tally = match noted.why() {
+                None => tally_of_rows(rt, alloc, facts, &setting, rows),
+                Some(why) => Err(why),
+            };
             drop(setting);
             tally
         }

@@ -1,65 +1,50 @@
 //! What policies decide, and what a policy holds.
-use crate::answers::described::described;
+use crate::answers::described::describe;
+use crate::notation::answer::Answer;
 use crate::notation::policies::{policies, policy, policy_set};
 use crate::notation::settings::Setting;
-use crate::notation::shown::{Place, is_equal, limit, or_fail, text_of};
-use crate::notation::unanswered::Unanswered;
+use crate::notation::shown::{Place, is_equal};
 use cedar_authorizer::authorizer::{AuthorizationError, Authorizer, Response};
-use cedar_built_in_rows::lines::{decision_text, joined, reasons_text};
+use cedar_built_in_rows::lines::{decision_text, reasons_text};
 use cedar_evaluator::evaluator::{EvaluationError, Evaluator};
 use cedar_layers::expressions::{Expr, ExprKind};
 use cedar_layers::policies::{Effect, Policy, PolicySet};
 use either::Either;
 use std::alloc::{AllocError, Global};
 
-/// What the policies decide for the request, or what the condition of the one policy comes out as.
-pub fn answer(
-    alloc: Global,
+/// What the policies decide for the request.
+pub fn ask(
+    answer: &mut Answer,
     facts: &str,
     setting: &Setting<'_, '_>,
     kind: &str,
     limit_text: &str,
     ids: &str,
-) -> Result<String, Unanswered> {
-    let limit = limit(limit_text)?;
-    if kind == "evaluate" || kind == "partly-evaluate" {
-        let policy = policy(alloc, facts, ids)?;
-        let text = condition_answer(alloc, setting, kind, limit, &policy);
-        drop(policy);
-        return or_fail(text);
+) {
+    let limit = answer.limit(limit_text);
+    match policy_set(answer.alloc, facts, ids) {
+        Ok(policies) => {
+            decide(answer, setting, kind, limit, &policies);
+            drop(policies);
+        }
+        Err(why) => answer.fail(why),
     }
-    let policies = policy_set(alloc, facts, ids)?;
-    let text = decided(alloc, setting, kind, limit, &policies);
-    drop(policies);
-    or_fail(text)
 }
 
-/// What the set of the policies holds, or the one policy, or its condition.
-pub fn listed(alloc: Global, facts: &str, kind: &str, ids: &str) -> Result<String, Unanswered> {
-    if kind == "set" || kind == "set-debug" {
-        return or_fail(set_text(alloc, kind, policies(alloc, facts, ids)?));
-    }
-    let policy = policy(alloc, facts, ids)?;
-    let text = if kind == "policy" {
-        policy_text(alloc, &policy)
-    } else {
-        condition_text(alloc, &policy)
-    };
-    drop(policy);
-    or_fail(text)
-}
-
-fn decided(
-    alloc: Global,
+fn decide(
+    answer: &mut Answer,
     setting: &Setting<'_, '_>,
     kind: &str,
     limit: usize,
     policies: &PolicySet,
-) -> Result<String, AllocError> {
-    let response = response(alloc, setting, limit, policies)?;
-    let text = shown(alloc, kind, &response);
-    drop(response);
-    text
+) {
+    match response(answer.alloc, setting, limit, policies) {
+        Ok(response) => {
+            put_decided(answer, kind, &response);
+            drop(response);
+        }
+        Err(_) => answer.lack_memory(),
+    }
 }
 
 fn response(
@@ -73,188 +58,251 @@ fn response(
     authorizer.is_authorized(alloc, request, policies, &setting.entities)
 }
 
-fn shown(alloc: Global, kind: &str, response: &Response) -> Result<String, AllocError> {
-    if kind == "decide-copy" {
-        copy_text(alloc, response)
-    } else {
-        response_text(alloc, kind, response)
+fn put_decided(answer: &mut Answer, kind: &str, response: &Response) {
+    match kind {
+        "decide" => {
+            put_decision(answer, response);
+            put_errors(answer, &response.diagnostics.errors);
+        }
+        "decide-texts" => {
+            put_decision(answer, response);
+            put_texts(answer, &response.diagnostics.errors);
+        }
+        _ => put_is_copied(answer, response),
     }
 }
 
 // Whether a copy of the response is equal to it.
-fn copy_text(alloc: Global, response: &Response) -> Result<String, AllocError> {
-    truth(alloc, is_equal(response.clone(), response)?)
+fn put_is_copied(answer: &mut Answer, response: &Response) {
+    match is_equal(response.clone(), response) {
+        Ok(is_same) => answer.show(&is_same),
+        Err(_) => answer.lack_memory(),
+    }
 }
 
-fn truth(alloc: Global, is_true: bool) -> Result<String, AllocError> {
-    is_true.to_string(alloc)
+/// `Allow [reasons]`
+pub fn put_decision(answer: &mut Answer, response: &Response) {
+    let reasons = reasons_text(answer.alloc, &response.diagnostics.reason);
+    answer.put(decision_text(response.decision));
+    answer.put(" [");
+    answer.show_made(reasons);
+    answer.put("]");
 }
 
-// What the condition comes out as, or partly comes out as.
-fn condition_answer(
-    alloc: Global,
+// ` [errors]`: each error behind its policy, and its place.
+fn put_errors(answer: &mut Answer, errors: &[AuthorizationError]) {
+    answer.put(" [");
+    answer.begin();
+    for error in errors {
+        answer.next("; ");
+        put_error(answer, error);
+    }
+    answer.put("]");
+}
+
+fn put_error(answer: &mut Answer, error: &AuthorizationError) {
+    let AuthorizationError::PolicyEvaluationError { id, error } = error;
+    answer.show(id);
+    answer.put(": ");
+    describe(answer, error);
+    answer.put(" ");
+    answer.show(&Place(error.source_loc()));
+}
+
+// The same with the errors' own texts, of copies of them.
+fn put_texts(answer: &mut Answer, errors: &[AuthorizationError]) {
+    answer.put(" [");
+    answer.begin();
+    for error in errors {
+        answer.next("; ");
+        answer.show_made(error.clone());
+    }
+    answer.put("]");
+}
+
+/// What the condition of the policy comes out as, or partly comes out as.
+pub fn ask_condition(
+    answer: &mut Answer,
+    facts: &str,
+    setting: &Setting<'_, '_>,
+    kind: &str,
+    limit_text: &str,
+    id: &str,
+) {
+    let limit = answer.limit(limit_text);
+    match policy(answer.alloc, facts, id) {
+        Ok(policy) => {
+            let done = evaluate(answer, setting, kind, limit, &policy);
+            answer.note(done);
+            drop(policy);
+        }
+        Err(why) => answer.fail(why),
+    }
+}
+
+fn evaluate(
+    answer: &mut Answer,
     setting: &Setting<'_, '_>,
     kind: &str,
     limit: usize,
     policy: &Policy,
-) -> Result<String, AllocError> {
+) -> Result<(), AllocError> {
     let request = setting.request.clone()?;
     let evaluator = Evaluator::new(
-        alloc,
+        answer.alloc,
         request,
         &setting.entities,
         setting.extensions,
         limit,
-    )?.with_unknowns_mapper(&setting.map);
-    let text = condition_by(alloc, &evaluator, kind, policy);
+    )?
+    .with_unknowns_mapper(&setting.map);
+    put_condition_by(answer, &evaluator, kind, policy);
     drop(evaluator);
-    text
+    Ok(())
 }
 
-fn condition_by(
-    alloc: Global,
+fn put_condition_by(
+    answer: &mut Answer,
     evaluator: &Evaluator<'_, '_>,
     kind: &str,
     policy: &Policy,
-) -> Result<String, AllocError> {
+) {
     if kind == "evaluate" {
-        let outcome = evaluator.evaluate(alloc, policy);
-        let text = truth_text(alloc, &outcome);
+        let outcome = evaluator.evaluate(answer.alloc, policy);
+        put_truth(answer, &outcome);
         drop(outcome);
-        text
     } else {
-        let outcome = evaluator.partial_evaluate(alloc, policy);
-        let text = left_text(alloc, &outcome);
+        let outcome = evaluator.partial_evaluate(answer.alloc, policy);
+        put_left(answer, &outcome);
         drop(outcome);
-        text
     }
 }
 
-fn truth_text(
-    alloc: Global,
-    outcome: &Result<bool, EvaluationError>,
-) -> Result<String, AllocError> {
+fn put_truth(answer: &mut Answer, outcome: &Result<bool, EvaluationError>) {
     match outcome {
-        Ok(is_true) => is_true.to_string(alloc),
-        Err(error) => described(alloc, error),
+        Ok(is_true) => answer.show(is_true),
+        Err(error) => describe(answer, error),
     }
 }
 
-fn left_text(
-    alloc: Global,
-    outcome: &Result<Either<bool, Expr>, EvaluationError>,
-) -> Result<String, AllocError> {
+fn put_left(answer: &mut Answer, outcome: &Result<Either<bool, Expr>, EvaluationError>) {
     match outcome {
-        Ok(Either::Left(is_true)) => is_true.to_string(alloc),
-        Ok(Either::Right(expr)) => expr.to_string(alloc),
-        Err(error) => described(alloc, error),
+        Ok(Either::Left(is_true)) => answer.show(is_true),
+        Ok(Either::Right(expr)) => answer.show(expr),
+        Err(error) => describe(answer, error),
     }
 }
 
-// `Allow [reasons] [errors]`, with each error behind its policy, and its place; or the errors' own texts, of copies
-// of them.
-fn response_text(alloc: Global, kind: &str, response: &Response) -> Result<String, AllocError> {
-    let mut texts: Vec<String> = Vec::new(alloc);
-    for error in &response.diagnostics.errors {
-        texts.push(if kind == "decide" {
-            error_line(alloc, error)?
-        } else {
-            copied_line(alloc, error)?
-        })?;
+/// The ids of the set of these policies with their effects, in order, or why there is no such set.
+pub fn ask_set(answer: &mut Answer, facts: &str, kind: &str, ids: &str) {
+    match policies(answer.alloc, facts, ids) {
+        Ok(policies) => put_set(answer, kind, policies),
+        Err(why) => answer.fail(why),
     }
-    let errors = joined(alloc, &texts, "; ")?;
-    let decision = decision_text(response.decision);
-    let reasons = reasons_text(alloc, &response.diagnostics.reason)?;
-    format!(in alloc; "{decision} [{reasons}] [{errors}]")
 }
 
-fn error_line(alloc: Global, error: &AuthorizationError) -> Result<String, AllocError> {
-    let AuthorizationError::PolicyEvaluationError { id, error } = error;
-    let text = described(alloc, error)?;
-    format!(in alloc; "{id}: {text} {}", Place(error.source_loc()))
-}
-
-fn copied_line(alloc: Global, error: &AuthorizationError) -> Result<String, AllocError> {
-    text_of(alloc, error.clone())
-}
-
-// The ids with their effects, in order, or why there is no such set.
-fn set_text(alloc: Global, kind: &str, policies: Vec<Policy>) -> Result<String, AllocError> {
-    match PolicySet::try_from_iter(alloc, policies) {
+fn put_set(answer: &mut Answer, kind: &str, policies: Vec<Policy>) {
+    match PolicySet::try_from_iter(answer.alloc, policies) {
         Ok(set) => {
-            let text = if kind == "set" {
-                policies_text(alloc, &set)
-            } else {
-                format!(in alloc; "{set:?}")
-            };
+            put_set_of(answer, kind, &set);
             drop(set);
-            text
         }
         Err(error) => {
-            let text = error.to_string(alloc);
+            answer.show(&error);
             drop(error);
-            text
         }
     }
 }
 
-fn policies_text(alloc: Global, set: &PolicySet) -> Result<String, AllocError> {
-    let mut texts: Vec<String> = Vec::new(alloc);
-    for policy in set {
-        let effect = effect_text(policy.effect());
-        texts.push(format!(in alloc; "{effect} {}", policy.id())?)?;
+fn put_set_of(answer: &mut Answer, kind: &str, set: &PolicySet) {
+    if kind == "set" {
+        put_policies(answer, set);
+    } else {
+        answer.show_debug(set);
     }
-    joined(alloc, &texts, ",")
 }
 
-/// The name of the effect.
-pub fn effect_text(effect: Effect) -> &'static str {
+fn put_policies(answer: &mut Answer, set: &PolicySet) {
+    answer.begin();
+    for policy in set {
+        answer.next(",");
+        put_named(answer, policy);
+    }
+}
+
+/// The effect and the id.
+pub fn put_named(answer: &mut Answer, policy: &Policy) {
+    answer.put(effect_text(policy.effect()));
+    answer.put(" ");
+    answer.show(policy.id());
+}
+
+fn effect_text(effect: Effect) -> &'static str {
     match effect {
         Effect::Permit => "permit",
         Effect::Forbid => "forbid",
     }
 }
 
-// The effect, the id, the annotations and the slots of a copy of the policy.
-fn policy_text(alloc: Global, policy: &Policy) -> Result<String, AllocError> {
-    let copy = policy.clone()?;
-    let text = told(alloc, &copy);
-    drop(copy);
-    text
+/// What the policy holds, or its condition.
+pub fn ask_policy(answer: &mut Answer, facts: &str, kind: &str, id: &str) {
+    match policy(answer.alloc, facts, id) {
+        Ok(policy) => {
+            put_copied(answer, kind, policy.clone());
+            drop(policy);
+        }
+        Err(why) => answer.fail(why),
+    }
 }
 
-fn told(alloc: Global, copy: &Policy) -> Result<String, AllocError> {
-    let effect = effect_text(copy.effect());
-    let annotations = &copy.annotations_rc().0;
-    format!(in alloc; "{effect} {} {annotations:?} {:?}", copy.id(), copy.env())
+fn put_copied(answer: &mut Answer, kind: &str, copy: Result<Policy, AllocError>) {
+    match copy {
+        Ok(copy) => {
+            put_copy(answer, kind, &copy);
+            drop(copy);
+        }
+        Err(_) => answer.lack_memory(),
+    }
 }
 
-// The condition of a copy of the policy, where each of its conjunctions stands, and where the first constraint does.
-fn condition_text(alloc: Global, policy: &Policy) -> Result<String, AllocError> {
-    let condition = condition_of(alloc, policy)?;
-    let text = places_of(alloc, &condition);
-    drop(condition);
-    text
+fn put_copy(answer: &mut Answer, kind: &str, copy: &Policy) {
+    if kind == "policy" {
+        put_policy(answer, copy);
+    } else {
+        put_condition(answer, copy);
+    }
 }
 
-fn condition_of(alloc: Global, policy: &Policy) -> Result<Expr, AllocError> {
-    let copy = policy.clone()?;
-    let condition = copy.condition(alloc);
-    drop(copy);
-    condition
+// The effect, the id, the annotations and the slots.
+fn put_policy(answer: &mut Answer, policy: &Policy) {
+    put_named(answer, policy);
+    answer.put(" ");
+    answer.show_debug(&policy.annotations_rc().0);
+    answer.put(" ");
+    answer.show_debug(policy.env());
 }
 
-fn places_of(alloc: Global, condition: &Expr) -> Result<String, AllocError> {
+// The condition, where each of its conjunctions stands, and where the first constraint does.
+fn put_condition(answer: &mut Answer, policy: &Policy) {
+    match policy.condition(answer.alloc) {
+        Ok(condition) => put_places(answer, &condition),
+        Err(_) => answer.lack_memory(),
+    }
+}
+
+fn put_places(answer: &mut Answer, condition: &Expr) {
     let both = left_of(condition);
     let scope = left_of(both);
-    let first = left_of(scope);
-    format!(in alloc;
-        "{condition}, {}, {}, {}, {}",
-        Place(condition.source_loc()),
-        Place(both.source_loc()),
-        Place(scope.source_loc()),
-        Place(first.source_loc())
-    )
+    answer.show(condition);
+    put_place(answer, condition);
+    put_place(answer, both);
+    put_place(answer, scope);
+    put_place(answer, left_of(scope));
+}
+
+fn put_place(answer: &mut Answer, expr: &Expr) {
+    answer.put(", ");
+    answer.show(&Place(expr.source_loc()));
 }
 
 // The left side of a conjunction, and else the expression.

@@ -3,6 +3,7 @@
 //!
 //! A text stands in a word as it is, but for `␣`, which stands for a space. A place is written as its ends, `1-2`.
 
+pub mod answer;
 pub mod errors;
 pub mod expressions;
 pub mod leaves;
@@ -16,7 +17,7 @@ use leaves::text;
 use std::alloc::{AllocError, Global};
 use std::collections::{BTreeMap, HashMap};
 use std::rc::RcStr;
-use unanswered::Unanswered;
+use unanswered::{Noted, Unanswered};
 
 /// The fact of this keyword that the line states, if it states one.
 pub fn fact<'a>(line: &'a str, keyword: &str) -> Option<&'a str> {
@@ -44,11 +45,12 @@ pub fn headed(text: &str) -> (&str, &str) {
     }
 }
 
-/// The parts that were read and that no later word has taken, the latest one last.
+/// The parts that were read and that no later word has taken, the latest one last. Why they can't be read is noted in them, so that who reads a
+/// word looks at nothing, and they are looked at once, when all are read.
 #[derive(Drop)]
 pub struct Parts<T: Drop> {
     parts: Vec<T>,
-    lacks_one: bool,
+    noted: Noted,
 }
 
 impl<T: Drop> Parts<T> {
@@ -56,13 +58,38 @@ impl<T: Drop> Parts<T> {
     pub fn new(alloc: Global) -> Parts<T> {
         Parts {
             parts: Vec::new(alloc),
-            lacks_one: false,
+            noted: Noted::none(),
         }
     }
 
+    /// Notes why they can't be read; the first reason stays.
+    pub fn fail(&mut self, why: Unanswered) {
+        self.noted.fail(why);
+    }
+
+    /// Notes that what is written can't be read, for this reason.
+    pub fn refuse(&mut self, reason: &'static str) {
+        self.noted.refuse(reason);
+    }
+
+    /// Notes that memory was wanting.
+    pub fn lack_memory(&mut self) {
+        self.noted.lack_memory();
+    }
+
     /// Puts the part behind the others.
-    pub fn push(&mut self, part: T) -> Result<(), AllocError> {
-        add(&mut self.parts, part)
+    pub fn push(&mut self, part: T) {
+        if let Err(_) = self.parts.push(part) {
+            self.lack_memory();
+        }
+    }
+
+    /// Puts what was read behind the others.
+    pub fn push_read(&mut self, read: Result<T, Unanswered>) {
+        match read {
+            Ok(part) => self.push(part),
+            Err(why) => self.fail(why),
+        }
     }
 
     /// Takes the latest part. Where there is none, it is the one that is given, and the words are not well made.
@@ -70,7 +97,7 @@ impl<T: Drop> Parts<T> {
         match self.parts.pop() {
             Some(part) => part,
             None => {
-                self.lacks_one = true;
+                self.refuse("a part is missing");
                 instead
             }
         }
@@ -80,7 +107,7 @@ impl<T: Drop> Parts<T> {
     pub fn last(&mut self, count: usize) -> Result<Vec<T>, AllocError> {
         let length = self.parts.len();
         if count > length {
-            self.lacks_one = true;
+            self.refuse("a part is missing");
         }
         self.parts.split_off(length.saturating_sub(count))
     }
@@ -95,18 +122,22 @@ impl<T: Drop> Parts<T> {
             let key = text(alloc, key)?;
             match self.parts.pop() {
                 Some(part) => pair(&mut pairs, key, part)?,
-                None => self.lacks_one = true,
+                None => self.refuse("a part is missing"),
             }
         }
         Ok(pairs)
     }
 
+    /// The number that is written so.
+    pub fn number(&mut self, written: &str) -> usize {
+        self.noted.number(written)
+    }
+
     /// The parts, in their order.
     pub fn all(self) -> Result<Vec<T>, Unanswered> {
-        if self.lacks_one {
-            Err(Unanswered::Unreadable("a part is missing"))
-        } else {
-            Ok(self.parts)
+        match self.noted.why() {
+            None => Ok(self.parts),
+            Some(why) => Err(why),
         }
     }
 

@@ -1,6 +1,5 @@
 //! What the program of the built-in rows prints, and its statuses.
-use crate::notation::unanswered::Unanswered;
-use crate::notation::{both, or_memory};
+use crate::notation::answer::Answer;
 use cedar_authorizer::authorizer::Authorizer;
 use cedar_built_in_rows::lines::{LIMIT, in_one_step};
 use cedar_built_in_rows::rows::{Row, row_named};
@@ -17,38 +16,44 @@ use std::io::Write;
 use std::rc::RcStr;
 
 /// What is asked of these words.
-pub fn answer(
-    alloc: Global,
-    kind: &str,
-    argument: &str,
-    words: &str,
-) -> Result<String, Unanswered> {
+pub fn ask(answer: &mut Answer, kind: &str, argument: &str, words: &str) {
     match kind {
-        "run" => run_text(alloc, words),
-        "run-without-functions" => run_alone_text(alloc, words),
-        "step-refused" => refused_text(alloc, row_named(words).ok_or("no such row")?),
+        "run" => put_run(answer, words),
+        "run-without-functions" => put_run_alone(answer, words),
+        "step-refused" => match row_named(words) {
+            Some(row) => put_refused(answer, row),
+            None => answer.refuse("no such row"),
+        },
         _ => match argument {
-            "memory" => failed_text(alloc, words.parse::<usize>()?, io::ErrorKind::OutOfMemory),
-            "pipe" => failed_text(alloc, words.parse::<usize>()?, io::ErrorKind::BrokenPipe),
-            _ => Err(Unanswered::Unreadable("no such failure")),
+            "memory" => put_failed(answer, words, io::ErrorKind::OutOfMemory),
+            "pipe" => put_failed(answer, words, io::ErrorKind::BrokenPipe),
+            _ => answer.refuse("no such failure"),
         },
     }
 }
 
 // The status, and the lines with `;` behind each, of a run with these arguments. `none` is no argument, and `''` an empty one.
-fn run_text(alloc: Global, written: &str) -> Result<String, Unanswered> {
-    let arguments = arguments(alloc, written)?;
-    let mut out: Vec<u8> = Vec::new(alloc);
-    let status = run_with_even(alloc, &arguments, &mut out);
-    answered(alloc, status, out.as_slice())
+fn put_run(answer: &mut Answer, written: &str) {
+    match arguments(answer.alloc, written) {
+        Ok(arguments) => {
+            let mut out: Vec<u8> = Vec::new(answer.alloc);
+            let status = run_with_even(answer.alloc, &arguments, &mut out);
+            put_printed(answer, status, out.as_slice());
+        }
+        Err(_) => answer.lack_memory(),
+    }
 }
 
 // The same where no function is stored.
-fn run_alone_text(alloc: Global, written: &str) -> Result<String, Unanswered> {
-    let arguments = arguments(alloc, written)?;
-    let mut out: Vec<u8> = Vec::new(alloc);
-    let status = run(alloc, &arguments, &Extensions::none(), &mut out);
-    answered(alloc, status, out.as_slice())
+fn put_run_alone(answer: &mut Answer, written: &str) {
+    match arguments(answer.alloc, written) {
+        Ok(arguments) => {
+            let mut out: Vec<u8> = Vec::new(answer.alloc);
+            let status = run(answer.alloc, &arguments, &Extensions::none(), &mut out);
+            put_printed(answer, status, out.as_slice());
+        }
+        Err(_) => answer.lack_memory(),
+    }
 }
 
 fn arguments(alloc: Global, written: &str) -> Result<Vec<String>, AllocError> {
@@ -64,55 +69,66 @@ fn arguments(alloc: Global, written: &str) -> Result<Vec<String>, AllocError> {
 }
 
 // The status and the lines. Want of memory is no answer.
-fn answered(alloc: Global, status: u8, out: &[u8]) -> Result<String, Unanswered> {
+fn put_printed(answer: &mut Answer, status: u8, out: &[u8]) {
     if status == OUT_OF_MEMORY {
-        return Err(Unanswered::Memory);
+        answer.lack_memory();
     }
-    let text = str::from_utf8(out)?;
-    let lines = text.replace(alloc, '\n', ";")?;
-    Ok(format!(in alloc; "{status} {lines}")?)
+    match str::from_utf8(out) {
+        Ok(text) => {
+            let lines = text.replace(answer.alloc, '\n', ";");
+            answer.show(&status);
+            answer.put(" ");
+            answer.show_made(lines);
+        }
+        Err(_) => answer.refuse("what was printed is no text"),
+    }
 }
 
 // What is printed where the row's request is taken further by a resource, which it has.
-fn refused_text(alloc: Global, row: Row) -> Result<String, Unanswered> {
-    let (step, policies) = both(or_memory(resource_is_b(alloc)), no_policies(alloc))?;
-    let text = refused_by(alloc, row, &step, &policies);
-    drop((step, policies));
-    text
+fn put_refused(answer: &mut Answer, row: Row) {
+    match resource_is_b(answer.alloc) {
+        Ok(step) => {
+            put_refused_at(answer, row, &step);
+            drop(step);
+        }
+        Err(_) => answer.lack_memory(),
+    }
 }
 
-fn refused_by(
-    alloc: Global,
+fn put_refused_at(answer: &mut Answer, row: Row, step: &HashMap<RcStr, Value>) {
+    match PolicySet::try_from_iter(answer.alloc, Vec::new(answer.alloc)) {
+        Ok(policies) => {
+            put_refused_by(answer, row, step, &policies);
+            drop(policies);
+        }
+        Err(_) => answer.lack_memory(),
+    }
+}
+
+fn put_refused_by(
+    answer: &mut Answer,
     row: Row,
     step: &HashMap<RcStr, Value>,
     policies: &PolicySet,
-) -> Result<String, Unanswered> {
+) {
     let none = Extensions::none();
     let authorizer = Authorizer::new(&none, LIMIT);
-    match in_one_step(alloc, row, &authorizer, policies, step) {
+    match in_one_step(answer.alloc, row, &authorizer, policies, step) {
         Ok(response) => {
             drop(response);
-            Err(Unanswered::Unreadable("not refused"))
+            answer.refuse("not refused");
         }
         Err(stop) => {
-            let text = stopped_text(alloc, &stop);
+            put_stopped(answer, &stop);
             drop(stop);
-            text
         }
     }
 }
 
-fn no_policies(alloc: Global) -> Result<PolicySet, Unanswered> {
-    match PolicySet::try_from_iter(alloc, Vec::new(alloc)) {
-        Ok(policies) => Ok(policies),
-        Err(_) => Err(Unanswered::Memory),
-    }
-}
-
-fn stopped_text(alloc: Global, stop: &Stop) -> Result<String, Unanswered> {
-    let mut out: Vec<u8> = Vec::new(alloc);
+fn put_stopped(answer: &mut Answer, stop: &Stop) {
+    let mut out: Vec<u8> = Vec::new(answer.alloc);
     let status = stopped(stop, &mut out);
-    answered(alloc, status, out.as_slice())
+    put_printed(answer, status, out.as_slice());
 }
 
 /// A writer that takes so many writes and then fails in this way.
@@ -137,16 +153,16 @@ impl Write for Failing {
 }
 
 // The statuses of runs that write all rows to a writer that fails in this way, after no write, after one, and so on, so many runs.
-fn failed_text(alloc: Global, runs: usize, kind: io::ErrorKind) -> Result<String, Unanswered> {
-    let mut text = String::from_str(alloc, "statuses")?;
-    for left in 0..runs {
-        let status = failed(alloc, left, kind);
+fn put_failed(answer: &mut Answer, runs: &str, kind: io::ErrorKind) {
+    answer.put("statuses");
+    for left in 0..answer.number(runs) {
+        let status = failed(answer.alloc, left, kind);
         if status == OUT_OF_MEMORY && kind != io::ErrorKind::OutOfMemory {
-            return Err(Unanswered::Memory);
+            answer.lack_memory();
         }
-        text.push_str(format!(in alloc; " {status}")?.as_str())?;
+        answer.put(" ");
+        answer.show(&status);
     }
-    Ok(text)
 }
 
 fn failed(alloc: Global, left: usize, kind: io::ErrorKind) -> u8 {

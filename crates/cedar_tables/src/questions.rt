@@ -1,4 +1,4 @@
-//! What is answered to a row, as text, under the question that is asked of it: of policies, of what is known of them, and of the program of the
+//! What is answered to a row under the question that is asked of it: of policies, of what is known of them, and of the program of the
 //! built-in rows. All other questions are those of `answers` and `written`.
 //!
 //! - Of the ids of policies: `decide LIMIT`, `decide-texts LIMIT` (the errors' own texts), `decide-copy LIMIT` (whether a copy
@@ -9,33 +9,37 @@
 //! - of a step: `context-with LIMIT` (the context of the setting with its values);
 //! - of the arguments of the program of the built-in rows, `run` and, where no function is stored, `run-without-functions`; of a row, `step-refused`;
 //!   of a number of writes, `failing-output memory` and `failing-output pipe`, the statuses where the writer fails after one less each.
+use crate::notation::answer::Answer;
 use crate::notation::headed;
 use crate::notation::settings::Setting;
-use crate::notation::unanswered::Unanswered;
 use crate::{answers, judged, program, stepped};
-use std::alloc::Global;
 
-/// What is answered to these words, where the answer that is wanted is this one. The facts are those of the setting.
-pub fn answer(
-    alloc: Global,
+/// Answers these words, where the answer that is wanted is this one. The facts are those of the setting.
+pub fn ask(
+    answer: &mut Answer,
     facts: &str,
     setting: &Setting<'_, '_>,
     question: &str,
     words: &str,
     want: &str,
-) -> Result<String, Unanswered> {
+) {
     let (kind, argument) = headed(question);
     match kind {
-        "decide" | "decide-texts" | "decide-copy" | "evaluate" | "partly-evaluate" => {
-            judged::answer(alloc, facts, setting, kind, argument, words)
+        "decide" | "decide-texts" | "decide-copy" => {
+            judged::ask(answer, facts, setting, kind, argument, words)
         }
-        "set" | "set-debug" | "policy" | "condition" => judged::listed(alloc, facts, kind, words),
-        "chain" | "in-steps" | "one-by-one" | "made" | "context-with" => {
-            stepped::answer(alloc, facts, setting, kind, argument, words)
+        "evaluate" | "partly-evaluate" => {
+            judged::ask_condition(answer, facts, setting, kind, argument, words)
+        }
+        "set" | "set-debug" => judged::ask_set(answer, facts, kind, words),
+        "policy" | "condition" => judged::ask_policy(answer, facts, kind, words),
+        "context-with" => stepped::ask_context(answer, setting, argument, words),
+        "chain" | "in-steps" | "one-by-one" | "made" => {
+            stepped::ask(answer, facts, setting, kind, argument, words)
         }
         "run" | "run-without-functions" | "step-refused" | "failing-output" => {
-            program::answer(alloc, kind, argument, words)
+            program::ask(answer, kind, argument, words)
         }
-        _ => answers::answer(alloc, setting, kind, argument, words, want),
+        _ => answers::ask(answer, setting, kind, argument, words, want),
     }
 }

@@ -1,17 +1,18 @@
 //! What is known of policies, and what becomes of that in steps.
 use crate::answers::described::kind;
-use crate::judged::effect_text;
-use crate::notation::headed;
+use crate::judged::{put_decision, put_named};
+use crate::notation::answer::Answer;
 use crate::notation::policies::{policy_id, policy_set};
 use crate::notation::settings::Setting;
-use crate::notation::shown::{is_equal, limit, or_fail, told};
+use crate::notation::shown::is_equal;
 use crate::notation::unanswered::Unanswered;
+use crate::notation::{both, headed};
 use crate::steps::{Step, mapping, sheet, steps};
 use cedar_authorizer::authorizer::{
     AuthorizationError, Authorizer, ConcretizationError, Decision, PartialResponse,
     ReauthorizationError, Reauthorize, ReportedIds, ReportedPolicies, Response,
 };
-use cedar_built_in_rows::lines::{decision_text, joined, reasons_text};
+use cedar_built_in_rows::lines::decision_text;
 use cedar_layers::expressions::Value;
 use cedar_layers::policies::{Entities, Policy, PolicyID, PolicySet};
 use cedar_requests::{Context, Request};
@@ -22,115 +23,143 @@ use std::collections::HashMap;
 use std::rc::{Rc, RcStr};
 
 /// What is known after the steps, or why one of them was refused.
-pub fn answer(
-    alloc: Global,
+pub fn ask(
+    answer: &mut Answer,
     facts: &str,
     setting: &Setting<'_, '_>,
     question: &str,
     argument: &str,
     words: &str,
-) -> Result<String, Unanswered> {
-    if question == "context-with" {
-        return context_with(alloc, setting, limit(argument)?, words);
-    }
+) {
     let (first, written) = match words.split_once(" / ") {
         Some((first, written)) => (first, written),
         None => (words, ""),
     };
-    let steps = steps(alloc, facts, written)?;
-    let text = if question == "made" {
-        of_notes(alloc, setting, argument, first, &steps)
+    match steps(answer.alloc, facts, written) {
+        Ok(steps) => {
+            ask_after(answer, facts, setting, question, argument, first, &steps);
+            drop(steps);
+        }
+        Err(why) => answer.fail(why),
+    }
+}
+
+// The same after these steps.
+fn ask_after(
+    answer: &mut Answer,
+    facts: &str,
+    setting: &Setting<'_, '_>,
+    question: &str,
+    argument: &str,
+    first: &str,
+    steps: &[Step],
+) {
+    if question == "made" {
+        of_notes(answer, setting, argument, first, steps);
     } else {
-        of_policies(alloc, facts, setting, question, argument, first, &steps)
-    };
-    drop(steps);
-    text
+        of_policies(answer, facts, setting, question, argument, first, steps);
+    }
 }
 
 // What is asked after these steps of the response that is made of these notes.
 fn of_notes(
-    alloc: Global,
+    answer: &mut Answer,
     setting: &Setting<'_, '_>,
     asked: &str,
     notes: &str,
     steps: &[Step],
-) -> Result<String, Unanswered> {
-    let limit = limit("")?;
-    let response = made(alloc, setting, notes)?;
-    let outcome = one_by_one(alloc, setting, limit, response, steps);
-    let text = answered(alloc, asked, &outcome);
-    drop(outcome);
-    text
+) {
+    let limit = answer.limit("");
+    match made(answer.alloc, setting, notes) {
+        Ok(response) => {
+            let outcome = one_by_one(answer.alloc, setting, limit, response, steps);
+            put_answered(answer, asked, &outcome);
+            drop(outcome);
+        }
+        Err(why) => answer.fail(why),
+    }
 }
 
 // What is known after these steps of the policies of these ids.
 fn of_policies(
-    alloc: Global,
+    answer: &mut Answer,
     facts: &str,
     setting: &Setting<'_, '_>,
     question: &str,
     limit_text: &str,
     ids: &str,
     steps: &[Step],
-) -> Result<String, Unanswered> {
-    let limit = limit(limit_text)?;
-    let policies = policy_set(alloc, facts, ids)?;
-    let text = chained(alloc, setting, question, limit, &policies, steps);
-    drop(policies);
-    text
+) {
+    let limit = answer.limit(limit_text);
+    match policy_set(answer.alloc, facts, ids) {
+        Ok(policies) => {
+            put_chained(answer, setting, question, limit, &policies, steps);
+            drop(policies);
+        }
+        Err(why) => answer.fail(why),
+    }
 }
 
-fn chained(
-    alloc: Global,
+fn put_chained(
+    answer: &mut Answer,
     setting: &Setting<'_, '_>,
     question: &str,
     limit: usize,
     policies: &PolicySet,
     steps: &[Step],
-) -> Result<String, Unanswered> {
+) {
     match question {
-        "in-steps" => told_in_steps(alloc, setting, limit, policies, steps),
-        "one-by-one" => told_one_by_one(alloc, setting, limit, policies, steps),
+        "in-steps" => put_in_steps(answer, setting, limit, policies, steps),
+        "one-by-one" => put_one_by_one(answer, setting, limit, policies, steps),
         _ => {
-            let other = told_one_by_one(alloc, setting, limit, policies, steps)?;
-            let text = told_in_steps(alloc, setting, limit, policies, steps)?;
-            Ok(same(alloc, text, other.as_str())?)
+            let mut text = Answer::new(answer.alloc);
+            put_in_steps(&mut text, setting, limit, policies, steps);
+            let mut other = Answer::new(answer.alloc);
+            put_one_by_one(&mut other, setting, limit, policies, steps);
+            put_alike(answer, text.finish(), other.finish());
         }
     }
 }
 
-fn told_in_steps(
-    alloc: Global,
+fn put_in_steps(
+    answer: &mut Answer,
     setting: &Setting<'_, '_>,
     limit: usize,
     policies: &PolicySet,
     steps: &[Step],
-) -> Result<String, Unanswered> {
-    let outcome = in_steps(alloc, setting, limit, policies, steps);
-    let text = answered(alloc, "", &outcome);
+) {
+    let outcome = in_steps(answer.alloc, setting, limit, policies, steps);
+    put_answered(answer, "", &outcome);
     drop(outcome);
-    text
 }
 
-fn told_one_by_one(
-    alloc: Global,
+fn put_one_by_one(
+    answer: &mut Answer,
     setting: &Setting<'_, '_>,
     limit: usize,
     policies: &PolicySet,
     steps: &[Step],
-) -> Result<String, Unanswered> {
-    let outcome = from_core(alloc, setting, limit, policies, steps);
-    let text = answered(alloc, "", &outcome);
+) {
+    let outcome = from_core(answer.alloc, setting, limit, policies, steps);
+    put_answered(answer, "", &outcome);
     drop(outcome);
-    text
 }
 
 // The text of both ways, or that of each where they differ.
-fn same(alloc: Global, text: String, other: &str) -> Result<String, AllocError> {
-    if text.as_str() == other {
-        Ok(text)
-    } else {
-        format!(in alloc; "{text}, but one by one {other}")
+fn put_alike(
+    answer: &mut Answer,
+    text: Result<String, Unanswered>,
+    other: Result<String, Unanswered>,
+) {
+    match both(text, other) {
+        Ok((text, other)) => {
+            answer.put(text.as_str());
+            if text.as_str() != other.as_str() {
+                answer.put(", but one by one ");
+                answer.put(other.as_str());
+            }
+        }
+        Err(why) => answer.fail(why),
     }
 }
 
@@ -263,18 +292,29 @@ fn made_of(
 }
 
 // What is asked of the response, or why there is none.
-fn answered(
-    alloc: Global,
+fn put_answered(
+    answer: &mut Answer,
     asked: &str,
     outcome: &Result<PartialResponse, ReauthorizationError>,
-) -> Result<String, Unanswered> {
+) {
     match outcome {
-        Ok(response) => match headed(asked) {
-            ("get", id) => or_fail(got_text(alloc, response, &policy_id(alloc, id)?)),
-            ("readers", _) => or_fail(readers_text(alloc, response)),
-            (_, _) => known_text(alloc, response),
-        },
-        Err(error) => Ok(format!(in alloc; "{}: {error}", refusal(error))?),
+        Ok(response) => put_asked(answer, asked, response),
+        Err(error) => {
+            answer.put(refusal(error));
+            answer.put(": ");
+            answer.show(error);
+        }
+    }
+}
+
+fn put_asked(answer: &mut Answer, asked: &str, response: &PartialResponse) {
+    match headed(asked) {
+        ("get", id) => put_got(answer, response, id),
+        ("readers", _) => put_readers(answer, response),
+        (_, _) => {
+            put_concrete(answer, response);
+            put_known(answer, response);
+        }
     }
 }
 
@@ -292,26 +332,16 @@ fn refusal(error: &ReauthorizationError) -> &'static str {
     }
 }
 
-// The decision; the response made concrete; the permits that are satisfied, those that are not, and those of which something is left; the same of
-// forbids; those that erred; those that must determine the decision, and those that may.
-fn known_text(alloc: Global, response: &PartialResponse) -> Result<String, Unanswered> {
-    let mut text = String::new(alloc);
-    put_concrete(alloc, &mut text, response)?;
-    put_known(alloc, &mut text, response)?;
-    Ok(text)
-}
-
-// Both ways to make it concrete must answer the same.
-fn put_concrete(
-    alloc: Global,
-    text: &mut String,
-    response: &PartialResponse,
-) -> Result<(), Unanswered> {
-    text.push_str(given_text(response.decision()))?;
-    let concrete = concrete_of(alloc, response)?;
-    let put = put_converted(alloc, text, response, &concrete);
-    drop(concrete);
-    put
+// The decision, and the response made concrete, as `Allow; Allow [reasons] [errors]`. Both ways to make it concrete must answer the same.
+fn put_concrete(answer: &mut Answer, response: &PartialResponse) {
+    answer.put(given_text(response.decision()));
+    match concrete_of(answer.alloc, response) {
+        Ok(concrete) => {
+            put_converted(answer, response, &concrete);
+            drop(concrete);
+        }
+        Err(_) => answer.lack_memory(),
+    }
 }
 
 fn concrete_of(alloc: Global, response: &PartialResponse) -> Result<Response, AllocError> {
@@ -319,21 +349,16 @@ fn concrete_of(alloc: Global, response: &PartialResponse) -> Result<Response, Al
     copy.concretize(alloc)
 }
 
-fn put_converted(
-    alloc: Global,
-    text: &mut String,
-    response: &PartialResponse,
-    concrete: &Response,
-) -> Result<(), Unanswered> {
-    if converts_to(response, concrete)? {
-        Ok(put_response(alloc, text, concrete)?)
-    } else {
-        Err(Unanswered::Unreadable("it is made concrete in two ways"))
+fn put_converted(answer: &mut Answer, response: &PartialResponse, concrete: &Response) {
+    match is_equal(converted(response), concrete) {
+        Ok(true) => {
+            answer.put("; ");
+            put_decision(answer, concrete);
+            put_errors(answer, &concrete.diagnostics.errors);
+        }
+        Ok(false) => answer.refuse("it is made concrete in two ways"),
+        Err(_) => answer.lack_memory(),
     }
-}
-
-fn converts_to(response: &PartialResponse, concrete: &Response) -> Result<bool, AllocError> {
-    is_equal(converted(response), concrete)
 }
 
 fn converted(response: &PartialResponse) -> Result<Response, AllocError> {
@@ -348,190 +373,153 @@ fn given_text(decision: Option<Decision>) -> &'static str {
     }
 }
 
-// `; Allow [reasons] [errors]`
-fn put_response(alloc: Global, text: &mut String, response: &Response) -> Result<(), AllocError> {
-    text.push_str("; ")?;
-    text.push_str(decision_text(response.decision))?;
-    put_reasons(alloc, text, response)?;
-    put(
-        text,
-        "",
-        errors_text(alloc, &response.diagnostics.errors)?.as_str(),
-    )
-}
-
-fn put_reasons(alloc: Global, text: &mut String, response: &Response) -> Result<(), AllocError> {
-    put(
-        text,
-        "",
-        reasons_text(alloc, &response.diagnostics.reason)?.as_str(),
-    )
-}
-
-// The title, and this list behind it.
-fn put(text: &mut String, title: &str, listed: &str) -> Result<(), AllocError> {
-    text.push_str(title)?;
-    text.push_str(" [")?;
-    text.push_str(listed)?;
-    text.push_str("]")
-}
-
-fn errors_text(alloc: Global, errors: &[AuthorizationError]) -> Result<String, AllocError> {
-    let mut texts: Vec<String> = Vec::new(alloc);
+// ` [errors]`: the kind of each error behind its policy.
+fn put_errors(answer: &mut Answer, errors: &[AuthorizationError]) {
+    answer.put(" [");
+    answer.begin();
     for error in errors {
         let AuthorizationError::PolicyEvaluationError { id, error } = error;
-        texts.push(format!(in alloc; "{id} {}", kind(error))?)?;
+        answer.next(", ");
+        answer.show(id);
+        answer.put(" ");
+        answer.put(kind(error));
     }
-    joined(alloc, &texts, ", ")
+    answer.put("]");
 }
 
-fn put_known(
-    alloc: Global,
-    text: &mut String,
-    response: &PartialResponse,
-) -> Result<(), AllocError> {
-    put_in(alloc, text, "; permits", &response.satisfied_permits)?;
-    put_in(alloc, text, "", &response.false_permits)?;
-    put_in(alloc, text, "", &response.residual_permits)?;
-    put_in(alloc, text, "; forbids", &response.satisfied_forbids)?;
-    put_in(alloc, text, "", &response.false_forbids)?;
-    put_in(alloc, text, "", &response.residual_forbids)?;
-    put_ids(alloc, text, "; erred", response.definitely_errored())?;
-    put_ids_of(alloc, text, "; must", response.must_be_determining())?;
-    put_ids_of(alloc, text, "; may", response.may_be_determining())
-}
-
-fn put_in<V>(
-    alloc: Global,
-    text: &mut String,
-    title: &str,
-    entries: &IndexMap<PolicyID, V>,
-) -> Result<(), AllocError> {
-    put(text, title, ids_in(alloc, entries)?.as_str())
-}
-
-fn put_ids(
-    alloc: Global,
-    text: &mut String,
-    title: &str,
-    reported: ReportedIds<'_>,
-) -> Result<(), AllocError> {
-    put(text, title, ids(alloc, reported)?.as_str())
-}
-
-fn put_ids_of(
-    alloc: Global,
-    text: &mut String,
-    title: &str,
-    reported: ReportedPolicies<'_>,
-) -> Result<(), AllocError> {
-    put(text, title, ids_of(alloc, reported)?.as_str())
+// The permits that are satisfied, those that are not, and those of which something is left; the same of forbids; those that erred; those that
+// must determine the decision, and those that may.
+fn put_known(answer: &mut Answer, response: &PartialResponse) {
+    put_in(answer, "; permits", &response.satisfied_permits);
+    put_in(answer, "", &response.false_permits);
+    put_in(answer, "", &response.residual_permits);
+    put_in(answer, "; forbids", &response.satisfied_forbids);
+    put_in(answer, "", &response.false_forbids);
+    put_in(answer, "", &response.residual_forbids);
+    put_ids(answer, "; erred", response.definitely_errored());
+    put_ids_of(answer, "; must", response.must_be_determining());
+    put_ids_of(answer, "; may", response.may_be_determining());
 }
 
 // What the other readers name.
-fn readers_text(alloc: Global, response: &PartialResponse) -> Result<String, AllocError> {
-    let mut text = String::from_str(alloc, "read")?;
-    put_readers(alloc, &mut text, response)?;
-    Ok(text)
+fn put_readers(answer: &mut Answer, response: &PartialResponse) {
+    answer.put("read");
+    put_ids_of(answer, ": satisfied", response.definitely_satisfied());
+    put_ids_of(answer, "; left", response.nontrivial_residuals());
+    put_ids(answer, "; ids left", response.nontrivial_residual_ids());
+    put_ids_of(answer, "; forbids left", response.nontrivial_forbids());
+    put_ids_of(answer, "; all", response.all_residuals());
 }
 
-fn put_readers(
-    alloc: Global,
-    text: &mut String,
-    response: &PartialResponse,
-) -> Result<(), AllocError> {
-    put_ids_of(alloc, text, ": satisfied", response.definitely_satisfied())?;
-    put_ids_of(alloc, text, "; left", response.nontrivial_residuals())?;
-    put_ids(
-        alloc,
-        text,
-        "; ids left",
-        response.nontrivial_residual_ids(),
-    )?;
-    put_ids_of(alloc, text, "; forbids left", response.nontrivial_forbids())?;
-    put_ids_of(alloc, text, "; all", response.all_residuals())
-}
-
-fn ids_in<V>(alloc: Global, entries: &IndexMap<PolicyID, V>) -> Result<String, AllocError> {
-    let mut texts: Vec<String> = Vec::new(alloc);
+// The title, and these ids behind it.
+fn put_in<V>(answer: &mut Answer, title: &str, entries: &IndexMap<PolicyID, V>) {
+    begin(answer, title);
     for id in entries.keys() {
-        texts.push(id.to_string(alloc)?)?;
+        answer.next(",");
+        answer.show(id);
     }
-    joined(alloc, &texts, ",")
+    answer.put("]");
 }
 
-fn ids(alloc: Global, reported: ReportedIds<'_>) -> Result<String, AllocError> {
-    let mut texts: Vec<String> = Vec::new(alloc);
+fn put_ids(answer: &mut Answer, title: &str, reported: ReportedIds<'_>) {
+    begin(answer, title);
     for id in reported {
-        texts.push(id.to_string(alloc)?)?;
+        answer.next(",");
+        answer.show(id);
     }
-    joined(alloc, &texts, ",")
+    answer.put("]");
 }
 
-fn ids_of(alloc: Global, reported: ReportedPolicies<'_>) -> Result<String, AllocError> {
-    let mut texts: Vec<String> = Vec::new(alloc);
+fn put_ids_of(answer: &mut Answer, title: &str, reported: ReportedPolicies<'_>) {
+    begin(answer, title);
     for policy in reported {
-        texts.push(id_text(alloc, policy)?)?;
+        answer.next(",");
+        put_id(answer, policy);
     }
-    joined(alloc, &texts, ",")
+    answer.put("]");
 }
 
-fn id_text(alloc: Global, policy: Result<Policy, AllocError>) -> Result<String, AllocError> {
-    let policy = policy?;
-    let text = policy.id().to_string(alloc);
-    drop(policy);
-    text
+fn begin(answer: &mut Answer, title: &str) {
+    answer.put(title);
+    answer.put(" [");
+    answer.begin();
+}
+
+fn put_id(answer: &mut Answer, policy: Result<Policy, AllocError>) {
+    match policy {
+        Ok(policy) => {
+            answer.show(policy.id());
+            drop(policy);
+        }
+        Err(_) => answer.lack_memory(),
+    }
 }
 
 // The policy under the id: its effect, its condition and its annotations.
-fn got_text(
-    alloc: Global,
-    response: &PartialResponse,
-    id: &PolicyID,
-) -> Result<String, AllocError> {
-    match response.get(alloc, id)? {
-        Some(policy) => {
-            let text = got_policy(alloc, &policy);
-            drop(policy);
-            text
-        }
-        None => String::from_str(alloc, "none"),
+fn put_got(answer: &mut Answer, response: &PartialResponse, id: &str) {
+    match policy_id(answer.alloc, id) {
+        Ok(id) => put_under(answer, response.get(answer.alloc, &id)),
+        Err(_) => answer.lack_memory(),
     }
 }
 
-fn got_policy(alloc: Global, policy: &Policy) -> Result<String, AllocError> {
-    let condition = policy.condition(alloc)?;
-    let annotations = &policy.annotations_rc().0;
-    let effect = effect_text(policy.effect());
-    let text = format!(in alloc; "{effect} {} {condition} {annotations:?}", policy.id());
-    drop(condition);
-    text
+fn put_under(answer: &mut Answer, got: Result<Option<Policy>, AllocError>) {
+    match got {
+        Ok(Some(policy)) => {
+            put_policy(answer, &policy);
+            drop(policy);
+        }
+        Ok(None) => answer.put("none"),
+        Err(_) => answer.lack_memory(),
+    }
 }
 
-// The context of the setting with these values for unknowns, or the error that it evaluates to.
-fn context_with(
-    alloc: Global,
+fn put_policy(answer: &mut Answer, policy: &Policy) {
+    let condition = policy.condition(answer.alloc);
+    put_named(answer, policy);
+    answer.put(" ");
+    answer.show_made(condition);
+    answer.put(" ");
+    answer.show_debug(&policy.annotations_rc().0);
+}
+
+/// The context of the setting with these values for unknowns, or the error that it evaluates to.
+pub fn ask_context(answer: &mut Answer, setting: &Setting<'_, '_>, limit_text: &str, values: &str) {
+    let limit = answer.limit(limit_text);
+    match setting.request.context() {
+        Some(context) => put_context_with(answer, setting, limit, context, values),
+        None => answer.refuse("no context"),
+    }
+}
+
+fn put_context_with(
+    answer: &mut Answer,
     setting: &Setting<'_, '_>,
     limit: usize,
+    context: &Context,
     values: &str,
-) -> Result<String, Unanswered> {
-    let context = setting.request.context().ok_or("no context")?;
-    let map = mapping(alloc, values)?;
-    let text = substituted(alloc, setting, limit, context, &map);
-    drop(map);
-    or_fail(text)
+) {
+    match mapping(answer.alloc, values) {
+        Ok(map) => {
+            put_substituted(answer, setting, limit, context, &map);
+            drop(map);
+        }
+        Err(why) => answer.fail(why),
+    }
 }
 
-fn substituted(
-    alloc: Global,
+fn put_substituted(
+    answer: &mut Answer,
     setting: &Setting<'_, '_>,
     limit: usize,
     context: &Context,
     map: &HashMap<RcStr, Value>,
-) -> Result<String, AllocError> {
-    let copy = context.clone()?;
-    told(
-        alloc,
-        copy.substitute(alloc, map, setting.extensions, limit),
-    )
+) {
+    match context.clone() {
+        Ok(copy) => {
+            let made = copy.substitute(answer.alloc, map, setting.extensions, limit);
+            answer.tell(made);
+        }
+        Err(_) => answer.lack_memory(),
+    }
 }

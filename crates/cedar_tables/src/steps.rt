@@ -8,10 +8,9 @@ use crate::notation::errors::error;
 use crate::notation::expressions::expression;
 use crate::notation::leaves::text;
 use crate::notation::policies::{effect, policy_id};
-use crate::notation::settings::stored;
-use crate::notation::unanswered::Unanswered;
-use crate::notation::values::value;
-use crate::notation::{fact, headed, put};
+use crate::notation::settings::{put_value, stored};
+use crate::notation::unanswered::{Noted, Unanswered};
+use crate::notation::{Parts, fact, headed};
 use cedar_layers::expressions::{Expr, Literal, Value};
 use cedar_layers::policies::{Annotations, Effect, Entities, Policy};
 use cedar_responses::shared::{Outcome, Sheet};
@@ -28,51 +27,41 @@ pub struct Step {
 
 /// The steps that are written so, in the setting of these facts.
 pub fn steps(alloc: Global, facts: &str, written: &str) -> Result<Vec<Step>, Unanswered> {
-    let mut steps: Vec<Step> = Vec::new(alloc);
+    let mut steps: Parts<Step> = Parts::new(alloc);
     for step in written.split(" / ") {
-        if let Err(error) = put_step(alloc, facts, step, &mut steps) {
-            drop(steps);
-            return Err(error);
+        if !step.is_empty() {
+            put_step(alloc, facts, step, &mut steps);
         }
     }
+    at_most_two(steps.all()?)
+}
+
+fn at_most_two(steps: Vec<Step>) -> Result<Vec<Step>, Unanswered> {
     if steps.len() > 2 {
         drop(steps);
-        return Err(Unanswered::Unreadable("more than two steps"));
-    }
-    Ok(steps)
-}
-
-fn put_step(
-    alloc: Global,
-    facts: &str,
-    step: &str,
-    steps: &mut Vec<Step>,
-) -> Result<(), Unanswered> {
-    if step.is_empty() {
-        Ok(())
+        Err(Unanswered::Unreadable("more than two steps"))
     } else {
-        Ok(steps.push(step_of(alloc, facts, step)?)?)
+        Ok(steps)
     }
 }
 
-fn step_of(alloc: Global, facts: &str, written: &str) -> Result<Step, Unanswered> {
+fn put_step(alloc: Global, facts: &str, written: &str, steps: &mut Parts<Step>) {
     match written.strip_prefix("then ") {
-        Some(values) => {
-            let second = second_store(alloc, facts)?;
-            step_over(alloc, second.as_str(), values)
-        }
-        None => step_over(alloc, facts, written),
+        Some(values) => match second_store(alloc, facts) {
+            Ok(second) => put_step_over(alloc, second.as_str(), values, steps),
+            Err(_) => steps.lack_memory(),
+        },
+        None => put_step_over(alloc, facts, written, steps),
     }
 }
 
-fn step_over(alloc: Global, facts: &str, values: &str) -> Result<Step, Unanswered> {
-    let entities = stored(alloc, facts)?;
-    match mapping(alloc, values) {
-        Ok(map) => Ok(Step { map, entities }),
-        Err(error) => {
-            drop(entities);
-            Err(error)
-        }
+fn put_step_over(alloc: Global, facts: &str, values: &str, steps: &mut Parts<Step>) {
+    let mut noted = Noted::none();
+    let map = read_mapping(alloc, values, &mut noted);
+    let entities = stored(alloc, facts, &mut noted);
+    steps.push(Step { map, entities });
+    if let Some(why) = noted.why() {
+        steps.fail(why);
     }
 }
 
@@ -90,14 +79,22 @@ fn second_store(alloc: Global, facts: &str) -> Result<String, AllocError> {
 
 /// The values for unknowns that a step has.
 pub fn mapping(alloc: Global, written: &str) -> Result<HashMap<RcStr, Value>, Unanswered> {
+    let mut noted = Noted::none();
+    let map = read_mapping(alloc, written, &mut noted);
+    match noted.why() {
+        None => Ok(map),
+        Some(why) => Err(why),
+    }
+}
+
+fn read_mapping(alloc: Global, written: &str, noted: &mut Noted) -> HashMap<RcStr, Value> {
     let mut map: HashMap<RcStr, Value> = HashMap::new(alloc);
     for pair in written.split(", ") {
         if pair != "none" {
-            let (name, words) = headed(pair);
-            put(&mut map, text(alloc, name)?, value(alloc, words)?)?;
+            put_value(alloc, &mut map, pair, noted);
         }
     }
-    Ok(map)
+    map
 }
 
 /// The sheet with these notes.

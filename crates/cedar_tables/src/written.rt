@@ -1,4 +1,4 @@
-//! What is answered to a row, as text, of what its words write, where no policy and no store has a part in it: expressions, values, leaves, contexts
+//! What is answered to a row of what its words write, where no policy and no store has a part in it: expressions, values, leaves, contexts
 //! and restricted expressions.
 //!
 //! - of the words of an expression: `text`, `cut BOUND` (`all` for no bound), `copy`, `shape`, and `substitute x WORDS`, which is answered by the
@@ -10,7 +10,8 @@
 //!   `restricted wholly LIMIT`, `restricted type`, `restricted read`, and `restricted shape` of two with ` ~ ` between them; of the words of any
 //!   expression: `restricted text`, `restricted borrowed` and `restricted refused` (the feature and the part that may not stand there); of those of a
 //!   residual: `restricted residual` and `restricted residual-text`; of keys: `restricted pairs`;
-//! - of a name and a type: `together`, whether the two functions can be used together; of keys: `collected`, how many pairs they make;
+//! - of a name and a type: `together`, whether a function of that name that takes that type can be used beside the function `make`, which takes a
+//!   text; of keys: `collected`, how many pairs they make;
 //! - of the pairs of a context: `context pairs LIMIT`, `context record LIMIT` and `context converted LIMIT`; of words: `context expression LIMIT`.
 
 pub mod contexts;
@@ -20,38 +21,38 @@ pub mod restricted;
 pub mod together;
 pub mod values;
 
+use crate::notation::answer::Answer;
 use crate::notation::headed;
-use crate::notation::shown::or_fail;
-use crate::notation::unanswered::Unanswered;
 use cedar_extensions::Extensions;
-use std::alloc::Global;
 
-/// What is answered to these words, where the answer that is wanted is this one.
-pub fn answer(
-    alloc: Global,
+/// Answers these words, where the answer that is wanted is this one.
+pub fn ask(
+    answer: &mut Answer,
     extensions: &Extensions<'_>,
     kind: &str,
     argument: &str,
     words: &str,
     want: &str,
-) -> Result<String, Unanswered> {
+) {
     match kind {
         "restricted" => {
             let (kind, limit) = headed(argument);
-            restricted::answer(alloc, extensions, kind, limit, words, want)
+            restricted::ask(answer, extensions, kind, limit, words, want);
         }
         "context" => {
             let (kind, limit) = headed(argument);
-            contexts::answer(alloc, extensions, kind, limit, words)
+            contexts::ask(answer, extensions, kind, limit, words);
         }
-        "substitute" => expressions::substituted(alloc, argument, words, want),
-        "leaf" => leaves::answer(alloc, words),
-        "together" => together::together(alloc, words),
-        "collected" => or_fail(together::collected(alloc, words)),
-        _ => if kind.starts_with("value-") || kind.starts_with("part-") {
-            values::answer(alloc, kind, argument, words)
+        "substitute" => expressions::ask_substituted(answer, argument, words, want),
+        "leaf" => leaves::ask(answer, words),
+        "together" => together::ask(answer, words),
+        "collected" => together::ask_collected(answer, words),
+        _ => if kind.starts_with("value-") {
+            values::ask(answer, kind, argument, words);
+        } else if kind.starts_with("part-") {
+            values::ask_part(answer, kind, argument, words);
         } else {
-            expressions::answer(alloc, kind, argument, words)
+            expressions::ask(answer, kind, argument, words);
         },
     }
 }

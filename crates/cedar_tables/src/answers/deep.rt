@@ -1,43 +1,35 @@
 //! An expression that is deeper than the machine's stack would allow.
 use crate::answers::evaluated::of_expression;
 use crate::notation::add;
+use crate::notation::answer::Answer;
 use crate::notation::settings::Setting;
-use crate::notation::shown::limit;
-use crate::notation::unanswered::Unanswered;
 use cedar_layers::expressions::{Expr, Literal, UnaryOp};
 use std::alloc::{AllocError, Global};
 
 /// What `true` evaluates to under so many negations.
-pub fn answer(
-    alloc: Global,
-    setting: &Setting<'_, '_>,
-    limit_text: &str,
-    count: &str,
-) -> Result<String, Unanswered> {
-    let limit = limit(limit_text)?;
-    let count = count.parse::<usize>()?;
-    let mut negations = negations(alloc, count)?;
-    let answer = last_answer(alloc, setting, limit, negations.as_slice());
-    for _ in 0..count {
+pub fn ask(answer: &mut Answer, setting: &Setting<'_, '_>, limit_text: &str, count: &str) {
+    let limit = answer.limit(limit_text);
+    let count = answer.number(count);
+    match negations(answer.alloc, count) {
+        Ok(negations) => of_last(answer, setting, limit, negations),
+        Err(_) => answer.lack_memory(),
+    }
+}
+
+// The last of them. Who drops them takes the last first: it is no part of another, and its part is kept by the one before it, so that no drop
+// goes deeper than one.
+fn of_last(answer: &mut Answer, setting: &Setting<'_, '_>, limit: usize, negations: Vec<Expr>) {
+    let mut negations = negations;
+    match negations.last() {
+        Some(expr) => of_expression(answer, setting, "value", limit, expr),
+        None => answer.refuse("no negation"),
+    }
+    for _ in 0..negations.len() {
         drop(negations.pop());
     }
-    answer
 }
 
-fn last_answer(
-    alloc: Global,
-    setting: &Setting<'_, '_>,
-    limit: usize,
-    negations: &[Expr],
-) -> Result<String, Unanswered> {
-    match negations.last() {
-        Some(expr) => Ok(of_expression(alloc, setting, "value", limit, expr)?),
-        None => Err(Unanswered::Unreadable("no negation")),
-    }
-}
-
-// `true`, and behind each expression its negation. Who drops them takes the last first: it is no part of another, and its part is kept by the
-// one before it, so that no drop goes deeper than one.
+// `true`, and behind each expression its negation.
 fn negations(alloc: Global, count: usize) -> Result<Vec<Expr>, AllocError> {
     let mut all: Vec<Expr> = Vec::new(alloc);
     add(&mut all, Expr::val(Literal::Bool(true)))?;

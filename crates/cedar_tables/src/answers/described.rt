@@ -1,26 +1,23 @@
 //! Errors of evaluation as one line of text: what the error says of itself, and behind that the fields that it does
 //! not tell, but for the place.
+use crate::notation::answer::Answer;
 use cedar_evaluator::evaluator::EvaluationError;
-use std::alloc::{AllocError, Global};
 use std::rc::RcStr;
 
-/// The error as one line of text.
-pub fn described(alloc: Global, error: &EvaluationError) -> Result<String, AllocError> {
+/// The error as one line of text. Want of memory is no answer.
+pub fn describe(answer: &mut Answer, error: &EvaluationError) {
     match error {
         EvaluationError::EntityAttrDoesNotExist(fields) => {
             let (names, total) = (&fields.available_attrs_or_tags, fields.total_attrs_or_tags);
-            with_names(alloc, error, fields.exists_the_other_kind, names, total)
+            answer.show(error);
+            put_names(answer, fields.exists_the_other_kind, names, total);
         }
         EvaluationError::RecordAttrDoesNotExist(fields) => {
-            with_names(
-                alloc,
-                error,
-                false,
-                &fields.available_attrs,
-                fields.total_attrs,
-            )
+            answer.show(error);
+            put_names(answer, false, &fields.available_attrs, fields.total_attrs);
         }
-        _ => error.to_string(alloc),
+        EvaluationError::Memory(_) => answer.lack_memory(),
+        _ => answer.show(error),
     }
 }
 
@@ -42,18 +39,15 @@ pub fn kind(error: &EvaluationError) -> &'static str {
     }
 }
 
-// The error, whether it is there as the other kind, and what is there of its kind: some names, and how many there are.
-fn with_names(
-    alloc: Global,
-    error: &EvaluationError,
-    is_other: bool,
-    names: &[RcStr],
-    total: usize,
-) -> Result<String, AllocError> {
-    let mut text = format!(in alloc; "{error}, other {is_other}, {total}:")?;
+// Whether it is there as the other kind, and what is there of its kind: some names, and how many there are.
+fn put_names(answer: &mut Answer, is_other: bool, names: &[RcStr], total: usize) {
+    answer.put(", other ");
+    answer.show(&is_other);
+    answer.put(", ");
+    answer.show(&total);
+    answer.put(":");
     for name in names {
-        text.push_str(" ")?;
-        text.push_str(name.as_str())?;
+        answer.put(" ");
+        answer.put(name.as_str());
     }
-    Ok(text)
 }

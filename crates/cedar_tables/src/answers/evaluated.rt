@@ -1,55 +1,51 @@
 //! What an expression evaluates to in the setting.
-use crate::answers::described::described;
+use crate::answers::described::describe;
+use crate::notation::answer::Answer;
 use crate::notation::expressions::expression;
 use crate::notation::settings::Setting;
-use crate::notation::shown::{LIMIT, Place, error_place, limit, or_fail, wanted_or_text};
+use crate::notation::shown::{LIMIT, Place, put_error_place, put_wanted};
 use crate::notation::unanswered::Unanswered;
 use cedar_evaluator::evaluator::{EvaluationError, Evaluator};
 use cedar_layers::expressions::{Expr, PartialValue, Value, ValueKind};
-use std::alloc::{AllocError, Global};
+use std::alloc::Global;
 
 /// Many more.
 const MANY: usize = 2000;
 
 /// What the expression evaluates to: its value or its error, the place of either, or the error's own text.
-pub fn answer(
-    alloc: Global,
+pub fn ask(
+    answer: &mut Answer,
     setting: &Setting<'_, '_>,
     kind: &str,
     limit_text: &str,
     words: &str,
-) -> Result<String, Unanswered> {
-    let limit = limit(limit_text)?;
-    let expr = expression(alloc, words)?;
-    let text = of_expression(alloc, setting, kind, limit, &expr);
-    drop(expr);
-    or_fail(text)
+) {
+    let limit = answer.limit(limit_text);
+    match expression(answer.alloc, words) {
+        Ok(expr) => of_expression(answer, setting, kind, limit, &expr),
+        Err(why) => answer.fail(why),
+    }
 }
 
 /// The same of an expression that is made.
 pub fn of_expression(
-    alloc: Global,
+    answer: &mut Answer,
     setting: &Setting<'_, '_>,
     kind: &str,
     limit: usize,
     expr: &Expr,
-) -> Result<String, AllocError> {
-    let outcome = outcome(alloc, setting, limit, expr);
-    let text = asked(alloc, kind, &outcome);
+) {
+    let outcome = outcome(answer.alloc, setting, limit, expr);
+    put_asked(answer, kind, &outcome);
     drop(outcome);
-    text
 }
 
-fn asked(
-    alloc: Global,
-    kind: &str,
-    outcome: &Result<Value, EvaluationError>,
-) -> Result<String, AllocError> {
+fn put_asked(answer: &mut Answer, kind: &str, outcome: &Result<Value, EvaluationError>) {
     match kind {
-        "value" => outcome_text(alloc, outcome),
-        "place" => outcome_place(alloc, outcome),
-        "elements" => elements_places(alloc, outcome),
-        _ => error_text(alloc, outcome),
+        "value" => put_outcome(answer, outcome),
+        "place" => put_place(answer, outcome),
+        "elements" => put_elements(answer, outcome),
+        _ => put_error(answer, outcome),
     }
 }
 
@@ -82,100 +78,91 @@ fn value_by(
 }
 
 /// The value, or the error with all its fields but the place.
-pub fn outcome_text(
-    alloc: Global,
-    outcome: &Result<Value, EvaluationError>,
-) -> Result<String, AllocError> {
+pub fn put_outcome(answer: &mut Answer, outcome: &Result<Value, EvaluationError>) {
     match outcome {
-        Ok(value) => value.to_string(alloc),
-        Err(error) => described(alloc, error),
+        Ok(value) => answer.show(value),
+        Err(error) => describe(answer, error),
     }
 }
 
 /// Where the value or the error stands.
-pub fn outcome_place(
-    alloc: Global,
-    outcome: &Result<Value, EvaluationError>,
-) -> Result<String, AllocError> {
+pub fn put_place(answer: &mut Answer, outcome: &Result<Value, EvaluationError>) {
     match outcome {
-        Ok(value) => format!(in alloc; "value {}", Place(value.source_loc())),
-        Err(error) => error_place(alloc, error),
+        Ok(value) => {
+            answer.put("value ");
+            answer.show(&Place(value.source_loc()));
+        }
+        Err(error) => put_error_place(answer, error),
     }
 }
 
 // The elements of the value, or the error.
-fn elements_places(
-    alloc: Global,
-    outcome: &Result<Value, EvaluationError>,
-) -> Result<String, AllocError> {
+fn put_elements(answer: &mut Answer, outcome: &Result<Value, EvaluationError>) {
     match outcome {
-        Ok(value) => elements_text(alloc, value),
-        Err(error) => described(alloc, error),
+        Ok(value) => put_elements_of(answer, value),
+        Err(error) => describe(answer, error),
     }
 }
 
 /// Each element of the value, if it is a set, in order, and where it stands.
-pub fn elements_text(alloc: Global, value: &Value) -> Result<String, AllocError> {
-    let mut text = String::from_str(alloc, "elements")?;
+pub fn put_elements_of(answer: &mut Answer, value: &Value) {
+    answer.put("elements");
     if let ValueKind::Set(set) = value.value_kind() {
         for element in set {
-            put_element(alloc, &mut text, element)?;
+            put_element(answer, element);
         }
     }
-    Ok(text)
 }
 
-fn put_element(alloc: Global, text: &mut String, element: &Value) -> Result<(), AllocError> {
-    let place = Place(element.source_loc());
-    text.push_str(format!(in alloc; " {element} {place}")?.as_str())
+fn put_element(answer: &mut Answer, element: &Value) {
+    answer.put(" ");
+    answer.show(element);
+    answer.put(" ");
+    answer.show(&Place(element.source_loc()));
 }
 
-fn error_text(
-    alloc: Global,
-    outcome: &Result<Value, EvaluationError>,
-) -> Result<String, AllocError> {
+// The error's own text.
+fn put_error(answer: &mut Answer, outcome: &Result<Value, EvaluationError>) {
     match outcome {
-        Ok(_) => String::from_str(alloc, "no error"),
-        Err(error) => error.to_string(alloc),
+        Ok(_) => answer.put("no error"),
+        Err(error) => answer.show(error),
     }
 }
 
 /// What the expression partly evaluates to: its text, or its place, or the words that are wanted, where they write what is left of it.
 /// With no limit it is answered within the fewest levels that do not meet the limit, and must be so within many.
-pub fn partly(
-    alloc: Global,
+pub fn ask_partly(
+    answer: &mut Answer,
     setting: &Setting<'_, '_>,
     kind: &str,
     limit_text: &str,
     words: &str,
     want: &str,
-) -> Result<String, Unanswered> {
-    let expr = expression(alloc, words)?;
-    let text = partly_of(alloc, setting, kind, limit_text, &expr, want);
-    drop(expr);
-    text
+) {
+    match expression(answer.alloc, words) {
+        Ok(expr) => partly_of(answer, setting, kind, limit_text, &expr, want),
+        Err(why) => answer.fail(why),
+    }
 }
 
 fn partly_of(
-    alloc: Global,
+    answer: &mut Answer,
     setting: &Setting<'_, '_>,
     kind: &str,
     limit_text: &str,
     expr: &Expr,
     want: &str,
-) -> Result<String, Unanswered> {
+) {
     if limit_text.is_empty() {
-        let limit = fewest_levels(alloc, setting, expr)?;
-        let outcome = partial_outcome(alloc, setting, limit, expr);
-        let text = by_many(alloc, setting, kind, expr, &outcome, want);
-        drop(outcome);
-        text
+        match fewest_levels(answer.alloc, setting, expr) {
+            Ok(limit) => by_fewest(answer, setting, kind, limit, expr, want),
+            Err(why) => answer.fail(why),
+        }
     } else {
-        let limit = limit(limit_text)?;
-        let outcome = partial_outcome(alloc, setting, limit, expr);
-        let text = partly_asked(alloc, kind, &outcome, want);
+        let limit = answer.limit(limit_text);
+        let outcome = partial_outcome(answer.alloc, setting, limit, expr);
+        put_partly(answer, kind, &outcome, want);
         drop(outcome);
-        text
     }
 }
 
@@ -199,34 +186,47 @@ fn fewest_levels(
     Err(Unanswered::Unreadable("it takes too many levels"))
 }
 
+// What is asked of the outcome within so many levels.
+fn by_fewest(
+    answer: &mut Answer,
+    setting: &Setting<'_, '_>,
+    kind: &str,
+    limit: usize,
+    expr: &Expr,
+    want: &str,
+) {
+    let outcome = partial_outcome(answer.alloc, setting, limit, expr);
+    by_many(answer, setting, kind, expr, &outcome, want);
+    drop(outcome);
+}
+
 // What is asked of the outcome, which must be that within many levels too.
 fn by_many(
-    alloc: Global,
+    answer: &mut Answer,
     setting: &Setting<'_, '_>,
     kind: &str,
     expr: &Expr,
     outcome: &Result<PartialValue, EvaluationError>,
     want: &str,
-) -> Result<String, Unanswered> {
-    let other = partial_outcome(alloc, setting, MANY, expr);
-    let text = asked_alike(alloc, kind, outcome, &other, want);
+) {
+    let other = partial_outcome(answer.alloc, setting, MANY, expr);
+    put_alike(answer, kind, outcome, &other, want);
     drop(other);
-    text
 }
 
-fn asked_alike(
-    alloc: Global,
+fn put_alike(
+    answer: &mut Answer,
     kind: &str,
     outcome: &Result<PartialValue, EvaluationError>,
     other: &Result<PartialValue, EvaluationError>,
     want: &str,
-) -> Result<String, Unanswered> {
+) {
     if *outcome == *other {
-        partly_asked(alloc, kind, outcome, want)
+        put_partly(answer, kind, outcome, want);
     } else if is_want(outcome) || is_want(other) {
-        Err(Unanswered::Memory)
+        answer.lack_memory();
     } else {
-        Err(Unanswered::Unreadable("the limit changes the answer"))
+        answer.refuse("the limit changes the answer");
     }
 }
 
@@ -244,21 +244,19 @@ fn is_want(outcome: &Result<PartialValue, EvaluationError>) -> bool {
     }
 }
 
-fn partly_asked(
-    alloc: Global,
+fn put_partly(
+    answer: &mut Answer,
     kind: &str,
     outcome: &Result<PartialValue, EvaluationError>,
     want: &str,
-) -> Result<String, Unanswered> {
+) {
     match kind {
-        "partial" => or_fail(partial_text(alloc, outcome)),
-        "partial-place" => or_fail(partial_place(alloc, outcome)),
+        "partial" => put_partial(answer, outcome),
+        "partial-place" => put_partial_place(answer, outcome),
         _ => match outcome {
-            Ok(PartialValue::Residual(residual)) => {
-                wanted_or_text(alloc, residual.as_expr(), want)
-            }
-            Ok(PartialValue::Value(_)) => or_fail(partial_text(alloc, outcome)),
-            Err(_) => or_fail(partial_text(alloc, outcome)),
+            Ok(PartialValue::Residual(residual)) => put_wanted(answer, residual.as_expr(), want),
+            Ok(PartialValue::Value(value)) => answer.show(value),
+            Err(error) => describe(answer, error),
         },
     }
 }
@@ -292,27 +290,22 @@ fn part_by(
 }
 
 /// The value, the residual, or the error with all its fields but the place.
-pub fn partial_text(
-    alloc: Global,
-    outcome: &Result<PartialValue, EvaluationError>,
-) -> Result<String, AllocError> {
+pub fn put_partial(answer: &mut Answer, outcome: &Result<PartialValue, EvaluationError>) {
     match outcome {
-        Ok(part) => part.to_string(alloc),
-        Err(error) => described(alloc, error),
+        Ok(part) => answer.show(part),
+        Err(error) => describe(answer, error),
     }
 }
 
 /// Which of a value, a residual and an error it is, and where that stands.
-pub fn partial_place(
-    alloc: Global,
-    outcome: &Result<PartialValue, EvaluationError>,
-) -> Result<String, AllocError> {
+pub fn put_partial_place(answer: &mut Answer, outcome: &Result<PartialValue, EvaluationError>) {
     match outcome {
         Ok(part) => {
-            let (kind, place) = (kind_of(part), place_of(part));
-            format!(in alloc; "{kind} {place}")
+            answer.put(kind_of(part));
+            answer.put(" ");
+            answer.show(&place_of(part));
         }
-        Err(error) => error_place(alloc, error),
+        Err(error) => put_error_place(answer, error),
     }
 }
 

@@ -1,143 +1,154 @@
 //! What a request and a store hold.
 use crate::answers::evaluated::place_of;
+use crate::notation::answer::Answer;
 use crate::notation::leaves::uid;
-use crate::notation::settings::Setting;
-use crate::notation::shown::or_fail;
-use crate::notation::unanswered::Unanswered;
 use cedar_layers::expressions::{EntityUID, PartialValue, Unknown, Var};
-use cedar_layers::policies::{Dereference, Entity};
+use cedar_layers::policies::{Dereference, Entities, Entity};
 use cedar_requests::{Context, EntityUIDEntry, Request, RequestType};
-use std::alloc::{AllocError, Global};
 use std::rc::RcStr;
 
-/// The part of the request of this name, or what the store has of the entity of this name.
-pub fn answer(
-    alloc: Global,
-    setting: &Setting<'_, '_>,
-    kind: &str,
-    name: &str,
-) -> Result<String, Unanswered> {
-    match kind {
-        "request" => asked(alloc, &setting.request, name),
-        _ => {
-            let uid = uid(alloc, name)?;
-            let text = found(alloc, setting, &uid);
-            drop(uid);
-            or_fail(text)
-        }
-    }
-}
-
-fn asked(alloc: Global, request: &Request, name: &str) -> Result<String, Unanswered> {
+/// The part of the request of this name.
+pub fn ask_request(answer: &mut Answer, request: &Request, name: &str) {
     match name {
-        "principal" => Ok(entry_text(alloc, request.principal(), Var::Principal)?),
-        "action" => Ok(entry_text(alloc, request.action(), Var::Action)?),
-        "resource" => Ok(entry_text(alloc, request.resource(), Var::Resource)?),
-        "text" => Ok(request.to_string(alloc)?),
-        "type" => Ok(types_text(alloc, request)?),
+        "principal" => put_entry(answer, request.principal(), Var::Principal),
+        "action" => put_entry(answer, request.action(), Var::Action),
+        "resource" => put_entry(answer, request.resource(), Var::Resource),
+        "text" => answer.show(request),
+        "type" => put_types(answer, request),
         _ => match request.context() {
-            Some(context) => Ok(context_text(alloc, context)?),
-            None => Ok(String::from_str(alloc, "no context")?),
+            Some(context) => put_context(answer, context),
+            None => answer.put("no context"),
         },
     }
 }
 
 // The entity, or its type if that is known, what the variable answers, and where that stands.
-fn entry_text(alloc: Global, entry: &EntityUIDEntry, var: Var) -> Result<String, AllocError> {
-    let part = entry.evaluate(alloc, var)?;
-    let text = entry_shown(alloc, entry, &part);
-    drop(part);
-    text
+fn put_entry(answer: &mut Answer, entry: &EntityUIDEntry, var: Var) {
+    match entry.evaluate(answer.alloc, var) {
+        Ok(part) => {
+            put_entry_part(answer, entry, &part);
+            drop(part);
+        }
+        Err(_) => answer.lack_memory(),
+    }
 }
 
-fn entry_shown(
-    alloc: Global,
-    entry: &EntityUIDEntry,
-    part: &PartialValue,
-) -> Result<String, AllocError> {
-    let place = place_of(part);
+fn put_entry_part(answer: &mut Answer, entry: &EntityUIDEntry, part: &PartialValue) {
     match entry.uid() {
-        Some(uid) => format!(in alloc; "{uid}, {part} {place}"),
+        Some(uid) => answer.show(uid),
         None => match entry.get_type() {
-            Some(ty) => format!(in alloc; "of type {ty}, {part} {place}"),
-            None => format!(in alloc; "not known, {part} {place}"),
+            Some(ty) => {
+                answer.put("of type ");
+                answer.show(ty);
+            }
+            None => answer.put("not known"),
         },
     }
+    answer.put(", ");
+    answer.show(part);
+    answer.put(" ");
+    answer.show(&place_of(part));
 }
 
 // The types of a request that is known, and its action.
-fn types_text(alloc: Global, request: &Request) -> Result<String, AllocError> {
-    match request.to_request_type()? {
-        Some(types) => {
-            let text = names_text(alloc, &types);
+fn put_types(answer: &mut Answer, request: &Request) {
+    match request.to_request_type() {
+        Ok(Some(types)) => {
+            put_names(answer, &types);
             drop(types);
-            text
         }
-        None => String::from_str(alloc, "no type"),
+        Ok(None) => answer.put("no type"),
+        Err(_) => answer.lack_memory(),
     }
 }
 
-fn names_text(alloc: Global, types: &RequestType) -> Result<String, AllocError> {
-    let (principal, action, resource) = (&types.principal, &types.action, &types.resource);
-    format!(in alloc; "{principal} {action} {resource}")
+fn put_names(answer: &mut Answer, types: &RequestType) {
+    answer.show(&types.principal);
+    answer.put(" ");
+    answer.show(&types.action);
+    answer.put(" ");
+    answer.show(&types.resource);
 }
 
 // How many attributes a copy of the context has, whether they are known, and whether it is equal.
-fn context_text(alloc: Global, context: &Context) -> Result<String, AllocError> {
-    let copy = context.clone()?;
-    let text = copied(alloc, context, &copy);
-    drop(copy);
-    text
-}
-
-fn copied(alloc: Global, context: &Context, copy: &Context) -> Result<String, AllocError> {
-    let (count, is_known) = (copy.num_keys(), copy.as_value().is_some());
-    format!(in alloc;
-        "{count} attributes, known {is_known}, the same {}",
-        *copy == *context
-    )
-}
-
-fn found(alloc: Global, setting: &Setting<'_, '_>, uid: &EntityUID) -> Result<String, AllocError> {
-    match setting.entities.entity(alloc, uid)? {
-        Dereference::NoSuchEntity => String::from_str(alloc, "no such entity"),
-        Dereference::Residual(unknown) => {
-            let text = unknown_text(alloc, &unknown);
-            drop(unknown);
-            text
+fn put_context(answer: &mut Answer, context: &Context) {
+    match context.clone() {
+        Ok(copy) => {
+            put_copied(answer, context, &copy);
+            drop(copy);
         }
-        Dereference::Data(entity) => entity_text(alloc, entity),
+        Err(_) => answer.lack_memory(),
     }
 }
 
-fn unknown_text(alloc: Global, unknown: &Unknown) -> Result<String, AllocError> {
-    match &unknown.type_annotation {
-        Some(ty) => format!(in alloc; "unknown {} of type {ty}", unknown.name),
-        None => format!(in alloc; "unknown {}", unknown.name),
+fn put_copied(answer: &mut Answer, context: &Context, copy: &Context) {
+    let (count, is_known, is_same) = (
+        copy.num_keys(),
+        copy.as_value().is_some(),
+        *copy == *context,
+    );
+    answer.show(&count);
+    answer.put(" attributes, known ");
+    answer.show(&is_known);
+    answer.put(", the same ");
+    answer.show(&is_same);
+}
+
+/// What the store has of the entity of this name.
+pub fn ask_entity(answer: &mut Answer, entities: &Entities, name: &str) {
+    match uid(answer.alloc, name) {
+        Ok(uid) => {
+            put_found(answer, entities, &uid);
+            drop(uid);
+        }
+        Err(why) => answer.fail(why),
     }
 }
 
-fn entity_text(alloc: Global, entity: &Entity) -> Result<String, AllocError> {
+fn put_found(answer: &mut Answer, entities: &Entities, uid: &EntityUID) {
+    match entities.entity(answer.alloc, uid) {
+        Ok(Dereference::NoSuchEntity) => answer.put("no such entity"),
+        Ok(Dereference::Residual(unknown)) => {
+            put_unknown(answer, &unknown);
+            drop(unknown);
+        }
+        Ok(Dereference::Data(entity)) => put_entity(answer, entity),
+        Err(_) => answer.lack_memory(),
+    }
+}
+
+fn put_unknown(answer: &mut Answer, unknown: &Unknown) {
+    answer.put("unknown ");
+    answer.show(&unknown.name);
+    if let Some(ty) = &unknown.type_annotation {
+        answer.put(" of type ");
+        answer.show(ty);
+    }
+}
+
+fn put_entity(answer: &mut Answer, entity: &Entity) {
     let (attrs, tag_count) = (entity.attrs_len(), entity.tags_len());
-    let mut text = format!(in alloc; "{attrs} attributes")?;
+    answer.show(&attrs);
+    answer.put(" attributes");
     for key in entity.keys() {
-        part_text(alloc, &mut text, key, entity.get(key.as_str()))?;
+        put_part(answer, key, entity.get(key.as_str()));
     }
-    text.push_str(format!(in alloc; ", {tag_count} tags")?.as_str())?;
+    answer.put(", ");
+    answer.show(&tag_count);
+    answer.put(" tags");
     for key in entity.tag_keys() {
-        part_text(alloc, &mut text, key, entity.get_tag(key.as_str()))?;
+        put_part(answer, key, entity.get_tag(key.as_str()));
     }
-    Ok(text)
 }
 
-fn part_text(
-    alloc: Global,
-    text: &mut String,
-    key: &RcStr,
-    part: Option<&PartialValue>,
-) -> Result<(), AllocError> {
+fn put_part(answer: &mut Answer, key: &RcStr, part: Option<&PartialValue>) {
     match part {
-        Some(part) => text.push_str(format!(in alloc; ", {key} {part}")?.as_str()),
-        None => text.push_str(", no part"),
+        Some(part) => {
+            answer.put(", ");
+            answer.show(key);
+            answer.put(" ");
+            answer.show(part);
+        }
+        None => answer.put(", no part"),
     }
 }

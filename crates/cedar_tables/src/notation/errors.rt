@@ -44,7 +44,7 @@ fn other_types(alloc: Global, others: Option<&str>) -> Result<Vec<Type>, Unanswe
     let mut types: Parts<Type> = Parts::new(alloc);
     if let Some(others) = others {
         for other in others.split(',') {
-            types.push(named_type(alloc, other)?)?;
+            types.push_read(named_type(alloc, other));
         }
     }
     types.all()

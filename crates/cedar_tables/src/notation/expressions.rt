@@ -12,38 +12,39 @@ use crate::notation::leaves::{
     unknown, variable,
 };
 use crate::notation::unanswered::Unanswered;
-use crate::notation::{Parts, mapped, or_memory};
-use cedar_layers::expressions::{Expr, ExpressionConstructionError, Literal};
+use crate::notation::{Parts, mapped};
+use cedar_layers::expressions::{Expr, ExpressionConstructionError, Literal, Unknown};
 use cedar_restricted_expressions::{RestrictedExpr, RestrictedExpressionError};
-use std::alloc::Global;
-use std::rc::RcStr;
+use std::alloc::{AllocError, Global};
 
 /// The expression that these words write.
 pub fn expression(alloc: Global, words: &str) -> Result<Expr, Unanswered> {
     let mut parts: Parts<Expr> = Parts::new(alloc);
     for word in words.split(' ') {
         match word.strip_prefix("many:") {
-            Some(repeated) => read_many(alloc, repeated, &mut parts)?,
-            None => read(alloc, word, &mut parts)?,
+            Some(repeated) => read_many(alloc, repeated, &mut parts),
+            None => read(alloc, word, &mut parts),
         }
     }
     parts.only()
 }
 
-fn read_many(alloc: Global, repeated: &str, parts: &mut Parts<Expr>) -> Result<(), Unanswered> {
-    let (count, words) = repeated.split_once(':').ok_or("a count and words")?;
-    let count = count.parse::<usize>()?;
-    for _ in 0..count {
-        read_joined(alloc, words, parts)?;
+fn read_many(alloc: Global, repeated: &str, parts: &mut Parts<Expr>) {
+    match repeated.split_once(':') {
+        Some((count, words)) => {
+            let count = parts.number(count);
+            for _ in 0..count {
+                read_joined(alloc, words, parts);
+            }
+        }
+        None => parts.refuse("a count and words"),
     }
-    Ok(())
 }
 
-fn read_joined(alloc: Global, words: &str, parts: &mut Parts<Expr>) -> Result<(), Unanswered> {
+fn read_joined(alloc: Global, words: &str, parts: &mut Parts<Expr>) {
     for word in words.split(';') {
-        read(alloc, word, parts)?;
+        read(alloc, word, parts);
     }
-    Ok(())
 }
 
 /// The restricted expression that these words write.
@@ -68,130 +69,225 @@ fn reason(error: &RestrictedExpressionError) -> Unanswered {
     }
 }
 
-fn read(alloc: Global, word: &str, parts: &mut Parts<Expr>) -> Result<(), Unanswered> {
-    let expr = part(alloc, word, parts)?;
-    Ok(parts.push(expr)?)
+// Reads a word: an operation, a leaf, a list, or a word on the part before it.
+fn read(alloc: Global, word: &str, parts: &mut Parts<Expr>) {
+    match word.strip_prefix('@') {
+        Some(ends) => place_last(ends, parts),
+        None => match word.split_once(':') {
+            Some((kind, rest)) => read_kind(alloc, kind, rest, parts),
+            None => operate(alloc, word, parts),
+        },
+    }
+}
+
+fn put(parts: &mut Parts<Expr>, expr: Expr) {
+    parts.push(expr);
+}
+
+fn put_made(parts: &mut Parts<Expr>, made: Result<Expr, AllocError>) {
+    match made {
+        Ok(expr) => parts.push(expr),
+        Err(_) => parts.lack_memory(),
+    }
 }
 
 fn popped(parts: &mut Parts<Expr>) -> Expr {
     parts.pop(Expr::val(Literal::Bool(false)))
 }
 
-// The part that the word makes of those before it: an operation, a leaf, a list, or a word on the part before it.
-fn part(alloc: Global, word: &str, parts: &mut Parts<Expr>) -> Result<Expr, Unanswered> {
-    match word.strip_prefix('@') {
-        Some(ends) => placed(ends, parts),
-        None => match word.split_once(':') {
-            Some((kind, rest)) => of_kind(alloc, kind, rest, parts),
-            None => operation(alloc, word, parts),
-        },
+// Puts the part before the word at this place.
+fn place_last(ends: &str, parts: &mut Parts<Expr>) {
+    match place(ends) {
+        Ok(place) => {
+            let expr = popped(parts).with_maybe_source_loc(place);
+            put(parts, expr);
+        }
+        Err(why) => parts.fail(why),
     }
 }
 
-// The part before the word, at this place.
-fn placed(ends: &str, parts: &mut Parts<Expr>) -> Result<Expr, Unanswered> {
-    let place = place(ends)?;
-    Ok(popped(parts).with_maybe_source_loc(place))
-}
-
-fn of_kind(
-    alloc: Global,
-    kind: &str,
-    rest: &str,
-    parts: &mut Parts<Expr>,
-) -> Result<Expr, Unanswered> {
+fn read_kind(alloc: Global, kind: &str, rest: &str, parts: &mut Parts<Expr>) {
     match kind {
-        "V" => Ok(Expr::var(variable(rest)?)),
-        "S" => Ok(Expr::slot(slot(rest)?)),
-        "U" => Ok(Expr::unknown(unknown(alloc, rest)?)),
-        "M" => Ok(Expr::unknown(missing(alloc, rest)?)),
-        "set" => listed(alloc, rest, parts),
-        "record" => record(alloc, parts.named(alloc, rest)?),
-        "fields" => fields(alloc, rest, parts),
-        "call" => call(alloc, rest, parts),
-        _ => on_one(alloc, kind, rest, parts),
+        "V" => put_variable(rest, parts),
+        "S" => put_slot(rest, parts),
+        "U" => put_unknown(unknown(alloc, rest), parts),
+        "M" => put_unknown(missing(alloc, rest), parts),
+        "set" => put_set(alloc, rest, parts),
+        "record" => put_record(alloc, rest, parts),
+        "fields" => put_fields(alloc, rest, parts),
+        "call" => put_call(alloc, rest, parts),
+        "get" => put_attribute(alloc, rest, parts),
+        "has" => put_has(alloc, rest, parts),
+        "ext" => put_path(alloc, rest, parts),
+        "like" => put_like(alloc, rest, parts),
+        "is" => put_is(alloc, rest, parts),
+        _ => put_literal(alloc, kind, rest, parts),
     }
 }
 
-fn fields(alloc: Global, keys: &str, parts: &mut Parts<Expr>) -> Result<Expr, Unanswered> {
-    let map = mapped(alloc, parts.named(alloc, keys)?)?;
-    Ok(Expr::record_map(alloc, map)?)
+fn put_variable(word: &str, parts: &mut Parts<Expr>) {
+    match variable(word) {
+        Ok(var) => put(parts, Expr::var(var)),
+        Err(why) => parts.fail(why),
+    }
 }
 
-fn record(alloc: Global, pairs: Vec<(RcStr, Expr)>) -> Result<Expr, Unanswered> {
-    match Expr::record(alloc, pairs) {
-        Ok(expr) => Ok(expr),
+fn put_slot(word: &str, parts: &mut Parts<Expr>) {
+    match slot(word) {
+        Ok(slot) => put(parts, Expr::slot(slot)),
+        Err(why) => parts.fail(why),
+    }
+}
+
+fn put_unknown(read: Result<Unknown, Unanswered>, parts: &mut Parts<Expr>) {
+    match read {
+        Ok(unknown) => put(parts, Expr::unknown(unknown)),
+        Err(why) => parts.fail(why),
+    }
+}
+
+fn put_literal(alloc: Global, kind: &str, rest: &str, parts: &mut Parts<Expr>) {
+    match literal(alloc, kind, rest) {
+        Ok(literal) => put(parts, Expr::val(literal)),
+        Err(why) => parts.fail(why),
+    }
+}
+
+fn put_set(alloc: Global, count: &str, parts: &mut Parts<Expr>) {
+    let count = parts.number(count);
+    match parts.last(count) {
+        Ok(elements) => put_made(parts, Expr::set(alloc, elements)),
+        Err(_) => parts.lack_memory(),
+    }
+}
+
+fn put_record(alloc: Global, keys: &str, parts: &mut Parts<Expr>) {
+    match parts.named(alloc, keys) {
+        Ok(pairs) => put_distinct(Expr::record(alloc, pairs), parts),
+        Err(_) => parts.lack_memory(),
+    }
+}
+
+fn put_distinct(made: Result<Expr, ExpressionConstructionError>, parts: &mut Parts<Expr>) {
+    match made {
+        Ok(expr) => put(parts, expr),
         Err(ExpressionConstructionError::DuplicateKey { key: _, context: _ }) => {
-            Err(Unanswered::Unreadable("a key twice"))
+            parts.refuse("a key twice")
         }
-        Err(ExpressionConstructionError::Memory(_)) => Err(Unanswered::Memory),
+        Err(ExpressionConstructionError::Memory(_)) => parts.lack_memory(),
     }
 }
 
-fn listed(alloc: Global, count: &str, parts: &mut Parts<Expr>) -> Result<Expr, Unanswered> {
-    let count = count.parse::<usize>()?;
-    Ok(Expr::set(alloc, parts.last(count)?)?)
+fn put_fields(alloc: Global, keys: &str, parts: &mut Parts<Expr>) {
+    match parts.named(alloc, keys) {
+        Ok(pairs) => match mapped(alloc, pairs) {
+            Ok(map) => put_made(parts, Expr::record_map(alloc, map)),
+            Err(_) => parts.lack_memory(),
+        },
+        Err(_) => parts.lack_memory(),
+    }
 }
 
-fn call(alloc: Global, rest: &str, parts: &mut Parts<Expr>) -> Result<Expr, Unanswered> {
-    let (function, count) = rest
-        .rsplit_once(':')
-        .ok_or("a call has a name and a count")?;
-    let count = count.parse::<usize>()?;
-    let function = name(alloc, function)?;
-    Ok(Expr::call_extension_fn(alloc, function, parts.last(count)?)?)
+fn put_call(alloc: Global, rest: &str, parts: &mut Parts<Expr>) {
+    match rest.rsplit_once(':') {
+        Some((function, count)) => put_call_of(alloc, function, count, parts),
+        None => parts.refuse("a call has a name and a count"),
+    }
 }
 
-// A word on the part before it, and else a literal.
-fn on_one(
-    alloc: Global,
-    kind: &str,
-    rest: &str,
-    parts: &mut Parts<Expr>,
-) -> Result<Expr, Unanswered> {
-    match kind {
-        "get" => {
-            let attribute = text(alloc, rest)?;
-            or_memory(Expr::get_attr(alloc, popped(parts), attribute))
+fn put_call_of(alloc: Global, function: &str, count: &str, parts: &mut Parts<Expr>) {
+    let count = parts.number(count);
+    match parts.last(count) {
+        Ok(arguments) => match name(alloc, function) {
+            Ok(function) => put_made(parts, Expr::call_extension_fn(alloc, function, arguments)),
+            Err(why) => {
+                drop(arguments);
+                parts.fail(why);
+            }
+        },
+        Err(_) => parts.lack_memory(),
+    }
+}
+
+fn put_attribute(alloc: Global, written: &str, parts: &mut Parts<Expr>) {
+    match text(alloc, written) {
+        Ok(attribute) => {
+            let expr = popped(parts);
+            put_made(parts, Expr::get_attr(alloc, expr, attribute));
         }
-        "has" => {
-            let attribute = text(alloc, rest)?;
-            or_memory(Expr::has_attr(alloc, popped(parts), attribute))
+        Err(_) => parts.lack_memory(),
+    }
+}
+
+fn put_has(alloc: Global, written: &str, parts: &mut Parts<Expr>) {
+    match text(alloc, written) {
+        Ok(attribute) => {
+            let expr = popped(parts);
+            put_made(parts, Expr::has_attr(alloc, expr, attribute));
         }
-        "ext" => {
-            let path = attributes(alloc, rest)?;
-            or_memory(Expr::ext_has_attr(alloc, popped(parts), path))
+        Err(_) => parts.lack_memory(),
+    }
+}
+
+fn put_path(alloc: Global, written: &str, parts: &mut Parts<Expr>) {
+    match attributes(alloc, written) {
+        Ok(path) => {
+            let expr = popped(parts);
+            put_made(parts, Expr::ext_has_attr(alloc, expr, path));
         }
-        "like" => {
-            let pattern = pattern(alloc, rest)?;
-            or_memory(Expr::like(alloc, popped(parts), pattern))
+        Err(_) => parts.lack_memory(),
+    }
+}
+
+fn put_like(alloc: Global, written: &str, parts: &mut Parts<Expr>) {
+    match pattern(alloc, written) {
+        Ok(pattern) => {
+            let expr = popped(parts);
+            put_made(parts, Expr::like(alloc, expr, pattern));
         }
-        "is" => {
-            let ty = entity_type(alloc, rest)?;
-            or_memory(Expr::is_entity_type(alloc, popped(parts), ty))
+        Err(_) => parts.lack_memory(),
+    }
+}
+
+fn put_is(alloc: Global, written: &str, parts: &mut Parts<Expr>) {
+    match entity_type(alloc, written) {
+        Ok(ty) => {
+            let expr = popped(parts);
+            put_made(parts, Expr::is_entity_type(alloc, expr, ty));
         }
-        _ => Ok(Expr::val(literal(alloc, kind, rest)?)),
+        Err(why) => parts.fail(why),
     }
 }
 
 // A word alone: an operation on the parts before it.
-fn operation(alloc: Global, word: &str, parts: &mut Parts<Expr>) -> Result<Expr, Unanswered> {
+fn operate(alloc: Global, word: &str, parts: &mut Parts<Expr>) {
     let right = popped(parts);
-    if let Some(op) = unary(word) {
-        return or_memory(Expr::unary_app(alloc, op, right));
+    match unary(word) {
+        Some(op) => put_made(parts, Expr::unary_app(alloc, op, right)),
+        None => operate_on_two(alloc, word, right, parts),
     }
+}
+
+fn operate_on_two(alloc: Global, word: &str, right: Expr, parts: &mut Parts<Expr>) {
     let left = popped(parts);
-    if let Some(op) = binary(word) {
-        return or_memory(Expr::binary_app(alloc, op, left, right));
+    match binary(word) {
+        Some(op) => put_made(parts, Expr::binary_app(alloc, op, left, right)),
+        None => connect(alloc, word, left, right, parts),
     }
+}
+
+fn connect(alloc: Global, word: &str, left: Expr, right: Expr, parts: &mut Parts<Expr>) {
     match word {
-        "and" => or_memory(Expr::and(alloc, left, right)),
-        "or" => or_memory(Expr::or(alloc, left, right)),
-        "if" => or_memory(Expr::ite(alloc, popped(parts), left, right)),
+        "and" => put_made(parts, Expr::and(alloc, left, right)),
+        "or" => put_made(parts, Expr::or(alloc, left, right)),
+        "if" => {
+            let test = popped(parts);
+            put_made(parts, Expr::ite(alloc, test, left, right));
+        }
         _ => {
             drop(left);
             drop(right);
-            Err(Unanswered::Unreadable("no such operation"))
+            parts.refuse("no such operation");
         }
     }
 }

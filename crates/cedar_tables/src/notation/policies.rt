@@ -7,9 +7,9 @@
 use crate::notation::expressions::expression;
 use crate::notation::leaves::{place, text};
 use crate::notation::settings::{fact_of, slots};
-use crate::notation::unanswered::Unanswered;
+use crate::notation::unanswered::{Noted, Unanswered};
 use crate::notation::{Parts, both, headed, or_memory};
-use cedar_layers::expressions::{Expr, Literal};
+use cedar_layers::expressions::{Expr, Literal, SlotEnv};
 use cedar_layers::policies::{Annotations, Effect, Policy, PolicyID, PolicySet, PolicySetError};
 use std::alloc::{AllocError, Global};
 use std::rc::Rc;
@@ -77,7 +77,7 @@ fn of_parts(alloc: Global, setting: &str, id: &str, stated: &str) -> Result<Poli
     let (effect_name, words) = headed(stated);
     let effect = effect(effect_name)?;
     let ((annotations, slots), (id, conjuncts)) = both(
-        both(annotations(alloc, setting, id), slots(alloc, setting)),
+        both(annotations(alloc, setting, id), linked(alloc, setting)),
         both(or_memory(policy_id(alloc, id)), conjuncts(alloc, words)),
     )?;
     let mut parts = conjuncts;
@@ -97,23 +97,30 @@ fn of_parts(alloc: Global, setting: &str, id: &str, stated: &str) -> Result<Poli
     ))
 }
 
-// The constraints on the principal, the action and the resource, if they are written, and the when clause.
-fn conjuncts(alloc: Global, words: &str) -> Result<Parts<Expr>, Unanswered> {
-    let mut parts: Parts<Expr> = Parts::new(alloc);
-    for part in words.split(" | ") {
-        read(alloc, part, &mut parts)?;
+fn linked(alloc: Global, setting: &str) -> Result<SlotEnv, Unanswered> {
+    let mut noted = Noted::none();
+    let slots = slots(alloc, setting, &mut noted);
+    match noted.why() {
+        None => Ok(slots),
+        Some(why) => Err(why),
     }
-    Ok(parts)
 }
 
-fn read(alloc: Global, words: &str, parts: &mut Parts<Expr>) -> Result<(), Unanswered> {
-    let expr = expression(alloc, words)?;
-    Ok(parts.push(expr)?)
+// The constraints on the principal, the action and the resource, if they are written, and the when clause.
+fn conjuncts(alloc: Global, words: &str) -> Result<Vec<Expr>, Unanswered> {
+    let mut parts: Parts<Expr> = Parts::new(alloc);
+    for part in words.split(" | ") {
+        parts.push_read(expression(alloc, part));
+    }
+    parts.all()
 }
 
 // The last part; a constraint that is not written is `true`.
-fn part(parts: &mut Parts<Expr>) -> Expr {
-    parts.pop(Expr::val(Literal::Bool(true)))
+fn part(parts: &mut Vec<Expr>) -> Expr {
+    match parts.pop() {
+        Some(part) => part,
+        None => Expr::val(Literal::Bool(true)),
+    }
 }
 
 fn annotations(alloc: Global, setting: &str, id: &str) -> Result<Annotations, Unanswered> {

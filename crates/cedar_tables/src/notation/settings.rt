@@ -18,10 +18,10 @@ ghost use Rattle.cedar_layers.specs.Parts.{parts_view, are_restricted_parts};
 ghost use mathlib.Core.Bool.{Bool-set};
 
 use crate::notation::expressions::restricted;
-use crate::notation::leaves::{entity_type, place, slot, text, uid};
-use crate::notation::unanswered::Unanswered;
+use crate::notation::leaves::{entity_type, slot, text, uid};
+use crate::notation::unanswered::{Noted, Unanswered};
 use crate::notation::values::value;
-use crate::notation::{both, fact, first_fact, headed, put};
+use crate::notation::{add, both, fact, first_fact, headed, or_memory, put};
 use cedar_extensions::Extensions;
 use cedar_layers::expressions::{EntityUID, Expr, PartialValue, ResidualExpr, SlotEnv, Value};
 use cedar_layers::policies::{Entities, Entity};
@@ -86,68 +86,84 @@ pub struct Setting<'e, 'f> {
     pub extensions: &'e Extensions<'f>,
 }
 
-/// The setting of these facts, with these extensions.
+/// The setting of these facts, with these extensions; why it can't be read is noted.
 pub fn setting_of<'e, 'f>(
     alloc: Global,
     facts: &str,
     extensions: &'e Extensions<'f>,
-) -> Result<Setting<'e, 'f>, Unanswered> {
-    let ((slots, request), (entities, map)) = both(
-        both(slots(alloc, facts), request(alloc, facts, extensions)),
-        both(stored(alloc, facts), mapped_values(alloc, facts)),
-    )?;
-    Ok(Setting {
-        request,
-        slots,
-        entities,
-        map,
+    noted: &mut Noted,
+) -> Setting<'e, 'f> {
+    Setting {
+        request: request(alloc, facts, extensions, noted),
+        slots: slots(alloc, facts, noted),
+        entities: stored(alloc, facts, noted),
+        map: mapped_values(alloc, facts, noted),
         extensions,
-    })
+    }
 }
 
-fn request(
-    alloc: Global,
-    setting: &str,
-    extensions: &Extensions<'_>,
-) -> Result<Request, Unanswered> {
-    let ((principal, action), (resource, context)) = both(
-        both(
-            entry(alloc, setting, "principal"),
-            entry(alloc, setting, "action"),
-        ),
-        both(
-            entry(alloc, setting, "resource"),
-            context(alloc, setting, extensions),
-        ),
-    )?;
-    Ok(Request::new_with_unknowns(principal, action, resource, context))
+fn request(alloc: Global, facts: &str, extensions: &Extensions<'_>, noted: &mut Noted) -> Request {
+    let principal = entry(alloc, facts, "principal", noted);
+    let action = entry(alloc, facts, "action", noted);
+    let resource = entry(alloc, facts, "resource", noted);
+    let context = context(alloc, facts, extensions, noted);
+    Request::new_with_unknowns(principal, action, resource, context)
 }
 
 // The entity that stands for this variable, if it is known, and its place or its type.
-fn entry(alloc: Global, setting: &str, variable: &str) -> Result<EntityUIDEntry, Unanswered> {
-    let (name, rest) = headed(first_fact(setting, variable).ok_or("no such entity")?);
-    if name != "unknown" {
-        let place = place(rest)?;
-        Ok(EntityUIDEntry::known(uid(alloc, name)?, place))
-    } else if rest.is_empty() {
-        Ok(EntityUIDEntry::unknown())
-    } else {
-        Ok(EntityUIDEntry::unknown_with_type(entity_type(alloc, rest)?, None))
+fn entry(alloc: Global, facts: &str, variable: &str, noted: &mut Noted) -> EntityUIDEntry {
+    match first_fact(facts, variable) {
+        Some(written) => {
+            let (name, rest) = headed(written);
+            if name != "unknown" {
+                known_entry(alloc, name, rest, noted)
+            } else if rest.is_empty() {
+                EntityUIDEntry::unknown()
+            } else {
+                unknown_entry(alloc, rest, noted)
+            }
+        }
+        None => {
+            noted.refuse("no such entity");
+            EntityUIDEntry::unknown()
+        }
+    }
+}
+
+fn known_entry(alloc: Global, name: &str, ends: &str, noted: &mut Noted) -> EntityUIDEntry {
+    let place = noted.place(ends);
+    match uid(alloc, name) {
+        Ok(uid) => EntityUIDEntry::known(uid, place),
+        Err(why) => {
+            noted.fail(why);
+            EntityUIDEntry::unknown()
+        }
+    }
+}
+
+fn unknown_entry(alloc: Global, ty: &str, noted: &mut Noted) -> EntityUIDEntry {
+    match entity_type(alloc, ty) {
+        Ok(ty) => EntityUIDEntry::unknown_with_type(ty, None),
+        Err(why) => {
+            noted.fail(why);
+            EntityUIDEntry::unknown()
+        }
     }
 }
 
 // The context, if it is known.
 fn context(
     alloc: Global,
-    setting: &str,
+    facts: &str,
     extensions: &Extensions<'_>,
-) -> Result<Option<Context>, Unanswered> {
-    match first_fact(setting, "context") {
-        None => Ok(Some(Context::empty(alloc))),
+    noted: &mut Noted,
+) -> Option<Context> {
+    match first_fact(facts, "context") {
+        None => Some(Context::empty(alloc)),
         Some(words) => if words == "none" {
-            Ok(None)
+            None
         } else {
-            Ok(Some(context_of(alloc, words, extensions)?))
+            context_of(alloc, words, extensions, noted)
         },
     }
 }
@@ -156,16 +172,28 @@ fn context_of(
     alloc: Global,
     words: &str,
     extensions: &Extensions<'_>,
-) -> Result<Context, Unanswered> {
-    let expr = restricted(alloc, words)?;
-    let made = Context::from_expr(alloc, expr.as_borrowed(), extensions, LIMIT);
-    drop(expr);
+    noted: &mut Noted,
+) -> Option<Context> {
+    match restricted(alloc, words) {
+        Ok(expr) => {
+            let made = Context::from_expr(alloc, expr.as_borrowed(), extensions, LIMIT);
+            drop(expr);
+            made_context(made, noted)
+        }
+        Err(why) => {
+            noted.fail(why);
+            None
+        }
+    }
+}
+
+fn made_context(made: Result<Context, ContextCreationError>, noted: &mut Noted) -> Option<Context> {
     match made {
-        Ok(context) => Ok(context),
+        Ok(context) => Some(context),
         Err(error) => {
-            let reason = reason(&error);
+            noted.fail(reason(&error));
             drop(error);
-            Err(reason)
+            None
         }
     }
 }
@@ -183,87 +211,143 @@ fn reason(error: &ContextCreationError) -> Unanswered {
     }
 }
 
-fn mapped_values(alloc: Global, setting: &str) -> Result<HashMap<RcStr, Value>, Unanswered> {
+fn mapped_values(alloc: Global, facts: &str, noted: &mut Noted) -> HashMap<RcStr, Value> {
     let mut map: HashMap<RcStr, Value> = HashMap::new(alloc);
-    for line in setting.lines() {
-        if let Some(rest) = fact(line, "map") {
-            let (name, words) = headed(rest);
-            put(&mut map, text(alloc, name)?, value(alloc, words)?)?;
+    for line in facts.lines() {
+        if let Some(named) = fact(line, "map") {
+            put_value(alloc, &mut map, named, noted);
         }
     }
-    Ok(map)
+    map
+}
+
+/// Puts the value that these words write into the map, under the name that stands before them.
+pub fn put_value(alloc: Global, map: &mut HashMap<RcStr, Value>, named: &str, noted: &mut Noted) {
+    let (name, words) = headed(named);
+    match both(or_memory(text(alloc, name)), value(alloc, words)) {
+        Ok((name, value)) => noted.note(put(map, name, value)),
+        Err(why) => noted.fail(why),
+    }
 }
 
 /// The entities of the slots that are linked.
-pub fn slots(alloc: Global, setting: &str) -> Result<SlotEnv, Unanswered> {
+pub fn slots(alloc: Global, facts: &str, noted: &mut Noted) -> SlotEnv {
     let mut slots = SlotEnv::new(alloc);
-    for line in setting.lines() {
-        if let Some(rest) = fact(line, "slot") {
-            let (name, entity) = headed(rest);
-            slots.insert(slot(name)?, uid(alloc, entity)?)?;
+    for line in facts.lines() {
+        if let Some(named) = fact(line, "slot") {
+            link(alloc, &mut slots, named, noted);
         }
     }
-    Ok(slots)
+    slots
+}
+
+fn link(alloc: Global, slots: &mut SlotEnv, named: &str, noted: &mut Noted) {
+    let (name, entity) = headed(named);
+    match both(slot(name), uid(alloc, entity)) {
+        Ok((slot, uid)) => if slots.insert(slot, uid).is_err() {
+            noted.lack_memory();
+        },
+        Err(why) => noted.fail(why),
+    }
 }
 
 /// The store of the entities that the facts declare.
-pub fn stored(alloc: Global, setting: &str) -> Result<Entities, Unanswered> {
-    let is_partial = first_fact(setting, "store") == Some("partial");
-    let entities = entities(alloc, setting)?;
-    Ok(Entities::with(alloc, entities, is_partial)?)
-}
-
-fn entities(alloc: Global, setting: &str) -> Result<Vec<Entity>, Unanswered> {
-    let mut entities: Vec<Entity> = Vec::new(alloc);
-    for line in setting.lines() {
-        if let Some(rest) = fact(line, "entity") {
-            entities.push(entity(alloc, setting, rest)?)?;
+pub fn stored(alloc: Global, facts: &str, noted: &mut Noted) -> Entities {
+    let is_partial = first_fact(facts, "store") == Some("partial");
+    let entities = entities(alloc, facts, noted);
+    match Entities::with(alloc, entities, is_partial) {
+        Ok(entities) => entities,
+        Err(_) => {
+            noted.lack_memory();
+            Entities::new(alloc)
         }
     }
-    Ok(entities)
 }
 
-// The entity that is declared so.
-fn entity(alloc: Global, setting: &str, declared: &str) -> Result<Entity, Unanswered> {
+fn entities(alloc: Global, facts: &str, noted: &mut Noted) -> Vec<Entity> {
+    let mut entities: Vec<Entity> = Vec::new(alloc);
+    for line in facts.lines() {
+        if let Some(declared) = fact(line, "entity") {
+            put_entity(alloc, facts, declared, &mut entities, noted);
+        }
+    }
+    entities
+}
+
+// Puts the entity that is declared so behind the others.
+fn put_entity(
+    alloc: Global,
+    facts: &str,
+    declared: &str,
+    entities: &mut Vec<Entity>,
+    noted: &mut Noted,
+) {
     let (name, called) = headed(declared);
     let called = if called.is_empty() { name } else { called };
-    let ((uid, ancestors), (attributes, tags)) = both(
-        both(uid(alloc, name), ancestors(alloc, setting, called)),
-        both(
-            parts_of(alloc, setting, "attribute", called),
-            parts_of(alloc, setting, "tag", called),
-        ),
-    )?;
-    Ok(Entity::new(uid, attributes.parts, ancestors, tags.parts))
+    match uid(alloc, name) {
+        Ok(uid) => {
+            let entity = entity(alloc, facts, uid, called, noted);
+            noted.note(add(entities, entity));
+        }
+        Err(why) => noted.fail(why),
+    }
 }
 
-fn ancestors(alloc: Global, setting: &str, called: &str) -> Result<HashSet<EntityUID>, Unanswered> {
+fn entity(alloc: Global, facts: &str, uid: EntityUID, called: &str, noted: &mut Noted) -> Entity {
+    let ancestors = ancestors(alloc, facts, called, noted);
+    let attributes = parts_of(alloc, facts, "attribute", called, noted);
+    let tags = parts_of(alloc, facts, "tag", called, noted);
+    Entity::new(uid, attributes.parts, ancestors, tags.parts)
+}
+
+fn ancestors(alloc: Global, facts: &str, called: &str, noted: &mut Noted) -> HashSet<EntityUID> {
     let mut ancestors: HashSet<EntityUID> = HashSet::new(alloc);
-    for line in setting.lines() {
+    for line in facts.lines() {
         if let Some(above) = fact_of(line, "ancestor", called) {
-            ancestors.insert(uid(alloc, above)?)?;
+            put_ancestor(alloc, &mut ancestors, above, noted);
         }
     }
-    Ok(ancestors)
+    ancestors
+}
+
+fn put_ancestor(alloc: Global, ancestors: &mut HashSet<EntityUID>, above: &str, noted: &mut Noted) {
+    match uid(alloc, above) {
+        Ok(uid) => if ancestors.insert(uid).is_err() {
+            noted.lack_memory();
+        },
+        Err(why) => noted.fail(why),
+    }
 }
 
 // The attributes, or the tags, of the entity.
 fn parts_of(
     alloc: Global,
-    setting: &str,
+    facts: &str,
     keyword: &str,
     called: &str,
-) -> Result<StoredParts, Unanswered> {
+    noted: &mut Noted,
+) -> StoredParts {
     let mut parts = StoredParts::new(alloc);
-    for line in setting.lines() {
-        if let Some(rest) = fact_of(line, keyword, called) {
-            parts = with_part(alloc, parts, rest)?;
+    for line in facts.lines() {
+        if let Some(named) = fact_of(line, keyword, called) {
+            parts = with_part(alloc, parts, named, noted);
         }
     }
-    Ok(parts)
+    parts
 }
 
-fn with_part(alloc: Global, parts: StoredParts, named: &str) -> Result<StoredParts, Unanswered> {
+// The parts, and the one that is named so. Where that can't be read, what is left of them is no matter.
+fn with_part(alloc: Global, parts: StoredParts, named: &str, noted: &mut Noted) -> StoredParts {
+    match read_part(alloc, parts, named) {
+        Ok(parts) => parts,
+        Err(why) => {
+            noted.fail(why);
+            StoredParts::new(alloc)
+        }
+    }
+}
+
+fn read_part(alloc: Global, parts: StoredParts, named: &str) -> Result<StoredParts, Unanswered> {
     let (name, words) = headed(named);
     let name = text(alloc, name)?;
     if has_unknown(words) {

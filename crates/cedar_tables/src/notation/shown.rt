@@ -1,9 +1,10 @@
-//! Answers as they are shown: places, copies, and what is asked for.
+//! What answers have in common: places, copies, and what is asked for.
+use crate::notation::answer::Answer;
 use crate::notation::expressions::expression;
 use crate::notation::unanswered::Unanswered;
 use cedar_layers::expressions::{Expr, Loc};
 use cedar_values::evaluator::err::EvaluationError;
-use std::alloc::{AllocError, Global};
+use std::alloc::AllocError;
 use std::fmt;
 
 /// More levels than any expression of a row has.
@@ -15,33 +16,6 @@ pub fn limit(written: &str) -> Result<usize, Unanswered> {
         Ok(LIMIT)
     } else {
         Ok(written.parse::<usize>()?)
-    }
-}
-
-/// The text, or that memory was wanting.
-pub fn or_fail(text: Result<String, AllocError>) -> Result<String, Unanswered> {
-    Ok(text?)
-}
-
-/// The text of what was made, or that of the error.
-pub fn told<T: fmt::Display + Drop, E: fmt::Display + Drop>(
-    alloc: Global,
-    made: Result<T, E>,
-) -> Result<String, AllocError> {
-    match made {
-        Ok(made) => made.to_string(alloc),
-        Err(error) => error.to_string(alloc),
-    }
-}
-
-/// The text of what was made.
-pub fn text_of<T: fmt::Display + Drop>(
-    alloc: Global,
-    made: Result<T, AllocError>,
-) -> Result<String, AllocError> {
-    match made {
-        Ok(made) => made.to_string(alloc),
-        Err(error) => Err(error),
     }
 }
 
@@ -84,38 +58,38 @@ impl fmt::Display for Place<'_> {
 }
 
 /// Where the error stands. Want of memory stands nowhere.
-pub fn error_place(alloc: Global, error: &EvaluationError) -> Result<String, AllocError> {
+pub fn put_error_place(answer: &mut Answer, error: &EvaluationError) {
     if matches!(error, EvaluationError::Memory(_)) {
-        Err(AllocError)
+        answer.lack_memory();
     } else {
-        format!(in alloc; "error {}", Place(error.source_loc()))
+        answer.put("error ");
+        answer.show(&Place(error.source_loc()));
     }
 }
 
 /// The copy, where it stands, and whether it is equal to what it was made from.
-pub fn same_text<T: fmt::Display + PartialEq>(
-    alloc: Global,
+pub fn put_same<T: fmt::Display + PartialEq>(
+    answer: &mut Answer,
     copy: &T,
     original: &T,
     place: Option<&Loc>,
-) -> Result<String, AllocError> {
+) {
     let is_same = copy == original;
-    format!(in alloc; "{copy}, {}, the same {is_same}", Place(place))
+    answer.show(copy);
+    answer.put(", ");
+    answer.show(&Place(place));
+    answer.put(", the same ");
+    answer.show(&is_same);
 }
 
 /// The words that are wanted, where the expression that they write is this one, else the text of this one.
-pub fn wanted_or_text(alloc: Global, expr: &Expr, want: &str) -> Result<String, Unanswered> {
-    let wanted = expression(alloc, want)?;
-    let is_met = wanted == *expr;
-    drop(wanted);
-    shown_or(alloc, expr, is_met, want)
-}
-
-// What is wanted, where it is met, and else the text of the expression.
-fn shown_or(alloc: Global, expr: &Expr, is_met: bool, want: &str) -> Result<String, Unanswered> {
-    if is_met {
-        Ok(String::from_str(alloc, want)?)
-    } else {
-        Ok(expr.to_string(alloc)?)
+pub fn put_wanted(answer: &mut Answer, expr: &Expr, want: &str) {
+    match expression(answer.alloc, want) {
+        Ok(wanted) => if wanted == *expr {
+            answer.put(want);
+        } else {
+            answer.show(expr);
+        },
+        Err(why) => answer.fail(why),
     }
 }

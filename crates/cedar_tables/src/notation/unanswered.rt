@@ -1,4 +1,6 @@
 //! Why a row has no answer.
+use crate::notation::leaves::place;
+use cedar_layers::expressions::Loc;
 use std::alloc::{AllocError, AllocFailed};
 use std::num::ParseIntError;
 use std::str::{ParseBoolError, Utf8Error};
@@ -64,6 +66,70 @@ impl From<io::Error> for Unanswered {
             Unanswered::Memory
         } else {
             Unanswered::InputOrOutput
+        }
+    }
+}
+
+/// Why there is no answer, if a reason was noted: the first one. Who notes it goes on, and it is looked at once, at the end.
+#[derive(Clone, Copy)]
+pub struct Noted {
+    why: Option<Unanswered>,
+}
+
+impl Noted {
+    /// No reason is noted.
+    pub fn none() -> Noted {
+        Noted { why: None }
+    }
+
+    /// The reason.
+    pub fn why(self) -> Option<Unanswered> {
+        self.why
+    }
+
+    /// Notes this reason.
+    pub fn fail(&mut self, why: Unanswered) {
+        if self.why.is_none() {
+            self.why = Some(why);
+        }
+    }
+
+    /// Notes that what is written can't be read or asked, for this reason.
+    pub fn refuse(&mut self, reason: &'static str) {
+        self.fail(Unanswered::Unreadable(reason));
+    }
+
+    /// Notes that memory was wanting.
+    pub fn lack_memory(&mut self) {
+        self.fail(Unanswered::Memory);
+    }
+
+    /// Notes whether memory was wanting.
+    pub fn note(&mut self, done: Result<(), AllocError>) {
+        if done.is_err() {
+            self.lack_memory();
+        }
+    }
+
+    /// The number that is written so.
+    pub fn number(&mut self, written: &str) -> usize {
+        match written.parse::<usize>() {
+            Ok(number) => number,
+            Err(_) => {
+                self.refuse("a number");
+                0
+            }
+        }
+    }
+
+    /// The place with these ends.
+    pub fn place(&mut self, ends: &str) -> Option<Loc> {
+        match place(ends) {
+            Ok(place) => place,
+            Err(why) => {
+                self.fail(why);
+                None
+            }
         }
     }
 }

@@ -11,70 +11,91 @@ use std::rc::{Rc, RcStr};
 
 /// The value that these words write.
 pub fn value(alloc: Global, words: &str) -> Result<Value, Unanswered> {
-    read_all(alloc, words)?.only()
+    read_all(alloc, words).only()
 }
 
 /// The values that these words write.
 pub fn values(alloc: Global, words: &str) -> Result<Vec<Value>, Unanswered> {
-    read_all(alloc, words)?.all()
+    read_all(alloc, words).all()
 }
 
-fn read_all(alloc: Global, words: &str) -> Result<Parts<Value>, Unanswered> {
+fn read_all(alloc: Global, words: &str) -> Parts<Value> {
     let mut parts: Parts<Value> = Parts::new(alloc);
     for word in words.split(' ') {
-        read(alloc, word, &mut parts)?;
+        read(alloc, word, &mut parts);
     }
-    Ok(parts)
+    parts
 }
 
-fn read(alloc: Global, word: &str, parts: &mut Parts<Value>) -> Result<(), Unanswered> {
-    let value = part(alloc, word, parts)?;
-    Ok(parts.push(value)?)
-}
-
-// The value that the word makes of those before it.
-fn part(alloc: Global, word: &str, parts: &mut Parts<Value>) -> Result<Value, Unanswered> {
+// Reads a word: the value that it makes of those before it.
+fn read(alloc: Global, word: &str, parts: &mut Parts<Value>) {
     match word.strip_prefix('@') {
-        Some(ends) => placed(ends, parts),
+        Some(ends) => place_last(ends, parts),
         None => match word.split_once(':') {
-            Some((kind, rest)) => of_kind(alloc, kind, rest, parts),
-            None => Err(Unanswered::Unreadable("a word that is no value")),
+            Some((kind, rest)) => read_kind(alloc, kind, rest, parts),
+            None => parts.refuse("a word that is no value"),
         },
     }
 }
 
-// The value before the word, at this place.
-fn placed(ends: &str, parts: &mut Parts<Value>) -> Result<Value, Unanswered> {
-    let place = place(ends)?;
-    Ok(popped(parts).with_maybe_source_loc(place))
+fn put(parts: &mut Parts<Value>, value: Value) {
+    parts.push(value);
 }
 
-fn of_kind(
-    alloc: Global,
-    kind: &str,
-    rest: &str,
-    parts: &mut Parts<Value>,
-) -> Result<Value, Unanswered> {
-    match kind {
-        "set" => set(alloc, rest, parts),
-        "record" => record(alloc, rest, parts),
-        "X" => extension(alloc, rest),
-        _ => Ok(Value::from(literal(alloc, kind, rest)?)),
+fn put_made(parts: &mut Parts<Value>, made: Result<Value, AllocError>) {
+    match made {
+        Ok(value) => parts.push(value),
+        Err(_) => parts.lack_memory(),
     }
 }
 
-fn set(alloc: Global, count: &str, parts: &mut Parts<Value>) -> Result<Value, Unanswered> {
-    let count = count.parse::<usize>()?;
-    Ok(Value::set(alloc, parts.last(count)?, None)?)
-}
-
-fn record(alloc: Global, keys: &str, parts: &mut Parts<Value>) -> Result<Value, Unanswered> {
-    let map = mapped(alloc, parts.named(alloc, keys)?)?;
-    Ok(Value::record(alloc, map, None)?)
+// Puts the value before the word at this place.
+fn place_last(ends: &str, parts: &mut Parts<Value>) {
+    match place(ends) {
+        Ok(place) => {
+            let value = popped(parts).with_maybe_source_loc(place);
+            put(parts, value);
+        }
+        Err(why) => parts.fail(why),
+    }
 }
 
 fn popped(parts: &mut Parts<Value>) -> Value {
     parts.pop(Value::from(Literal::Bool(false)))
+}
+
+fn read_kind(alloc: Global, kind: &str, rest: &str, parts: &mut Parts<Value>) {
+    match kind {
+        "set" => put_set(alloc, rest, parts),
+        "record" => put_record(alloc, rest, parts),
+        "X" => parts.push_read(extension(alloc, rest)),
+        _ => put_literal(alloc, kind, rest, parts),
+    }
+}
+
+fn put_literal(alloc: Global, kind: &str, rest: &str, parts: &mut Parts<Value>) {
+    match literal(alloc, kind, rest) {
+        Ok(literal) => put(parts, Value::from(literal)),
+        Err(why) => parts.fail(why),
+    }
+}
+
+fn put_set(alloc: Global, count: &str, parts: &mut Parts<Value>) {
+    let count = parts.number(count);
+    match parts.last(count) {
+        Ok(elements) => put_made(parts, Value::set(alloc, elements, None)),
+        Err(_) => parts.lack_memory(),
+    }
+}
+
+fn put_record(alloc: Global, keys: &str, parts: &mut Parts<Value>) {
+    match parts.named(alloc, keys) {
+        Ok(pairs) => match mapped(alloc, pairs) {
+            Ok(map) => put_made(parts, Value::record(alloc, map, None)),
+            Err(_) => parts.lack_memory(),
+        },
+        Err(_) => parts.lack_memory(),
+    }
 }
 
 fn extension(alloc: Global, written: &str) -> Result<Value, Unanswered> {

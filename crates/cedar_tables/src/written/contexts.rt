@@ -1,97 +1,99 @@
 //! What is answered of contexts that are made of restricted expressions: what they hold, or why there is none.
 //!
 //! Pairs are written `b=U:x, a=L:1 set:1`, in that order: names, and the words of a restricted expression. `none` is no pair.
+use crate::notation::answer::Answer;
 use crate::notation::expressions::restricted;
 use crate::notation::pair;
-use crate::notation::shown::{is_equal, limit, or_fail, text_of};
+use crate::notation::shown::is_equal;
 use crate::notation::unanswered::Unanswered;
 use cedar_extensions::Extensions;
-use cedar_layers::expressions::{BoundedDisplay, PartialValue};
+use cedar_layers::expressions::{ExpressionConstructionError, PartialValue};
 use cedar_requests::{Context, ContextCreationError};
 use cedar_restricted_expressions::RestrictedExpr;
 use std::alloc::{AllocError, Global};
 use std::rc::RcStr;
 
 /// What is asked of the context of these words.
-pub fn answer(
-    alloc: Global,
+pub fn ask(
+    answer: &mut Answer,
     extensions: &Extensions<'_>,
     kind: &str,
     limit_text: &str,
     written: &str,
-) -> Result<String, Unanswered> {
-    let limit = limit(limit_text)?;
+) {
+    let limit = answer.limit(limit_text);
     match kind {
-        "pairs" => of_pairs(alloc, extensions, limit, written),
-        "record" => of_record(alloc, extensions, limit, written),
-        "expression" => of_words(alloc, extensions, limit, written),
-        "converted" => of_conversions(alloc, extensions, limit, written),
-        _ => Err(Unanswered::Unreadable("no such question")),
+        "expression" => of_words(answer, extensions, limit, written),
+        _ => match pairs(answer.alloc, written) {
+            Ok(pairs) => of_pairs(answer, extensions, kind, limit, pairs),
+            Err(why) => answer.fail(why),
+        },
     }
 }
 
 fn of_pairs(
-    alloc: Global,
+    answer: &mut Answer,
     extensions: &Extensions<'_>,
+    kind: &str,
     limit: usize,
-    written: &str,
-) -> Result<String, Unanswered> {
-    let pairs = pairs(alloc, written)?;
-    or_fail(made_text(alloc, Context::from_pairs(alloc, pairs, extensions, limit)))
+    pairs: Vec<(RcStr, RestrictedExpr)>,
+) {
+    let alloc = answer.alloc;
+    match kind {
+        "pairs" => put_made(answer, Context::from_pairs(alloc, pairs, extensions, limit)),
+        "converted" => put_converted(answer, Context::from_pairs(alloc, pairs, extensions, limit)),
+        "record" => of_record(
+            answer,
+            extensions,
+            limit,
+            RestrictedExpr::record(alloc, pairs),
+        ),
+        _ => {
+            drop(pairs);
+            answer.refuse("no such question");
+        }
+    }
 }
 
-fn of_conversions(
-    alloc: Global,
-    extensions: &Extensions<'_>,
-    limit: usize,
-    written: &str,
-) -> Result<String, Unanswered> {
-    let pairs = pairs(alloc, written)?;
-    match Context::from_pairs(alloc, pairs, extensions, limit) {
+fn put_converted(answer: &mut Answer, made: Result<Context, ContextCreationError>) {
+    match made {
         Ok(context) => {
-            let text = conversions(alloc, &context);
+            put_conversions(answer, &context);
             drop(context);
-            text
         }
         Err(error) => {
-            let text = error.to_string(alloc);
+            answer.show(&error);
             drop(error);
-            or_fail(text)
         }
     }
 }
 
 fn of_record(
-    alloc: Global,
+    answer: &mut Answer,
     extensions: &Extensions<'_>,
     limit: usize,
-    written: &str,
-) -> Result<String, Unanswered> {
-    let pairs = pairs(alloc, written)?;
-    match RestrictedExpr::record(alloc, pairs) {
+    made: Result<RestrictedExpr, ExpressionConstructionError>,
+) {
+    match made {
         Ok(record) => {
-            let text = of_expression(alloc, extensions, limit, &record);
+            of_expression(answer, extensions, limit, &record);
             drop(record);
-            or_fail(text)
         }
         Err(error) => {
-            let text = error.to_string(alloc);
+            answer.show(&error);
             drop(error);
-            or_fail(text)
         }
     }
 }
 
-fn of_words(
-    alloc: Global,
-    extensions: &Extensions<'_>,
-    limit: usize,
-    words: &str,
-) -> Result<String, Unanswered> {
-    let expr = restricted(alloc, words)?;
-    let text = of_expression(alloc, extensions, limit, &expr);
-    drop(expr);
-    or_fail(text)
+fn of_words(answer: &mut Answer, extensions: &Extensions<'_>, limit: usize, words: &str) {
+    match restricted(answer.alloc, words) {
+        Ok(expr) => {
+            of_expression(answer, extensions, limit, &expr);
+            drop(expr);
+        }
+        Err(why) => answer.fail(why),
+    }
 }
 
 fn pairs(alloc: Global, written: &str) -> Result<Vec<(RcStr, RestrictedExpr)>, Unanswered> {
@@ -116,32 +118,29 @@ fn put_pair(
 }
 
 fn of_expression(
-    alloc: Global,
+    answer: &mut Answer,
     extensions: &Extensions<'_>,
     limit: usize,
     expr: &RestrictedExpr,
-) -> Result<String, AllocError> {
-    let made = Context::from_expr(alloc, expr.as_borrowed(), extensions, limit);
-    made_text(alloc, made)
+) {
+    let made = Context::from_expr(answer.alloc, expr.as_borrowed(), extensions, limit);
+    put_made(answer, made);
 }
 
-fn made_text(
-    alloc: Global,
-    made: Result<Context, ContextCreationError>,
-) -> Result<String, AllocError> {
+fn put_made(answer: &mut Answer, made: Result<Context, ContextCreationError>) {
     match made {
-        Ok(context) => walked(alloc, context),
+        Ok(context) => put_walked(answer, context),
         Err(error) => {
-            let text = refusal_text(alloc, &error);
+            put_refusal(answer, &error);
             drop(error);
-            text
         }
     }
 }
 
-fn refusal_text(alloc: Global, error: &ContextCreationError) -> Result<String, AllocError> {
-    let kind = kind(error);
-    format!(in alloc; "{kind}: {error}")
+fn put_refusal(answer: &mut Answer, error: &ContextCreationError) {
+    answer.put(kind(error));
+    answer.put(": ");
+    answer.show(error);
 }
 
 fn kind(error: &ContextCreationError) -> &'static str {
@@ -153,65 +152,65 @@ fn kind(error: &ContextCreationError) -> &'static str {
     }
 }
 
-// The context's text, how many attributes it has, whether all are values, and what is walked.
-fn walked(alloc: Global, context: Context) -> Result<String, AllocError> {
-    match shown(alloc, &context) {
-        Ok(text) => walked_behind(alloc, text, context),
-        Err(error) => {
-            drop(context);
-            Err(error)
-        }
-    }
-}
-
-// The text, and behind it what is walked.
-fn walked_behind(alloc: Global, text: String, context: Context) -> Result<String, AllocError> {
-    let mut text = text;
+// The context, and what is walked.
+fn put_walked(answer: &mut Answer, context: Context) {
+    put_context(answer, &context);
     'attributes: for attribute in context {
-        put_attribute(alloc, &mut text, attribute)?;
+        put_attribute(answer, attribute);
     }
-    Ok(text)
 }
 
-fn shown(alloc: Global, context: &Context) -> Result<String, AllocError> {
+// The context's text, how many attributes it has, and whether all are values.
+fn put_context(answer: &mut Answer, context: &Context) {
     let (count, is_value) = (context.num_keys(), context.as_value().is_some());
-    format!(in alloc; "{context}, {count} keys, values {is_value}")
+    answer.show(context);
+    answer.put(", ");
+    answer.show(&count);
+    answer.put(" keys, values ");
+    answer.show(&is_value);
 }
 
-fn put_attribute(
-    alloc: Global,
-    text: &mut String,
-    attribute: Result<(RcStr, RestrictedExpr), AllocError>,
-) -> Result<(), AllocError> {
-    let (name, expr) = attribute?;
-    let shown = format!(in alloc; "; {name} {expr}");
-    drop(expr);
-    text.push_str(shown?.as_str())
+fn put_attribute(answer: &mut Answer, attribute: Result<(RcStr, RestrictedExpr), AllocError>) {
+    match attribute {
+        Ok((name, expr)) => {
+            answer.put("; ");
+            answer.show(&name);
+            answer.put(" ");
+            answer.show(&expr);
+            drop(expr);
+        }
+        Err(_) => answer.lack_memory(),
+    }
 }
 
 // The partial value, the restricted expression, whether a copy is equal, and the text under a bound of 1.
-fn conversions(alloc: Global, context: &Context) -> Result<String, Unanswered> {
-    let mut text = value_text(alloc, context)?;
-    put_restricted(alloc, &mut text, context)?;
-    put_copy(alloc, &mut text, context)?;
-    BoundedDisplay::fmt(context, &mut text, Some(1))?;
-    Ok(text)
+fn put_conversions(answer: &mut Answer, context: &Context) {
+    put_value(answer, context);
+    answer.put(" ~ ");
+    put_restricted(answer, context);
+    answer.put(" ~ ");
+    put_copied(answer, context);
+    answer.put(" ~ ");
+    answer.show_within(context, Some(1));
 }
 
-fn put_restricted(alloc: Global, text: &mut String, context: &Context) -> Result<(), AllocError> {
-    text.push_str(" ~ ")?;
-    text.push_str(restricted_text(alloc, context)?.as_str())
+fn put_value(answer: &mut Answer, context: &Context) {
+    match context.clone() {
+        Ok(copy) => answer.show_made(PartialValue::try_from(copy)),
+        Err(_) => answer.lack_memory(),
+    }
 }
 
-fn put_copy(alloc: Global, text: &mut String, context: &Context) -> Result<(), AllocError> {
-    let is_same = is_equal(context.clone(), context)?;
-    text.push_str(format!(in alloc; " ~ {is_same} ~ ")?.as_str())
+fn put_restricted(answer: &mut Answer, context: &Context) {
+    match context.clone() {
+        Ok(copy) => answer.show_made(RestrictedExpr::try_from(copy)),
+        Err(_) => answer.lack_memory(),
+    }
 }
 
-fn value_text(alloc: Global, context: &Context) -> Result<String, AllocError> {
-    text_of(alloc, PartialValue::try_from(context.clone()?))
-}
-
-fn restricted_text(alloc: Global, context: &Context) -> Result<String, AllocError> {
-    text_of(alloc, RestrictedExpr::try_from(context.clone()?))
+fn put_copied(answer: &mut Answer, context: &Context) {
+    match is_equal(context.clone(), context) {
+        Ok(is_same) => answer.show(&is_same),
+        Err(_) => answer.lack_memory(),
+    }
 }

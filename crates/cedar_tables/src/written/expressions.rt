@@ -1,8 +1,8 @@
 //! Expressions as they are printed, copied, compared and changed.
+use crate::notation::answer::Answer;
 use crate::notation::expressions::expression;
 use crate::notation::pair;
-use crate::notation::shown::{are_equal, same_text, text_of, wanted_or_text};
-use crate::notation::unanswered::Unanswered;
+use crate::notation::shown::{are_equal, put_same, put_wanted};
 use crate::notation::values::values;
 use crate::steps::mapping;
 use cedar_layers::expressions::{
@@ -14,105 +14,114 @@ use std::collections::HashMap;
 use std::rc::RcStr;
 
 /// What is asked of the expression that the words write, of two, of keys, or of two values.
-pub fn answer(alloc: Global, kind: &str, bound: &str, words: &str) -> Result<String, Unanswered> {
+pub fn ask(answer: &mut Answer, kind: &str, bound: &str, words: &str) {
     match kind {
-        "equal" => equal(alloc, words),
-        "keys" => Ok(keyed(alloc, words)?),
-        "order" => ordered(alloc, words),
-        _ => {
-            let expr = expression(alloc, words)?;
-            let text = of_expression(alloc, kind, bound, &expr);
-            drop(expr);
-            text
-        }
+        "equal" => ask_equal(answer, words),
+        "keys" => ask_record(answer, words),
+        "order" => ask_order(answer, words),
+        _ => match expression(answer.alloc, words) {
+            Ok(expr) => of_expression(answer, kind, bound, &expr),
+            Err(why) => answer.fail(why),
+        },
     }
 }
 
-fn of_expression(
-    alloc: Global,
-    kind: &str,
-    bound: &str,
-    expr: &Expr,
-) -> Result<String, Unanswered> {
+fn of_expression(answer: &mut Answer, kind: &str, bound: &str, expr: &Expr) {
     match kind {
-        "text" => Ok(expr.to_string(alloc)?),
-        "cut" => cut(alloc, expr, bound),
-        "copy" => Ok(copy_text(alloc, expr)?),
-        "shape" => Ok(shape_text(alloc, expr)?),
-        _ => Err(Unanswered::Unreadable("no such question")),
+        "text" => answer.show(expr),
+        "cut" => cut(answer, expr, bound),
+        "copy" => put_copy_of(answer, expr),
+        "shape" => put_shape(answer, expr),
+        _ => answer.refuse("no such question"),
     }
 }
 
 /// The text under the bound.
-pub fn cut<T: BoundedDisplay>(alloc: Global, shown: &T, bound: &str) -> Result<String, Unanswered> {
-    let bound = if bound == "all" {
-        None
+pub fn cut<T: BoundedDisplay>(answer: &mut Answer, shown: &T, bound: &str) {
+    if bound == "all" {
+        answer.show_within(shown, None);
     } else {
-        Some(bound.parse::<usize>()?)
-    };
-    let mut text = String::new(alloc);
-    BoundedDisplay::fmt(shown, &mut text, bound)?;
-    Ok(text)
+        let bound = answer.number(bound);
+        answer.show_within(shown, Some(bound));
+    }
 }
 
 /// The copy, where it stands, and whether it is equal to the expression.
-pub fn copy_text(alloc: Global, expr: &Expr) -> Result<String, AllocError> {
-    let copy = expr.clone()?;
-    let text = same_text(alloc, &copy, expr, copy.source_loc());
-    drop(copy);
-    text
+pub fn put_copy_of(answer: &mut Answer, expr: &Expr) {
+    match expr.clone() {
+        Ok(copy) => put_same(answer, &copy, expr, copy.source_loc()),
+        Err(_) => answer.lack_memory(),
+    }
 }
 
-fn shape_text(alloc: Global, expr: &Expr) -> Result<String, AllocError> {
+fn put_shape(answer: &mut Answer, expr: &Expr) {
     let has_unknown = expr.has_unknown();
     let is_projectable = expr.is_projectable();
-    format!(in alloc; "unknown {has_unknown}, projectable {is_projectable}")
+    answer.put("unknown ");
+    answer.show(&has_unknown);
+    answer.put(", projectable ");
+    answer.show(&is_projectable);
 }
 
-/// What `wanted_or_text` says of the expression that substitution answers. The map has a value at the first word, or nothing.
-pub fn substituted(
-    alloc: Global,
-    map: &str,
-    words: &str,
-    want: &str,
-) -> Result<String, Unanswered> {
-    let map = mapping(alloc, if map.is_empty() { "none" } else { map })?;
-    let text = substituted_by(alloc, &map, words, want);
-    drop(map);
-    text
-}
-
-fn substituted_by(
-    alloc: Global,
-    map: &HashMap<RcStr, Value>,
-    words: &str,
-    want: &str,
-) -> Result<String, Unanswered> {
-    let expr = expression(alloc, words)?;
-    let replaced = expr.substitute(alloc, map);
-    drop(expr);
-    match replaced {
-        Ok(replaced) => {
-            let text = wanted_or_text(alloc, &replaced, want);
-            drop(replaced);
-            text
+/// What `put_wanted` says of the expression that substitution answers. The map has a value at the first word, or nothing.
+pub fn ask_substituted(answer: &mut Answer, map: &str, words: &str, want: &str) {
+    match mapping(answer.alloc, if map.is_empty() { "none" } else { map }) {
+        Ok(map) => {
+            substitute(answer, &map, words, want);
+            drop(map);
         }
-        Err(_) => Err(Unanswered::Memory),
+        Err(why) => answer.fail(why),
+    }
+}
+
+fn substitute(answer: &mut Answer, map: &HashMap<RcStr, Value>, words: &str, want: &str) {
+    match expression(answer.alloc, words) {
+        Ok(expr) => {
+            let replaced = expr.substitute(answer.alloc, map);
+            put_replaced(answer, replaced, want);
+        }
+        Err(why) => answer.fail(why),
+    }
+}
+
+fn put_replaced(answer: &mut Answer, replaced: Result<Expr, AllocError>, want: &str) {
+    match replaced {
+        Ok(expr) => put_wanted(answer, &expr, want),
+        Err(_) => answer.lack_memory(),
     }
 }
 
 // Whether the two expressions are equal.
-fn equal(alloc: Global, words: &str) -> Result<String, Unanswered> {
-    let (left, right) = words.split_once(" ~ ").ok_or("equality is of two")?;
-    let is_equal = are_equal(expression(alloc, left), expression(alloc, right))?;
-    Ok(is_equal.to_string(alloc)?)
+fn ask_equal(answer: &mut Answer, words: &str) {
+    match words.split_once(" ~ ") {
+        Some((left, right)) => put_equal(answer, left, right),
+        None => answer.refuse("equality is of two"),
+    }
+}
+
+fn put_equal(answer: &mut Answer, left: &str, right: &str) {
+    let alloc = answer.alloc;
+    match are_equal(expression(alloc, left), expression(alloc, right)) {
+        Ok(is_equal) => answer.show(&is_equal),
+        Err(why) => answer.fail(why),
+    }
 }
 
 // The record of `true` under these keys, or the text of its error as it is and in another context.
-fn keyed(alloc: Global, keys: &str) -> Result<String, AllocError> {
-    match Expr::record(alloc, true_under(alloc, keys)?) {
-        Ok(expr) => text_of(alloc, Ok(expr)),
-        Err(error) => error_in_context(alloc, error),
+fn ask_record(answer: &mut Answer, keys: &str) {
+    match true_under(answer.alloc, keys) {
+        Ok(pairs) => {
+            let made = Expr::record(answer.alloc, pairs);
+            put_record(answer, made);
+        }
+        Err(_) => answer.lack_memory(),
+    }
+}
+
+fn put_record(answer: &mut Answer, made: Result<Expr, ExpressionConstructionError>) {
+    match made {
+        Ok(expr) => answer.show(&expr),
+        Err(error) => put_in_context(answer, error),
     }
 }
 
@@ -125,34 +134,34 @@ fn true_under(alloc: Global, keys: &str) -> Result<Vec<(RcStr, Expr)>, AllocErro
     Ok(pairs)
 }
 
-fn error_in_context(
-    alloc: Global,
-    error: ExpressionConstructionError,
-) -> Result<String, AllocError> {
-    let text = format!(in alloc; "{error}, ");
+fn put_in_context(answer: &mut Answer, error: ExpressionConstructionError) {
+    answer.show(&error);
+    answer.put(", ");
     let error = error.with_context("in a row");
-    let other = error.to_string(alloc);
+    answer.show(&error);
     drop(error);
-    let mut text = text?;
-    text.push_str(other?.as_str())?;
-    Ok(text)
 }
 
 // How the first value stands to the second one, and whether they are equal.
-fn ordered(alloc: Global, words: &str) -> Result<String, Unanswered> {
-    let values = values(alloc, words)?;
-    let text = order_of(alloc, values.as_slice());
-    drop(values);
-    text
-}
-
-fn order_of(alloc: Global, values: &[Value]) -> Result<String, Unanswered> {
-    match values {
-        [left, right] => order_text(alloc, left.cmp(right), left == right),
-        _ => Err(Unanswered::Unreadable("an order is of two")),
+fn ask_order(answer: &mut Answer, words: &str) {
+    match values(answer.alloc, words) {
+        Ok(values) => {
+            put_order_of(answer, values.as_slice());
+            drop(values);
+        }
+        Err(why) => answer.fail(why),
     }
 }
 
-fn order_text(alloc: Global, order: Ordering, is_equal: bool) -> Result<String, Unanswered> {
-    Ok(format!(in alloc; "{order:?}, equal {is_equal}")?)
+fn put_order_of(answer: &mut Answer, values: &[Value]) {
+    match values {
+        [left, right] => put_order(answer, left.cmp(right), left == right),
+        _ => answer.refuse("an order is of two"),
+    }
+}
+
+fn put_order(answer: &mut Answer, order: Ordering, is_equal: bool) {
+    answer.show_debug(&order);
+    answer.put(", equal ");
+    answer.show(&is_equal);
 }

@@ -1,39 +1,43 @@
 //! Leaves as they are printed.
+use crate::notation::answer::Answer;
 use crate::notation::leaves::{binary, entity_type, name, named_type, slot, uid, unary, variable};
 use crate::notation::unanswered::Unanswered;
-use std::alloc::Global;
 use std::fmt;
 
 /// The text of the leaf, which is written as its kind, a colon and the leaf.
-pub fn answer(alloc: Global, words: &str) -> Result<String, Unanswered> {
-    let (kind, rest) = words.split_once(':').ok_or("a leaf has a kind")?;
+pub fn ask(answer: &mut Answer, words: &str) {
+    match words.split_once(':') {
+        Some((kind, rest)) => of_kind(answer, kind, rest),
+        None => answer.refuse("a leaf has a kind"),
+    }
+}
+
+fn of_kind(answer: &mut Answer, kind: &str, written: &str) {
+    let alloc = answer.alloc;
     match kind {
-        "name" => shown(alloc, name(alloc, rest)),
-        "entity-type" => shown(alloc, entity_type(alloc, rest)),
-        "uid" => shown(alloc, uid(alloc, rest)),
-        "type" => shown(alloc, named_type(alloc, rest)),
-        "variable" => shown(alloc, variable(rest)),
-        "slot" => shown(alloc, slot(rest)),
-        "unary" => shown(alloc, known(unary(rest))),
-        "binary" => shown(alloc, known(binary(rest))),
-        _ => Err(Unanswered::Unreadable("no such leaf")),
+        "name" => put_read(answer, name(alloc, written)),
+        "entity-type" => put_read(answer, entity_type(alloc, written)),
+        "uid" => put_read(answer, uid(alloc, written)),
+        "type" => put_read(answer, named_type(alloc, written)),
+        "variable" => put_read(answer, variable(written)),
+        "slot" => put_read(answer, slot(written)),
+        "unary" => put_known(answer, unary(written)),
+        "binary" => put_known(answer, binary(written)),
+        _ => answer.refuse("no such leaf"),
     }
 }
 
 // The text of what was read.
-fn shown<T: fmt::Display + Drop>(
-    alloc: Global,
-    read: Result<T, Unanswered>,
-) -> Result<String, Unanswered> {
+fn put_read<T: fmt::Display + Drop>(answer: &mut Answer, read: Result<T, Unanswered>) {
     match read {
-        Ok(leaf) => Ok(leaf.to_string(alloc)?),
-        Err(error) => Err(error),
+        Ok(leaf) => answer.show(&leaf),
+        Err(why) => answer.fail(why),
     }
 }
 
-fn known<T: Drop>(leaf: Option<T>) -> Result<T, Unanswered> {
+fn put_known<T: fmt::Display + Drop>(answer: &mut Answer, leaf: Option<T>) {
     match leaf {
-        Some(leaf) => Ok(leaf),
-        None => Err(Unanswered::Unreadable("no such leaf")),
+        Some(leaf) => answer.show(&leaf),
+        None => answer.refuse("no such leaf"),
     }
 }

@@ -1,11 +1,11 @@
 //! What is answered of restricted expressions, of which the words write one.
-use crate::answers::evaluated::{partial_place, partial_text};
+use crate::answers::evaluated::{put_partial, put_partial_place};
+use crate::notation::answer::Answer;
 use crate::notation::expressions::{expression, restricted};
 use crate::notation::pair;
-use crate::notation::shown::{limit, or_fail, told};
 use crate::notation::unanswered::Unanswered;
 use cedar_extensions::Extensions;
-use cedar_layers::expressions::{Expr, Literal, PartialValue, ResidualExpr, Unknown, Value};
+use cedar_layers::expressions::{Expr, Literal, PartialValue, ResidualExpr, Unknown};
 use cedar_restricted::RestrictedEvaluator;
 use cedar_restricted_expressions::{
     BorrowedRestrictedExpr, PartialValueToRestrictedExprError, RestrictedExpr,
@@ -18,79 +18,87 @@ use std::hash::{FoldHasher, Hash, Hasher};
 use std::rc::RcStr;
 
 /// What is asked of the words, where the answer that is wanted is this one.
-pub fn answer(
-    alloc: Global,
+pub fn ask(
+    answer: &mut Answer,
     extensions: &Extensions<'_>,
     kind: &str,
     limit_text: &str,
     words: &str,
     want: &str,
-) -> Result<String, Unanswered> {
+) {
     match kind {
-        "refused" => met_or(alloc, refused(alloc, words, want)?, want),
-        "residual" => met_or(alloc, residual_is(alloc, words, want)?, want),
-        "pairs" => pairs_text(alloc, words),
-        "shape" => shapes(alloc, words),
-        "text" => made_text(alloc, words),
-        "borrowed" => borrowed_text(alloc, words),
-        "residual-text" => residual_text(alloc, words),
+        "refused" => ask_refused(answer, words, want),
+        "residual" => ask_residual(answer, words, want),
+        "pairs" => ask_pairs(answer, words),
+        "shape" => ask_shapes(answer, words),
+        "text" => ask_text(answer, words),
+        "borrowed" => ask_borrowed(answer, words),
+        "residual-text" => ask_residual_text(answer, words),
+        _ => match restricted(answer.alloc, words) {
+            Ok(expr) => {
+                of_restricted(answer, extensions, kind, limit_text, &expr);
+                drop(expr);
+            }
+            Err(why) => answer.fail(why),
+        },
+    }
+}
+
+fn of_restricted(
+    answer: &mut Answer,
+    extensions: &Extensions<'_>,
+    kind: &str,
+    limit_text: &str,
+    expr: &RestrictedExpr,
+) {
+    let limit = answer.limit(limit_text);
+    match kind {
+        "type" => put_type(answer, extensions, expr),
+        "read" => put_read(answer, expr.as_borrowed()),
+        "wholly" => put_wholly(answer, extensions, expr, limit),
         _ => {
-            let limit = limit(limit_text)?;
-            let expr = restricted(alloc, words)?;
-            let text = of_restricted(alloc, extensions, kind, limit, &expr);
-            drop(expr);
-            text
+            let outcome = partly(answer.alloc, extensions, expr, limit);
+            put_partly(answer, kind, &outcome);
+            drop(outcome);
         }
+    }
+}
+
+fn put_partly(answer: &mut Answer, kind: &str, outcome: &Result<PartialValue, EvaluationError>) {
+    match kind {
+        "value" => put_partial(answer, outcome),
+        "place" => put_partial_place(answer, outcome),
+        _ => answer.refuse("no such question"),
     }
 }
 
 // What is wanted, where it is met.
-fn met_or(alloc: Global, is_met: bool, want: &str) -> Result<String, Unanswered> {
-    let text = if is_met { want } else { "another" };
-    Ok(String::from_str(alloc, text)?)
-}
-
-fn of_restricted(
-    alloc: Global,
-    extensions: &Extensions<'_>,
-    kind: &str,
-    limit: usize,
-    expr: &RestrictedExpr,
-) -> Result<String, Unanswered> {
-    match kind {
-        "type" => Ok(type_text(alloc, extensions, expr)?),
-        "read" => Ok(read_text(alloc, expr.as_borrowed())?),
-        "wholly" => Ok(value_text(alloc, extensions, expr, limit)?),
-        _ => {
-            let outcome = partly(alloc, extensions, expr, limit);
-            let text = partly_asked(alloc, kind, &outcome);
-            drop(outcome);
-            text
-        }
-    }
-}
-
-fn partly_asked(
-    alloc: Global,
-    kind: &str,
-    outcome: &Result<PartialValue, EvaluationError>,
-) -> Result<String, Unanswered> {
-    match kind {
-        "value" => Ok(partial_text(alloc, outcome)?),
-        "place" => Ok(partial_place(alloc, outcome)?),
-        _ => Err(Unanswered::Unreadable("no such question")),
+fn put_met(answer: &mut Answer, is_met: bool, want: &str) {
+    if is_met {
+        answer.put(want);
+    } else {
+        answer.put("another");
     }
 }
 
 // ---- what is refused
 
 // Whether the expression is refused, with this feature and part.
-fn refused(alloc: Global, words: &str, want: &str) -> Result<bool, Unanswered> {
-    let (feature, part) = want.split_once("; ").ok_or("a feature and a part")?;
-    let part = expression(alloc, part)?;
-    let is_refused = is_refused_with(alloc, words, feature, &part);
-    drop(part);
-    is_refused
+fn ask_refused(answer: &mut Answer, words: &str, want: &str) {
+    match want.split_once("; ") {
+        Some((feature, part)) => put_refused(answer, words, feature, part, want),
+        None => answer.refuse("a feature and a part"),
+    }
+}
+
+fn put_refused(answer: &mut Answer, words: &str, feature: &str, part: &str, want: &str) {
+    match expression(answer.alloc, part) {
+        Ok(part) => match is_refused_with(answer.alloc, words, feature, &part) {
+            Ok(is_met) => put_met(answer, is_met, want),
+            Err(why) => answer.fail(why),
+        },
+        Err(why) => answer.fail(why),
+    }
 }
 
 fn is_refused_with(
@@ -114,11 +122,14 @@ fn is_refused_with(
 }
 
 // Whether the residual becomes this expression, or is refused with it.
-fn residual_is(alloc: Global, words: &str, want: &str) -> Result<bool, Unanswered> {
-    let want = expression(alloc, want)?;
-    let is_met = becomes(alloc, words, &want);
-    drop(want);
-    is_met
+fn ask_residual(answer: &mut Answer, words: &str, want: &str) {
+    match expression(answer.alloc, want) {
+        Ok(wanted) => match becomes(answer.alloc, words, &wanted) {
+            Ok(is_met) => put_met(answer, is_met, want),
+            Err(why) => answer.fail(why),
+        },
+        Err(why) => answer.fail(why),
+    }
 }
 
 fn becomes(alloc: Global, words: &str, want: &Expr) -> Result<bool, Unanswered> {
@@ -137,66 +148,86 @@ fn becomes(alloc: Global, words: &str, want: &Expr) -> Result<bool, Unanswered> 
     }
 }
 
-fn made_text(alloc: Global, words: &str) -> Result<String, Unanswered> {
-    or_fail(told(alloc, RestrictedExpr::new(expression(alloc, words)?)))
+fn ask_text(answer: &mut Answer, words: &str) {
+    match expression(answer.alloc, words) {
+        Ok(expr) => answer.tell(RestrictedExpr::new(expr)),
+        Err(why) => answer.fail(why),
+    }
 }
 
-fn borrowed_text(alloc: Global, words: &str) -> Result<String, Unanswered> {
-    let expr = expression(alloc, words)?;
-    let text = told(alloc, BorrowedRestrictedExpr::new(&expr));
-    drop(expr);
-    or_fail(text)
+fn ask_borrowed(answer: &mut Answer, words: &str) {
+    match expression(answer.alloc, words) {
+        Ok(expr) => answer.tell(BorrowedRestrictedExpr::new(&expr)),
+        Err(why) => answer.fail(why),
+    }
 }
 
-fn residual_text(alloc: Global, words: &str) -> Result<String, Unanswered> {
-    let part = residual(alloc, words)?;
-    or_fail(told(alloc, RestrictedExpr::try_from_partial_value(alloc, part)))
+fn ask_residual_text(answer: &mut Answer, words: &str) {
+    let alloc = answer.alloc;
+    match residual(alloc, words) {
+        Ok(part) => answer.tell(RestrictedExpr::try_from_partial_value(alloc, part)),
+        Err(why) => answer.fail(why),
+    }
 }
 
-fn pairs_text(alloc: Global, keys: &str) -> Result<String, Unanswered> {
-    let pairs = pairs(alloc, keys)?;
-    or_fail(told(alloc, RestrictedExpr::record(alloc, pairs)))
+fn ask_pairs(answer: &mut Answer, keys: &str) {
+    let alloc = answer.alloc;
+    match pairs(alloc, keys) {
+        Ok(pairs) => answer.tell(RestrictedExpr::record(alloc, pairs)),
+        Err(_) => answer.lack_memory(),
+    }
 }
 
 // ---- types, shapes, readers
 
-fn type_text(
-    alloc: Global,
-    extensions: &Extensions<'_>,
-    expr: &RestrictedExpr,
-) -> Result<String, AllocError> {
-    match expr.as_borrowed().try_type_of(extensions)? {
-        Some(ty) => ty.to_string(alloc),
-        None => String::from_str(alloc, "none"),
+fn put_type(answer: &mut Answer, extensions: &Extensions<'_>, expr: &RestrictedExpr) {
+    match expr.as_borrowed().try_type_of(extensions) {
+        Ok(Some(ty)) => answer.show(&ty),
+        Ok(None) => answer.put("none"),
+        Err(_) => answer.lack_memory(),
     }
 }
 
 // Whether the two have one shape, and whether they hash alike.
-fn shapes(alloc: Global, words: &str) -> Result<String, Unanswered> {
-    let (left, right) = words.split_once(" ~ ").ok_or("two expressions")?;
-    let left = restricted(alloc, left)?;
-    let text = shape_beside(alloc, &left, right);
-    drop(left);
-    text
+fn ask_shapes(answer: &mut Answer, words: &str) {
+    match words.split_once(" ~ ") {
+        Some((left, right)) => put_shapes_of(answer, left, right),
+        None => answer.refuse("two expressions"),
+    }
 }
 
-fn shape_beside(alloc: Global, left: &RestrictedExpr, words: &str) -> Result<String, Unanswered> {
-    let right = restricted(alloc, words)?;
-    let text = shapes_text(alloc, left.as_borrowed(), right.as_borrowed());
-    drop(right);
-    or_fail(text)
+fn put_shapes_of(answer: &mut Answer, left: &str, right: &str) {
+    match restricted(answer.alloc, left) {
+        Ok(left) => {
+            put_shape_beside(answer, &left, right);
+            drop(left);
+        }
+        Err(why) => answer.fail(why),
+    }
 }
 
-fn shapes_text(
-    alloc: Global,
+fn put_shape_beside(answer: &mut Answer, left: &RestrictedExpr, right: &str) {
+    match restricted(answer.alloc, right) {
+        Ok(right) => {
+            put_shapes(answer, left.as_borrowed(), right.as_borrowed());
+            drop(right);
+        }
+        Err(why) => answer.fail(why),
+    }
+}
+
+fn put_shapes(
+    answer: &mut Answer,
     left: BorrowedRestrictedExpr<'_>,
     right: BorrowedRestrictedExpr<'_>,
-) -> Result<String, AllocError> {
+) {
     let left = RestrictedExprShapeOnly::new(left);
     let right = RestrictedExprShapeOnly::new(right);
     let are_equal = left == right;
     let hash_alike = hash_of(&left) == hash_of(&right);
-    format!(in alloc; "{are_equal}, hashes {hash_alike}")
+    answer.show(&are_equal);
+    answer.put(", hashes ");
+    answer.show(&hash_alike);
 }
 
 fn hash_of(shape: &RestrictedExprShapeOnly<'_>) -> u64 {
@@ -206,95 +237,71 @@ fn hash_of(shape: &RestrictedExprShapeOnly<'_>) -> u64 {
 }
 
 // What the readers find.
-fn read_text(alloc: Global, expr: BorrowedRestrictedExpr<'_>) -> Result<String, AllocError> {
-    let mut text = String::new(alloc);
-    put_leaves(alloc, expr, &mut text)?;
-    put_elements(alloc, expr, &mut text)?;
-    put_pairs(alloc, expr, &mut text)?;
-    put_call(alloc, expr, &mut text)?;
-    Ok(text)
+fn put_read(answer: &mut Answer, expr: BorrowedRestrictedExpr<'_>) {
+    put_leaf(answer, "a boolean ", expr.as_bool());
+    put_leaf(answer, "a long ", expr.as_long());
+    put_leaf(answer, "a text ", expr.as_string());
+    put_leaf(answer, "an entity ", expr.as_euid());
+    put_unknown(answer, expr.as_unknown());
+    put_elements(answer, expr);
+    put_pairs(answer, expr);
+    put_call(answer, expr);
 }
 
-fn put_leaves(
-    alloc: Global,
-    expr: BorrowedRestrictedExpr<'_>,
-    text: &mut String,
-) -> Result<(), AllocError> {
-    put_leaf(alloc, text, "a boolean", expr.as_bool())?;
-    put_leaf(alloc, text, "a long", expr.as_long())?;
-    put_leaf(alloc, text, "a text", expr.as_string())?;
-    put_leaf(alloc, text, "an entity", expr.as_euid())?;
-    put_unknown(alloc, text, expr.as_unknown())
-}
-
-fn put_leaf<T: fmt::Display>(
-    alloc: Global,
-    text: &mut String,
-    title: &str,
-    leaf: Option<T>,
-) -> Result<(), AllocError>
+fn put_leaf<T: fmt::Display>(answer: &mut Answer, title: &str, leaf: Option<T>)
 where
     T: Drop,
 {
     match leaf {
-        Some(leaf) => text.push_str(format!(in alloc; "{title} {leaf}")?.as_str()),
-        None => Ok(()),
+        Some(leaf) => {
+            answer.put(title);
+            answer.show(&leaf);
+        }
+        None => {}
     }
 }
 
-fn put_unknown(
-    alloc: Global,
-    text: &mut String,
-    unknown: Option<&Unknown>,
-) -> Result<(), AllocError> {
+fn put_unknown(answer: &mut Answer, unknown: Option<&Unknown>) {
     match unknown {
         Some(unknown) => {
-            text.push_str(format!(in alloc; "an unknown {}", unknown.name)?.as_str())
+            answer.put("an unknown ");
+            answer.show(&unknown.name);
         }
-        None => Ok(()),
+        None => {}
     }
 }
 
-fn put_elements(
-    alloc: Global,
-    expr: BorrowedRestrictedExpr<'_>,
-    text: &mut String,
-) -> Result<(), AllocError> {
+fn put_elements(answer: &mut Answer, expr: BorrowedRestrictedExpr<'_>) {
     if let Some(elements) = expr.as_set_elements() {
-        text.push_str("elements")?;
+        answer.put("elements");
         for element in elements {
-            text.push_str(format!(in alloc; " {element}")?.as_str())?;
+            answer.put(" ");
+            answer.show(&element);
         }
     }
-    Ok(())
 }
 
-fn put_pairs(
-    alloc: Global,
-    expr: BorrowedRestrictedExpr<'_>,
-    text: &mut String,
-) -> Result<(), AllocError> {
+fn put_pairs(answer: &mut Answer, expr: BorrowedRestrictedExpr<'_>) {
     if let Some(pairs) = expr.as_record_pairs() {
-        text.push_str("pairs")?;
+        answer.put("pairs");
         for (key, part) in pairs {
-            text.push_str(format!(in alloc; " {key} {part}")?.as_str())?;
+            answer.put(" ");
+            answer.show(key);
+            answer.put(" ");
+            answer.show(&part);
         }
     }
-    Ok(())
 }
 
-fn put_call(
-    alloc: Global,
-    expr: BorrowedRestrictedExpr<'_>,
-    text: &mut String,
-) -> Result<(), AllocError> {
+fn put_call(answer: &mut Answer, expr: BorrowedRestrictedExpr<'_>) {
     if let Some((fn_name, arguments)) = expr.as_extn_fn_call() {
-        text.push_str(format!(in alloc; "a call of {fn_name}")?.as_str())?;
+        answer.put("a call of ");
+        answer.show(fn_name);
         for argument in arguments {
-            text.push_str(format!(in alloc; " {argument}")?.as_str())?;
+            answer.put(" ");
+            answer.show(&argument);
         }
     }
-    Ok(())
 }
 
 // ---- evaluation
@@ -308,22 +315,15 @@ fn partly(
     RestrictedEvaluator::new(extensions, limit).partial_interpret(alloc, expr.as_borrowed())
 }
 
-fn value_text(
-    alloc: Global,
+fn put_wholly(
+    answer: &mut Answer,
     extensions: &Extensions<'_>,
     expr: &RestrictedExpr,
     limit: usize,
-) -> Result<String, AllocError> {
-    told(alloc, wholly(alloc, extensions, expr, limit))
-}
-
-fn wholly(
-    alloc: Global,
-    extensions: &Extensions<'_>,
-    expr: &RestrictedExpr,
-    limit: usize,
-) -> Result<Value, EvaluationError> {
-    RestrictedEvaluator::new(extensions, limit).interpret(alloc, expr.as_borrowed())
+) {
+    let evaluator = RestrictedEvaluator::new(extensions, limit);
+    let outcome = evaluator.interpret(answer.alloc, expr.as_borrowed());
+    answer.tell(outcome);
 }
 
 // ---- what words write

@@ -3,8 +3,8 @@ ghost use Rattle.std.specs.Prelude.{◌≡◌, true};
 ghost use Rattle.cedar_extensions.specs.Outcomes.{ComesTo, is_lawful, abstracts};
 ghost use Rattle.cedar_built_in_rows.specs.Stored.{made_of};
 
+use crate::notation::answer::Answer;
 use crate::notation::leaves::{name, named_type, text};
-use crate::notation::shown::or_fail;
 use crate::notation::unanswered::Unanswered;
 use crate::notation::{add, both, headed, pair};
 use cedar_built_in_rows::functions::made;
@@ -20,8 +20,15 @@ use std::rc::RcStr;
 
 /// Whether a function of this name that takes this type can be used beside `make`, which takes a text. Each is in an extension of its own, and makes
 /// values of the type `T`.
-pub fn together(alloc: Global, words: &str) -> Result<String, Unanswered> {
+pub fn ask(answer: &mut Answer, words: &str) {
     let (second, takes) = headed(words);
+    if let Err(why) = put_together(answer, second, takes) {
+        answer.fail(why);
+    }
+}
+
+fn put_together(answer: &mut Answer, second: &str, takes: &str) -> Result<(), Unanswered> {
+    let alloc = answer.alloc;
     let first: ExtensionFunctionObject = Box::new(
         alloc,
         move |args: &[Value]| -> Result<ExtensionOutputValue, EvaluationError>
@@ -50,9 +57,9 @@ pub fn together(alloc: Global, words: &str) -> Result<String, Unanswered> {
     let makes = Extension::new(makes, make, Vec::new(alloc));
     let others = Extension::new(others, other, Vec::new(alloc));
     let all = vec![in alloc; makes, others]?;
-    let text = accepted(alloc, all.as_slice());
+    put_accepted(answer, all.as_slice());
     drop(all);
-    or_fail(text)
+    Ok(())
 }
 
 // The type `T`, and this type alone in a list.
@@ -68,24 +75,36 @@ fn alone<T: Drop>(alloc: Global, item: T) -> Result<Vec<T>, Unanswered> {
     Ok(list)
 }
 
-fn accepted(alloc: Global, all: &[Extension]) -> Result<String, AllocError> {
-    match Extensions::specific_extensions(alloc, all) {
-        Ok(_) => String::from_str(alloc, "accepted"),
-        Err(ExtensionInitializationError::Memory(error)) => Err(error),
+fn put_accepted(answer: &mut Answer, all: &[Extension]) {
+    match Extensions::specific_extensions(answer.alloc, all) {
+        Ok(_) => answer.put("accepted"),
+        Err(ExtensionInitializationError::Memory(_)) => answer.lack_memory(),
         Err(error) => {
-            let text = error.to_string(alloc);
+            answer.show(&error);
             drop(error);
-            text
         }
     }
 }
 
 /// How many pairs of these keys there are in a map, or which key comes again.
-pub fn collected(alloc: Global, keys: &str) -> Result<String, AllocError> {
-    match collect_no_duplicates(alloc, pairs(alloc, keys)?.into_iter()) {
-        Ok(map) => format!(in alloc; "{} pairs", map.len()),
-        Err(CollectError::Duplicate(key)) => format!(in alloc; "{key} comes again"),
-        Err(CollectError::Memory(error)) => Err(error),
+pub fn ask_collected(answer: &mut Answer, keys: &str) {
+    match pairs(answer.alloc, keys) {
+        Ok(pairs) => put_collected(answer, pairs),
+        Err(_) => answer.lack_memory(),
+    }
+}
+
+fn put_collected(answer: &mut Answer, pairs: Vec<(RcStr, usize)>) {
+    match collect_no_duplicates(answer.alloc, pairs.into_iter()) {
+        Ok(map) => {
+            answer.show(&map.len());
+            answer.put(" pairs");
+        }
+        Err(CollectError::Duplicate(key)) => {
+            answer.show(&key);
+            answer.put(" comes again");
+        }
+        Err(CollectError::Memory(_)) => answer.lack_memory(),
     }
 }
 

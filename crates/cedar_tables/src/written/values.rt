@@ -1,52 +1,63 @@
 //! Values and partial values as they are printed and copied.
-use crate::answers::evaluated::elements_text;
+use crate::answers::evaluated::put_elements_of;
+use crate::notation::answer::Answer;
 use crate::notation::leaves::unknown;
-use crate::notation::shown::{same_text, text_of};
+use crate::notation::shown::put_same;
 use crate::notation::unanswered::Unanswered;
 use crate::notation::values::value;
-use crate::written::expressions::{copy_text, cut};
+use crate::written::expressions::{cut, put_copy_of};
 use cedar_layers::expressions::{Expr, PartialValue, ResidualExpr, Value};
-use std::alloc::{AllocError, Global};
+use std::alloc::Global;
 
-/// What is asked of the value that the words write, or of the partial value.
-pub fn answer(alloc: Global, kind: &str, bound: &str, words: &str) -> Result<String, Unanswered> {
-    if kind.starts_with("part-") {
-        let part = partial(alloc, words)?;
-        let text = of_part(alloc, kind, bound, &part);
-        drop(part);
-        text
-    } else {
-        let value = value(alloc, words)?;
-        let text = of_value(alloc, kind, bound, &value);
-        drop(value);
-        text
+/// What is asked of the value that the words write.
+pub fn ask(answer: &mut Answer, kind: &str, bound: &str, words: &str) {
+    match value(answer.alloc, words) {
+        Ok(value) => {
+            of_value(answer, kind, bound, &value);
+            drop(value);
+        }
+        Err(why) => answer.fail(why),
     }
 }
 
-fn of_value(alloc: Global, kind: &str, bound: &str, value: &Value) -> Result<String, Unanswered> {
+fn of_value(answer: &mut Answer, kind: &str, bound: &str, value: &Value) {
     match kind {
-        "value-text" => Ok(value.to_string(alloc)?),
-        "value-cut" => cut(alloc, value, bound),
-        "value-type" => Ok(value.type_of()?.to_string(alloc)?),
-        "value-expression" => Ok(value_expression(alloc, value)?),
-        "value-copy" => Ok(value_copy(alloc, value)?),
-        "value-elements" => Ok(elements_text(alloc, value)?),
-        _ => Err(Unanswered::Unreadable("no such question")),
+        "value-text" => answer.show(value),
+        "value-cut" => cut(answer, value, bound),
+        "value-type" => answer.show_made(value.type_of()),
+        "value-expression" => put_expression(answer, value),
+        "value-copy" => put_copy(answer, value),
+        "value-elements" => put_elements_of(answer, value),
+        _ => answer.refuse("no such question"),
     }
 }
 
-fn value_expression(alloc: Global, value: &Value) -> Result<String, AllocError> {
-    let expr = value.to_expr(alloc)?;
-    let text = copy_text(alloc, &expr);
-    drop(expr);
-    text
+fn put_expression(answer: &mut Answer, value: &Value) {
+    match value.to_expr(answer.alloc) {
+        Ok(expr) => put_copy_of(answer, &expr),
+        Err(_) => answer.lack_memory(),
+    }
 }
 
-fn value_copy(alloc: Global, value: &Value) -> Result<String, AllocError> {
-    let copy = value.clone()?;
-    let text = same_text(alloc, &copy, value, copy.source_loc());
-    drop(copy);
-    text
+fn put_copy(answer: &mut Answer, value: &Value) {
+    match value.clone() {
+        Ok(copy) => {
+            put_same(answer, &copy, value, copy.source_loc());
+            drop(copy);
+        }
+        Err(_) => answer.lack_memory(),
+    }
+}
+
+/// What is asked of the partial value that the words write.
+pub fn ask_part(answer: &mut Answer, kind: &str, bound: &str, words: &str) {
+    match partial(answer.alloc, words) {
+        Ok(part) => {
+            of_part(answer, kind, bound, &part);
+            drop(part);
+        }
+        Err(why) => answer.fail(why),
+    }
 }
 
 // The value that the words write, or the unknown.
@@ -60,27 +71,22 @@ fn partial(alloc: Global, words: &str) -> Result<PartialValue, Unanswered> {
     }
 }
 
-fn of_part(
-    alloc: Global,
-    kind: &str,
-    bound: &str,
-    part: &PartialValue,
-) -> Result<String, Unanswered> {
+fn of_part(answer: &mut Answer, kind: &str, bound: &str, part: &PartialValue) {
+    let alloc = answer.alloc;
     match kind {
-        "part-text" => Ok(part.to_string(alloc)?),
-        "part-cut" => cut(alloc, part, bound),
-        "part-copy" => Ok(part_copy(alloc, part)?),
-        _ => Ok(part_expression(alloc, part)?),
+        "part-text" => answer.show(part),
+        "part-cut" => cut(answer, part, bound),
+        "part-copy" => put_part_copy(answer, part),
+        _ => answer.show_made(part.as_expr(alloc)),
     }
 }
 
-fn part_expression(alloc: Global, part: &PartialValue) -> Result<String, AllocError> {
-    text_of(alloc, part.as_expr(alloc))
-}
-
-fn part_copy(alloc: Global, part: &PartialValue) -> Result<String, AllocError> {
-    let copy = part.clone()?;
-    let text = same_text(alloc, &copy, part, None);
-    drop(copy);
-    text
+fn put_part_copy(answer: &mut Answer, part: &PartialValue) {
+    match part.clone() {
+        Ok(copy) => {
+            put_same(answer, &copy, part, None);
+            drop(copy);
+        }
+        Err(_) => answer.lack_memory(),
+    }
 }
