@@ -46,7 +46,6 @@ module _ (mode : ErrorHandling) (calls : StoredCalls) (ans : Functions) (w : Wor
       map_agrees = a.map_agrees;
       context_fits = q.context_fits;
       store_fits = b.stored_residuals_fit;
-      store_restricted = b.stored_residuals_are_restricted;
     };
     values = record {
       context_faithful = q.context_is_faithful;

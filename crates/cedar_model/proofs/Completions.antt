@@ -309,7 +309,6 @@ module _ (mode : ErrorHandling) (ans : Functions) (calls : Rules.StoredCalls)
       map_agrees = λ n v e. absurd (none_is v e);
       context_fits = done.agreement.context_fits;
       store_fits = done.agreement.store_fits;
-      store_restricted = done.agreement.store_restricted;
     };
     values = record {
       context_faithful = done.values.context_faithful;
@@ -371,7 +370,6 @@ module _ (mode : ErrorHandling) (ans : Functions) (calls : Rules.StoredCalls)
           map_agrees = done.agreement.map_agrees;
           context_fits = c.2;
           store_fits = done.agreement.store_fits;
-          store_restricted = done.agreement.store_restricted;
         };
         values = record {
           context_faithful = c.1;

@@ -278,10 +278,6 @@ module _ (X : Extensions) (ans : Functions) (w : World) where
   part_fits (value v) k = tt
   part_fits (residual t) k = absurd k
 
-part_restricted : (p : PartialValue) → Agreement.IsValue p → Agreement.IsRestrictedPart p
-part_restricted (value v) k = tt
-part_restricted (residual t) k = absurd k
-
 pub own_world_completes : (ans : Functions) (s : Setting) (sigma : Text → AbstractValue) (ps : List Policy)
     → Agreement.HasNothingUnknown s → ((n : Text) → s.map n ≡ None) → Authorizations.HaveKnownConditions ans ps
     → Authorizations.Completes ans (Agreement.own_world s sigma) s ps
@@ -295,10 +291,6 @@ own_world_completes ans s sigma ps known none k = record {
     store_fits = λ e x l p h. (
       λ q. part_fits s.extensions ans (Agreement.own_world s sigma) p ((known.store_known e x l p h).0 q),
       λ q. part_fits s.extensions ans (Agreement.own_world s sigma) p ((known.store_known e x l p h).1 q),
-    );
-    store_restricted = λ e x l p h. (
-      λ q. part_restricted p ((known.store_known e x l p h).0 q),
-      λ q. part_restricted p ((known.store_known e x l p h).1 q),
     );
   };
   conditions_fit = policies_fit s.extensions ans (Agreement.own_world s sigma) ps k;

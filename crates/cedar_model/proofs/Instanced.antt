@@ -145,7 +145,6 @@ completes is_partial = record {
     map_agrees = λ n v e. named_u n (text_eq n (codes "u")) refl v e;
     context_fits = (refl, tt);
     store_fits = stored_such is_partial (Agreement.FitsPart some_extensions Instances.asked Instances.completing) tt;
-    store_restricted = stored_such is_partial Agreement.IsRestrictedPart refl;
   };
   values = record {
     context_faithful = tt;

@@ -156,7 +156,6 @@ with_slots_done ans w s slots d = record {
     map_agrees = d.agreement.map_agrees;
     context_fits = d.agreement.context_fits;
     store_fits = d.agreement.store_fits;
-    store_restricted = d.agreement.store_restricted;
   };
   values = record {
     context_faithful = d.values.context_faithful;

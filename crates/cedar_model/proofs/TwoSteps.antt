@@ -168,7 +168,6 @@ store_completes = record {
   store_agrees = λ e. refl;
   stored_values_are_faithful = nothing_stored (Agreement.IsFaithfulPart some_extensions some_functions);
   stored_residuals_fit = nothing_stored (Agreement.FitsPart some_extensions some_functions chain_world);
-  stored_residuals_are_restricted = nothing_stored Agreement.IsRestrictedPart;
 }
 
 resource_completes : Headline.CompletesMap some_functions chain_world s resource_map

@@ -288,14 +288,13 @@ IsRestrictedPart (residual t) = is_restricted t ≡ true
 -- ---- completion: a world agrees and fits, the values that are given are faithful, and (of policies, `FitPolicies`)
 -- the world fits the conditions
 
--- a world agrees with all that the evaluator is given, and fits its residuals, of which the stored ones are restricted
+-- a world agrees with all that the evaluator is given, and fits its residuals
 pub record AgreesAndFits (ans : Functions) (w : World) (s : Setting) : Type 0 where
   pub request_agrees : AgreesWithRequest s.extensions ans w s.request
   pub store_agrees : AgreesWithStore s.extensions ans w s.store
   pub map_agrees : AgreesWithMap w s.map
   pub context_fits : FitsContext s.extensions ans w s.request.context_part
   pub store_fits : EachStored (FitsPart s.extensions ans w) s.store
-  pub store_restricted : EachStored IsRestrictedPart s.store
 
 -- the values of the context, the store and the map are faithful
 pub record HasFaithfulValues (ans : Functions) (s : Setting) : Type 0 where

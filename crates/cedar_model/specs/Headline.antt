@@ -7,19 +7,18 @@ use Rattle.cedar_model.specs.Settings.{Setting, Store}
 use Rattle.cedar_model.specs.Rules.{StoredCalls}
 use Rattle.cedar_model.specs.Agreement.{AgreesWithFunctions, AgreesWithRequest, AgreesWithStore, AgreesWithMap}
 use Rattle.cedar_model.specs.Agreement.{IsFaithful, IsFaithfulPart, IsFaithfulContext, FitsPart, FitsContext}
-use Rattle.cedar_model.specs.Agreement.{EachStored, IsRestrictedPart, AnswerFaithfully}
+use Rattle.cedar_model.specs.Agreement.{EachStored, AnswerFaithfully}
 use Rattle.cedar_model.specs.Policies.{Policy, ErrorHandling}
 use Rattle.cedar_model.specs.Responses.{Stand, FitPolicies, AreConditions}
 use Rattle.cedar_model.specs.Chains.{Mapping, Response, Begins, ChainOf}
 use Rattle.cedar_model.specs.Authorizations.{HaveNoLimit}
 use Rattle.cedar_model.specs.ReportLaws.{ReportsHold}
 
--- a store that a world agrees with, of faithful values, whose residuals are restricted and fit the world
+-- a store that a world agrees with, of faithful values, whose residuals fit the world
 pub record CompletesStore (ans : Functions) (w : World) (s : Setting) (store : Store) : Type 0 where
   pub store_agrees : AgreesWithStore s.extensions ans w store
   pub stored_values_are_faithful : EachStored (IsFaithfulPart s.extensions ans) store
   pub stored_residuals_fit : EachStored (FitsPart s.extensions ans w) store
-  pub stored_residuals_are_restricted : EachStored IsRestrictedPart store
 
 -- a map that a world agrees with, of faithful values
 pub record CompletesMap (ans : Functions) (w : World) (s : Setting) (m : Mapping) : Type 0 where

@@ -198,7 +198,6 @@ module _ (x : Extensions) (ans : Functions) (w : World) (fs : Fields) where
       map_agrees = λ n v e. absurd (none_is e);
       context_fits = fits;
       store_fits = λ d y k p e. absurd (none_is e);
-      store_restricted = λ d y k p e. absurd (none_is e);
     };
     values = record {
       context_faithful = tt;
