@@ -17,6 +17,7 @@ use Rattle.cedar_model.specs.Chains
 use Rattle.cedar_model.specs.Chains.{Mapping, Response}
 use Rattle.cedar_model.proofs.Total.{total}
 use Rattle.cedar_model.proofs.Wanting.{find_memory}
+use Rattle.cedar_model.proofs.Configured.{configured_by}
 
 -- what a record answers is a context, or its error
 context_of : (o : Option (List (Text × Represented))) (ps : List (Text × PartialValue))
@@ -65,58 +66,62 @@ module _ (calls : Rules.StoredCalls) (finding : FunctionsFindMemory calls) where
       Answered P = (x : Result Response Refusal) × P x
 
       context_answers : (c : ContextPart) → (r : Result ContextPart Refusal)
-          × Chains.SubstitutesTo (Chains.at_step s old.request store m) calls n m c r
+          × Chains.SubstitutesTo (Chains.at_step s.extensions s.resolution old.request store m) calls n m c r
       context_answers absent_context = (Ok absent_context, refl)
       context_answers (known_context fs) = (Ok (known_context fs), refl)
       context_answers (residual_context fs) =
           let a =
-          total (Chains.without_map (Chains.at_step s old.request store m)) calls callable n
+          total (Chains.without_map (Chains.at_step s.extensions s.resolution old.request store m)) calls callable n
           (record_of (Chains.substituted_at m fs)) in
           let k =
-          runs_context (Chains.without_map (Chains.at_step s old.request store m)) n (Chains.substituted_at m fs) a.0
+          runs_context (Chains.without_map (Chains.at_step s.extensions s.resolution old.request store m)) n
+          (Chains.substituted_at m fs) a.0
           a.1 in
           (k.0, (a.0, a.1, k.1))
 
       after_context : (r : RequestPart) (c : Result ContextPart Refusal)
-          → Answered (Chains.AfterContext mode s calls n m store old r c)
+          → Answered (Chains.AfterContext (configured_by calls mode s n) m store old r c)
       after_context r (Err e) = (Err e, refl)
       after_context r (Ok c) =
           let k =
-          run_answers mode (Chains.at_step s (Chains.with_context r c) store m) n callable
+          run_answers mode (Chains.at_step s.extensions s.resolution (Chains.with_context r c) store m) n callable
           (Chains.all_residuals old.rows) in
           (_, (k.0, k.1, k.2, refl))
 
-      after_request : (r : Result RequestPart Refusal) → Answered (Chains.AfterRequest mode s calls n m store old r)
+      after_request : (r : Result RequestPart Refusal) → Answered
+          (Chains.AfterRequest (configured_by calls mode s n) m store old r)
       after_request (Err e) = (Err e, refl)
       after_request (Ok r) =
           let c = context_answers r.context_part in
           let k = after_context r c.0 in
           (k.0, (c.0, c.1, k.1))
 
-      after_ids : (o : Option Text) → Answered (Chains.AfterIds mode s calls n m store old o)
+      after_ids : (o : Option Text) → Answered (Chains.AfterIds (configured_by calls mode s n) m store old o)
       after_ids (Some id) = (Err (Refusals.id_comes_again id), refl)
       after_ids None = after_request (Refusals.concrete_request m old.request)
 
-      after_mode : (b : Bool) → Answered (Chains.AfterMode mode s calls n m store old b)
+      after_mode : (b : Bool) → Answered (Chains.AfterMode (configured_by calls mode s n) m store old b)
       after_mode true = after_ids (Refusals.first_repeated (map (λ p. p.id) (Chains.all_residuals old.rows)))
       after_mode false = (Err (Refusals.mode_is_other old.mode mode), refl)
 
-      pub step_answers : Answered (Chains.Steps mode s calls n m store old)
+      pub step_answers : Answered (Chains.Steps (configured_by calls mode s n) m store old)
       step_answers = after_mode (Chains.is_same_mode mode old.mode)
 
     abbrev Rest : List (Mapping × Store) → Result Response Refusal → Result Response Refusal → Type 0
-    Rest steps y x = MatchResult y (λ next. Chains.ChainAnswers mode s calls n next steps x) (λ e. x ≡ Err e)
+    Rest steps y x = MatchResult y (λ next. Chains.ChainAnswers (configured_by calls mode s n) next steps x)
+        (λ e. x ≡ Err e)
 
     answered_rest : (steps : List (Mapping × Store)) → ((r : Response) → (x : Result Response Refusal)
-        × Chains.ChainAnswers mode s calls n r steps x) → (y : Result Response Refusal)
+        × Chains.ChainAnswers (configured_by calls mode s n) r steps x) → (y : Result Response Refusal)
         → (x : Result Response Refusal) × Rest steps y x
     answered_rest steps go (Ok next) = go next
     answered_rest steps go (Err e) = (Err e, refl)
 
     answered_by : (step : Mapping × Store) (steps : List (Mapping × Store)) (r : Response)
-        → ((q : Response) → (x : Result Response Refusal) × Chains.ChainAnswers mode s calls n q steps x) → (b : Bool)
+        → ((q : Response) → (x : Result Response Refusal) × Chains.ChainAnswers
+        (configured_by calls mode s n) q steps x) → (b : Bool)
         → (x : Result Response Refusal) × MatchBool b (x ≡ Ok r) ((y : Result Response Refusal)
-        × Chains.Steps mode s calls n step.0 step.1 r y × Rest steps y x)
+        × Chains.Steps (configured_by calls mode s n) step.0 step.1 r y × Rest steps y x)
     answered_by step steps r go true = (Ok r, refl)
     answered_by step steps r go false =
         let y = step_answers step.0 step.1 r in
@@ -124,6 +129,6 @@ module _ (calls : Rules.StoredCalls) (finding : FunctionsFindMemory calls) where
         (k.0, (y.0, y.1, k.1))
 
     pub chain_answers : (steps : List (Mapping × Store)) (r : Response)
-        → (x : Result Response Refusal) × Chains.ChainAnswers mode s calls n r steps x
+        → (x : Result Response Refusal) × Chains.ChainAnswers (configured_by calls mode s n) r steps x
     chain_answers [] r = (Ok r, refl)
     chain_answers (step ∷ steps) r = answered_by step steps r (chain_answers steps) (Chains.has_limit r.errors)

@@ -18,6 +18,7 @@ use Rattle.cedar_model.specs.Reports
 use Rattle.cedar_model.specs.Reports.{some_row, ids, trues, residuals}
 use Rattle.cedar_model.specs.ReportLaws
 use Rattle.cedar_model.proofs.Counting
+use Rattle.cedar_model.proofs.Standing.{errs_isn't}
 
 -- ---- a row that stands
 
@@ -76,21 +77,20 @@ module _ (mode : ErrorHandling) (X : Extensions) (ans : Functions) (w : World) (
   true_row p (reported_false x) b h k = absurd (none_false (has_effect e p.effect) b k)
   true_row p (reported_residual t) b h k = absurd (none_false (has_effect e p.effect) b k)
 
+  not_satisfied : (g : Effect) (b : Bool) (v : Verdict) → v ≢ satisfied → (is_satisfied_by e v g && b) ≡ true
+      → ((has_effect e g && false) && b) ≡ true
+  not_satisfied g b satisfied n l = absurd (n refl)
+  not_satisfied g b unsatisfied n l = absurd (let z = ap (λ x. x && b) (sym (unsatisfied_is_not e g)) ∙ l in cc)
+  not_satisfied g b erring n l = absurd (let z = ap (λ x. x && b) (sym (erring_is_not e g)) ∙ l in cc)
+
   open_row : (p : Policy) (o : Reported) (b : Bool) → Responses.StandsAs mode X ans w p o
       → (is_satisfied_by e (V p) p.effect && b) ≡ true → ((has_effect e p.effect && Counting.is_open o) && b) ≡ true
   unfolding Counting.is_open
   open_row p reported_true b h k = satisfied_has e p.effect (V p) b true k refl
   open_row p (reported_residual t) b h k = satisfied_has e p.effect (V p) b true k refl
   open_row p (reported_false true) b h k =
-      absurd (let z = ap (λ x. x && b) (sym (ap (λ v. is_satisfied_by e v p.effect) h ∙ erring_is_not e p.effect))
-      ∙ k in cc)
-  open_row p (reported_false false) b h k = by (V p) h k
-    where
-      by : (v : Verdict) → v ≢ satisfied → (is_satisfied_by e v p.effect && b) ≡ true
-          → ((has_effect e p.effect && false) && b) ≡ true
-      by satisfied n l = absurd (n refl)
-      by unsatisfied n l = absurd (let z = ap (λ x. x && b) (sym (unsatisfied_is_not e p.effect)) ∙ l in cc)
-      by erring n l = absurd (let z = ap (λ x. x && b) (sym (erring_is_not e p.effect)) ∙ l in cc)
+      not_satisfied p.effect b (V p) (errs_isn't mode p.effect (verdict (meaning X ans w p.slots p.condition)) h) k
+  open_row p (reported_false false) b h k = not_satisfied p.effect b (V p) h k
 
   true_rows : (ps : List Policy) (rows : List Row) → Responses.StandInOrder mode X ans w ps rows
       → Counting.hit f e is_true rows ≡ true → Counting.meets f e (Policies.counted_each mode X ans w ps) ≡ true

@@ -1,5 +1,5 @@
 -- A step keeps what stands: the policies that a response carries on have the outcomes of the original ones.
-use Rattle.std.specs.Prelude.{◌≡◌, ◌≢◌, ◌⊎◌, ℕ, zero, suc, Bool, true, false, List, [], ◌∷◌, map, Option, Some, None}
+use Rattle.std.specs.Prelude.{◌≡◌, ◌⊎◌, ℕ, zero, suc, Bool, true, false, List, [], ◌∷◌, map, Option, Some, None}
 use Rattle.std.proofs.Common.{refl, sym, ap, ◌∙◌, subst, inl, inr}
 use Rattle.cedar_model.specs.Terms.{Text, bool_literal, Term, literal, variable, slot, unknown, if_then_else, both}
 use Rattle.cedar_model.specs.Terms.{either, unary, binary, call, get_attribute, has_attribute, extended_has, like}
@@ -12,12 +12,12 @@ use Rattle.cedar_model.specs.Settings.{Setting}
 use Rattle.cedar_model.specs.Rules
 use Rattle.cedar_model.specs.Agreement.{outcome_value, HaveSameOutcome, Fits, no_slots, IsCompletion}
 use Rattle.cedar_model.specs.Agreement.{AgreesWithFunctions, AnswerFaithfully}
-use Rattle.cedar_model.specs.Policies.{Policy, Verdict, satisfied, erring, verdict, ErrorHandling, counted_verdict}
+use Rattle.cedar_model.specs.Policies.{Policy, verdict, ErrorHandling, counted_verdict}
 use Rattle.cedar_model.specs.Responses
 use Rattle.cedar_model.proofs.Recorded
 use Rattle.cedar_model.proofs.Binds.{same_bool_bind}
 use Rattle.cedar_model.proofs.Conjunction.{step_is_bool}
-use Rattle.cedar_model.proofs.Standing.{answer_stands, counted_true, counted_false, recorded, with_slots_done}
+use Rattle.cedar_model.proofs.Standing.{answer_stands, counted_true, counted_false, errs_isn't, recorded, with_slots_done}
 use Rattle.cedar_model.proofs.Soundness.{sound_stands, runs_sound}
 
 -- ---- conditions are bools or errors
@@ -86,7 +86,9 @@ module _ (mode : ErrorHandling) (X : Extensions) (ans : Functions) (w : World) w
   stands_same : (q p : Policy) (r : Responses.Reported) → q.effect ≡ p.effect → HaveSameOutcome (M q) (M p)
       → Responses.StandsAs mode X ans w q r → Responses.StandsAs mode X ans w p r
   stands_same q p Responses.reported_true f e h = sym (verdict_counts q p f e) ∙ h
-  stands_same q p (Responses.reported_false true) f e h = sym (verdict_counts q p f e) ∙ h
+  stands_same q p (Responses.reported_false true) f e h =
+      subst (λ x. Responses.ErrsAs mode x (verdict (M p))) f
+      (subst (Responses.ErrsAs mode q.effect) (verdict_same (M q) (M p) e) h)
   stands_same q p (Responses.reported_false false) f e h = λ z. h (verdict_counts q p f e ∙ z)
   stands_same q p (Responses.reported_residual t) f e h = (h.0, h.1 ∙ e)
 
@@ -168,9 +170,6 @@ module _ (mode : ErrorHandling) (ans : Functions) (calls : Rules.StoredCalls) (a
   unfolding Responses.reported_of
   false_is = refl
 
-  erring_isn't : (v : Verdict) → v ≡ erring → v ≢ satisfied
-  erring_isn't v e f = absurd (let g = sym e ∙ f in cc)
-
   clause_true : Responses.clause_of Responses.reported_true ≡ Responses.truth
   unfolding Responses.clause_of
   clause_true = refl
@@ -225,7 +224,7 @@ module _ (mode : ErrorHandling) (ans : Functions) (calls : Rules.StoredCalls) (a
       ∙ clause_true) g h (true_again r) k
   row_stands p r (Responses.reported_false true) a x e c k g h =
       bool_row p r false (Responses.clause_of r.reported) a (Responses.reported_false false) (ap Responses.clause_of e
-      ∙ clause_false true) g h (false_again r) (erring_isn't _ k)
+      ∙ clause_false true) g h (false_again r) (errs_isn't mode p.effect _ k)
   row_stands p r (Responses.reported_false false) a x e c k g h =
       bool_row p r false (Responses.clause_of r.reported) a (Responses.reported_false false) (ap Responses.clause_of e
       ∙ clause_false false) g h (false_again r) k

@@ -21,6 +21,8 @@ use Rattle.cedar_model.proofs.Completions.{step_completes}
 use Rattle.cedar_model.proofs.Chained.{step_stands}
 use Rattle.cedar_model.proofs.Limits.{goes_on, first_has_none}
 use Rattle.cedar_model.proofs.Bounds
+use Rattle.cedar_model.proofs.Concrete.{concrete_is_defined}
+use Rattle.cedar_model.proofs.Configured.{configured_by}
 
 ok_inj : {A B : Type 0} {x y : A} → ◌≡◌ {A = Result A B} (Ok x) (Ok y) → x ≡ y
 ok_inj e = cc
@@ -37,8 +39,10 @@ module _ (mode : ErrorHandling) (calls : StoredCalls) (ans : Functions) (w : Wor
     pub context_is_faithful : Agreement.IsFaithfulContext s.extensions ans r.context_part
     pub context_fits : Agreement.FitsContext s.extensions ans w r.context_part
 
-  with_step : (r : RequestPart) (m : Mapping) (store : Store) → CompletesRequest r → Headline.CompletesMap ans w s m
-      → Headline.CompletesStore ans w s store → Agreement.IsCompletion ans w (Chains.at_step s r store m)
+  with_step : (r : RequestPart) (m : Mapping) (store : Store) → CompletesRequest r
+      → Headline.CompletesMap s.extensions ans w m
+      → Headline.CompletesStore s.extensions ans w store → Agreement.IsCompletion ans w
+      (Chains.at_step s.extensions s.resolution r store m)
   with_step r m store q a b = record {
     agreement = record {
       request_agrees = q.agrees;
@@ -54,15 +58,15 @@ module _ (mode : ErrorHandling) (calls : StoredCalls) (ans : Functions) (w : Wor
     };
   }
 
-  pub no_map_completes : Headline.CompletesMap ans w s (λ n. None)
+  pub no_map_completes : Headline.CompletesMap s.extensions ans w Chains.no_values
   no_map_completes = record {
     map_agrees = λ n v e. absurd (none_is v e);
     mapped_values_are_faithful = λ n v e. absurd (none_is v e);
   }
 
   pub chain_stands : (r last : Response) (steps : List (Mapping × Store)) → CompletesRequest r.request
-      → Headline.CompletesSteps ans w s steps → Responses.Stand mode s.extensions ans w ps r.rows
-      → Chains.ChainOf mode s calls levels r steps last → HaveNoLimit last.errors
+      → Headline.CompletesSteps s.extensions ans w steps → Responses.Stand mode s.extensions ans w ps r.rows
+      → Chains.ChainOf (configured_by calls mode s levels) r steps last → HaveNoLimit last.errors
       → Responses.Stand mode s.extensions ans w ps last.rows
   chain_stands r last [] q c h g none =
       subst (λ x. Responses.Stand mode s.extensions ans w ps x.rows) (sym (ok_inj g)) h
@@ -73,9 +77,10 @@ module _ (mode : ErrorHandling) (calls : StoredCalls) (ans : Functions) (w : Wor
       let before = with_step r.request step.0 step.1 q c.0 c.1 in
       let t = taken mode s calls levels step.0 step.1 r next on.1.1 in
       let z = step_completes mode ans calls agree w s levels step.0 step.1 r next before faithful on.1.1 in
-      let stand = step_stands mode ans calls agree w (Chains.at_step s next.request step.1 step.0) z faithful levels ps
+      let stand = step_stands mode ans calls agree w (Chains.at_step s.extensions s.resolution next.request step.1
+      step.0) z faithful levels ps
       r.rows next.rows next.errors conditions h
-      (run_recordable mode (Chains.at_step s next.request step.1 step.0) calls levels
+      (run_recordable mode (Chains.at_step s.extensions s.resolution next.request step.1 step.0) calls levels
       (Chains.all_residuals r.rows) next.rows next.errors k t.runs) t.runs in
       chain_stands next last steps record {
         agrees = z.agreement.request_agrees;
@@ -83,26 +88,31 @@ module _ (mode : ErrorHandling) (calls : StoredCalls) (ans : Functions) (w : Wor
         context_fits = z.agreement.context_fits;
       } c.2 stand on.1.2 none
 
-pub headline : (mode : ErrorHandling) (calls : StoredCalls) (ans : Functions) (w : World) (s : Setting) (levels : ℕ)
-    (ps : List Policy)
-    (steps : List (Mapping × Store)) (last : Response) → Headline.CompletesChain mode calls ans w s levels ps steps last
-    → Headline.Headline mode ans w s ps last
-headline mode calls ans w s levels ps steps last c =
+pub headline : (mode : ErrorHandling) (calls : StoredCalls) (s : Setting) (levels : ℕ) (ps : List Policy)
+    (steps : List (Mapping × Store)) (first last : Response) → Responses.AreConditions ps
+    → Chains.Begins (configured_by calls mode s levels) s.request s.store ps first
+    → Chains.ChainOf (configured_by calls mode s levels) first steps last → (ans : Functions) (w : World)
+    → Headline.Premises (configured_by calls mode s levels) s.request s.store ps steps ans w last.errors
+    → Headline.Headline mode s.extensions ans w ps last.rows
+headline mode calls s levels ps steps first last conditions begun taken_to ans w c =
     let agree = c.functions_are_functional in
     let faithful = c.functions_are_faithful in
-    let q : CompletesRequest mode calls ans w s levels agree faithful ps c.conditions_are_conjunctions s.request =
+    let q : CompletesRequest mode calls ans w s levels agree faithful ps conditions s.request =
     record
     { agrees = c.request_agrees; context_is_faithful = c.context_is_faithful; context_fits = c.context_fits } in
-    let z = with_step mode calls ans w s levels agree faithful ps c.conditions_are_conjunctions s.request
-    (λ n. None) s.store q (no_map_completes mode calls ans w s levels agree faithful ps c.conditions_are_conjunctions)
-    c.first_store_agrees in
-    let none = first_has_none mode s calls levels c.first last steps c.steps_are_answered c.no_limit_is_recorded in
-    let first_stands = in_order_stands c.first.rows (Responses.StandInOrder mode s.extensions ans w ps)
-    (run_stands mode ans calls agree w (Chains.without_map s) z faithful levels ps c.first.rows c.first.errors
-    c.conditions_fit (run_recordable mode (Chains.without_map s) calls levels ps c.first.rows c.first.errors none
-    c.first_is_answered.runs) c.first_is_answered.runs) in
+    let z = with_step mode calls ans w s levels agree faithful ps conditions s.request Chains.no_values s.store q
+    (no_map_completes mode calls ans w s levels agree faithful ps conditions) c.first_store_agrees in
+    let none = first_has_none mode s calls levels first last steps taken_to c.no_limit_is_recorded in
+    let start = Chains.at_step s.extensions s.resolution s.request s.store Chains.no_values in
+    let first_stands = in_order_stands first.rows (Responses.StandInOrder mode s.extensions ans w ps)
+    (run_stands mode ans calls agree w start z faithful levels ps first.rows first.errors
+    c.conditions_fit (run_recordable mode start calls levels ps first.rows first.errors none begun.runs) begun.runs) in
     let stand =
-    chain_stands mode calls ans w s levels agree faithful ps c.conditions_are_conjunctions c.first last steps
-    (subst (CompletesRequest mode calls ans w s levels agree faithful ps c.conditions_are_conjunctions)
-    (sym c.first_is_answered.request_is) q) c.steps_agree first_stands c.steps_are_answered c.no_limit_is_recorded in
-    record { stands = stand; holds = Bounds.reports_hold mode s.extensions ans w ps last.rows stand }
+    chain_stands mode calls ans w s levels agree faithful ps conditions first last steps
+    (subst (CompletesRequest mode calls ans w s levels agree faithful ps conditions)
+    (sym begun.request_is) q) c.steps_agree first_stands taken_to c.no_limit_is_recorded in
+    record {
+      stands = stand;
+      holds = Bounds.reports_hold mode s.extensions ans w ps last.rows stand;
+      defined = concrete_is_defined mode s.extensions ans w ps last.rows stand;
+    }

@@ -25,6 +25,7 @@ use Rattle.cedar_model.specs.Chains
 use Rattle.cedar_model.proofs.Written.{written_means, written_fits}
 use Rattle.cedar_model.proofs.Soundness.{sound_stands, runs_sound}
 use Rattle.cedar_model.proofs.Stepping
+use Rattle.cedar_model.proofs.Configured.{configured_by}
 
 some_inj : {A : Type 0} {x y : A} → Some x ≡ Some y → x ≡ y
 some_inj e = cc
@@ -298,10 +299,11 @@ concrete_parts m r r' h =
 module _ (mode : ErrorHandling) (ans : Functions) (calls : Rules.StoredCalls)
     (agree : Agreement.AgreesWithFunctions ans calls) (w : World)
     (s : Setting) (levels : ℕ) (m : Chains.Mapping) (store : Store) (old new : Chains.Response)
-    (done : Agreement.IsCompletion ans w (Chains.at_step s old.request store m))
+    (done : Agreement.IsCompletion ans w (Chains.at_step s.extensions s.resolution old.request store m))
     (faithful : Agreement.AnswerFaithfully s.extensions ans calls) where
   -- the world completes what the context is read under
-  without_map_done : Agreement.IsCompletion ans w (Chains.without_map (Chains.at_step s old.request store m))
+  without_map_done : Agreement.IsCompletion ans w (Chains.without_map
+      (Chains.at_step s.extensions s.resolution old.request store m))
   without_map_done = record {
     agreement = record {
       request_agrees = done.agreement.request_agrees;
@@ -324,14 +326,15 @@ module _ (mode : ErrorHandling) (ans : Functions) (calls : Rules.StoredCalls)
   GoodContext c = Good s.extensions ans w m done.agreement.map_agrees done.values.map_faithful c
 
   substituted_good : (c c' : ContextPart) → GoodContext c
-      → Chains.SubstitutesTo (Chains.at_step s old.request store m) calls levels m c (Ok c') → GoodContext c'
+      → Chains.SubstitutesTo (Chains.at_step s.extensions s.resolution old.request store m) calls levels m c (Ok c')
+      → GoodContext c'
   unfolding Meaning.meaning Meaning.and_then_all
   substituted_good absent_context c' h k = subst GoodContext (sym (ok_inj k)) h
   substituted_good (known_context fs) c' h k = subst GoodContext (sym (ok_inj k)) h
   substituted_good (residual_context fs) c' h (a, r, i) =
       let t = record_of (Chains.substituted_at m fs) in
       let f = substituted_at_fit s.extensions ans w m done.agreement.map_agrees done.values.map_faithful fs h.2 in
-      let z = Chains.without_map (Chains.at_step s old.request store m) in
+      let z = Chains.without_map (Chains.at_step s.extensions s.resolution old.request store m) in
       let e =
       substituted_at_mean s.extensions ans w m done.agreement.map_agrees done.values.map_faithful Agreement.no_slots
       fs ∙ h.0 in
@@ -341,8 +344,8 @@ module _ (mode : ErrorHandling) (ans : Functions) (calls : Rules.StoredCalls)
       (sound_stands ans calls agree w z without_map_done faithful t a
       (runs_sound ans calls agree w z without_map_done faithful levels t a f r))
 
-  pub step_completes : Chains.StepsTo mode s calls levels m store old new
-      → Agreement.IsCompletion ans w (Chains.at_step s new.request store m)
+  pub step_completes : Chains.StepsTo (configured_by calls mode s levels) m store old new
+      → Agreement.IsCompletion ans w (Chains.at_step s.extensions s.resolution new.request store m)
   step_completes h =
       let t = Stepping.taken mode s calls levels m store old new h in
       let p = concrete_parts m old.request t.request t.concrete in
@@ -351,7 +354,8 @@ module _ (mode : ErrorHandling) (ans : Functions) (calls : Rules.StoredCalls)
       (mapped_good s.extensions ans w m done.agreement.map_agrees done.values.map_faithful old.request.context_part
       t.request.context_part (q.context_agrees, done.values.context_faithful, done.agreement.context_fits) p.context_is)
       t.substitutes in
-      subst (λ r. Agreement.IsCompletion ans w (Chains.at_step s r store m)) (sym t.request_is) record {
+      subst (λ r. Agreement.IsCompletion ans w (Chains.at_step s.extensions s.resolution r store m))
+      (sym t.request_is) record {
         agreement = record {
           request_agrees = record {
             principal_agrees =

@@ -9,6 +9,7 @@ use Rattle.cedar_model.specs.Terms.{one_field}
 use Rattle.cedar_model.specs.Values.{Represented, plain_represented, set_represented, record_represented}
 use Rattle.cedar_model.specs.Values.{extension_represented, abstract_value, expression_of}
 use Rattle.cedar_model.specs.Shapes.{is_restricted, are_restricted, are_restricted_at}
+use Rattle.cedar_model.specs.Restricted.{IsSound, IsSoundContext}
 use Rattle.cedar_model.specs.Outcomes.{entity_of, bool_of, text_eq}
 use Rattle.cedar_model.specs.World.{Slots, Functions}
 use Rattle.cedar_model.specs.Failures.{Failure, value, residual, Answer, answers, fails}
@@ -26,11 +27,13 @@ use Rattle.cedar_model.specs.Chains.{Mapping, Response, is_residual, has_effect,
 use Rattle.cedar_model.specs.Reports
 use Rattle.cedar_model.specs.Progress
 use Rattle.cedar_model.proofs.Answering
+use Rattle.cedar_model.proofs.RestrictedAnswers.{sound_restricted}
 use Rattle.cedar_model.proofs.Unread.{IsNoResidual}
 use Rattle.cedar_model.proofs.Chained.{sorted_is}
 use Rattle.cedar_model.proofs.Completions.{concrete_parts}
 use Rattle.cedar_model.proofs.Concrete.{concrete_is_defined}
 use Rattle.cedar_model.proofs.Stepping.{taken}
+use Rattle.cedar_model.proofs.Configured.{configured_by}
 
 ok_inj : {A B : Type 0} {x y : A} → ◌≡◌ {A = Result A B} (Ok x) (Ok y) → x ≡ y
 ok_inj e = cc
@@ -108,18 +111,19 @@ module _ (ans : Functions) (m : Mapping) where
   context_by_value (record_represented fs) (known_context gs) c' h = absurd (err_is_not_ok h)
   context_by_value (record_represented fs) (residual_context gs) c' h = absurd (err_is_not_ok h)
 
-  context_there : (c c' : ContextPart) → Progress.ContextIsNamed ans m c
+  context_there : (c c' : ContextPart) → Progress.ContextIsNamed ans m c → IsSoundContext c
       → Refusals.concrete_context (m (codes "context")) c ≡ Ok c' → IsThere c'
   unfolding Refusals.concrete_context
-  context_there c c' h k = by (m (codes "context")) refl k
+  context_there c c' h sound k = by (m (codes "context")) refl k
     where
-      unmapped : (x : ContextPart) → m (codes "context") ≡ None → Progress.ContextIsNamed ans m x → IsThere x
-      unmapped absent_context e i = absurd (none_isn't_named (m (codes "context")) e i)
-      unmapped (known_context fs) e i = tt
-      unmapped (residual_context fs) e i = i
+      unmapped : (x : ContextPart) → m (codes "context") ≡ None → Progress.ContextIsNamed ans m x → IsSoundContext x
+          → IsThere x
+      unmapped absent_context e i r = absurd (none_isn't_named (m (codes "context")) e i)
+      unmapped (known_context fs) e i r = tt
+      unmapped (residual_context fs) e i r = (i, r)
 
       by : (o : Option Represented) → m (codes "context") ≡ o → Refusals.concrete_context o c ≡ Ok c' → IsThere c'
-      by None e j = subst IsThere (ok_inj j) (unmapped c e h)
+      by None e j = subst IsThere (ok_inj j) (unmapped c e h sound)
       by (Some v) e j = context_by_value v c c' j
 
   -- ---- the map's values in a restricted expression
@@ -274,26 +278,33 @@ module _ (mode : ErrorHandling) (ans : Functions) (calls : StoredCalls)
   module _ (s : Setting) (levels : ℕ) (m : Mapping) (store : Store) (old new : Response)
       (concrete : store.is_partial ≡ false)
       (values : Agreement.EachStored (Progress.LeavesNoResidual ans m s.resolution) store)
+      (sound : IsSoundContext old.request.context_part)
+      (values_sound : (n : Text) (v : Represented) → m n ≡ Some v → IsSound v)
       (named : Progress.NamesAll ans m old) where
+    values_plain : (n : Text) (v : Represented) → m n ≡ Some v → Agreement.IsKnown ans (expression_of v)
+        × (is_restricted (expression_of v) ≡ true)
+    values_plain n v e = (named.values_are_known n v e, sound_restricted v (values_sound n v e))
+
     context_known : (c c' : ContextPart) → IsThere ans m c
-        → Chains.SubstitutesTo (Chains.at_step s old.request store m) calls levels m c (Ok c')
+        → Chains.SubstitutesTo (Chains.at_step s.extensions s.resolution old.request store m) calls levels m c (Ok c')
         → Agreement.IsKnownContext c'
     context_known absent_context c' i h = absurd i
     context_known (known_context fs) c' i h = subst Agreement.IsKnownContext (sym (ok_inj h)) tt
     context_known (residual_context fs) c' i (a, g, h) =
-        let p = substituted_at_plain ans m named.values_are_known fs i.0 i.1 in
+        let p = substituted_at_plain ans m values_plain fs i.0 i.1 in
         known_answer a c' (Answering.plain_runs ans calls agree
-        (Chains.without_map (Chains.at_step s old.request store m)) levels
+        (Chains.without_map (Chains.at_step s.extensions s.resolution old.request store m)) levels
         (record_of (Chains.substituted_at m fs)) a p g) h
 
-    pub step_finishes : Chains.StepsTo mode s calls levels m store old new → Reports.HaveNoResidual new.rows
+    pub step_finishes : Chains.StepsTo (configured_by calls mode s levels) m store old new
+        → Reports.HaveNoResidual new.rows
     step_finishes h =
         let t = taken mode s calls levels m store old new h in
         let p = concrete_parts m old.request t.request t.concrete in
         let c = context_known t.request.context_part t.context
-        (context_there ans m old.request.context_part t.request.context_part named.context_is_named p.context_is)
+        (context_there ans m old.request.context_part t.request.context_part named.context_is_named sound p.context_is)
         t.substitutes in
-        let r : Answering.IsReady ans calls agree (Chains.at_step s
+        let r : Answering.IsReady ans calls agree (Chains.at_step s.extensions s.resolution
         (Chains.with_context t.request t.context) store m) = record {
           principal_known = entry_known ans m _ _ _ named.principal_is_named p.principal_is;
           action_known = entry_known ans m _ _ _ named.action_is_named p.action_is;
@@ -302,13 +313,15 @@ module _ (mode : ErrorHandling) (ans : Functions) (calls : StoredCalls)
           store_concrete = concrete;
           store_ready = values;
         } in
-        let k : Answering.IsReady ans calls agree (Chains.at_step s new.request store m) = subst
-        (λ x. Answering.IsReady ans calls agree (Chains.at_step s x store m)) (sym t.request_is) r in
-        run_finishes (Chains.at_step s new.request store m) k levels
+        let k : Answering.IsReady ans calls agree (Chains.at_step s.extensions s.resolution new.request store m) = subst
+        (λ x. Answering.IsReady ans calls agree (Chains.at_step s.extensions s.resolution x store m))
+        (sym t.request_is) r in
+        run_finishes (Chains.at_step s.extensions s.resolution new.request store m) k levels
         (Chains.rows_by permit old.rows ++ Chains.rows_by forbid old.rows) new.rows new.errors
         (named_reordered ans m (sorted_is old.rows) named.rows_are_named) t.runs
 
 pub steps_finish : (calls : StoredCalls) → Progress.StepsFinish calls
-steps_finish calls ans agree mode s levels m store old new concrete values named h =
-    let none = step_finishes mode ans calls agree s levels m store old new concrete values named h in
-    (none, λ w ps stand. concrete_is_defined mode s.extensions ans w ps new.rows stand none)
+steps_finish calls ans agree mode resolution X levels m store old new concrete values sound mapped named h =
+    let s : Setting = Chains.at_step X resolution old.request store m in
+    let none = step_finishes mode ans calls agree s levels m store old new concrete values sound mapped named h in
+    (none, λ w ps stand. concrete_is_defined mode X ans w ps new.rows stand none)

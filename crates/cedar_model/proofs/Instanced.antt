@@ -328,7 +328,8 @@ context_grows = (
     computed_with Instances.calling Instances.nesting_calls nesting_answer 5
         (record_of Instances.calling_context) (answers (residual (record_of Instances.grown_context))) refl,
   ),
-  computed_with (at_step Instances.calling (Instances.request_with (residual_context Instances.grown_context))
+  computed_with (at_step Instances.calling.extensions Instances.calling.resolution
+      (Instances.request_with (residual_context Instances.grown_context))
       Instances.calling.store Instances.calling.map) Instances.nesting_calls nesting_answer 6
       (get_attribute (variable context) (codes "a")) limit refl,
 )

@@ -24,6 +24,7 @@ use Rattle.cedar_model.proofs.Carried
 use Rattle.cedar_model.proofs.Chained.{sorted_is}
 use Rattle.cedar_model.proofs.Stepping.{taken}
 use Rattle.cedar_model.proofs.Counting
+use Rattle.cedar_model.proofs.Configured.{configured_by}
 
 -- ---- a row
 
@@ -403,11 +404,11 @@ module _ (old new : List Row) (kept : AllKeep (Chains.rows_by permit old ++ Chai
 
 pub nothing_taken_back : (calls : Rules.StoredCalls) (mode : ErrorHandling) (s : Setting) (levels : ℕ) (m : Mapping)
     (store : Store)
-    (old new : Response) → Chains.StepsTo mode s calls levels m store old new → HaveNoLimit new.errors
+    (old new : Response) → Chains.StepsTo (configured_by calls mode s levels) m store old new → HaveNoLimit new.errors
     → ChainLaws.KeepsWhatIsGiven old new
 nothing_taken_back calls mode s levels m store old new h none =
     let t = taken mode s calls levels m store old new h in
-    let k = run_keeps mode (Chains.at_step s new.request store m) calls levels
+    let k = run_keeps mode (Chains.at_step s.extensions s.resolution new.request store m) calls levels
     (Chains.rows_by permit old.rows ++ Chains.rows_by forbid old.rows) new.rows new.errors none t.runs in
     record {
       decision_stays = decision_is_kept old.rows new.rows k;

@@ -56,3 +56,4 @@ pub mod Finishing
 pub mod Exemplified
 pub mod TwoSteps
 pub mod Counted
+pub mod Configured

@@ -13,6 +13,7 @@ use Rattle.cedar_model.specs.Chains
 use Rattle.cedar_model.specs.Chains.{Mapping, Response}
 use Rattle.cedar_model.specs.Authorizations.{HaveNoLimit}
 use Rattle.cedar_model.proofs.Determined.{kind_of_limit}
+use Rattle.cedar_model.proofs.Configured.{configured_by}
 
 -- ---- the test
 
@@ -74,29 +75,32 @@ err_is_not_ok e = cc
 
 module _ (mode : ErrorHandling) (s : Setting) (calls : StoredCalls) (levels : ℕ) where
   abbrev Chain : Response → List (Mapping × Store) → Response → Type 0
-  Chain = Chains.ChainOf mode s calls levels
+  Chain = Chains.ChainOf (configured_by calls mode s levels)
 
   -- it ends here with the limit, or goes on with a response without one
   abbrev GoesOn : Bool → Response → (Mapping × Store) → List (Mapping × Store) → Response → Type 0
   GoesOn b r step steps last =
       MatchBool b (◌≡◌ {A = Result Response Refusal} (Ok last) (Ok r)) ((y : Result Response Refusal)
-      × Chains.Steps mode s calls levels step.0 step.1 r y
+      × Chains.Steps (configured_by calls mode s levels) step.0 step.1 r y
       × MatchResult y (λ next. Chain next steps last) (λ e. ◌≡◌ {A = Result Response Refusal} (Ok last) (Err e)))
 
   -- a chain whose last response holds no limit goes on by the step
   pub goes_on : (r last : Response) (step : Mapping × Store) (steps : List (Mapping × Store))
       → Chain r (step ∷ steps) last → HaveNoLimit last.errors → HaveNoLimit r.errors
-      × ((next : Response) × Chains.StepsTo mode s calls levels step.0 step.1 r next × Chain next steps last)
+      × ((next : Response) × Chains.StepsTo (configured_by calls mode s levels) step.0 step.1 r next
+      × Chain next steps last)
   goes_on r last step steps h none = by (Chains.has_limit r.errors) refl h
     where
-      on : (y : Result Response Refusal) → Chains.Steps mode s calls levels step.0 step.1 r y
+      on : (y : Result Response Refusal) → Chains.Steps (configured_by calls mode s levels) step.0 step.1 r y
           → MatchResult y (λ next. Chain next steps last) (λ e. ◌≡◌ {A = Result Response Refusal} (Ok last) (Err e))
-          → (next : Response) × Chains.StepsTo mode s calls levels step.0 step.1 r next × Chain next steps last
+          → (next : Response) × Chains.StepsTo (configured_by calls mode s levels) step.0 step.1 r next
+          × Chain next steps last
       on (Ok next) g k = (next, g, k)
       on (Err e) g k = absurd (err_is_not_ok k)
 
       by : (b : Bool) → Chains.has_limit r.errors ≡ b → GoesOn b r step steps last → HaveNoLimit r.errors
-          × ((next : Response) × Chains.StepsTo mode s calls levels step.0 step.1 r next × Chain next steps last)
+          × ((next : Response) × Chains.StepsTo (configured_by calls mode s levels) step.0 step.1 r next
+          × Chain next steps last)
       by true e k =
           absurd (true_isn't (Chains.has_limit r.errors)
           (has_none r.errors (subst (λ x. HaveNoLimit x.errors) (ok_inj k) none)) e)

@@ -17,6 +17,7 @@ use Rattle.cedar_model.specs.Chains
 use Rattle.cedar_model.specs.Chains.{Mapping, Response}
 use Rattle.cedar_model.specs.ChainLaws
 use Rattle.cedar_model.proofs.Determined.{runs_determined}
+use Rattle.cedar_model.proofs.Configured.{configured_by}
 
 abbrev AreAlikeContexts : Result ContextPart Refusal → Result ContextPart Refusal → Type 0
 AreAlikeContexts (Ok a) (Ok b) = Unit {0}
@@ -92,7 +93,7 @@ module _ (calls : StoredCalls) (functional : AreFunctional calls) (mode : ErrorH
       subst (λ z. ChainLaws.AreAlikeSteps z y) (sym e) (subst (ChainLaws.AreAlikeSteps (Ok u)) (sym f) tt)
 
   abbrev After : RequestPart → Result ContextPart Refusal → Result Response Refusal → Type 0
-  After = Chains.AfterContext mode s calls levels m store old
+  After = Chains.AfterContext (configured_by calls mode s levels) m store old
 
   after_alike : (r : RequestPart) (c d : Result ContextPart Refusal) → AreAlikeContexts c d → After r c x
       → After r d y → ChainLaws.AreAlikeSteps x y
@@ -103,22 +104,25 @@ module _ (calls : StoredCalls) (functional : AreFunctional calls) (mode : ErrorH
   after_alike r (Err e) (Err f) a h i =
       subst (λ z. ChainLaws.AreAlikeSteps z y) (sym h) (subst (ChainLaws.AreAlikeSteps (Err e)) (sym i) a)
 
-  request_alike : (r : Result RequestPart Refusal) → Chains.AfterRequest mode s calls levels m store old r x
-      → Chains.AfterRequest mode s calls levels m store old r y → ChainLaws.AreAlikeSteps x y
+  request_alike : (r : Result RequestPart Refusal) → Chains.AfterRequest
+      (configured_by calls mode s levels) m store old r x
+      → Chains.AfterRequest (configured_by calls mode s levels) m store old r y → ChainLaws.AreAlikeSteps x y
   request_alike (Ok r) (c, g, h) (d, j, i) =
-      after_alike r c d (substituted_alike (Chains.at_step s old.request store m) r.context_part c d g j) h i
+      after_alike r c d (substituted_alike (Chains.at_step s.extensions s.resolution old.request store m)
+      r.context_part c d g j) h i
   request_alike (Err e) h i = same_steps x y (Err e) h i
 
-  ids_alike : (o : Option Text) → Chains.AfterIds mode s calls levels m store old o x
-      → Chains.AfterIds mode s calls levels m store old o y → ChainLaws.AreAlikeSteps x y
+  ids_alike : (o : Option Text) → Chains.AfterIds (configured_by calls mode s levels) m store old o x
+      → Chains.AfterIds (configured_by calls mode s levels) m store old o y → ChainLaws.AreAlikeSteps x y
   ids_alike (Some id) h i = same_steps x y (Err (Refusals.id_comes_again id)) h i
   ids_alike None h i = request_alike (Refusals.concrete_request m old.request) h i
 
-  mode_alike : (b : Bool) → Chains.AfterMode mode s calls levels m store old b x
-      → Chains.AfterMode mode s calls levels m store old b y → ChainLaws.AreAlikeSteps x y
+  mode_alike : (b : Bool) → Chains.AfterMode (configured_by calls mode s levels) m store old b x
+      → Chains.AfterMode (configured_by calls mode s levels) m store old b y → ChainLaws.AreAlikeSteps x y
   mode_alike true h i = ids_alike (Refusals.first_repeated (map (λ p. p.id) (Chains.all_residuals old.rows))) h i
   mode_alike false h i = same_steps x y (Err (Refusals.mode_is_other old.mode mode)) h i
 
-  pub steps_alike : Chains.Steps mode s calls levels m store old x → Chains.Steps mode s calls levels m store old y
+  pub steps_alike : Chains.Steps (configured_by calls mode s levels) m store old x
+      → Chains.Steps (configured_by calls mode s levels) m store old y
       → ChainLaws.AreAlikeSteps x y
   steps_alike h i = mode_alike (Chains.is_same_mode mode old.mode) h i

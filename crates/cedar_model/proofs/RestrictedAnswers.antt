@@ -85,7 +85,7 @@ module _ (s z : Setting) (calls : Rules.StoredCalls) (maps : s.map ≡ z.map)
 -- ---- the expression of a sound value is restricted
 
 mutual
-  sound_restricted : (v : Represented) → IsSound v → is_restricted (expression_of v) ≡ true
+  pub sound_restricted : (v : Represented) → IsSound v → is_restricted (expression_of v) ≡ true
   sound_restricted (plain_represented l) h = refl
   sound_restricted (set_represented vs) h = sound_each vs h.1
   sound_restricted (record_represented fs) h = sound_each_at fs h

@@ -13,7 +13,7 @@ use Rattle.cedar_model.specs.Settings.{Setting}
 use Rattle.cedar_model.specs.Rules.{StoredCalls}
 use Rattle.cedar_model.specs.Agreement.{outcome_value, IsCompletion, AgreesWithFunctions, AnswerFaithfully, StandsFor}
 use Rattle.cedar_model.specs.Agreement.{FailsFor}
-use Rattle.cedar_model.specs.Policies.{Effect, permit, forbid, Policy, satisfied, unsatisfied, erring, verdict}
+use Rattle.cedar_model.specs.Policies.{Effect, permit, forbid, Policy, Verdict, satisfied, unsatisfied, erring, verdict}
 use Rattle.cedar_model.specs.Policies.{ErrorHandling, skip, forbid_on_error, counted_verdict}
 use Rattle.cedar_model.specs.Terms.{Term}
 use Rattle.cedar_model.specs.Reordering.{IsReordering, nothing, keeping}
@@ -48,6 +48,9 @@ error_errs (errs k) e = refl
 
 unsatisfied_is : unsatisfied ≢ satisfied
 unsatisfied_is e = cc
+
+erring_is : erring ≢ satisfied
+erring_is e = cc
 
 verdict_true : verdict (gives (plain (bool_literal true))) ≡ satisfied
 unfolding verdict
@@ -101,6 +104,21 @@ counted_error skip e P f g = g refl
 counted_error forbid_on_error permit P f g = g refl
 counted_error forbid_on_error forbid P f g = f refl
 
+errs_as : (mode : ErrorHandling) (e : Effect) (v : Verdict) → v ≡ erring → counted_verdict mode e erring ≡ erring
+    → Responses.ErrsAs mode e v
+unfolding counted_verdict
+errs_as skip e v h k = h
+errs_as forbid_on_error permit v h k = h
+errs_as forbid_on_error forbid v h k = absurd (cc)
+
+-- what errs so doesn't count as satisfied
+pub errs_isn't : (mode : ErrorHandling) (e : Effect) (v : Verdict) → Responses.ErrsAs mode e v
+    → counted_verdict mode e v ≢ satisfied
+unfolding counted_verdict
+errs_isn't skip e v h k = (let z = sym h ∙ k in erring_is z)
+errs_isn't forbid_on_error permit v h k = (let z = sym h ∙ k in erring_is z)
+errs_isn't forbid_on_error forbid v h k = unsatisfied_is (sym (ap (counted_verdict forbid_on_error forbid) h) ∙ k)
+
 module _ (mode : ErrorHandling) (ans : Functions) (w : World) (s : Setting) (p : Policy) where
   abbrev M : Outcome
   M = meaning s.extensions ans w p.slots p.condition
@@ -121,7 +139,7 @@ module _ (mode : ErrorHandling) (ans : Functions) (w : World) (s : Setting) (p :
   error_stands : verdict M ≡ erring → Counts (Responses.reported_false true)
   error_stands h =
       counted_error mode p.effect (Responses.StandsAs mode s.extensions ans w p)
-      (λ e. ap (counted_verdict mode p.effect) h ∙ e) (λ e. ap (counted_verdict mode p.effect) h ∙ e)
+      (λ e. ap (counted_verdict mode p.effect) h ∙ e) (errs_as mode p.effect (verdict M) h)
 
   value_stands : (v : Represented) (o : Option Bool) → bool_of (abstract_value v) ≡ o → M ≡ gives (abstract_value v)
       → Counts (Responses.reported_of (Responses.decided_bool o v))

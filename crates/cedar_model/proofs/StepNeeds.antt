@@ -40,7 +40,7 @@ module _ (s : Setting) (calls : StoredCalls) (m : Mapping) (b : ℕ) (within : I
       as_part c (contexts_low m s calls b within sound low (λ d. mapped_sound) fs (context_value c) e f)
 
   step_low : (r : RequestPart) → ContextFollows s calls m s.request.context_part r.context_part →
-      IsNoHigher calls (at_step s r s.store m) m (b + b)
+      IsNoHigher calls (at_step s.extensions s.resolution r s.store m) m (b + b)
   step_low r f = record {
     context_low = follows_low s.request.context_part r.context_part refl f;
     stored_low =
@@ -53,7 +53,7 @@ module _ (s : Setting) (calls : StoredCalls) (m : Mapping) (b : ℕ) (within : I
   }
 
   step_sound : (r : RequestPart) → ContextFollows s calls m s.request.context_part r.context_part →
-      IsGivenSound calls (at_step s r s.store m)
+      IsGivenSound calls (at_step s.extensions s.resolution r s.store m)
   step_sound r f = record {
     context_sound = sound_follows s calls m sound mapped_sound s.request.context_part r.context_part refl f;
     stored_sound = sound.stored_sound;
@@ -63,9 +63,10 @@ module _ (s : Setting) (calls : StoredCalls) (m : Mapping) (b : ℕ) (within : I
 
   pub step_need_bounded : FunctionsMeetNoLimit calls → (r : RequestPart) →
       ContextFollows s calls m s.request.context_part r.context_part → (n : ℕ) (t : Term) →
-      Exceeds (at_step s r s.store m) calls t n → n < height t + (b + b)
+      Exceeds (at_step s.extensions s.resolution r s.store m) calls t n → n < height t + (b + b)
   step_need_bounded answered r f n t g =
-      need_below (at_step s r s.store m) calls answered (b + b) (step_sound r f) (step_low r f)
-      (λ d k u i x j. restricted_twice m (at_step s r s.store m) calls b (λ l v e. e) mapped_sound sound.answers_sound
+      need_below (at_step s.extensions s.resolution r s.store m) calls answered (b + b) (step_sound r f) (step_low r f)
+      (λ d k u i x j. restricted_twice m (at_step s.extensions s.resolution r s.store m) calls b
+      (λ l v e. e) mapped_sound sound.answers_sound
       low.mapped_low low.answers_low k u x (stored_restricted m s calls b within sound low u i)
       (stored_height m s calls b within sound low u i) j) n t g

@@ -4,7 +4,6 @@ use Rattle.std.proofs.Common.{refl, sym, ap, ◌∙◌, subst}
 use Rattle.cedar_model.specs.Terms.{Text, bool_literal, unknown, record_of, Fields, fields_of}
 use Rattle.cedar_model.specs.Values.{Represented, plain_represented, one_represented_at, no_represented_at}
 use Rattle.cedar_model.specs.Values.{abstract_value, expression_of}
-use Rattle.cedar_model.specs.Shapes.{is_restricted}
 use Rattle.cedar_model.specs.Failures.{Answer, PartialValue, answers_bool, answers, value}
 use Rattle.cedar_model.specs.Policies.{skip}
 use Rattle.cedar_model.specs.Settings
@@ -20,6 +19,7 @@ use Rattle.cedar_model.specs.ChainExamples.{no_map, an_entity, a_number, empty_s
 use Rattle.cedar_model.specs.ChainExamples.{two_policies}
 use Rattle.cedar_model.specs.ChainExamples.{two_steps, resource_map, context_map, chain_world}
 use Rattle.cedar_model.proofs.Exemplified
+use Rattle.cedar_model.proofs.Configured.{configured_by}
 
 abbrev pub s : Setting
 s = setting_of open_request
@@ -42,9 +42,9 @@ stepped old r m =
     record {
       mode = skip;
       request = r;
-      rows = Exemplified.rows_to skip (Chains.at_step s r empty_store m) 9
+      rows = Exemplified.rows_to skip (Chains.at_step s.extensions s.resolution r empty_store m) 9
           (Chains.all_residuals old.rows);
-      errors = Exemplified.errors_to (Chains.at_step s r empty_store m) 9
+      errors = Exemplified.errors_to (Chains.at_step s.extensions s.resolution r empty_store m) 9
           (Chains.all_residuals old.rows);
     }
 
@@ -68,7 +68,7 @@ last_request = Chains.with_context middle_request (known_context
 abbrev pub last : Response
 last = stepped middle last_request context_map
 
-pub begins : Chains.Begins skip s some_calls 9 two_policies first
+pub begins : Chains.Begins (configured_by some_calls skip s 9) open_request empty_store two_policies first
 unfolding Exemplified.chain_opened Exemplified.finds_none Exemplified.is_memory
 begins = record {
   mode_is = refl;
@@ -77,7 +77,7 @@ begins = record {
       (refl, (refl, tt));
 }
 
-pub first_step : Chains.StepsTo skip s some_calls 9 resource_map empty_store first middle
+pub first_step : Chains.StepsTo (configured_by some_calls skip s 9) resource_map empty_store first middle
 unfolding Exemplified.chain_opened Exemplified.finds_none Exemplified.is_memory
 first_step = (
   Ok open_request.context_part,
@@ -90,27 +90,27 @@ first_step = (
   (
     middle.rows,
     middle.errors,
-    Exemplified.run_to skip (Chains.at_step s middle_request empty_store resource_map) 9
+    Exemplified.run_to skip (Chains.at_step s.extensions s.resolution middle_request empty_store resource_map) 9
         (Chains.all_residuals first.rows) (refl, (refl, tt)),
     refl,
   ),
 )
 
-pub second_step : Chains.StepsTo skip s some_calls 9 context_map empty_store middle last
+pub second_step : Chains.StepsTo (configured_by some_calls skip s 9) context_map empty_store middle last
 unfolding Exemplified.chain_opened Exemplified.finds_none Exemplified.is_memory
 second_step = (
   Ok last_request.context_part,
   (
     _,
     Exemplified.runs_to
-        (Chains.without_map (Chains.at_step s middle_request empty_store context_map)) 9
+        (Chains.without_map (Chains.at_step s.extensions s.resolution middle_request empty_store context_map)) 9
         (record_of (Chains.substituted_at context_map context_fields)) _ refl,
     refl,
   ),
   (
     last.rows,
     last.errors,
-    Exemplified.run_to skip (Chains.at_step s last_request empty_store context_map) 9
+    Exemplified.run_to skip (Chains.at_step s.extensions s.resolution last_request empty_store context_map) 9
         (Chains.all_residuals middle.rows) (refl, (refl, tt)),
     refl,
   ),
@@ -119,7 +119,7 @@ second_step = (
 abbrev pub again : Response
 again = stepped last last_request no_map
 
-pub third_step : Chains.StepsTo skip s some_calls 9 no_map empty_store last again
+pub third_step : Chains.StepsTo (configured_by some_calls skip s 9) no_map empty_store last again
 unfolding Exemplified.chain_opened Exemplified.finds_none Exemplified.is_memory
 third_step = (
   Ok last_request.context_part,
@@ -127,7 +127,7 @@ third_step = (
   (
     again.rows,
     again.errors,
-    Exemplified.run_to skip (Chains.at_step s last_request empty_store no_map) 9
+    Exemplified.run_to skip (Chains.at_step s.extensions s.resolution last_request empty_store no_map) 9
         (Chains.all_residuals last.rows) (refl, (refl, tt)),
     refl,
   ),
@@ -136,12 +136,10 @@ third_step = (
 -- ---- what is named
 
 literal_values : (n : Text) (v : Represented) → context_map n ≡ Some v
-    → Agreement.IsKnown some_functions (expression_of v) × (is_restricted (expression_of v) ≡ true)
+    → Agreement.IsKnown some_functions (expression_of v)
 literal_values =
-    Exemplified.at_each (λ n v. Agreement.IsKnown some_functions (expression_of v)
-    × (is_restricted (expression_of v) ≡ true))
-    ((codes "c", plain_represented (bool_literal true)) ∷ (codes "d", a_number 10) ∷ [])
-    ((tt, refl), ((tt, refl), tt))
+    Exemplified.at_each (λ n v. Agreement.IsKnown some_functions (expression_of v))
+    ((codes "c", plain_represented (bool_literal true)) ∷ (codes "d", a_number 10) ∷ []) (tt, (tt, tt))
 
 pub names_all : Progress.NamesAll some_functions context_map middle
 unfolding Exemplified.chain_opened
@@ -149,7 +147,7 @@ names_all = record {
   principal_is_named = tt;
   action_is_named = tt;
   resource_is_named = tt;
-  context_is_named = ((refl, (refl, tt)), refl);
+  context_is_named = (refl, (refl, tt));
   rows_are_named = (tt, ((tt, (tt, (refl, (refl, tt)))), tt));
   values_are_known = literal_values;
 }
@@ -162,7 +160,7 @@ none_is x e = cc
 nothing_stored : (Such : PartialValue → Type 0) → Agreement.EachStored Such empty_store
 nothing_stored Such e x k p h = absurd (none_is x h)
 
-store_completes : Headline.CompletesStore some_functions chain_world s empty_store
+store_completes : Headline.CompletesStore s.extensions some_functions chain_world empty_store
 unfolding Exemplified.chain_opened
 store_completes = record {
   store_agrees = λ e. refl;
@@ -170,7 +168,7 @@ store_completes = record {
   stored_residuals_fit = nothing_stored (Agreement.FitsPart some_extensions some_functions chain_world);
 }
 
-resource_completes : Headline.CompletesMap some_functions chain_world s resource_map
+resource_completes : Headline.CompletesMap s.extensions some_functions chain_world resource_map
 unfolding Exemplified.chain_opened
 resource_completes = record {
   map_agrees = Exemplified.at_each (λ n v. chain_world.sigma n ≡ abstract_value v)
@@ -179,7 +177,7 @@ resource_completes = record {
       ((codes "resource", an_entity (Examples.user (codes "b"))) ∷ []) (tt, tt);
 }
 
-context_completes : Headline.CompletesMap some_functions chain_world s context_map
+context_completes : Headline.CompletesMap s.extensions some_functions chain_world context_map
 unfolding Exemplified.chain_opened
 context_completes = record {
   map_agrees = Exemplified.at_each (λ n v. chain_world.sigma n ≡ abstract_value v)
@@ -200,7 +198,12 @@ faithful : Agreement.AnswerFaithfully some_extensions some_functions some_calls
 faithful f vs v h e = subst (Agreement.IsFaithful some_extensions some_functions)
     (is_bool (answers (value v)) v e refl) tt
 
-pub completed : Headline.CompletesChain skip some_calls some_functions chain_world s 9 two_policies two_steps last
+pub chained : Chains.ChainOf (configured_by some_calls skip s 9) first two_steps last
+unfolding Exemplified.chain_opened
+chained = (Ok middle, first_step, (Ok last, second_step, refl))
+
+pub completed : Headline.Premises (configured_by some_calls skip s 9) open_request empty_store two_policies two_steps
+    some_functions chain_world last.errors
 unfolding Exemplified.chain_opened
 completed = record {
   request_agrees = record {
@@ -213,12 +216,8 @@ completed = record {
   first_store_agrees = store_completes;
   steps_agree = (resource_completes, store_completes, (context_completes, store_completes, tt));
   conditions_fit = ((((tt, tt), tt), ((tt, tt), (tt, tt))), ((((tt, tt), tt), (tt, (tt, tt))), tt));
-  first = first;
-  first_is_answered = begins;
-  steps_are_answered = (Ok middle, first_step, (Ok last, second_step, refl));
   functions_are_functional = functional;
   context_is_faithful = tt;
   functions_are_faithful = faithful;
   no_limit_is_recorded = tt;
-  conditions_are_conjunctions = (tt, (tt, tt));
 }

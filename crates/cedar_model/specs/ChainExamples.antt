@@ -17,12 +17,13 @@ use Rattle.cedar_model.specs.Responses.{carried}
 use Rattle.cedar_model.specs.Refusals.{mode_is_other, id_comes_again, value_is_wrong, is_there_already, type_is_other}
 use Rattle.cedar_model.specs.Refusals.{context_fails}
 use Rattle.cedar_model.specs.Refusals.{concrete_request}
-use Rattle.cedar_model.specs.Chains.{Mapping, Response, Steps, StepsTo, Begins, ChainAnswers, all_residuals}
+use Rattle.cedar_model.specs.Configurations.{Configuration, configured}
+use Rattle.cedar_model.specs.Chains.{Mapping, Response, Steps, StepsTo, Begins, ChainAnswers, ChainOf, all_residuals}
 use Rattle.cedar_model.specs.Reports.{ids, given_decision, must_determine, may_determine, concrete_decision}
 use Rattle.cedar_model.specs.Reports.{concrete_reasons}
 use Rattle.cedar_model.specs.Reports.{concrete_errors, definitely_satisfied, definitely_errored}
 use Rattle.cedar_model.specs.Reports.{nontrivial_residual_ids, nontrivial_forbids, get, HaveNoResidual}
-use Rattle.cedar_model.specs.Headline.{CompletesChain}
+use Rattle.cedar_model.specs.Headline.{Premises}
 use Rattle.cedar_model.specs.Progress.{NamesAll}
 use Rattle.cedar_model.specs.Examples.{entity_of_type, user, long, entity, bool, x, some_calls, some_functions}
 use Rattle.cedar_model.specs.Examples.{some_extensions}
@@ -208,6 +209,9 @@ setting_of r =
       resolution = shallow;
     }
 
+abbrev pub configured_in : ErrorHandling → ℕ → Configuration
+configured_in mode levels = configured some_calls mode shallow some_extensions levels
+
 abbrev pub response_to : RequestPart → List Row → Response
 response_to r rows = record { mode = skip; request = r; rows = rows; errors = [] }
 
@@ -217,7 +221,7 @@ known_request = requested (known_entry (user (codes "a"))) (known_entry (user (c
 -- an id that comes again is refused before the map is looked at
 abbrev pub RepeatedIdIsRefused : Type 0
 RepeatedIdIsRefused =
-    Steps skip (setting_of known_request) some_calls 9 (map_of ((codes "principal", a_number 3) ∷ [])) empty_store
+    Steps (configured_in skip 9) (map_of ((codes "principal", a_number 3) ∷ [])) empty_store
     (response_to known_request (row (codes "a") permit reported_true ∷ row (codes "a") forbid reported_true ∷ []))
     (Err (id_comes_again (codes "a")))
 
@@ -232,9 +236,9 @@ in_mode mode = record {
 
 abbrev pub OtherModeIsRefused : Type 0
 OtherModeIsRefused =
-    Steps forbid_on_error (setting_of known_request) some_calls 9 (map_of ((codes "principal", a_number 3) ∷ []))
+    Steps (configured_in forbid_on_error 9) (map_of ((codes "principal", a_number 3) ∷ []))
     empty_store (in_mode skip) (Err (mode_is_other skip forbid_on_error))
-    × Steps skip (setting_of known_request) some_calls 9 (map_of ((codes "principal", a_number 3) ∷ [])) empty_store
+    × Steps (configured_in skip 9) (map_of ((codes "principal", a_number 3) ∷ [])) empty_store
     (in_mode forbid_on_error) (Err (mode_is_other forbid_on_error skip))
 
 -- a context that errs with the map's values in it is refused, here a call of no function
@@ -245,13 +249,13 @@ with_call =
 
 abbrev pub ContextErrorIsRefused : Type 0
 ContextErrorIsRefused =
-    Steps skip (setting_of with_call) some_calls 9 (map_of ((codes "x", a_number 4) ∷ [])) empty_store
+    Steps (configured_in skip 9) (map_of ((codes "x", a_number 4) ∷ [])) empty_store
     (response_to with_call []) (Err (context_fails (function_is_missing (codes "nosuch"))))
 
 -- and so is one that meets the recursion limit
 abbrev pub ContextLimitIsRefused : Type 0
 ContextLimitIsRefused =
-    Steps skip (setting_of with_call) some_calls 2 (map_of ((codes "x", a_number 4) ∷ [])) empty_store
+    Steps (configured_in skip 2) (map_of ((codes "x", a_number 4) ∷ [])) empty_store
     (response_to with_call []) (Err (context_fails recursion_limit))
 
 -- a context is read under the request of the response before, not of the chain
@@ -262,8 +266,7 @@ with_principal =
 
 abbrev pub ContextIsReadUnderTheOldRequest : Type 0
 ContextIsReadUnderTheOldRequest =
-    StepsTo skip (setting_of (requested (known_entry (user (codes "b")))
-    (known_entry (user (codes "r"))) empty_context)) some_calls 9 no_map empty_store
+    StepsTo (configured_in skip 9) no_map empty_store
     (response_to with_principal []) (response_to
     (requested (known_entry (user (codes "a"))) (known_entry (user (codes "r")))
     (known_context (one_represented_at (codes "p") (an_entity (user (codes "a"))) no_represented_at))) [])
@@ -307,10 +310,10 @@ two_steps = (resource_map, empty_store) ∷ (context_map, empty_store) ∷ []
 abbrev pub TwoSteps : Type 0
 TwoSteps =
     (first : Response) × (middle : Response) × (last : Response) × (again : Response)
-    × Begins skip (setting_of open_request) some_calls 9 two_policies first
-    × StepsTo skip (setting_of open_request) some_calls 9 resource_map empty_store first middle
-    × StepsTo skip (setting_of open_request) some_calls 9 context_map empty_store middle last
-    × StepsTo skip (setting_of open_request) some_calls 9 no_map empty_store last again
+    × Begins (configured_in skip 9) open_request empty_store two_policies first
+    × StepsTo (configured_in skip 9) resource_map empty_store first middle
+    × StepsTo (configured_in skip 9) context_map empty_store middle last
+    × StepsTo (configured_in skip 9) no_map empty_store last again
     × (ids (may_determine first.rows) ≡ codes "0" ∷ codes "1" ∷ []) × (given_decision middle.rows ≡ None)
     × (must_determine middle.rows ≡ []) × NamesAll some_functions context_map middle × HaveNoResidual last.rows
     × (given_decision last.rows ≡ Some deny) × (ids (must_determine last.rows) ≡ codes "1" ∷ [])
@@ -333,8 +336,10 @@ chain_world = record {
 -- it completes the chain: the premises of the headline can be met; and there the policies decide as the chain says
 abbrev pub TwoStepsAreCompleted : Type 0
 TwoStepsAreCompleted =
-    (last : Response) × CompletesChain skip some_calls some_functions chain_world
-    (setting_of open_request) 9 two_policies two_steps last
+    (first : Response) × (last : Response) × Begins (configured_in skip 9) open_request empty_store two_policies first
+    × ChainOf (configured_in skip 9) first two_steps last
+    × Premises (configured_in skip 9) open_request empty_store two_policies two_steps some_functions chain_world
+    last.errors
     × (given_decision last.rows ≡ Some deny)
     × (decision (judge_each some_extensions some_functions chain_world two_policies) ≡ deny)
     × (reasons (judge_each some_extensions some_functions chain_world two_policies) ≡ codes "1" ∷ [])
@@ -352,14 +357,14 @@ limited = record {
 
 abbrev pub EndsAtTheLimit : Type 0
 EndsAtTheLimit =
-    Begins skip (setting_of known_request) some_calls 0 (policy (codes "1") permit truth ∷ []) limited
-    × ChainAnswers skip (setting_of known_request) some_calls 0 limited
+    Begins (configured_in skip 0) known_request empty_store (policy (codes "1") permit truth ∷ []) limited
+    × ChainAnswers (configured_in skip 0) limited
     ((map_of ((codes "principal", a_number 3) ∷ []), empty_store) ∷ []) (Ok limited)
 
 -- where a response holds no limit, the refusal of a step is the chain's
 abbrev pub RefusalEndsAChain : Type 0
 RefusalEndsAChain =
-    ChainAnswers skip (setting_of known_request) some_calls 9 (response_to known_request [])
+    ChainAnswers (configured_in skip 9) (response_to known_request [])
     ((map_of ((codes "principal", a_number 3) ∷ []), empty_store) ∷ (no_map, empty_store) ∷ [])
     (Err (value_is_wrong (codes "principal") (codes "entity") (a_number 3)))
 

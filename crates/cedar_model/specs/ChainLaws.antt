@@ -2,11 +2,13 @@
 use Rattle.std.specs.Prelude.{◌≡◌, ◌↔◌, ◌⊎◌, ℕ, false, List, ◌++◌, Some, Result, Ok, Err}
 use Rattle.cedar_model.specs.Terms.{Text}
 use Rattle.cedar_model.specs.Failures.{Failure, failure_kind}
-use Rattle.cedar_model.specs.Settings.{Setting, Store}
+use Rattle.cedar_model.specs.World.{Extensions}
+use Rattle.cedar_model.specs.Settings.{RequestPart, Store, Resolution}
 use Rattle.cedar_model.specs.Rules.{StoredCalls}
 use Rattle.cedar_model.specs.LevelLaws.{FunctionsAnswer, FunctionsFindMemory}
 use Rattle.cedar_model.specs.Alike.{AreFunctional}
 use Rattle.cedar_model.specs.Policies.{Policy, Decision, ErrorHandling}
+use Rattle.cedar_model.specs.Configurations.{configured}
 use Rattle.cedar_model.specs.Refusals.{Refusal, context_fails}
 use Rattle.cedar_model.specs.Chains.{Mapping, Response, Begins, Steps, StepsTo, has_limit, ChainAnswers, ChainOf}
 use Rattle.cedar_model.specs.Authorizations.{HaveNoLimit}
@@ -16,23 +18,23 @@ use Rattle.cedar_model.specs.ReportLaws.{Within}
 -- where the functions that exist answer, and never want of memory, there is a first response to policies
 abbrev pub ChainsBegin : StoredCalls → Type 0
 ChainsBegin calls =
-    FunctionsFindMemory calls → (mode : ErrorHandling) (s : Setting) (levels : ℕ)
-    → FunctionsAnswer calls s.extensions.arity → (ps : List Policy)
-    → (first : Response) × Begins mode s calls levels ps first
+    FunctionsFindMemory calls → (mode : ErrorHandling) (resolution : Resolution) (X : Extensions) (levels : ℕ)
+    → FunctionsAnswer calls X.arity → (request : RequestPart) (store : Store) (ps : List Policy)
+    → (first : Response) × Begins (configured calls mode resolution X levels) request store ps first
 
 -- each step answers a response or a refusal
 abbrev pub StepsAnswer : StoredCalls → Type 0
 StepsAnswer calls =
-    FunctionsFindMemory calls → (mode : ErrorHandling) (s : Setting) (levels : ℕ)
-    → FunctionsAnswer calls s.extensions.arity → (m : Mapping) (store : Store) (old : Response)
-    → (x : Result Response Refusal) × Steps mode s calls levels m store old x
+    FunctionsFindMemory calls → (mode : ErrorHandling) (resolution : Resolution) (X : Extensions) (levels : ℕ)
+    → FunctionsAnswer calls X.arity → (m : Mapping) (store : Store) (old : Response)
+    → (x : Result Response Refusal) × Steps (configured calls mode resolution X levels) m store old x
 
 -- and so does each chain
 abbrev pub ChainsAnswer : StoredCalls → Type 0
 ChainsAnswer calls =
-    FunctionsFindMemory calls → (mode : ErrorHandling) (s : Setting) (levels : ℕ)
-    → FunctionsAnswer calls s.extensions.arity → (first : Response) (steps : List (Mapping × Store))
-    → (x : Result Response Refusal) × ChainAnswers mode s calls levels first steps x
+    FunctionsFindMemory calls → (mode : ErrorHandling) (resolution : Resolution) (X : Extensions) (levels : ℕ)
+    → FunctionsAnswer calls X.arity → (first : Response) (steps : List (Mapping × Store))
+    → (x : Result Response Refusal) × ChainAnswers (configured calls mode resolution X levels) first steps x
 
 -- the same refusal, or errors of one kind of the context
 abbrev pub AreAlikeRefusals : Refusal → Refusal → Type 0
@@ -50,10 +52,10 @@ AreAlikeSteps (Err e) (Err f) = AreAlikeRefusals e f
 -- from functional functions a step answers responses alone, or one refusal
 abbrev pub RefusalIsOne : StoredCalls → Type 0
 RefusalIsOne calls =
-    AreFunctional calls → (mode : ErrorHandling) (s : Setting) (levels : ℕ) (m : Mapping) (store : Store)
-    (old : Response)
-    (x y : Result Response Refusal) → Steps mode s calls levels m store old x → Steps mode s calls levels m store old y
-    → AreAlikeSteps x y
+    AreFunctional calls → (mode : ErrorHandling) (resolution : Resolution) (X : Extensions) (levels : ℕ)
+    (m : Mapping) (store : Store) (old : Response) (x y : Result Response Refusal)
+    → Steps (configured calls mode resolution X levels) m store old x
+    → Steps (configured calls mode resolution X levels) m store old y → AreAlikeSteps x y
 
 -- the test for the recursion limit says so
 abbrev pub LimitsAreSeen : Type 0
@@ -63,10 +65,11 @@ LimitsAreSeen = (errors : List (Text × Failure)) → HaveNoLimit errors ↔ (ha
 -- response without one, from which the others lead to the last
 abbrev pub NoEarlierLimit : StoredCalls → Type 0
 NoEarlierLimit calls =
-    (mode : ErrorHandling) (s : Setting) (levels : ℕ) (first last : Response) (before after : List (Mapping × Store))
-    → ChainOf mode s calls levels first (before ++ after) last → HaveNoLimit last.errors
-    → (middle : Response) × ChainOf mode s calls levels first before middle × HaveNoLimit middle.errors
-    × ChainOf mode s calls levels middle after last
+    (mode : ErrorHandling) (resolution : Resolution) (X : Extensions) (levels : ℕ) (first last : Response)
+    (before after : List (Mapping × Store))
+    → ChainOf (configured calls mode resolution X levels) first (before ++ after) last → HaveNoLimit last.errors
+    → (middle : Response) × ChainOf (configured calls mode resolution X levels) first before middle
+    × HaveNoLimit middle.errors × ChainOf (configured calls mode resolution X levels) middle after last
 
 -- nothing is taken back: where a step succeeds without a recursion limit, a given decision stays, no id leaves those
 -- that must determine it, and none comes to those that may; whatever worlds and functions there are
@@ -77,5 +80,7 @@ pub record KeepsWhatIsGiven (old new : Response) : Type 0 where
 
 abbrev pub NothingIsTakenBack : StoredCalls → Type 0
 NothingIsTakenBack calls =
-    (mode : ErrorHandling) (s : Setting) (levels : ℕ) (m : Mapping) (store : Store) (old new : Response)
-    → StepsTo mode s calls levels m store old new → HaveNoLimit new.errors → KeepsWhatIsGiven old new
+    (mode : ErrorHandling) (resolution : Resolution) (X : Extensions) (levels : ℕ) (m : Mapping) (store : Store)
+    (old new : Response)
+    → StepsTo (configured calls mode resolution X levels) m store old new → HaveNoLimit new.errors
+    → KeepsWhatIsGiven old new

@@ -8,8 +8,10 @@ use Rattle.cedar_model.specs.Values.{Represented, expression_of}
 use Rattle.cedar_model.specs.Failures.{Failure, FailureKind, of_meaning, of_residual, of_limit, of_memory}
 use Rattle.cedar_model.specs.Failures.{failure_kind, Answer}
 use Rattle.cedar_model.specs.Settings.{ContextPart, absent_context, known_context, residual_context, RequestPart}
-use Rattle.cedar_model.specs.Settings.{Store, Setting}
+use Rattle.cedar_model.specs.Settings.{Store, Resolution, Setting}
+use Rattle.cedar_model.specs.World.{Extensions}
 use Rattle.cedar_model.specs.Rules.{StoredCalls, Runs}
+use Rattle.cedar_model.specs.Configurations.{Configuration}
 use Rattle.cedar_model.specs.Agreement.{no_slots}
 use Rattle.cedar_model.specs.Policies.{Effect, permit, forbid, Policy, ErrorHandling, skip, forbid_on_error}
 use Rattle.cedar_model.specs.Responses.{Reported, reported_true, reported_false, reported_residual, Row, RunOf, carried}
@@ -114,16 +116,21 @@ without_map s =
       resolution = s.resolution;
     }
 
-abbrev pub at_step : Setting → RequestPart → Store → Mapping → Setting
-at_step s r store m =
+-- what an evaluation of a step is given
+abbrev pub at_step : Extensions → Resolution → RequestPart → Store → Mapping → Setting
+at_step X resolution r store m =
     record {
       request = r;
       store = store;
       map = m;
       slots = no_slots;
-      extensions = s.extensions;
-      resolution = s.resolution;
+      extensions = X;
+      resolution = resolution;
     }
+
+-- no unknown has a value
+abbrev pub no_values : Mapping
+no_values n = None
 
 -- a residual context is interpreted again, with the map's values in it: under the old response's request and the new
 -- store, without the map. Another context stays
@@ -148,21 +155,24 @@ is_same_mode skip forbid_on_error = false
 is_same_mode forbid_on_error skip = false
 is_same_mode forbid_on_error forbid_on_error = true
 
-module _ (mode : ErrorHandling) (s : Setting) (calls : StoredCalls) (levels : ℕ) (m : Mapping) (store : Store)
-    (old : Response) where
+module _ (c : Configuration) (m : Mapping) (store : Store) (old : Response) where
+  -- what is read under this request
+  abbrev pub under : RequestPart → Setting
+  under r = at_step c.extensions c.resolution r store m
+
   -- the rows before, carried on as policies, run under the new request with the map
   abbrev pub AfterContext : RequestPart → Result ContextPart Refusal → Result Response Refusal → Type 0
   AfterContext r (Err e) x = x ≡ Err e
-  AfterContext r (Ok c) x =
+  AfterContext r (Ok d) x =
       (rows : List Row) × (errors : List (Text × Failure))
-      × RunOf mode (at_step s (with_context r c) store m) calls levels (all_residuals old.rows) rows errors
-      × (x ≡ Ok record { mode = mode; request = with_context r c; rows = rows; errors = errors })
+      × RunOf c.mode (under (with_context r d)) c.calls c.levels (all_residuals old.rows) rows errors
+      × (x ≡ Ok record { mode = c.mode; request = with_context r d; rows = rows; errors = errors })
 
   abbrev pub AfterRequest : Result RequestPart Refusal → Result Response Refusal → Type 0
   AfterRequest (Err e) x = x ≡ Err e
   AfterRequest (Ok r) x =
-      (c : Result ContextPart Refusal) × SubstitutesTo (at_step s old.request store m) calls levels m r.context_part c
-      × AfterContext r c x
+      (d : Result ContextPart Refusal) × SubstitutesTo (under old.request) c.calls c.levels m r.context_part d
+      × AfterContext r d x
 
   abbrev pub AfterIds : Option Text → Result Response Refusal → Type 0
   AfterIds (Some id) x = x ≡ Err (id_comes_again id)
@@ -170,12 +180,12 @@ module _ (mode : ErrorHandling) (s : Setting) (calls : StoredCalls) (levels : �
 
   abbrev pub AfterMode : Bool → Result Response Refusal → Type 0
   AfterMode true x = AfterIds (first_repeated (map (λ p. p.id) (all_residuals old.rows))) x
-  AfterMode false x = x ≡ Err (mode_is_other old.mode mode)
+  AfterMode false x = x ≡ Err (mode_is_other old.mode c.mode)
 
   -- a step answers a response or a refusal: the mode is the response's, no id stands twice, the map makes the request
   -- concrete, then the context is substituted, then the policies run
   abbrev pub Steps : Result Response Refusal → Type 0
-  Steps x = AfterMode (is_same_mode mode old.mode) x
+  Steps x = AfterMode (is_same_mode c.mode old.mode) x
 
   -- it succeeds with this response
   abbrev pub StepsTo : Response → Type 0
@@ -184,11 +194,12 @@ module _ (mode : ErrorHandling) (s : Setting) (calls : StoredCalls) (levels : �
 -- ---- chains
 
 -- the first response, from a request without a map
-pub record Begins (mode : ErrorHandling) (s : Setting) (calls : StoredCalls) (levels : ℕ) (policies : List Policy)
+pub record Begins (c : Configuration) (request : RequestPart) (store : Store) (policies : List Policy)
     (first : Response) : Type 0 where
-  pub mode_is : first.mode ≡ mode
-  pub request_is : first.request ≡ s.request
-  pub runs : RunOf mode (without_map s) calls levels policies first.rows first.errors
+  pub mode_is : first.mode ≡ c.mode
+  pub request_is : first.request ≡ request
+  pub runs : RunOf c.mode (at_step c.extensions c.resolution request store no_values) c.calls c.levels policies
+      first.rows first.errors
 
 unfoldable pub is_limit : FailureKind → Bool
 is_limit (of_meaning k) = false
@@ -203,15 +214,12 @@ has_limit (e ∷ es) = is_limit (failure_kind e.1) || has_limit es
 
 -- steps taken one after another from a response answer the response of the last one, or the first whose errors hold
 -- the recursion limit, or the first refusal
-abbrev pub ChainAnswers : ErrorHandling → Setting → StoredCalls → ℕ → Response → List (Mapping × Store)
-    → Result Response Refusal
-    → Type 0
-ChainAnswers mode s calls levels r [] x = x ≡ Ok r
-ChainAnswers mode s calls levels r (step ∷ steps) x =
-    MatchBool (has_limit r.errors) (x ≡ Ok r) ((y : Result Response Refusal)
-    × Steps mode s calls levels step.0 step.1 r y
-    × MatchResult y (λ next. ChainAnswers mode s calls levels next steps x) (λ e. x ≡ Err e))
+abbrev pub ChainAnswers : Configuration → Response → List (Mapping × Store) → Result Response Refusal → Type 0
+ChainAnswers c r [] x = x ≡ Ok r
+ChainAnswers c r (step ∷ steps) x =
+    MatchBool (has_limit r.errors) (x ≡ Ok r) ((y : Result Response Refusal) × Steps c step.0 step.1 r y
+    × MatchResult y (λ next. ChainAnswers c next steps x) (λ e. x ≡ Err e))
 
 -- a chain from a response that succeeds with this one
-abbrev pub ChainOf : ErrorHandling → Setting → StoredCalls → ℕ → Response → List (Mapping × Store) → Response → Type 0
-ChainOf mode s calls levels r steps last = ChainAnswers mode s calls levels r steps (Ok last)
+abbrev pub ChainOf : Configuration → Response → List (Mapping × Store) → Response → Type 0
+ChainOf c r steps last = ChainAnswers c r steps (Ok last)

@@ -88,4 +88,4 @@ StepNeedIsBounded calls =
     FunctionsMeetNoLimit calls → (s : Setting) (m : Mapping) (b : ℕ) → IsBounded calls s m b →
     ((n : Text) (v : Represented) → m n ≡ Some v → IsSound v) → (r : RequestPart) →
     ContextFollows s calls m s.request.context_part r.context_part → (n : ℕ) (t : Term) →
-    Exceeds (at_step s r s.store m) calls t n → n < height t + (b + b)
+    Exceeds (at_step s.extensions s.resolution r s.store m) calls t n → n < height t + (b + b)

@@ -234,7 +234,8 @@ ContextGrows =
     IsGivenSound nesting_calls calling × IsNoHigher nesting_calls calling calling.map 4 ×
     ContextFollows calling nesting_calls calling.map (residual_context calling_context)
     (residual_context grown_context) ×
-    Exceeds (at_step calling (request_with (residual_context grown_context)) calling.store calling.map) nesting_calls
+    Exceeds (at_step calling.extensions calling.resolution (request_with (residual_context grown_context))
+    calling.store calling.map) nesting_calls
     (get_attribute (variable context) (codes "a")) 6
 
 -- ---- disallowed parts

@@ -24,6 +24,7 @@ pub mod Reordering
 pub mod PolicyLaws
 pub mod Examples
 pub mod Rows
+pub mod Configurations
 pub mod Responses
 pub mod Meanings
 pub mod Refusals

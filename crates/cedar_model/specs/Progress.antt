@@ -4,18 +4,19 @@ use Rattle.cedar_model.specs.Terms.{Text, Term, literal, variable, slot, unknown
 use Rattle.cedar_model.specs.Terms.{binary, call, get_attribute, has_attribute, extended_has, like, is_of_type}
 use Rattle.cedar_model.specs.Terms.{set_of, record_of, Terms, no_terms, one_term, Fields, no_fields, one_field}
 use Rattle.cedar_model.specs.Values.{Represented, expression_of}
-use Rattle.cedar_model.specs.Shapes.{is_restricted, are_restricted_at}
-use Rattle.cedar_model.specs.World.{World, Functions}
+use Rattle.cedar_model.specs.World.{World, Extensions, Functions}
 use Rattle.cedar_model.specs.Settings.{Entry, known_entry, unknown_entry, ContextPart, absent_context, known_context}
-use Rattle.cedar_model.specs.Settings.{residual_context, Store, Resolution, shallow, deep, Setting}
+use Rattle.cedar_model.specs.Settings.{residual_context, Store, Resolution, shallow, deep}
 use Rattle.cedar_model.specs.Failures.{PartialValue, value, residual}
 use Rattle.cedar_model.specs.Rules.{StoredCalls}
 use Rattle.cedar_model.specs.Agreement.{NeverAsks, IsKnown, AgreesWithFunctions, EachStored, IsValue}
-use Rattle.cedar_model.specs.Policies.{Policy, decision, reasons, ErrorHandling, counted_each}
+use Rattle.cedar_model.specs.Policies.{Policy, ErrorHandling}
+use Rattle.cedar_model.specs.Configurations.{configured}
+use Rattle.cedar_model.specs.Restricted.{IsSound, IsSoundContext}
 use Rattle.cedar_model.specs.Responses.{Reported, reported_true, reported_false, reported_residual, Row, Stand}
 use Rattle.cedar_model.specs.Chains.{Mapping, Response, StepsTo}
-use Rattle.cedar_model.specs.Outcomes.{has_text}
-use Rattle.cedar_model.specs.Reports.{ids, concrete_reasons, concrete_decision, HaveNoResidual}
+use Rattle.cedar_model.specs.Reports.{HaveNoResidual}
+use Rattle.cedar_model.specs.ReportLaws.{AreDecidedAs}
 
 module _ (ans : Functions) (m : Mapping) where
   -- the map names each unknown of the expression, and no function that is called in it can answer one
@@ -59,11 +60,11 @@ module _ (ans : Functions) (m : Mapping) where
   EntryIsNamed name (known_entry e) = Unit {0}
   EntryIsNamed name (unknown_entry t) = is_some (m name) ≡ true
 
-  -- so is an absent context; a residual one, which is restricted, has its unknowns named
+  -- so is an absent context; a residual one has its unknowns named
   abbrev pub ContextIsNamed : ContextPart → Type 0
   ContextIsNamed absent_context = is_some (m (codes "context")) ≡ true
   ContextIsNamed (known_context fs) = Unit {0}
-  ContextIsNamed (residual_context fs) = AreNamedAt fs × (are_restricted_at fs ≡ true)
+  ContextIsNamed (residual_context fs) = AreNamedAt fs
 
   abbrev pub ReportIsNamed : Reported → Type 0
   ReportIsNamed reported_true = Unit {0}
@@ -82,18 +83,17 @@ module _ (ans : Functions) (m : Mapping) where
     pub context_is_named : ContextIsNamed r.request.context_part
     pub rows_are_named : RowsAreNamed r.rows
     pub values_are_known : (n : Text) (v : Represented) → m n ≡ Some v → IsKnown ans (expression_of v)
-        × (is_restricted (expression_of v) ≡ true)
 
--- where a map names all, and the store is concrete and no residual is answered from it, a step leaves no residual; and
--- where its rows stand, the concrete decision is that of the policies, and the reasons are theirs
+-- where a map of sound values names all, the context that is given is sound, and the store is concrete and no residual
+-- is answered from it, a step leaves no residual; and where its rows stand, the concrete decision is that of the
+-- policies, and the reasons are theirs
 abbrev pub StepsFinish : StoredCalls → Type 0
 StepsFinish calls =
     (ans : Functions) → AgreesWithFunctions ans calls
-    → (mode : ErrorHandling) (s : Setting) (levels : ℕ) (m : Mapping) (store : Store) (old new : Response)
-    → store.is_partial ≡ false → EachStored (LeavesNoResidual ans m s.resolution) store → NamesAll ans m old
-    → StepsTo mode s calls levels m store old new
+    → (mode : ErrorHandling) (resolution : Resolution) (X : Extensions) (levels : ℕ) (m : Mapping) (store : Store)
+    (old new : Response)
+    → store.is_partial ≡ false → EachStored (LeavesNoResidual ans m resolution) store
+    → IsSoundContext old.request.context_part → ((n : Text) (v : Represented) → m n ≡ Some v → IsSound v)
+    → NamesAll ans m old → StepsTo (configured calls mode resolution X levels) m store old new
     → HaveNoResidual new.rows
-    × ((w : World) (ps : List Policy) → Stand mode s.extensions ans w ps new.rows
-    → (concrete_decision mode new.rows ≡ decision (counted_each mode s.extensions ans w ps))
-    × ((t : Text) → has_text t (ids (concrete_reasons mode new.rows))
-    ≡ has_text t (reasons (counted_each mode s.extensions ans w ps))))
+    × ((w : World) (ps : List Policy) → Stand mode X ans w ps new.rows → AreDecidedAs mode X ans w ps new.rows)

@@ -28,6 +28,12 @@ pub record ReportsHold (mode : ErrorHandling) (X : Extensions) (ans : Functions)
   pub must_are_reasons : Within (ids (must_determine rows)) (reasons (counted_each mode X ans w ps))
   pub reasons_may : Within (reasons (counted_each mode X ans w ps)) (ids (may_determine rows))
 
+-- what the rows are made concrete as is decided so by the policies, for the same reasons
+abbrev pub AreDecidedAs : ErrorHandling → Extensions → Functions → World → List Policy → List Row → Type 0
+AreDecidedAs mode X ans w ps rows =
+    (concrete_decision mode rows ≡ decision (counted_each mode X ans w ps))
+    × ((t : Text) → has_text t (ids (concrete_reasons mode rows)) ≡ has_text t (reasons (counted_each mode X ans w ps)))
+
 -- that holds wherever the rows stand
 abbrev pub BoundsHold : Type 0
 BoundsHold =
@@ -44,9 +50,7 @@ GivenIsConcrete =
 abbrev pub ConcreteIsDefined : Type 0
 ConcreteIsDefined =
     (mode : ErrorHandling) (X : Extensions) (ans : Functions) (w : World) (ps : List Policy) (rows : List Row)
-    → Stand mode X ans w ps rows → HaveNoResidual rows
-    → (concrete_decision mode rows ≡ decision (counted_each mode X ans w ps))
-    × ((t : Text) → has_text t (ids (concrete_reasons mode rows)) ≡ has_text t (reasons (counted_each mode X ans w ps)))
+    → Stand mode X ans w ps rows → HaveNoResidual rows → AreDecidedAs mode X ans w ps rows
 
 -- where errors are skipped, the concrete decision is that of the rows as verdicts
 abbrev pub ConcreteDecidesRows : Type 0

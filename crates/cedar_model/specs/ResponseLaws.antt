@@ -1,12 +1,13 @@
 -- The laws of runs and steps, which the functions of `responses` have as their contracts.
 use Rattle.std.specs.Prelude.{ℕ, List}
 use Rattle.cedar_model.specs.Terms.{Text}
-use Rattle.cedar_model.specs.World.{World, Functions}
+use Rattle.cedar_model.specs.World.{World, Extensions, Functions}
 use Rattle.cedar_model.specs.Failures.{Failure}
-use Rattle.cedar_model.specs.Settings.{Setting, Store}
+use Rattle.cedar_model.specs.Settings.{Resolution, Setting, Store}
 use Rattle.cedar_model.specs.Rules.{StoredCalls}
 use Rattle.cedar_model.specs.Agreement.{IsCompletion, CompletesWith}
 use Rattle.cedar_model.specs.Policies.{Policy, ErrorHandling}
+use Rattle.cedar_model.specs.Configurations.{configured}
 use Rattle.cedar_model.specs.Responses.{Row, Stand, RunOf, FitPolicies, AreConditions}
 use Rattle.cedar_model.specs.Chains.{Mapping, Response, at_step, StepsTo}
 use Rattle.cedar_model.specs.Authorizations.{HaveNoLimit}
@@ -22,17 +23,18 @@ RunsStand calls =
 -- request after it
 abbrev pub StepsKeepCompletions : StoredCalls → Type 0
 StepsKeepCompletions calls =
-    (mode : ErrorHandling) (ans : Functions) (w : World) (s : Setting) (levels : ℕ) (m : Mapping) (store : Store)
-    (old new : Response)
-    → CompletesWith calls ans w (at_step s old.request store m)
-    → StepsTo mode s calls levels m store old new → IsCompletion ans w (at_step s new.request store m)
+    (mode : ErrorHandling) (resolution : Resolution) (X : Extensions) (levels : ℕ) (ans : Functions) (w : World)
+    (m : Mapping) (store : Store) (old new : Response)
+    → CompletesWith calls ans w (at_step X resolution old.request store m)
+    → StepsTo (configured calls mode resolution X levels) m store old new
+    → IsCompletion ans w (at_step X resolution new.request store m)
 
 -- a step keeps what stands, in every world that agrees with the request before it, the map and the store, if none of
 -- its errors is the recursion limit
 abbrev pub StepsKeepWhatStands : StoredCalls → Type 0
 StepsKeepWhatStands calls =
-    (mode : ErrorHandling) (ans : Functions) (w : World) (s : Setting) (levels : ℕ) (m : Mapping) (store : Store)
-    (old new : Response)
-    → CompletesWith calls ans w (at_step s old.request store m)
-    → (ps : List Policy) → AreConditions ps → Stand mode s.extensions ans w ps old.rows → HaveNoLimit new.errors
-    → StepsTo mode s calls levels m store old new → Stand mode s.extensions ans w ps new.rows
+    (mode : ErrorHandling) (resolution : Resolution) (X : Extensions) (levels : ℕ) (ans : Functions) (w : World)
+    (m : Mapping) (store : Store) (old new : Response)
+    → CompletesWith calls ans w (at_step X resolution old.request store m)
+    → (ps : List Policy) → AreConditions ps → Stand mode X ans w ps old.rows → HaveNoLimit new.errors
+    → StepsTo (configured calls mode resolution X levels) m store old new → Stand mode X ans w ps new.rows

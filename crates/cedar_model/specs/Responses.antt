@@ -11,7 +11,8 @@ use Rattle.cedar_model.specs.Failures.{fails, wrong_type}
 use Rattle.cedar_model.specs.Settings.{Setting}
 use Rattle.cedar_model.specs.Rules.{StoredCalls, Runs}
 use Rattle.cedar_model.specs.Agreement.{Fits, HaveSameOutcome, no_slots}
-use Rattle.cedar_model.specs.Policies.{Effect, permit, forbid, Policy, satisfied, erring, verdict}
+use Rattle.cedar_model.specs.Policies.{Effect, permit, forbid, Policy, Verdict, satisfied, unsatisfied, erring}
+use Rattle.cedar_model.specs.Policies.{verdict}
 use Rattle.cedar_model.specs.Policies.{ErrorHandling, skip, forbid_on_error, counted_verdict}
 use Rattle.cedar_model.specs.Reordering.{IsReordering}
 
@@ -29,14 +30,20 @@ pub record Row : Type 0 where
 
 -- ---- what stands
 
+-- a policy that is false with an error errs; a forbid, where an erring one counts, is unsatisfied
+abbrev pub ErrsAs : ErrorHandling → Effect → Verdict → Type 0
+ErrsAs skip effect v = v ≡ erring
+ErrsAs forbid_on_error permit v = v ≡ erring
+ErrsAs forbid_on_error forbid v = v ≡ unsatisfied
+
 -- a true policy is satisfied; a false one isn't, and with an error it errs; where an erring forbid counts, a true
--- forbid is satisfied or errs, and a false one is unsatisfied. A residual fits the world and has, without slots, the
--- outcome of the condition
+-- forbid is satisfied or errs, and a false one is unsatisfied, whether with an error or without. A residual fits the
+-- world and has, without slots, the outcome of the condition
 abbrev pub StandsAs : ErrorHandling → Extensions → Functions → World → Policy → Reported → Type 0
 StandsAs mode X ans w p reported_true =
     counted_verdict mode p.effect (verdict (meaning X ans w p.slots p.condition)) ≡ satisfied
 StandsAs mode X ans w p (reported_false true) =
-    counted_verdict mode p.effect (verdict (meaning X ans w p.slots p.condition)) ≡ erring
+    ErrsAs mode p.effect (verdict (meaning X ans w p.slots p.condition))
 StandsAs mode X ans w p (reported_false false) =
     counted_verdict mode p.effect (verdict (meaning X ans w p.slots p.condition)) ≢ satisfied
 StandsAs mode X ans w p (reported_residual t) =

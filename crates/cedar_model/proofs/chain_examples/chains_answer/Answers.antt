@@ -32,7 +32,7 @@ returns-clause-two_steps c = (
 
 pub returns-clause-completed : goal.returns-clause-completed
 unfolding chain_opened
-returns-clause-completed c = (two.last, two.completed, refl, refl, refl)
+returns-clause-completed c = (two.first, two.last, two.begins, two.chained, two.completed, refl, refl, refl)
 
 pub returns-clause-ends_at_limit : goal.returns-clause-ends_at_limit
 unfolding chain_opened finds_none is_memory

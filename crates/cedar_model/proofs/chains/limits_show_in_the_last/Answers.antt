@@ -1,3 +1,4 @@
+use Rattle.cedar_model.proofs.Configured.{setting_with}
 use Rattle.cedar_model.proofs.Limits.{has_none, none_has, no_earlier}
 use Rattle.cedar_model.proofs.chains.limits_show_in_the_last.Goals as goal
 
@@ -5,4 +6,5 @@ pub returns-clause-seen : goal.returns-clause-seen
 returns-clause-seen g c = λ errors. (has_none errors, none_has errors)
 
 pub returns-clause-none : goal.returns-clause-none
-returns-clause-none g c = λ mode s levels first last before after. no_earlier mode s _ levels first last before after
+returns-clause-none g c = λ mode resolution X levels.
+    no_earlier mode (setting_with X resolution) _ levels
