@@ -3,3 +3,4 @@ pub mod Repeats
 pub mod Parts
 pub mod Stores
 pub mod StoredValues
+pub mod Sound

@@ -2,3 +2,4 @@ pub mod Policies
 pub mod PolicySets
 pub mod Parts
 pub mod Stores
+pub mod Mapped

@@ -2,4 +2,5 @@
 #![tactic(auto)]
 
 pub mod expressions;
+pub mod laws;
 pub mod policies;
