@@ -1,19 +1,21 @@
 -- What an evaluation promises.
 use Rattle.std.specs.Prelude.{◌≡◌, ◌≢◌, ◌↔◌, ℕ, ◌+◌, ◌<◌, ◌≤◌}
-use Rattle.std.proofs.Common.{sym, ◌∙◌, subst, arith}
+use Rattle.std.proofs.Common.{subst, arith}
 use Rattle.cedar_model.specs.Terms.{Text, Term}
 use Rattle.cedar_model.specs.Values.{AbstractValue}
 use Rattle.cedar_model.specs.World.{World, Functions}
 use Rattle.cedar_model.specs.Meaning.{meaning}
 use Rattle.cedar_model.specs.Alike.{AreFunctional}
 use Rattle.cedar_model.specs.Failures.{Answer, limit}
-use Rattle.cedar_model.specs.Settings.{shallow, Setting}
+use Rattle.cedar_model.specs.Settings.{RequestPart, shallow, Setting}
 use Rattle.cedar_model.specs.Rules.{StoredCalls, Runs, Meets, Allows, Exceeds}
 use Rattle.cedar_model.specs.Agreement.{height, IsKnown, HasNothingUnknown, AgreesWithFunctions, CompletesWith, Fits, StandsFor, own_world}
 use Rattle.cedar_model.specs.Authorizations.{IsExact}
 use Rattle.cedar_model.specs.Depth.{IsNoHigher, bound_of}
 use Rattle.cedar_model.specs.LevelLaws.{FunctionsMeetNoLimit}
 use Rattle.cedar_model.specs.Restricted.{IsGivenSound}
+use Rattle.cedar_evaluation.specs.declared.evaluation.Evaluation.{Evaluation}
+use Rattle.cedar_evaluation.specs.Settings.{Speaks, setting_of, calls_in}
 use Rattle.cedar_model.proofs.Determined.{limit_alone}
 use Rattle.cedar_model.proofs.Exactly.{answer_exact}
 use Rattle.cedar_model.proofs.Needs.{need_bounded}
@@ -35,8 +37,7 @@ IsSound s calls t a =
 
 -- the depth bound: where the expression and all that is given are together no higher than the levels, no recursion limit
 abbrev pub IsDeepEnough : Setting → StoredCalls → ℕ → Term → Answer → Type 0
-IsDeepEnough s calls levels t a =
-    (b : ℕ) → IsGivenSound calls s → IsNoHigher calls s s.map b → height t + b ≤ levels → a ≢ limit
+IsDeepEnough s calls levels t a = (b : ℕ) → IsNoHigher calls s s.map b → height t + b ≤ levels → a ≢ limit
 
 -- what is promised of the answer to an expression, with so many levels: what the rules give; the recursion limit exactly where
 -- the need is above the levels, else what the rules allow; and the three above
@@ -52,21 +53,35 @@ too_deep : (n h b : ℕ) → n < h + bound_of shallow b → h + b ≤ n → ⊥
 unfolding bound_of
 too_deep n h b above enough = omega (arith, above, enough)
 
--- with shallow resolution what runs is as promised
-pub promised : (s : Setting) (calls : StoredCalls) → AreFunctional calls → FunctionsMeetNoLimit calls → s.resolution ≡ shallow → (levels : ℕ) (t : Term) (a : Answer) → Runs s calls levels t a → IsPromised s calls levels t a
-promised s calls functional no_limit is_shallow levels t a runs = record {
+-- with shallow resolution, and where what is given is sound, what runs is as promised
+pub promised : (s : Setting) (calls : StoredCalls) → AreFunctional calls → FunctionsMeetNoLimit calls → IsGivenSound calls s →
+    s.resolution ≡ shallow → (levels : ℕ) (t : Term) (a : Answer) → Runs s calls levels t a → IsPromised s calls levels t a
+promised s calls functional no_limit given_sound is_shallow levels t a runs = record {
   runs = runs;
   limited = (λ is. subst (Runs s calls levels t) is runs, λ met. limit_alone s calls functional levels t a met runs);
   allowed = λ below. (below, levels, runs);
   known = λ nothing ans agree known sigma. answer_exact calls ans agree s nothing sigma levels t a known runs;
   sound = λ ans w c fits below. allowed_sound ans calls c.functions_agree w s c.completion c.functions_are_faithful t a fits (below, levels, runs);
-  deep_enough = λ b given_sound low enough is.
+  deep_enough = λ b low enough is.
       let met : Exceeds s calls t levels = subst (Runs s calls levels t) is runs in
       let above : levels < height t + bound_of s.resolution b = need_bounded s calls no_limit b given_sound low levels t met in
       let within : levels < height t + bound_of shallow b = subst (λ q. levels < height t + bound_of q b) is_shallow above in
       too_deep levels (height t) b within enough;
 }
 
-pub meets_promised : (s : Setting) (calls : StoredCalls) (levels : ℕ) (t : Term) → AreFunctional calls → FunctionsMeetNoLimit calls → s.resolution ≡ shallow → (a b : Answer) → b ≡ a → Meets (Runs s calls levels t) a → Meets (IsPromised s calls levels t) b
-meets_promised s calls levels t functional no_limit is_shallow a b is runs ok =
-    promised s calls functional no_limit is_shallow levels t b (subst (Runs s calls levels t) (sym is) (runs (λ w. ok (is ∙ w))))
+pub meets_promised : (s : Setting) (calls : StoredCalls) (levels : ℕ) (t : Term) → AreFunctional calls → FunctionsMeetNoLimit calls →
+    IsGivenSound calls s → s.resolution ≡ shallow → (a : Answer) → Meets (Runs s calls levels t) a → Meets (IsPromised s calls levels t) a
+meets_promised s calls levels t functional no_limit given_sound is_shallow a runs ok =
+    promised s calls functional no_limit given_sound is_shallow levels t a (runs ok)
+
+-- ---- what an evaluation promises, for whatever request it speaks of
+
+-- it answers as the rules say
+abbrev pub RunsIn : {X : Type 0} {F : X → Type 0} {g : _} → Evaluation X F g → ℕ → Term → Answer → Type 0
+RunsIn e levels t a = (r : RequestPart) → Speaks r e → Meets (Runs (setting_of r e) (calls_in e) levels t) a
+
+-- and as promised, where what is given is sound
+abbrev pub PromisedIn : {X : Type 0} {F : X → Type 0} {g : _} → Evaluation X F g → ℕ → Term → Answer → Type 0
+PromisedIn e levels t a =
+    (r : RequestPart) → Speaks r e → IsGivenSound (calls_in e) (setting_of r e) →
+    Meets (IsPromised (setting_of r e) (calls_in e) levels t) a

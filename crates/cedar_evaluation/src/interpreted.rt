@@ -1,16 +1,13 @@
 //! The call that evaluates an expression.
 ghost use Rattle.std.specs.Prelude.{◌≡◌, ℕ, IfOk};
 ghost use Rattle.cedar_model.specs.RestrictedLaws.{HoldsUnknown};
-ghost use Rattle.cedar_model.specs.Rules.{Meets, Runs};
-ghost use Rattle.cedar_model.specs.Settings.{RequestPart};
 ghost use Rattle.cedar_expressions.specs.View.{view, expr_loc};
 ghost use Rattle.cedar_expressions.specs.Nodes.{parts_of};
 ghost use Rattle.cedar_data.specs.Residuals.{partial_view, partial_loc, IfValue};
 ghost use Rattle.cedar_restricted.specs.Elements.{ElementsStand};
 ghost use Rattle.cedar_values.specs.Answers.{partial_answer};
 ghost use Rattle.cedar_values.specs.Failures.{failure_of};
-ghost use Rattle.cedar_evaluation.specs.Settings.{Speaks, setting_of, calls_in};
-ghost use Rattle.cedar_evaluation.specs.Promises.{IsPromised};
+ghost use Rattle.cedar_evaluation.specs.Promises.{RunsIn, PromisedIn};
 
 use crate::answers::loc_of;
 use crate::evaluation::Evaluation;
@@ -35,7 +32,8 @@ impl<'e, 'g, 'f> Evaluation<'e, 'g, 'f> {
         e: &Expr,
         limit: usize,
     ) -> Result<PartialValue, EvaluationError>
-        ensures promised { (r : RequestPart) → Speaks r self.now → Meets (IsPromised (setting_of r self.now) (calls_in self.now) limit (view e.now)) (partial_answer result) }
+        ensures runs { RunsIn self.now limit (view e.now) (partial_answer result) }
+        ensures promised { PromisedIn self.now limit (view e.now) (partial_answer result) }
         ensures place { IfOk result (λ p. partial_loc p ≡ expr_loc e.now) }
         ensures unknown { IfOk result (λ p. HoldsUnknown (partial_view p)) }
         ensures elements { (n : ℕ) → IfOk result (λ p. IfValue p (ElementsStand n e.now)) }
@@ -53,7 +51,7 @@ impl<'e, 'g, 'f> Evaluation<'e, 'g, 'f> {
         expr: Rc<Expr>,
         limit: usize,
     ) -> Result<PartialValue, EvaluationError>
-        ensures answer { (r : RequestPart) → Speaks r self.now → Meets (Runs (setting_of r self.now) (calls_in self.now) limit (view expr.value)) (partial_answer result) }
+        ensures answer { RunsIn self.now limit (view expr.value) (partial_answer result) }
         ensures place { IfOk result (λ p. partial_loc p ≡ expr_loc expr.value) }
         ensures elements { (n : ℕ) → IfOk result (λ p. IfValue p (ElementsStand n expr.value)) }
     {

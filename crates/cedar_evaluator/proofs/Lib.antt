@@ -1,3 +1,4 @@
 pub mod Requests
+pub mod Sound
 pub mod Knowing
 pub mod Told

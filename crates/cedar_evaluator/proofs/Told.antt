@@ -3,11 +3,10 @@ use Rattle.std.specs.Prelude.{◌≡◌, ◌≢◌, ◌≤◌, ◌-◌, ℕ, suc
 use Rattle.std.proofs.Common.{refl, sym, ap, ◌∙◌, subst, arith}
 use Rattle.cedar_model.specs.Terms.{Term, Literal, bool_literal, literal, Variable, variable, both, binary, BinaryOperator}
 use Rattle.cedar_model.specs.Values.{Represented, abstract_value}
+use Rattle.cedar_model.specs.World.{Slots}
 use Rattle.cedar_model.specs.Outcomes.{bool_of}
-use Rattle.cedar_model.specs.Alike.{AreFunctional}
-use Rattle.cedar_model.specs.LevelLaws.{FunctionsMeetNoLimit}
 use Rattle.cedar_model.specs.Failures.{out_of_memory, value, Answer, answers, fails, answers_bool, answers_value}
-use Rattle.cedar_model.specs.Settings.{shallow, Setting}
+use Rattle.cedar_model.specs.Settings.{Setting}
 use Rattle.cedar_model.specs.Operators.{binary_answer}
 use Rattle.cedar_model.specs.Responses.{Decided, decides, errs_with, decided, decided_bool}
 use Rattle.cedar_model.specs.Rules.{StoredCalls, Runs, Meets, joined, bool_or_failure, binary_of_parts, binary_beside, beside_residual}
@@ -18,11 +17,12 @@ use Rattle.cedar_extensions.specs.Extensions.{extensions_view}
 use Rattle.cedar_operators.specs.Operands.{given}
 use Rattle.cedar_evaluation.specs.Booleans.{is_bool}
 use Rattle.cedar_evaluation.specs.Operands.{parts_alike}
-use Rattle.cedar_evaluation.specs.Promises.{IsPromised, promised}
+use Rattle.cedar_evaluation.specs.Promises.{IsPromised}
 use Rattle.cedar_evaluation.specs.Settings.{given_for}
 use Rattle.cedar_evaluator.specs.declared.evaluator.Evaluator.{Evaluator}
 use Rattle.cedar_evaluator.specs.Evaluations.{variables_of, setting_of, calls_in}
 use Rattle.cedar_evaluator.proofs.Requests.{says}
+use Rattle.cedar_evaluator.proofs.Sound.{evaluator_promised}
 use Rattle.cedar_evaluator.specs.Told.{IsTold}
 
 -- what holds of what is there
@@ -108,25 +108,24 @@ told_variable v x p (Some y) is that = λ k slots.
     ap (λ z. answers_value z.what) that ∙ ap answers (sym is ∙ says (variables_of v.given) v.of_request x)
 told_variable v x p None is that = tt
 
-module _ (s : Setting) (calls : StoredCalls) (functional : AreFunctional calls) (no_limit : FunctionsMeetNoLimit calls)
-    (is_shallow : s.resolution ≡ shallow) (n : ℕ) (t : Term) where
+module _ {X : Type 0} {F : X → Type 0} {g : _} (v : Evaluator X F g) (slots : Slots) (n : ℕ) (t : Term) where
   -- a boolean decides
-  pub bool_promised : (b : Bool) → Runs s calls n t (answers_bool b) →
-      (x : Answer) × IsPromised s calls n t x × (decides b ≡ decided x)
+  pub bool_promised : (b : Bool) → Runs (setting_of v slots) (calls_in v) n t (answers_bool b) →
+      (x : Answer) × IsPromised (setting_of v slots) (calls_in v) n t x × (decides b ≡ decided x)
   unfolding decided decided_bool bool_of
-  bool_promised b h = (answers_bool b, promised s calls functional no_limit is_shallow n t (answers_bool b) h, refl)
+  bool_promised b h = (answers_bool b, evaluator_promised v slots n t (answers_bool b) h, refl)
 
   -- the right side decides beside a true left side
-  pub beside_promised : (u : Term) (a : Answer) (d : Decided) → Runs s calls n t (answers_bool true) →
-      Meets (Runs s calls n u) a →
+  pub beside_promised : (u : Term) (a : Answer) (d : Decided) → IsTold v n t (answers_bool true) →
+      Meets (Runs (setting_of v slots) (calls_in v) n u) a →
       (d ≢ errs_with out_of_memory → d ≡ decided (joined (both (literal (bool_literal true))) a)) →
       d ≢ errs_with out_of_memory →
-      (x : Answer) × IsPromised s calls (suc n) (both t u) x × (d ≡ decided x)
+      (x : Answer) × IsPromised (setting_of v slots) (calls_in v) (suc n) (both t u) x × (d ≡ decided x)
   unfolding decided joined
   beside_promised u a d h meets is ok =
       let f = joined (both (literal (bool_literal true))) in
       let runs = meets (λ w. ok (is ok ∙ ap (λ z. decided (f z)) w)) in
-      (f a, promised s calls functional no_limit is_shallow (suc n) (both t u) (f a) (true_left s calls n t u a h runs), is ok)
+      (f a, evaluator_promised v slots (suc n) (both t u) (f a) (true_left (setting_of v slots) (calls_in v) n t u a (h slots) runs), is ok)
 
 -- a value that is this boolean
 pub bool_is : (v : Represented) (r : Option Bool) → r ≡ bool_of (abstract_value v) → IfSome r (λ b. answers_value v ≡ answers_bool b)

@@ -9,6 +9,7 @@ ghost use Rattle.cedar_expressions.specs.declared.expr.Expr as expressions;
 ghost use Rattle.cedar_expressions.specs.View.{view, expr_loc};
 ghost use Rattle.cedar_data.specs.Sound.{Placed};
 ghost use Rattle.cedar_data.specs.Residuals.{partial_view, partial_loc, IfValue};
+ghost use Rattle.cedar_layers.specs.Parts.{is_restricted_part};
 ghost use Rattle.cedar_values.specs.Answers.{partial_answer, value_answer};
 ghost use Rattle.cedar_restricted.specs.Evaluations.{only_values};
 ghost use Rattle.cedar_restricted.specs.Elements.{ElementsStand};
@@ -38,6 +39,7 @@ pub struct Evaluator<'e, 'f> {
     pub(crate) given: Given<'e, 'f>,
     pub(crate) limit: usize,
     ghost of_request: { are_of_request (λ v. partial_view (given_for given v)) ≡ true } by { Bool-set _ _ },
+    ghost context_restricted: { is_restricted_part (partial_view given.context) ≡ true } by { Bool-set _ _ },
 }
 
 impl<'e, 'f> Evaluator<'e, 'f> {

@@ -5,16 +5,20 @@ use Rattle.cedar_values.specs.Answers.{partial_answer}
 use Rattle.cedar_extensions.specs.StoredLaws.{calls_functional, calls_meet_no_limit}
 use Rattle.cedar_evaluation.specs.Settings.{setting_of, calls_in}
 use Rattle.cedar_restricted.specs.Elements.{answer_for}
-use Rattle.cedar_evaluation.specs.Promises.{IsPromised, meets_promised}
+use Rattle.cedar_evaluation.specs.Promises.{IsPromised, RunsIn, meets_promised}
 use Rattle.cedar_evaluation.proofs.evaluation.Evaluation.interpret.Goals as goal
 
+pub returns-in-Ok-clause-runs : goal.returns-in-Ok-clause-runs
+returns-in-Ok-clause-runs g c =
+    subst (λ t. RunsIn c.args.self.now c.args.limit t (partial_answer c.evaluated.result)) c.in-Ok.ensures.view c.evaluated.ensures.answer
+
 pub returns-in-Ok-clause-promised : goal.returns-in-Ok-clause-promised
-returns-in-Ok-clause-promised g c r speaks =
+returns-in-Ok-clause-promised g c r speaks sound =
     let s = setting_of r c.args.self.now in
     let stored = c.args.self.now.given.now.extensions.now in
     let answer = partial_answer c.evaluated.result in
     subst (λ t. Meets (IsPromised s (calls_in c.args.self.now) c.args.limit t) answer) c.in-Ok.ensures.view
-    (meets_promised s (calls_in c.args.self.now) c.args.limit (view c.in-Ok.expr.value) (calls_functional stored) (calls_meet_no_limit stored) refl answer answer refl (c.evaluated.ensures.answer r speaks))
+    (meets_promised s (calls_in c.args.self.now) c.args.limit (view c.in-Ok.expr.value) (calls_functional stored) (calls_meet_no_limit stored) sound refl answer (c.evaluated.ensures.answer r speaks))
 
 pub returns-in-Ok-clause-elements : goal.returns-in-Ok-clause-elements
 returns-in-Ok-clause-elements g c n =

@@ -1,9 +1,8 @@
-use Rattle.std.proofs.Common.{suc, refl}
+use Rattle.std.proofs.Common.{suc}
 use Rattle.cedar_model.specs.Terms.{both}
 use Rattle.cedar_expressions.specs.View.{view}
 use Rattle.cedar_layers.specs.Policies.{slots_view}
 use Rattle.cedar_values.specs.Answers.{partial_answer}
-use Rattle.cedar_extensions.specs.StoredLaws.{calls_functional, calls_meet_no_limit}
 use Rattle.cedar_evaluator.specs.Decisions.{partly_decided}
 use Rattle.cedar_evaluator.specs.Evaluations.{variables_of, request_in, setting_of, calls_in}
 use Rattle.cedar_evaluator.proofs.Requests.{says}
@@ -12,12 +11,13 @@ use Rattle.cedar_evaluator.proofs.evaluator.Evaluator.decide_by_clause.Goals as 
 
 pub returns-in-Some : goal.returns-in-Some
 returns-in-Some g c t h ok =
-    bool_promised (setting_of c.args.self.now (slots_view c.args.slots.now)) (calls_in c.args.self.now) (calls_functional c.args.self.now.given.extensions.now) (calls_meet_no_limit c.args.self.now.given.extensions.now) refl (suc c.args.levels) (both t (view c.args.clause.now)) c.in-Some.is_true
-    (true_bool (setting_of c.args.self.now (slots_view c.args.slots.now)) (calls_in c.args.self.now) c.args.levels t (view c.args.clause.now) c.in-Some.is_true (h (slots_view c.args.slots.now)) (c.in-Some.ensures (slots_view c.args.slots.now)))
+    let slots = slots_view c.args.slots.now in
+    bool_promised c.args.self.now slots (suc c.args.levels) (both t (view c.args.clause.now)) c.in-Some.is_true
+    (true_bool (setting_of c.args.self.now slots) (calls_in c.args.self.now) c.args.levels t (view c.args.clause.now) c.in-Some.is_true (h slots) (c.in-Some.ensures slots))
 
 pub returns-in-None : goal.returns-in-None
 returns-in-None g c t h =
-    beside_promised (setting_of c.args.self.now (slots_view c.args.slots.now)) (calls_in c.args.self.now) (calls_functional c.args.self.now.given.extensions.now) (calls_meet_no_limit c.args.self.now.given.extensions.now) refl c.args.levels t (view c.args.clause.now) (partial_answer c.interpret.result) (partly_decided c.beside_true.result)
-    (h (slots_view c.args.slots.now))
-    (λ ok. (c.interpret.ensures.promised (request_in c.args.self.now) (says (variables_of c.args.self.now.given) c.args.self.now.of_request) ok).runs)
+    beside_promised c.args.self.now (slots_view c.args.slots.now) c.args.levels t (view c.args.clause.now) (partial_answer c.interpret.result)
+    (partly_decided c.beside_true.result) h
+    (c.interpret.ensures.runs (request_in c.args.self.now) (says (variables_of c.args.self.now.given) c.args.self.now.of_request))
     c.beside_true.ensures

@@ -1,10 +1,9 @@
-use Rattle.std.proofs.Common.{◌≡◌, suc, ◌-◌, refl, sym, ap, ◌∙◌, subst, Some, false, arith}
+use Rattle.std.proofs.Common.{◌≡◌, suc, ◌-◌, sym, ap, ◌∙◌, subst, Some, false, arith}
 use Rattle.cedar_model.specs.Terms.{both}
 use Rattle.cedar_model.specs.Failures.{answers_bool}
 use Rattle.cedar_model.specs.Rules.{Runs}
 use Rattle.cedar_expressions.specs.View.{view}
 use Rattle.cedar_layers.specs.Policies.{slots_view}
-use Rattle.cedar_extensions.specs.StoredLaws.{calls_functional, calls_meet_no_limit}
 use Rattle.cedar_evaluation.specs.Promises.{IsPromised}
 use Rattle.cedar_evaluator.specs.Decisions.{PartlyDecidesBy}
 use Rattle.cedar_evaluator.specs.Evaluations.{setting_of, calls_in}
@@ -25,6 +24,6 @@ returns-in-Some-false g c ok =
     let levels : suc (c.args.self.now.limit - 1) ≡ c.args.self.now.limit = omega (arith, c.if-self-eq0.false) in
     let told = of_some (λ b. IsTold c.args.self.now (c.args.self.now.limit - 1) (view c.args.scope.now) (answers_bool b)) c.told_scope.result _ (c.in-Some-false.is ∙ ap Some c.in-Some-false.field-0-test) c.told_scope.ensures in
     let runs = told_false c.args.self.now (c.args.self.now.limit - 1) (view c.args.scope.now) (view c.args.clause.now) told (slots_view c.args.slots.now) in
-    bool_promised (setting_of c.args.self.now (slots_view c.args.slots.now)) (calls_in c.args.self.now) (calls_functional c.args.self.now.given.extensions.now) (calls_meet_no_limit c.args.self.now.given.extensions.now) refl c.args.self.now.limit (view c.args.condition.now) false
+    bool_promised c.args.self.now (slots_view c.args.slots.now) c.args.self.now.limit (view c.args.condition.now) false
     (subst (λ t. Runs (setting_of c.args.self.now (slots_view c.args.slots.now)) (calls_in c.args.self.now) c.args.self.now.limit t (answers_bool false)) (sym c.requires)
     (subst (λ n. Runs (setting_of c.args.self.now (slots_view c.args.slots.now)) (calls_in c.args.self.now) n (both (view c.args.scope.now) (view c.args.clause.now)) (answers_bool false)) levels runs))
