@@ -42,22 +42,25 @@ pub struct ExtensionValue {
 }
 
 impl Representation {
-    ghost use Rattle.cedar_names.specs.Names.{name_text};
-    ghost use Rattle.cedar_data.specs.Representations.{function_of, arguments_of};
+    ghost use Rattle.cedar_names.specs.Names.{name_text, name_loc};
+    ghost use Rattle.cedar_data.specs.Representations.{function_of, function_loc, arguments_of, whole_arguments};
 
     /// The call of this function on these arguments.
     pub fn new(fn_name: Name, args: Rc<Vec<Expr>>) -> Representation
         requires restricted { are_restricted (terms_view args.value.items) ≡ true }
         requires known { have_unknown (terms_view args.value.items) ≡ false }
         ensures name { function_of result ≡ name_text fn_name }
+        ensures loc { function_loc result ≡ name_loc fn_name }
         ensures args { arguments_of result ≡ terms_view args.value.items }
+        ensures whole { whole_arguments result ≡ args.value.items }
     {
         Representation { fn_name, args }
     }
 
     /// The function that the value is written with.
     pub fn fn_name(&self) -> &Name
-        ensures { name_text result.now ≡ function_of self.now }
+        ensures name { name_text result.now ≡ function_of self.now }
+        ensures loc { name_loc result.now ≡ function_loc self.now }
     {
         &self.fn_name
     }
@@ -65,6 +68,7 @@ impl Representation {
     /// The arguments that the function is called on.
     pub fn args(&self) -> &Rc<Vec<Expr>>
         ensures args { terms_view result.now.value.items ≡ arguments_of self.now }
+        ensures whole { result.now.value.items ≡ whole_arguments self.now }
         ensures restricted { are_restricted (terms_view result.now.value.items) ≡ true }
         ensures known { have_unknown (terms_view result.now.value.items) ≡ false }
     {
@@ -73,10 +77,9 @@ impl Representation {
 }
 
 impl Clone for Representation {
-    ghost use Rattle.cedar_names.specs.Names.{name_loc};
-    ghost use Rattle.cedar_data.specs.Representations.{function_of, arguments_of};
+    ghost use Rattle.cedar_data.specs.Representations.{IsRepresentationCopy};
 
-    ghost is_clone = { λ r copy. (function_of copy ≡ function_of r) × (arguments_of copy ≡ arguments_of r) × (name_loc copy.fn_name ≡ name_loc r.fn_name) };
+    ghost is_clone = { IsRepresentationCopy };
 
     fn clone(&self) -> Result<Representation, AllocError> {
         Ok(Representation {
@@ -110,10 +113,9 @@ impl Eq for Representation {
 }
 
 impl Clone for ExtensionValue {
-    ghost use Rattle.cedar_names.specs.Names.{name_loc};
-    ghost use Rattle.cedar_data.specs.Representations.{extension_what};
+    ghost use Rattle.cedar_data.specs.Representations.{IsExtensionCopy};
 
-    ghost is_clone = { λ e copy. (extension_what copy ≡ extension_what e) × (name_loc copy.typename ≡ name_loc e.typename) };
+    ghost is_clone = { IsExtensionCopy };
 
     fn clone(&self) -> Result<ExtensionValue, AllocError> {
         let typename = self.typename.clone()?;

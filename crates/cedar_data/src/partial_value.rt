@@ -32,14 +32,15 @@ impl Model for ResidualExpr {
 }
 
 impl ResidualExpr {
-    ghost use Rattle.cedar_expressions.specs.View.{expr_loc};
-    ghost use Rattle.cedar_data.specs.Residuals.{residual_term, residual_loc};
+    ghost use Rattle.cedar_expressions.specs.View.{expr_loc, expr_kind_of};
+    ghost use Rattle.cedar_data.specs.Residuals.{residual_term, residual_loc, residual_expr};
 
     /// The residual of an expression that holds an unknown.
     pub fn new(expr: Expr) -> ResidualExpr
         requires { has_unknown (view expr) ≡ true }
         ensures view { residual_term result ≡ view expr }
         ensures loc { residual_loc result ≡ expr_loc expr }
+        ensures whole { residual_expr result ≡ expr }
     {
         ResidualExpr { expr }
     }
@@ -48,6 +49,7 @@ impl ResidualExpr {
     pub fn as_expr(&self) -> &Expr
         ensures view { view result.now ≡ residual_term self.now }
         ensures loc { expr_loc result.now ≡ residual_loc self.now }
+        ensures whole { result.now ≡ residual_expr self.now }
         ensures unknown { has_unknown (view result.now) ≡ true }
     {
         &self.expr
@@ -57,6 +59,7 @@ impl ResidualExpr {
     pub fn into_expr(self) -> Expr
         ensures view { view result ≡ residual_term self }
         ensures loc { expr_loc result ≡ residual_loc self }
+        ensures whole { result ≡ residual_expr self }
         ensures unknown { has_unknown (view result) ≡ true }
     {
         self.expr
@@ -65,6 +68,7 @@ impl ResidualExpr {
     /// The same residual with this location, or with none.
     pub fn with_maybe_source_loc(self, loc: Option<Loc>) -> ResidualExpr
         ensures view { residual_term result ≡ residual_term self }
+        ensures kind { expr_kind_of (residual_expr result) ≡ expr_kind_of (residual_expr self) }
         ensures loc { residual_loc result ≡ loc }
     {
         ResidualExpr {
@@ -74,9 +78,9 @@ impl ResidualExpr {
 }
 
 impl Clone for ResidualExpr {
-    ghost use Rattle.cedar_data.specs.Residuals.{residual_term, residual_loc};
+    ghost use Rattle.cedar_data.specs.Residuals.{IsResidualCopy};
 
-    ghost is_clone = { λ r copy. (residual_term copy ≡ residual_term r) × (residual_loc copy ≡ residual_loc r) };
+    ghost is_clone = { IsResidualCopy };
 
     fn clone(&self) -> Result<ResidualExpr, AllocError> {
         Ok(ResidualExpr {
@@ -97,13 +101,16 @@ pub enum PartialValue {
 impl PartialValue {
     ghost use Rattle.std.specs.Prelude.{IfOk};
     ghost use Rattle.cedar_expressions.specs.View.{expr_loc};
-    ghost use Rattle.cedar_data.specs.Residuals.{partial_view, partial_loc, partial_inside, partial_term};
+    ghost use Rattle.cedar_expressions.specs.Nodes.{parts_of};
+    ghost use Rattle.cedar_data.specs.Residuals.{partial_view, partial_loc, partial_inside, partial_kind, partial_term};
+    ghost use Rattle.cedar_data.specs.Residuals.{IfResidual, residual_parts};
 
     /// The same value or residual with this location, or with none.
     pub fn with_maybe_source_loc(self, loc: Option<Loc>) -> PartialValue
         ensures view { partial_view result ≡ partial_view self }
         ensures loc { partial_loc result ≡ loc }
         ensures inside { partial_inside result ≡ partial_inside self }
+        ensures kind { partial_kind result ≡ partial_kind self }
     {
         match self {
             PartialValue::Value(value) => PartialValue::Value(value.with_maybe_source_loc(loc)),
@@ -117,6 +124,7 @@ impl PartialValue {
     pub fn as_expr(&self, alloc: Global) -> Result<Expr, AllocError>
         ensures view { IfOk result (λ e. view e ≡ partial_term (partial_view self.now)) }
         ensures loc { IfOk result (λ e. expr_loc e ≡ partial_loc self.now) }
+        ensures parts { IfOk result (λ e. IfResidual self.now (λ r. parts_of e ≡ residual_parts r)) }
     {
         match self {
             PartialValue::Value(value) => Ok(value.to_expr(alloc)?),
@@ -126,10 +134,9 @@ impl PartialValue {
 }
 
 impl Clone for PartialValue {
-    ghost use Rattle.cedar_data.specs.Residuals.{partial_view, partial_loc, partial_inside};
+    ghost use Rattle.cedar_data.specs.Residuals.{IsPartialCopy};
 
-    ghost is_clone = { λ p copy. (partial_view copy ≡ partial_view p) × (partial_loc copy ≡ partial_loc p) ×
-        (partial_inside copy ≡ partial_inside p) };
+    ghost is_clone = { IsPartialCopy };
 
     fn clone(&self) -> Result<PartialValue, AllocError> {
         match self {
