@@ -1,5 +1,5 @@
 -- Decisions as plain data.
-use Rattle.std.specs.Prelude.{codes}
+use Rattle.std.specs.Prelude.{◌||◌, Bool, cond, not, Option, Some, None, codes}
 use Rattle.cedar_model.specs.Terms.{Text}
 use Rattle.cedar_model.specs.Policies as model
 use Rattle.cedar_decisions.specs.declared.decision.Decision.{Decision}
@@ -12,3 +12,11 @@ decision_view decisions.Deny = model.deny
 abbrev pub decision_text : Decision → Text
 decision_text decisions.Allow = codes "Allow"
 decision_text decisions.Deny = codes "Deny"
+
+-- the decision, where it is known, by whether there are such policies: `Deny` with a satisfied forbid, or where no permit
+-- is satisfied or residual; else none beside a residual forbid; else `Allow` with a satisfied permit; else none
+abbrev pub known_decision : Bool → Bool → Bool → Bool → Option model.Decision
+known_decision true_permit residual_permit true_forbid residual_forbid =
+    cond true_forbid (Some model.deny)
+    (cond (not (true_permit || residual_permit)) (Some model.deny)
+    (cond residual_forbid None (cond true_permit (Some model.allow) None)))

@@ -1,7 +1,7 @@
 //! A decision, and the rules by which it comes about.
-ghost use Rattle.std.specs.Prelude.{◌≡◌, ◌||◌, ◌&&◌, cond, not, Some, None, option_map};
+ghost use Rattle.std.specs.Prelude.{◌≡◌, ◌&&◌, cond, not, Some, option_map};
 ghost use Rattle.cedar_model.specs.Policies.{allow, deny};
-ghost use Rattle.cedar_decisions.specs.Decisions.{decision_view, decision_text};
+ghost use Rattle.cedar_decisions.specs.Decisions.{decision_view, decision_text, known_decision};
 
 use std::fmt;
 
@@ -34,7 +34,7 @@ pub fn decide(
     true_forbid: bool,
     residual_forbid: bool,
 ) -> Option<Decision>
-    ensures { option_map decision_view result ≡ cond true_forbid (Some deny) (cond (not (true_permit || residual_permit)) (Some deny) (cond residual_forbid None (cond true_permit (Some allow) None))) }
+    ensures { option_map decision_view result ≡ known_decision true_permit residual_permit true_forbid residual_forbid }
 {
     match (true_forbid, true_permit, residual_permit, residual_forbid) {
         (true, _, _, _) => Some(Decision::Deny),
