@@ -1,20 +1,23 @@
 -- A response that is made concrete.
 use Rattle.std.proofs.Common.{◌≡◌, Bool, true, false, cond, not, ◌&&◌, ◌||◌, List, [], ◌∷◌, ◌++◌, map, Option, refl, sym, ap, ◌∙◌, subst, append_assoc}
-use Rattle.std.proofs.lemmas.List.{map-append}
+use Rattle.std.proofs.lemmas.List.{append-nil, map-append}
 use Rattle.std.specs.Prelude.{Result, Ok, IfOk, OnOk}
 use Rattle.cedar_model.specs.Terms.{Text}
 use Rattle.cedar_model.specs.Outcomes.{has_text}
 use Rattle.cedar_model.specs.Failures.{Failure, residual_is_left}
 use Rattle.cedar_model.specs.Policies as model
-use Rattle.cedar_model.specs.Policies.{Effect, permit, forbid, allow, deny, skip}
+use Rattle.cedar_model.specs.Policies.{Effect, permit, forbid, allow, deny, ErrorHandling, skip, forbid_on_error}
 use Rattle.cedar_model.specs.Responses.{Row, clause_of}
 use Rattle.cedar_model.specs.Reports.{some_row, ids, trues, residuals, must_determine, residual_error, concretized}
+use Rattle.cedar_model.specs.Reports.{concrete_decision, concrete_reasons, HaveNoResidual}
+use Rattle.cedar_model.proofs.Concrete.{concrete_is_defined}
 use Rattle.cedar_names.specs.declared.names.Loc.{Loc}
 use Rattle.cedar_expressions.specs.View.{view, expr_loc}
 use Rattle.cedar_layers.specs.Policies.{policy_id_text}
 use Rattle.cedar_responses.specs.declared.partial_response.PartialResponse.{PartialResponse}
 use Rattle.cedar_responses.specs.Rows.{ResidualEntry, residual_rows, rows_in, locs_in, located_view, rows_view}
-use Rattle.cedar_responses.specs.Concrete.{id_texts, errors_left, places_left, concrete_places}
+use Rattle.cedar_responses.specs.Concrete.{id_texts, errors_left, places_left, places_with}
+use Rattle.cedar_responses.specs.Promises.{IsDecidedByPolicies}
 use Rattle.cedar_responses.proofs.Naming.{ids_of_trues}
 use Rattle.cedar_responses.proofs.Rows.{residual_permits, residual_forbids, trues_permit, trues_forbid, residuals_permit, residuals_forbid}
 
@@ -77,7 +80,39 @@ module _ (r : PartialResponse) where
       λ i. record { decided_as = a i; is_reason = b i; errors = c i }
 
   pub concrete_at : (recorded places : List (Option Loc)) → places ≡ places_left r.residual_forbids.entries ++ (places_left r.residual_permits.entries ++ recorded)
-      → places ≡ concrete_places (located_view r) recorded
+      → places ≡ places_with (located_view r) recorded
   concrete_at recorded places h =
       h ∙ sym ((λ i. locs_in (residual_forbids r i) ++ (locs_in (residual_permits r i) ++ recorded))
       ∙ (λ i. locs_of_residuals forbid r.residual_forbids.entries i ++ (locs_of_residuals permit r.residual_permits.entries i ++ recorded)))
+
+-- ---- where no residual is left
+
+or_false : (b : Bool) → (b || false) ≡ b
+or_false true = refl
+or_false false = refl
+
+none_here : (rows : List Row) → rows ≡ [] → some_row rows ≡ false
+unfolding some_row
+none_here rows h = ap some_row h
+
+-- both ways to handle errors decide alike
+decision_alike : (mode : ErrorHandling) (rows : List Row) → HaveNoResidual rows → concrete_decision skip rows ≡ concrete_decision mode rows
+decision_alike skip rows none = refl
+decision_alike forbid_on_error rows none =
+    let f = some_row (trues forbid rows) in
+    ap (λ b. cond (some_row (trues permit rows) && not b) allow deny)
+    (sym (ap (λ b. f || b) (none_here (residuals forbid rows) none.1) ∙ or_false f))
+
+-- for the same reasons
+reasons_alike : (mode : ErrorHandling) (rows : List Row) → HaveNoResidual rows → concrete_reasons skip rows ≡ concrete_reasons mode rows
+reasons_alike skip rows none = refl
+reasons_alike forbid_on_error rows none =
+    ap (λ rs. cond (some_row (trues forbid rows) || some_row (residuals forbid rows)) rs (trues permit rows))
+    (sym (ap (λ rs. trues forbid rows ++ rs) none.1 ∙ append-nil (trues forbid rows)))
+
+pub decided_by_policies : (rows : List Row) (errors : List (Text × Failure)) → IsDecidedByPolicies rows (concretized skip rows errors)
+decided_by_policies rows errors none mode X ans w ps stand =
+    let h = concrete_is_defined mode X ans w ps rows stand none in (
+      decision_alike mode rows none ∙ h.0,
+      λ t. ap (λ rs. has_text t (ids rs)) (reasons_alike mode rows none) ∙ h.1 t,
+    )

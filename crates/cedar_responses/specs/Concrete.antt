@@ -1,13 +1,20 @@
 -- What a partial response is made of once it is made concrete.
-use Rattle.std.specs.Prelude.{List, ◌++◌, map, Option}
+use Rattle.std.specs.Prelude.{◌≡◌, List, ◌++◌, map, Option}
 use Rattle.cedar_model.specs.Terms.{Text}
 use Rattle.cedar_model.specs.Failures.{Failure, residual_is_left}
-use Rattle.cedar_model.specs.Policies.{permit, forbid}
+use Rattle.cedar_model.specs.Policies.{permit, forbid, skip}
 use Rattle.cedar_model.specs.Chains.{is_residual}
+use Rattle.cedar_model.specs.Authorizations.{Authorized}
+use Rattle.cedar_model.specs.Reports.{concretized}
+use Rattle.cedar_decisions.specs.Decisions.{decision_view}
 use Rattle.cedar_names.specs.declared.names.Loc.{Loc}
 use Rattle.cedar_expressions.specs.View.{view, expr_loc}
 use Rattle.cedar_layers.specs.Policies.{policy_id_text}
-use Rattle.cedar_responses.specs.Rows.{TrueEntry, ResidualEntry, Located, locs_in, located_of}
+use Rattle.cedar_responses.specs.declared.partial_response.PartialResponse.{PartialResponse}
+use Rattle.cedar_responses.specs.declared.response.Response.{Response}
+use Rattle.cedar_responses.specs.Promises.{KeepsDecision, IsDecidedByPolicies}
+use Rattle.cedar_responses.specs.Responses.{errors_view, error_places, response_view, response_places}
+use Rattle.cedar_responses.specs.Rows.{TrueEntry, ResidualEntry, Located, locs_in, located_of, located_view, rows_view}
 
 -- the ids of entries
 abbrev pub id_texts : List TrueEntry → List Text
@@ -21,7 +28,22 @@ errors_left es = map (λ e. (policy_id_text e.0, residual_is_left (view e.1.0.va
 abbrev pub places_left : List ResidualEntry → List (Option Loc)
 places_left es = map (λ e. expr_loc e.1.0.value) es
 
--- where the errors of a concrete response arise: at the residual forbids, at the residual permits, and where those recorded do
-abbrev pub concrete_places : List Located → List (Option Loc) → List (Option Loc)
-concrete_places ls recorded =
+-- where these stand at the residual forbids of rows, at the residual permits, and where those recorded arose
+abbrev pub places_with : List Located → List (Option Loc) → List (Option Loc)
+places_with ls recorded =
     locs_in (located_of forbid is_residual ls) ++ (locs_in (located_of permit is_residual ls) ++ recorded)
+
+-- what a partial response is made concrete as: each residual counts as an error
+abbrev pub concrete_response : PartialResponse → Authorized
+concrete_response p = concretized skip (rows_view p) (errors_view p.errors.items)
+
+-- where its errors arise: at the residual forbids, at the residual permits, and where those recorded do
+abbrev pub concrete_places : PartialResponse → List (Option Loc)
+concrete_places p = places_with (located_view p) (error_places p.errors.items)
+
+-- a response is what a partial response is made concrete as
+pub record IsConcreteOf (p : PartialResponse) (r : Response) : Type 0 where
+  pub response : response_view r ≡ concrete_response p
+  pub places : response_places r ≡ concrete_places p
+  pub given : KeepsDecision (rows_view p) (decision_view r.decision)
+  pub decided : IsDecidedByPolicies (rows_view p) (response_view r)

@@ -41,7 +41,15 @@ error_place (PolicyEvaluationError id e) = error_loc e
 abbrev pub error_places : List AuthorizationError → List (Option Loc)
 error_places es = map error_place es
 
--- a response as plain data
+-- a response as plain data, without the places of its errors
 abbrev pub response_view : Response → Authorized
 response_view r =
-    record { decided_as = decision_view r.decision; is_reason = has_id r.diagnostics.reason; errors = errors_view r.diagnostics.errors.items }
+    record {
+      decided_as = decision_view r.decision;
+      is_reason = has_id r.diagnostics.reason;
+      errors = errors_view r.diagnostics.errors.items;
+    }
+
+-- where its errors arose
+abbrev pub response_places : Response → List (Option Loc)
+response_places r = error_places r.diagnostics.errors.items

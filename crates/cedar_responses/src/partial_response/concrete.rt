@@ -1,16 +1,16 @@
 //! A partial response made concrete.
-ghost use Rattle.std.specs.Prelude.{◌≡◌, [], ◌∷◌, ◌++◌, ◌&&◌, Some, Ok, not, cond, map, IfOk, OnOk};
+ghost use Rattle.std.specs.Prelude.{◌≡◌, [], ◌∷◌, ◌++◌, Ok, cond, IfOk, OnOk};
 ghost use Rattle.cedar_model.specs.Outcomes.{has_text};
-ghost use Rattle.cedar_model.specs.Policies.{skip, allow, deny};
-ghost use Rattle.cedar_model.specs.Policies as model;
-ghost use Rattle.cedar_model.specs.Reports.{given_decision, concretized};
 ghost use Rattle.cedar_layers.specs.Policies.{policy_id_text};
 ghost use Rattle.cedar_expressions.specs.View.{view, expr_loc};
 ghost use Rattle.cedar_model.specs.Failures.{residual_is_left};
 ghost use Rattle.cedar_decisions.specs.Decisions.{decision_view};
-ghost use Rattle.cedar_responses.specs.Responses.{error_view, errors_view, error_place, error_places, has_id, response_view};
-ghost use Rattle.cedar_responses.specs.Rows.{located_view, rows_view};
-ghost use Rattle.cedar_responses.specs.Concrete.{id_texts, errors_left, places_left, concrete_places};
+ghost use Rattle.cedar_responses.specs.Responses.{error_view, errors_view, error_place, error_places, has_id};
+ghost use Rattle.cedar_responses.specs.Responses.{response_view, response_places};
+ghost use Rattle.cedar_responses.specs.Rows.{rows_view};
+ghost use Rattle.cedar_responses.specs.Promises.{KeepsDecision, IsDecidedByPolicies};
+ghost use Rattle.cedar_responses.specs.Concrete.{concrete_response, concrete_places, IsConcreteOf};
+ghost use Rattle.cedar_responses.specs.Concrete.{id_texts, errors_left, places_left};
 
 use super::PartialResponse;
 use crate::beside::{add_last, beside, both};
@@ -29,11 +29,13 @@ use std::rc::Rc;
 impl PartialResponse {
     /// The response where each residual counts as an error, `NonValue` at the residual's location: `Allow` where a permit is
     /// satisfied and no forbid is, for the reasons that must determine the decision; with the errors of residual forbids, then of
-    /// residual permits, then those recorded. A decision that is given stays. Refuses only for want of memory.
+    /// residual permits, then those recorded. A decision that is given stays. Where no residual is left, decision and reasons are
+    /// those of the policies, wherever what is reported of them stands. Refuses only for want of memory.
     pub fn concretize(self, alloc: Global) -> Result<Response, AllocError>
-        ensures response { IfOk result (λ r. response_view r ≡ concretized skip (rows_view self) (errors_view self.errors.items)) }
-        ensures places { IfOk result (λ r. error_places r.diagnostics.errors.items ≡ concrete_places (located_view self) (error_places self.errors.items)) }
-        ensures given { IfOk result (λ r. (d : model.Decision) → given_decision (rows_view self) ≡ Some d → decision_view r.decision ≡ d) }
+        ensures response { IfOk result (λ r. response_view r ≡ concrete_response self) }
+        ensures places { IfOk result (λ r. response_places r ≡ concrete_places self) }
+        ensures given { IfOk result (λ r. KeepsDecision (rows_view self) (decision_view r.decision)) }
+        ensures decided { IfOk result (λ r. IsDecidedByPolicies (rows_view self) (response_view r)) }
     {
         let has_true_permit = self.has_true_permit();
         let has_true_forbid = self.has_true_forbid();
@@ -75,7 +77,7 @@ impl PartialResponse {
 impl TryFrom<PartialResponse> for Response {
     type Error = AllocError;
 
-    ghost try_from_gives = { λ p r. IfOk r (λ r. (response_view r ≡ concretized skip (rows_view p) (errors_view p.errors.items)) × (error_places r.diagnostics.errors.items ≡ concrete_places (located_view p) (error_places p.errors.items))) };
+    ghost try_from_gives = { λ p r. IfOk r (IsConcreteOf p) };
 
     fn try_from(response: PartialResponse) -> Result<Response, AllocError> {
         let alloc = *response.satisfied_permits.allocator();
