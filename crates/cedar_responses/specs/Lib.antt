@@ -1,4 +1,5 @@
 pub mod Concrete
+pub mod ErrorStates
 pub mod Found
 pub mod Kept
 pub mod Promises

@@ -3,6 +3,7 @@
 
 mod beside;
 mod err;
+pub mod laws;
 mod partial_response;
 mod response;
 pub mod shared;

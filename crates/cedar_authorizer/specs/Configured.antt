@@ -1,0 +1,30 @@
+-- What an authorizer is configured with, and what it is asked.
+use Rattle.std.specs.Prelude.{ℕ}
+use Rattle.cedar_model.specs.Settings.{shallow, Setting}
+use Rattle.cedar_model.specs.Policies.{skip}
+use Rattle.cedar_model.specs.Configurations.{Configuration, configured}
+use Rattle.cedar_model.specs.Chains.{at_step, no_values}
+use Rattle.cedar_extensions.specs.declared.extensions.Extensions.{Extensions}
+use Rattle.cedar_extensions.specs.Extensions.{extensions_view, calls_of}
+use Rattle.cedar_layers.specs.declared.policies.entities.Entities.{Entities}
+use Rattle.cedar_layers.specs.Stores.{store_view}
+use Rattle.cedar_requests.specs.declared.request.Request.{Request}
+use Rattle.cedar_requests.specs.Requests.{request_view}
+use Rattle.cedar_authorizer.specs.declared.authorizer.Authorizer.{Authorizer}
+
+-- the extensions that it uses
+abbrev pub extensions_of : {X : Type 0} {F : X → Type 0} {g : _} → Authorizer X F g → Extensions X F g
+extensions_of a = a.extensions.now
+
+-- how many levels deep it evaluates
+abbrev pub limit_of : {X : Type 0} {F : X → Type 0} {g : _} → Authorizer X F g → ℕ
+limit_of a = a.limit
+
+-- what it is configured with: errors are skipped, and a stored residual answers itself
+abbrev pub configuration : {X : Type 0} {F : X → Type 0} {g : _} → Authorizer X F g → Configuration
+configuration a = configured (calls_of (extensions_of a)) skip shallow (extensions_view (extensions_of a)) (limit_of a)
+
+-- what it is asked: a request over a store, where no unknown has a value
+abbrev pub asked : {X : Type 0} {F : X → Type 0} {g : _} → Authorizer X F g → Request → Entities → Setting
+asked a request entities =
+    at_step (extensions_view (extensions_of a)) shallow (request_view request) (store_view entities) no_values
