@@ -1,145 +1,125 @@
 -- A chain, step by step, and the headline.
 use Rattle.std.specs.Prelude.{◌≡◌, ℕ, true, false, List, [], ◌∷◌, map, Option, Some, None, option_map, IfSome, IfOk, MatchBool, MatchResult, Result, Ok, Err}
 use Rattle.std.proofs.Common.{refl, sym, ap, ◌∙◌, subst}
-use Rattle.cedar_model.specs.World.{Extensions}
-use Rattle.cedar_model.specs.Settings.{RequestPart, Store, Setting}
+use Rattle.cedar_model.specs.Configurations.{Configuration}
+use Rattle.cedar_model.specs.Headline.{Premises}
+use Rattle.cedar_model.specs.Settings.{Store, Setting}
 use Rattle.cedar_model.specs.Rules.{StoredCalls}
 use Rattle.cedar_model.specs.Agreement.{AgreesWithFunctions, HasNothingUnknown}
 use Rattle.cedar_model.specs.Policies.{Policy, skip}
 use Rattle.cedar_model.specs.Responses.{AreConditions, RunOf}
 use Rattle.cedar_model.specs.Refusals.{Refusal}
-use Rattle.cedar_model.specs.Chains.{Mapping, Response, at_step, without_map, has_limit, Begins, Steps, ChainAnswers}
-use Rattle.cedar_model.specs.Authorizations.{HaveNoLimit}
+use Rattle.cedar_model.specs.Chains.{Mapping, Response, without_map, has_limit, Begins, Steps, ChainAnswers}
 use Rattle.cedar_model.proofs.Bounds as bounds
 use Rattle.cedar_model.proofs.Chaining as chaining
 use Rattle.cedar_model.proofs.Concrete as concrete
+use Rattle.cedar_model.proofs.Configured.{configured_by}
 use Rattle.cedar_layers.specs.Policies.{PolicyView, decides_as}
 use Rattle.cedar_requests.specs.Requests.{request_view}
 use Rattle.cedar_responses.specs.declared.partial_response.PartialResponse.{PartialResponse}
-use Rattle.cedar_responses.specs.Responses.{errors_view}
 use Rattle.cedar_responses.specs.Rows.{rows_view}
 use Rattle.cedar_reauthorization.specs.declared.err.ReauthorizationError.{ReauthorizationError}
-use Rattle.cedar_reauthorization.specs.Errors.{step_answer_by}
-use Rattle.cedar_authorizer.specs.Responding.{authorization_of}
 use Rattle.cedar_authorizer.specs.Headline.{LeadsTo, IsTakenFurther, IsHeadline, LeavesNothing, IsChain}
-use Rattle.cedar_authorizer.specs.Running.{IsRun}
-use Rattle.cedar_authorizer.specs.Steps.{response_said, Says, IsStep}
+use Rattle.cedar_authorizer.specs.Running.{errors_of, request_of, IsRun}
+use Rattle.cedar_authorizer.specs.Steps.{step_answer, response_said, Says, IsStep}
 use Rattle.cedar_authorizer.proofs.Left.{none_left}
 use Rattle.cedar_authorizer.proofs.Runs.{run_known}
 use Rattle.cedar_authorizer.proofs.Same.{same_carried, same_step, none_residual}
 use Rattle.cedar_authorizer.proofs.Stepped.{same_rows, stand_sorted}
 
-pub conditions_of : (ps : List PolicyView) → AreConditions (map decides_as ps)
-conditions_of [] = tt
-conditions_of (p ∷ ps) = (tt, conditions_of ps)
-
-module _ (s : Setting) (calls : StoredCalls) (levels : ℕ) (first : Response) (all : List (Mapping × Store)) where
+module _ (c : Configuration) (first : Response) (all : List (Mapping × Store)) where
   -- steps were taken up to this response, which the model's says, and these are left: what they lead to is what all of
   -- them lead to
   pub record IsOnTheWay (left : List (Mapping × Store)) (r : PartialResponse) : Type 0 where
     pub now : Response
     pub says : Says r now
-    pub leads : (x : Result Response Refusal) → ChainAnswers skip s calls levels now left x → ChainAnswers skip s calls levels first all x
+    pub leads : (x : Result Response Refusal) → ChainAnswers c now left x → ChainAnswers c first all x
 
-  stops_here : (step : Mapping × Store) (left : List (Mapping × Store)) (r : PartialResponse) → IsOnTheWay (step ∷ left) r → has_limit (errors_view r.errors.items) ≡ true → LeadsTo s calls levels all first (Ok r)
+  stops_here : (step : Mapping × Store) (left : List (Mapping × Store)) (r : PartialResponse) → IsOnTheWay (step ∷ left) r → has_limit (errors_of r) ≡ true → LeadsTo c all first (Ok r)
   stops_here step left r way e =
       let met : has_limit way.now.errors ≡ true = ap has_limit way.says.errors_are ∙ e in (
         way.now,
-        way.leads (Ok way.now) (subst (λ b. MatchBool b (◌≡◌ {A = Result Response Refusal} (Ok way.now) (Ok way.now)) ((y : Result Response Refusal) × Steps skip s calls levels step.0 step.1 way.now y
-            × MatchResult y (λ next. ChainAnswers skip s calls levels next left (Ok way.now)) (λ x. ◌≡◌ {A = Result Response Refusal} (Ok way.now) (Err x)))) (sym met) refl),
+        way.leads (Ok way.now) (subst (λ b. MatchBool b (◌≡◌ {A = Result Response Refusal} (Ok way.now) (Ok way.now)) ((y : Result Response Refusal) × Steps c step.0 step.1 way.now y
+            × MatchResult y (λ next. ChainAnswers c next left (Ok way.now)) (λ x. ◌≡◌ {A = Result Response Refusal} (Ok way.now) (Err x)))) (sym met) refl),
         way.says,
       )
 
-  ends_here : (left : List (Mapping × Store)) (r : PartialResponse) → left ≡ [] → IsOnTheWay left r → LeadsTo s calls levels all first (Ok r)
-  ends_here left r e way = (way.now, way.leads (Ok way.now) (subst (λ l. ChainAnswers skip s calls levels way.now l (Ok way.now)) (sym e) refl), way.says)
+  ends_here : (left : List (Mapping × Store)) (r : PartialResponse) → left ≡ [] → IsOnTheWay left r → LeadsTo c all first (Ok r)
+  ends_here left r e way = (way.now, way.leads (Ok way.now) (subst (λ l. ChainAnswers c way.now l (Ok way.now)) (sym e) refl), way.says)
 
   -- ---- a step more
 
-  module _ (z : Setting) (step : Mapping × Store) (settings_same : (r : RequestPart) → at_step z r step.1 step.0 ≡ at_step s r step.1 step.0) (left : List (Mapping × Store)) (r : PartialResponse)
-      (way : IsOnTheWay (step ∷ left) r) (quiet : has_limit (errors_view r.errors.items) ≡ false) where
-    from_now : (x : Result Response Refusal) → Steps skip z calls levels step.0 step.1 (response_said r) x → Steps skip s calls levels step.0 step.1 way.now x
+  module _ (step : Mapping × Store) (left : List (Mapping × Store)) (r : PartialResponse) (way : IsOnTheWay (step ∷ left) r) (quiet : has_limit (errors_of r) ≡ false) where
+    from_now : (x : Result Response Refusal) → Steps c step.0 step.1 (response_said r) x → Steps c step.0 step.1 way.now x
     from_now x h =
-        same_step z s calls levels step.0 step.1 settings_same (response_said r) way.now (sym way.says.mode_is) (sym way.says.request_is)
+        same_step c step.0 step.1 (response_said r) way.now (sym way.says.mode_is) (sym way.says.request_is)
         (same_carried way.now.rows (rows_view r) (same_rows way.now.rows r way.says.held)) x h
 
-    by_step : (x : Result Response Refusal) → (y : Result Response Refusal) × Steps skip s calls levels step.0 step.1 way.now y
-        × MatchResult y (λ next. ChainAnswers skip s calls levels next left x) (λ e. x ≡ Err e) → ChainAnswers skip s calls levels way.now (step ∷ left) x
+    by_step : (x : Result Response Refusal) → (y : Result Response Refusal) × Steps c step.0 step.1 way.now y
+        × MatchResult y (λ next. ChainAnswers c next left x) (λ e. x ≡ Err e) → ChainAnswers c way.now (step ∷ left) x
     by_step x h =
-        subst (λ b. MatchBool b (x ≡ Ok way.now) ((y : Result Response Refusal) × Steps skip s calls levels step.0 step.1 way.now y
-        × MatchResult y (λ next. ChainAnswers skip s calls levels next left x) (λ e. x ≡ Err e))) (sym (ap has_limit way.says.errors_are ∙ quiet)) h
+        subst (λ b. MatchBool b (x ≡ Ok way.now) ((y : Result Response Refusal) × Steps c step.0 step.1 way.now y
+        × MatchResult y (λ next. ChainAnswers c next left x) (λ e. x ≡ Err e))) (sym (ap has_limit way.says.errors_are ∙ quiet)) h
 
-    one_step_more : (n : PartialResponse) → IsStep z calls levels step.0 step.1 (response_said r) (Ok n) → IsOnTheWay left n
+    one_step_more : (n : PartialResponse) → IsStep c step (response_said r) (Ok n) → IsOnTheWay left n
     one_step_more n (new, taken_to, says) = record {
       now = new;
       says = says;
       leads = λ x h. way.leads x (by_step x (Ok new, from_now (Ok new) taken_to, h));
     }
 
-    step_is_refused : (e : Refusal) → IsStep z calls levels step.0 step.1 (response_said r) (Err e) → LeadsTo s calls levels all first (Err e)
+    step_is_refused : (e : Refusal) → IsStep c step (response_said r) (Err e) → LeadsTo c all first (Err e)
     step_is_refused e h = way.leads (Err e) (by_step (Err e) (Err e, from_now (Err e) h, refl))
 
 -- ---- taken further from a response, whatever was given before it
 
-module _ (X : Extensions) (calls : StoredCalls) (levels : ℕ) (begun : PartialResponse) (all : List (Mapping × Store)) where
+module _ (c : Configuration) (begun : PartialResponse) (all : List (Mapping × Store)) where
   abbrev pub AreTaken : List (Mapping × Store) → PartialResponse → Type 0
-  AreTaken left r =
-      (request : RequestPart) (store : Store) (first : Response) → Says begun first → IsOnTheWay (authorization_of request store X) calls levels first all left r
+  AreTaken left r = (first : Response) → Says begun first → IsOnTheWay c first all left r
 
   pub none_taken : AreTaken all begun
-  none_taken request store first says = record { now = first; says = says; leads = λ x h. h }
+  none_taken first says = record { now = first; says = says; leads = λ x h. h }
 
-  pub ends_with : (left : List (Mapping × Store)) (r : PartialResponse) → left ≡ [] → AreTaken left r → IsTakenFurther X calls levels all begun (Ok r)
-  ends_with left r e taken request store first says = ends_here (authorization_of request store X) calls levels first all left r e (taken request store first says)
+  pub ends_with : (left : List (Mapping × Store)) (r : PartialResponse) → left ≡ [] → AreTaken left r → IsTakenFurther c all begun (Ok r)
+  ends_with left r e taken first says = ends_here c first all left r e (taken first says)
 
   module _ (step : Mapping × Store) (left : List (Mapping × Store)) (r : PartialResponse) (taken : AreTaken (step ∷ left) r) where
-    pub stops_with : has_limit (errors_view r.errors.items) ≡ true → IsTakenFurther X calls levels all begun (Ok r)
-    stops_with e request store first says = stops_here (authorization_of request store X) calls levels first all step left r (taken request store first says) e
+    pub stops_with : has_limit (errors_of r) ≡ true → IsTakenFurther c all begun (Ok r)
+    stops_with e first says = stops_here c first all step left r (taken first says) e
 
-    module _ (quiet : has_limit (errors_view r.errors.items) ≡ false) where
-      -- what the step is given: this response's request, and its own store
-      abbrev pub given_now : Setting
-      given_now = authorization_of (response_said r).request step.1 X
+    module _ (quiet : has_limit (errors_of r) ≡ false) where
+      pub one_taken : (n : PartialResponse) → IsStep c step (response_said r) (Ok n) → AreTaken left n
+      one_taken n h first says = one_step_more c first all step left r (taken first says) quiet n h
 
-      pub one_taken : (n : PartialResponse) → IsStep given_now calls levels step.0 step.1 (response_said r) (Ok n) → AreTaken left n
-      one_taken n h request store first says =
-          one_step_more (authorization_of request store X) calls levels first all given_now step (λ q. refl) left r (taken request store first says) quiet n h
-
-      pub refused_with : (o : Option Refusal) → IfSome (option_map {U = Result PartialResponse Refusal} Err o) (IsStep given_now calls levels step.0 step.1 (response_said r)) → IfSome (option_map {U = Result PartialResponse Refusal} Err o) (IsTakenFurther X calls levels all begun)
+      pub refused_with : (o : Option Refusal) → IfSome (option_map {U = Result PartialResponse Refusal} Err o) (IsStep c step (response_said r)) → IfSome (option_map {U = Result PartialResponse Refusal} Err o) (IsTakenFurther c all begun)
       refused_with None h = tt
-      refused_with (Some e) h = λ request store first says.
-          step_is_refused (authorization_of request store X) calls levels first all given_now step (λ q. refl) left r (taken request store first says) quiet e h
+      refused_with (Some e) h = λ first says. step_is_refused c first all step left r (taken first says) quiet e h
 
 -- ---- a chain, from the first response
 
-module _ (request : RequestPart) (store : Store) (X : Extensions) (calls : StoredCalls) (levels : ℕ) (ps : List Policy) (steps : List (Mapping × Store)) (r : PartialResponse)
-    (run : IsRun skip (authorization_of request store X) calls levels ps r) (asked : request_view r.request.value ≡ request) where
-  pub chain_of : (o : Option (Result PartialResponse Refusal)) → IfSome o (IsTakenFurther X calls levels steps r) → IfSome o (IsChain (authorization_of request store X) calls ps steps levels)
+module _ (calls : StoredCalls) (levels : ℕ) (s : Setting) (unmapped : without_map s ≡ s) (ps : List Policy) (steps : List (Mapping × Store)) (r : PartialResponse)
+    (run : IsRun (configured_by calls skip s levels) s ps r) (asked : request_view (request_of r) ≡ s.request) where
+  pub chain_of : (o : Option (Result PartialResponse Refusal)) → IfSome o (IsTakenFurther (configured_by calls skip s levels) steps r) → IfSome o (IsChain (configured_by calls skip s levels) s ps steps)
   chain_of None h = tt
   chain_of (Some x) h =
-      let first : Response = record { mode = skip; request = request; rows = run.rows; errors = errors_view r.errors.items } in
-      let begins : Begins skip (authorization_of request store X) calls levels ps first = record { mode_is = refl; request_is = refl; runs = run.run } in
-      (first, begins, h request store first record { mode_is = refl; request_is = sym asked; errors_are = refl; held = run.held })
+      let first : Response = record { mode = skip; request = s.request; rows = run.rows; errors = errors_of r } in
+      let begins : Begins (configured_by calls skip s levels) s.request s.store ps first = record {
+        mode_is = refl;
+        request_is = refl;
+        runs = subst (λ (z : Setting). RunOf skip z calls levels ps run.rows (errors_of r)) (sym unmapped) run.run;
+      } in
+      (first, begins, h first record { mode_is = refl; request_is = sym asked; errors_are = refl; held = run.held })
 
 -- ---- what follows of a chain
 
 module _ (s : Setting) (calls : StoredCalls) (levels : ℕ) (ps : List Policy) (all : List (Mapping × Store)) where
-  chain_headline : (r : PartialResponse) → AreConditions ps → IsChain s calls ps all levels (Ok r) → IsHeadline s calls ps all r
+  abbrev by_all : Configuration
+  by_all = configured_by calls skip s levels
+
+  chain_headline : (r : PartialResponse) → AreConditions ps → IsChain by_all s ps all (Ok r) → IsHeadline by_all s ps all r
   chain_headline r conditions (first, begins, (last, chain, says)) ans w p =
-      let h = chaining.headline skip calls ans w s levels ps all last record {
-        request_agrees = p.request_agrees;
-        context_fits = p.context_fits;
-        first_store_agrees = p.first_store_agrees;
-        steps_agree = p.steps_agree;
-        conditions_fit = p.conditions_fit;
-        first = first;
-        first_is_answered = begins;
-        steps_are_answered = chain;
-        functions_are_functional = p.functions_are_functional;
-        context_is_faithful = p.context_is_faithful;
-        functions_are_faithful = p.functions_are_faithful;
-        no_limit_is_recorded = subst HaveNoLimit (sym says.errors_are) p.no_limit_is_recorded;
-        conditions_are_conjunctions = conditions;
-      } in
+      let h = chaining.headline skip calls s levels ps all first last conditions begins chain ans w
+      (subst (Premises by_all s.request s.store ps all ans w) (sym says.errors_are) p) in
       let stands = stand_sorted s.extensions ans w ps last.rows r says.held h.stands in
       record {
         stands = stands;
@@ -147,16 +127,16 @@ module _ (s : Setting) (calls : StoredCalls) (levels : ℕ) (ps : List Policy) (
         defined = λ none. concrete.concrete_is_defined skip s.extensions ans w ps (rows_view r) stands none;
       }
 
-  chain_known : (r : PartialResponse) → without_map s ≡ s → IsChain s calls ps all levels (Ok r) → LeavesNothing s calls ps all r
+  chain_known : (r : PartialResponse) → without_map s ≡ s → IsChain by_all s ps all (Ok r) → LeavesNothing by_all s ps all r
   chain_known r same (first, begins, (last, chain, says)) known ans agree k =
       let run : RunOf skip s calls levels ps first.rows first.errors = subst (λ (z : Setting). RunOf skip z calls levels ps first.rows first.errors) same begins.runs in
       let none = run_known s calls levels known ans agree ps first.rows first.errors k run in
       none_residual last.rows (rows_view r) (same_rows last.rows r says.held) (none_left s calls levels all first last chain none)
 
-  pub chain_headlines : (x : Result PartialResponse ReauthorizationError) → AreConditions ps → IfSome (step_answer_by (λ (r : PartialResponse). r) x) (IsChain s calls ps all levels) → IfOk x (IsHeadline s calls ps all)
+  pub chain_headlines : (x : Result PartialResponse ReauthorizationError) → AreConditions ps → IfSome (step_answer x) (IsChain by_all s ps all) → IfOk x (IsHeadline by_all s ps all)
   chain_headlines (Ok r) conditions h = chain_headline r conditions h
   chain_headlines (Err e) conditions h = tt
 
-  pub chains_known : (x : Result PartialResponse ReauthorizationError) → without_map s ≡ s → IfSome (step_answer_by (λ (r : PartialResponse). r) x) (IsChain s calls ps all levels) → IfOk x (LeavesNothing s calls ps all)
+  pub chains_known : (x : Result PartialResponse ReauthorizationError) → without_map s ≡ s → IfSome (step_answer x) (IsChain by_all s ps all) → IfOk x (LeavesNothing by_all s ps all)
   chains_known (Ok r) same h = chain_known r same h
   chains_known (Err e) same h = tt

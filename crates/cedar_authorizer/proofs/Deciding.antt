@@ -1,33 +1,34 @@
 -- What follows of a run: that it stands, and what it is once it is made concrete.
-use Rattle.std.specs.Prelude.{◌≡◌, ℕ, true, false, cond, not, ◌||◌, ◌&&◌, List, ◌++◌, map}
+use Rattle.std.specs.Prelude.{◌≡◌, ℕ, Bool, true, false, cond, not, ◌||◌, ◌&&◌, List, ◌++◌, map, Option, Some, None}
 use Rattle.std.proofs.Common.{refl, sym, ap, ◌∙◌, subst, append_assoc}
 use Rattle.cedar_model.specs.Terms.{Text, bool_literal}
 use Rattle.cedar_model.specs.Values.{plain}
 use Rattle.cedar_model.specs.Outcomes.{has_text}
-use Rattle.cedar_model.specs.World.{Extensions, Functions}
+use Rattle.cedar_model.specs.World.{Functions}
 use Rattle.cedar_model.specs.Failures.{Failure}
-use Rattle.cedar_model.specs.Settings.{RequestPart, Store, shallow, Setting}
+use Rattle.cedar_model.specs.Settings.{shallow, Setting}
 use Rattle.cedar_model.specs.LevelLaws.{FunctionsMeetNoLimit}
 use Rattle.cedar_model.specs.Rules.{StoredCalls}
-use Rattle.cedar_model.specs.Agreement.{AgreesWithFunctions, HasNothingUnknown}
-use Rattle.cedar_model.specs.Policies.{Policy, permit, forbid, allow, deny, ErrorHandling, skip}
+use Rattle.cedar_model.specs.Agreement.{AgreesWithFunctions, HasNothingUnknown, own_world}
+use Rattle.cedar_model.specs.Restricted.{IsGivenSound}
+use Rattle.cedar_model.specs.Policies.{Policy, permit, forbid, Decision, allow, deny, ErrorHandling, skip}
 use Rattle.cedar_model.specs.Reordering.{IsReordering}
 use Rattle.cedar_model.specs.Responses.{Row}
 use Rattle.cedar_model.specs.Chains.{rows_by}
-use Rattle.cedar_model.specs.Authorizations.{Authorized, IsResponse, HaveKnownConditions}
+use Rattle.cedar_model.specs.Authorizations.{Authorized, IsResponse, HaveNoLimit, HaveKnownConditions, HaveKinds, policy_errors}
 use Rattle.cedar_model.specs.AuthorizationLaws.{PolicyRuns}
-use Rattle.cedar_model.specs.Reports.{some_row, ids, trues, falses, residuals, residual_error, concretized}
+use Rattle.cedar_model.specs.Reports.{some_row, ids, trues, falses, residuals, given_decision, concrete_decision, residual_error, concrete_errors, concretized, HaveNoResidual}
 use Rattle.cedar_model.proofs.Chained.{sorted_is}
 use Rattle.cedar_model.proofs.Concrete.{run_is_response}
 use Rattle.cedar_model.proofs.Exactly as exactly
 use Rattle.cedar_model.proofs.Recorded.{run_recordable}
 use Rattle.cedar_model.proofs.Standing as standing
+use Rattle.cedar_model.proofs.Configured.{configured_by}
 use Rattle.cedar_responses.specs.declared.partial_response.PartialResponse.{PartialResponse}
-use Rattle.cedar_responses.specs.Responses.{errors_view}
 use Rattle.cedar_responses.specs.Rows.{located_view, rows_view}
 use Rattle.cedar_responses.proofs.Rows.{trues_permit, falses_permit, residuals_permit, trues_forbid, falses_forbid, residuals_forbid, chosen_rows}
-use Rattle.cedar_authorizer.specs.Responding.{authorization_of, IsKnownResponse, MeetsNoLimit, OwnWorldCompletesCall}
-use Rattle.cedar_authorizer.specs.Running.{HoldsRows, IsRun, StandsInCompletions, IsDeepEnough, IsConcreteRun}
+use Rattle.cedar_authorizer.specs.Responding.{IsKnownResponse, IsKnownRun, MeetsNoLimit, OwnWorldCompletesCall}
+use Rattle.cedar_authorizer.specs.Running.{errors_of, HoldsRows, IsRun, StandsInCompletions, IsDeepEnough, IsConcreteRun}
 use Rattle.cedar_authorizer.proofs.Low.{run_is_deep}
 use Rattle.cedar_authorizer.proofs.Runs.{run_known}
 
@@ -70,7 +71,7 @@ module _ (rows : List Row) (r : PartialResponse) (h : HoldsRows rows r) where
 -- ---- a run
 
 module _ (s : Setting) (calls : StoredCalls) (levels : ℕ) (ps : List Policy) where
-  pub run_stands : (mode : ErrorHandling) (r : PartialResponse) → IsRun mode s calls levels ps r → StandsInCompletions mode s calls ps r
+  pub run_stands : (mode : ErrorHandling) (r : PartialResponse) → IsRun (configured_by calls mode s levels) s ps r → StandsInCompletions (configured_by calls mode s levels) s ps r
   run_stands mode r is ans w c fit none = (
     is.rows,
     subst (IsReordering Row is.rows) (sym (rows_sorted is.rows r is.held)) (sorted_is is.rows),
@@ -78,29 +79,77 @@ module _ (s : Setting) (calls : StoredCalls) (levels : ℕ) (ps : List Policy) w
         (run_recordable mode s calls levels ps is.rows _ none is.run) is.run,
   )
 
-  pub run_low : (r : PartialResponse) → FunctionsMeetNoLimit calls → s.resolution ≡ shallow → IsRun skip s calls levels ps r → IsDeepEnough s calls levels ps r
-  run_low r no_limit is_shallow is b h sound low conditions enough =
-      run_is_deep s calls no_limit is_shallow b h levels sound low enough ps is.rows (errors_view r.errors.items) conditions is.run
+  pub run_low : (r : PartialResponse) → FunctionsMeetNoLimit calls → s.resolution ≡ shallow → IsGivenSound calls s → IsRun (configured_by calls skip s levels) s ps r → IsDeepEnough (configured_by calls skip s levels) s ps r
+  run_low r no_limit is_shallow sound is b h low conditions enough =
+      run_is_deep s calls no_limit is_shallow b h levels sound low enough ps is.rows (errors_of r) conditions is.run
 
-  pub run_concrete : (p : PartialResponse) (r : Authorized) → IsRun skip s calls levels ps p → r ≡ concretized skip (rows_view p) (errors_view p.errors.items) → IsConcreteRun skip s calls levels ps r
+  pub run_concrete : (p : PartialResponse) (r : Authorized) → IsRun (configured_by calls skip s levels) s ps p → r ≡ concretized skip (rows_view p) (errors_of p) → IsConcreteRun (configured_by calls skip s levels) s ps r
   run_concrete p r is e = record {
     rows = is.rows;
-    errors = errors_view p.errors.items;
+    errors = errors_of p;
     run = is.run;
-    concrete = e ∙ concrete_alike is.rows p is.held (errors_view p.errors.items);
+    concrete = e ∙ concrete_alike is.rows p is.held (errors_of p);
   }
 
-  module _ (r : Authorized) (is : IsConcreteRun skip s calls levels ps r) where
+  module _ (r : Authorized) (is : IsConcreteRun (configured_by calls skip s levels) s ps r) where
     known_run : HasNothingUnknown s → (ans : Functions) → AgreesWithFunctions ans calls → HaveKnownConditions ans ps → IsResponse (PolicyRuns s calls levels) ps r
     known_run known ans agree k =
         subst (IsResponse (PolicyRuns s calls levels) ps) (sym is.concrete) (run_is_response calls s levels ps is.rows is.errors is.run (run_known s calls levels known ans agree ps is.rows is.errors k is.run))
 
-    pub known_response : IsKnownResponse s calls ps r
+    pub known_response : IsKnownResponse (configured_by calls skip s levels) s ps r
     known_response known ans agree k sigma none = exactly.response_exact calls ans agree s known sigma levels ps r k (known_run known ans agree k) none
 
-    pub no_limit : MeetsNoLimit s calls levels ps r
+    pub no_limit : MeetsNoLimit (configured_by calls skip s levels) s ps r.errors
     no_limit known ans agree k low = exactly.low_conditions calls ans agree s known (λ n. plain (bool_literal false)) levels ps r k (known_run known ans agree k) low
 
-pub own_world_completes_call : (rq : RequestPart) (st : Store) (x : Extensions) (ps : List Policy) → OwnWorldCompletesCall (authorization_of rq st x) ps
-own_world_completes_call rq st x ps known ans k sigma =
-    exactly.own_world_completes ans (authorization_of rq st x) sigma ps known (λ n. refl) k
+-- ---- a run of which nothing is left
+
+abbrev given_bits : Bool → Bool → Bool → Bool → Option Decision
+given_bits tf tp rp rf = cond tf (Some deny) (cond (not (tp || rp)) (Some deny) (cond rf None (cond tp (Some allow) None)))
+
+settled_bits : (tf tp : Bool) → given_bits tf tp false false ≡ Some (cond (tp && not tf) allow deny)
+settled_bits true true = refl
+settled_bits true false = refl
+settled_bits false true = refl
+settled_bits false false = refl
+
+given_is_concrete : (rows : List Row) → HaveNoResidual rows → given_decision rows ≡ Some (concrete_decision skip rows)
+unfolding some_row
+given_is_concrete rows h =
+    (λ i. given_bits (some_row (trues forbid rows)) (some_row (trues permit rows)) (some_row (h.0 i)) (some_row (h.1 i)))
+    ∙ settled_bits (some_row (trues forbid rows)) (some_row (trues permit rows))
+
+errors_are_those : (rows : List Row) (errors : List (Text × Failure)) → HaveNoResidual rows → concrete_errors rows errors ≡ errors
+errors_are_those rows errors h = λ i. map residual_error (h.1 i) ++ (map residual_error (h.0 i) ++ errors)
+
+module _ (s : Setting) (calls : StoredCalls) (levels : ℕ) (ps : List Policy) (r : PartialResponse) (is : IsRun (configured_by calls skip s levels) s ps r) where
+  abbrev made : Authorized
+  made = concretized skip (rows_view r) (errors_of r)
+
+  made_of_run : IsConcreteRun (configured_by calls skip s levels) s ps made
+  made_of_run = run_concrete s calls levels ps r made is refl
+
+  none_left : HasNothingUnknown s → (ans : Functions) → AgreesWithFunctions ans calls → HaveKnownConditions ans ps → HaveNoResidual (rows_view r)
+  none_left known ans agree k =
+      let none = run_known s calls levels known ans agree ps is.rows (errors_of r) k is.run in
+      (residual_permits is.rows r is.held ∙ none.0, residual_forbids is.rows r is.held ∙ none.1)
+
+  pub known_partly : IsKnownRun (configured_by calls skip s levels) s ps (rows_view r) (errors_of r)
+  known_partly known ans agree k =
+      let none = none_left known ans agree k in
+      let same = errors_are_those (rows_view r) (errors_of r) none in (
+        none,
+        λ sigma quiet.
+            let z = known_response s calls levels ps made made_of_run known ans agree k sigma (subst HaveNoLimit (sym same) quiet) in
+            record {
+              decision_is = given_is_concrete (rows_view r) none ∙ ap Some z.decision_is;
+              errors_are = subst (λ es. HaveKinds es (policy_errors s.extensions ans (own_world s sigma) ps)) same z.errors_are;
+            },
+      )
+
+  pub known_meets_no_limit : MeetsNoLimit (configured_by calls skip s levels) s ps (errors_of r)
+  known_meets_no_limit known ans agree k low =
+      subst HaveNoLimit (errors_are_those (rows_view r) (errors_of r) (none_left known ans agree k)) (no_limit s calls levels ps made made_of_run known ans agree k low)
+
+pub own_world_completes_call : (s : Setting) (ps : List Policy) → ((n : Text) → s.map n ≡ None) → OwnWorldCompletesCall s ps
+own_world_completes_call s ps unmapped known ans k sigma = exactly.own_world_completes ans s sigma ps known unmapped k

@@ -22,6 +22,7 @@ use Rattle.cedar_reauthorization.specs.Concretizations.{in_context, AfterMap, Is
 use Rattle.cedar_reauthorization.specs.Policies.{set_policies, unless_repeated, all_once}
 use Rattle.cedar_authorizer.specs.Running.{IsRun}
 use Rattle.cedar_authorizer.specs.Steps.{response_said, Says, IsDecidedAgain, IsStep}
+use Rattle.cedar_model.proofs.Configured.{configured_by}
 
 ok_inj : {A B : Type 0} {x y : A} → ◌≡◌ {A = Result A B} (Ok x) (Ok y) → x ≡ y
 ok_inj e = cc
@@ -64,37 +65,37 @@ module _ (s : Setting) (calls : StoredCalls) (levels : ℕ) (m : Mapping) (store
   abbrev repeated : Option Text
   repeated = first_repeated (map (λ p. p.id) policies)
 
-  after_mode : (x : Result Response Refusal) → AfterIds skip s calls levels m store old repeated x → Steps skip s calls levels m store old x
+  after_mode : (x : Result Response Refusal) → AfterIds (configured_by calls skip s levels) m store old repeated x → Steps (configured_by calls skip s levels) m store old x
   unfolding is_same_mode
   after_mode x h = h
 
-  after_ids : (x : Result Response Refusal) → repeated ≡ None → AfterRequest skip s calls levels m store old (concrete_request m old.request) x → Steps skip s calls levels m store old x
-  after_ids x e h = after_mode x (subst (λ o. AfterIds skip s calls levels m store old o x) (sym e) h)
+  after_ids : (x : Result Response Refusal) → repeated ≡ None → AfterRequest (configured_by calls skip s levels) m store old (concrete_request m old.request) x → Steps (configured_by calls skip s levels) m store old x
+  after_ids x e h = after_mode x (subst (λ o. AfterIds (configured_by calls skip s levels) m store old o x) (sym e) h)
 
   -- a repeated id is refused
-  pub refused_policies : (o : Option Refusal) → IfSome (option_map {U = Result (List Policy) Refusal} Err o) (λ a. a ≡ all_once policies) → IfSome (option_map {U = Result PartialResponse Refusal} Err o) (IsStep s calls levels m store old)
+  pub refused_policies : (o : Option Refusal) → IfSome (option_map {U = Result (List Policy) Refusal} Err o) (λ a. a ≡ all_once policies) → IfSome (option_map {U = Result PartialResponse Refusal} Err o) (IsStep (configured_by calls skip s levels) (m, store) old)
   refused_policies None h = tt
   refused_policies (Some x) h =
       let t = twice repeated policies x h in
-      after_mode (Err x) (subst (λ o. AfterIds skip s calls levels m store old o (Err x)) (sym t.1) (ap Err t.2))
+      after_mode (Err x) (subst (λ o. AfterIds (configured_by calls skip s levels) m store old o (Err x)) (sym t.1) (ap Err t.2))
 
   -- the request and the run
-  run_after : (q : Result RequestPart Refusal) (request : RequestPart) (rows : List Row) (errors : List (Text × Failure)) → AfterMap (at_step s old.request store m) calls levels m q (Ok request)
-      → RunOf skip (at_step s request store m) calls levels policies rows errors
-      → AfterRequest skip s calls levels m store old q (Ok record { mode = skip; request = request; rows = rows; errors = errors })
+  run_after : (q : Result RequestPart Refusal) (request : RequestPart) (rows : List Row) (errors : List (Text × Failure)) → AfterMap (at_step s.extensions s.resolution old.request store m) calls levels m q (Ok request)
+      → RunOf skip (at_step s.extensions s.resolution request store m) calls levels policies rows errors
+      → AfterRequest (configured_by calls skip s levels) m store old q (Ok record { mode = skip; request = request; rows = rows; errors = errors })
   run_after (Err e) request rows errors h run = absurd (err_is_not_ok (sym h))
   run_after (Ok q) request rows errors (Ok c, g, e) run =
       let same : request ≡ with_context q c = ok_inj e in
-      (Ok c, g, (rows, errors, subst (λ x. RunOf skip (at_step s x store m) calls levels policies rows errors) same run, ap (λ x. Ok record { mode = skip; request = x; rows = rows; errors = errors }) same))
+      (Ok c, g, (rows, errors, subst (λ x. RunOf skip (at_step s.extensions s.resolution x store m) calls levels policies rows errors) same run, ap (λ x. Ok record { mode = skip; request = x; rows = rows; errors = errors }) same))
   run_after (Ok q) request rows errors (Err f, g, e) run = absurd (err_is_not_ok (sym e))
 
-  refused_after : (q : Result RequestPart Refusal) (x : Refusal) → AfterMap (at_step s old.request store m) calls levels m q (Err x) → AfterRequest skip s calls levels m store old q (Err x)
+  refused_after : (q : Result RequestPart Refusal) (x : Refusal) → AfterMap (at_step s.extensions s.resolution old.request store m) calls levels m q (Err x) → AfterRequest (configured_by calls skip s levels) m store old q (Err x)
   refused_after (Err e) x h = ap Err (err_inj h)
   refused_after (Ok q) x (Ok c, g, e) = absurd (err_is_not_ok e)
   refused_after (Ok q) x (Err f, g, e) = (Err f, g, ap Err (err_inj e))
 
-  taken_by : (n : PartialResponse) → repeated ≡ None → IsConcrete (at_step s old.request store m) calls levels m old.request (Ok (request_view n.request.value))
-      → IsRun skip (at_step s (request_view n.request.value) store m) calls levels policies n → IsStep s calls levels m store old (Ok n)
+  taken_by : (n : PartialResponse) → repeated ≡ None → IsConcrete (at_step s.extensions s.resolution old.request store m) calls levels m old.request (Ok (request_view n.request.value))
+      → IsRun (configured_by calls skip s levels) (at_step s.extensions s.resolution (request_view n.request.value) store m) policies n → IsStep (configured_by calls skip s levels) (m, store) old (Ok n)
   taken_by n e concrete run =
       let request = request_view n.request.value in
       let errors = errors_view n.errors.items in (
@@ -104,20 +105,20 @@ module _ (s : Setting) (calls : StoredCalls) (levels : ℕ) (m : Mapping) (store
       )
 
   -- what is decided again is a step
-  pub answered_step : (set : List Policy) (o : Option (Result PartialResponse Refusal)) → Ok set ≡ all_once policies → IfSome o (IsDecidedAgain s calls levels m store old.request set) → IfSome o (IsStep s calls levels m store old)
+  pub answered_step : (set : List Policy) (o : Option (Result PartialResponse Refusal)) → Ok set ≡ all_once policies → IfSome o (IsDecidedAgain (configured_by calls skip s levels) (m, store) old.request set) → IfSome o (IsStep (configured_by calls skip s levels) (m, store) old)
   answered_step set None e h = tt
   answered_step set (Some (Ok n)) e h =
       let k = once repeated policies set e in
-      taken_by n k.0 h.0 (subst (λ ps. IsRun skip (at_step s (request_view n.request.value) store m) calls levels ps n) (sym k.1) h.1)
+      taken_by n k.0 h.0 (subst (λ ps. IsRun (configured_by calls skip s levels) (at_step s.extensions s.resolution (request_view n.request.value) store m) ps n) (sym k.1) h.1)
   answered_step set (Some (Err x)) e h =
       after_ids (Err x) (once repeated policies set e).0 (refused_after (concrete_request m old.request) x h)
 
 -- what is decided of the request that the map makes
 pub decided_request : (s : Setting) (calls : StoredCalls) (levels : ℕ) (m : Mapping) (store : Store) (old : RequestPart) (ps : List Policy) (r : PartialResponse) (request : Request) → r.request.value ≡ request
-    → IsConcrete (at_step s old store m) calls levels m old (Ok (request_view request)) → IsRun skip (at_step s (request_view request) store m) calls levels ps r → IsDecidedAgain s calls levels m store old ps (Ok r)
+    → IsConcrete (at_step s.extensions s.resolution old store m) calls levels m old (Ok (request_view request)) → IsRun (configured_by calls skip s levels) (at_step s.extensions s.resolution (request_view request) store m) ps r → IsDecidedAgain (configured_by calls skip s levels) (m, store) old ps (Ok r)
 decided_request s calls levels m store old ps r request e concrete run = (
-  subst (λ q. IsConcrete (at_step s old store m) calls levels m old (Ok (request_view q))) (sym e) concrete,
-  subst (λ q. IsRun skip (at_step s (request_view q) store m) calls levels ps r) (sym e) run,
+  subst (λ q. IsConcrete (at_step s.extensions s.resolution old store m) calls levels m old (Ok (request_view q))) (sym e) concrete,
+  subst (λ q. IsRun (configured_by calls skip s levels) (at_step s.extensions s.resolution (request_view q) store m) ps r) (sym e) run,
 )
 
 -- ---- the error of a request

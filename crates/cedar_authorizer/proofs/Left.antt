@@ -15,6 +15,7 @@ use Rattle.cedar_model.specs.Chains.{Mapping, Response, has_effect, is_true, is_
 use Rattle.cedar_model.specs.Reports.{residuals, HaveNoResidual}
 use Rattle.cedar_model.proofs.Carried.{IsBoolOrLimit, literal_always, clause_always}
 use Rattle.cedar_model.proofs.Stepping.{taken}
+use Rattle.cedar_model.proofs.Configured.{configured_by}
 
 -- ---- rows of which nothing is left
 
@@ -106,16 +107,16 @@ err_is_not_ok : {A B : Type 0} {x : A} {y : B} → ◌≡◌ {A = Result A B} (O
 err_is_not_ok e = cc
 
 module _ (s : Setting) (calls : StoredCalls) (levels : ℕ) where
-  pub none_left : (steps : List (Mapping × Store)) (r last : Response) → ChainOf skip s calls levels r steps last → HaveNoResidual r.rows → HaveNoResidual last.rows
+  pub none_left : (steps : List (Mapping × Store)) (r last : Response) → ChainOf (configured_by calls skip s levels) r steps last → HaveNoResidual r.rows → HaveNoResidual last.rows
   none_left [] r last h none = subst (λ (x : Response). HaveNoResidual x.rows) (sym (ok_inj h)) none
   none_left (step ∷ steps) r last h none = by (has_limit r.errors) (λ next. none_left steps next last) h
     where
-      on : (y : Result Response Refusal) → ((next : Response) → ChainOf skip s calls levels next steps last → HaveNoResidual next.rows → HaveNoResidual last.rows) → Steps skip s calls levels step.0 step.1 r y → MatchResult y (λ next. ChainOf skip s calls levels next steps last) (λ e. ◌≡◌ {A = Result Response Refusal} (Ok last) (Err e)) → HaveNoResidual last.rows
+      on : (y : Result Response Refusal) → ((next : Response) → ChainOf (configured_by calls skip s levels) next steps last → HaveNoResidual next.rows → HaveNoResidual last.rows) → Steps (configured_by calls skip s levels) step.0 step.1 r y → MatchResult y (λ next. ChainOf (configured_by calls skip s levels) next steps last) (λ e. ◌≡◌ {A = Result Response Refusal} (Ok last) (Err e)) → HaveNoResidual last.rows
       on (Ok next) leads g k =
           let t = taken skip s calls levels step.0 step.1 r next g in
-          leads next k (none_carried (at_step s next.request step.1 step.0) calls levels r.rows next.rows next.errors none t.runs)
+          leads next k (none_carried (at_step s.extensions s.resolution next.request step.1 step.0) calls levels r.rows next.rows next.errors none t.runs)
       on (Err e) leads g k = absurd (err_is_not_ok k)
 
-      by : (b : Bool) → ((next : Response) → ChainOf skip s calls levels next steps last → HaveNoResidual next.rows → HaveNoResidual last.rows) → MatchBool b (◌≡◌ {A = Result Response Refusal} (Ok last) (Ok r)) ((y : Result Response Refusal) × Steps skip s calls levels step.0 step.1 r y × MatchResult y (λ next. ChainOf skip s calls levels next steps last) (λ e. ◌≡◌ {A = Result Response Refusal} (Ok last) (Err e))) → HaveNoResidual last.rows
+      by : (b : Bool) → ((next : Response) → ChainOf (configured_by calls skip s levels) next steps last → HaveNoResidual next.rows → HaveNoResidual last.rows) → MatchBool b (◌≡◌ {A = Result Response Refusal} (Ok last) (Ok r)) ((y : Result Response Refusal) × Steps (configured_by calls skip s levels) step.0 step.1 r y × MatchResult y (λ next. ChainOf (configured_by calls skip s levels) next steps last) (λ e. ◌≡◌ {A = Result Response Refusal} (Ok last) (Err e))) → HaveNoResidual last.rows
       by true leads k = subst (λ (x : Response). HaveNoResidual x.rows) (sym (ok_inj k)) none
       by false leads (y, g, k) = on y leads g k

@@ -1,4 +1,5 @@
 pub mod Distinct
+pub mod Kept
 pub mod Runs
 pub mod Noting
 pub mod Made

@@ -26,6 +26,7 @@ use Rattle.cedar_model.proofs.Heights.{stays, sound_known}
 use Rattle.cedar_model.proofs.Needs.{need_bounded}
 use Rattle.cedar_model.proofs.StepNeeds.{step_need_bounded}
 use Rattle.cedar_model.proofs.Stepping.{Taken, taken}
+use Rattle.cedar_model.proofs.Configured.{configured_by}
 
 -- ---- errors of a run
 
@@ -151,50 +152,50 @@ is_answer a p e w = absurd (cc)
 
 module _ (s : Setting) (calls : StoredCalls) (levels : ℕ) (m : Mapping) (store : Store) where
   -- what follows of a context
-  follows : (c d : ContextPart) (r : RequestPart) → SubstitutesTo (at_step s r store m) calls levels m c (Ok d) → ContextFollows (without_map (at_step s r store m)) calls m c d
+  follows : (c d : ContextPart) (r : RequestPart) → SubstitutesTo (at_step s.extensions s.resolution r store m) calls levels m c (Ok d) → ContextFollows (without_map (at_step s.extensions s.resolution r store m)) calls m c d
   follows absent_context d r h = ok_inj h
   follows (known_context fs) d r h = ok_inj h
   follows (residual_context fs) d r (a, runs, is) =
       let e = context_answer a d is in
-      (is_answer a (context_value d) e, levels, subst (Runs (without_map (at_step s r store m)) calls levels (record_of (substituted_at m fs))) e runs)
+      (is_answer a (context_value d) e, levels, subst (Runs (without_map (at_step s.extensions s.resolution r store m)) calls levels (record_of (substituted_at m fs))) e runs)
 
   module _ (no_limit : FunctionsMeetNoLimit calls) (b h : ℕ) (old : Response)
-      (sound : IsGivenSound calls (at_step s old.request store m)) (low : IsNoHigher calls (at_step s old.request store m) m b) (enough : h + (b + b) ≤ levels) where
+      (sound : IsGivenSound calls (at_step s.extensions s.resolution old.request store m)) (low : IsNoHigher calls (at_step s.extensions s.resolution old.request store m) m b) (enough : h + (b + b) ≤ levels) where
     known_low : (fs : RepresentedFields) (c : ContextPart) → AreSoundAt fs → height (record_of (expressions_at fs)) ≤ b → known_context fs ≡ c → IsContextNoHigher m b c
     known_low fs c f k e =
         subst (IsContextNoHigher m b) e (subst (λ t. height t ≤ b) (sym (stays m (record_of (expressions_at fs)) (sound_known (record_represented fs) f))) k)
 
     -- no condition that is low enough needs more, after a context of the old request or of another one that is as low
-    deep_after : (r new : RequestPart) → IsSoundContext r.context_part → IsContextNoHigher m b r.context_part → ContextFollows (without_map (at_step s r store m)) calls m r.context_part new.context_part
-        → (t : Term) → height t ≤ h → Exceeds (at_step s new store m) calls t levels → ⊥
+    deep_after : (r new : RequestPart) → IsSoundContext r.context_part → IsContextNoHigher m b r.context_part → ContextFollows (without_map (at_step s.extensions s.resolution r store m)) calls m r.context_part new.context_part
+        → (t : Term) → height t ≤ h → Exceeds (at_step s.extensions s.resolution new store m) calls t levels → ⊥
     deep_after r new good no_higher f t k met =
-        too_deep_twice levels (height t) h b (step_need_bounded (without_map (at_step s r store m)) calls m b (λ n v e. absurd (none_is v e))
+        too_deep_twice levels (height t) h b (step_need_bounded (without_map (at_step s.extensions s.resolution r store m)) calls m b (λ n v e. absurd (none_is v e))
         record { context_sound = good; stored_sound = sound.stored_sound; mapped_sound = λ n v e. absurd (none_is v e); answers_sound = sound.answers_sound }
         sound.mapped_sound
         record { context_low = no_higher; stored_low = low.stored_low; mapped_low = low.mapped_low; answers_low = low.answers_low }
         no_limit new f levels t met) k enough
 
-    deep : (new : Response) (z : Taken skip s calls levels m store old new) → Mapped (m (codes "context")) old.request.context_part z.request.context_part → (t : Term) → height t ≤ h → Exceeds (at_step s new.request store m) calls t levels → ⊥
+    deep : (new : Response) (z : Taken skip s calls levels m store old new) → Mapped (m (codes "context")) old.request.context_part z.request.context_part → (t : Term) → height t ≤ h → Exceeds (at_step s.extensions s.resolution new.request store m) calls t levels → ⊥
     deep new z (as_it_was e) =
         deep_after old.request new.request sound.context_sound low.context_low
-        (subst (λ q. ContextFollows (without_map (at_step s old.request store m)) calls m old.request.context_part q) (sym (ap (λ q. q.context_part) z.request_is))
-        (subst (λ c. ContextFollows (without_map (at_step s old.request store m)) calls m c z.context) (sym e) (follows z.request.context_part z.context old.request z.substitutes)))
+        (subst (λ q. ContextFollows (without_map (at_step s.extensions s.resolution old.request store m)) calls m old.request.context_part q) (sym (ap (λ q. q.context_part) z.request_is))
+        (subst (λ c. ContextFollows (without_map (at_step s.extensions s.resolution old.request store m)) calls m c z.context) (sym e) (follows z.request.context_part z.context old.request z.substitutes)))
     deep new z (is_mapped fs e f) =
         let good : AreSoundAt fs = sound.mapped_sound (codes "context") (record_represented fs) e in
         deep_after z.request new.request (subst IsSoundContext f good)
         (known_low fs z.request.context_part good (low.mapped_low (codes "context") (record_represented fs) e) f)
-        (subst (λ q. ContextFollows (without_map (at_step s z.request store m)) calls m z.request.context_part q) (sym (ap (λ q. q.context_part) z.request_is))
+        (subst (λ q. ContextFollows (without_map (at_step s.extensions s.resolution z.request store m)) calls m z.request.context_part q) (sym (ap (λ q. q.context_part) z.request_is))
         (known_follows fs z.request.context_part z.context f z.substitutes))
       where
-        known_follows : (fs : RepresentedFields) (c d : ContextPart) → known_context fs ≡ c → SubstitutesTo (at_step s old.request store m) calls levels m c (Ok d) → ContextFollows (without_map (at_step s z.request store m)) calls m c d
+        known_follows : (fs : RepresentedFields) (c d : ContextPart) → known_context fs ≡ c → SubstitutesTo (at_step s.extensions s.resolution old.request store m) calls levels m c (Ok d) → ContextFollows (without_map (at_step s.extensions s.resolution z.request store m)) calls m c d
         known_follows fs c d e g =
-            subst (λ x. ContextFollows (without_map (at_step s z.request store m)) calls m x d) e (ok_inj (subst (λ x. SubstitutesTo (at_step s old.request store m) calls levels m x (Ok d)) (sym e) g))
+            subst (λ x. ContextFollows (without_map (at_step s.extensions s.resolution z.request store m)) calls m x d) e (ok_inj (subst (λ x. SubstitutesTo (at_step s.extensions s.resolution old.request store m) calls levels m x (Ok d)) (sym e) g))
 
     -- a step meets no limit
-    pub step_is_deep : (new : Response) → StepsTo skip s calls levels m store old new → AreNoHigher (all_residuals old.rows) h → HaveNoLimit new.errors
+    pub step_is_deep : (new : Response) → StepsTo (configured_by calls skip s levels) m store old new → AreNoHigher (all_residuals old.rows) h → HaveNoLimit new.errors
     step_is_deep new taken_to conditions =
         let z = taken skip s calls levels m store old new taken_to in
         let c = concrete_parts m old.request z.request z.concrete in
-        run_deep (at_step s new.request store m) calls levels (all_residuals old.rows) new.rows new.errors
-        (carried_deep (at_step s new.request store m) calls levels h (rows_by permit old.rows ++ rows_by forbid old.rows) (deep new z (mapped (m (codes "context")) old.request.context_part z.request.context_part c.context_is)) conditions)
+        run_deep (at_step s.extensions s.resolution new.request store m) calls levels (all_residuals old.rows) new.rows new.errors
+        (carried_deep (at_step s.extensions s.resolution new.request store m) calls levels h (rows_by permit old.rows ++ rows_by forbid old.rows) (deep new z (mapped (m (codes "context")) old.request.context_part z.request.context_part c.context_is)) conditions)
         z.runs

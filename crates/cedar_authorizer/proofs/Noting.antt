@@ -27,6 +27,7 @@ use Rattle.cedar_authorizer.specs.Responding.{deciding}
 use Rattle.cedar_authorizer.specs.Running.{HoldsRows, IsRun, ComesOutBy, IsNotedRun, KeepsSheet}
 use Rattle.cedar_authorizer.proofs.Distinct.{located_ids, picked_distinct, pair_ids, kept_whole}
 use Rattle.cedar_authorizer.proofs.Runs.{run_more, run_ids}
+use Rattle.cedar_model.proofs.Configured.{configured_by}
 
 -- ---- the loop
 
@@ -115,7 +116,7 @@ ids_deciding [] = refl
 ids_deciding (p ∷ ps) = ap (λ (ts : List Text). p.id ∷ ts) (ids_deciding ps)
 
 -- what a response keeps of the run of a set on a sheet is that run
-pub is_run : (mode : ErrorHandling) (s : Setting) (calls : StoredCalls) (levels : ℕ) (policies : PolicySet) (sheet : Sheet) (r : PartialResponse) → IsNotedRun mode s calls levels (deciding policies) sheet → KeepsSheet sheet r → IsRun mode s calls levels (deciding policies) r
+pub is_run : (mode : ErrorHandling) (s : Setting) (calls : StoredCalls) (levels : ℕ) (policies : PolicySet) (sheet : Sheet) (r : PartialResponse) → IsNotedRun mode s calls levels (deciding policies) sheet → KeepsSheet sheet r → IsRun (configured_by calls mode s levels) s (deciding policies) r
 is_run mode s calls levels policies sheet r on k =
     let ls = on.located in
     let apart : first_repeated (located_ids ls) ≡ None =

@@ -4,7 +4,7 @@ use Rattle.std.proofs.Common.{refl, sym, ap, ◌∙◌, subst}
 use Rattle.cedar_model.specs.Terms.{Text}
 use Rattle.cedar_model.specs.Failures.{Failure}
 use Rattle.cedar_model.specs.Settings.{ContextPart, RequestPart, Store, Setting}
-use Rattle.cedar_model.specs.Rules.{StoredCalls}
+use Rattle.cedar_model.specs.Configurations.{Configuration}
 use Rattle.cedar_model.specs.Policies.{Policy, Effect, permit, forbid, Decision, allow, deny, skip}
 use Rattle.cedar_model.specs.Responses.{Row, RunOf, carried}
 use Rattle.cedar_model.specs.Refusals.{Refusal, id_comes_again, mode_is_other, first_repeated, concrete_request}
@@ -49,38 +49,35 @@ module _ (rows view : List Row) (h : SameRows rows view) where
 
 -- ---- a step depends on no more of the rows
 
-module _ (s z : Setting) (calls : StoredCalls) (levels : ℕ) (m : Mapping) (store : Store) (settings_same : (r : RequestPart) → at_step s r store m ≡ at_step z r store m)
-    (a b : Response) (mode_same : a.mode ≡ b.mode) (request_same : a.request ≡ b.request) (carried_same : all_residuals a.rows ≡ all_residuals b.rows)
-    (x : Result Response Refusal) where
-  by_context : (r : RequestPart) (c : Result ContextPart Refusal) → AfterContext skip s calls levels m store a r c x → AfterContext skip z calls levels m store b r c x
-  by_context r (Ok c) (rows, errors, run, e) = (
+module _ (c : Configuration) (m : Mapping) (store : Store) (a b : Response) (mode_same : a.mode ≡ b.mode) (request_same : a.request ≡ b.request)
+    (carried_same : all_residuals a.rows ≡ all_residuals b.rows) (x : Result Response Refusal) where
+  by_context : (r : RequestPart) (d : Result ContextPart Refusal) → AfterContext c m store a r d x → AfterContext c m store b r d x
+  by_context r (Ok d) (rows, errors, run, e) = (
     rows,
     errors,
-    subst (λ (q : Setting). RunOf skip q calls levels (all_residuals b.rows) rows errors) (settings_same (with_context r c))
-        (subst (λ (ps : List Policy). RunOf skip (at_step s (with_context r c) store m) calls levels ps rows errors) carried_same run),
+    subst (λ (ps : List Policy). RunOf c.mode (at_step c.extensions c.resolution (with_context r d) store m) c.calls c.levels ps rows errors) carried_same run,
     e,
   )
   by_context r (Err f) h = h
 
-  by_request : (q : Result RequestPart Refusal) → AfterRequest skip s calls levels m store a q x → AfterRequest skip z calls levels m store b q x
-  by_request (Ok r) (c, g, k) = (
-    c,
-    subst (λ (q : Setting). SubstitutesTo q calls levels m r.context_part c) (settings_same b.request)
-        (subst (λ (q : RequestPart). SubstitutesTo (at_step s q store m) calls levels m r.context_part c) request_same g),
-    by_context r c k,
+  by_request : (q : Result RequestPart Refusal) → AfterRequest c m store a q x → AfterRequest c m store b q x
+  by_request (Ok r) (d, g, k) = (
+    d,
+    subst (λ (q : RequestPart). SubstitutesTo (at_step c.extensions c.resolution q store m) c.calls c.levels m r.context_part d) request_same g,
+    by_context r d k,
   )
   by_request (Err f) h = h
 
-  by_ids : (o : Option Text) → AfterIds skip s calls levels m store a o x → AfterIds skip z calls levels m store b o x
+  by_ids : (o : Option Text) → AfterIds c m store a o x → AfterIds c m store b o x
   by_ids (Some id) h = h
   by_ids None h =
-      subst (λ (q : RequestPart). AfterRequest skip z calls levels m store b (concrete_request m q) x) request_same (by_request (concrete_request m a.request) h)
+      subst (λ (q : RequestPart). AfterRequest c m store b (concrete_request m q) x) request_same (by_request (concrete_request m a.request) h)
 
-  by_mode : (d : Bool) → AfterMode skip s calls levels m store a d x → AfterMode skip z calls levels m store b d x
+  by_mode : (d : Bool) → AfterMode c m store a d x → AfterMode c m store b d x
   by_mode true h =
-      subst (λ (ps : List Policy). AfterIds skip z calls levels m store b (first_repeated (map (λ p. p.id) ps)) x) carried_same (by_ids (first_repeated (map (λ p. p.id) (all_residuals a.rows))) h)
-  by_mode false h = h ∙ ap (λ o. Err (mode_is_other o skip)) mode_same
+      subst (λ (ps : List Policy). AfterIds c m store b (first_repeated (map (λ p. p.id) ps)) x) carried_same (by_ids (first_repeated (map (λ p. p.id) (all_residuals a.rows))) h)
+  by_mode false h = h ∙ ap (λ o. Err (mode_is_other o c.mode)) mode_same
 
-  pub same_step : Steps skip s calls levels m store a x → Steps skip z calls levels m store b x
+  pub same_step : Steps c m store a x → Steps c m store b x
   same_step h =
-      subst (λ o. AfterMode skip z calls levels m store b (is_same_mode skip o) x) mode_same (by_mode (is_same_mode skip a.mode) h)
+      subst (λ o. AfterMode c m store b (is_same_mode c.mode o) x) mode_same (by_mode (is_same_mode c.mode a.mode) h)

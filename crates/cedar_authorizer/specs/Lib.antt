@@ -1,3 +1,4 @@
+pub mod Configured
 pub mod Responding
 pub mod Running
 pub mod Stability

@@ -1,4 +1,4 @@
--- The run of a set of policies, on a sheet and in a response. The mode in which errors are handled is `skip` for now.
+-- The run of a set of policies, on a sheet and in a response.
 use Rattle.std.specs.Prelude.{◌≡◌, ◌≢◌, ℕ, ◌+◌, ◌≤◌, List}
 use Rattle.cedar_model.specs.Terms.{Text}
 use Rattle.cedar_model.specs.World.{World, Functions}
@@ -9,9 +9,10 @@ use Rattle.cedar_model.specs.Agreement.{CompletesWith}
 use Rattle.cedar_model.specs.Policies.{Policy, ErrorHandling, permit, forbid}
 use Rattle.cedar_model.specs.Responses.{Row, Decided, decided, RunOf, Stand, FitPolicies}
 use Rattle.cedar_model.specs.Authorizations.{Authorized, HaveNoLimit, AreNoHigher}
-use Rattle.cedar_model.specs.Restricted.{IsGivenSound}
+use Rattle.cedar_model.specs.Configurations.{Configuration}
 use Rattle.cedar_model.specs.Depth.{IsNoHigher}
 use Rattle.cedar_model.specs.Reports.{trues, falses, residuals, concretized}
+use Rattle.cedar_requests.specs.declared.request.Request.{Request}
 use Rattle.cedar_responses.specs.declared.partial_response.PartialResponse.{PartialResponse}
 use Rattle.cedar_responses.specs.declared.sheet.Sheet.{Sheet}
 use Rattle.cedar_responses.specs.Kept.{kept}
@@ -20,6 +21,13 @@ use Rattle.cedar_responses.specs.Rows.{Located, true_rows, false_rows, residual_
 use Rattle.cedar_responses.specs.Sheets.{sheet_view, sorted}
 
 -- ---- responses
+
+-- the errors of a response, and the request that it is to
+abbrev pub errors_of : PartialResponse → List (Text × Failure)
+errors_of r = errors_view r.errors.items
+
+abbrev pub request_of : PartialResponse → Request
+request_of r = r.request.value
 
 -- the six maps hold these rows by effect and report, each in the rows' order
 pub record HoldsRows (rows : List Row) (r : PartialResponse) : Type 0 where
@@ -31,30 +39,30 @@ pub record HoldsRows (rows : List Row) (r : PartialResponse) : Type 0 where
   pub residual_forbids : rows_in (residual_rows forbid r.residual_forbids.entries) ≡ residuals forbid rows
 
 -- a response holds the rows of a run, and its errors in order
-pub record IsRun (mode : ErrorHandling) (s : Setting) (calls : StoredCalls) (levels : ℕ) (ps : List Policy) (r : PartialResponse) : Type 0 where
+pub record IsRun (c : Configuration) (s : Setting) (ps : List Policy) (r : PartialResponse) : Type 0 where
   pub rows : List Row
-  pub run : RunOf mode s calls levels ps rows (errors_view r.errors.items)
+  pub run : RunOf c.mode s c.calls c.levels ps rows (errors_of r)
   pub held : HoldsRows rows r
 
 -- in every completion that fits the conditions its rows stand, if none of its errors is the recursion limit
-abbrev pub StandsInCompletions : ErrorHandling → Setting → StoredCalls → List Policy → PartialResponse → Type 0
-StandsInCompletions mode s calls ps r =
-    (ans : Functions) (w : World) → CompletesWith calls ans w s → FitPolicies ans w ps →
-    HaveNoLimit (errors_view r.errors.items) → Stand mode s.extensions ans w ps (rows_view r)
+abbrev pub StandsInCompletions : Configuration → Setting → List Policy → PartialResponse → Type 0
+StandsInCompletions c s ps r =
+    (ans : Functions) (w : World) → CompletesWith c.calls ans w s → FitPolicies ans w ps →
+    HaveNoLimit (errors_of r) → Stand c.mode s.extensions ans w ps (rows_view r)
 
--- the depth bound: the recursion limit is not recorded where all that is given is sound and no higher than b, and no
--- condition is higher than what the levels have above b
-abbrev pub IsDeepEnough : Setting → StoredCalls → ℕ → List Policy → PartialResponse → Type 0
-IsDeepEnough s calls levels ps r =
-    (b h : ℕ) → IsGivenSound calls s → IsNoHigher calls s s.map b → AreNoHigher ps h → h + b ≤ levels →
-    HaveNoLimit (errors_view r.errors.items)
+-- the depth bound: the recursion limit is not recorded where all that is given is no higher than b, and no condition is
+-- higher than what the levels have above b
+abbrev pub IsDeepEnough : Configuration → Setting → List Policy → PartialResponse → Type 0
+IsDeepEnough c s ps r =
+    (b h : ℕ) → IsNoHigher c.calls s s.map b → AreNoHigher ps h → h + b ≤ c.levels →
+    HaveNoLimit (errors_of r)
 
 -- a run that is made concrete
-pub record IsConcreteRun (mode : ErrorHandling) (s : Setting) (calls : StoredCalls) (levels : ℕ) (ps : List Policy) (r : Authorized) : Type 0 where
+pub record IsConcreteRun (c : Configuration) (s : Setting) (ps : List Policy) (r : Authorized) : Type 0 where
   pub rows : List Row
   pub errors : List (Text × Failure)
-  pub run : RunOf mode s calls levels ps rows errors
-  pub concrete : r ≡ concretized mode rows errors
+  pub run : RunOf c.mode s c.calls c.levels ps rows errors
+  pub concrete : r ≡ concretized c.mode rows errors
 
 -- ---- sheets
 
@@ -63,11 +71,16 @@ abbrev pub ComesOutBy : (Answer → Type 0) → Decided → Type 0
 ComesOutBy May d = (a : Answer) × May a × (a ≢ fails out_of_memory) × (d ≡ decided a)
 
 -- the rows and the errors of a run are on a sheet
-pub record IsNotedRun (mode : ErrorHandling) (s : Setting) (calls : StoredCalls) (levels : ℕ) (ps : List Policy) (sheet : Sheet) : Type 0 where
+pub record IsNotedRun (mode : ErrorHandling) (s : Setting) (calls : StoredCalls) (levels : ℕ) (ps : List Policy)
+    (sheet : Sheet) : Type 0 where
   pub located : List Located
   pub errors : List (Text × Failure)
   pub run : RunOf mode s calls levels ps (rows_in located) errors
   pub noted : sheet_view sheet ≡ sorted located errors
+
+-- by an authorizer that is configured so
+abbrev pub IsNotedBy : Configuration → Setting → List Policy → Sheet → Type 0
+IsNotedBy c s ps sheet = IsNotedRun c.mode s c.calls c.levels ps sheet
 
 -- a response keeps what is on a sheet
 pub record KeepsSheet (s : Sheet) (r : PartialResponse) : Type 0 where

@@ -4,18 +4,19 @@ ghost use Rattle.cedar_model.specs.Agreement.{no_slots};
 ghost use Rattle.cedar_model.specs.Failures.{out_of_memory, failure_kind};
 ghost use Rattle.cedar_model.specs.Policies.{skip};
 ghost use Rattle.cedar_model.specs.Responses.{errs_with};
-ghost use Rattle.cedar_extensions.specs.Extensions.{extensions_view, calls_of};
 ghost use Rattle.cedar_layers.specs.Policies.{policy_view, condition_term};
-ghost use Rattle.cedar_layers.specs.Stores.{store_view};
 ghost use Rattle.cedar_values.specs.Failures.{failure_of};
-ghost use Rattle.cedar_requests.specs.Requests.{request_view};
 ghost use Rattle.cedar_evaluation.specs.Promises.{IsPromised};
-ghost use Rattle.cedar_evaluator.specs.Evaluations.{setting_of, calls_in, limit_of};
+ghost use Rattle.cedar_evaluator.specs.Evaluations.{setting_of, calls_in};
+ghost use Rattle.cedar_evaluator.specs.Evaluations as evaluations;
 ghost use Rattle.cedar_responses.specs.Responses.{response_view};
+ghost use Rattle.cedar_responses.specs.Rows.{rows_view};
 ghost use Rattle.cedar_responses.specs.Sheets.{outcome_view};
-ghost use Rattle.cedar_authorizer.specs.Responding.{deciding, authorization_of};
+ghost use Rattle.cedar_authorizer.specs.Configured.{configuration, asked};
+ghost use Rattle.cedar_authorizer.specs.Responding.{deciding};
 ghost use Rattle.cedar_authorizer.specs.Wanting.{is_of_memory};
-ghost use Rattle.cedar_authorizer.specs.Running.{IsRun, StandsInCompletions, IsDeepEnough, IsConcreteRun, ComesOutBy, IsNotedRun, KeepsSheet};
+ghost use Rattle.cedar_authorizer.specs.Running.{errors_of, request_of, IsRun, StandsInCompletions, IsDeepEnough, IsConcreteRun};
+ghost use Rattle.cedar_authorizer.specs.Running.{ComesOutBy, IsNotedRun, IsNotedBy, KeepsSheet};
 
 use cedar_data::Value;
 use cedar_evaluator::evaluator::{EvaluationError, Evaluator};
@@ -67,15 +68,16 @@ pub struct Authorizer<'x, 'f> {
 }
 
 impl<'x, 'f> Authorizer<'x, 'f> {
-    ghost use Rattle.cedar_reauthorization.specs.Errors.{step_answer_by};
-    ghost use Rattle.cedar_responses.specs.declared.partial_response.PartialResponse.{PartialResponse};
-    ghost use Rattle.cedar_authorizer.specs.Responding.{IsKnownResponse, MeetsNoLimit, OwnWorldCompletesCall};
+    ghost use Rattle.cedar_authorizer.specs.Steps.{step_answer};
+    ghost use Rattle.cedar_authorizer.specs.Configured.{extensions_of, limit_of};
+    ghost use Rattle.cedar_authorizer.specs.Responding.{IsKnownResponse, IsKnownRun, MeetsNoLimit, OwnWorldCompletesCall};
     ghost use Rattle.cedar_authorizer.specs.Headline.{steps_view, IsChain, IsHeadline, LeavesNothing};
 
-    /// The authorizer that uses these extensions. A condition that is nested more than `limit` levels deep counts as erring, with
-    /// `RecursionLimit`.
+    /// The authorizer that uses these extensions. A condition whose evaluation goes more than `limit` levels deep counts as
+    /// erring, with `RecursionLimit`: an expression is one level and its parts one more, and a part that is not read takes none.
     pub fn new(extensions: &'x Extensions<'f>, limit: usize) -> Authorizer<'x, 'f>
-        ensures { result.limit ≡ limit }
+        ensures extensions { extensions_of result ≡ extensions.now }
+        ensures limit { limit_of result ≡ limit }
     {
         Authorizer { extensions, limit }
     }
@@ -90,10 +92,19 @@ impl<'x, 'f> Authorizer<'x, 'f> {
         policies: &PolicySet,
         entities: &Entities,
     ) -> Result<Response, AllocError>
-        ensures response { IfOk result (λ r. IsConcreteRun skip (authorization_of (request_view request) (store_view entities.now) (extensions_view self.now.extensions.now)) (calls_of self.now.extensions.now) self.now.limit (deciding policies.now) (response_view r)) }
-        ensures known { IfOk result (λ r. IsKnownResponse (authorization_of (request_view request) (store_view entities.now) (extensions_view self.now.extensions.now)) (calls_of self.now.extensions.now) (deciding policies.now) (response_view r)) }
-        ensures limit { IfOk result (λ r. MeetsNoLimit (authorization_of (request_view request) (store_view entities.now) (extensions_view self.now.extensions.now)) (calls_of self.now.extensions.now) self.now.limit (deciding policies.now) (response_view r)) }
-        ensures own_world { OwnWorldCompletesCall (authorization_of (request_view request) (store_view entities.now) (extensions_view self.now.extensions.now)) (deciding policies.now) }
+        ensures response {
+            IfOk result (λ r. IsConcreteRun (configuration self.now) (asked self.now request entities.now)
+                (deciding policies.now) (response_view r))
+        }
+        ensures known {
+            IfOk result (λ r. IsKnownResponse (configuration self.now) (asked self.now request entities.now)
+                (deciding policies.now) (response_view r))
+        }
+        ensures limit {
+            IfOk result (λ r. MeetsNoLimit (configuration self.now) (asked self.now request entities.now)
+                (deciding policies.now) (response_view r).errors)
+        }
+        ensures own_world { OwnWorldCompletesCall (asked self.now request entities.now) (deciding policies.now) }
     {
         let response = self.is_authorized_core(alloc, request, policies, entities)?;
         response.concretize(alloc)
@@ -101,8 +112,8 @@ impl<'x, 'f> Authorizer<'x, 'f> {
 
     /// What is known of each policy for the request over this store: whether it is satisfied, or what is left of its condition. A
     /// policy that errs is false with `ErrorState::Error`, and its error is recorded, the recursion limit included. In every
-    /// completion of the request and the store what is reported stands, if no recursion limit is recorded. Refuses only for want
-    /// of memory.
+    /// completion of the request and the store what is reported stands, if no recursion limit is recorded. Where nothing is
+    /// unknown no residual is left, and the decision is given. Refuses only for want of memory.
     pub fn is_authorized_core(
         &self,
         alloc: Global,
@@ -110,19 +121,28 @@ impl<'x, 'f> Authorizer<'x, 'f> {
         policies: &PolicySet,
         entities: &Entities,
     ) -> Result<PartialResponse, AllocError>
-        ensures run { IfOk result (λ r. IsRun skip (authorization_of (request_view request) (store_view entities.now) (extensions_view self.now.extensions.now)) (calls_of self.now.extensions.now) self.now.limit (deciding policies.now) r) }
-        ensures stands { IfOk result (λ r. StandsInCompletions skip (authorization_of (request_view request) (store_view entities.now) (extensions_view self.now.extensions.now)) (calls_of self.now.extensions.now) (deciding policies.now) r) }
-        ensures deep_enough { IfOk result (λ r. IsDeepEnough (authorization_of (request_view request) (store_view entities.now) (extensions_view self.now.extensions.now)) (calls_of self.now.extensions.now) self.now.limit (deciding policies.now) r) }
-        ensures request { IfOk result (λ r. r.request.value ≡ request) }
+        ensures run {
+            IfOk result (IsRun (configuration self.now) (asked self.now request entities.now) (deciding policies.now))
+        }
+        ensures stands {
+            IfOk result (StandsInCompletions (configuration self.now) (asked self.now request entities.now)
+                (deciding policies.now))
+        }
+        ensures known {
+            IfOk result (λ r. IsKnownRun (configuration self.now) (asked self.now request entities.now)
+                (deciding policies.now) (rows_view r) (errors_of r))
+        }
+        ensures limit {
+            IfOk result (λ r. MeetsNoLimit (configuration self.now) (asked self.now request entities.now)
+                (deciding policies.now) (errors_of r))
+        }
+        ensures deep_enough {
+            IfOk result (IsDeepEnough (configuration self.now) (asked self.now request entities.now)
+                (deciding policies.now))
+        }
+        ensures request { IfOk result (λ r. request_of r ≡ request) }
     {
-        let sheet = first_sheet(
-            alloc,
-            &request,
-            policies,
-            entities,
-            self.extensions,
-            self.limit,
-        )?;
+        let sheet = first_sheet(alloc, self, &request, policies, entities)?;
         response_of(alloc, sheet, Rc::new(alloc, request)?)
     }
 
@@ -138,9 +158,18 @@ impl<'x, 'f> Authorizer<'x, 'f> {
         entities: &Entities,
         steps: &[(&HashMap<RcStr, Value>, &Entities)],
     ) -> Result<PartialResponse, ReauthorizationError>
-        ensures chain { IfSome (step_answer_by (λ (r : PartialResponse). r) result) (IsChain (authorization_of (request_view request) (store_view entities.now) (extensions_view self.now.extensions.now)) (calls_of self.now.extensions.now) (deciding policies.now) (steps_view steps.now) self.now.limit) }
-        ensures headline { IfOk result (IsHeadline (authorization_of (request_view request) (store_view entities.now) (extensions_view self.now.extensions.now)) (calls_of self.now.extensions.now) (deciding policies.now) (steps_view steps.now)) }
-        ensures known { IfOk result (LeavesNothing (authorization_of (request_view request) (store_view entities.now) (extensions_view self.now.extensions.now)) (calls_of self.now.extensions.now) (deciding policies.now) (steps_view steps.now)) }
+        ensures chain {
+            IfSome (step_answer result) (IsChain (configuration self.now) (asked self.now request entities.now)
+                (deciding policies.now) (steps_view steps.now))
+        }
+        ensures headline {
+            IfOk result (IsHeadline (configuration self.now) (asked self.now request entities.now)
+                (deciding policies.now) (steps_view steps.now))
+        }
+        ensures known {
+            IfOk result (LeavesNothing (configuration self.now) (asked self.now request entities.now)
+                (deciding policies.now))
+        }
     {
         let response = self.is_authorized_core(alloc, request, policies, entities)?;
         take_steps(alloc, response, self, steps)
@@ -150,15 +179,23 @@ impl<'x, 'f> Authorizer<'x, 'f> {
 // How each policy comes out, in their order, where no unknown has a value.
 fn first_sheet(
     alloc: Global,
+    authorizer: &Authorizer<'_, '_>,
     request: &Request,
     policies: &PolicySet,
     entities: &Entities,
-    extensions: &Extensions<'_>,
-    limit: usize,
 ) -> Result<Sheet, AllocError>
-    ensures { IfOk result (λ s. IsNotedRun skip (authorization_of (request_view request.now) (store_view entities.now) (extensions_view extensions.now)) (calls_of extensions.now) limit (deciding policies.now) s) }
+    ensures {
+        IfOk result (IsNotedBy (configuration authorizer.now) (asked authorizer.now request.now entities.now)
+            (deciding policies.now))
+    }
 {
-    let evaluator = Evaluator::new(alloc, request.clone()?, entities, extensions, limit)?;
+    let evaluator = Evaluator::new(
+        alloc,
+        request.clone()?,
+        entities,
+        authorizer.extensions,
+        authorizer.limit,
+    )?;
     run_all(alloc, &evaluator, policies)
 }
 
@@ -168,7 +205,10 @@ fn run_all(
     evaluator: &Evaluator<'_, '_>,
     policies: &PolicySet,
 ) -> Result<Sheet, AllocError>
-    ensures { IfOk result (λ s. IsNotedRun skip (setting_of evaluator.now no_slots) (calls_in evaluator.now) (limit_of evaluator.now) (deciding policies.now) s) }
+    ensures {
+        IfOk result (IsNotedRun skip (setting_of evaluator.now no_slots) (calls_in evaluator.now)
+            (evaluations.limit_of evaluator.now) (deciding policies.now))
+    }
 {
     let mut sheet = Sheet::new(alloc);
     'policies: for policy in policies.policies() {
@@ -184,7 +224,11 @@ fn outcome_of(
     evaluator: &Evaluator<'_, '_>,
     policy: &Policy,
 ) -> Result<Outcome, AllocError>
-    ensures { IfOk result (λ o. ComesOutBy (IsPromised (setting_of evaluator.now (policy_view policy.now).slots) (calls_in evaluator.now) (limit_of evaluator.now) (condition_term (policy_view policy.now))) (outcome_view o)) }
+    ensures {
+        IfOk result (λ o. ComesOutBy (IsPromised (setting_of evaluator.now (policy_view policy.now).slots)
+            (calls_in evaluator.now) (evaluations.limit_of evaluator.now) (condition_term (policy_view policy.now)))
+            (outcome_view o))
+    }
 {
     match evaluator.partial_evaluate(alloc, policy) {
         Ok(Left(is_true)) => Ok(Outcome::Decided(is_true)),

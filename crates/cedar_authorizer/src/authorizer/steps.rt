@@ -1,24 +1,20 @@
 //! Reauthorization: a response taken further, by values for its unknowns and another store.
 ghost use Rattle.std.specs.Prelude.{◌≡◌, ◌≢◌, Option, Some, IfOk, IfErr, IfSome};
-ghost use Rattle.cedar_model.specs.Agreement.{no_slots};
 ghost use Rattle.cedar_model.specs.Chains.{Response, is_limit, has_limit};
 ghost use Rattle.cedar_model.specs.Failures.{recursion_limit, failure_kind};
-ghost use Rattle.cedar_model.specs.Policies.{skip};
 ghost use Rattle.cedar_model.specs.Refusals.{context_fails};
 ghost use Rattle.cedar_names.specs.declared.names.Loc.{Loc};
-ghost use Rattle.cedar_extensions.specs.Extensions.{extensions_view, calls_of};
-ghost use Rattle.cedar_layers.specs.Stores.{store_view};
 ghost use Rattle.cedar_requests.specs.Requests.{request_view};
 ghost use Rattle.cedar_requests.specs.Substitutions.{values_for};
-ghost use Rattle.cedar_evaluator.specs.Evaluations.{setting_for};
-ghost use Rattle.cedar_responses.specs.declared.partial_response.PartialResponse.{PartialResponse};
 ghost use Rattle.cedar_responses.specs.Responses.{error_view, errors_view};
 ghost use Rattle.cedar_reauthorization.specs.Concretizations.{entity_locs, concrete_locs, IsResidualNoHigher};
-ghost use Rattle.cedar_reauthorization.specs.Errors.{step_answer_by, step_refusal};
+ghost use Rattle.cedar_reauthorization.specs.Errors.{step_refusal};
+ghost use Rattle.cedar_authorizer.specs.Configured.{configuration, limit_of};
 ghost use Rattle.cedar_authorizer.specs.Headline.{steps_view, IsTakenFurther};
-ghost use Rattle.cedar_authorizer.specs.Responding.{authorization_of, deciding};
-ghost use Rattle.cedar_authorizer.specs.Running.{IsRun, IsNotedRun};
-ghost use Rattle.cedar_authorizer.specs.Steps.{response_said, IsDecidedAgain, IsStep, KeepsWhatStands, TakesNothingBack, Finishes, IsDeepEnough};
+ghost use Rattle.cedar_authorizer.specs.Responding.{deciding};
+ghost use Rattle.cedar_authorizer.specs.Running.{request_of, IsRun, IsNotedBy};
+ghost use Rattle.cedar_authorizer.specs.Steps.{step_answer, response_said, step_by, under, IsDecidedAgain, IsStep, KeepsWhatStands};
+ghost use Rattle.cedar_authorizer.specs.Steps.{TakesNothingBack, Finishes, IsDeepEnough};
 
 use super::{Authorizer, response_of, run_all};
 use cedar_data::Value;
@@ -58,12 +54,26 @@ pub trait Reauthorize {
         authorizer: &Authorizer<'_, '_>,
         entities: &Entities,
     ) -> Result<PartialResponse, ReauthorizationError>
-        ensures step { IfSome (step_answer_by (λ (r : PartialResponse). r) result) (IsStep (authorization_of (said self.now).request (store_view entities.now) (extensions_view authorizer.now.extensions.now)) (calls_of authorizer.now.extensions.now) authorizer.now.limit (values_for map.now.entries) (store_view entities.now) (said self.now)) }
-        ensures places { IfOk result (λ r. entity_locs r.request.value ≡ concrete_locs (values_for map.now.entries) (places self.now)) }
-        ensures stands { IfOk result (KeepsWhatStands (authorization_of (said self.now).request (store_view entities.now) (extensions_view authorizer.now.extensions.now)) (calls_of authorizer.now.extensions.now) authorizer.now.limit (values_for map.now.entries) (store_view entities.now) (said self.now)) }
-        ensures kept { IfOk result (TakesNothingBack (authorization_of (said self.now).request (store_view entities.now) (extensions_view authorizer.now.extensions.now)) (calls_of authorizer.now.extensions.now) authorizer.now.limit (values_for map.now.entries) (store_view entities.now) (said self.now)) }
-        ensures finishes { IfOk result (Finishes (authorization_of (said self.now).request (store_view entities.now) (extensions_view authorizer.now.extensions.now)) (calls_of authorizer.now.extensions.now) authorizer.now.limit (values_for map.now.entries) (store_view entities.now) (said self.now)) }
-        ensures deep_enough { IfSome (step_answer_by (λ (r : PartialResponse). r) result) (IsDeepEnough (authorization_of (said self.now).request (store_view entities.now) (extensions_view authorizer.now.extensions.now)) (calls_of authorizer.now.extensions.now) authorizer.now.limit (values_for map.now.entries) (store_view entities.now) (said self.now)) };
+        ensures step {
+            IfSome (step_answer result)
+                (IsStep (configuration authorizer.now) (step_by map.now entities.now) (said self.now))
+        }
+        ensures places {
+            IfOk result (λ r. entity_locs (request_of r) ≡ concrete_locs (values_for map.now.entries) (places self.now))
+        }
+        ensures stands {
+            IfOk result (KeepsWhatStands (configuration authorizer.now) (step_by map.now entities.now) (said self.now))
+        }
+        ensures kept {
+            IfOk result (TakesNothingBack (configuration authorizer.now) (step_by map.now entities.now) (said self.now))
+        }
+        ensures finishes {
+            IfOk result (Finishes (configuration authorizer.now) (step_by map.now entities.now) (said self.now))
+        }
+        ensures deep_enough {
+            IfSome (step_answer result)
+                (IsDeepEnough (configuration authorizer.now) (step_by map.now entities.now) (said self.now))
+        };
 }
 
 impl Reauthorize for PartialResponse {
@@ -90,9 +100,19 @@ fn reauthorized(
     authorizer: &Authorizer<'_, '_>,
     entities: &Entities,
 ) -> Result<PartialResponse, ReauthorizationError>
-    ensures step { IfSome (step_answer_by (λ (r : PartialResponse). r) result) (IsStep (authorization_of (response_said response.now).request (store_view entities.now) (extensions_view authorizer.now.extensions.now)) (calls_of authorizer.now.extensions.now) authorizer.now.limit (values_for map.now.entries) (store_view entities.now) (response_said response.now)) }
-    ensures places { IfOk result (λ r. entity_locs r.request.value ≡ concrete_locs (values_for map.now.entries) (entity_locs response.now.request.value)) }
-    ensures low { IsResidualNoHigher (values_for map.now.entries) authorizer.now.limit (request_view response.now.request.value).context_part → IfErr result (λ e. step_refusal e ≢ Some (context_fails recursion_limit)) }
+    ensures step {
+        IfSome (step_answer result)
+            (IsStep (configuration authorizer.now) (step_by map.now entities.now) (response_said response.now))
+    }
+    ensures places {
+        IfOk result (λ r. entity_locs r.request.value
+            ≡ concrete_locs (values_for map.now.entries) (entity_locs response.now.request.value))
+    }
+    ensures low {
+        IsResidualNoHigher (values_for map.now.entries) (limit_of authorizer.now)
+            (request_view response.now.request.value).context_part
+            → IfErr result (λ e. step_refusal e ≢ Some (context_fails recursion_limit))
+    }
 {
     match residual_policies(alloc, response) {
         Ok(policies) => {
@@ -118,9 +138,20 @@ fn with_policies(
     authorizer: &Authorizer<'_, '_>,
     entities: &Entities,
 ) -> Result<PartialResponse, ReauthorizationError>
-    ensures step { IfSome (step_answer_by (λ (r : PartialResponse). r) result) (IsDecidedAgain (authorization_of (request_view request.now) (store_view entities.now) (extensions_view authorizer.now.extensions.now)) (calls_of authorizer.now.extensions.now) authorizer.now.limit (values_for map.now.entries) (store_view entities.now) (request_view request.now) (deciding policies.now)) }
-    ensures places { IfOk result (λ r. entity_locs r.request.value ≡ concrete_locs (values_for map.now.entries) (entity_locs request.now)) }
-    ensures low { IsResidualNoHigher (values_for map.now.entries) authorizer.now.limit (request_view request.now).context_part → IfErr result (λ e. step_refusal e ≢ Some (context_fails recursion_limit)) }
+    ensures step {
+        IfSome (step_answer result)
+            (IsDecidedAgain (configuration authorizer.now) (step_by map.now entities.now) (request_view request.now)
+                (deciding policies.now))
+    }
+    ensures places {
+        IfOk result (λ r. entity_locs r.request.value
+            ≡ concrete_locs (values_for map.now.entries) (entity_locs request.now))
+    }
+    ensures low {
+        IsResidualNoHigher (values_for map.now.entries) (limit_of authorizer.now)
+            (request_view request.now).context_part
+            → IfErr result (λ e. step_refusal e ≢ Some (context_fails recursion_limit))
+    }
 {
     match concretize_request(alloc, request, map, authorizer.extensions, authorizer.limit) {
         Ok(request) => Ok(decided_again(alloc, request, policies, map, authorizer, entities)?),
@@ -137,7 +168,11 @@ fn decided_again(
     authorizer: &Authorizer<'_, '_>,
     entities: &Entities,
 ) -> Result<PartialResponse, AllocError>
-    ensures run { IfOk result (λ r. IsRun skip (setting_for (request_view request) (store_view entities.now) (extensions_view authorizer.now.extensions.now) (values_for map.now.entries) no_slots) (calls_of authorizer.now.extensions.now) authorizer.now.limit (deciding policies.now) r) }
+    ensures run {
+        IfOk result (IsRun (configuration authorizer.now)
+            (under (configuration authorizer.now) (step_by map.now entities.now) (request_view request))
+            (deciding policies.now))
+    }
     ensures request { IfOk result (λ r. r.request.value ≡ request) }
 {
     let sheet = next_sheet(alloc, &request, policies, map, authorizer, entities)?;
@@ -153,7 +188,11 @@ fn next_sheet(
     authorizer: &Authorizer<'_, '_>,
     entities: &Entities,
 ) -> Result<Sheet, AllocError>
-    ensures { IfOk result (λ s. IsNotedRun skip (setting_for (request_view request.now) (store_view entities.now) (extensions_view authorizer.now.extensions.now) (values_for map.now.entries) no_slots) (calls_of authorizer.now.extensions.now) authorizer.now.limit (deciding policies.now) s) }
+    ensures {
+        IfOk result (IsNotedBy (configuration authorizer.now)
+            (under (configuration authorizer.now) (step_by map.now entities.now) (request_view request.now))
+            (deciding policies.now))
+    }
 {
     let evaluator = Evaluator::new(
         alloc,
@@ -175,7 +214,9 @@ pub(super) fn take_steps(
     authorizer: &Authorizer<'_, '_>,
     steps: &[(&HashMap<RcStr, Value>, &Entities)],
 ) -> Result<PartialResponse, ReauthorizationError>
-    ensures { IfSome (step_answer_by (λ (r : PartialResponse). r) result) (IsTakenFurther (extensions_view authorizer.now.extensions.now) (calls_of authorizer.now.extensions.now) authorizer.now.limit (steps_view steps.now) first) }
+    ensures {
+        IfSome (step_answer result) (IsTakenFurther (configuration authorizer.now) (steps_view steps.now) first)
+    }
 {
     let mut response = first;
     'steps: for step in steps {
@@ -199,7 +240,10 @@ fn take_step(
     authorizer: &Authorizer<'_, '_>,
     entities: &Entities,
 ) -> Result<PartialResponse, ReauthorizationError>
-    ensures { IfSome (step_answer_by (λ (r : PartialResponse). r) result) (IsStep (authorization_of (response_said response).request (store_view entities.now) (extensions_view authorizer.now.extensions.now)) (calls_of authorizer.now.extensions.now) authorizer.now.limit (values_for map.now.entries) (store_view entities.now) (response_said response)) }
+    ensures {
+        IfSome (step_answer result)
+            (IsStep (configuration authorizer.now) (step_by map.now entities.now) (response_said response))
+    }
 {
     let next = reauthorized(alloc, &response, map, authorizer, entities);
     drop(response);

@@ -1,18 +1,51 @@
 use Rattle.std.proofs.Common.{refl}
 use Rattle.std.proofs.lemmas.Result.{IfOk-weaker}
+use Rattle.cedar_model.specs.Policies.{skip}
+use Rattle.cedar_extensions.specs.Extensions.{calls_of}
 use Rattle.cedar_extensions.specs.StoredLaws.{calls_meet_no_limit}
+use Rattle.cedar_authorizer.specs.Configured.{extensions_of, limit_of, asked}
+use Rattle.cedar_authorizer.specs.Responding.{deciding}
 use Rattle.cedar_authorizer.proofs.Noting.{is_run}
-use Rattle.cedar_authorizer.proofs.Deciding.{run_stands, run_low}
+use Rattle.cedar_authorizer.proofs.Deciding.{run_stands, run_low, known_partly, known_meets_no_limit}
+use Rattle.cedar_authorizer.proofs.Kept.{asked_sound}
 use Rattle.cedar_authorizer.proofs.authorizer.Authorizer.is_authorized_core.Goals as goal
 
 pub returns-clause-run : goal.returns-clause-run
 returns-clause-run g c =
-    IfOk-weaker c.response_of.result _ _ (λ r k. is_run _ _ _ _ c.args.policies.now c.in_ok-sheet.sheet r c.in_ok-sheet.ensures k) c.response_of.ensures.kept
+    let calls = calls_of (extensions_of c.args.self.now) in
+    let levels = limit_of c.args.self.now in
+    let s = asked c.args.self.now c.args.request c.args.entities.now in
+    let ps = deciding c.args.policies.now in
+    IfOk-weaker c.response_of.result _ _ (λ r k. (is_run skip s calls levels c.args.policies.now c.in_ok-sheet.sheet r c.in_ok-sheet.ensures k)) c.response_of.ensures.kept
 
 pub returns-clause-stands : goal.returns-clause-stands
 returns-clause-stands g c =
-    IfOk-weaker c.response_of.result _ _ (λ r k. run_stands _ _ _ _ _ r (is_run _ _ _ _ c.args.policies.now c.in_ok-sheet.sheet r c.in_ok-sheet.ensures k)) c.response_of.ensures.kept
+    let calls = calls_of (extensions_of c.args.self.now) in
+    let levels = limit_of c.args.self.now in
+    let s = asked c.args.self.now c.args.request c.args.entities.now in
+    let ps = deciding c.args.policies.now in
+    IfOk-weaker c.response_of.result _ _ (λ r k. run_stands s calls levels ps skip r (is_run skip s calls levels c.args.policies.now c.in_ok-sheet.sheet r c.in_ok-sheet.ensures k)) c.response_of.ensures.kept
+
+pub returns-clause-known : goal.returns-clause-known
+returns-clause-known g c =
+    let calls = calls_of (extensions_of c.args.self.now) in
+    let levels = limit_of c.args.self.now in
+    let s = asked c.args.self.now c.args.request c.args.entities.now in
+    let ps = deciding c.args.policies.now in
+    IfOk-weaker c.response_of.result _ _ (λ r k. known_partly s calls levels ps r (is_run skip s calls levels c.args.policies.now c.in_ok-sheet.sheet r c.in_ok-sheet.ensures k)) c.response_of.ensures.kept
+
+pub returns-clause-limit : goal.returns-clause-limit
+returns-clause-limit g c =
+    let calls = calls_of (extensions_of c.args.self.now) in
+    let levels = limit_of c.args.self.now in
+    let s = asked c.args.self.now c.args.request c.args.entities.now in
+    let ps = deciding c.args.policies.now in
+    IfOk-weaker c.response_of.result _ _ (λ r k. known_meets_no_limit s calls levels ps r (is_run skip s calls levels c.args.policies.now c.in_ok-sheet.sheet r c.in_ok-sheet.ensures k)) c.response_of.ensures.kept
 
 pub returns-clause-deep_enough : goal.returns-clause-deep_enough
 returns-clause-deep_enough g c =
-    IfOk-weaker c.response_of.result _ _ (λ r k. run_low _ _ _ _ r (calls_meet_no_limit c.args.self.now.extensions.now) refl (is_run _ _ _ _ c.args.policies.now c.in_ok-sheet.sheet r c.in_ok-sheet.ensures k)) c.response_of.ensures.kept
+    let calls = calls_of (extensions_of c.args.self.now) in
+    let levels = limit_of c.args.self.now in
+    let s = asked c.args.self.now c.args.request c.args.entities.now in
+    let ps = deciding c.args.policies.now in
+    IfOk-weaker c.response_of.result _ _ (λ r k. run_low s calls levels ps r (calls_meet_no_limit (extensions_of c.args.self.now)) refl (asked_sound c.args.self.now c.args.request c.args.entities.now) (is_run skip s calls levels c.args.policies.now c.in_ok-sheet.sheet r c.in_ok-sheet.ensures k)) c.response_of.ensures.kept

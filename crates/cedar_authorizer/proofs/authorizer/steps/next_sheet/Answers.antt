@@ -6,6 +6,7 @@ use Rattle.cedar_layers.specs.Stores.{store_view}
 use Rattle.cedar_requests.specs.Substitutions.{values_for}
 use Rattle.cedar_evaluator.specs.Evaluations.{setting_for}
 use Rattle.cedar_extensions.specs.Extensions.{extensions_view, calls_of}
+use Rattle.cedar_authorizer.specs.Configured.{extensions_of}
 use Rattle.cedar_authorizer.proofs.Noting.{noted_alike}
 use Rattle.cedar_authorizer.proofs.authorizer.steps.next_sheet.Goals as goal
 
@@ -14,4 +15,4 @@ returns g c =
     let e = c.in_ok-evaluator.ensures in
     let k = c.with_unknowns_mapper-evaluator.ensures in
     let m = values_for c.args.map.now.entries in
-    IfOk-weaker c.run_all-sheet.result _ _ (λ s h. noted_alike _ _ _ _ _ _ _ s (k.setting no_slots ∙ ap (λ (q : Setting). setting_for q.request q.store q.extensions m no_slots) (e.setting no_slots) ∙ ap (λ r. setting_for r (store_view c.args.entities.now) (extensions_view c.args.authorizer.now.extensions.now) m no_slots) c.in_ok-clone.ensures.cases.0) (ap calls_of (k.extensions ∙ e.extensions)) (k.limit ∙ e.limit) h) c.run_all-sheet.ensures
+    IfOk-weaker c.run_all-sheet.result _ _ (λ s h. noted_alike _ _ _ _ _ _ _ s (k.setting no_slots ∙ ap (λ (q : Setting). setting_for q.request q.store q.extensions m no_slots) (e.setting no_slots) ∙ ap (λ r. setting_for r (store_view c.args.entities.now) (extensions_view (extensions_of c.args.authorizer.now)) m no_slots) c.in_ok-clone.ensures.cases.0) (ap calls_of (k.extensions ∙ e.extensions)) (k.limit ∙ e.limit) h) c.run_all-sheet.ensures

@@ -1,21 +1,18 @@
 use Rattle.std.proofs.Common.{◌≡◌, ℕ, List, suc, ◌<◌, length, ◌+◌, ◌∷◌, drop, ap, sym, ◌∙◌, subst, arith}
 use Rattle.std.proofs.Math.Seq.{drop-cons}
 use Rattle.std.proofs.lemmas.List.{drop_all}
-use Rattle.cedar_extensions.specs.Extensions.{extensions_view, calls_of}
 use Rattle.cedar_reauthorization.specs.Errors.{step_refusal}
+use Rattle.cedar_authorizer.specs.Configured.{configuration}
 use Rattle.cedar_authorizer.specs.Headline.{step_view, steps_view}
 use Rattle.cedar_authorizer.proofs.Chaining.{AreTaken, none_taken, stops_with, ends_with, one_taken, refused_with}
 use Rattle.cedar_authorizer.proofs.authorizer.steps.take_steps.Goals as goal
 
 pub steps-init : goal.steps-init
 steps-init g c =
-    none_taken (extensions_view c.args.authorizer.now.extensions.now) (calls_of c.args.authorizer.now.extensions.now) c.args.authorizer.now.limit c.args.first (steps_view c.args.steps.now)
+    none_taken (configuration c.args.authorizer.now) c.args.first (steps_view c.args.steps.now)
 
 pub returns-then-has_recursion_limit : goal.returns-then-has_recursion_limit
 returns-then-has_recursion_limit g c =
-    let x = extensions_view c.args.authorizer.now.extensions.now in
-    let calls = calls_of c.args.authorizer.now.extensions.now in
-    let levels = c.args.authorizer.now.limit in
     let steps = c.args.steps.now in
     let all = steps_view steps in
     let i = c.steps.step-index in
@@ -23,21 +20,16 @@ returns-then-has_recursion_limit g c =
     let more : suc i ≡ i + 1 = omega arith in
     let next : drop i steps ≡ item ∷ drop (i + 1) steps = drop-cons steps i item c.steps-test.true ∙ ap (λ p. p ∷ drop (suc i) steps) (sym c.step-item.is) ∙ ap (λ j. item ∷ drop j steps) more in
     let left = steps_view (drop (i + 1) steps) in
-    let taken : AreTaken x calls levels c.args.first all (step_view item ∷ left) c.steps.response = subst (λ l. AreTaken x calls levels c.args.first all (steps_view l) c.steps.response) next c.steps.invariant in
-    stops_with x calls levels c.args.first all (step_view item) left c.steps.response taken (sym c.has_recursion_limit.ensures ∙ c.if-has_recursion_limit.true)
+    let taken : AreTaken (configuration c.args.authorizer.now) c.args.first all (step_view item ∷ left) c.steps.response = subst (λ l. AreTaken (configuration c.args.authorizer.now) c.args.first all (steps_view l) c.steps.response) next c.steps.invariant in
+    stops_with (configuration c.args.authorizer.now) c.args.first all (step_view item) left c.steps.response taken (sym c.has_recursion_limit.ensures ∙ c.if-has_recursion_limit.true)
 
 pub returns : goal.returns
 returns g c =
-    let x = extensions_view c.args.authorizer.now.extensions.now in
-    let calls = calls_of c.args.authorizer.now.extensions.now in
     let steps = c.args.steps.now in
-    ends_with x calls c.args.authorizer.now.limit c.args.first (steps_view steps) (steps_view (drop c.steps.step-index steps)) c.steps.response (ap steps_view (drop_all c.steps.step-index steps c.steps-test.false)) c.steps.invariant
+    ends_with (configuration c.args.authorizer.now) c.args.first (steps_view steps) (steps_view (drop c.steps.step-index steps)) c.steps.response (ap steps_view (drop_all c.steps.step-index steps c.steps-test.false)) c.steps.invariant
 
 pub returns-in-Err : goal.returns-in-Err
 returns-in-Err g c =
-    let x = extensions_view c.args.authorizer.now.extensions.now in
-    let calls = calls_of c.args.authorizer.now.extensions.now in
-    let levels = c.args.authorizer.now.limit in
     let steps = c.args.steps.now in
     let all = steps_view steps in
     let i = c.steps.step-index in
@@ -45,14 +37,11 @@ returns-in-Err g c =
     let more : suc i ≡ i + 1 = omega arith in
     let next : drop i steps ≡ item ∷ drop (i + 1) steps = drop-cons steps i item c.steps-test.true ∙ ap (λ p. p ∷ drop (suc i) steps) (sym c.step-item.is) ∙ ap (λ j. item ∷ drop j steps) more in
     let left = steps_view (drop (i + 1) steps) in
-    let taken : AreTaken x calls levels c.args.first all (step_view item ∷ left) c.steps.response = subst (λ l. AreTaken x calls levels c.args.first all (steps_view l) c.steps.response) next c.steps.invariant in
-    refused_with x calls levels c.args.first all (step_view item) left c.steps.response taken (sym c.has_recursion_limit.ensures ∙ c.if-has_recursion_limit.false) (step_refusal c.in-Err.error) c.in-Err.ensures
+    let taken : AreTaken (configuration c.args.authorizer.now) c.args.first all (step_view item ∷ left) c.steps.response = subst (λ l. AreTaken (configuration c.args.authorizer.now) c.args.first all (steps_view l) c.steps.response) next c.steps.invariant in
+    refused_with (configuration c.args.authorizer.now) c.args.first all (step_view item) left c.steps.response taken (sym c.has_recursion_limit.ensures ∙ c.if-has_recursion_limit.false) (step_refusal c.in-Err.error) c.in-Err.ensures
 
 pub steps-preserved : goal.steps-preserved
 steps-preserved g c =
-    let x = extensions_view c.args.authorizer.now.extensions.now in
-    let calls = calls_of c.args.authorizer.now.extensions.now in
-    let levels = c.args.authorizer.now.limit in
     let steps = c.args.steps.now in
     let all = steps_view steps in
     let i = c.steps.step-index in
@@ -60,5 +49,5 @@ steps-preserved g c =
     let more : suc i ≡ i + 1 = omega arith in
     let next : drop i steps ≡ item ∷ drop (i + 1) steps = drop-cons steps i item c.steps-test.true ∙ ap (λ p. p ∷ drop (suc i) steps) (sym c.step-item.is) ∙ ap (λ j. item ∷ drop j steps) more in
     let left = steps_view (drop (i + 1) steps) in
-    let taken : AreTaken x calls levels c.args.first all (step_view item ∷ left) c.steps.response = subst (λ l. AreTaken x calls levels c.args.first all (steps_view l) c.steps.response) next c.steps.invariant in
-    one_taken x calls levels c.args.first all (step_view item) left c.steps.response taken (sym c.has_recursion_limit.ensures ∙ c.if-has_recursion_limit.false) c.in-Ok.next c.in-Ok.ensures
+    let taken : AreTaken (configuration c.args.authorizer.now) c.args.first all (step_view item ∷ left) c.steps.response = subst (λ l. AreTaken (configuration c.args.authorizer.now) c.args.first all (steps_view l) c.steps.response) next c.steps.invariant in
+    one_taken (configuration c.args.authorizer.now) c.args.first all (step_view item) left c.steps.response taken (sym c.has_recursion_limit.ensures ∙ c.if-has_recursion_limit.false) c.in-Ok.next c.in-Ok.ensures
