@@ -40,8 +40,9 @@ use steps::take_steps;
 pub mod laws;
 mod steps;
 
-/// Why a policy was skipped.
+/// Why a policy was skipped, and why a response could not be taken further.
 pub mod err {
+    pub use cedar_reauthorization::{ConcretizationError, ReauthorizationError};
     pub use cedar_responses::AuthorizationError;
 }
 
