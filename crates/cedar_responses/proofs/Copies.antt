@@ -20,13 +20,14 @@ use Rattle.cedar_values.specs.declared.evaluator.err.EvaluationError.{Evaluation
 use Rattle.cedar_values.specs.declared.evaluator.err.EvaluationError.TheVariants as errors
 use Rattle.cedar_values.specs.contracts.evaluator.err.EvaluationErrorClone.TheImpl as error_clones
 use Rattle.cedar_values.specs.Fields.{MissingEntityAttribute, MissingRecordAttribute}
+use Rattle.cedar_values.specs.Errors.{lookup_loc, overflow_loc, error_loc}
 use Rattle.cedar_values.specs.Failures.{lookup_failure, overflow_failure, failure_of}
 use Rattle.cedar_layers.specs.declared.policies.policy.PolicyID.{PolicyID}
 use Rattle.cedar_layers.specs.Policies.{policy_id_text}
 use Rattle.cedar_responses.specs.declared.err.AuthorizationError.{AuthorizationError}
 use Rattle.cedar_responses.specs.declared.err.AuthorizationError.TheVariants.{PolicyEvaluationError}
 use Rattle.cedar_responses.specs.contracts.err.AuthorizationErrorClone.TheImpl as policy_error_clones
-use Rattle.cedar_responses.specs.Responses.{error_view, errors_view}
+use Rattle.cedar_responses.specs.Responses.{error_view, errors_view, error_place, error_places}
 
 texts_view-copied : (ts us : List (RcStr Global)) → AllZip (λ (s t : RcStr Global). rc_str_bytes t ≡ rc_str_bytes s) ts us → texts_view us ≡ texts_view ts
 texts_view-copied [] [] h = refl
@@ -92,6 +93,46 @@ errors_view-copied [] [] h = refl
 errors_view-copied [] (d ∷ ds) h = absurd h
 errors_view-copied (e ∷ es) [] h = absurd h
 errors_view-copied (e ∷ es) (d ∷ ds) h = λ i. error_view-copied e d h.0 i ∷ errors_view-copied es ds h.1 i
+
+-- ---- places
+
+lookup_loc-copied : (e d : ExtensionFunctionLookupError) → lookup_clones.by_variants e d → lookup_loc d ≡ lookup_loc e
+lookup_loc-copied (lookups.FuncDoesNotExist e) (lookups.FuncDoesNotExist d) h = search rules
+lookup_loc-copied (lookups.Memory e) (lookups.Memory d) h = refl
+lookup_loc-copied e d h = absurd h
+
+overflow_loc-copied : (e d : IntegerOverflowError) → overflow_clones.by_variants e d → overflow_loc d ≡ overflow_loc e
+overflow_loc-copied (overflows.BinaryOp e) (overflows.BinaryOp d) h = search rules
+overflow_loc-copied (overflows.UnaryOp e) (overflows.UnaryOp d) h = search rules
+overflow_loc-copied e d h = absurd h
+
+-- the copy of an error of evaluation arose at the same place
+error_loc-copied : (e d : EvaluationError) → error_clones.by_variants e d → error_loc d ≡ error_loc e
+error_loc-copied (errors.EntityDoesNotExist e) (errors.EntityDoesNotExist d) h = search rules
+error_loc-copied (errors.EntityAttrDoesNotExist e) (errors.EntityAttrDoesNotExist d) h = search rules
+error_loc-copied (errors.RecordAttrDoesNotExist e) (errors.RecordAttrDoesNotExist d) h = search rules
+error_loc-copied (errors.FailedExtensionFunctionLookup e) (errors.FailedExtensionFunctionLookup d) h = lookup_loc-copied e d h
+error_loc-copied (errors.TypeError e) (errors.TypeError d) h = search rules
+error_loc-copied (errors.WrongNumArguments e) (errors.WrongNumArguments d) h = search rules
+error_loc-copied (errors.IntegerOverflow e) (errors.IntegerOverflow d) h = overflow_loc-copied e d h
+error_loc-copied (errors.UnlinkedSlot e) (errors.UnlinkedSlot d) h = search rules
+error_loc-copied (errors.FailedExtensionFunctionExecution e) (errors.FailedExtensionFunctionExecution d) h = search rules
+error_loc-copied (errors.NonValue e) (errors.NonValue d) h = search rules
+error_loc-copied (errors.RecursionLimit e) (errors.RecursionLimit d) h = search rules
+error_loc-copied (errors.Memory e) (errors.Memory d) h = refl
+error_loc-copied e d h = absurd h
+
+error_place-copied : (e d : AuthorizationError) → policy_error_clones.by_variants e d → error_place d ≡ error_place e
+error_place-copied (PolicyEvaluationError i e) (PolicyEvaluationError j d) h = search (rules, error_loc-copied)
+
+-- the copies of errors arose at the same places, in order
+pub error_places-copied : (es ds : List AuthorizationError) → AllZip policy_error_clones.by_variants es ds → error_places ds ≡ error_places es
+error_places-copied [] [] h = refl
+error_places-copied [] (d ∷ ds) h = absurd h
+error_places-copied (e ∷ es) [] h = absurd h
+error_places-copied (e ∷ es) (d ∷ ds) h = λ i. error_place-copied e d h.0 i ∷ error_places-copied es ds h.1 i
+
+-- ---- ids
 
 -- a text is among copied ids where it is among the ids
 pub is_among-copied : (C : PolicyID → PolicyID → Type 0) → ((i j : PolicyID) → C i j → policy_id_text j ≡ policy_id_text i) → (t : Text) (is js : List PolicyID) → AllZip C is js

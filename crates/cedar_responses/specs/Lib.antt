@@ -1,4 +1,5 @@
 pub mod Concrete
+pub mod Copies
 pub mod ErrorStates
 pub mod Found
 pub mod Kept

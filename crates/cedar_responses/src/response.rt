@@ -1,7 +1,5 @@
 //! A decision, and what led to it.
 ghost use Rattle.std.specs.Prelude.{◌≡◌};
-ghost use Rattle.cedar_decisions.specs.Decisions.{decision_view};
-ghost use Rattle.cedar_responses.specs.Responses.{has_id, response_view, errors_view};
 
 mod copies;
 
@@ -30,13 +28,13 @@ pub struct Diagnostics {
 }
 
 impl Response {
-    /// The response of these parts.
+    /// The response of exactly these parts.
     pub fn new(
         decision: Decision,
         reason: HashSet<PolicyID>,
         errors: Vec<AuthorizationError>,
     ) -> Response
-        ensures { response_view result ≡ record { decided_as = decision_view decision; is_reason = has_id reason; errors = errors_view errors.items } }
+        ensures { result ≡ record { decision = decision; diagnostics = record { reason = reason; errors = errors } } }
     {
         Response {
             decision,

@@ -1,8 +1,9 @@
 //! Copies of partial responses.
 ghost use Rattle.std.specs.Prelude.{◌≡◌, IfOk};
 ghost use Rattle.cedar_model.specs.Policies.{Effect};
-ghost use Rattle.cedar_responses.specs.Responses.{errors_view};
-ghost use Rattle.cedar_responses.specs.Rows.{located_view, true_rows, false_rows, residual_rows};
+ghost use Rattle.cedar_responses.specs.Copies.{IsCopyOfPartialResponse};
+ghost use Rattle.cedar_responses.specs.Responses.{errors_view, error_places};
+ghost use Rattle.cedar_responses.specs.Rows.{true_rows, false_rows, residual_rows};
 
 use super::{EffectEntries, ErrorState, PartialResponse};
 use crate::beside::all_four;
@@ -13,9 +14,10 @@ use indexmap::IndexMap;
 use std::alloc::AllocError;
 use std::rc::Rc;
 
-/// The copy shares the residuals, the annotations and the request.
+/// The copy has the same policies and, in order, the same errors, each with its fields and its location; it shares the residuals,
+/// the annotations and the request.
 impl Clone for PartialResponse {
-    ghost is_clone = { λ r copy. (located_view copy ≡ located_view r) × (errors_view copy.errors.items ≡ errors_view r.errors.items) × (copy.request.value ≡ r.request.value) };
+    ghost is_clone = { IsCopyOfPartialResponse };
 
     fn clone(&self) -> Result<PartialResponse, AllocError> {
         let permits = copied_entries(
@@ -96,7 +98,8 @@ fn shared<T: Drop>(held: &Rc<T>) -> Result<Rc<T>, AllocError>
 }
 
 fn copied_errors(errors: &Vec<AuthorizationError>) -> Result<Vec<AuthorizationError>, AllocError>
-    ensures { IfOk result (λ es. errors_view es.items ≡ errors_view errors.now.items) }
+    ensures errors { IfOk result (λ es. errors_view es.items ≡ errors_view errors.now.items) }
+    ensures places { IfOk result (λ es. error_places es.items ≡ error_places errors.now.items) }
 {
     errors.clone()
 }

@@ -1,13 +1,12 @@
 //! Copies of responses.
-ghost use Rattle.std.specs.Prelude.{◌≡◌};
-
 use super::{Diagnostics, Response};
 use std::alloc::AllocError;
 
+/// The copy has the reasons and, in order, the errors, each with its fields and its location.
 impl Clone for Diagnostics {
-    ghost use Rattle.cedar_responses.specs.Responses.{has_id, errors_view};
+    ghost use Rattle.cedar_responses.specs.Copies.{IsCopyOfDiagnostics};
 
-    ghost is_clone = { λ d copy. (has_id copy.reason ≡ has_id d.reason) × (errors_view copy.errors.items ≡ errors_view d.errors.items) };
+    ghost is_clone = { IsCopyOfDiagnostics };
 
     fn clone(&self) -> Result<Diagnostics, AllocError> {
         let reason = self.reason.clone()?;
@@ -16,10 +15,11 @@ impl Clone for Diagnostics {
     }
 }
 
+/// The copy has the decision, the reasons and, in order, the errors, each with its fields and its location.
 impl Clone for Response {
-    ghost use Rattle.cedar_responses.specs.Responses.{response_view};
+    ghost use Rattle.cedar_responses.specs.Copies.{IsCopyOfResponse};
 
-    ghost is_clone = { λ r copy. response_view copy ≡ response_view r };
+    ghost is_clone = { IsCopyOfResponse };
 
     fn clone(&self) -> Result<Response, AllocError> {
         let diagnostics = self.diagnostics.clone()?;

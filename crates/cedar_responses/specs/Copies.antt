@@ -1,0 +1,25 @@
+-- What copies of responses have of their sources.
+use Rattle.std.specs.Prelude.{◌≡◌}
+use Rattle.cedar_responses.specs.declared.partial_response.PartialResponse.{PartialResponse}
+use Rattle.cedar_responses.specs.declared.response.Diagnostics.{Diagnostics}
+use Rattle.cedar_responses.specs.declared.response.Response.{Response}
+use Rattle.cedar_responses.specs.Responses.{has_id, errors_view, error_places, response_view, response_places}
+use Rattle.cedar_responses.specs.Rows.{located_view}
+
+-- the same ids as reasons, and in order the same errors: the ids of their policies, their kinds and fields, and their places
+pub record IsCopyOfDiagnostics (d copy : Diagnostics) : Type 0 where
+  pub reasons : has_id copy.reason ≡ has_id d.reason
+  pub errors : errors_view copy.errors.items ≡ errors_view d.errors.items
+  pub places : error_places copy.errors.items ≡ error_places d.errors.items
+
+-- the same decision, reasons and errors, and the places of these
+pub record IsCopyOfResponse (r copy : Response) : Type 0 where
+  pub response : response_view copy ≡ response_view r
+  pub places : response_places copy ≡ response_places r
+
+-- the same rows, errors, places of these and request
+pub record IsCopyOfPartialResponse (r copy : PartialResponse) : Type 0 where
+  pub rows : located_view copy ≡ located_view r
+  pub errors : errors_view copy.errors.items ≡ errors_view r.errors.items
+  pub places : error_places copy.errors.items ≡ error_places r.errors.items
+  pub request : copy.request.value ≡ r.request.value
