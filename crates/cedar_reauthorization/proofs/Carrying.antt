@@ -59,7 +59,7 @@ pub one_more : (ps : List Policy) (p : Policy) (old new : List Located) (all : L
 one_more ps p old new all (l, e, f) h =
     ap (λ d. d ++ carried_on new) (decided_more ps p)
     ∙ append_assoc (decided ps) (decides_as (policy_view p) ∷ []) (carried_on new)
-    ∙ ap (λ (q : model.Policy). decided ps ++ (q ∷ carried_on new)) (ap (λ x. x.0) f)
+    ∙ ap (λ (q : model.Policy). decided ps ++ (q ∷ carried_on new)) (ap (λ x. x.0) f.policy)
     ∙ ap (λ (o : List Located). decided ps ++ carried_on o) (sym e) ∙ h
 
 -- none is left

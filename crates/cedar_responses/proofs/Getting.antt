@@ -19,12 +19,13 @@ use Rattle.cedar_expressions.specs.View.{view, expr_loc}
 use Rattle.cedar_layers.specs.declared.policies.policy.Annotations.{Annotations}
 use Rattle.cedar_layers.specs.declared.policies.policy.Policy.{Policy}
 use Rattle.cedar_layers.specs.declared.policies.policy.PolicyID.{PolicyID}
-use Rattle.cedar_layers.specs.Policies.{policy_id_text, annotations_view, policy_view, decides_as}
+use Rattle.cedar_layers.specs.Policies.{policy_id_text, annotations_view, policy_parts}
 use Rattle.cedar_responses.specs.declared.partial_response.ErrorState.{ErrorState}
 use Rattle.cedar_responses.specs.Found.{found_in}
 use Rattle.cedar_responses.specs.Kept.{is_same_id}
-use Rattle.cedar_responses.specs.Rows.{TrueEntry, FalseEntry, ResidualEntry, Located, located, is_error, true_rows, false_rows, residual_rows, rows_in, located_of}
-use Rattle.cedar_responses.specs.Readers.{made_view, made, made_of, first_at, in_order_of_get, located_at}
+use Rattle.cedar_responses.specs.Rows.{TrueEntry, FalseEntry, ResidualEntry, Located, located, is_error, located_true, located_false, located_residual}
+use Rattle.cedar_responses.specs.Rows.{true_rows, false_rows, residual_rows, rows_in, located_of}
+use Rattle.cedar_responses.specs.Readers.{made_view, made, IsCarriedOn, IsFound, found_policy, first_at, in_order_of_get, located_at}
 use Rattle.cedar_responses.proofs.Rows.{rows_of_located}
 
 -- ---- the first row of an id
@@ -42,25 +43,28 @@ first_append id (x ∷ xs) ys = by (text_eq id x.row.id) _ (first_at id xs) (fir
     by true o a h = refl
     by false o a h = h
 
-or_found : (m : model.Policy × Option Loc) (a b : Option Located) → Some m ≡ option_map made_of a → Some m ≡ option_map made_of (or_first a b)
-or_found m (Some l) b h = h
-or_found m None b h = absurd (cc)
+or_found : (p : Policy) (a b : Option Located) → IsFound a (Some p) → IsFound (or_first a b) (Some p)
+or_found p (Some l) b h = h
+or_found p None b h = absurd h
 
-or_absent : (o : Option (model.Policy × Option Loc)) (a b : Option Located) → None ≡ option_map made_of a → o ≡ option_map made_of b → o ≡ option_map made_of (or_first a b)
-or_absent o (Some l) b h e = absurd (cc)
+or_absent : (o : Option Policy) (a b : Option Located) → IsFound a None → IsFound b o → IsFound (or_first a b) o
+or_absent o (Some l) b h e = absurd h
 or_absent o None b h e = e
 
-pub found_before : (id : Text) (xs ys : List Located) (m : model.Policy × Option Loc) → Some m ≡ option_map made_of (first_at id xs) → Some m ≡ option_map made_of (first_at id (xs ++ ys))
-found_before id xs ys m h =
-    or_found m (first_at id xs) (first_at id ys) h ∙ ap (option_map made_of) (sym (first_append id xs ys))
+found_by : (o : Option Policy) (a b : Option Located) → b ≡ a → IsFound a o → IsFound b o
+found_by o a b e h = let P : Option Located → Type 0 = λ x. IsFound x o in subst P (sym e) h
 
-pub found_after : (id : Text) (xs ys : List Located) (o : Option (model.Policy × Option Loc)) → None ≡ option_map made_of (first_at id xs) → o ≡ option_map made_of (first_at id ys) → o ≡ option_map made_of (first_at id (xs ++ ys))
+pub found_before : (id : Text) (xs ys : List Located) (p : Policy) → IsFound (first_at id xs) (Some p) → IsFound (first_at id (xs ++ ys)) (Some p)
+found_before id xs ys p h =
+    found_by (Some p) _ _ (first_append id xs ys) (or_found p (first_at id xs) (first_at id ys) h)
+
+pub found_after : (id : Text) (xs ys : List Located) (o : Option Policy) → IsFound (first_at id xs) None → IsFound (first_at id ys) o → IsFound (first_at id (xs ++ ys)) o
 found_after id xs ys o h e =
-    or_absent o (first_at id xs) (first_at id ys) h e ∙ ap (option_map made_of) (sym (first_append id xs ys))
+    found_by o _ _ (first_append id xs ys) (or_absent o (first_at id xs) (first_at id ys) h e)
 
 -- ---- look-ups
 
-module _ {V : Type 0} (effect : Effect) (n : V → List (Text × Text)) (o : V → Reported) (l : V → Option Loc) where
+module _ {V : Type 0} (effect : Effect) (n : V → List (Text × Text)) (o : V → Reported) (l : V → Option Expr) where
   abbrev pub row_at : Text → V → Located
   row_at t v = located effect t (n v) (o v) (l v)
 
@@ -78,11 +82,13 @@ module _ {V : Type 0} (effect : Effect) (n : V → List (Text × Text)) (o : V �
           ap (λ t. Some (row_at t e.1)) (sym ((bytes_eq-Decides (policy_id_text k) (policy_id_text e.0)).0 h))
       by false h a c g = g
 
-  pub looked_up : (es : List (PolicyID × V)) (k : PolicyID) (v : V) → Some v ≡ lookup (is_same_id k) es → Some (made_of (row_at (policy_id_text k) v)) ≡ option_map made_of (first_at (policy_id_text k) (rows_at es))
-  looked_up es k v h = ap (option_map made_of) (ap (option_map (row_at (policy_id_text k))) h ∙ sym (first_lookup es k))
+  pub looked_up : (es : List (PolicyID × V)) (k : PolicyID) (v : V) (p : Policy) → Some v ≡ lookup (is_same_id k) es → IsCarriedOn (row_at (policy_id_text k) v) p → IsFound (first_at (policy_id_text k) (rows_at es)) (Some p)
+  looked_up es k v p h made =
+      found_by (Some p) (Some (row_at (policy_id_text k) v)) _ (first_lookup es k ∙ sym (ap (option_map (row_at (policy_id_text k))) h)) made
 
-  pub not_there : (es : List (PolicyID × V)) (k : PolicyID) → None ≡ lookup (is_same_id k) es → None ≡ option_map made_of (first_at (policy_id_text k) (rows_at es))
-  not_there es k h = ap (option_map made_of) (ap (option_map (row_at (policy_id_text k))) h ∙ sym (first_lookup es k))
+  pub not_there : (es : List (PolicyID × V)) (k : PolicyID) → None ≡ lookup (is_same_id k) es → IsFound (first_at (policy_id_text k) (rows_at es)) None
+  not_there es k h =
+      found_by None None _ (first_lookup es k ∙ sym (ap (option_map (row_at (policy_id_text k))) h)) tt
 
 -- ---- the model's function
 
@@ -109,13 +115,14 @@ get_located id ls =
     ap (reports.policy_with_id id) ((λ i. order_rows permit ls i ++ order_rows forbid ls i) ∙ sym (rows_in_append (in_order_of_get permit ls) _))
     ∙ carried_first id (in_order_of_get permit ls ++ in_order_of_get forbid ls)
 
-firsts : {A B C : Type 0} (f : A → B × C) (o : Option A) → option_map (λ x. (f x).0) o ≡ option_map (λ p. p.0) (option_map f o)
-firsts f None = refl
-firsts f (Some x) = refl
+found_decides : (o : Option Policy) (a : Option Located) → IsFound a o → found_policy o ≡ option_map (λ l. carried l.row) a
+found_decides (Some p) (Some l) h = ap (λ (x : model.Policy × Option Loc). Some x.0) h.policy
+found_decides (Some p) None h = absurd h
+found_decides None (Some l) h = absurd h
+found_decides None None h = refl
 
-pub got_policy : (o : Option Policy) (id : Text) (ls : List Located) → option_map made_view o ≡ option_map made_of (located_at id ls) → option_map (λ p. decides_as (policy_view p)) o ≡ reports.get id (rows_in ls)
-got_policy o id ls h =
-    firsts made_view o ∙ ap (option_map (λ (p : model.Policy × Option Loc). p.0)) h ∙ sym (firsts made_of (located_at id ls)) ∙ sym (get_located id ls)
+pub got_policy : (o : Option Policy) (id : Text) (ls : List Located) → IsFound (located_at id ls) o → found_policy o ≡ reports.get id (rows_in ls)
+got_policy o id ls h = found_decides o (located_at id ls) h ∙ sym (get_located id ls)
 
 -- ---- what is made, as what is found
 
@@ -126,33 +133,57 @@ if_found {A = A} {E = E} r s P Q is h step = subst (λ y. IfOk y Q) (sym is) (on
     on (Ok x) h = step x h
     on (Err e) h = tt
 
+-- what is made, with what it says and its clause
+pub made_whole : {A E : Type 0} (r : Result A E) (P Q R : A → Type 0) → IfOk r P → IfOk r Q → ((x : A) → P x → Q x → R x) → IfOk r R
+made_whole (Ok x) P Q R h g step = step x h g
+made_whole (Err e) P Q R h g step = tt
+
+-- ---- what is carried on
+
+module _ (effect : Effect) where
+  pub residual_carried : (e : ResidualEntry) (p : Policy)
+      → made_view p ≡ made effect (policy_id_text e.0) (annotations_view e.1.1.value) (view e.1.0.value) (expr_loc e.1.0.value)
+      → (policy_parts p).when ≡ e.1.0.value → IsCarriedOn (located_residual effect e) p
+  unfolding clause_of
+  residual_carried e p h g = record { policy = h; clause = g }
+
+  pub true_carried : (e : TrueEntry) (p : Policy)
+      → made_view p ≡ made effect (policy_id_text e.0) (annotations_view e.1.value) (literal (bool_literal true)) None
+      → expr_loc (policy_parts p).when ≡ None → IsCarriedOn (located_true effect e) p
+  unfolding clause_of
+  true_carried e p h g = record { policy = h; clause = g }
+
+  pub false_carried : (e : FalseEntry) (p : Policy)
+      → made_view p ≡ made effect (policy_id_text e.0) (annotations_view e.1.1.value) (literal (bool_literal false)) None
+      → expr_loc (policy_parts p).when ≡ None → IsCarriedOn (located_false effect e) p
+  unfolding clause_of
+  false_carried e p h g = record { policy = h; clause = g }
+
 -- ---- look-ups in the three kinds of map
 
 module _ (effect : Effect) (k : PolicyID) where
-  pub residual_there : (es : List ResidualEntry) (v : Rc Expr Global × Rc Annotations Global) → Some v ≡ lookup (is_same_id k) es
-      → Some (made effect (policy_id_text k) (annotations_view v.1.value) (view v.0.value) (expr_loc v.0.value)) ≡ option_map made_of (first_at (policy_id_text k) (residual_rows effect es))
-  unfolding clause_of
-  residual_there es v h =
-      looked_up effect (λ w. annotations_view w.1.value) (λ w. reported_residual (view w.0.value)) (λ w. expr_loc w.0.value) es k v h
+  pub residual_there : (es : List ResidualEntry) (v : Rc Expr Global × Rc Annotations Global) (p : Policy) → Some v ≡ lookup (is_same_id k) es
+      → IsCarriedOn (located_residual effect (k, v)) p → IsFound (first_at (policy_id_text k) (residual_rows effect es)) (Some p)
+  residual_there es v p h made =
+      looked_up effect (λ w. annotations_view w.1.value) (λ w. reported_residual (view w.0.value)) (λ w. Some w.0.value) es k v p h made
 
-  pub residual_absent : (es : List ResidualEntry) → None ≡ lookup (is_same_id k) es → None ≡ option_map made_of (first_at (policy_id_text k) (residual_rows effect es))
+  pub residual_absent : (es : List ResidualEntry) → None ≡ lookup (is_same_id k) es → IsFound (first_at (policy_id_text k) (residual_rows effect es)) None
   residual_absent es h =
-      not_there effect (λ w. annotations_view w.1.value) (λ w. reported_residual (view w.0.value)) (λ w. expr_loc w.0.value) es k h
+      not_there effect (λ w. annotations_view w.1.value) (λ w. reported_residual (view w.0.value)) (λ w. Some w.0.value) es k h
 
-  pub true_there : (es : List TrueEntry) (v : Rc Annotations Global) → Some v ≡ lookup (is_same_id k) es
-      → Some (made effect (policy_id_text k) (annotations_view v.value) (literal (bool_literal true)) None) ≡ option_map made_of (first_at (policy_id_text k) (true_rows effect es))
-  unfolding clause_of
-  true_there es v h = looked_up effect (λ w. annotations_view w.value) (λ w. reported_true) (λ w. None) es k v h
+  pub true_there : (es : List TrueEntry) (v : Rc Annotations Global) (p : Policy) → Some v ≡ lookup (is_same_id k) es
+      → IsCarriedOn (located_true effect (k, v)) p → IsFound (first_at (policy_id_text k) (true_rows effect es)) (Some p)
+  true_there es v p h made =
+      looked_up effect (λ w. annotations_view w.value) (λ w. reported_true) (λ w. None) es k v p h made
 
-  pub true_absent : (es : List TrueEntry) → None ≡ lookup (is_same_id k) es → None ≡ option_map made_of (first_at (policy_id_text k) (true_rows effect es))
+  pub true_absent : (es : List TrueEntry) → None ≡ lookup (is_same_id k) es → IsFound (first_at (policy_id_text k) (true_rows effect es)) None
   true_absent es h = not_there effect (λ w. annotations_view w.value) (λ w. reported_true) (λ w. None) es k h
 
-  pub false_there : (es : List FalseEntry) (v : ErrorState × Rc Annotations Global) → Some v ≡ lookup (is_same_id k) es
-      → Some (made effect (policy_id_text k) (annotations_view v.1.value) (literal (bool_literal false)) None) ≡ option_map made_of (first_at (policy_id_text k) (false_rows effect es))
-  unfolding clause_of
-  false_there es v h =
-      looked_up effect (λ w. annotations_view w.1.value) (λ w. reported_false (is_error w.0)) (λ w. None) es k v h
+  pub false_there : (es : List FalseEntry) (v : ErrorState × Rc Annotations Global) (p : Policy) → Some v ≡ lookup (is_same_id k) es
+      → IsCarriedOn (located_false effect (k, v)) p → IsFound (first_at (policy_id_text k) (false_rows effect es)) (Some p)
+  false_there es v p h made =
+      looked_up effect (λ w. annotations_view w.1.value) (λ w. reported_false (is_error w.0)) (λ w. None) es k v p h made
 
-  pub false_absent : (es : List FalseEntry) → None ≡ lookup (is_same_id k) es → None ≡ option_map made_of (first_at (policy_id_text k) (false_rows effect es))
+  pub false_absent : (es : List FalseEntry) → None ≡ lookup (is_same_id k) es → IsFound (first_at (policy_id_text k) (false_rows effect es)) None
   false_absent es h =
       not_there effect (λ w. annotations_view w.1.value) (λ w. reported_false (is_error w.0)) (λ w. None) es k h

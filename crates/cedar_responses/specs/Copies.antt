@@ -17,7 +17,7 @@ pub record IsCopyOfResponse (r copy : Response) : Type 0 where
   pub response : response_view copy ≡ response_view r
   pub places : response_places copy ≡ response_places r
 
--- the same rows, errors, places of these and request
+-- the same rows with their residuals whole, errors, places of these and request
 pub record IsCopyOfPartialResponse (r copy : PartialResponse) : Type 0 where
   pub rows : located_view copy ≡ located_view r
   pub errors : errors_view copy.errors.items ≡ errors_view r.errors.items

@@ -1,5 +1,6 @@
 -- What the readers of a partial response give.
-use Rattle.std.specs.Prelude.{◌≡◌, cond, List, [], ◌∷◌, ◌++◌, map, All, Contains, Option, Some, None, MatchOption, Result, IfOk}
+use Rattle.std.specs.Prelude.{◌≡◌, cond, List, [], ◌∷◌, ◌++◌, map, All, Contains, Option, Some, None, MatchOption}
+use Rattle.std.specs.Prelude.{Result, IfOk, option_map}
 use Rattle.std.specs.Borrow.{Bor}
 use Rattle.std.specs.declared.alloc.AllocError.{AllocError}
 use Rattle.cedar_model.specs.Terms.{Text, Term, both}
@@ -13,11 +14,14 @@ use Rattle.cedar_model.specs.Reports.{trues, falses, residuals}
 use Rattle.cedar_names.specs.declared.names.Loc.{Loc}
 use Rattle.cedar_layers.specs.declared.policies.policy.Policy.{Policy}
 use Rattle.cedar_layers.specs.declared.policies.policy.PolicyID.{PolicyID}
-use Rattle.cedar_layers.specs.Policies.{policy_id_text, policy_view, policy_location, decides_as}
+use Rattle.cedar_expressions.specs.declared.expr.Expr.{Expr}
+use Rattle.cedar_expressions.specs.View.{expr_loc}
+use Rattle.cedar_layers.specs.Policies.{policy_id_text, policy_view, policy_location, policy_parts, decides_as}
 use Rattle.cedar_responses.specs.declared.partial_response.ids.ReportedIds.{ReportedIds}
 use Rattle.cedar_responses.specs.declared.partial_response.policies.Kinds.{Kinds}
 use Rattle.cedar_responses.specs.declared.partial_response.policies.ReportedPolicies.{ReportedPolicies}
-use Rattle.cedar_responses.specs.Rows.{FalseEntry, ResidualEntry, Located, is_error, six_rows, rows_in, located_of}
+use Rattle.cedar_responses.specs.Rows.{FalseEntry, ResidualEntry, Located, clause_loc, is_error, six_rows, rows_in}
+use Rattle.cedar_responses.specs.Rows.{located_of}
 
 -- ---- policies
 
@@ -40,12 +44,22 @@ made effect id annotations clause loc = (
 
 -- the policy that a row is carried on as, at its clause's location
 abbrev pub made_of : Located → model.Policy × Option Loc
-made_of l = (carried l.row, l.loc)
+made_of l = (carried l.row, clause_loc l)
+
+-- the clause is the residual whole, where one is left, and else stands nowhere
+abbrev pub IsClause : Option Expr → Expr → Type 0
+IsClause None clause = expr_loc clause ≡ None
+IsClause (Some residual) clause = clause ≡ residual
+
+-- a row is carried on as this policy, at its clause's location, with its residual whole as its clause
+pub record IsCarriedOn (l : Located) (p : Policy) : Type 0 where
+  pub policy : made_view p ≡ made_of l
+  pub clause : IsClause l.residual (policy_parts p).when
 
 -- a call of `next` at s gave r and left t: the first row as a policy; or, where memory was wanting, the refusal in its place
 abbrev pub TakesPolicy : List Located → Option (Result Policy AllocError) → List Located → Type 0
 TakesPolicy s r t =
-    MatchOption r ((s ≡ []) × (t ≡ [])) (λ item. (l : Located) × (s ≡ l ∷ t) × IfOk item (λ p. made_view p ≡ made_of l))
+    MatchOption r ((s ≡ []) × (t ≡ [])) (λ item. (l : Located) × (s ≡ l ∷ t) × IfOk item (IsCarriedOn l))
 
 -- the rows that an iterator of policies has left
 abbrev pub left : ReportedPolicies → List Located
@@ -84,6 +98,17 @@ in_order_of_get effect ls =
 -- the row that stands for an id: among residual, true, false permits, then the same of forbids
 abbrev pub located_at : Text → List Located → Option Located
 located_at id ls = first_at id (in_order_of_get permit ls ++ in_order_of_get forbid ls)
+
+-- a policy that is found, as it decides
+abbrev pub found_policy : Option Policy → Option model.Policy
+found_policy o = option_map (λ p. decides_as (policy_view p)) o
+
+-- a policy is what the row is carried on as, and there is none where there is no row
+abbrev pub IsFound : Option Located → Option Policy → Type 0
+IsFound None None = Unit {0}
+IsFound None (Some p) = ⊥
+IsFound (Some l) None = ⊥
+IsFound (Some l) (Some p) = IsCarriedOn l p
 
 -- ---- ids
 

@@ -1,6 +1,6 @@
 -- A partial response as rows: those of its six maps, each in the map's order, true, false and residual permits and then
 -- forbids.
-use Rattle.std.specs.Prelude.{Bool, true, false, cond, ◌&&◌, List, [], ◌∷◌, ◌++◌, map, Option, None}
+use Rattle.std.specs.Prelude.{Bool, true, false, cond, ◌&&◌, List, [], ◌∷◌, ◌++◌, map, Option, None, Some}
 use Rattle.std.specs.declared.alloc.Global.{Global}
 use Rattle.std.specs.declared.rc.Rc.{Rc}
 use Rattle.cedar_model.specs.Terms.{Text}
@@ -27,19 +27,27 @@ FalseEntry = PolicyID × (ErrorState × Rc Annotations Global)
 abbrev pub ResidualEntry : Type 0
 ResidualEntry = PolicyID × (Rc Expr Global × Rc Annotations Global)
 
--- a row, and where its clause stands: a residual at its own place, `true` and `false` at none
+-- a row, and the residual that is its clause, whole: with its own place and those of its parts
 pub record Located : Type 0 where
   pub row : Row
-  pub loc : Option Loc
+  pub residual : Option Expr
+
+abbrev pub loc_of : Option Expr → Option Loc
+loc_of None = None
+loc_of (Some e) = expr_loc e
+
+-- where the clause stands: a residual at its own place, `true` and `false` at none
+abbrev pub clause_loc : Located → Option Loc
+clause_loc l = loc_of l.residual
 
 abbrev pub is_error : ErrorState → Bool
 is_error states.NoError = false
 is_error states.Error = true
 
-abbrev pub located : Effect → Text → List (Text × Text) → Reported → Option Loc → Located
-located effect id annotations reported loc = record {
+abbrev pub located : Effect → Text → List (Text × Text) → Reported → Option Expr → Located
+located effect id annotations reported residual = record {
   row = record { id = id; effect = effect; annotations = annotations; reported = reported };
-  loc = loc;
+  residual = residual;
 }
 
 abbrev pub located_true : Effect → TrueEntry → Located
@@ -52,7 +60,7 @@ located_false effect e =
 abbrev pub located_residual : Effect → ResidualEntry → Located
 located_residual effect e =
     located effect (policy_id_text e.0) (annotations_view e.1.1.value) (reported_residual (view e.1.0.value))
-    (expr_loc e.1.0.value)
+    (Some e.1.0.value)
 
 abbrev pub true_rows : Effect → List TrueEntry → List Located
 true_rows effect es = map (located_true effect) es
@@ -69,7 +77,7 @@ six_rows tp fp rp tf ff rf =
     true_rows permit tp ++ (false_rows permit fp ++ (residual_rows permit rp
     ++ (true_rows forbid tf ++ (false_rows forbid ff ++ residual_rows forbid rf))))
 
--- the rows of a response, and where their clauses stand
+-- the rows of a response, and their residuals whole
 unfoldable pub located_view : PartialResponse → List Located
 located_view r =
     six_rows r.satisfied_permits.entries r.false_permits.entries r.residual_permits.entries
@@ -79,7 +87,7 @@ abbrev pub rows_in : List Located → List Row
 rows_in ls = map (λ l. l.row) ls
 
 abbrev pub locs_in : List Located → List (Option Loc)
-locs_in ls = map (λ l. l.loc) ls
+locs_in ls = map clause_loc ls
 
 -- the rows of a response
 abbrev pub rows_view : PartialResponse → List Row

@@ -1,12 +1,12 @@
 -- What an authorization has noted of its policies so far.
-use Rattle.std.specs.Prelude.{List, [], ◌∷◌, ◌++◌, Option, None}
+use Rattle.std.specs.Prelude.{List, [], ◌∷◌, ◌++◌, Option, None, Some}
 use Rattle.cedar_model.specs.Terms.{Text}
 use Rattle.cedar_model.specs.Failures.{Failure}
 use Rattle.cedar_model.specs.Policies.{permit, forbid}
 use Rattle.cedar_model.specs.Responses.{Decided, decides, leaves, errs_with, reported_of, with_error}
 use Rattle.cedar_model.specs.Chains.{is_true, is_false, is_residual}
-use Rattle.cedar_names.specs.declared.names.Loc.{Loc}
-use Rattle.cedar_expressions.specs.View.{view, expr_loc}
+use Rattle.cedar_expressions.specs.declared.expr.Expr.{Expr}
+use Rattle.cedar_expressions.specs.View.{view}
 use Rattle.cedar_layers.specs.Policies.{PolicyView}
 use Rattle.cedar_values.specs.Failures.{failure_of}
 use Rattle.cedar_responses.specs.declared.sheet.Outcome.{Outcome}
@@ -20,15 +20,15 @@ outcome_view (outcomes.Decided b) = decides b
 outcome_view (outcomes.Residual e) = leaves (view e.value)
 outcome_view (outcomes.Failed e) = errs_with (failure_of e)
 
--- where the clause stands
-abbrev pub outcome_loc : Outcome → Option Loc
-outcome_loc (outcomes.Decided b) = None
-outcome_loc (outcomes.Residual e) = expr_loc e.value
-outcome_loc (outcomes.Failed e) = None
+-- the residual, whole, where one is left
+abbrev pub outcome_residual : Outcome → Option Expr
+outcome_residual (outcomes.Decided b) = None
+outcome_residual (outcomes.Residual e) = Some e.value
+outcome_residual (outcomes.Failed e) = None
 
 -- the row of a policy whose condition came out so
 abbrev pub placed_row : PolicyView → Outcome → Located
-placed_row p o = located p.effect p.id p.annotations (reported_of (outcome_view o)) (outcome_loc o)
+placed_row p o = located p.effect p.id p.annotations (reported_of (outcome_view o)) (outcome_residual o)
 
 -- rows by effect and report, and the errors
 pub record Noted : Type 0 where

@@ -1,7 +1,7 @@
 //! What an authorization notes of its policies, before a response is made of it.
 ghost use Rattle.std.specs.Prelude.{◌≡◌, true, false, Some, None, OnOk};
 ghost use Rattle.cedar_model.specs.Responses.{reported_true, reported_false, reported_residual, error_of};
-ghost use Rattle.cedar_expressions.specs.View.{view, expr_loc};
+ghost use Rattle.cedar_expressions.specs.View.{view};
 ghost use Rattle.cedar_layers.specs.Policies.{policy_view, effect_view, policy_id_text, annotations_view};
 ghost use Rattle.cedar_values.specs.Failures.{failure_of};
 ghost use Rattle.cedar_responses.specs.Rows.{located};
@@ -126,7 +126,7 @@ impl Sheet {
         residual: Rc<Expr>,
         annotations: Rc<Annotations>,
     ) -> Result<(), AllocError>
-        ensures { OnOk result (sheet_view self.new ≡ noted_also (sheet_view self.old) (located (effect_view effect) (policy_id_text id) (annotations_view annotations.value) (reported_residual (view residual.value)) (expr_loc residual.value)) None) }
+        ensures { OnOk result (sheet_view self.new ≡ noted_also (sheet_view self.old) (located (effect_view effect) (policy_id_text id) (annotations_view annotations.value) (reported_residual (view residual.value)) (Some residual.value)) None) }
     {
         match effect {
             Effect::Permit => add_last(&mut self.residual_permits, (id, (residual, annotations)))?,

@@ -1,10 +1,10 @@
 //! The policy under an id.
-ghost use Rattle.std.specs.Prelude.{◌≡◌, ◌++◌, IfOk, option_map};
+ghost use Rattle.std.specs.Prelude.{◌≡◌, ◌++◌, IfOk};
 ghost use Rattle.cedar_model.specs.Policies.{permit, forbid};
 ghost use Rattle.cedar_model.specs.Reports as reports;
-ghost use Rattle.cedar_layers.specs.Policies.{effect_view, policy_id_text, policy_view, decides_as};
+ghost use Rattle.cedar_layers.specs.Policies.{effect_view, policy_id_text};
 ghost use Rattle.cedar_responses.specs.Rows.{located_view, rows_view, true_rows, false_rows, residual_rows};
-ghost use Rattle.cedar_responses.specs.Readers.{made_view, made_of, first_at, in_order_of_get, located_at};
+ghost use Rattle.cedar_responses.specs.Readers.{found_policy, IsFound, first_at, in_order_of_get, located_at};
 
 use super::made::{policy_of_residual, policy_of_truth};
 use super::{ErrorState, PartialResponse};
@@ -17,10 +17,11 @@ use std::rc::Rc;
 
 impl PartialResponse {
     /// The policy under an id, as the iterators of policies make it, where there is one: among the residual, the satisfied and the
-    /// other permits, then among the same of forbids. Refuses only for want of memory.
+    /// other permits, then among the same of forbids. The clause of a residual policy is the residual, with its own locations.
+    /// Refuses only for want of memory.
     pub fn get(&self, alloc: Global, id: &PolicyID) -> Result<Option<Policy>, AllocError>
-        ensures policy { IfOk result (λ o. option_map (λ p. decides_as (policy_view p)) o ≡ reports.get (policy_id_text id.now) (rows_view self.now)) }
-        ensures located { IfOk result (λ o. option_map made_view o ≡ option_map made_of (located_at (policy_id_text id.now) (located_view self.now))) }
+        ensures policy { IfOk result (λ o. found_policy o ≡ reports.get (policy_id_text id.now) (rows_view self.now)) }
+        ensures located { IfOk result (IsFound (located_at (policy_id_text id.now) (located_view self.now))) }
     {
         match self.get_permit(alloc, id)? {
             Some(policy) => Ok(Some(policy)),
@@ -29,7 +30,8 @@ impl PartialResponse {
     }
 
     fn get_permit(&self, alloc: Global, id: &PolicyID) -> Result<Option<Policy>, AllocError>
-        ensures { IfOk result (λ o. option_map made_view o ≡ option_map made_of (first_at (policy_id_text id.now) (in_order_of_get permit (located_view self.now)))) }
+        ensures { IfOk result
+            (IsFound (first_at (policy_id_text id.now) (in_order_of_get permit (located_view self.now)))) }
     {
         get_of(
             alloc,
@@ -42,7 +44,8 @@ impl PartialResponse {
     }
 
     fn get_forbid(&self, alloc: Global, id: &PolicyID) -> Result<Option<Policy>, AllocError>
-        ensures { IfOk result (λ o. option_map made_view o ≡ option_map made_of (first_at (policy_id_text id.now) (in_order_of_get forbid (located_view self.now)))) }
+        ensures { IfOk result
+            (IsFound (first_at (policy_id_text id.now) (in_order_of_get forbid (located_view self.now)))) }
     {
         get_of(
             alloc,
@@ -64,7 +67,10 @@ fn get_of(
     satisfied: &IndexMap<PolicyID, Rc<Annotations>>,
     unsatisfied: &IndexMap<PolicyID, (ErrorState, Rc<Annotations>)>,
 ) -> Result<Option<Policy>, AllocError>
-    ensures { IfOk result (λ o. option_map made_view o ≡ option_map made_of (first_at (policy_id_text id.now) (residual_rows (effect_view effect) residual.now.entries ++ (true_rows (effect_view effect) satisfied.now.entries ++ false_rows (effect_view effect) unsatisfied.now.entries)))) }
+    ensures { IfOk result (IsFound (first_at (policy_id_text id.now)
+        (residual_rows (effect_view effect) residual.now.entries
+        ++ (true_rows (effect_view effect) satisfied.now.entries
+        ++ false_rows (effect_view effect) unsatisfied.now.entries)))) }
 {
     if let Some(entry) = residual.get(id) {
         return found(policy_of_residual(alloc, effect, &entry.0, id, &entry.1));

@@ -2,7 +2,7 @@
 ghost use Rattle.std.specs.Prelude.{◌≡◌, None, IfOk};
 ghost use Rattle.cedar_model.specs.Terms.{literal, bool_literal};
 ghost use Rattle.cedar_expressions.specs.View.{view, expr_loc};
-ghost use Rattle.cedar_layers.specs.Policies.{effect_view, policy_id_text, annotations_view};
+ghost use Rattle.cedar_layers.specs.Policies.{effect_view, policy_id_text, annotations_view, policy_parts};
 ghost use Rattle.cedar_responses.specs.Readers.{made_view, made};
 
 use crate::beside::{both, in_rc};
@@ -20,7 +20,9 @@ pub(super) fn policy_of_truth(
     id: &PolicyID,
     annotations: &Rc<Annotations>,
 ) -> Result<Policy, AllocError>
-    ensures { IfOk result (λ p. made_view p ≡ made (effect_view effect) (policy_id_text id.now) (annotations_view annotations.now.value) (literal (bool_literal is_true)) None) }
+    ensures policy { IfOk result (λ p. made_view p ≡ made (effect_view effect) (policy_id_text id.now)
+        (annotations_view annotations.now.value) (literal (bool_literal is_true)) None) }
+    ensures clause { IfOk result (λ p. expr_loc (policy_parts p).when ≡ None) }
 {
     let clause = in_rc(alloc, Expr::val(Literal::Bool(is_true)));
     let named = both(id.clone(), annotations.clone());
@@ -36,7 +38,9 @@ pub(super) fn policy_of_residual(
     id: &PolicyID,
     annotations: &Rc<Annotations>,
 ) -> Result<Policy, AllocError>
-    ensures { IfOk result (λ p. made_view p ≡ made (effect_view effect) (policy_id_text id.now) (annotations_view annotations.now.value) (view residual.now.value) (expr_loc residual.now.value)) }
+    ensures policy { IfOk result (λ p. made_view p ≡ made (effect_view effect) (policy_id_text id.now)
+        (annotations_view annotations.now.value) (view residual.now.value) (expr_loc residual.now.value)) }
+    ensures clause { IfOk result (λ p. (policy_parts p).when ≡ residual.now.value) }
 {
     let loc = residual.source_loc().copied();
     let named = both(id.clone(), annotations.clone());

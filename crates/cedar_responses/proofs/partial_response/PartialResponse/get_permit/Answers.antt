@@ -1,11 +1,11 @@
-use Rattle.std.proofs.Common.{◌≡◌, ◌++◌, IfOk, option_map, subst, sym}
+use Rattle.std.proofs.Common.{◌++◌, IfOk, subst, sym}
 use Rattle.cedar_layers.specs.Policies.{policy_id_text}
-use Rattle.cedar_responses.specs.Readers.{made_view, made_of, first_at}
+use Rattle.cedar_responses.specs.Readers.{IsFound, first_at}
 use Rattle.cedar_responses.proofs.Rows.{true_permits, false_permits, residual_permits}
 use Rattle.cedar_responses.proofs.partial_response.PartialResponse.get_permit.Goals as goal
 
 pub returns : goal.returns
 returns c =
     let r = c.args.self.now in
-    subst (λ ls. IfOk c.get_of.result (λ o. option_map made_view o ≡ option_map made_of (first_at (policy_id_text c.args.id.now) ls)))
+    subst (λ ls. IfOk c.get_of.result (IsFound (first_at (policy_id_text c.args.id.now) ls)))
     (sym (λ i. residual_permits r i ++ (true_permits r i ++ false_permits r i))) c.get_of.ensures

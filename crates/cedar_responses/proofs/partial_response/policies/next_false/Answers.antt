@@ -1,10 +1,15 @@
 use Rattle.std.proofs.Common.{ap}
-use Rattle.cedar_model.specs.Responses.{clause_of}
 use Rattle.cedar_layers.specs.Policies.{effect_view}
-use Rattle.cedar_responses.specs.Rows.{located_false, false_rows}
+use Rattle.cedar_responses.specs.Rows.{FalseEntry, located_false, false_rows}
+use Rattle.cedar_responses.proofs.Getting.{made_whole, false_carried}
 use Rattle.cedar_responses.proofs.partial_response.policies.next_false.Goals as goal
 
 pub returns : goal.returns
-unfolding clause_of
 returns c =
-    (located_false (effect_view c.args.effect) (c.in_ok-id.id.now, c.in_ok-id.entry.now), ap (false_rows (effect_view c.args.effect)) c.in_ok-id.ensures.steps, c.policy_of_truth.ensures)
+    let e = effect_view c.args.effect in
+    let made = c.policy_of_truth.ensures in
+    let entry : FalseEntry = (c.in_ok-id.id.now, c.in_ok-id.entry.now) in (
+      located_false e entry,
+      ap (false_rows e) c.in_ok-id.ensures.steps,
+      made_whole c.policy_of_truth.result _ _ _ made.policy made.clause (false_carried e entry),
+    )

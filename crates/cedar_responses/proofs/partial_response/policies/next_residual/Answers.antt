@@ -1,10 +1,15 @@
 use Rattle.std.proofs.Common.{ap}
-use Rattle.cedar_model.specs.Responses.{clause_of}
 use Rattle.cedar_layers.specs.Policies.{effect_view}
-use Rattle.cedar_responses.specs.Rows.{located_residual, residual_rows}
+use Rattle.cedar_responses.specs.Rows.{ResidualEntry, located_residual, residual_rows}
+use Rattle.cedar_responses.proofs.Getting.{made_whole, residual_carried}
 use Rattle.cedar_responses.proofs.partial_response.policies.next_residual.Goals as goal
 
 pub returns : goal.returns
-unfolding clause_of
 returns c =
-    (located_residual (effect_view c.args.effect) (c.in_ok-id.id.now, c.in_ok-id.entry.now), ap (residual_rows (effect_view c.args.effect)) c.in_ok-id.ensures.steps, c.policy_of_residual.ensures)
+    let e = effect_view c.args.effect in
+    let made = c.policy_of_residual.ensures in
+    let entry : ResidualEntry = (c.in_ok-id.id.now, c.in_ok-id.entry.now) in (
+      located_residual e entry,
+      ap (residual_rows e) c.in_ok-id.ensures.steps,
+      made_whole c.policy_of_residual.result _ _ _ made.policy made.clause (residual_carried e entry),
+    )

@@ -1,10 +1,15 @@
 use Rattle.std.proofs.Common.{ap}
-use Rattle.cedar_model.specs.Responses.{clause_of}
 use Rattle.cedar_layers.specs.Policies.{effect_view}
-use Rattle.cedar_responses.specs.Rows.{located_true, true_rows}
+use Rattle.cedar_responses.specs.Rows.{TrueEntry, located_true, true_rows}
+use Rattle.cedar_responses.proofs.Getting.{made_whole, true_carried}
 use Rattle.cedar_responses.proofs.partial_response.policies.next_true.Goals as goal
 
 pub returns : goal.returns
-unfolding clause_of
 returns c =
-    (located_true (effect_view c.args.effect) (c.in_ok-id.id.now, c.in_ok-id.annotations.now), ap (true_rows (effect_view c.args.effect)) c.in_ok-id.ensures.steps, c.policy_of_truth.ensures)
+    let e = effect_view c.args.effect in
+    let made = c.policy_of_truth.ensures in
+    let entry : TrueEntry = (c.in_ok-id.id.now, c.in_ok-id.annotations.now) in (
+      located_true e entry,
+      ap (true_rows e) c.in_ok-id.ensures.steps,
+      made_whole c.policy_of_truth.result _ _ _ made.policy made.clause (true_carried e entry),
+    )
