@@ -1,9 +1,11 @@
 -- What copies of responses have of their sources.
-use Rattle.std.specs.Prelude.{◌≡◌}
+use Rattle.std.specs.Prelude.{◌≡◌, List}
+use Rattle.cedar_model.specs.Policies.{Effect}
 use Rattle.cedar_responses.specs.declared.partial_response.PartialResponse.{PartialResponse}
 use Rattle.cedar_responses.specs.declared.response.Diagnostics.{Diagnostics}
 use Rattle.cedar_responses.specs.declared.response.Response.{Response}
 use Rattle.cedar_responses.specs.Responses.{has_id, errors_view, error_places, response_view, response_places}
+use Rattle.cedar_responses.specs.Rows.{TrueEntry, FalseEntry, ResidualEntry, true_rows, false_rows, residual_rows}
 use Rattle.cedar_responses.specs.Rows.{located_view}
 
 -- the same ids as reasons, and in order the same errors: the ids of their policies, their kinds and fields, and their places
@@ -23,3 +25,13 @@ pub record IsCopyOfPartialResponse (r copy : PartialResponse) : Type 0 where
   pub errors : errors_view copy.errors.items ≡ errors_view r.errors.items
   pub places : error_places copy.errors.items ≡ error_places r.errors.items
   pub request : copy.request.value ≡ r.request.value
+
+-- the entries of a map and of its copy are the same rows, of whichever effect
+abbrev pub AreSameTrue : List TrueEntry → List TrueEntry → Type 0
+AreSameTrue es copies = (effect : Effect) → true_rows effect copies ≡ true_rows effect es
+
+abbrev pub AreSameFalse : List FalseEntry → List FalseEntry → Type 0
+AreSameFalse es copies = (effect : Effect) → false_rows effect copies ≡ false_rows effect es
+
+abbrev pub AreSameResidual : List ResidualEntry → List ResidualEntry → Type 0
+AreSameResidual es copies = (effect : Effect) → residual_rows effect copies ≡ residual_rows effect es

@@ -3,7 +3,7 @@ use Rattle.std.specs.Prelude.{List, [], ◌∷◌, ◌++◌, Option, None, Some}
 use Rattle.cedar_model.specs.Terms.{Text}
 use Rattle.cedar_model.specs.Failures.{Failure}
 use Rattle.cedar_model.specs.Policies.{permit, forbid}
-use Rattle.cedar_model.specs.Responses.{Decided, decides, leaves, errs_with, reported_of, with_error}
+use Rattle.cedar_model.specs.Responses.{Decided, decides, leaves, errs_with, reported_of, error_of, with_error}
 use Rattle.cedar_model.specs.Chains.{is_true, is_false, is_residual}
 use Rattle.cedar_expressions.specs.declared.expr.Expr.{Expr}
 use Rattle.cedar_expressions.specs.View.{view}
@@ -85,3 +85,7 @@ noted_also s l e = record {
   residual_forbids = s.residual_forbids ++ located_of forbid is_residual (l ∷ []);
   errors = s.errors ++ with_error l.row.id e [];
 }
+
+-- what is noted once the condition of one more policy came out so
+abbrev pub noting : Noted → PolicyView → Outcome → Noted
+noting s p o = noted_also s (placed_row p o) (error_of (outcome_view o))

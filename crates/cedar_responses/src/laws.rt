@@ -8,5 +8,6 @@ use crate::partial_response::ErrorState;
 /// `NoError` comes before `Error`, by either way to compare.
 pub fn no_error_comes_first()
     ensures order { (a b : ErrorState) → ⟦<ErrorState as Ord>⟧.cmp a b ≡ order_of_states a b }
-    ensures partial_order { (a b : ErrorState) → ⟦<ErrorState as PartialOrd>⟧.partial_cmp a b ≡ Some (order_of_states a b) }
+    ensures partial_order { (a b : ErrorState)
+        → ⟦<ErrorState as PartialOrd>⟧.partial_cmp a b ≡ Some (order_of_states a b) }
 {}

@@ -163,7 +163,8 @@ impl PartialResponse {
 
     // Whether a forbid is satisfied or may be.
     fn may_forbid(&self) -> bool
-        ensures { result ≡ (some_row (trues forbid (rows_view self.now)) || some_row (residuals forbid (rows_view self.now))) }
+        ensures { result ≡ (some_row (trues forbid (rows_view self.now))
+            || some_row (residuals forbid (rows_view self.now))) }
     {
         self.has_true_forbid() || self.has_residual_forbid()
     }

@@ -1,11 +1,11 @@
 //! What an authorization notes of its policies, before a response is made of it.
 ghost use Rattle.std.specs.Prelude.{◌≡◌, true, false, Some, None, OnOk};
-ghost use Rattle.cedar_model.specs.Responses.{reported_true, reported_false, reported_residual, error_of};
+ghost use Rattle.cedar_model.specs.Responses.{reported_true, reported_false, reported_residual};
 ghost use Rattle.cedar_expressions.specs.View.{view};
 ghost use Rattle.cedar_layers.specs.Policies.{policy_view, effect_view, policy_id_text, annotations_view};
 ghost use Rattle.cedar_values.specs.Failures.{failure_of};
 ghost use Rattle.cedar_responses.specs.Rows.{located};
-ghost use Rattle.cedar_responses.specs.Sheets.{sheet_view, nothing_noted, noted_also, outcome_view, placed_row};
+ghost use Rattle.cedar_responses.specs.Sheets.{sheet_view, nothing_noted, noted_also, noting};
 
 use crate::beside::{add_last, beside};
 use crate::err::AuthorizationError;
@@ -65,7 +65,7 @@ impl Sheet {
     /// Notes how one more policy came out; where it erred, it is false, and its error is noted too. Refuses only for want of memory.
     #[tactic(auto, unfolding(cedar_model::specs::Responses::reported_of, cedar_model::specs::Responses::error_of))]
     pub fn place(&mut self, policy: &Policy, outcome: Outcome) -> Result<(), AllocError>
-        ensures { OnOk result (sheet_view self.new ≡ noted_also (sheet_view self.old) (placed_row (policy_view policy.now) outcome) (error_of (outcome_view outcome))) }
+        ensures { OnOk result (sheet_view self.new ≡ noting (sheet_view self.old) (policy_view policy.now) outcome) }
     {
         let (outcome, id) = beside(outcome, policy.id().clone())?;
         let ((outcome, id), annotations) = beside((outcome, id), policy.annotations_rc().clone())?;
@@ -85,7 +85,9 @@ impl Sheet {
         id: PolicyID,
         annotations: Rc<Annotations>,
     ) -> Result<(), AllocError>
-        ensures { OnOk result (sheet_view self.new ≡ noted_also (sheet_view self.old) (located (effect_view effect) (policy_id_text id) (annotations_view annotations.value) reported_true None) None) }
+        ensures { OnOk result (sheet_view self.new ≡ noted_also (sheet_view self.old)
+            (located (effect_view effect) (policy_id_text id) (annotations_view annotations.value)
+            reported_true None) None) }
     {
         match effect {
             Effect::Permit => add_last(&mut self.true_permits, (id, annotations))?,
@@ -102,7 +104,9 @@ impl Sheet {
         id: PolicyID,
         annotations: Rc<Annotations>,
     ) -> Result<(), AllocError>
-        ensures { OnOk result (sheet_view self.new ≡ noted_also (sheet_view self.old) (located (effect_view effect) (policy_id_text id) (annotations_view annotations.value) (reported_false false) None) None) }
+        ensures { OnOk result (sheet_view self.new ≡ noted_also (sheet_view self.old)
+            (located (effect_view effect) (policy_id_text id) (annotations_view annotations.value)
+            (reported_false false) None) None) }
     {
         match effect {
             Effect::Permit => add_last(
@@ -126,7 +130,9 @@ impl Sheet {
         residual: Rc<Expr>,
         annotations: Rc<Annotations>,
     ) -> Result<(), AllocError>
-        ensures { OnOk result (sheet_view self.new ≡ noted_also (sheet_view self.old) (located (effect_view effect) (policy_id_text id) (annotations_view annotations.value) (reported_residual (view residual.value)) (Some residual.value)) None) }
+        ensures { OnOk result (sheet_view self.new ≡ noted_also (sheet_view self.old)
+            (located (effect_view effect) (policy_id_text id) (annotations_view annotations.value)
+            (reported_residual (view residual.value)) (Some residual.value)) None) }
     {
         match effect {
             Effect::Permit => add_last(&mut self.residual_permits, (id, (residual, annotations)))?,
@@ -144,7 +150,9 @@ impl Sheet {
         error: EvaluationError,
         annotations: Rc<Annotations>,
     ) -> Result<(), AllocError>
-        ensures { OnOk result (sheet_view self.new ≡ noted_also (sheet_view self.old) (located (effect_view effect) (policy_id_text id) (annotations_view annotations.value) (reported_false true) None) (Some (failure_of error))) }
+        ensures { OnOk result (sheet_view self.new ≡ noted_also (sheet_view self.old)
+            (located (effect_view effect) (policy_id_text id) (annotations_view annotations.value)
+            (reported_false true) None) (Some (failure_of error))) }
     {
         let (error, erring) = beside(error, id.clone())?;
         add_last(

@@ -104,7 +104,8 @@ fn reasons(
     permits: IndexMap<PolicyID, Rc<Annotations>>,
     forbids: IndexMap<PolicyID, Rc<Annotations>>,
 ) -> Result<HashSet<PolicyID>, AllocError>
-    ensures { IfOk result (λ s. has_id s ≡ (λ t. has_text t (cond may_forbid (id_texts forbids.entries) (id_texts permits.entries)))) }
+    ensures { IfOk result (λ s. has_id s
+        ≡ (λ t. has_text t (cond may_forbid (id_texts forbids.entries) (id_texts permits.entries)))) }
 {
     if may_forbid {
         drop(permits);
@@ -131,8 +132,12 @@ fn all_errors(
     residual_permits: IndexMap<PolicyID, (Rc<Expr>, Rc<Annotations>)>,
     mut recorded: Vec<AuthorizationError>,
 ) -> Result<Vec<AuthorizationError>, AllocError>
-    ensures places { IfOk result (λ es. error_places es.items ≡ places_left residual_forbids.entries ++ (places_left residual_permits.entries ++ error_places recorded.items)) }
-    ensures errors { IfOk result (λ es. errors_view es.items ≡ errors_left residual_forbids.entries ++ (errors_left residual_permits.entries ++ errors_view recorded.items)) }
+    ensures places { IfOk result (λ es. error_places es.items
+        ≡ places_left residual_forbids.entries
+        ++ (places_left residual_permits.entries ++ error_places recorded.items)) }
+    ensures errors { IfOk result (λ es. errors_view es.items
+        ≡ errors_left residual_forbids.entries
+        ++ (errors_left residual_permits.entries ++ errors_view recorded.items)) }
 {
     let mut errors = Vec::new(alloc);
     let (residual_permits, ()) = beside(
@@ -148,8 +153,10 @@ fn add_errors(
     errors: &mut Vec<AuthorizationError>,
     entries: IndexMap<PolicyID, (Rc<Expr>, Rc<Annotations>)>,
 ) -> Result<(), AllocError>
-    ensures places { OnOk result (error_places errors.new.items ≡ error_places errors.old.items ++ places_left entries.entries) }
-    ensures errors { OnOk result (errors_view errors.new.items ≡ errors_view errors.old.items ++ errors_left entries.entries) }
+    ensures places { OnOk result (error_places errors.new.items
+        ≡ error_places errors.old.items ++ places_left entries.entries) }
+    ensures errors { OnOk result (errors_view errors.new.items
+        ≡ errors_view errors.old.items ++ errors_left entries.entries) }
 {
     'residuals: for (id, entry) in entries {
         let added = add_error(errors, id, &entry.0);
@@ -164,8 +171,10 @@ fn add_error(
     id: PolicyID,
     residual: &Expr,
 ) -> Result<(), AllocError>
-    ensures place { OnOk result (error_places errors.new.items ≡ error_places errors.old.items ++ (expr_loc residual.now ∷ [])) }
-    ensures error { OnOk result (errors_view errors.new.items ≡ errors_view errors.old.items ++ ((policy_id_text id, residual_is_left (view residual.now)) ∷ [])) }
+    ensures place { OnOk result (error_places errors.new.items
+        ≡ error_places errors.old.items ++ (expr_loc residual.now ∷ [])) }
+    ensures error { OnOk result (errors_view errors.new.items
+        ≡ errors_view errors.old.items ++ ((policy_id_text id, residual_is_left (view residual.now)) ∷ [])) }
 {
     let error = non_value(id, residual)?;
     add_last(errors, error)

@@ -1,9 +1,7 @@
 //! Copies of partial responses.
 ghost use Rattle.std.specs.Prelude.{◌≡◌, IfOk};
-ghost use Rattle.cedar_model.specs.Policies.{Effect};
-ghost use Rattle.cedar_responses.specs.Copies.{IsCopyOfPartialResponse};
+ghost use Rattle.cedar_responses.specs.Copies.{IsCopyOfPartialResponse, AreSameTrue, AreSameFalse, AreSameResidual};
 ghost use Rattle.cedar_responses.specs.Responses.{errors_view, error_places};
-ghost use Rattle.cedar_responses.specs.Rows.{true_rows, false_rows, residual_rows};
 
 use super::{EffectEntries, ErrorState, PartialResponse};
 use crate::beside::all_four;
@@ -52,9 +50,9 @@ fn copied_entries(
     falses: &IndexMap<PolicyID, (ErrorState, Rc<Annotations>)>,
     residuals: &IndexMap<PolicyID, (Rc<Expr>, Rc<Annotations>)>,
 ) -> Result<EffectEntries, AllocError>
-    ensures trues { IfOk result (λ m. (effect : Effect) → true_rows effect m.satisfied.entries ≡ true_rows effect trues.now.entries) }
-    ensures falses { IfOk result (λ m. (effect : Effect) → false_rows effect m.unsatisfied.entries ≡ false_rows effect falses.now.entries) }
-    ensures residuals { IfOk result (λ m. (effect : Effect) → residual_rows effect m.residual.entries ≡ residual_rows effect residuals.now.entries) }
+    ensures trues { IfOk result (λ m. AreSameTrue trues.now.entries m.satisfied.entries) }
+    ensures falses { IfOk result (λ m. AreSameFalse falses.now.entries m.unsatisfied.entries) }
+    ensures residuals { IfOk result (λ m. AreSameResidual residuals.now.entries m.residual.entries) }
 {
     let satisfied = copied_trues(trues)?;
     let unsatisfied = copied_falses(falses)?;
@@ -69,7 +67,7 @@ fn copied_entries(
 fn copied_trues(
     entries: &IndexMap<PolicyID, Rc<Annotations>>,
 ) -> Result<IndexMap<PolicyID, Rc<Annotations>>, AllocError>
-    ensures { IfOk result (λ m. (effect : Effect) → true_rows effect m.entries ≡ true_rows effect entries.now.entries) }
+    ensures { IfOk result (λ m. AreSameTrue entries.now.entries m.entries) }
 {
     entries.clone()
 }
@@ -77,7 +75,7 @@ fn copied_trues(
 fn copied_falses(
     entries: &IndexMap<PolicyID, (ErrorState, Rc<Annotations>)>,
 ) -> Result<IndexMap<PolicyID, (ErrorState, Rc<Annotations>)>, AllocError>
-    ensures { IfOk result (λ m. (effect : Effect) → false_rows effect m.entries ≡ false_rows effect entries.now.entries) }
+    ensures { IfOk result (λ m. AreSameFalse entries.now.entries m.entries) }
 {
     entries.clone()
 }
@@ -85,7 +83,7 @@ fn copied_falses(
 fn copied_residuals(
     entries: &IndexMap<PolicyID, (Rc<Expr>, Rc<Annotations>)>,
 ) -> Result<IndexMap<PolicyID, (Rc<Expr>, Rc<Annotations>)>, AllocError>
-    ensures { IfOk result (λ m. (effect : Effect) → residual_rows effect m.entries ≡ residual_rows effect entries.now.entries) }
+    ensures { IfOk result (λ m. AreSameResidual entries.now.entries m.entries) }
 {
     entries.clone()
 }

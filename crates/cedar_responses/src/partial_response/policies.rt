@@ -68,7 +68,8 @@ fn next_true(
     effect: Effect,
     entries: &mut Iter<'_, PolicyID, Rc<Annotations>>,
 ) -> Option<Result<Policy, AllocError>>
-    ensures { TakesPolicy (true_rows (effect_view effect) entries.old) result (true_rows (effect_view effect) entries.new) }
+    ensures { TakesPolicy (true_rows (effect_view effect) entries.old) result
+        (true_rows (effect_view effect) entries.new) }
 {
     let (id, annotations) = entries.next()?;
     Some(policy_of_truth(alloc, effect, true, id, annotations))
@@ -79,7 +80,8 @@ fn next_false(
     effect: Effect,
     entries: &mut Iter<'_, PolicyID, (ErrorState, Rc<Annotations>)>,
 ) -> Option<Result<Policy, AllocError>>
-    ensures { TakesPolicy (false_rows (effect_view effect) entries.old) result (false_rows (effect_view effect) entries.new) }
+    ensures { TakesPolicy (false_rows (effect_view effect) entries.old) result
+        (false_rows (effect_view effect) entries.new) }
 {
     let (id, entry) = entries.next()?;
     Some(policy_of_truth(alloc, effect, false, id, &entry.1))
@@ -90,7 +92,8 @@ fn next_residual(
     effect: Effect,
     entries: &mut Iter<'_, PolicyID, (Rc<Expr>, Rc<Annotations>)>,
 ) -> Option<Result<Policy, AllocError>>
-    ensures { TakesPolicy (residual_rows (effect_view effect) entries.old) result (residual_rows (effect_view effect) entries.new) }
+    ensures { TakesPolicy (residual_rows (effect_view effect) entries.old) result
+        (residual_rows (effect_view effect) entries.new) }
 {
     let (id, entry) = entries.next()?;
     Some(policy_of_residual(alloc, effect, &entry.0, id, &entry.1))
