@@ -12,6 +12,8 @@ use Rattle.cedar_model.specs.World.{FunctionAnswer, function_gives, function_err
 use Rattle.cedar_names.specs.Leaves.{type_view}
 use Rattle.cedar_data.specs.Sound.{Placed, whats}
 use Rattle.cedar_extensions.specs.Codes.{function_answer_set}
+use Rattle.cedar_values.specs.declared.extensions.ExtensionFunctionLookupError.{ExtensionFunctionLookupError}
+use Rattle.cedar_values.specs.declared.extensions.ExtensionFunctionLookupError.TheVariants as lookups
 use Rattle.cedar_values.specs.declared.evaluator.err.EvaluationError.{EvaluationError}
 use Rattle.cedar_values.specs.declared.evaluator.err.EvaluationError.TheVariants as errors
 use Rattle.cedar_extensions.specs.declared.function.stored.ExtensionOutputValue.{ExtensionOutputValue}
@@ -42,12 +44,17 @@ outcome (Ok (outputs.Known v)) = Some (function_gives (abstract_value v.what))
 outcome (Ok (outputs.Unknown u)) = Some (function_asks (rc_str_bytes u.name) (option_map type_view u.type_annotation))
 outcome (Err e) = error_outcome e
 
+-- whether a stored function may answer this error of a look-up: want of memory that it holds is an error of its own
+abbrev pub is_lawful_lookup : ExtensionFunctionLookupError → Bool
+is_lawful_lookup (lookups.FuncDoesNotExist e) = true
+is_lawful_lookup (lookups.Memory e) = false
+
 -- whether a stored function may answer this error
 abbrev pub is_lawful_error : EvaluationError → Bool
 is_lawful_error (errors.EntityDoesNotExist e) = true
 is_lawful_error (errors.EntityAttrDoesNotExist e) = true
 is_lawful_error (errors.RecordAttrDoesNotExist e) = true
-is_lawful_error (errors.FailedExtensionFunctionLookup e) = true
+is_lawful_error (errors.FailedExtensionFunctionLookup e) = is_lawful_lookup e
 is_lawful_error (errors.TypeError e) = true
 is_lawful_error (errors.WrongNumArguments e) = true
 is_lawful_error (errors.IntegerOverflow e) = true
@@ -82,7 +89,7 @@ abbrev pub AtMostOne : ℕ → (Bor (List Placed) → Returned → Type 0) → T
 AtMostOne n post = (xs : List AbstractValue) (o p : FunctionAnswer) → AllowsBy n post xs o → AllowsBy n post xs p → o
     ≡ p
 
--- it answers neither the recursion limit nor a residual
+-- it answers neither the recursion limit nor a residual, nor the error of a look-up that holds want of memory
 abbrev pub OnlyLawful : ℕ → (Bor (List Placed) → Returned → Type 0) → Type 0
 OnlyLawful n post = (a : Bor (List Placed)) (r : Returned) → length a.now ≡ n → post a r → is_lawful r ≡ true
 

@@ -64,7 +64,8 @@ impl ExtensionFunction {
     /// The function that calls `func`. It asks its caller for three facts: `func` may be called on every list of as
     /// many values as there are `arg_types` (of whatever types); to equal arguments it answers, besides want of memory,
     /// one outcome at most (a value, the kind of an error, or an unknown with its annotation); and it answers neither
-    /// the recursion limit nor `NonValue`.
+    /// the recursion limit nor `NonValue`, nor want of memory inside `FailedExtensionFunctionLookup` (it answers
+    /// `Memory` itself).
     pub fn new(
         name: Name,
         style: CallStyle,
