@@ -1,3 +1,4 @@
+mod Agreeing
 mod Checked
 mod Collecting
 mod Counted

@@ -9,5 +9,6 @@ pub mod Iterators
 pub mod Extensions
 pub mod Collected
 pub mod Refused
+pub mod Computations
 pub mod CallLaws
 pub mod StoredLaws

@@ -170,7 +170,7 @@ lawful_error (errors.NonValue e) h m = absurd (true≢false (sym h))
 lawful_error (errors.RecursionLimit e) h m = absurd (true≢false (sym h))
 lawful_error (errors.Memory e) h m = absurd (m refl)
 
-lawful_outcome : (r : Returned) → is_lawful r ≡ true → returned_answer r ≢ fails out_of_memory
+pub lawful_outcome : (r : Returned) → is_lawful r ≡ true → returned_answer r ≢ fails out_of_memory
     → (o : FunctionAnswer) × (outcome r ≡ Some o)
 lawful_outcome (Ok (outputs.Known v)) h m = (_, refl)
 lawful_outcome (Ok (outputs.Unknown u)) h m = (_, refl)

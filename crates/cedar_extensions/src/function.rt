@@ -60,6 +60,7 @@ impl ExtensionFunction {
     ghost use Rattle.cedar_extensions.specs.Functions.{function_name, function_style, function_returns, function_takes};
     ghost use Rattle.cedar_extensions.specs.Functions.{function_text, arity, CanAnswer, AnswersAs, AnswersAlone};
     ghost use Rattle.cedar_extensions.specs.Functions.{IsMiscounted, answered_type, constructed_type};
+    ghost use Rattle.cedar_extensions.specs.Computations.{Computation, EachCallComesTo, Computes, asking};
 
     /// The function that calls `func`. It asks its caller for three facts: `func` may be called on every list of as
     /// many values as there are `arg_types` (of whatever types); to equal arguments it answers, besides want of memory,
@@ -81,6 +82,8 @@ impl ExtensionFunction {
         ensures returns { function_returns result ≡ return_type }
         ensures takes { function_takes result ≡ arg_types.items }
         ensures answers { AnswersAs result (AnswersBy (length arg_types.items) (λ a r. post func a r)) }
+        ensures computes { (c : Computation) →
+            EachCallComesTo (length arg_types.items) (λ a r. post func a r) c → Computes result c }
     {
         let arity = arg_types.len();
         ExtensionFunction {
@@ -100,6 +103,7 @@ impl ExtensionFunction {
         ensures returns { IfOk result (λ f. function_returns f ≡ None) }
         ensures takes { IfOk result (λ f. map type_view (function_takes f) ≡ string_type ∷ []) }
         ensures answers { IfOk result (λ f. AnswersAs f AsksOf) }
+        ensures computes { IfOk result (λ f. Computes f asking) }
     {
         let name = RcStr::from_str(alloc, "unknown")?;
         let mut arg_types = Vec::with_capacity(alloc, 1)?;

@@ -1,15 +1,19 @@
 //! The laws of what the functions of extensions may answer. Each function is a law, and does nothing.
-ghost use Rattle.std.specs.Prelude.{◌≡◌, List};
+ghost use Rattle.std.specs.Prelude.{◌≡◌, List, []};
 ghost use Rattle.cedar_model.specs.Terms.{Text};
 ghost use Rattle.cedar_model.specs.Values.{Represented};
 ghost use Rattle.cedar_model.specs.Failures.{PartialValue, answers};
+ghost use Rattle.cedar_model.specs.World.{Functions};
 ghost use Rattle.cedar_model.specs.Agreement.{function_answer};
 ghost use Rattle.cedar_model.specs.Alike.{AreFunctional};
 ghost use Rattle.cedar_model.specs.LevelLaws.{FunctionsMeetNoLimit, FunctionsFindMemory};
 ghost use Rattle.cedar_model.specs.Restricted.{IsSoundPart};
 ghost use Rattle.cedar_model.specs.RestrictedLaws.{HoldsUnknown};
 ghost use Rattle.cedar_extensions.specs.Answers.{returned_answer};
-ghost use Rattle.cedar_extensions.specs.Extensions.{calls_of, EachAnswer};
+ghost use Rattle.cedar_extensions.specs.Computations.{Computation, AllCompute, ComputeByName, AreBuiltIn};
+ghost use Rattle.cedar_extensions.specs.Computations.{no_answers, built_in_answers, computed_answers, AgreesWith};
+ghost use Rattle.cedar_extensions.specs.Computations.{AreFaithfulBy};
+ghost use Rattle.cedar_extensions.specs.Extensions.{extensions_in, calls_of, EachAnswer};
 ghost use Rattle.cedar_extensions.specs.Outcomes.{Returned, outcome};
 
 use crate::extensions::Extensions;
@@ -27,4 +31,25 @@ pub fn stored_functions_are_lawful(extensions: &Extensions<'_>)
     ensures memory { FunctionsFindMemory (calls_of extensions.now) }
     ensures sound { EachAnswer IsSoundPart (calls_of extensions.now) }
     ensures unknown { EachAnswer HoldsUnknown (calls_of extensions.now) }
+{}
+
+/// Where there is no function, `no_answers` agrees with what is there, as any functions of a world do.
+pub fn no_functions_agree(extensions: &Extensions<'_>)
+    ensures agree { extensions_in extensions.now ≡ [] → AgreesWith extensions.now no_answers }
+    ensures faithful { extensions_in extensions.now ≡ [] → AreFaithfulBy extensions.now no_answers }
+    ensures any { extensions_in extensions.now ≡ [] → (ans : Functions) → AgreesWith extensions.now ans }
+{}
+
+/// Where each function is the built-in `unknown`, `built_in_answers` agrees with what is there.
+pub fn built_in_functions_agree(extensions: &Extensions<'_>)
+    ensures agree { AreBuiltIn extensions.now → AgreesWith extensions.now built_in_answers }
+    ensures faithful { AreBuiltIn extensions.now → AreFaithfulBy extensions.now built_in_answers }
+{}
+
+/// Where each function says what it computes, `computed_answers` agrees with what is there; and so do all functions of a
+/// world that answer under each name what the function of that name computes.
+pub fn computed_functions_agree(extensions: &Extensions<'_>)
+    ensures agree { (cs : List Computation) → AllCompute extensions.now cs →
+        AgreesWith extensions.now (computed_answers extensions.now cs) }
+    ensures by_name { (ans : Functions) → ComputeByName extensions.now ans → AgreesWith extensions.now ans }
 {}
