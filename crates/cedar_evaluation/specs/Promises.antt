@@ -39,12 +39,20 @@ IsSound s calls t a =
 abbrev pub IsDeepEnough : Setting → StoredCalls → ℕ → Term → Answer → Type 0
 IsDeepEnough s calls levels t a = (b : ℕ) → IsNoHigher calls s s.map b → height t + b ≤ levels → a ≢ limit
 
+-- the recursion limit exactly where the need is above the levels
+abbrev pub IsLimitByNeed : Setting → StoredCalls → ℕ → Term → Answer → Type 0
+IsLimitByNeed s calls levels t a = a ≡ limit ↔ Exceeds s calls t levels
+
+-- any other answer is one that the rules allow
+abbrev pub IsAllowed : Setting → StoredCalls → Term → Answer → Type 0
+IsAllowed s calls t a = a ≢ limit → Allows s calls t a
+
 -- what is promised of the answer to an expression, with so many levels: what the rules give; the recursion limit exactly where
 -- the need is above the levels, else what the rules allow; and the three above
 pub record IsPromised (s : Setting) (calls : StoredCalls) (levels : ℕ) (t : Term) (a : Answer) : Type 0 where
   pub runs : Runs s calls levels t a
-  pub limited : a ≡ limit ↔ Exceeds s calls t levels
-  pub allowed : a ≢ limit → Allows s calls t a
+  pub limited : IsLimitByNeed s calls levels t a
+  pub allowed : IsAllowed s calls t a
   pub known : IsKnownExactly s calls levels t a
   pub sound : IsSound s calls t a
   pub deep_enough : IsDeepEnough s calls levels t a

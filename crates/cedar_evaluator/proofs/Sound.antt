@@ -99,3 +99,7 @@ module _ {X : Type 0} {F : X → Type 0} {g : _} (v : Evaluator X F g) (slots : 
       IsPromised (setting_of v slots) (calls_in v) levels t a
   evaluator_promised =
       promised (setting_of v slots) (calls_in v) (calls_functional v.given.extensions.now) (calls_meet_no_limit v.given.extensions.now) evaluator_is_sound refl
+
+  pub rules_promised : (levels : ℕ) (t : Term) (a : Answer) → Meets (Runs (setting_of v slots) (calls_in v) levels t) a →
+      Meets (IsPromised (setting_of v slots) (calls_in v) levels t) a
+  rules_promised levels t a runs ok = evaluator_promised levels t a (runs ok)

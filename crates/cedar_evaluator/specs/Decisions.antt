@@ -29,3 +29,9 @@ DecidesBy May r = decision_of r ≢ Err out_of_memory → (x : Answer) × May x 
 abbrev pub PartlyDecidesBy : (Answer → Type 0) → Result (Either Bool Expr) EvaluationError → Type 0
 PartlyDecidesBy May r =
     partly_decided r ≢ errs_with out_of_memory → (x : Answer) × May x × (partly_decided r ≡ decided x)
+
+-- where a call leaves an expression, this is so of it
+abbrev pub IfLeaves : Result (Either Bool Expr) EvaluationError → (Expr → Type 0) → Type 0
+IfLeaves (Ok (Left b)) P = Unit {0}
+IfLeaves (Ok (Right e)) P = P e
+IfLeaves (Err e) P = Unit {0}

@@ -1,18 +1,20 @@
 //! Conditions. A scope whose parts compare what is at hand is told at once, without the loop over frames.
-ghost use Rattle.std.specs.Prelude.{◌≡◌, ◌≢◌, ℕ, ◌-◌, suc, true, IfSome};
+ghost use Rattle.std.specs.Prelude.{◌≡◌, ◌≢◌, ℕ, ◌-◌, suc, true, IfOk, IfSome};
 ghost use Rattle.cedar_model.specs.Terms.{Term, bool_literal, literal, variable, both, binary};
 ghost use Rattle.cedar_model.specs.Failures.{out_of_memory, answers_bool, answers_value};
 ghost use Rattle.cedar_model.specs.Responses.{errs_with, decided};
+ghost use Rattle.cedar_model.specs.Shapes.{has_unknown};
 ghost use Rattle.cedar_model.specs.Rules.{joined};
 ghost use Rattle.cedar_names.specs.Leaves.{literal_view, variable_view, binary_view};
-ghost use Rattle.cedar_expressions.specs.View.{view};
+ghost use Rattle.cedar_expressions.specs.View.{view, expr_loc};
+ghost use Rattle.cedar_data.specs.Residuals.{partial_loc};
 ghost use Rattle.cedar_values.specs.Answers.{partial_answer};
 ghost use Rattle.cedar_values.specs.Failures.{failure_of};
 ghost use Rattle.cedar_layers.specs.Policies.{slots_view};
 ghost use Rattle.cedar_evaluation.specs.Promises.{IsPromised};
 ghost use Rattle.cedar_evaluation.specs.Settings.{given_for};
-ghost use Rattle.cedar_evaluator.specs.Decisions.{partly_decided, PartlyDecidesBy};
-ghost use Rattle.cedar_evaluator.specs.Evaluations.{setting_of, calls_in, limit_of};
+ghost use Rattle.cedar_evaluator.specs.Decisions.{partly_decided, PartlyDecidesBy, IfLeaves};
+ghost use Rattle.cedar_evaluator.specs.Evaluations.{setting_of, calls_in, IsPromisedBy};
 ghost use Rattle.cedar_evaluator.specs.Told.{IsTold};
 
 use crate::evaluator::{Evaluator, decided_by};
@@ -35,7 +37,9 @@ impl<'e, 'f> Evaluator<'e, 'f> {
         condition: &Expr,
         slots: &SlotEnv,
     ) -> Result<Either<bool, Expr>, EvaluationError>
-        ensures { PartlyDecidesBy (IsPromised (setting_of self.now (slots_view slots.now)) (calls_in self.now) (limit_of self.now) (view condition.now)) result }
+        ensures decides { PartlyDecidesBy (IsPromisedBy self.now (slots_view slots.now) (view condition.now)) result }
+        ensures place { IfLeaves result (λ e. expr_loc e ≡ expr_loc condition.now) }
+        ensures unknown { IfLeaves result (λ e. has_unknown (view e) ≡ true) }
     {
         match sides(condition) {
             Some((scope, clause)) => self.decide_by_scope(alloc, condition, scope, clause, slots),
@@ -50,7 +54,9 @@ impl<'e, 'f> Evaluator<'e, 'f> {
         condition: &Expr,
         slots: &SlotEnv,
     ) -> Result<Either<bool, Expr>, EvaluationError>
-        ensures { PartlyDecidesBy (IsPromised (setting_of self.now (slots_view slots.now)) (calls_in self.now) (limit_of self.now) (view condition.now)) result }
+        ensures decides { PartlyDecidesBy (IsPromisedBy self.now (slots_view slots.now) (view condition.now)) result }
+        ensures place { IfLeaves result (λ e. expr_loc e ≡ expr_loc condition.now) }
+        ensures unknown { IfLeaves result (λ e. has_unknown (view e) ≡ true) }
     {
         decided_by(alloc, self.partial_interpret(alloc, condition, slots))
     }
@@ -65,7 +71,9 @@ impl<'e, 'f> Evaluator<'e, 'f> {
         slots: &SlotEnv,
     ) -> Result<Either<bool, Expr>, EvaluationError>
         requires { view condition.now ≡ both (view scope.now) (view clause.now) }
-        ensures { PartlyDecidesBy (IsPromised (setting_of self.now (slots_view slots.now)) (calls_in self.now) (limit_of self.now) (view condition.now)) result }
+        ensures decides { PartlyDecidesBy (IsPromisedBy self.now (slots_view slots.now) (view condition.now)) result }
+        ensures place { IfLeaves result (λ e. expr_loc e ≡ expr_loc condition.now) }
+        ensures unknown { IfLeaves result (λ e. has_unknown (view e) ≡ true) }
     {
         if self.limit == 0 {
             return self.decide_whole(alloc, condition, slots);
@@ -90,7 +98,11 @@ impl<'e, 'f> Evaluator<'e, 'f> {
         levels: usize,
         loc: Option<Loc>,
     ) -> Result<Either<bool, Expr>, EvaluationError>
-        ensures { (t : Term) → IsTold self.now levels t (answers_bool true) → PartlyDecidesBy (IsPromised (setting_of self.now (slots_view slots.now)) (calls_in self.now) (suc levels) (both t (view clause.now))) result }
+        ensures decides { (t : Term) → IsTold self.now levels t (answers_bool true) → PartlyDecidesBy
+            (IsPromised (setting_of self.now (slots_view slots.now)) (calls_in self.now) (suc levels)
+            (both t (view clause.now))) result }
+        ensures place { IfLeaves result (λ e. expr_loc e ≡ loc) }
+        ensures unknown { IfLeaves result (λ e. has_unknown (view e) ≡ true) }
     {
         match self.told_part(alloc, clause, levels) {
             Some(is_true) => Ok(Left(is_true)),
@@ -138,7 +150,8 @@ impl<'e, 'f> Evaluator<'e, 'f> {
         right: &Expr,
         levels: usize,
     ) -> Option<bool>
-        ensures { (t : Term) → IfSome left (λ b. IsTold self.now (levels - 1) t (answers_bool b)) → IfSome result (λ b. IsTold self.now levels (both t (view right.now)) (answers_bool b)) }
+        ensures { (t : Term) → IfSome left (λ b. IsTold self.now (levels - 1) t (answers_bool b)) → IfSome result
+            (λ b. IsTold self.now levels (both t (view right.now)) (answers_bool b)) }
     {
         if levels == 0 {
             return None;
@@ -175,7 +188,8 @@ impl<'e, 'f> Evaluator<'e, 'f> {
         right: &Expr,
         levels: usize,
     ) -> Option<bool>
-        ensures { IfSome result (λ b. IsTold self.now levels (binary (binary_view op) (view left.now) (view right.now)) (answers_bool b)) }
+        ensures { IfSome result (λ b. IsTold self.now levels (binary (binary_view op) (view left.now) (view right.now))
+            (answers_bool b)) }
     {
         if levels < 2 {
             return None;
@@ -213,7 +227,8 @@ impl<'e, 'f> Evaluator<'e, 'f> {
 
     // The value of a literal, unless memory is wanting.
     fn literal_value(&self, value: &Literal) -> Option<Value>
-        ensures { IfSome result (λ v. (n : ℕ) → IsTold self.now (suc n) (literal (literal_view value.now)) (answers_value v.what)) }
+        ensures { IfSome result (λ v. (n : ℕ) → IsTold self.now (suc n) (literal (literal_view value.now))
+            (answers_value v.what)) }
     {
         match value.clone() {
             Ok(value) => Some(Value::new(ValueKind::Lit(value), None)),
@@ -223,7 +238,8 @@ impl<'e, 'f> Evaluator<'e, 'f> {
 
     // The value that the variable stands for, if it is known, unless memory is wanting.
     fn variable_value(&self, var: Var) -> Option<Value>
-        ensures { IfSome result (λ v. (n : ℕ) → IsTold self.now (suc n) (variable (variable_view var)) (answers_value v.what)) }
+        ensures { IfSome result (λ v. (n : ℕ) → IsTold self.now (suc n) (variable (variable_view var))
+            (answers_value v.what)) }
     {
         match self.given_for(var) {
             PartialValue::Value(value) => copied(value),
@@ -312,7 +328,10 @@ fn beside_true(
     answer: Result<PartialValue, EvaluationError>,
     loc: Option<Loc>,
 ) -> Result<Either<bool, Expr>, EvaluationError>
-    ensures { partly_decided result ≢ errs_with out_of_memory → partly_decided result ≡ decided (joined (both (literal (bool_literal true))) (partial_answer answer)) }
+    ensures decides { partly_decided result ≢ errs_with out_of_memory →
+        partly_decided result ≡ decided (joined (both (literal (bool_literal true))) (partial_answer answer)) }
+    ensures place { IfLeaves result (λ e. expr_loc e ≡ loc) }
+    ensures unknown { IfLeaves result (λ e. has_unknown (view e) ≡ true) }
 {
     match answer {
         Ok(part) => decided_by(alloc, placed(true_and(alloc, part), loc)),
@@ -325,7 +344,8 @@ fn placed(
     answer: Result<PartialValue, EvaluationError>,
     loc: Option<Loc>,
 ) -> Result<PartialValue, EvaluationError>
-    ensures { partial_answer result ≡ partial_answer answer }
+    ensures answer { partial_answer result ≡ partial_answer answer }
+    ensures place { IfOk result (λ p. partial_loc p ≡ loc) }
 {
     match answer {
         Ok(part) => Ok(part.with_maybe_source_loc(loc)),

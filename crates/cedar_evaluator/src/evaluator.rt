@@ -3,20 +3,18 @@ ghost use Rattle.std.specs.Prelude.{◌≡◌, ◌≢◌, ℕ, Option, None, tru
 ghost use Rattle.cedar_model.specs.Failures.{fails, out_of_memory};
 ghost use Rattle.cedar_model.specs.RestrictedLaws.{HoldsUnknown};
 ghost use Rattle.cedar_model.specs.Responses.{errs_with, decided, result_of};
-ghost use Rattle.cedar_model.specs.Rules.{Meets};
+ghost use Rattle.cedar_model.specs.Shapes.{has_unknown};
 ghost use Rattle.cedar_names.specs.declared.names.Loc.{Loc};
 ghost use Rattle.cedar_expressions.specs.declared.expr.Expr as expressions;
 ghost use Rattle.cedar_expressions.specs.View.{view, expr_loc};
-ghost use Rattle.cedar_data.specs.Sound.{Placed};
 ghost use Rattle.cedar_data.specs.Residuals.{partial_view, partial_loc, IfValue};
 ghost use Rattle.cedar_layers.specs.Parts.{is_restricted_part};
 ghost use Rattle.cedar_values.specs.Answers.{partial_answer, value_answer};
 ghost use Rattle.cedar_restricted.specs.Evaluations.{only_values};
 ghost use Rattle.cedar_restricted.specs.Elements.{ElementsStand};
 ghost use Rattle.cedar_evaluation.specs.Settings.{given_for};
-ghost use Rattle.cedar_evaluator.specs.Decisions.{decision_of, partly_decided};
+ghost use Rattle.cedar_evaluator.specs.Decisions.{decision_of, partly_decided, IfLeaves};
 ghost use Rattle.cedar_evaluator.specs.Variables.{are_of_request};
-ghost use Rattle.cedar_evaluation.specs.Promises.{IsPromised, IsKnownExactly};
 ghost use mathlib.Core.Bool.{Bool-set};
 
 use crate::request::Request;
@@ -43,12 +41,15 @@ pub struct Evaluator<'e, 'f> {
 }
 
 impl<'e, 'f> Evaluator<'e, 'f> {
-    ghost use Rattle.cedar_layers.specs.Policies.{slots_view, condition_term, policy_view};
+    ghost use Rattle.cedar_layers.specs.Policies.{slots_view, policy_location};
     ghost use Rattle.cedar_layers.specs.Stores.{store_view};
-    ghost use Rattle.cedar_expressions.specs.Mappings.{mapping_of};
     ghost use Rattle.cedar_extensions.specs.Extensions.{extensions_view};
     ghost use Rattle.cedar_requests.specs.Requests.{request_view};
-    ghost use Rattle.cedar_evaluator.specs.Evaluations.{setting_for, setting_of, request_in, calls_in, limit_of, IsPromisedValue, IsDecidedExactly};
+    ghost use Rattle.cedar_requests.specs.Substitutions.{values_for};
+    ghost use Rattle.cedar_evaluator.specs.Evaluations.{setting_for, setting_of, with_values, extensions_given, limit_of};
+    ghost use Rattle.cedar_evaluator.specs.Evaluations.{RunsByRules, MeetsLimitByNeed, IsAllowedByRules, MeansWhereKnown};
+    ghost use Rattle.cedar_evaluator.specs.Evaluations.{StandsInCompletions, StaysBelowLimit, AnswersValue};
+    ghost use Rattle.cedar_evaluator.specs.Evaluations.{IsPromisedOf, DecidesWhereKnown};
     ghost use Rattle.cedar_evaluator.specs.Decisions.{DecidesBy, PartlyDecidesBy};
 
     /// The evaluator of this request over this store, with these extensions, where no unknown has a value. Evaluation goes at most
@@ -60,8 +61,9 @@ impl<'e, 'f> Evaluator<'e, 'f> {
         extensions: &'e Extensions<'f>,
         limit: usize,
     ) -> Result<Evaluator<'e, 'f>, AllocError>
-        ensures setting { IfOk result (λ v. (slots : _) → setting_of v slots ≡ setting_for (request_view request) (store_view entities.now) (extensions_view extensions.now) (λ n. None) slots) }
-        ensures extensions { IfOk result (λ v. v.given.extensions.now ≡ extensions.now) }
+        ensures setting { IfOk result (λ v. (slots : _) → setting_of v slots ≡ setting_for (request_view request)
+            (store_view entities.now) (extensions_view extensions.now) (λ n. None) slots) }
+        ensures extensions { IfOk result (λ v. extensions_given v ≡ extensions.now) }
         ensures limit { IfOk result (λ v. limit_of v ≡ limit) }
     {
         let (principal, action, resource, context) = request.variable_values(alloc)?;
@@ -81,8 +83,9 @@ impl<'e, 'f> Evaluator<'e, 'f> {
 
     /// The same evaluator, where the unknowns that the map names have these values.
     pub fn with_unknowns_mapper(self, mapper: &'e HashMap<RcStr, Value>) -> Evaluator<'e, 'f>
-        ensures setting { (slots : _) → setting_of result slots ≡ setting_for (request_in self.entry) (store_view self.entry.given.entities.now) (extensions_view self.entry.given.extensions.now) (mapping_of (λ (v : Placed). v.what) mapper.now.entries) slots }
-        ensures extensions { result.given.extensions.now ≡ self.entry.given.extensions.now }
+        ensures setting { (slots : _) → setting_of result slots
+            ≡ with_values (setting_of self.entry slots) (values_for mapper.now.entries) }
+        ensures extensions { extensions_given result ≡ extensions_given self.entry }
         ensures limit { limit_of result ≡ limit_of self.entry }
     {
         let Evaluator { given, limit } = self;
@@ -120,7 +123,12 @@ impl<'e, 'f> Evaluator<'e, 'f> {
         e: &Expr,
         slots: &SlotEnv,
     ) -> Result<PartialValue, EvaluationError>
-        ensures answer { Meets (IsPromised (setting_of self.now (slots_view slots.now)) (calls_in self.now) (limit_of self.now) (view e.now)) (partial_answer result) }
+        ensures rules { RunsByRules self.now (slots_view slots.now) (view e.now) (partial_answer result) }
+        ensures limit { MeetsLimitByNeed self.now (slots_view slots.now) (view e.now) (partial_answer result) }
+        ensures allowed { IsAllowedByRules self.now (slots_view slots.now) (view e.now) (partial_answer result) }
+        ensures known { MeansWhereKnown self.now (slots_view slots.now) (view e.now) (partial_answer result) }
+        ensures sound { StandsInCompletions self.now (slots_view slots.now) (view e.now) (partial_answer result) }
+        ensures deep_enough { StaysBelowLimit self.now (slots_view slots.now) (view e.now) (partial_answer result) }
         ensures place { IfOk result (λ p. partial_loc p ≡ expr_loc e.now) }
         ensures unknown { IfOk result (λ p. HoldsUnknown (partial_view p)) }
         ensures elements { (n : ℕ) → IfOk result (λ p. IfValue p (ElementsStand n e.now)) }
@@ -140,22 +148,25 @@ impl<'e, 'f> Evaluator<'e, 'f> {
         e: &Expr,
         slots: &SlotEnv,
     ) -> Result<Value, EvaluationError>
-        ensures answer { Meets (IsPromisedValue (setting_of self.now (slots_view slots.now)) (calls_in self.now) (limit_of self.now) (view e.now)) (value_answer result) }
+        ensures answer { AnswersValue self.now (slots_view slots.now) (view e.now) (value_answer result) }
         ensures place { IfOk result (λ v. v.loc ≡ expr_loc e.now) }
         ensures elements { (n : ℕ) → IfOk result (ElementsStand n e.now) }
-        ensures known { value_answer result ≢ fails out_of_memory → IsKnownExactly (setting_of self.now (slots_view slots.now)) (calls_in self.now) (limit_of self.now) (view e.now) (value_answer result) }
+        ensures known { MeansWhereKnown self.now (slots_view slots.now) (view e.now) (value_answer result) }
     {
         only_value(self.partial_interpret(alloc, e, slots))
     }
 
     /// Whether the policy's condition is true, or what is left of it. A condition of another value than a boolean is a `TypeError`
-    /// that expects `Bool`; an error of the condition is that error.
+    /// that expects `Bool`; an error of the condition is that error. What is left is at the policy's location, as the condition is,
+    /// and holds an unknown.
     pub fn partial_evaluate(
         &self,
         alloc: Global,
         policy: &Policy,
     ) -> Result<Either<bool, Expr>, EvaluationError>
-        ensures { PartlyDecidesBy (IsPromised (setting_of self.now (policy_view policy.now).slots) (calls_in self.now) (limit_of self.now) (condition_term (policy_view policy.now))) result }
+        ensures decides { PartlyDecidesBy (IsPromisedOf self.now policy.now) result }
+        ensures place { IfLeaves result (λ e. expr_loc e ≡ policy_location policy.now) }
+        ensures unknown { IfLeaves result (λ e. has_unknown (view e) ≡ true) }
     {
         let condition = policy.condition(alloc)?;
         self.decide(alloc, &condition, policy.env())
@@ -164,8 +175,8 @@ impl<'e, 'f> Evaluator<'e, 'f> {
     /// Whether the policy's condition is true. A condition of another value than a boolean is a `TypeError` that expects `Bool`;
     /// an error of the condition is that error, and what is left of it a `NonValue`.
     pub fn evaluate(&self, alloc: Global, policy: &Policy) -> Result<bool, EvaluationError>
-        ensures decides { DecidesBy (IsPromised (setting_of self.now (policy_view policy.now).slots) (calls_in self.now) (limit_of self.now) (condition_term (policy_view policy.now))) result }
-        ensures known { decision_of result ≢ Err out_of_memory → IsDecidedExactly (setting_of self.now (policy_view policy.now).slots) (calls_in self.now) (limit_of self.now) (condition_term (policy_view policy.now)) (decision_of result) }
+        ensures decides { DecidesBy (IsPromisedOf self.now policy.now) result }
+        ensures known { DecidesWhereKnown self.now policy.now (decision_of result) }
     {
         wholly_decided(self.partial_evaluate(alloc, policy))
     }
@@ -174,9 +185,11 @@ impl<'e, 'f> Evaluator<'e, 'f> {
 // The value, or that something is left.
 #[tactic(auto, unfolding(cedar_restricted::specs::Evaluations::only_values))]
 fn only_value(answer: Result<PartialValue, EvaluationError>) -> Result<Value, EvaluationError>
-    ensures answer { value_answer result ≢ fails out_of_memory → value_answer result ≡ only_values (partial_answer answer) }
+    ensures answer { value_answer result ≢ fails out_of_memory → value_answer result ≡ only_values
+        (partial_answer answer) }
     ensures place { (l : Option Loc) → IfOk answer (λ p. partial_loc p ≡ l) → IfOk result (λ v. v.loc ≡ l) }
-    ensures elements { (n : ℕ) (e : expressions.Expr) → IfOk answer (λ p. IfValue p (ElementsStand n e)) → IfOk result (ElementsStand n e) }
+    ensures elements { (n : ℕ) (e : expressions.Expr) → IfOk answer (λ p. IfValue p (ElementsStand n e)) → IfOk result
+        (ElementsStand n e) }
 {
     match answer {
         Ok(PartialValue::Value(value)) => Ok(value),
@@ -191,7 +204,10 @@ pub(crate) fn decided_by(
     alloc: Global,
     answer: Result<PartialValue, EvaluationError>,
 ) -> Result<Either<bool, Expr>, EvaluationError>
-    ensures { partly_decided result ≢ errs_with out_of_memory → partly_decided result ≡ decided (partial_answer answer) }
+    ensures decides { partly_decided result ≢ errs_with out_of_memory → partly_decided result ≡ decided
+        (partial_answer answer) }
+    ensures place { (l : Option Loc) → IfOk answer (λ p. partial_loc p ≡ l) → IfLeaves result (λ e. expr_loc e ≡ l) }
+    ensures unknown { IfLeaves result (λ e. has_unknown (view e) ≡ true) }
 {
     match answer {
         Ok(PartialValue::Value(value)) => Ok(Left(get_as_bool(alloc, &value)?)),
