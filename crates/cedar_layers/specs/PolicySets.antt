@@ -16,6 +16,10 @@ use Rattle.cedar_layers.specs.Policies.{PolicyView, policy_view, policy_id_text}
 abbrev pub policies_view : PolicySet → List PolicyView
 policies_view s = map policy_view (values_of s.policies.entries)
 
+-- the policies themselves, in order of insertion
+abbrev pub stored_policies : PolicySet → List Policy
+stored_policies s = values_of s.policies.entries
+
 -- the policies that an iterator has left
 abbrev pub policies_left : Policies → List Policy
 policies_left s = s.policies

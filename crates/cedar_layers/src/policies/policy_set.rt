@@ -45,11 +45,12 @@ impl From<AllocError> for PolicySetError {
 
 impl PolicySet {
     ghost use Rattle.std.specs.Prelude.{Some, IfOk, OnOk, IfErr, IfSome};
-    ghost use Rattle.cedar_layers.specs.PolicySets.{policies_view, policies_left, occupied_id, Adds, IsTaken};
+    ghost use Rattle.cedar_layers.specs.PolicySets.{policies_view, stored_policies, policies_left, occupied_id, Adds, IsTaken};
 
     /// The set of these policies. Refuses with `Occupied`, which names the first id that comes again, or for want of memory.
     pub fn try_from_iter(alloc: Global, policies: Vec<Policy>) -> Result<PolicySet, PolicySetError>
         ensures view { IfOk result (λ s. policies_view s ≡ map policy_view policies.items) }
+        ensures whole { IfOk result (λ s. stored_policies s ≡ policies.items) }
         ensures occupied { IfErr result (λ e. IfSome (occupied_id e) (λ i. first_repeated (policy_ids (map policy_view policies.items)) ≡ Some i)) }
     {
         let mut set: IndexMap<PolicyID, Policy> = IndexMap::new(alloc);
@@ -79,6 +80,7 @@ impl PolicySet {
     /// The policies, in order of insertion.
     pub fn policies(&self) -> Policies<'_>
         ensures view { map policy_view (policies_left result) ≡ policies_view self.now }
+        ensures whole { policies_left result ≡ stored_policies self.now }
         ensures distinct { first_repeated (policy_ids (policies_view self.now)) ≡ None }
     {
         Policies {
@@ -89,13 +91,15 @@ impl PolicySet {
 
 /// The policies, in order of insertion.
 impl<'a> IntoIterator for &'a PolicySet {
-    ghost use Rattle.cedar_layers.specs.PolicySets.{policies_view, policies_left};
+    ghost use Rattle.cedar_layers.specs.PolicySets.{policies_view, stored_policies, policies_left};
 
     type Item = &'a Policy;
 
     type IntoIter = Policies<'a>;
 
-    ghost into_iter_gives = { λ s r. (map policy_view (policies_left r) ≡ policies_view s.now) × (first_repeated (policy_ids (policies_view s.now)) ≡ None) };
+    ghost into_iter_gives = { λ s r. (map policy_view (policies_left r) ≡ policies_view s.now)
+        × (first_repeated (policy_ids (policies_view s.now)) ≡ None)
+        × (policies_left r ≡ stored_policies s.now) };
 
     fn into_iter(self) -> Policies<'a> {
         self.policies()
