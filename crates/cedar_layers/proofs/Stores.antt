@@ -12,7 +12,7 @@ use Rattle.cedar_names.specs.contracts.names.EntityUIDPartialEq.TheImpl.{eq-valu
 use Rattle.cedar_names.specs.Names.{uid_name}
 use Rattle.cedar_names.specs.Texts as texts
 use Rattle.cedar_layers.specs.declared.policies.entities.Entity.{Entity}
-use Rattle.cedar_layers.specs.Stores.{entity_view, held, with_entity}
+use Rattle.cedar_layers.specs.Stores.{entity_name, entity_view, Held, no_entities, with_entity, with_entities, held, Standing, none_stands, standing_with, standing_with_each, last_of_each_name, standing}
 
 -- uids are equal where their names are
 pub same_by_name : (u v : EntityUID) → eq-value.it u v ≡ entity_eq (uid_name u) (uid_name v)
@@ -51,18 +51,63 @@ found_in-unknown o is_partial e f = sym (λ i. found_in (e i) (f i))
 
 -- what a map holds after an insertion, name by name
 module _ (old new : List (EntityUID × Entity)) (key : EntityUID) (entity : Entity) (there : lookup (eq-value.it key) new ≡ Some entity) (others : KeepsOthers eq-value.it (eq-value.it key) old new) where
-  held_at : (n : EntityName) (b : Bool) → entity_eq n (uid_name key) ≡ b → held new n ≡ (if b then Some (entity_view entity) else held old n)
+  standing_at : (n : EntityName) (b : Bool) → entity_eq n (uid_name key) ≡ b → standing new n ≡ (if b then Some entity else standing old n)
   unfolding KeepsOthers
-  held_at n true h =
+  standing_at n true h =
       let same : n ≡ uid_name key = entity_eq-true n (uid_name key) h in
-      ap (λ (m : EntityName). held new m) same ∙ ap (option_map entity_view) there
-  held_at n false h =
+      ap (λ (m : EntityName). standing new m) same ∙ there
+  standing_at n false h =
       let own : (x y : EntityUID) → entity_eq n (uid_name x) ≡ true → entity_eq n (uid_name y) ≡ eq-value.it x y = λ x y e. ap (λ (m : EntityName). entity_eq m (uid_name y)) (entity_eq-true n (uid_name x) e) in
       let apart : (u : EntityUID) → eq-value.it key u ≡ true → entity_eq n (uid_name u) ≡ false = λ u e. ap (λ (m : EntityName). entity_eq n m) (sym (entity_eq-true (uid_name key) (uid_name u) e)) ∙ h in
-      ap (option_map entity_view) (others (λ (u : EntityUID). entity_eq n (uid_name u)) own apart)
+      others (λ (u : EntityUID). entity_eq n (uid_name u)) own apart
 
-  pub held-put : held new ≡ with_entity (held old) (uid_name key) (entity_view entity)
-  held-put = λ i n. held_at n (entity_eq n (uid_name key)) refl i
+  pub standing-put : uid_name key ≡ entity_name entity → standing new ≡ standing_with (standing old) entity
+  standing-put e =
+      let under : EntityName → Standing = λ m n. if entity_eq n m then Some entity else standing old n in
+      (λ i n. standing_at n (entity_eq n (uid_name key)) refl i) ∙ ap under e
+
+-- ---- what is held of the entities that stand
+
+-- what is held of each
+abbrev facts_of_each : Standing → Held
+facts_of_each f n = option_map entity_view (f n)
+
+option_map-if : (b : Bool) (e : Entity) (o : Option Entity) → option_map entity_view (if b then Some e else o) ≡ (if b then Some (entity_view e) else option_map entity_view o)
+option_map-if true e o = refl
+option_map-if false e o = refl
+
+facts_with : (f : Standing) (e : Entity) → facts_of_each (standing_with f e) ≡ with_entity (facts_of_each f) (entity_name e) (entity_view e)
+facts_with f e = λ i n. option_map-if (entity_eq n (entity_name e)) e (f n) i
+
+facts_with_each : (f : Standing) (es : List Entity) → facts_of_each (standing_with_each f es) ≡ with_entities (facts_of_each f) es
+facts_with_each f [] = refl
+facts_with_each f (e ∷ es) =
+    facts_with_each (standing_with f e) es ∙ ap (λ (before : Held). with_entities before es) (facts_with f e)
+
+-- where the last of each name stands, these entities are held
+pub held-last : (entries : List (EntityUID × Entity)) (es : List Entity) → standing entries ≡ last_of_each_name es → held entries ≡ with_entities no_entities es
+held-last entries es e = ap facts_of_each e ∙ facts_with_each none_stands es
+
+-- ---- each stands under its own name
+
+named_or : (x : Entity) (n : EntityName) (o : Option Entity) (e : Entity) (b : Bool) → entity_eq n (entity_name x) ≡ b → (o ≡ Some e → entity_name e ≡ n) → (if b then Some x else o) ≡ Some e → entity_name e ≡ n
+named_or x n o e true same before h =
+    let found : x ≡ e = cc in
+    ap entity_name (sym found) ∙ sym (entity_eq-true n (entity_name x) same)
+named_or x n o e false same before h = before h
+
+named_with_each : (f : Standing) → ((n : EntityName) (e : Entity) → f n ≡ Some e → entity_name e ≡ n) → (es : List Entity) (n : EntityName) (e : Entity) → standing_with_each f es n ≡ Some e → entity_name e ≡ n
+named_with_each f named [] n e h = named n e h
+named_with_each f named (x ∷ es) n e h =
+    named_with_each (standing_with f x) (λ m y. named_or x m (f m) y (entity_eq m (entity_name x)) refl (named m y)) es n e h
+
+none_is_not_some : (e : Entity) → None ≡ Some e → ⊥
+none_is_not_some e h = cc
+
+-- the last of a name has that name
+pub last_is_named : (es : List Entity) (n : EntityName) (e : Entity) → last_of_each_name es n ≡ Some e → entity_name e ≡ n
+last_is_named es n e h =
+    named_with_each none_stands (λ m y k. absurd (none_is_not_some y k)) es n e h
 
 -- the two ways to write an escaped text
 escaped_at : (b : ℕ) (bs : Text) (p q : Bool) → (b == 34) ≡ p → (b == 92) ≡ q → cond (p || q) (92 ∷ b ∷ bs) (b ∷ bs) ≡ (if p then 92 ∷ 34 ∷ [] else (if q then 92 ∷ 92 ∷ [] else b ∷ [])) ++ bs

@@ -55,9 +55,37 @@ abbrev pub with_entities : Held → List Entity → Held
 with_entities before [] = before
 with_entities before (e ∷ es) = with_entities (with_entity before (entity_name e) (entity_view e)) es
 
+-- the entity itself of each name, as it was handed in
+abbrev pub Standing : Type 0
+Standing = EntityName → Option Entity
+
+abbrev pub none_stands : Standing
+none_stands n = None
+
+-- the same, but this entity in the place of one of its name
+abbrev pub standing_with : Standing → Entity → Standing
+standing_with before e n = if entity_eq n (entity_name e) then Some e else before n
+
+-- the same, but with these entities, of which a later one stays
+abbrev pub standing_with_each : Standing → List Entity → Standing
+standing_with_each before [] = before
+standing_with_each before (e ∷ es) = standing_with_each (standing_with before e) es
+
+-- of these entities the last of each name
+abbrev pub last_of_each_name : List Entity → Standing
+last_of_each_name es = standing_with_each none_stands es
+
+-- which entities stand in the entries of a map
+abbrev pub standing : List (EntityUID × Entity) → Standing
+standing es n = lookup (λ (u : EntityUID). entity_eq n (uid_name u)) es
+
+-- the entity itself that a store has of this name
+abbrev pub stored_entity : Entities → Standing
+stored_entity s = standing s.entities.entries
+
 -- what the entries of a map hold
 abbrev pub held : List (EntityUID × Entity) → Held
-held es n = option_map entity_view (lookup (λ (u : EntityUID). entity_eq n (uid_name u)) es)
+held es n = option_map entity_view (standing es n)
 
 -- a store as plain data
 abbrev pub store_view : Entities → Store
@@ -68,6 +96,12 @@ abbrev pub found_view : Dereference → Found
 found_view answers.NoSuchEntity = not_there
 found_view (answers.Residual u) = not_known
 found_view (answers.Data e) = found (entity_view e.now)
+
+-- the entity itself that a look-up answered, if it answered one
+abbrev pub answered_entity : Dereference → Option Entity
+answered_entity answers.NoSuchEntity = None
+answered_entity (answers.Residual u) = None
+answered_entity (answers.Data e) = Some e.now
 
 -- an answered unknown is the one that stands for this entity
 abbrev pub AsksFor : EntityName → Dereference → Type 0

@@ -202,7 +202,8 @@ impl Entities {
     ghost use Rattle.cedar_model.specs.Settings.{look_up, missing_entity};
     ghost use Rattle.cedar_names.specs.Names.{uid_name};
     ghost use Rattle.cedar_names.specs.Leaves.{type_view};
-    ghost use Rattle.cedar_layers.specs.Stores.{entity_name, entity_view, held, no_entities, with_entity, with_entities, store_view, found_view, AsksFor};
+    ghost use Rattle.cedar_layers.specs.Stores.{no_entities, with_entities, standing, standing_with, last_of_each_name};
+    ghost use Rattle.cedar_layers.specs.Stores.{store_view, stored_entity, found_view, answered_entity, AsksFor};
 
     /// The concrete store without entities. It takes no memory.
     pub fn new(alloc: Global) -> Entities
@@ -216,7 +217,8 @@ impl Entities {
 
     /// The store of these entities, of which those of one uid are one entity, the last. Refuses only for want of memory.
     pub fn with(alloc: Global, entities: Vec<Entity>, partial: bool) -> Result<Entities, AllocError>
-        ensures { IfOk result (λ s. store_view s ≡ record { entity = with_entities no_entities entities.items; is_partial = partial }) }
+        ensures view { IfOk result (λ s. store_view s ≡ record { entity = with_entities no_entities entities.items; is_partial = partial }) }
+        ensures whole { IfOk result (λ s. stored_entity s ≡ last_of_each_name entities.items) }
     {
         let mut held: HashMap<EntityUID, Entity> = HashMap::new(alloc);
         'put: for entity in entities {
@@ -230,7 +232,7 @@ impl Entities {
 
     // Puts the entity into the map, in the place of one of the same uid.
     fn put(map: &mut HashMap<EntityUID, Entity>, entity: Entity) -> Result<(), AllocError>
-        ensures { OnOk result (held map.new.entries ≡ with_entity (held map.old.entries) (entity_name entity) (entity_view entity)) }
+        ensures { OnOk result (standing map.new.entries ≡ standing_with (standing map.old.entries) entity) }
     {
         let uid = entity.uid.clone()?;
         map.insert(uid, entity)?;
@@ -241,6 +243,7 @@ impl Entities {
     /// the uid's text and annotated with its type. Refuses only for want of memory.
     pub fn entity(&self, alloc: Global, uid: &EntityUID) -> Result<Dereference<'_>, AllocError>
         ensures found { IfOk result (λ d. found_view d ≡ look_up (store_view self.now) (uid_name uid.now)) }
+        ensures whole { IfOk result (λ d. answered_entity d ≡ stored_entity self.now (uid_name uid.now)) }
         ensures unknown { IfOk result (AsksFor (uid_name uid.now)) }
     {
         match self.entities.get(uid) {
