@@ -1,5 +1,5 @@
 -- Stored attributes and tags as plain data.
-use Rattle.std.specs.Prelude.{Bool, true, ◌&&◌, List, [], ◌∷◌, map, Option}
+use Rattle.std.specs.Prelude.{Bool, true, ◌&&◌, List, [], ◌∷◌, map, Option, option_map}
 use Rattle.std.specs.Cmp.Lexicographic.{slice_cmp}
 use Rattle.std.specs.Map.{lookup}
 use Rattle.std.specs.Ordering.{is_eq, nat_cmp}
@@ -26,6 +26,10 @@ values_as_parts (e ∷ es) = (e.0, partials.Value e.1) ∷ values_as_parts es
 -- the part under this name, with its place
 abbrev pub part_under : Text → List (RcStr Global × PartialValue) → Option PartialValue
 part_under t es = lookup (λ (k : RcStr Global). is_eq (slice_cmp nat_cmp t (rc_str_bytes k))) es
+
+-- the part that was found, as plain data
+abbrev pub found_part : Option PartialValue → Option model.PartialValue
+found_part p = option_map partial_view p
 
 -- whether a part is a value or a restricted expression
 abbrev pub is_restricted_part : model.PartialValue → Bool

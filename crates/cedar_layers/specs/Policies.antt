@@ -6,10 +6,11 @@ use Rattle.std.specs.Rc.{rc_str_bytes}
 use Rattle.std.specs.declared.hash.BuildHasherDefault.{BuildHasherDefault}
 use Rattle.std.specs.declared.hash.FoldHasher.{FoldHasher}
 use Rattle.std.specs.HashMap.{HashMap}
-use Rattle.cedar_model.specs.Terms.{Text, Slot, principal_slot, resource_slot, Term, both}
+use Rattle.cedar_model.specs.Terms.{Text, Slot, principal_slot, resource_slot, literal, bool_literal, Term, both}
 use Rattle.cedar_model.specs.Outcomes.{text_eq}
 use Rattle.cedar_model.specs.World.{Slots}
 use Rattle.cedar_model.specs.Policies as model
+use Rattle.cedar_model.specs.Agreement.{no_slots}
 use Rattle.cedar_names.specs.declared.names.EntityUID.{EntityUID}
 use Rattle.cedar_names.specs.declared.names.Loc.{Loc}
 use Rattle.cedar_names.specs.declared.names.SlotId.{SlotId}
@@ -72,15 +73,6 @@ SlotValues = HashMap SlotId EntityUID (BuildHasherDefault FoldHasher)
 abbrev pub slots_view : SlotValues → Slots
 slots_view env s = option_map uid_name (lookup (is_slot s) env.entries)
 
--- a policy as plain data
-abbrev pub policy_view : Policy → PolicyView
-policy_view p =
-    record { effect = effect_view p.effect; id = policy_id_text p.id; annotations = annotations_view p.annotations.value; principal_constraint = view p.principal.value; action_constraint = view p.action.value; resource_constraint = view p.resource.value; when_clause = view p.when.value; slots = slots_view p.env.value }
-
--- where a policy stands
-abbrev pub policy_location : Policy → Option Loc
-policy_location p = p.loc
-
 -- the parts of a policy's condition, whole: with their own locations
 pub record ConditionParts : Type 0 where
   pub principal : Expr
@@ -88,9 +80,51 @@ pub record ConditionParts : Type 0 where
   pub resource : Expr
   pub when : Expr
 
+abbrev pub condition_parts : Expr → Expr → Expr → Expr → ConditionParts
+condition_parts principal action resource when =
+    record { principal = principal; action = action; resource = resource; when = when }
+
 abbrev pub policy_parts : Policy → ConditionParts
-policy_parts p =
-    record { principal = p.principal.value; action = p.action.value; resource = p.resource.value; when = p.when.value }
+policy_parts p = condition_parts p.principal.value p.action.value p.resource.value p.when.value
+
+-- what a policy is made of, as plain data
+abbrev pub policy_of : Effect → PolicyID → Annotations → ConditionParts → SlotValues → PolicyView
+policy_of effect id annotations parts env = record {
+  effect = effect_view effect;
+  id = policy_id_text id;
+  annotations = annotations_view annotations;
+  principal_constraint = view parts.principal;
+  action_constraint = view parts.action;
+  resource_constraint = view parts.resource;
+  when_clause = view parts.when;
+  slots = slots_view env;
+}
+
+-- the same where all constraints are `true` and no slot has a value
+abbrev pub policy_when : Effect → PolicyID → Annotations → Expr → PolicyView
+policy_when effect id annotations clause = record {
+  effect = effect_view effect;
+  id = policy_id_text id;
+  annotations = annotations_view annotations;
+  principal_constraint = literal (bool_literal true);
+  action_constraint = literal (bool_literal true);
+  resource_constraint = literal (bool_literal true);
+  when_clause = view clause;
+  slots = no_slots;
+}
+
+-- a policy as plain data
+abbrev pub policy_view : Policy → PolicyView
+policy_view p = policy_of p.effect p.id p.annotations.value (policy_parts p) p.env.value
+
+-- where a policy stands
+abbrev pub policy_location : Policy → Option Loc
+policy_location p = p.loc
+
+-- a copy says the same, part by part, and stands where its policy does
+abbrev pub IsCopy : Policy → Policy → Type 0
+IsCopy p copy =
+    (policy_view copy ≡ policy_view p) × (policy_parts copy ≡ policy_parts p) × (policy_location copy ≡ policy_location p)
 
 -- the expression is the conjunction of these two at this location
 pub record IsConjunction (l : Option Loc) (a b e : Expr) : Type 0 where
@@ -117,3 +151,7 @@ first_repeated_after seen (t ∷ ts) = if list_any (text_eq t) seen then Some t 
 -- the first text of a list that comes again
 abbrev pub first_repeated : List Text → Option Text
 first_repeated ts = first_repeated_after [] ts
+
+-- the first id of policies that comes again
+abbrev pub first_repeated_id : List Policy → Option Text
+first_repeated_id ps = first_repeated (policy_ids (map policy_view ps))

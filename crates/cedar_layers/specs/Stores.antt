@@ -1,5 +1,5 @@
 -- Stores of entities as plain data.
-use Rattle.std.specs.Prelude.{◌≡◌, ⊤, if◌then◌else◌, List, [], ◌∷◌, map, Option, None, Some, option_map}
+use Rattle.std.specs.Prelude.{◌≡◌, ⊤, Bool, if◌then◌else◌, List, [], ◌∷◌, map, Option, None, Some, option_map}
 use Rattle.std.specs.Map.{lookup}
 use Rattle.std.specs.Rc.{rc_str_bytes}
 use Rattle.cedar_model.specs.Terms.{EntityName, unknown}
@@ -15,7 +15,8 @@ use Rattle.cedar_layers.specs.declared.policies.entities.Dereference.{Dereferenc
 use Rattle.cedar_layers.specs.declared.policies.entities.Dereference.TheVariants as answers
 use Rattle.cedar_layers.specs.declared.policies.entities.Entities.{Entities}
 use Rattle.cedar_layers.specs.declared.policies.entities.Entity.{Entity}
-use Rattle.cedar_layers.specs.Parts.{parts_view}
+use Rattle.cedar_data.specs.Sound.{Placed}
+use Rattle.cedar_layers.specs.Parts.{parts_view, values_as_parts}
 
 -- the parts of an entity as they were handed in, places included
 abbrev pub entity_uid : Entity → EntityUID
@@ -34,10 +35,18 @@ entity_ancestors e = e.ancestors.keys
 abbrev pub entity_name : Entity → EntityName
 entity_name e = uid_name e.uid
 
+-- these attributes, ancestors and tags as plain data
+abbrev pub facts_of : List (RcStr Global × PartialValue) → List EntityUID → List (RcStr Global × PartialValue) → StoredEntity
+facts_of attrs ancestors tags =
+    record { attributes = parts_view attrs; tags = parts_view tags; ancestors = map uid_name ancestors }
+
+-- the same of attributes and tags that are values
+abbrev pub facts_of_values : List (RcStr Global × Placed) → List EntityUID → List (RcStr Global × Placed) → StoredEntity
+facts_of_values attrs ancestors tags = facts_of (values_as_parts attrs) ancestors (values_as_parts tags)
+
 -- its attributes, tags and ancestors
 abbrev pub entity_view : Entity → StoredEntity
-entity_view e =
-    record { attributes = parts_view e.attrs.entries; tags = parts_view e.tags.entries; ancestors = map uid_name e.ancestors.keys }
+entity_view e = facts_of e.attrs.entries e.ancestors.keys e.tags.entries
 
 -- what a store has of each entity
 abbrev pub Held : Type 0
@@ -74,6 +83,10 @@ standing_with_each before (e ∷ es) = standing_with_each (standing_with before 
 -- of these entities the last of each name
 abbrev pub last_of_each_name : List Entity → Standing
 last_of_each_name es = standing_with_each none_stands es
+
+-- the store of these entities as plain data, of those of one name the last
+abbrev pub store_of : List Entity → Bool → Store
+store_of es is_partial = record { entity = with_entities no_entities es; is_partial = is_partial }
 
 -- which entities stand in the entries of a map
 abbrev pub standing : List (EntityUID × Entity) → Standing

@@ -34,7 +34,7 @@ impl Drop for Entity {
 }
 
 impl Entity {
-    ghost use Rattle.std.specs.Prelude.{IfSome, map, length, option_map, option_copied};
+    ghost use Rattle.std.specs.Prelude.{IfSome, map, length, option_copied};
     ghost use Rattle.std.specs.Cmp.Lexicographic.{slice_cmp};
     ghost use Rattle.std.specs.List.Sorted.{IsStrictlySortedBy};
     ghost use Rattle.std.specs.Ordering.{nat_cmp};
@@ -42,8 +42,9 @@ impl Entity {
     ghost use Rattle.cedar_model.specs.Settings.{part_at, is_among, names_of};
     ghost use Rattle.cedar_names.specs.Names.{uid_name};
     ghost use Rattle.cedar_data.specs.Residuals.{partial_view};
-    ghost use Rattle.cedar_layers.specs.Parts.{is_restricted_part, part_under};
-    ghost use Rattle.cedar_layers.specs.Stores.{entity_uid, entity_attributes, entity_ancestors, entity_name, entity_view, entity_tags};
+    ghost use Rattle.cedar_layers.specs.Parts.{found_part, is_restricted_part, part_under};
+    ghost use Rattle.cedar_layers.specs.Stores.{entity_uid, entity_attributes, entity_tags, entity_ancestors};
+    ghost use Rattle.cedar_layers.specs.Stores.{entity_name, entity_view, facts_of, facts_of_values};
 
     /// The entity of this uid with these attributes, ancestors and tags, taken as they are.
     pub fn new(
@@ -55,7 +56,7 @@ impl Entity {
         requires attrs { are_restricted_parts (parts_view attrs.entries) ≡ true }
         requires tags { are_restricted_parts (parts_view tags.entries) ≡ true }
         ensures name { entity_name result ≡ uid_name uid }
-        ensures view { entity_view result ≡ record { attributes = parts_view attrs.entries; tags = parts_view tags.entries; ancestors = map uid_name ancestors.keys } }
+        ensures view { entity_view result ≡ facts_of attrs.entries ancestors.keys tags.entries }
         ensures uid { entity_uid result ≡ uid }
         ensures attributes { entity_attributes result ≡ attrs.entries }
         ensures tags { entity_tags result ≡ tags.entries }
@@ -78,7 +79,7 @@ impl Entity {
         tags: BTreeMap<RcStr, Value>,
     ) -> Result<Entity, AllocError>
         ensures name { IfOk result (λ e. entity_name e ≡ uid_name uid) }
-        ensures view { IfOk result (λ e. entity_view e ≡ record { attributes = parts_view (values_as_parts attrs.entries); tags = parts_view (values_as_parts tags.entries); ancestors = map uid_name ancestors.keys }) }
+        ensures view { IfOk result (λ e. entity_view e ≡ facts_of_values attrs.entries ancestors.keys tags.entries) }
         ensures uid { IfOk result (λ e. entity_uid e ≡ uid) }
         ensures attributes { IfOk result (λ e. entity_attributes e ≡ values_as_parts attrs.entries) }
         ensures tags { IfOk result (λ e. entity_tags e ≡ values_as_parts tags.entries) }
@@ -99,7 +100,7 @@ impl Entity {
 
     /// The attribute of this name, if there is one.
     pub fn get(&self, attr: &str) -> Option<&PartialValue>
-        ensures value { option_map partial_view (option_copied result) ≡ part_at attr.now (entity_view self.now).attributes }
+        ensures value { found_part (option_copied result) ≡ part_at attr.now (entity_view self.now).attributes }
         ensures whole { option_copied result ≡ part_under attr.now (entity_attributes self.now) }
         ensures restricted { IfSome result (λ p. is_restricted_part (partial_view p.now) ≡ true) }
     {
@@ -108,7 +109,7 @@ impl Entity {
 
     /// The tag of this name, if there is one.
     pub fn get_tag(&self, tag: &str) -> Option<&PartialValue>
-        ensures value { option_map partial_view (option_copied result) ≡ part_at tag.now (entity_view self.now).tags }
+        ensures value { found_part (option_copied result) ≡ part_at tag.now (entity_view self.now).tags }
         ensures whole { option_copied result ≡ part_under tag.now (entity_tags self.now) }
         ensures restricted { IfSome result (λ p. is_restricted_part (partial_view p.now) ≡ true) }
     {
@@ -202,7 +203,7 @@ impl Entities {
     ghost use Rattle.cedar_model.specs.Settings.{look_up, missing_entity};
     ghost use Rattle.cedar_names.specs.Names.{uid_name};
     ghost use Rattle.cedar_names.specs.Leaves.{type_view};
-    ghost use Rattle.cedar_layers.specs.Stores.{no_entities, with_entities, standing, standing_with, last_of_each_name};
+    ghost use Rattle.cedar_layers.specs.Stores.{no_entities, store_of, standing, standing_with, last_of_each_name};
     ghost use Rattle.cedar_layers.specs.Stores.{store_view, stored_entity, found_view, answered_entity, AsksFor};
 
     /// The concrete store without entities. It takes no memory.
@@ -217,7 +218,7 @@ impl Entities {
 
     /// The store of these entities, of which those of one uid are one entity, the last. Refuses only for want of memory.
     pub fn with(alloc: Global, entities: Vec<Entity>, partial: bool) -> Result<Entities, AllocError>
-        ensures view { IfOk result (λ s. store_view s ≡ record { entity = with_entities no_entities entities.items; is_partial = partial }) }
+        ensures view { IfOk result (λ s. store_view s ≡ store_of entities.items partial) }
         ensures whole { IfOk result (λ s. stored_entity s ≡ last_of_each_name entities.items) }
     {
         let mut held: HashMap<EntityUID, Entity> = HashMap::new(alloc);

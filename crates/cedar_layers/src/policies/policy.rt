@@ -98,11 +98,12 @@ impl Drop for Policy {
 }
 
 impl Policy {
-    ghost use Rattle.std.specs.Prelude.{None, true};
-    ghost use Rattle.cedar_model.specs.Terms.{literal, bool_literal, both};
-    ghost use Rattle.cedar_model.specs.Agreement.{no_slots};
+    ghost use Rattle.std.specs.Prelude.{None};
+    ghost use Rattle.cedar_model.specs.Terms.{both};
     ghost use Rattle.cedar_expressions.specs.View.{view, expr_loc};
-    ghost use Rattle.cedar_layers.specs.Policies.{effect_view, policy_id_text, annotations_view, slots_view, policy_view, policy_parts, condition_term, policy_location, IsConjunction, IsCondition};
+    ghost use Rattle.cedar_layers.specs.Policies.{effect_view, policy_id_text, annotations_view, slots_view, policy_view};
+    ghost use Rattle.cedar_layers.specs.Policies.{condition_parts, policy_parts, policy_of, policy_when, condition_term};
+    ghost use Rattle.cedar_layers.specs.Policies.{policy_location, IsConjunction, IsCondition};
 
     /// The policy of these parts, at no known location. Refuses only for want of memory.
     pub fn new(
@@ -116,8 +117,9 @@ impl Policy {
         when: Expr,
         env: SlotEnv,
     ) -> Result<Policy, AllocError>
-        ensures view { IfOk result (λ p. policy_view p ≡ record { effect = effect_view effect; id = policy_id_text id; annotations = annotations_view annotations; principal_constraint = view principal; action_constraint = view action; resource_constraint = view resource; when_clause = view when; slots = slots_view env }) }
-        ensures parts { IfOk result (λ p. policy_parts p ≡ record { principal = principal; action = action; resource = resource; when = when }) }
+        ensures view { IfOk result (λ p. policy_view p ≡ policy_of effect id annotations
+            (condition_parts principal action resource when) env) }
+        ensures parts { IfOk result (λ p. policy_parts p ≡ condition_parts principal action resource when) }
         ensures loc { IfOk result (λ p. policy_location p ≡ None) }
     {
         let (annotations, env, principal, action, resource, when) = shared_parts(
@@ -152,7 +154,7 @@ impl Policy {
         loc: Option<Loc>,
         annotations: Rc<Annotations>,
     ) -> Result<Policy, AllocError>
-        ensures view { IfOk result (λ p. policy_view p ≡ record { effect = effect_view effect; id = policy_id_text id; annotations = annotations_view annotations.value; principal_constraint = literal (bool_literal true); action_constraint = literal (bool_literal true); resource_constraint = literal (bool_literal true); when_clause = view expr.value; slots = no_slots }) }
+        ensures view { IfOk result (λ p. policy_view p ≡ policy_when effect id annotations.value expr.value) }
         ensures clause { IfOk result (λ p. (policy_parts p).when ≡ expr.value) }
         ensures loc { IfOk result (λ p. policy_location p ≡ loc) }
     {
@@ -247,9 +249,9 @@ fn shared_parts<A: Drop, E: Drop, T: Drop>(
 }
 
 impl Clone for Policy {
-    ghost use Rattle.cedar_layers.specs.Policies.{policy_view, policy_parts, policy_location};
+    ghost use Rattle.cedar_layers.specs.Policies.{IsCopy};
 
-    ghost is_clone = { λ p copy. (policy_view copy ≡ policy_view p) × (policy_parts copy ≡ policy_parts p) × (policy_location copy ≡ policy_location p) };
+    ghost is_clone = { IsCopy };
 
     fn clone(&self) -> Result<Policy, AllocError> {
         Ok(Policy {

@@ -1,7 +1,7 @@
 //! Sets of policies.
 ghost use Rattle.std.specs.Prelude.{◌≡◌, None, map};
 ghost use Rattle.std.specs.Map.{values_of};
-ghost use Rattle.cedar_layers.specs.Policies.{policy_view, policy_ids, first_repeated};
+ghost use Rattle.cedar_layers.specs.Policies.{policy_view, policy_ids, first_repeated, first_repeated_id};
 
 use super::policy::{Policy, PolicyID};
 use indexmap::IndexMap;
@@ -45,13 +45,14 @@ impl From<AllocError> for PolicySetError {
 
 impl PolicySet {
     ghost use Rattle.std.specs.Prelude.{Some, IfOk, OnOk, IfErr, IfSome};
-    ghost use Rattle.cedar_layers.specs.PolicySets.{policies_view, stored_policies, policies_left, occupied_id, Adds, IsTaken};
+    ghost use Rattle.cedar_layers.specs.PolicySets.{policies_view, stored_policies, policies_left};
+    ghost use Rattle.cedar_layers.specs.PolicySets.{occupied_id, Adds, IsTaken};
 
     /// The set of these policies. Refuses with `Occupied`, which names the first id that comes again, or for want of memory.
     pub fn try_from_iter(alloc: Global, policies: Vec<Policy>) -> Result<PolicySet, PolicySetError>
         ensures view { IfOk result (λ s. policies_view s ≡ map policy_view policies.items) }
         ensures whole { IfOk result (λ s. stored_policies s ≡ policies.items) }
-        ensures occupied { IfErr result (λ e. IfSome (occupied_id e) (λ i. first_repeated (policy_ids (map policy_view policies.items)) ≡ Some i)) }
+        ensures occupied { IfErr result (λ e. IfSome (occupied_id e) (λ i. first_repeated_id policies.items ≡ Some i)) }
     {
         let mut set: IndexMap<PolicyID, Policy> = IndexMap::new(alloc);
         'insert: for policy in policies {
