@@ -46,7 +46,10 @@ impl Entity {
     ghost use Rattle.cedar_layers.specs.Stores.{entity_uid, entity_attributes, entity_tags, entity_ancestors};
     ghost use Rattle.cedar_layers.specs.Stores.{entity_name, entity_view, facts_of, facts_of_values};
 
-    /// The entity of this uid with these attributes, ancestors and tags, taken as they are.
+    /// The entity of this uid with these attributes, ancestors and tags, taken as they are. The caller owes two facts, one of `attrs`
+    /// and one of `tags`: each residual there is a restricted expression, that is, made of literals, unknowns, sets, records and
+    /// calls of extension functions alone. Values may stand there freely; `from_values` takes nothing else, and asks nothing.
+    /// `ancestors` are all the entities that this one is in, not its parents alone: none is added.
     pub fn new(
         uid: EntityUID,
         attrs: BTreeMap<RcStr, PartialValue>,
@@ -70,7 +73,8 @@ impl Entity {
         }
     }
 
-    /// The entity of this uid whose attributes and tags are these values, with these ancestors. Refuses only for want of memory.
+    /// The entity of this uid whose attributes and tags are these values, with these ancestors: all of them, as in `new`. Refuses
+    /// only for want of memory.
     pub fn from_values(
         alloc: Global,
         uid: EntityUID,
@@ -216,7 +220,11 @@ impl Entities {
         }
     }
 
-    /// The store of these entities, of which those of one uid are one entity, the last. Refuses only for want of memory.
+    /// The store of these entities, of which those of one uid are one entity, the last. `partial` says what it means that an entity
+    /// is not among them: if false, that there is none; if true, that it is not known, and an unknown stands for it. Ancestors are
+    /// taken as they are: each entity must have been made with all of its ancestors, not its parents alone. `in` is false of an
+    /// ancestor that was left out, so a permit that asks for it does not apply (a wrong Deny), nor does a forbid (a wrong Allow).
+    /// Refuses only for want of memory.
     pub fn with(alloc: Global, entities: Vec<Entity>, partial: bool) -> Result<Entities, AllocError>
         ensures view { IfOk result (λ s. store_view s ≡ store_of entities.items partial) }
         ensures whole { IfOk result (λ s. stored_entity s ≡ last_of_each_name entities.items) }

@@ -33,6 +33,7 @@ pub enum PolicySetError {
     Memory(AllocError),
 }
 
+/// Want of memory is `Memory`, so that `?` takes an `AllocError` where a set is made.
 impl From<AllocError> for PolicySetError {
     ghost use Rattle.cedar_layers.specs.declared.policies.policy_set.PolicySetError.TheVariants.{Memory};
 
