@@ -1,3 +1,4 @@
 pub mod Maps
 pub mod Collected
+pub mod Unread
 pub mod Promises

@@ -4,7 +4,9 @@ use Rattle.cedar_model.specs.Terms.{Term}
 use Rattle.cedar_model.specs.World as model
 use Rattle.cedar_model.specs.Failures.{residual_is_left, Answer, value, residual, answers, fails, limit}
 use Rattle.cedar_model.specs.Settings.{shallow, Setting, unknown_entry, absent_context}
+use Rattle.cedar_model.specs.Meaning.{meaning}
 use Rattle.cedar_model.specs.Rules.{StoredCalls, Runs, Allows, Exceeds}
+use Rattle.cedar_model.specs.Agreement.{AgreesWithFunctions, IsKnown, Answers}
 use Rattle.cedar_data.specs.declared.partial_value.PartialValue.{PartialValue}
 use Rattle.cedar_values.specs.declared.evaluator.err.EvaluationError.{EvaluationError}
 use Rattle.cedar_values.specs.declared.evaluator.err.EvaluationError.TheVariants as errors
@@ -52,6 +54,13 @@ pub record IsAnswerWithin (s : Setting) (calls : StoredCalls) (levels : ℕ) (t 
 -- and of a residual the error that it is left
 abbrev pub IsValueWithin : Setting → StoredCalls → ℕ → Term → Answer → Type 0
 IsValueWithin s calls levels t a = (b : Answer) × IsAnswerWithin s calls levels t b × (a ≡ only_values b)
+
+-- where the expression has no unknown and its functions answer none, in every world the meaning's value or first error,
+-- but for the recursion limit: what stands outside the expression is not read
+abbrev pub IsKnownExactly : model.Extensions → StoredCalls → Term → Answer → Type 0
+IsKnownExactly x calls t a =
+    (ans : model.Functions) → AgreesWithFunctions ans calls → IsKnown ans t → a ≢ limit →
+    (w : model.World) (slots : model.Slots) → Answers a (meaning x ans w slots t)
 
 -- ---- errors that end an evaluation at once
 

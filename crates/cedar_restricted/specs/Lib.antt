@@ -6,3 +6,4 @@ pub mod Frames
 pub mod Steps
 pub mod Laws
 pub mod Elements
+pub mod Evaluators

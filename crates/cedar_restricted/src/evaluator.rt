@@ -6,11 +6,11 @@ ghost use Rattle.cedar_model.specs.Agreement.{height};
 ghost use Rattle.cedar_model.specs.Rules.{Meets};
 ghost use Rattle.cedar_model.specs.Restricted.{IsSoundPart};
 ghost use Rattle.cedar_model.specs.RestrictedLaws.{HoldsUnknown};
-ghost use Rattle.cedar_extensions.specs.Extensions.{extensions_view, calls_of};
 ghost use Rattle.cedar_restricted_expressions.specs.Views.{borrowed_expr, borrowed_term, borrowed_loc};
 ghost use Rattle.cedar_data.specs.Residuals.{partial_view, partial_loc, IfValue};
 ghost use Rattle.cedar_restricted.specs.Evaluations.{partial_answer, value_answer, IsBare, IsAnswerWithin};
-ghost use Rattle.cedar_restricted.specs.Evaluations.{IsValueWithin};
+ghost use Rattle.cedar_restricted.specs.Evaluations.{IsValueWithin, IsKnownExactly};
+ghost use Rattle.cedar_restricted.specs.Evaluators.{extensions_of, extensions_in, calls_in, limit_of};
 ghost use Rattle.cedar_restricted.specs.Elements.{ElementsStand};
 
 use crate::errors::residual_left;
@@ -33,8 +33,8 @@ impl<'x, 'f> RestrictedEvaluator<'x, 'f> {
     /// The evaluator with these extensions. Evaluation goes at most `limit` levels deep: an expression is one level,
     /// its parts one more.
     pub fn new(extensions: &'x Extensions<'f>, limit: usize) -> RestrictedEvaluator<'x, 'f>
-        ensures extensions { result.extensions.now ≡ extensions.now }
-        ensures limit { result.limit ≡ limit }
+        ensures extensions { extensions_of result ≡ extensions.now }
+        ensures limit { limit_of result ≡ limit }
     {
         RestrictedEvaluator { extensions, limit }
     }
@@ -47,20 +47,24 @@ impl<'x, 'f> RestrictedEvaluator<'x, 'f> {
     /// where it has none. Fails with `RecursionLimit` exactly where the evaluation goes more levels deep than the
     /// limit, which it never does for an expression that is no higher; it is at the location of the nearest expression
     /// around that has one. The elements of a set that is its value stand where the parts do of which they are the
-    /// values: of equal ones the first stays, with its location; and so do those of a set in it.
+    /// values: of equal ones the first stays, with its location; and so do those of a set in it. Where no unknown stands
+    /// in the expression and its functions answer none, the value or error is what the expression means in every world,
+    /// since it reads nothing of one.
     pub fn partial_interpret(
         &self,
         alloc: Global,
         e: BorrowedRestrictedExpr<'_>,
     ) -> Result<PartialValue, EvaluationError>
-        ensures answer { (s : Setting) → IsBare (extensions_view self.now.extensions.now) s →
-            Meets (IsAnswerWithin s (calls_of self.now.extensions.now) self.now.limit (borrowed_term e.entry))
+        ensures answer { (s : Setting) → IsBare (extensions_in self.now) s →
+            Meets (IsAnswerWithin s (calls_in self.now) (limit_of self.now) (borrowed_term e.entry))
+            (partial_answer result) }
+        ensures known { Meets (IsKnownExactly (extensions_in self.now) (calls_in self.now) (borrowed_term e.entry))
             (partial_answer result) }
         ensures place { IfOk result (λ p. partial_loc p ≡ borrowed_loc e.entry) }
         ensures restricted { IfOk result (λ p. IsSoundPart (partial_view p)) }
         ensures unknown { IfOk result (λ p. HoldsUnknown (partial_view p)) }
         ensures elements { (n : ℕ) → IfOk result (λ p. IfValue p (ElementsStand n (borrowed_expr e.entry))) }
-        ensures low { height (borrowed_term e.entry) ≤ self.now.limit → partial_answer result ≢ limit }
+        ensures low { height (borrowed_term e.entry) ≤ limit_of self.now → partial_answer result ≢ limit }
     {
         match e.to_owned() {
             Ok(restricted) => {
@@ -81,12 +85,14 @@ impl<'x, 'f> RestrictedEvaluator<'x, 'f> {
         alloc: Global,
         e: BorrowedRestrictedExpr<'_>,
     ) -> Result<Value, EvaluationError>
-        ensures answer { (s : Setting) → IsBare (extensions_view self.now.extensions.now) s →
-            Meets (IsValueWithin s (calls_of self.now.extensions.now) self.now.limit (borrowed_term e.entry))
+        ensures answer { (s : Setting) → IsBare (extensions_in self.now) s →
+            Meets (IsValueWithin s (calls_in self.now) (limit_of self.now) (borrowed_term e.entry))
+            (value_answer result) }
+        ensures known { Meets (IsKnownExactly (extensions_in self.now) (calls_in self.now) (borrowed_term e.entry))
             (value_answer result) }
         ensures place { IfOk result (λ v. v.loc ≡ borrowed_loc e.entry) }
         ensures elements { (n : ℕ) → IfOk result (ElementsStand n (borrowed_expr e.entry)) }
-        ensures low { height (borrowed_term e.entry) ≤ self.now.limit → value_answer result ≢ limit }
+        ensures low { height (borrowed_term e.entry) ≤ limit_of self.now → value_answer result ≢ limit }
     {
         match self.partial_interpret(alloc, e) {
             Ok(PartialValue::Value(value)) => Ok(value),
