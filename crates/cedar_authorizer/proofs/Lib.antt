@@ -2,6 +2,7 @@ pub mod Distinct
 pub mod Kept
 pub mod Runs
 pub mod Noting
+pub mod Placed
 pub mod Made
 pub mod Outcomes
 pub mod Deciding

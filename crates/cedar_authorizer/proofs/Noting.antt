@@ -93,11 +93,13 @@ rows_located [] = refl
 rows_located (l ∷ ls) = ap (λ (ts : List Text). l.row.id ∷ ts) (rows_located ls)
 
 module _ (ls : List Located) (distinct : first_repeated (located_ids ls) ≡ None) where
+  pub whole : {V : Type 0} (effect : Effect) (such : Reported → Bool) (f : PolicyID × V → Located) → ((e : PolicyID × V) → (f e).row.id ≡ policy_id_text e.0) → (items entries : List (PolicyID × V)) → entries ≡ kept items → map f items ≡ located_of effect such ls → entries ≡ items
+  whole effect such f h items entries keeps on =
+      keeps ∙ kept_whole items (ap first_repeated (ids_of_entries f h items ∙ ap located_ids on) ∙ picked_distinct effect such ls distinct)
+
   held : {V : Type 0} (effect : Effect) (such : Reported → Bool) (f : PolicyID × V → Located) → ((e : PolicyID × V) → (f e).row.id ≡ policy_id_text e.0) → (items entries : List (PolicyID × V)) → entries ≡ kept items → map f items ≡ located_of effect such ls → rows_in (map f entries) ≡ rows_of effect such (rows_in ls)
   held effect such f h items entries keeps on =
-      let apart : first_repeated (pair_ids items) ≡ None =
-      ap first_repeated (ids_of_entries f h items ∙ ap located_ids on) ∙ picked_distinct effect such ls distinct in
-      ap (λ (es : List (PolicyID × _)). rows_in (map f es)) (keeps ∙ kept_whole items apart)
+      ap (λ (es : List (PolicyID × _)). rows_in (map f es)) (whole effect such f h items entries keeps on)
       ∙ ap rows_in on
       ∙ sym (rows_of_located effect such ls)
 
@@ -127,3 +129,15 @@ is_run mode s calls levels policies sheet r on k =
       run = subst (RunOf mode s calls levels (deciding policies) (rows_in ls)) (sym same) on.run;
       held = holds_rows ls apart sheet r on.errors k on.noted;
     }
+
+-- the residual policies of the run of a set are those that are on the sheet
+module _ (mode : ErrorHandling) (s : Setting) (calls : StoredCalls) (levels : ℕ) (policies : PolicySet) (sheet : Sheet) (r : PartialResponse) (on : IsNotedRun mode s calls levels (deciding policies) sheet) (k : KeepsSheet sheet r) where
+  apart : first_repeated (located_ids on.located) ≡ None
+  apart =
+      ap first_repeated (rows_located on.located ∙ run_ids mode s calls levels (deciding policies) (rows_in on.located) on.errors on.run ∙ ids_deciding (policies_view policies)) ∙ policies.distinct
+
+  pub residual_permits_are : r.residual_permits.entries ≡ sheet.residual_permits.items
+  residual_permits_are = whole on.located apart permit is_residual (located_residual permit) (λ e. refl) _ _ k.residual_permits (ap (λ (n : Noted). n.residual_permits) on.noted)
+
+  pub residual_forbids_are : r.residual_forbids.entries ≡ sheet.residual_forbids.items
+  residual_forbids_are = whole on.located apart forbid is_residual (located_residual forbid) (λ e. refl) _ _ k.residual_forbids (ap (λ (n : Noted). n.residual_forbids) on.noted)

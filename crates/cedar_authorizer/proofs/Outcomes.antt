@@ -1,5 +1,5 @@
 -- How conditions come out.
-use Rattle.std.specs.Prelude.{◌≡◌, ◌≢◌, Bool, Result, Ok, Err, IfOk}
+use Rattle.std.specs.Prelude.{◌≡◌, ◌≢◌, Bool, Option, Result, Ok, Err, IfOk}
 use Rattle.std.specs.declared.alloc.AllocError.{AllocError}
 use Rattle.std.proofs.Common.{sym, ap, ◌∙◌, subst}
 use Rattle.cedar_model.specs.Failures.{out_of_memory, Answer, fails}
@@ -7,10 +7,11 @@ use Rattle.cedar_model.specs.Responses.{Decided, decides, errs_with, leaves, dec
 use Rattle.cedar_values.specs.declared.evaluator.err.EvaluationError.{EvaluationError}
 use Rattle.cedar_values.specs.Failures.{failure_of}
 use Rattle.cedar_expressions.specs.declared.expr.Expr.{Expr}
-use Rattle.cedar_expressions.specs.View.{view}
+use Rattle.cedar_names.specs.declared.names.Loc.{Loc}
+use Rattle.cedar_expressions.specs.View.{view, expr_loc}
 use Rattle.either.specs.declared.Either.{Either}
 use Rattle.either.specs.declared.Either.TheVariants.{Left, Right}
-use Rattle.cedar_evaluator.specs.Decisions.{PartlyDecidesBy}
+use Rattle.cedar_evaluator.specs.Decisions.{PartlyDecidesBy, IfLeaves}
 use Rattle.cedar_responses.specs.declared.sheet.Outcome.{Outcome}
 use Rattle.cedar_responses.specs.Sheets.{outcome_view}
 use Rattle.cedar_authorizer.specs.Running.{ComesOutBy}
@@ -36,3 +37,8 @@ module _ (May : Answer → Type 0) where
   failed_out e (Ok o) by ok is =
       subst (ComesOutBy May) (sym is) (came_out May (errs_with (failure_of e)) (λ h. let f : failure_of e ≡ out_of_memory = cc in ok f) by)
   failed_out e (Err x) by ok is = tt
+
+-- what is left, put into a box, stands where it did
+pub left_there : (l : Option Loc) (x : Either Bool Expr) (e f : Expr) → x ≡ Right e → f ≡ e → IfLeaves (Ok x) (λ r. expr_loc r ≡ l) → expr_loc f ≡ l
+left_there l x e f is same at =
+    ap expr_loc same ∙ subst (λ (y : Either Bool Expr). IfLeaves (Ok y) (λ r. expr_loc r ≡ l)) is at

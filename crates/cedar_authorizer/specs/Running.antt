@@ -1,5 +1,5 @@
 -- The run of a set of policies, on a sheet and in a response.
-use Rattle.std.specs.Prelude.{◌≡◌, ◌≢◌, ℕ, ◌+◌, ◌≤◌, List}
+use Rattle.std.specs.Prelude.{◌≡◌, ◌≢◌, ℕ, ◌+◌, ◌≤◌, List, Option, All, Contains}
 use Rattle.cedar_model.specs.Terms.{Text}
 use Rattle.cedar_model.specs.World.{World, Functions}
 use Rattle.cedar_model.specs.Failures.{Failure, Answer, fails, out_of_memory}
@@ -12,8 +12,14 @@ use Rattle.cedar_model.specs.Authorizations.{Authorized, HaveNoLimit, AreNoHighe
 use Rattle.cedar_model.specs.Configurations.{Configuration}
 use Rattle.cedar_model.specs.Depth.{IsNoHigher}
 use Rattle.cedar_model.specs.Reports.{trues, falses, residuals, concretized}
+use Rattle.cedar_names.specs.declared.names.Loc.{Loc}
+use Rattle.cedar_expressions.specs.View.{expr_loc}
+use Rattle.cedar_layers.specs.declared.policies.policy.Policy as layers
+use Rattle.cedar_layers.specs.Policies.{policy_view, policy_location}
 use Rattle.cedar_requests.specs.declared.request.Request.{Request}
 use Rattle.cedar_responses.specs.declared.partial_response.PartialResponse.{PartialResponse}
+use Rattle.cedar_responses.specs.declared.sheet.Outcome.{Outcome}
+use Rattle.cedar_responses.specs.declared.sheet.Outcome.TheVariants as outcomes
 use Rattle.cedar_responses.specs.declared.sheet.Sheet.{Sheet}
 use Rattle.cedar_responses.specs.Kept.{kept}
 use Rattle.cedar_responses.specs.Responses.{errors_view}
@@ -91,3 +97,28 @@ pub record KeepsSheet (s : Sheet) (r : PartialResponse) : Type 0 where
   pub false_forbids : r.false_forbids.entries ≡ kept s.false_forbids.items
   pub residual_forbids : r.residual_forbids.entries ≡ kept s.residual_forbids.items
   pub errors : r.errors.items ≡ s.errors.items
+
+-- ---- places
+
+-- it has the id of one of these policies, and stands where that policy does
+pub record StandsAtPolicy (ps : List layers.Policy) (l : Located) : Type 0 where
+  pub policy : layers.Policy
+  pub among : Contains ps policy
+  pub id_is : l.row.id ≡ (policy_view policy).id
+  pub stands : l.loc ≡ policy_location policy
+
+-- what is left of a policy stands where that policy does
+pub record ResidualsStand (ps : List layers.Policy) (r : PartialResponse) : Type 0 where
+  pub permits : All (StandsAtPolicy ps) (residual_rows permit r.residual_permits.entries)
+  pub forbids : All (StandsAtPolicy ps) (residual_rows forbid r.residual_forbids.entries)
+
+-- so it does on a sheet
+pub record ResidualsAreNoted (ps : List layers.Policy) (sheet : Sheet) : Type 0 where
+  pub permits : All (StandsAtPolicy ps) (residual_rows permit sheet.residual_permits.items)
+  pub forbids : All (StandsAtPolicy ps) (residual_rows forbid sheet.residual_forbids.items)
+
+-- what is left stands here
+abbrev pub IsLeftAt : Option Loc → Outcome → Type 0
+IsLeftAt l (outcomes.Decided b) = Unit {0}
+IsLeftAt l (outcomes.Residual e) = expr_loc e.value ≡ l
+IsLeftAt l (outcomes.Failed e) = Unit {0}

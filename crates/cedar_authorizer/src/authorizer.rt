@@ -1,13 +1,14 @@
 //! The authorizer.
-ghost use Rattle.std.specs.Prelude.{◌≡◌, ◌≢◌, true, false, IfOk, IfSome};
+ghost use Rattle.std.specs.Prelude.{◌≡◌, ◌≢◌, true, false, Option, IfOk, IfSome};
 ghost use Rattle.cedar_model.specs.Agreement.{no_slots};
 ghost use Rattle.cedar_model.specs.Failures.{out_of_memory, failure_kind};
 ghost use Rattle.cedar_model.specs.Policies.{skip};
 ghost use Rattle.cedar_model.specs.Responses.{errs_with};
-ghost use Rattle.cedar_layers.specs.Policies.{policy_view, condition_term};
+ghost use Rattle.cedar_names.specs.declared.names.Loc.{Loc};
+ghost use Rattle.cedar_layers.specs.Policies.{policy_location};
+ghost use Rattle.cedar_layers.specs.PolicySets.{stored_policies};
 ghost use Rattle.cedar_values.specs.Failures.{failure_of};
-ghost use Rattle.cedar_evaluation.specs.Promises.{IsPromised};
-ghost use Rattle.cedar_evaluator.specs.Evaluations.{setting_of, calls_in};
+ghost use Rattle.cedar_evaluator.specs.Evaluations.{setting_of, calls_in, IsPromisedOf};
 ghost use Rattle.cedar_evaluator.specs.Evaluations as evaluations;
 ghost use Rattle.cedar_responses.specs.Responses.{response_view};
 ghost use Rattle.cedar_responses.specs.Rows.{rows_view};
@@ -17,6 +18,7 @@ ghost use Rattle.cedar_authorizer.specs.Responding.{deciding};
 ghost use Rattle.cedar_authorizer.specs.Wanting.{is_of_memory};
 ghost use Rattle.cedar_authorizer.specs.Running.{errors_of, request_of, IsRun, StandsInCompletions, IsDeepEnough, IsConcreteRun};
 ghost use Rattle.cedar_authorizer.specs.Running.{ComesOutBy, IsNotedRun, IsNotedBy, KeepsSheet};
+ghost use Rattle.cedar_authorizer.specs.Running.{ResidualsStand, ResidualsAreNoted, IsLeftAt};
 
 use cedar_data::Value;
 use cedar_evaluator::evaluator::{EvaluationError, Evaluator};
@@ -141,6 +143,7 @@ impl<'x, 'f> Authorizer<'x, 'f> {
             IfOk result (IsDeepEnough (configuration self.now) (asked self.now request entities.now)
                 (deciding policies.now))
         }
+        ensures places { IfOk result (ResidualsStand (stored_policies policies.now)) }
         ensures request { IfOk result (λ r. request_of r ≡ request) }
     {
         let sheet = first_sheet(alloc, self, &request, policies, entities)?;
@@ -185,10 +188,11 @@ fn first_sheet(
     policies: &PolicySet,
     entities: &Entities,
 ) -> Result<Sheet, AllocError>
-    ensures {
+    ensures run {
         IfOk result (IsNotedBy (configuration authorizer.now) (asked authorizer.now request.now entities.now)
             (deciding policies.now))
     }
+    ensures places { IfOk result (ResidualsAreNoted (stored_policies policies.now)) }
 {
     let evaluator = Evaluator::new(
         alloc,
@@ -206,10 +210,11 @@ fn run_all(
     evaluator: &Evaluator<'_, '_>,
     policies: &PolicySet,
 ) -> Result<Sheet, AllocError>
-    ensures {
+    ensures run {
         IfOk result (IsNotedRun skip (setting_of evaluator.now no_slots) (calls_in evaluator.now)
             (evaluations.limit_of evaluator.now) (deciding policies.now))
     }
+    ensures places { IfOk result (ResidualsAreNoted (stored_policies policies.now)) }
 {
     let mut sheet = Sheet::new(alloc);
     'policies: for policy in policies.policies() {
@@ -225,11 +230,10 @@ fn outcome_of(
     evaluator: &Evaluator<'_, '_>,
     policy: &Policy,
 ) -> Result<Outcome, AllocError>
-    ensures {
-        IfOk result (λ o. ComesOutBy (IsPromised (setting_of evaluator.now (policy_view policy.now).slots)
-            (calls_in evaluator.now) (evaluations.limit_of evaluator.now) (condition_term (policy_view policy.now)))
-            (outcome_view o))
+    ensures outcome {
+        IfOk result (λ o. ComesOutBy (IsPromisedOf evaluator.now policy.now) (outcome_view o))
     }
+    ensures place { IfOk result (IsLeftAt (policy_location policy.now)) }
 {
     match evaluator.partial_evaluate(alloc, policy) {
         Ok(Left(is_true)) => Ok(Outcome::Decided(is_true)),
@@ -243,6 +247,7 @@ fn outcome_of(
 fn failed(error: EvaluationError) -> Result<Outcome, AllocError>
     ensures memory { IfOk result (λ o. failure_of error ≢ out_of_memory) }
     ensures outcome { IfOk result (λ o. outcome_view o ≡ errs_with (failure_of error)) }
+    ensures place { (l : Option Loc) → IfOk result (IsLeftAt l) }
 {
     if is_want_of_memory(&error) {
         return Err(AllocError);

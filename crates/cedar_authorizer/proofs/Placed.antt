@@ -1,0 +1,79 @@
+-- Where what is left of policies stands, policy by policy.
+use Rattle.std.specs.Prelude.{◌≡◌, ◌<◌, ◌+◌, Bool, true, false, cond, ◌&&◌, List, [], ◌∷◌, ◌++◌, Option, All, Contains, length}
+use Rattle.std.proofs.Common.{refl, sym, ap, ◌∙◌, subst, append_assoc, arith}
+use Rattle.std.proofs.lemmas.List.Elements.{All-nil, All-cons, All-append, Contains-append_right}
+use Rattle.cedar_model.specs.Failures.{Failure}
+use Rattle.cedar_model.specs.Policies.{Effect, permit, forbid}
+use Rattle.cedar_model.specs.Responses.{reported_of, error_of}
+use Rattle.cedar_model.specs.Chains.{has_effect, is_residual}
+use Rattle.cedar_names.specs.declared.names.Loc.{Loc}
+use Rattle.cedar_layers.specs.declared.policies.policy.Policy as layers
+use Rattle.cedar_layers.specs.Policies.{policy_view, policy_location}
+use Rattle.cedar_responses.specs.declared.partial_response.PartialResponse.{PartialResponse}
+use Rattle.cedar_responses.specs.declared.sheet.Outcome.{Outcome}
+use Rattle.cedar_responses.specs.declared.sheet.Outcome.TheVariants as outcomes
+use Rattle.cedar_responses.specs.declared.sheet.Sheet.{Sheet}
+use Rattle.cedar_responses.specs.Rows.{Located, located_of, residual_rows}
+use Rattle.cedar_responses.specs.Sheets.{Noted, sheet_view, nothing_noted, noted_also, outcome_view, placed_row}
+use Rattle.cedar_authorizer.specs.Running.{StandsAtPolicy, ResidualsStand, ResidualsAreNoted, IsLeftAt}
+
+-- the policies before those that are left are placed
+pub record ArePlacedSoFar (all left : List layers.Policy) (sheet : Sheet) : Type 0 where
+  pub done : List layers.Policy
+  pub same : all ≡ done ++ left
+  pub placed : ResidualsAreNoted all sheet
+
+pub none_placed : (all left : List layers.Policy) (sheet : Sheet) → sheet_view sheet ≡ nothing_noted → all ≡ left → ArePlacedSoFar all left sheet
+none_placed all left sheet e same = record {
+  done = [];
+  same = same;
+  placed = record {
+    permits = subst (λ (n : Noted). All (StandsAtPolicy all) n.residual_permits) (sym e) (All-nil (StandsAtPolicy all));
+    forbids = subst (λ (n : Noted). All (StandsAtPolicy all) n.residual_forbids) (sym e) (All-nil (StandsAtPolicy all));
+  };
+}
+
+first_of_rest : (p : layers.Policy) (rest : List layers.Policy) → Contains (p ∷ rest) p
+first_of_rest p rest = (0, omega arith, refl)
+
+-- a row that is residual stands at its policy
+residual_stands : (l : Option Loc) (o : Outcome) → IsLeftAt l o → is_residual (reported_of (outcome_view o)) ≡ true → (placed_loc : Option Loc) → placed_loc ≡ placed_loc → (q : layers.Policy) → policy_location q ≡ l → (placed_row (policy_view q) o).loc ≡ policy_location q
+unfolding reported_of is_residual
+residual_stands l (outcomes.Decided true) h e x y q f = absurd (cc)
+residual_stands l (outcomes.Decided false) h e x y q f = absurd (cc)
+residual_stands l (outcomes.Residual r) h e x y q f = h ∙ sym f
+residual_stands l (outcomes.Failed r) h e x y q f = absurd (cc)
+
+kept_if : (all : List layers.Policy) (b c : Bool) (l : Located) → (c ≡ true → StandsAtPolicy all l) → All (StandsAtPolicy all) (cond (b && c) (l ∷ []) [])
+kept_if all true true l h = All-cons (StandsAtPolicy all) l [] (h refl) (All-nil (StandsAtPolicy all))
+kept_if all true false l h = All-nil (StandsAtPolicy all)
+kept_if all false c l h = All-nil (StandsAtPolicy all)
+
+one_stands : (all : List layers.Policy) (p : layers.Policy) (o : Outcome) (e : Effect) → Contains all p → IsLeftAt (policy_location p) o → All (StandsAtPolicy all) (located_of e is_residual (placed_row (policy_view p) o ∷ []))
+unfolding located_of
+one_stands all p o e among left =
+    kept_if all (has_effect e (policy_view p).effect) (is_residual (reported_of (outcome_view o))) (placed_row (policy_view p) o)
+    (λ is. record { policy = p; among = among; id_is = refl; stands = residual_stands (policy_location p) o left is (policy_location p) refl p refl })
+
+pub one_placed : (all left rest : List layers.Policy) (old new : Sheet) (p : layers.Policy) (o : Outcome) → left ≡ p ∷ rest → ArePlacedSoFar all left old → IsLeftAt (policy_location p) o
+    → sheet_view new ≡ noted_also (sheet_view old) (placed_row (policy_view p) o) (error_of (outcome_view o)) → ArePlacedSoFar all rest new
+one_placed all left rest old new p o e before stands noted =
+    let same : all ≡ before.done ++ (p ∷ rest) = before.same ∙ ap (λ (ls : List layers.Policy). before.done ++ ls) e in
+    let among : Contains all p = subst (λ (ls : List layers.Policy). Contains ls p) (sym same) (Contains-append_right before.done (p ∷ rest) p (first_of_rest p rest)) in
+    record {
+      done = before.done ++ p ∷ [];
+      same = same ∙ sym (append_assoc before.done (p ∷ []) rest);
+      placed = record {
+        permits = subst (λ (n : Noted). All (StandsAtPolicy all) n.residual_permits) (sym noted)
+            (All-append (StandsAtPolicy all) _ _ before.placed.permits (one_stands all p o permit among stands));
+        forbids = subst (λ (n : Noted). All (StandsAtPolicy all) n.residual_forbids) (sym noted)
+            (All-append (StandsAtPolicy all) _ _ before.placed.forbids (one_stands all p o forbid among stands));
+      };
+    }
+
+-- so they do in the response that keeps the sheet
+pub residuals_stand : (ps : List layers.Policy) (sheet : Sheet) (r : PartialResponse) → r.residual_permits.entries ≡ sheet.residual_permits.items → r.residual_forbids.entries ≡ sheet.residual_forbids.items → ResidualsAreNoted ps sheet → ResidualsStand ps r
+residuals_stand ps sheet r p f h = record {
+  permits = subst (λ es. All (StandsAtPolicy ps) (residual_rows permit es)) (sym p) h.permits;
+  forbids = subst (λ es. All (StandsAtPolicy ps) (residual_rows forbid es)) (sym f) h.forbids;
+}
