@@ -1,5 +1,5 @@
 -- What stands in an expression besides expressions, as plain data.
-use Rattle.std.specs.Prelude.{List, map}
+use Rattle.std.specs.Prelude.{◌≡◌, List, map, option_map}
 use Rattle.std.specs.Rc.{rc_str_bytes}
 use Rattle.std.specs.declared.alloc.Global.{Global}
 use Rattle.std.specs.declared.rc.RcStr.{RcStr}
@@ -18,6 +18,7 @@ use Rattle.cedar_names.specs.declared.pattern.PatternElem.TheVariants.{Char, Wil
 use Rattle.cedar_names.specs.declared.pattern.Pattern.{Pattern}
 use Rattle.cedar_names.specs.declared.types.«Type».{«Type» as RType}
 use Rattle.cedar_names.specs.declared.types.«Type».TheVariants as types
+use Rattle.cedar_names.specs.declared.types.Unknown as unknowns
 use Rattle.cedar_names.specs.declared.types.Literal.{Literal}
 use Rattle.cedar_names.specs.declared.types.Literal.TheVariants as literals
 use Rattle.cedar_names.specs.Names.{name_text, type_text, uid_name}
@@ -67,6 +68,11 @@ type_view types.Set = set_type
 type_view types.Record = record_type
 type_view (types.Entity t) = entity_type (type_text t)
 type_view (types.Extension n) = extension_type (name_text n)
+
+-- unknowns of one name and of one annotation
+abbrev pub AreOneUnknown : unknowns.Unknown → unknowns.Unknown → Type 0
+AreOneUnknown a b =
+    (rc_str_bytes a.name ≡ rc_str_bytes b.name) × (option_map type_view a.type_annotation ≡ option_map type_view b.type_annotation)
 
 abbrev pub literal_view : Literal → model.Literal
 literal_view (literals.Bool b) = bool_literal b

@@ -148,6 +148,26 @@ enclosed compound t = if compound then 40 ∷ (t ++ 41 ∷ []) else t
 abbrev pub further_text : Text → Text
 further_text a = 46 ∷ quoted a
 
+-- an unknown: its name, and no annotation
+abbrev pub unknown_text : Text → Text
+unknown_text n = codes "unknown(" ++ (quoted n ++ codes ")")
+
+-- what stands behind a part: an attribute, a test for one or for a path of them, for a pattern, or for a type
+abbrev pub attribute_text : Text → Text
+attribute_text a = codes "[" ++ (quoted a ++ codes "]")
+
+abbrev pub has_text : Text → Text
+has_text a = codes " has " ++ quoted a
+
+abbrev pub path_text : Text → List Text → Text
+path_text a more = codes " has " ++ (quoted a ++ flat_map further_text more)
+
+abbrev pub like_text : List PatternPart → Text
+like_text ps = codes " like " ++ pattern_text ps
+
+abbrev pub is_text : Text → Text
+is_text t = codes " is " ++ t
+
 -- what stands before a part of a list
 abbrev pub separator : Bool → Text
 separator first = if first then [] else codes ", "
@@ -167,7 +187,7 @@ abbrev mutual
   shown m (literal l) = literal_text l
   shown m (variable v) = variable_text v
   shown m (slot s) = slot_text s
-  shown m (unknown n t) = codes "unknown(" ++ (quoted n ++ codes ")")
+  shown m (unknown n t) = unknown_text n
   shown m (if_then_else c a b) =
       codes "if " ++ (enclosed (is_compound c) (shown m c) ++ (codes " then " ++ (enclosed (is_compound a) (shown m a) ++ (codes " else " ++ enclosed (is_compound b) (shown m b)))))
   shown m (both a b) = enclosed (is_compound a) (shown m a) ++ (codes " && " ++ enclosed (is_compound b) (shown m b))
@@ -176,11 +196,11 @@ abbrev mutual
   shown m (binary op a b) =
       enclosed (is_compound a) (shown m a) ++ (between_parts op ++ (if is_infix op then enclosed (is_compound b) (shown m b) else shown m b ++ codes ")"))
   shown m (call f ts) = f ++ (codes "(" ++ (shown_parts m None true ts ++ codes ")"))
-  shown m (get_attribute e a) = enclosed (is_compound e) (shown m e) ++ (codes "[" ++ (quoted a ++ codes "]"))
-  shown m (has_attribute e a) = enclosed (is_compound e) (shown m e) ++ (codes " has " ++ quoted a)
-  shown m (extended_has e a more) = enclosed (is_compound e) (shown m e) ++ (codes " has " ++ (quoted a ++ flat_map further_text more))
-  shown m (like e p) = enclosed (is_compound e) (shown m e) ++ (codes " like " ++ pattern_text p)
-  shown m (is_of_type e t) = enclosed (is_compound e) (shown m e) ++ (codes " is " ++ t)
+  shown m (get_attribute e a) = enclosed (is_compound e) (shown m e) ++ attribute_text a
+  shown m (has_attribute e a) = enclosed (is_compound e) (shown m e) ++ has_text a
+  shown m (extended_has e a more) = enclosed (is_compound e) (shown m e) ++ path_text a more
+  shown m (like e p) = enclosed (is_compound e) (shown m e) ++ like_text p
+  shown m (is_of_type e t) = enclosed (is_compound e) (shown m e) ++ is_text t
   shown m (set_of ts) = codes "[" ++ (shown_parts m m true ts ++ codes "]")
   shown m (record_of fs) = codes "{" ++ (shown_fields m m true fs ++ codes "}")
 

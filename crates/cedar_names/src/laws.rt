@@ -1,7 +1,6 @@
 //! When names and leaves are equal. Each function is a law, and does nothing.
-ghost use Rattle.std.specs.Prelude.{◌≡◌, option_map};
+ghost use Rattle.std.specs.Prelude.{◌≡◌};
 ghost use Rattle.std.specs.Bool.{Decides};
-ghost use Rattle.std.specs.Rc.{rc_str_bytes};
 ghost use Rattle.cedar_names.specs.declared.names.Name.{Name};
 ghost use Rattle.cedar_names.specs.declared.names.EntityType.{EntityType};
 ghost use Rattle.cedar_names.specs.declared.names.EntityUID.{EntityUID};
@@ -10,7 +9,7 @@ ghost use Rattle.cedar_names.specs.declared.types.Literal.{Literal};
 ghost use Rattle.cedar_names.specs.declared.types.Unknown as unknowns;
 ghost use Rattle.cedar_names.specs.declared.pattern.Pattern.{Pattern};
 ghost use Rattle.cedar_names.specs.Names.{name_text, type_text, uid_name};
-ghost use Rattle.cedar_names.specs.Leaves.{literal_view, type_view, pattern_view};
+ghost use Rattle.cedar_names.specs.Leaves.{literal_view, type_view, pattern_view, AreOneUnknown};
 
 use crate::names::{EntityType, EntityUID, Name};
 use crate::pattern::Pattern;
@@ -27,6 +26,6 @@ pub fn names_are_equal_by_text()
 pub fn leaves_are_equal_by_view()
     ensures literals { (a b : Literal) → Decides (⟦<Literal as PartialEq>⟧.eq a b) (literal_view a ≡ literal_view b) }
     ensures types { (a b : RType) → Decides (⟦<Type as PartialEq>⟧.eq a b) (type_view a ≡ type_view b) }
-    ensures unknowns { (a b : unknowns.Unknown) → Decides (⟦<Unknown as PartialEq>⟧.eq a b) ((rc_str_bytes a.name ≡ rc_str_bytes b.name) × (option_map type_view a.type_annotation ≡ option_map type_view b.type_annotation)) }
+    ensures unknowns { (a b : unknowns.Unknown) → Decides (⟦<Unknown as PartialEq>⟧.eq a b) (AreOneUnknown a b) }
     ensures patterns { (a b : Pattern) → Decides (⟦<Pattern as PartialEq>⟧.eq a b) (pattern_view a ≡ pattern_view b) }
 {}

@@ -3,8 +3,10 @@
 ghost use Rattle.std.specs.Prelude.{◌≡◌, option_map};
 ghost use Rattle.std.specs.Rc.{rc_str_bytes};
 ghost use Rattle.cedar_names.specs.Names.{name_text, type_text};
-ghost use Rattle.cedar_names.specs.Leaves.{slot_view, variable_view, unary_view, binary_view, pattern_view, type_view, literal_view, texts_view};
-ghost use Rattle.cedar_names.specs.Equality.{text_eq, texts_eq, literal_eq, annotation_eq, variable_eq, slot_eq, unary_eq, binary_eq, pattern_eq};
+ghost use Rattle.cedar_names.specs.Leaves.{slot_view, variable_view, unary_view, binary_view, pattern_view};
+ghost use Rattle.cedar_names.specs.Leaves.{type_view, literal_view, texts_view};
+ghost use Rattle.cedar_names.specs.Equality.{text_eq, texts_eq, literal_eq, annotation_eq, variable_eq};
+ghost use Rattle.cedar_names.specs.Equality.{slot_eq, unary_eq, binary_eq, pattern_eq};
 
 use crate::names::{EntityType, Name, SlotId, Var};
 use crate::operators::{BinaryOp, UnaryOp};

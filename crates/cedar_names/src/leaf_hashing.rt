@@ -5,7 +5,8 @@ ghost use Rattle.std.specs.Rc.{rc_str_bytes};
 ghost use Rattle.std.specs.Hash as fed;
 ghost use Rattle.cedar_model.specs.lemmas.Codes.{variable_number, slot_number, unary_number, binary_number};
 ghost use Rattle.cedar_names.specs.Names.{name_text, type_text};
-ghost use Rattle.cedar_names.specs.Leaves.{slot_view, variable_view, unary_view, binary_view, pattern_view, type_view, literal_view, texts_view};
+ghost use Rattle.cedar_names.specs.Leaves.{slot_view, variable_view, unary_view, binary_view, pattern_view};
+ghost use Rattle.cedar_names.specs.Leaves.{type_view, literal_view, texts_view};
 ghost use Rattle.cedar_names.specs.Hashing.{fed_literal, fed_annotation, fed_pattern, fed_texts};
 
 use crate::names::{EntityType, Name, SlotId, Var};

@@ -1,5 +1,5 @@
 //! What stands in an expression's text beside the texts of its parts.
-ghost use Rattle.std.specs.Prelude.{◌≡◌, ◌++◌, codes, flat_map};
+ghost use Rattle.std.specs.Prelude.{◌≡◌, flat_map};
 ghost use Rattle.std.specs.Rc.{rc_str_bytes};
 ghost use Rattle.std.specs.Fmt.{WritesOnOk};
 ghost use Rattle.cedar_names.specs.Names.{type_text};
@@ -91,7 +91,7 @@ pub fn between_parts(op: BinaryOp) -> &'static str
 
 /// Writes `unknown("name")`.
 pub fn write_unknown<W: fmt::Write>(name: &str, f: &mut fmt::Formatter<W>) -> fmt::Result
-    ensures { WritesOnOk W.write_str_gives f.old result (codes "unknown(" ++ (text.quoted name.now ++ codes ")")) f.new }
+    ensures { WritesOnOk W.write_str_gives f.old result (text.unknown_text name.now) f.new }
 {
     f.write_str("unknown(")?;
     write_quoted(name, f)?;
@@ -100,7 +100,7 @@ pub fn write_unknown<W: fmt::Write>(name: &str, f: &mut fmt::Formatter<W>) -> fm
 
 /// Writes `["attr"]`, which stands after a part.
 pub fn write_attribute<W: fmt::Write>(attr: &RcStr, f: &mut fmt::Formatter<W>) -> fmt::Result
-    ensures { WritesOnOk W.write_str_gives f.old result (codes "[" ++ (text.quoted (rc_str_bytes attr.now) ++ codes "]")) f.new }
+    ensures { WritesOnOk W.write_str_gives f.old result (text.attribute_text (rc_str_bytes attr.now)) f.new }
 {
     f.write_str("[")?;
     write_quoted(attr.as_str(), f)?;
@@ -109,7 +109,7 @@ pub fn write_attribute<W: fmt::Write>(attr: &RcStr, f: &mut fmt::Formatter<W>) -
 
 /// Writes ` has "attr"`, which stands after a part.
 pub fn write_has<W: fmt::Write>(attr: &RcStr, f: &mut fmt::Formatter<W>) -> fmt::Result
-    ensures { WritesOnOk W.write_str_gives f.old result (codes " has " ++ text.quoted (rc_str_bytes attr.now)) f.new }
+    ensures { WritesOnOk W.write_str_gives f.old result (text.has_text (rc_str_bytes attr.now)) f.new }
 {
     f.write_str(" has ")?;
     write_quoted(attr.as_str(), f)
@@ -121,7 +121,7 @@ pub fn write_extended_has<W: fmt::Write>(
     f: &mut fmt::Formatter<W>,
 ) -> fmt::Result
     ensures { WritesOnOk W.write_str_gives f.old result
-        (codes " has " ++ (text.quoted (rc_str_bytes attrs.now.first) ++ flat_map text.further_text (texts_view attrs.now.rest.items))) f.new }
+        (text.path_text (rc_str_bytes attrs.now.first) (texts_view attrs.now.rest.items)) f.new }
 {
     f.write_str(" has ")?;
     write_quoted(attrs.first.as_str(), f)?;
@@ -146,7 +146,7 @@ fn write_one_further<W: fmt::Write>(attr: &RcStr, f: &mut fmt::Formatter<W>) -> 
 
 /// Writes ` like` and the pattern, which stand after a part.
 pub fn write_like<W: fmt::Write>(pattern: &Pattern, f: &mut fmt::Formatter<W>) -> fmt::Result
-    ensures { WritesOnOk W.write_str_gives f.old result (codes " like " ++ text.pattern_text (pattern_view pattern.now)) f.new }
+    ensures { WritesOnOk W.write_str_gives f.old result (text.like_text (pattern_view pattern.now)) f.new }
 {
     f.write_str(" like ")?;
     write_pattern(pattern, f)
@@ -154,7 +154,7 @@ pub fn write_like<W: fmt::Write>(pattern: &Pattern, f: &mut fmt::Formatter<W>) -
 
 /// Writes ` is` and the type, which stand after a part.
 pub fn write_is<W: fmt::Write>(entity_type: &EntityType, f: &mut fmt::Formatter<W>) -> fmt::Result
-    ensures { WritesOnOk W.write_str_gives f.old result (codes " is " ++ type_text entity_type.now) f.new }
+    ensures { WritesOnOk W.write_str_gives f.old result (text.is_text (type_text entity_type.now)) f.new }
 {
     f.write_str(" is ")?;
     entity_type.fmt(f)
