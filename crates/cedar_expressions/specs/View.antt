@@ -7,6 +7,8 @@ use Rattle.cedar_model.specs.Terms.{Term, literal, variable, slot, unknown, if_t
 use Rattle.cedar_expressions.specs.declared.expr.Expr.{Expr, Expr-F, fold-Expr, out-Expr}
 use Rattle.cedar_expressions.specs.declared.expr.ExprKind.{ExprKind, ExprKind-F, fold-ExprKind}
 use Rattle.cedar_names.specs.declared.names.Loc.{Loc}
+use Rattle.cedar_names.specs.declared.names.Name.{Name}
+use Rattle.cedar_names.specs.declared.types.FirstRest.{FirstRest}
 use Rattle.cedar_names.specs.Names.{name_text, type_text}
 use Rattle.cedar_names.specs.Leaves.{slot_view, variable_view, unary_view, binary_view, pattern_view, type_view, literal_view, texts_view}
 
@@ -14,6 +16,10 @@ use Rattle.cedar_names.specs.Leaves.{slot_view, variable_view, unary_view, binar
 abbrev pub fields_under : List (RcStr Global × Term) → Fields
 fields_under [] = no_fields
 fields_under (f ∷ fs) = one_field (rc_str_bytes f.0) f.1 (fields_under fs)
+
+-- the extended `has` of these attributes, one behind the other
+abbrev pub extended_has_of : Term → FirstRest (RcStr Global) → Term
+extended_has_of t attrs = extended_has t (rc_str_bytes attrs.first) (texts_view attrs.rest.items)
 
 -- one level of a kind, with each part already seen as its term
 abbrev pub kind_step : ExprKind-F Term Term → Term
@@ -29,7 +35,7 @@ kind_step (ExprKind-F.BinaryApp op a b) = binary (binary_view op) a.value b.valu
 kind_step (ExprKind-F.ExtensionFunctionApp f args) = call (name_text f) (terms_of args.value.items)
 kind_step (ExprKind-F.GetAttr e a) = get_attribute e.value (rc_str_bytes a)
 kind_step (ExprKind-F.HasAttr e a) = has_attribute e.value (rc_str_bytes a)
-kind_step (ExprKind-F.ExtHasAttr e attrs) = extended_has e.value (rc_str_bytes attrs.value.first) (texts_view attrs.value.rest.items)
+kind_step (ExprKind-F.ExtHasAttr e attrs) = extended_has_of e.value attrs.value
 kind_step (ExprKind-F.Like e p) = like e.value (pattern_view p)
 kind_step (ExprKind-F.Is e t) = is_of_type e.value (type_text t)
 kind_step (ExprKind-F.Set parts) = set_of (terms_of parts.value.items)
@@ -50,6 +56,10 @@ kind_view = fold-ExprKind Term Term kind_step expr_step
 -- the terms of a list of expressions
 abbrev pub terms_view : List Expr → Terms
 terms_view es = terms_of (map view es)
+
+-- the call of this function on these arguments
+abbrev pub call_of : Name → List Expr → Term
+call_of f args = call (name_text f) (terms_view args)
 
 -- the terms of expressions under their keys
 abbrev pub fields_view : List (RcStr Global × Expr) → Fields

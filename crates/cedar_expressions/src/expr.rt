@@ -117,10 +117,14 @@ pub enum ExprKind {
 impl Expr {
     ghost use Rattle.std.specs.Prelude.{◌≡◌, IfOk, None, option_copied, option_map};
     ghost use Rattle.std.specs.Rc.{rc_str_bytes};
-    ghost use Rattle.cedar_model.specs.Terms.{literal, variable, slot, unknown, if_then_else, both, either, unary, binary, call, get_attribute, has_attribute, extended_has, like, is_of_type, set_of};
+    ghost use Rattle.cedar_model.specs.Terms.{literal, variable, slot, unknown, if_then_else, both, either};
+    ghost use Rattle.cedar_model.specs.Terms.{unary, binary, call, get_attribute, has_attribute, like};
+    ghost use Rattle.cedar_model.specs.Terms.{is_of_type, set_of};
     ghost use Rattle.cedar_names.specs.Names.{name_text, type_text};
-    ghost use Rattle.cedar_names.specs.Leaves.{slot_view, variable_view, unary_view, binary_view, pattern_view, type_view, literal_view, texts_view};
+    ghost use Rattle.cedar_names.specs.Leaves.{slot_view, variable_view, unary_view, binary_view};
+    ghost use Rattle.cedar_names.specs.Leaves.{pattern_view, type_view, literal_view};
     ghost use Rattle.cedar_expressions.specs.View.{view, kind_view, expr_loc, expr_kind_of, terms_view};
+    ghost use Rattle.cedar_expressions.specs.View.{extended_has_of};
     ghost use Rattle.cedar_expressions.specs.Nodes.{node_of};
     ghost use Rattle.cedar_expressions.specs.Nodes as node;
 
@@ -297,7 +301,7 @@ impl Expr {
         expr: Expr,
         attrs: FirstRest<RcStr>,
     ) -> Result<Expr, AllocError>
-        ensures view { IfOk result (λ e. view e ≡ extended_has (view expr) (rc_str_bytes attrs.first) (texts_view attrs.rest.items)) }
+        ensures view { IfOk result (λ e. view e ≡ extended_has_of (view expr) attrs) }
         ensures kind { IfOk result (λ e. node_of e ≡ node.ExtHasAttr expr attrs) }
         ensures loc { IfOk result (λ e. expr_loc e ≡ None) }
     {

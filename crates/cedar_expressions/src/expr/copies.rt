@@ -1,11 +1,13 @@
 #![tactic(auto, using(crate::proofs::Levels::levels, crate::proofs::NodeLevels::nodes))]
-//! Copies of expressions. The parts lie behind `Rc`, so a copy is a copy of one node, and of the pattern that a `like` has.
+//! Copies of expressions. The parts lie behind `Rc`, so a copy is a copy of one node, and of the pattern that a `like`
+//! has.
 ghost use Rattle.std.specs.Prelude.{◌≡◌, ◌∷◌, [], IfOk};
 ghost use Rattle.std.specs.Rc.{rc_str_bytes};
-ghost use Rattle.cedar_model.specs.Terms.{if_then_else, both, either, unary, binary, call, get_attribute, has_attribute, extended_has, like, is_of_type};
+ghost use Rattle.cedar_model.specs.Terms.{if_then_else, both, either, unary, binary, call, get_attribute};
+ghost use Rattle.cedar_model.specs.Terms.{has_attribute, like, is_of_type};
 ghost use Rattle.cedar_names.specs.Names.{name_text, type_text};
-ghost use Rattle.cedar_names.specs.Leaves.{unary_view, binary_view, pattern_view, texts_view};
-ghost use Rattle.cedar_expressions.specs.View.{view, kind_view, expr_loc, terms_view};
+ghost use Rattle.cedar_names.specs.Leaves.{unary_view, binary_view, pattern_view};
+ghost use Rattle.cedar_expressions.specs.View.{view, kind_view, expr_loc, terms_view, extended_has_of};
 ghost use Rattle.cedar_expressions.specs.Nodes.{kind_parts, parts_of};
 
 use super::{Expr, ExprKind};
@@ -60,8 +62,10 @@ fn copied_if(
     then_expr: &Rc<Expr>,
     else_expr: &Rc<Expr>,
 ) -> Result<ExprKind, AllocError>
-    ensures view { IfOk result (λ k. kind_view k ≡ if_then_else (view test_expr.now.value) (view then_expr.now.value) (view else_expr.now.value)) }
-    ensures parts { IfOk result (λ k. kind_parts k ≡ test_expr.now.value ∷ then_expr.now.value ∷ else_expr.now.value ∷ []) }
+    ensures view { IfOk result (λ k. kind_view k
+        ≡ if_then_else (view test_expr.now.value) (view then_expr.now.value) (view else_expr.now.value)) }
+    ensures parts { IfOk result (λ k. kind_parts k
+        ≡ test_expr.now.value ∷ then_expr.now.value ∷ else_expr.now.value ∷ []) }
 {
     let test_expr = test_expr.clone()?;
     let then_expr = then_expr.clone()?;
@@ -100,7 +104,8 @@ fn copied_unary(op: UnaryOp, arg: &Rc<Expr>) -> Result<ExprKind, AllocError>
 }
 
 fn copied_binary(op: BinaryOp, arg1: &Rc<Expr>, arg2: &Rc<Expr>) -> Result<ExprKind, AllocError>
-    ensures view { IfOk result (λ k. kind_view k ≡ binary (binary_view op) (view arg1.now.value) (view arg2.now.value)) }
+    ensures view { IfOk result (λ k. kind_view k
+        ≡ binary (binary_view op) (view arg1.now.value) (view arg2.now.value)) }
     ensures parts { IfOk result (λ k. kind_parts k ≡ arg1.now.value ∷ arg2.now.value ∷ []) }
 {
     let arg1 = arg1.clone()?;
@@ -139,7 +144,7 @@ fn copied_extended_has(
     expr: &Rc<Expr>,
     attrs: &Rc<FirstRest<RcStr>>,
 ) -> Result<ExprKind, AllocError>
-    ensures view { IfOk result (λ k. kind_view k ≡ extended_has (view expr.now.value) (rc_str_bytes attrs.now.value.first) (texts_view attrs.now.value.rest.items)) }
+    ensures view { IfOk result (λ k. kind_view k ≡ extended_has_of (view expr.now.value) attrs.now.value) }
     ensures parts { IfOk result (λ k. kind_parts k ≡ expr.now.value ∷ []) }
 {
     let attrs = attrs.clone()?;

@@ -2,9 +2,7 @@
 //! Equality of expressions, which ignores locations.
 ghost use Rattle.std.specs.Prelude.{◌≡◌};
 ghost use Rattle.std.specs.Cmp.{on_equiv, on_per, partial_equiv_from_equiv};
-ghost use Rattle.cedar_expressions.specs.View.{view, kind_view, terms_view, fields_view};
-ghost use Rattle.cedar_model.specs.Terms.{call};
-ghost use Rattle.cedar_names.specs.Names.{name_text};
+ghost use Rattle.cedar_expressions.specs.View.{view, kind_view, terms_view, fields_view, call_of};
 ghost use Rattle.cedar_names.specs.Equality.{term_eq, terms_eq, fields_eq};
 ghost use Rattle.cedar_names.specs.EqualityLaws.{term_eq-equivalence};
 
@@ -257,7 +255,7 @@ pub fn same_call(
     other_name: &Name,
     other_args: &Vec<Expr>,
 ) -> bool
-    ensures { result ≡ term_eq (call (name_text fn_name.now) (terms_view args.now.items)) (call (name_text other_name.now) (terms_view other_args.now.items)) }
+    ensures { result ≡ term_eq (call_of fn_name.now args.now.items) (call_of other_name.now other_args.now.items) }
 {
     if same_name(fn_name, other_name) {
         Expr::same_parts(args, other_args)

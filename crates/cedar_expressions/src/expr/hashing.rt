@@ -16,7 +16,8 @@ use std::hash::{Hash, Hasher};
 use std::rc::RcStr;
 
 impl Expr {
-    /// Feeds the hasher what the expression is but for locations: the same as `hash`, so expressions of one shape hash alike.
+    /// Feeds the hasher what the expression is but for locations: the same as `hash`, so expressions of one shape hash
+    /// alike.
     pub fn hash_shape<H: Hasher>(&self, state: &mut H)
         ensures { state.new ≡ fold H.write state.old (fed_term (view self.now)) }
     {

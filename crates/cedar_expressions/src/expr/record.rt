@@ -3,8 +3,9 @@
 ghost use Rattle.std.specs.Prelude.{◌≡◌, IfOk, OnOk, IfErr, None, codes};
 ghost use Rattle.std.specs.Rc.{rc_str_bytes};
 ghost use Rattle.cedar_model.specs.Terms.{record_of};
-ghost use Rattle.cedar_expressions.specs.Errors.{IsRefusalOf};
-ghost use Rattle.cedar_expressions.specs.Records.{first_repeated, repeated_key, HasOneMore, put_field, fields_in_order, pairs_view, keys_view};
+ghost use Rattle.cedar_expressions.specs.Errors.{IsRefusalOf, IsRecordRefusal};
+ghost use Rattle.cedar_expressions.specs.Records.{first_repeated, repeated_key, HasOneMore, fields_in_order};
+ghost use Rattle.cedar_expressions.specs.Records.{pairs_view, keys_view};
 ghost use Rattle.cedar_expressions.specs.View.{view, expr_loc, fields_view};
 ghost use Rattle.cedar_expressions.specs.Nodes.{node_of, key_order, entries_in_order};
 ghost use Rattle.cedar_expressions.specs.Nodes as node;
@@ -17,7 +18,8 @@ use std::collections::BTreeMap;
 use std::rc::{Rc, RcStr};
 
 impl Expr {
-    /// A record of these parts under their keys, in byte order of the keys. Refuses the first key that comes again, with the context `in record literal`, and for want of memory.
+    /// A record of these parts under their keys, in byte order of the keys. Refuses the first key that comes again, with
+    /// the context `in record literal`, and for want of memory.
     pub fn record(
         alloc: Global,
         pairs: Vec<(RcStr, Expr)>,
@@ -26,7 +28,7 @@ impl Expr {
         ensures kind { IfOk result (λ e. node_of e ≡ node.Record (entries_in_order pairs.items)) }
         ensures loc { IfOk result (λ e. expr_loc e ≡ None) }
         ensures distinct { IfOk result (λ e. first_repeated (keys_view pairs.items) ≡ None) }
-        ensures refused { IfErr result (IsRefusalOf (first_repeated (keys_view pairs.items)) (codes "in record literal")) }
+        ensures refused { IfErr result (IsRecordRefusal pairs.items) }
     {
         let mut fields: BTreeMap<RcStr, Expr> = BTreeMap::new(alloc);
         'pairs: for (key, part) in pairs {
@@ -53,8 +55,10 @@ fn put_new(
     part: Expr,
 ) -> Result<(), ExpressionConstructionError>
     ensures entries { OnOk result (fields.new.entries ≡ insert_entry key_order fields.old.entries key part) }
-    ensures keys { OnOk result (HasOneMore (keys_view fields.old.entries) (rc_str_bytes key) (keys_view fields.new.entries)) }
-    ensures refused { IfErr result (IsRefusalOf (repeated_key (keys_view fields.old.entries) (rc_str_bytes key)) (codes "in record literal")) }
+    ensures keys { OnOk result
+        (HasOneMore (keys_view fields.old.entries) (rc_str_bytes key) (keys_view fields.new.entries)) }
+    ensures refused { IfErr result
+        (IsRefusalOf (repeated_key (keys_view fields.old.entries) (rc_str_bytes key)) (codes "in record literal")) }
 {
     if fields.contains_key(&key) {
         drop(part);

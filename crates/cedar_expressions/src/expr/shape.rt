@@ -1,7 +1,8 @@
 #![tactic(auto, using(crate::proofs::Levels::levels))]
 //! Tests on the shape of an expression.
 ghost use Rattle.std.specs.Prelude.{◌≡◌};
-ghost use Rattle.cedar_model.specs.Shapes.{has_unknown, have_unknown, have_unknown_at, is_projectable, are_projectable, are_projectable_at};
+ghost use Rattle.cedar_model.specs.Shapes.{has_unknown, have_unknown, have_unknown_at, is_projectable};
+ghost use Rattle.cedar_model.specs.Shapes.{are_projectable, are_projectable_at};
 ghost use Rattle.cedar_expressions.specs.View.{view, terms_view, fields_view};
 
 use super::{Expr, ExprKind};

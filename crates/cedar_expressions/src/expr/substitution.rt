@@ -2,13 +2,14 @@
 //! Values for unknowns.
 ghost use Rattle.std.specs.Prelude.{◌≡◌, IfOk, option_map};
 ghost use Rattle.std.specs.Rc.{rc_str_bytes};
-ghost use Rattle.cedar_model.specs.Terms.{unknown, if_then_else, both, either, unary, binary, call, get_attribute, has_attribute, extended_has, like, is_of_type};
+ghost use Rattle.cedar_model.specs.Terms.{unknown, if_then_else, both, either, unary, binary, call};
+ghost use Rattle.cedar_model.specs.Terms.{get_attribute, has_attribute, like, is_of_type};
 ghost use Rattle.cedar_model.specs.Values.{Represented, expression_of};
-ghost use Rattle.cedar_model.specs.Chains.{value_for, substituted, substituted_each, substituted_at};
+ghost use Rattle.cedar_model.specs.Chains.{value_for, substituted_each, substituted_at};
 ghost use Rattle.cedar_names.specs.Names.{name_text, type_text};
-ghost use Rattle.cedar_names.specs.Leaves.{unary_view, binary_view, pattern_view, type_view, texts_view};
-ghost use Rattle.cedar_expressions.specs.Mappings.{mapping_of};
-ghost use Rattle.cedar_expressions.specs.View.{view, kind_view, expr_loc, terms_view, fields_view};
+ghost use Rattle.cedar_names.specs.Leaves.{unary_view, binary_view, pattern_view, type_view};
+ghost use Rattle.cedar_expressions.specs.Mappings.{mapping_of, with_values};
+ghost use Rattle.cedar_expressions.specs.View.{view, kind_view, expr_loc, terms_view, fields_view, extended_has_of};
 
 use super::{Expr, ExprKind};
 use cedar_names::{BinaryOp, EntityType, FirstRest, Name, Pattern, UnaryOp, Unknown};
@@ -26,14 +27,16 @@ pub trait AsExpression {
 }
 
 impl Expr {
-    /// The expression with the map's values for the unknowns that it names, at any depth. An annotation is not looked at, and the rest is unchanged. The result has the location of the expression, so a value for an unknown has the location of that unknown; the locations of parts are not promised. Refuses only for want of memory.
+    /// The expression with the map's values for the unknowns that it names, at any depth. An annotation is not looked at,
+    /// and the rest is unchanged. The result has the location of the expression, so a value for an unknown has the
+    /// location of that unknown; the locations of parts are not promised. Refuses only for want of memory.
     #[cycle(substitute)]
     pub fn substitute<V: AsExpression>(
         &self,
         alloc: Global,
         map: &HashMap<RcStr, V>,
     ) -> Result<Expr, AllocError>
-        ensures view { IfOk result (λ e. view e ≡ substituted (mapping_of V.represents map.now.entries) (view self.now)) }
+        ensures view { IfOk result (λ e. view e ≡ with_values V.represents map.now.entries (view self.now)) }
         ensures loc { IfOk result (λ e. expr_loc e ≡ expr_loc self.now) }
     {
         let expr = self.expr_kind.substitute(alloc, map)?;
@@ -47,7 +50,7 @@ impl Expr {
         alloc: Global,
         map: &HashMap<RcStr, V>,
     ) -> Result<Rc<Expr>, AllocError>
-        ensures { IfOk result (λ e. view e.value ≡ substituted (mapping_of V.represents map.now.entries) (view self.now)) }
+        ensures { IfOk result (λ e. view e.value ≡ with_values V.represents map.now.entries (view self.now)) }
     {
         let expr = self.substitute(alloc, map)?;
         Ok(Rc::new(alloc, expr)?)
@@ -59,7 +62,8 @@ impl Expr {
         parts: &Vec<Expr>,
         map: &HashMap<RcStr, V>,
     ) -> Result<Vec<Expr>, AllocError>
-        ensures { IfOk result (λ v. terms_view v.items ≡ substituted_each (mapping_of V.represents map.now.entries) (terms_view parts.now.items)) }
+        ensures { IfOk result (λ v. terms_view v.items
+            ≡ substituted_each (mapping_of V.represents map.now.entries) (terms_view parts.now.items)) }
     {
         let mut new_parts = Vec::with_capacity(alloc, parts.len())?;
         'parts: for part in parts {
@@ -74,7 +78,8 @@ impl Expr {
         pairs: &BTreeMap<RcStr, Expr>,
         map: &HashMap<RcStr, V>,
     ) -> Result<BTreeMap<RcStr, Expr>, AllocError>
-        ensures { IfOk result (λ m. fields_view m.entries ≡ substituted_at (mapping_of V.represents map.now.entries) (fields_view pairs.now.entries)) }
+        ensures { IfOk result (λ m. fields_view m.entries
+            ≡ substituted_at (mapping_of V.represents map.now.entries) (fields_view pairs.now.entries)) }
     {
         let mut new_pairs = BTreeMap::new(alloc);
         'pairs: for (key, part) in pairs.iter() {
@@ -92,7 +97,7 @@ impl ExprKind {
         alloc: Global,
         map: &HashMap<RcStr, V>,
     ) -> Result<Expr, AllocError>
-        ensures { IfOk result (λ e. view e ≡ substituted (mapping_of V.represents map.now.entries) (kind_view self.now)) }
+        ensures { IfOk result (λ e. view e ≡ with_values V.represents map.now.entries (kind_view self.now)) }
     {
         match self {
             ExprKind::Lit(value) => Ok(Expr::val(value.clone()?)),
@@ -136,7 +141,9 @@ fn substitute_if<V: AsExpression>(
     else_expr: &Expr,
     map: &HashMap<RcStr, V>,
 ) -> Result<Expr, AllocError>
-    ensures { IfOk result (λ e. view e ≡ substituted (mapping_of V.represents map.now.entries) (if_then_else (view test_expr.now) (view then_expr.now) (view else_expr.now))) }
+    ensures { IfOk result (λ e. view e
+        ≡ with_values V.represents map.now.entries
+        (if_then_else (view test_expr.now) (view then_expr.now) (view else_expr.now))) }
 {
     let test_expr = test_expr.substitute_shared(alloc, map)?;
     let then_expr = then_expr.substitute_shared(alloc, map)?;
@@ -155,7 +162,8 @@ fn substitute_and<V: AsExpression>(
     right: &Expr,
     map: &HashMap<RcStr, V>,
 ) -> Result<Expr, AllocError>
-    ensures { IfOk result (λ e. view e ≡ substituted (mapping_of V.represents map.now.entries) (both (view left.now) (view right.now))) }
+    ensures { IfOk result (λ e. view e
+        ≡ with_values V.represents map.now.entries (both (view left.now) (view right.now))) }
 {
     let left = left.substitute_shared(alloc, map)?;
     let right = right.substitute_shared(alloc, map)?;
@@ -169,7 +177,8 @@ fn substitute_or<V: AsExpression>(
     right: &Expr,
     map: &HashMap<RcStr, V>,
 ) -> Result<Expr, AllocError>
-    ensures { IfOk result (λ e. view e ≡ substituted (mapping_of V.represents map.now.entries) (either (view left.now) (view right.now))) }
+    ensures { IfOk result (λ e. view e
+        ≡ with_values V.represents map.now.entries (either (view left.now) (view right.now))) }
 {
     let left = left.substitute_shared(alloc, map)?;
     let right = right.substitute_shared(alloc, map)?;
@@ -183,7 +192,8 @@ fn substitute_unary<V: AsExpression>(
     arg: &Expr,
     map: &HashMap<RcStr, V>,
 ) -> Result<Expr, AllocError>
-    ensures { IfOk result (λ e. view e ≡ substituted (mapping_of V.represents map.now.entries) (unary (unary_view op) (view arg.now))) }
+    ensures { IfOk result (λ e. view e
+        ≡ with_values V.represents map.now.entries (unary (unary_view op) (view arg.now))) }
 {
     let arg = arg.substitute_shared(alloc, map)?;
     Ok(Expr::of_kind(ExprKind::UnaryApp { op, arg }))
@@ -197,7 +207,8 @@ fn substitute_binary<V: AsExpression>(
     arg2: &Expr,
     map: &HashMap<RcStr, V>,
 ) -> Result<Expr, AllocError>
-    ensures { IfOk result (λ e. view e ≡ substituted (mapping_of V.represents map.now.entries) (binary (binary_view op) (view arg1.now) (view arg2.now))) }
+    ensures { IfOk result (λ e. view e
+        ≡ with_values V.represents map.now.entries (binary (binary_view op) (view arg1.now) (view arg2.now))) }
 {
     let arg1 = arg1.substitute_shared(alloc, map)?;
     let arg2 = arg2.substitute_shared(alloc, map)?;
@@ -211,7 +222,8 @@ fn substitute_call<V: AsExpression>(
     args: &Vec<Expr>,
     map: &HashMap<RcStr, V>,
 ) -> Result<Expr, AllocError>
-    ensures { IfOk result (λ e. view e ≡ substituted (mapping_of V.represents map.now.entries) (call (name_text fn_name.now) (terms_view args.now.items))) }
+    ensures { IfOk result (λ e. view e
+        ≡ with_values V.represents map.now.entries (call (name_text fn_name.now) (terms_view args.now.items))) }
 {
     let fn_name = fn_name.clone()?;
     let args = Expr::substitute_each(alloc, args, map)?;
@@ -225,7 +237,8 @@ fn substitute_attribute<V: AsExpression>(
     attr: &RcStr,
     map: &HashMap<RcStr, V>,
 ) -> Result<Expr, AllocError>
-    ensures { IfOk result (λ e. view e ≡ substituted (mapping_of V.represents map.now.entries) (get_attribute (view expr.now) (rc_str_bytes attr.now))) }
+    ensures { IfOk result (λ e. view e
+        ≡ with_values V.represents map.now.entries (get_attribute (view expr.now) (rc_str_bytes attr.now))) }
 {
     let attr = attr.clone()?;
     let expr = expr.substitute_shared(alloc, map)?;
@@ -239,7 +252,8 @@ fn substitute_has<V: AsExpression>(
     attr: &RcStr,
     map: &HashMap<RcStr, V>,
 ) -> Result<Expr, AllocError>
-    ensures { IfOk result (λ e. view e ≡ substituted (mapping_of V.represents map.now.entries) (has_attribute (view expr.now) (rc_str_bytes attr.now))) }
+    ensures { IfOk result (λ e. view e
+        ≡ with_values V.represents map.now.entries (has_attribute (view expr.now) (rc_str_bytes attr.now))) }
 {
     let attr = attr.clone()?;
     let expr = expr.substitute_shared(alloc, map)?;
@@ -253,7 +267,8 @@ fn substitute_extended_has<V: AsExpression>(
     attrs: &Rc<FirstRest<RcStr>>,
     map: &HashMap<RcStr, V>,
 ) -> Result<Expr, AllocError>
-    ensures { IfOk result (λ e. view e ≡ substituted (mapping_of V.represents map.now.entries) (extended_has (view expr.now) (rc_str_bytes attrs.now.value.first) (texts_view attrs.now.value.rest.items))) }
+    ensures { IfOk result (λ e. view e
+        ≡ with_values V.represents map.now.entries (extended_has_of (view expr.now) attrs.now.value)) }
 {
     let attrs = attrs.clone()?;
     let expr = expr.substitute_shared(alloc, map)?;
@@ -267,7 +282,8 @@ fn substitute_like<V: AsExpression>(
     pattern: &Pattern,
     map: &HashMap<RcStr, V>,
 ) -> Result<Expr, AllocError>
-    ensures { IfOk result (λ e. view e ≡ substituted (mapping_of V.represents map.now.entries) (like (view expr.now) (pattern_view pattern.now))) }
+    ensures { IfOk result (λ e. view e
+        ≡ with_values V.represents map.now.entries (like (view expr.now) (pattern_view pattern.now))) }
 {
     let pattern = pattern.clone()?;
     let expr = expr.substitute_shared(alloc, map)?;
@@ -281,7 +297,8 @@ fn substitute_is<V: AsExpression>(
     entity_type: &EntityType,
     map: &HashMap<RcStr, V>,
 ) -> Result<Expr, AllocError>
-    ensures { IfOk result (λ e. view e ≡ substituted (mapping_of V.represents map.now.entries) (is_of_type (view expr.now) (type_text entity_type.now))) }
+    ensures { IfOk result (λ e. view e
+        ≡ with_values V.represents map.now.entries (is_of_type (view expr.now) (type_text entity_type.now))) }
 {
     let entity_type = entity_type.clone()?;
     let expr = expr.substitute_shared(alloc, map)?;
@@ -294,7 +311,9 @@ fn value_or_unknown<V: AsExpression>(
     asked: &Unknown,
     map: &HashMap<RcStr, V>,
 ) -> Result<Expr, AllocError>
-    ensures { IfOk result (λ e. view e ≡ value_for (mapping_of V.represents map.now.entries (rc_str_bytes asked.now.name)) (unknown (rc_str_bytes asked.now.name) (option_map type_view asked.now.type_annotation))) }
+    ensures { IfOk result (λ e. view e
+        ≡ value_for (mapping_of V.represents map.now.entries (rc_str_bytes asked.now.name))
+        (unknown (rc_str_bytes asked.now.name) (option_map type_view asked.now.type_annotation))) }
 {
     match map.get(&asked.name) {
         Some(value) => Ok(value.as_expression(alloc)?),

@@ -3,10 +3,11 @@
 ghost use Rattle.std.specs.Prelude.{◌≡◌, true, ◌++◌, codes};
 ghost use Rattle.std.specs.Rc.{rc_str_bytes};
 ghost use Rattle.std.specs.Fmt.{WritesOnOk};
-ghost use Rattle.cedar_model.specs.Terms.{if_then_else, unary, binary, call, get_attribute, has_attribute, extended_has, like, is_of_type, set_of, record_of};
+ghost use Rattle.cedar_model.specs.Terms.{if_then_else, unary, binary, call, get_attribute, has_attribute};
+ghost use Rattle.cedar_model.specs.Terms.{like, is_of_type, set_of, record_of};
 ghost use Rattle.cedar_names.specs.Names.{name_text, type_text};
-ghost use Rattle.cedar_names.specs.Leaves.{unary_view, binary_view, pattern_view, texts_view};
-ghost use Rattle.cedar_expressions.specs.View.{view, terms_view, fields_view};
+ghost use Rattle.cedar_names.specs.Leaves.{unary_view, binary_view, pattern_view};
+ghost use Rattle.cedar_expressions.specs.View.{view, terms_view, fields_view, extended_has_of};
 ghost use Rattle.cedar_names.specs.Texts as text;
 
 use crate::expr::{Expr, ExprKind};
@@ -152,7 +153,8 @@ fn show_unary<W: fmt::Write>(
     bound: Option<usize>,
     f: &mut fmt::Formatter<W>,
 ) -> fmt::Result
-    ensures { WritesOnOk W.write_str_gives f.old result (text.shown bound (unary (unary_view op) (view arg.now))) f.new }
+    ensures { WritesOnOk W.write_str_gives f.old result
+        (text.shown bound (unary (unary_view op) (view arg.now))) f.new }
 {
     f.write_str(before_part(op))?;
     show_part(arg, bound, f)?;
@@ -187,7 +189,8 @@ fn show_method<W: fmt::Write>(
     f: &mut fmt::Formatter<W>,
 ) -> fmt::Result
     ensures { WritesOnOk W.write_str_gives f.old result
-        (text.shown_part bound (view left.now) ++ (between.now ++ (text.shown bound (view right.now) ++ codes ")"))) f.new }
+        (text.shown_part bound (view left.now)
+        ++ (between.now ++ (text.shown bound (view right.now) ++ codes ")"))) f.new }
 {
     show_part(left, bound, f)?;
     f.write_str(between)?;
@@ -195,6 +198,7 @@ fn show_method<W: fmt::Write>(
     f.write_str(")")
 }
 
+/// Writes a call of this function on these arguments, none left out; the bound is for the sets and records in them.
 #[cycle(show)]
 pub fn show_call<W: fmt::Write>(
     name: &Name,
@@ -247,7 +251,7 @@ fn show_extended_has<W: fmt::Write>(
     f: &mut fmt::Formatter<W>,
 ) -> fmt::Result
     ensures { WritesOnOk W.write_str_gives f.old result
-        (text.shown bound (extended_has (view expr.now) (rc_str_bytes attrs.now.first) (texts_view attrs.now.rest.items))) f.new }
+        (text.shown bound (extended_has_of (view expr.now) attrs.now)) f.new }
 {
     show_part(expr, bound, f)?;
     write_extended_has(attrs, f)
@@ -300,7 +304,8 @@ fn show_record<W: fmt::Write>(
     bound: Option<usize>,
     f: &mut fmt::Formatter<W>,
 ) -> fmt::Result
-    ensures { WritesOnOk W.write_str_gives f.old result (text.shown bound (record_of (fields_view pairs.now.entries))) f.new }
+    ensures { WritesOnOk W.write_str_gives f.old result
+        (text.shown bound (record_of (fields_view pairs.now.entries))) f.new }
 {
     f.write_str("{")?;
     show_fields(pairs, bound, f)?;
@@ -315,7 +320,8 @@ fn show_parts<W: fmt::Write>(
     bound: Option<usize>,
     f: &mut fmt::Formatter<W>,
 ) -> fmt::Result
-    ensures { WritesOnOk W.write_str_gives f.old result (text.shown_parts bound left true (terms_view parts.now)) f.new }
+    ensures { WritesOnOk W.write_str_gives f.old result
+        (text.shown_parts bound left true (terms_view parts.now)) f.new }
 {
     let mut is_first = true;
     'parts: for part in parts {
@@ -336,7 +342,8 @@ fn show_fields<W: fmt::Write>(
     bound: Option<usize>,
     f: &mut fmt::Formatter<W>,
 ) -> fmt::Result
-    ensures { WritesOnOk W.write_str_gives f.old result (text.shown_fields bound bound true (fields_view pairs.now.entries)) f.new }
+    ensures { WritesOnOk W.write_str_gives f.old result
+        (text.shown_fields bound bound true (fields_view pairs.now.entries)) f.new }
 {
     let mut left = bound;
     let mut is_first = true;
@@ -358,7 +365,8 @@ fn show_next<W: fmt::Write>(
     bound: Option<usize>,
     f: &mut fmt::Formatter<W>,
 ) -> fmt::Result
-    ensures { WritesOnOk W.write_str_gives f.old result (text.separator is_first ++ text.shown bound (view part.now)) f.new }
+    ensures { WritesOnOk W.write_str_gives f.old result
+        (text.separator is_first ++ text.shown bound (view part.now)) f.new }
 {
     f.write_str(separator(is_first))?;
     show(part, bound, f)
@@ -373,7 +381,8 @@ fn show_next_field<W: fmt::Write>(
     f: &mut fmt::Formatter<W>,
 ) -> fmt::Result
     ensures { WritesOnOk W.write_str_gives f.old result
-        (text.separator is_first ++ (text.quoted (rc_str_bytes key.now) ++ (codes ": " ++ text.shown bound (view part.now)))) f.new }
+        (text.separator is_first
+        ++ (text.quoted (rc_str_bytes key.now) ++ (codes ": " ++ text.shown bound (view part.now)))) f.new }
 {
     f.write_str(separator(is_first))?;
     write_quoted(key.as_str(), f)?;
