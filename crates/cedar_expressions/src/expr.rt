@@ -296,7 +296,7 @@ impl Expr {
     }
 
     /// `expr has first.second..`: that each attribute is there, one behind the other. Refuses only for want of memory.
-    pub fn ext_has_attr(
+    pub fn extended_has_attr(
         alloc: Global,
         expr: Expr,
         attrs: FirstRest<RcStr>,

@@ -80,7 +80,7 @@ pub fn residual_path(
     ensures { AnswersWith result (answers_residual (extended_has (residual_term part) (rc_str_bytes attrs.first)
         (texts_view attrs.rest.items))) }
 {
-    let expr = Expr::ext_has_attr(alloc, part.into_expr(), attrs)?;
+    let expr = Expr::extended_has_attr(alloc, part.into_expr(), attrs)?;
     Ok(PartialValue::Residual(ResidualExpr::new(expr)))
 }
 

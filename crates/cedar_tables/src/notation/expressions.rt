@@ -233,7 +233,7 @@ fn put_path(alloc: Global, written: &str, parts: &mut Parts<Expr>) {
     match attributes(alloc, written) {
         Ok(path) => {
             let expr = popped(parts);
-            put_made(parts, Expr::ext_has_attr(alloc, expr, path));
+            put_made(parts, Expr::extended_has_attr(alloc, expr, path));
         }
         Err(_) => parts.lack_memory(),
     }
