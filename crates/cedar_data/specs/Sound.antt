@@ -233,6 +233,10 @@ pub AreSound-whats : (ps : List Placed) → AreSound (represented_values_of (wha
 AreSound-whats [] = tt
 AreSound-whats (p ∷ ps) = (p.sound, AreSound-whats ps)
 
+-- a list of values is in the order of values, each once
+abbrev pub AreInOrder : List Placed → Type 0
+AreInOrder ps = canonical_set (whats ps) ≡ represented_values_of (whats ps)
+
 -- the set of a list of values
 abbrev pub elements_seen : List Placed → Elements
 elements_seen ps = elements_of (whats ps) (AreSound-whats ps) ps

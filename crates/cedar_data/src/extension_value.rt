@@ -12,7 +12,8 @@ use std::cmp::Ordering;
 use std::hash::{Hash, Hasher};
 use std::rc::Rc;
 
-/// How an extension value is written: a function and its arguments. The arguments are restricted expressions and hold no unknown.
+/// How an extension value is written: a function and its arguments. The arguments are restricted expressions and hold
+/// no unknown.
 #[derive(Debug)]
 pub struct Representation {
     fn_name: Name,

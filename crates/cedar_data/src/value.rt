@@ -71,13 +71,12 @@ impl Model for Set {
 
     ghost coded = { elements_code };
 
-    ghost use Rattle.std.specs.Prelude.{◌≡◌};
-    ghost use Rattle.cedar_model.specs.Sets.{represented_values_of, canonical_set, represented_values_size};
-    ghost use Rattle.cedar_data.specs.Sound.{whats, elements_seen};
+    ghost use Rattle.cedar_model.specs.Sets.{represented_values_size};
+    ghost use Rattle.cedar_data.specs.Sound.{elements_seen, AreInOrder};
 
     ghost view = { λ a. elements_seen a.elements.value.items };
 
-    ghost invariant = { λ a. canonical_set (whats a.elements.value.items) ≡ represented_values_of (whats a.elements.value.items) };
+    ghost invariant = { λ a. AreInOrder a.elements.value.items };
 
     ghost size = { λ s. represented_values_size s.all };
 
@@ -104,7 +103,8 @@ impl Value {
         Value { value, loc }
     }
 
-    /// The set of these values, in the order of values, each once: where two are equal, the first stays, with its representation and its location. Refuses only for want of memory.
+    /// The set of these values, in the order of values, each once: where two are equal, the first stays, with its
+    /// representation and its location. Refuses only for want of memory.
     pub fn set(alloc: Global, elements: Vec<Value>, loc: Option<Loc>) -> Result<Value, AllocError>
         ensures what { IfOk result (λ v. v.what ≡ set_represented (canonical_set (whats elements.items))) }
         ensures inside { IfOk result (λ v. v.inside ≡ inside_each (firsts elements.items)) }
@@ -155,7 +155,8 @@ impl Value {
         }
     }
 
-    /// The type of the value: of an entity the type of that entity, of an extension value its extension type. Refuses only for want of memory.
+    /// The type of the value: of an entity the type of that entity, of an extension value its extension type. Refuses
+    /// only for want of memory.
     pub fn type_of(&self) -> Result<Type, AllocError>
         ensures { IfOk result (λ t. type_view t ≡ value_type (abstract_value self.now.what)) }
     {

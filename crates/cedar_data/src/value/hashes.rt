@@ -6,7 +6,8 @@ ghost use Rattle.cedar_names.specs.Names.{uid_name};
 ghost use Rattle.cedar_names.specs.Leaves.{literal_view};
 ghost use Rattle.cedar_data.specs.Sound.{whats, whats_at};
 ghost use Rattle.cedar_data.specs.Kinds.{kind_what};
-ghost use Rattle.cedar_data.specs.Hashed.{entity_writes, literal_writes, values_writes, value_fields_writes, represented_writes};
+ghost use Rattle.cedar_data.specs.Hashed.{entity_writes, literal_writes, values_writes, value_fields_writes};
+ghost use Rattle.cedar_data.specs.Hashed.{represented_writes};
 
 use super::{Set, Value, ValueKind};
 use cedar_names::{EntityUID, Literal};

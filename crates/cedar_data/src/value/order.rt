@@ -1,5 +1,6 @@
 #![tactic(auto, using(crate::proofs::Order::order_keys))]
-//! The order and the equality of values: locations, representations, and the order and repetition of set elements change nothing.
+//! The order and the equality of values: locations, representations, and the order and repetition of set elements
+//! change nothing.
 ghost use Rattle.std.specs.Prelude.{◌≡◌};
 ghost use Rattle.std.specs.Ordering.{ordering_then};
 ghost use Rattle.cedar_model.specs.Keys.{key_cmp, literal_key, entity_key, values_key};

@@ -6,7 +6,7 @@ ghost use Rattle.cedar_model.specs.Values.{abstract_value, abstract_values};
 ghost use Rattle.cedar_model.specs.Sets.{represented_values_of, canonical_set, has_value};
 ghost use Rattle.cedar_data.specs.Sound.{Placed, whats, firsts};
 ghost use Rattle.cedar_model.specs.Meaning.{is_empty, has_each, has_some};
-ghost use Rattle.cedar_data.specs.Members.{values_count};
+ghost use Rattle.cedar_data.specs.Members.{values_count, WalksOver};
 
 use super::{Set, Value};
 use std::alloc::{AllocError, Global};
@@ -14,7 +14,8 @@ use std::rc::Rc;
 use std::slice::Iter;
 
 impl Set {
-    /// The set of these values, in the order of values, each once: where two are equal, the first stays, with its representation and its location. Refuses only for want of memory.
+    /// The set of these values, in the order of values, each once: where two are equal, the first stays, with its
+    /// representation and its location. Refuses only for want of memory.
     pub fn new(alloc: Global, mut elements: Vec<Value>) -> Result<Set, AllocError>
         ensures all { IfOk result (λ s. s.all ≡ canonical_set (whats elements.items)) }
         ensures members { IfOk result (λ s. s.members ≡ firsts elements.items) }
@@ -97,7 +98,7 @@ impl<'a> IntoIterator for &'a Set {
 
     type IntoIter = Iter<'a, Value>;
 
-    ghost into_iter_gives = { λ s it. (represented_values_of (whats (iter_rest it)) ≡ s.now.all) × (iter_rest it ≡ s.now.members) × (length (iter_rest it) < 2 ^ 64) × IterYieldsInOrder Placed };
+    ghost into_iter_gives = { λ s it. WalksOver s.now it };
 
     fn into_iter(self) -> Iter<'a, Value> {
         self.iter()

@@ -90,7 +90,8 @@ fn show_extension_value<W: fmt::Write>(
     bound: Option<usize>,
     f: &mut fmt::Formatter<W>,
 ) -> fmt::Result
-    ensures { WritesOnOk W.write_str_gives f.old result (text.shown bound (expression_of (extension_what value.now))) f.new }
+    ensures { WritesOnOk W.write_str_gives f.old result
+        (text.shown bound (expression_of (extension_what value.now))) f.new }
 {
     show_call(
         value.representation.fn_name(),
@@ -119,7 +120,8 @@ fn show_record<W: fmt::Write>(
     bound: Option<usize>,
     f: &mut fmt::Formatter<W>,
 ) -> fmt::Result
-    ensures { WritesOnOk W.write_str_gives f.old result (text.shown bound (record_of (expressions_at (whats_at pairs.now.entries)))) f.new }
+    ensures { WritesOnOk W.write_str_gives f.old result
+        (text.shown bound (record_of (expressions_at (whats_at pairs.now.entries)))) f.new }
 {
     f.write_str("{")?;
     show_entries(pairs, bound, f)?;
@@ -193,7 +195,9 @@ fn show_next_entry<W: fmt::Write>(
     f: &mut fmt::Formatter<W>,
 ) -> fmt::Result
     ensures { WritesOnOk W.write_str_gives f.old result
-        (text.separator is_first ++ (text.quoted (rc_str_bytes key.now) ++ (codes ": " ++ text.shown bound (expression_of value.now.what)))) f.new }
+        (text.separator is_first
+        ++ (text.quoted (rc_str_bytes key.now)
+        ++ (codes ": " ++ text.shown bound (expression_of value.now.what)))) f.new }
 {
     f.write_str(separator(is_first))?;
     write_quoted(key.as_str(), f)?;
