@@ -46,7 +46,8 @@ impl Representation {
     ghost use Rattle.cedar_names.specs.Names.{name_text, name_loc};
     ghost use Rattle.cedar_data.specs.Representations.{function_of, function_loc, arguments_of, whole_arguments};
 
-    /// The call of this function on these arguments.
+    /// The call of this function on these arguments. Asks its caller for two facts: each argument is a restricted
+    /// expression (`restricted`), and none holds an unknown, at any depth (`known`).
     pub fn new(fn_name: Name, args: Rc<Vec<Expr>>) -> Representation
         requires restricted { are_restricted (terms_view args.value.items) ≡ true }
         requires known { have_unknown (terms_view args.value.items) ≡ false }
