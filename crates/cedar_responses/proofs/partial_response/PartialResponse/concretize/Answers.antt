@@ -2,6 +2,7 @@ use Rattle.std.proofs.Common.{ap, subst, sym, ◌∙◌}
 use Rattle.cedar_model.proofs.Concrete.{given_is_concrete}
 use Rattle.cedar_model.specs.Policies.{skip}
 use Rattle.cedar_responses.specs.Promises.{IsDecidedByPolicies}
+use Rattle.cedar_responses.specs.Responses.{errors_view}
 use Rattle.cedar_responses.specs.Rows.{rows_view}
 use Rattle.cedar_responses.proofs.Concretes.{of_ok, concrete, concrete_at, decided_by_policies}
 use Rattle.cedar_responses.proofs.partial_response.PartialResponse.concretize.Goals as goal
@@ -18,4 +19,4 @@ returns-clause-given c d h = ap (λ r. r.decided_as) (returns-clause-response c)
 
 pub returns-clause-decided : goal.returns-clause-decided
 returns-clause-decided c =
-    subst (IsDecidedByPolicies (rows_view c.args.self)) (sym (returns-clause-response c)) (decided_by_policies (rows_view c.args.self) _)
+    subst (IsDecidedByPolicies (rows_view c.args.self)) (sym (returns-clause-response c)) (decided_by_policies (rows_view c.args.self) (errors_view c.args.self.errors.items))
