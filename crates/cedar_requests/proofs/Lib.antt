@@ -9,3 +9,4 @@ pub mod Writing
 pub mod Texts
 pub mod Walks
 pub mod Opened
+pub mod Soundness

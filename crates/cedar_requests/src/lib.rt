@@ -5,6 +5,7 @@ mod beside;
 mod context;
 mod entry;
 mod errors;
+pub mod laws;
 mod request;
 pub mod shared;
 mod variables;
