@@ -1,6 +1,6 @@
 -- The extensions of an evaluation as plain data, and what their functions may answer.
 use Rattle.std.specs.Prelude.{◌≡◌, List, [], map, Option, None, Some, option_map}
-use Rattle.cedar_model.specs.Terms.{Text}
+use Rattle.cedar_model.specs.Terms.{Text, ValueType}
 use Rattle.cedar_model.specs.World as model
 use Rattle.cedar_model.specs.Values.{Represented}
 use Rattle.cedar_model.specs.Failures.{PartialValue, Answer, answers}
@@ -9,7 +9,7 @@ use Rattle.cedar_names.specs.Names.{name_text}
 use Rattle.cedar_extensions.specs.declared.extension.Extension.{Extension}
 use Rattle.cedar_extensions.specs.declared.extensions.Extensions.{Extensions}
 use Rattle.cedar_extensions.specs.declared.function.ExtensionFunction.{ExtensionFunction}
-use Rattle.cedar_extensions.specs.Extension.{all_functions, all_overloading_types}
+use Rattle.cedar_extensions.specs.Extension.{all_functions, all_overloading_types, types_named}
 use Rattle.cedar_extensions.specs.Functions.{arity, CanAnswer, function_among}
 
 -- the extensions, in order
@@ -27,6 +27,10 @@ extensions_view x =
       arity = λ n. option_map arity (func_of x n);
       overloaded = map name_text (all_overloading_types (extensions_in x));
     }
+
+-- the types whose values `<` compares
+abbrev pub overloaded_types_in : {X : Type 0} {F : X → Type 0} {g : _} → Extensions X F g → List ValueType
+overloaded_types_in x = types_named (all_overloading_types (extensions_in x))
 
 -- no extension
 abbrev pub no_extensions : model.Extensions

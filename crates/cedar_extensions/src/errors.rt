@@ -43,9 +43,9 @@ pub mod extension_initialization_errors {
 
 impl From<FuncMultiplyDefinedError> for ExtensionInitializationError {
     ghost use Rattle.std.specs.Prelude.{◌≡◌};
-    ghost use Rattle.cedar_extensions.specs.declared.errors.ExtensionInitializationError.TheVariants.{FuncMultiplyDefined};
+    ghost use Rattle.cedar_extensions.specs.declared.errors.ExtensionInitializationError.TheVariants as errors;
 
-    ghost from_gives = { λ e r. r ≡ FuncMultiplyDefined e };
+    ghost from_gives = { λ e r. r ≡ errors.FuncMultiplyDefined e };
 
     fn from(e: FuncMultiplyDefinedError) -> ExtensionInitializationError {
         ExtensionInitializationError::FuncMultiplyDefined(e)
@@ -54,15 +54,16 @@ impl From<FuncMultiplyDefinedError> for ExtensionInitializationError {
 
 impl From<MultipleConstructorsSameSignatureError> for ExtensionInitializationError {
     ghost use Rattle.std.specs.Prelude.{◌≡◌};
-    ghost use Rattle.cedar_extensions.specs.declared.errors.ExtensionInitializationError.TheVariants.{MultipleConstructorsSameSignature};
+    ghost use Rattle.cedar_extensions.specs.declared.errors.ExtensionInitializationError.TheVariants as errors;
 
-    ghost from_gives = { λ e r. r ≡ MultipleConstructorsSameSignature e };
+    ghost from_gives = { λ e r. r ≡ errors.MultipleConstructorsSameSignature e };
 
     fn from(e: MultipleConstructorsSameSignatureError) -> ExtensionInitializationError {
         ExtensionInitializationError::MultipleConstructorsSameSignature(e)
     }
 }
 
+/// Want of memory is `Memory`.
 impl From<AllocError> for ExtensionInitializationError {
     ghost use Rattle.std.specs.Prelude.{◌≡◌};
     ghost use Rattle.cedar_extensions.specs.declared.errors.ExtensionInitializationError.TheVariants.{Memory};
@@ -74,6 +75,7 @@ impl From<AllocError> for ExtensionInitializationError {
     }
 }
 
+/// Want of memory is `Memory`, and what found no room is dropped.
 impl<T: Drop> From<AllocFailed<T>> for ExtensionInitializationError {
     ghost use Rattle.std.specs.Prelude.{◌≡◌, alloc_error};
     ghost use Rattle.cedar_extensions.specs.declared.errors.ExtensionInitializationError.TheVariants.{Memory};

@@ -32,10 +32,10 @@ impl<'a> Extensions<'a> {
     ghost use Rattle.cedar_data.specs.Sound.{whats};
     ghost use Rattle.cedar_extensions.specs.Answers.{call_answer};
     ghost use Rattle.cedar_extensions.specs.Functions.{answered_types, IsFound};
-    ghost use Rattle.cedar_extensions.specs.Extension.{name_of, all_overloading_types, types_named};
+    ghost use Rattle.cedar_extensions.specs.Extension.{name_of, all_overloading_types};
     ghost use Rattle.cedar_extensions.specs.Iterators.{names_left, types_left, overloading_left};
     ghost use Rattle.cedar_extensions.specs.Extensions.{no_extensions, extensions_in, func_of, extensions_view};
-    ghost use Rattle.cedar_extensions.specs.Extensions.{AnswersCall};
+    ghost use Rattle.cedar_extensions.specs.Extensions.{overloaded_types_in, AnswersCall};
     ghost use Rattle.cedar_extensions.specs.Refused.{repeated_type, IsWhyRefused, IsMissing};
 
     /// No extension: each call of a function fails with `FuncDoesNotExist`.
@@ -140,7 +140,7 @@ impl<'a> Extensions<'a> {
 
     /// The extension types whose values `<` and `<=` compare, as types. Refuses only for want of memory.
     pub fn overloaded_types(&self, alloc: Global) -> Result<Vec<Type>, AllocError>
-        ensures { IfOk result (λ ts. map type_view ts.items ≡ types_named (all_overloading_types (extensions_in self.now))) }
+        ensures { IfOk result (λ ts. map type_view ts.items ≡ overloaded_types_in self.now) }
     {
         let mut types = Vec::new(alloc);
         let mut rest = self.extensions;

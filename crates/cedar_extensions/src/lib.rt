@@ -10,7 +10,9 @@ mod iterators;
 pub mod laws;
 pub mod util;
 
-use cedar_values::extensions::ExtensionFunctionLookupError;
+pub use cedar_values::extensions::{
+    ExtensionFunctionLookupError, extension_function_lookup_errors,
+};
 pub use errors::{ExtensionInitializationError, extension_initialization_errors};
 pub use extension::Extension;
 pub use extensions::Extensions;

@@ -33,9 +33,11 @@ impl<'x, 'f> Machine for Restricted<'x, 'f> {
 
     type Answer = Result<PartialValue, EvaluationError>;
 
-    ghost right = { λ s k t a. IsRight (extensions_view s.extensions.now) (calls_of s.extensions.now) k t a × AnswerStands t a };
+    ghost right = { λ s k t a.
+        IsRight (extensions_view s.extensions.now) (calls_of s.extensions.now) k t a × AnswerStands t a };
 
-    ghost waits = { λ s k f t c. Waits (extensions_view s.extensions.now) (calls_of s.extensions.now) k f t c × FrameStands f t c };
+    ghost waits = { λ s k f t c.
+        Waits (extensions_view s.extensions.now) (calls_of s.extensions.now) k f t c × FrameStands f t c };
 
     ghost left_of = { left_of };
 
@@ -78,9 +80,11 @@ impl<'x, 'f> Machine for Restricted<'x, 'f> {
         Err(EvaluationError::Memory(AllocError))
     }
 
-    ghost right_limit = { λ s t. (right_limit (extensions_view s.extensions.now) (calls_of s.extensions.now) t, λ n. tt) };
+    ghost right_limit = { λ s t.
+        (right_limit (extensions_view s.extensions.now) (calls_of s.extensions.now) t, λ n. tt) };
 
-    ghost right_want = { λ s k t. (right_want (extensions_view s.extensions.now) (calls_of s.extensions.now) k t, λ n. tt) };
+    ghost right_want = { λ s k t.
+        (right_want (extensions_view s.extensions.now) (calls_of s.extensions.now) k t, λ n. tt) };
 
     ghost limit_ends = { limit_ends };
 

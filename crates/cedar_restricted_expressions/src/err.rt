@@ -57,6 +57,7 @@ impl From<InvalidRestrictedExpressionError> for RestrictedExpressionError {
     }
 }
 
+/// Want of memory is `Memory`.
 impl From<AllocError> for RestrictedExpressionError {
     ghost from_gives = { λ error result. result ≡ refusals.Memory error };
 
@@ -65,6 +66,7 @@ impl From<AllocError> for RestrictedExpressionError {
     }
 }
 
+/// Want of memory is `Memory`.
 impl From<AllocError> for PartialValueToRestrictedExprError {
     ghost from_gives = { λ error result. result ≡ kinds.Memory error };
 
@@ -73,6 +75,7 @@ impl From<AllocError> for PartialValueToRestrictedExprError {
     }
 }
 
+/// Want of memory is `Memory`, and what found no room is dropped.
 impl<T: Drop> From<AllocFailed<T>> for PartialValueToRestrictedExprError {
     ghost from_gives = { λ _ result. result ≡ kinds.Memory alloc_error };
 

@@ -3,3 +3,4 @@ pub mod Errors
 pub mod Fields
 pub mod Failures
 pub mod Texts
+pub mod TypeTexts

@@ -90,6 +90,7 @@ impl From<FuncDoesNotExistError> for ExtensionFunctionLookupError {
     }
 }
 
+/// Want of memory is `Memory`, of which `EvaluationError::from` makes its own `Memory`.
 impl From<AllocError> for ExtensionFunctionLookupError {
     ghost use Rattle.std.specs.Prelude.{◌≡◌};
     ghost use Rattle.cedar_values.specs.declared.extensions.ExtensionFunctionLookupError.TheVariants.{Memory};

@@ -207,9 +207,9 @@ impl From<UnlinkedSlotError> for EvaluationError {
 
 impl From<ExtensionFunctionExecutionError> for EvaluationError {
     ghost use Rattle.std.specs.Prelude.{◌≡◌};
-    ghost use Rattle.cedar_values.specs.declared.evaluator.err.EvaluationError.TheVariants.{FailedExtensionFunctionExecution};
+    ghost use Rattle.cedar_values.specs.declared.evaluator.err.EvaluationError.TheVariants as errors;
 
-    ghost from_gives = { λ e r. r ≡ FailedExtensionFunctionExecution e };
+    ghost from_gives = { λ e r. r ≡ errors.FailedExtensionFunctionExecution e };
 
     fn from(e: ExtensionFunctionExecutionError) -> EvaluationError {
         EvaluationError::FailedExtensionFunctionExecution(e)
@@ -238,6 +238,8 @@ impl From<RecursionLimitError> for EvaluationError {
     }
 }
 
+/// Of a look-up that found no function `FailedExtensionFunctionLookup`, and of one that found no memory `Memory` itself:
+/// want of memory is never inside the error of a look-up.
 impl From<ExtensionFunctionLookupError> for EvaluationError {
     ghost use Rattle.std.specs.Prelude.{◌≡◌};
     ghost use Rattle.cedar_values.specs.Errors.{error_of_lookup};
@@ -256,6 +258,7 @@ impl From<ExtensionFunctionLookupError> for EvaluationError {
     }
 }
 
+/// Want of memory is `Memory` itself, never inside the error of a look-up.
 impl From<AllocError> for EvaluationError {
     ghost use Rattle.std.specs.Prelude.{◌≡◌};
     ghost use Rattle.cedar_values.specs.declared.evaluator.err.EvaluationError.TheVariants.{Memory};
@@ -267,6 +270,7 @@ impl From<AllocError> for EvaluationError {
     }
 }
 
+/// Want of memory is `Memory` itself, and what found no room is dropped.
 impl<T: Drop> From<AllocFailed<T>> for EvaluationError {
     ghost use Rattle.std.specs.Prelude.{◌≡◌, alloc_error};
     ghost use Rattle.cedar_values.specs.declared.evaluator.err.EvaluationError.TheVariants.{Memory};

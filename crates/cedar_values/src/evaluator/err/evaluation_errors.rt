@@ -2,7 +2,9 @@
 ghost use Rattle.std.specs.Prelude.{Some, map, flat_map};
 ghost use Rattle.std.specs.Fmt.{WritesOnOk};
 ghost use Rattle.cedar_names.specs.Leaves.{type_view};
-ghost use Rattle.cedar_values.specs.Texts.{type_error_text, expected_text, several_text, other_text};
+ghost use Rattle.cedar_values.specs.Texts.{several_text, other_text};
+ghost use Rattle.cedar_values.specs.TypeTexts.{types_text, wrong_type_text};
+ghost use Rattle.cedar_values.specs.declared.evaluator.err.evaluation_errors.IntegerOverflowError.TheVariants as kinds;
 
 use cedar_data::Value;
 use cedar_expressions::Expr;
@@ -81,9 +83,25 @@ impl Model for EntityAttrDoesNotExistError {
 
     ghost Value = { MissingEntityAttribute };
 
-    ghost view = { λ a. record { entity = a.entity; attr_or_tag = a.attr_or_tag; was_attr = a.was_attr; exists_the_other_kind = a.exists_the_other_kind; available_attrs_or_tags = a.available_attrs_or_tags; total_attrs_or_tags = a.total_attrs_or_tags; source_loc = a.source_loc } };
+    ghost view = { λ a. record {
+      entity = a.entity;
+      attr_or_tag = a.attr_or_tag;
+      was_attr = a.was_attr;
+      exists_the_other_kind = a.exists_the_other_kind;
+      available_attrs_or_tags = a.available_attrs_or_tags;
+      total_attrs_or_tags = a.total_attrs_or_tags;
+      source_loc = a.source_loc;
+    } };
 
-    ghost inverse = { λ a. record { entity = a.entity; attr_or_tag = a.attr_or_tag; was_attr = a.was_attr; exists_the_other_kind = a.exists_the_other_kind; available_attrs_or_tags = a.available_attrs_or_tags; total_attrs_or_tags = a.total_attrs_or_tags; source_loc = a.source_loc } };
+    ghost inverse = { λ a. record {
+      entity = a.entity;
+      attr_or_tag = a.attr_or_tag;
+      was_attr = a.was_attr;
+      exists_the_other_kind = a.exists_the_other_kind;
+      available_attrs_or_tags = a.available_attrs_or_tags;
+      total_attrs_or_tags = a.total_attrs_or_tags;
+      source_loc = a.source_loc;
+    } };
 }
 
 fn attr_or_tag_word(was_attr: bool) -> &'static str {
@@ -120,9 +138,19 @@ impl Model for RecordAttrDoesNotExistError {
 
     ghost Value = { MissingRecordAttribute };
 
-    ghost view = { λ a. record { attr = a.attr; available_attrs = a.available_attrs; total_attrs = a.total_attrs; source_loc = a.source_loc } };
+    ghost view = { λ a. record {
+      attr = a.attr;
+      available_attrs = a.available_attrs;
+      total_attrs = a.total_attrs;
+      source_loc = a.source_loc;
+    } };
 
-    ghost inverse = { λ a. record { attr = a.attr; available_attrs = a.available_attrs; total_attrs = a.total_attrs; source_loc = a.source_loc } };
+    ghost inverse = { λ a. record {
+      attr = a.attr;
+      available_attrs = a.available_attrs;
+      total_attrs = a.total_attrs;
+      source_loc = a.source_loc;
+    } };
 }
 
 /// A value was of another type than its place takes.
@@ -160,7 +188,7 @@ impl std::error::Error for TypeError {}
 
 /// `type error: expected T, got U`, and `type error: expected one of [S, T], got U` where the place takes several types.
 impl fmt::Display for TypeError {
-    ghost output = { λ e. Some (type_error_text (type_view e.expected.first) (map type_view e.expected.rest.items) (type_view e.actual)) };
+    ghost output = { λ e. Some (wrong_type_text e.expected e.actual) };
 
     fn fmt<W: fmt::Write>(&self, f: &mut fmt::Formatter<W>) -> fmt::Result {
         f.write_str("type error: expected ")?;
@@ -174,7 +202,7 @@ fn write_expected<W: fmt::Write>(
     expected: &FirstRest<Type>,
     f: &mut fmt::Formatter<W>,
 ) -> fmt::Result
-    ensures { WritesOnOk W.write_str_gives f.old result (expected_text (type_view expected.now.first) (map type_view expected.now.rest.items)) f.new }
+    ensures { WritesOnOk W.write_str_gives f.old result (types_text expected.now) f.new }
 {
     if expected.rest.is_empty() {
         expected.first.fmt(f)
@@ -188,7 +216,8 @@ fn write_several<W: fmt::Write>(
     others: &[Type],
     f: &mut fmt::Formatter<W>,
 ) -> fmt::Result
-    ensures { WritesOnOk W.write_str_gives f.old result (several_text (type_view first.now) (map type_view others.now)) f.new }
+    ensures { WritesOnOk W.write_str_gives f.old result
+        (several_text (type_view first.now) (map type_view others.now)) f.new }
 {
     f.write_str("one of [")?;
     first.fmt(f)?;
@@ -242,9 +271,19 @@ impl Model for WrongNumArgumentsError {
 
     ghost Value = { MiscountedArguments };
 
-    ghost view = { λ a. record { function_name = a.function_name; expected = a.expected; actual = a.actual; source_loc = a.source_loc } };
+    ghost view = { λ a. record {
+      function_name = a.function_name;
+      expected = a.expected;
+      actual = a.actual;
+      source_loc = a.source_loc;
+    } };
 
-    ghost inverse = { λ a. record { function_name = a.function_name; expected = a.expected; actual = a.actual; source_loc = a.source_loc } };
+    ghost inverse = { λ a. record {
+      function_name = a.function_name;
+      expected = a.expected;
+      actual = a.actual;
+      source_loc = a.source_loc;
+    } };
 }
 
 /// An operator on two longs gave a number that needs more than 64 bits.
@@ -452,9 +491,8 @@ pub enum IntegerOverflowError {
 
 impl From<BinaryOpOverflowError> for IntegerOverflowError {
     ghost use Rattle.std.specs.Prelude.{◌≡◌};
-    ghost use Rattle.cedar_values.specs.declared.evaluator.err.evaluation_errors.IntegerOverflowError.TheVariants.{BinaryOp};
 
-    ghost from_gives = { λ e r. r ≡ BinaryOp e };
+    ghost from_gives = { λ e r. r ≡ kinds.BinaryOp e };
 
     fn from(e: BinaryOpOverflowError) -> IntegerOverflowError {
         IntegerOverflowError::BinaryOp(e)
@@ -463,9 +501,8 @@ impl From<BinaryOpOverflowError> for IntegerOverflowError {
 
 impl From<UnaryOpOverflowError> for IntegerOverflowError {
     ghost use Rattle.std.specs.Prelude.{◌≡◌};
-    ghost use Rattle.cedar_values.specs.declared.evaluator.err.evaluation_errors.IntegerOverflowError.TheVariants.{UnaryOp};
 
-    ghost from_gives = { λ e r. r ≡ UnaryOp e };
+    ghost from_gives = { λ e r. r ≡ kinds.UnaryOp e };
 
     fn from(e: UnaryOpOverflowError) -> IntegerOverflowError {
         IntegerOverflowError::UnaryOp(e)
