@@ -80,10 +80,13 @@ impl<'e, 'f> Evaluator<'e, 'f> {
         }
         let below = self.limit - 1;
         match self.told_scope(alloc, scope, below) {
-            Some(true) => {
-                let loc: Option<Loc> = condition.source_loc().copied();
-                self.decide_by_clause(alloc, clause, slots, below, loc)
-            }
+            Some(true) => self.decide_by_clause(
+                alloc,
+                clause,
+                slots,
+                below,
+                condition.source_loc().copied(),
+            ),
             Some(false) => Ok(Left(false)),
             None => self.decide_whole(alloc, condition, slots),
         }

@@ -30,4 +30,4 @@ returns-in-Some-false-clause-decides g c ok =
 
 pub returns-in-Some-true-clause-place : goal.returns-in-Some-true-clause-place
 returns-in-Some-true-clause-place g c =
-    subst (λ l. IfLeaves c.decide_by_clause.result (λ e. expr_loc e ≡ l)) (c.copied-loc.ensures ∙ c.source_loc-loc.ensures) c.decide_by_clause.ensures.place
+    subst (λ l. IfLeaves c.decide_by_clause.result (λ e. expr_loc e ≡ l)) (c.copied.ensures ∙ c.source_loc.ensures) c.decide_by_clause.ensures.place
