@@ -4,7 +4,7 @@
 //!   stands, where each element of a set does, and the error's text; with no limit as many levels as it needs), `partial LIMIT`,
 //!   `partial-place LIMIT` and `residual LIMIT` (what it partly evaluates to, where that stands, and the words of what is left of it);
 //! - of the words of values and then an operator: `operator PLACE`; of the words of an error: `built-error PLACE`;
-//! - of the setting: `request` and `entity`;
+//! - of the setting: `request` and `entity`, and `extensions` (their names, the types that their functions make, and those that they overload);
 //! - of a number: `negations LIMIT`, what `true` evaluates to under so many.
 //!
 //! Questions on what words write alone are those of `written`.
@@ -36,6 +36,7 @@ pub fn ask(
         "built-error" => operated::ask_error(answer, argument, words),
         "request" => stored::ask_request(answer, &setting.request, words),
         "entity" => stored::ask_entity(answer, &setting.entities, words),
+        "extensions" => stored::ask_extensions(answer, setting.extensions),
         "negations" => deep::ask(answer, setting, argument, words),
         "value" | "place" | "elements" | "error" => {
             evaluated::ask(answer, setting, kind, argument, words)

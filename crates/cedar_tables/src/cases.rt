@@ -16,6 +16,28 @@ use std::rt::Files;
 /// The request of a case that has no other.
 const REQUEST: &str = "principal User:a\naction Action:view\nresource Photo:p";
 
+/// The answer of a row that holds where memory is wanting.
+const WANT_OF_MEMORY: &str = "want of memory";
+
+/// Lines of a file, and the number of the first of them.
+#[derive(Clone, Copy)]
+pub struct Lines<'a> {
+    pub file: &'a str,
+    pub number: usize,
+    pub text: &'a str,
+}
+
+impl<'a> Lines<'a> {
+    // The text that stands so many lines further.
+    fn further(self, count: usize, text: &'a str) -> Lines<'a> {
+        Lines {
+            file: self.file,
+            number: self.number.saturating_add(count),
+            text,
+        }
+    }
+}
+
 /// How many rows there are, and how many of them hold.
 #[derive(Clone, Copy)]
 pub struct Tally {
@@ -50,10 +72,15 @@ impl Tally {
     }
 }
 
-/// Whether all rows of the file hold. Prints those that do not, and how many do.
+/// Whether all rows of the file hold. Prints those that do not, each with its file and line, and how many do.
 pub fn file_holds<R: Files + AllocGlobal + Print>(rt: &R, file: &str) -> Result<bool, Unanswered> {
     let text = fs::read_to_string(rt, file)?;
-    let tally = tally_of_cases(rt, text.as_str())?;
+    let whole = Lines {
+        file,
+        number: 1,
+        text: text.as_str(),
+    };
+    let tally = tally_of_cases(rt, whole)?;
     let (held, rows) = (tally.held, tally.rows);
     println!(rt; "{file}: {held} of {rows} rows hold")?;
     Ok(held == rows)
@@ -61,19 +88,37 @@ pub fn file_holds<R: Files + AllocGlobal + Print>(rt: &R, file: &str) -> Result<
 
 fn tally_of_cases<R: Files + AllocGlobal + Print>(
     rt: &R,
-    cases: &str,
+    cases: Lines<'_>,
 ) -> Result<Tally, Unanswered> {
     let mut tally = Tally::none();
-    for case in cases.split("\ncase\n") {
-        tally = tally.and(tally_of_case(rt, case)?);
+    let mut before: usize = 0;
+    for case in cases.text.split("\ncase\n") {
+        tally = tally.and(tally_of_case(rt, cases.further(before, case))?);
+        before = before.saturating_add(line_count(case)).saturating_add(1);
     }
     Ok(tally)
 }
 
-fn tally_of_case<R: Files + AllocGlobal + Print>(rt: &R, case: &str) -> Result<Tally, Unanswered> {
-    let (facts, rows) = case.split_once("\nrows\n").ok_or("a case without rows")?;
+fn tally_of_case<R: Files + AllocGlobal + Print>(
+    rt: &R,
+    case: Lines<'_>,
+) -> Result<Tally, Unanswered> {
+    let (facts, rows) = case
+        .text
+        .split_once("\nrows\n")
+        .ok_or("a case without rows")?;
+    let rows = case.further(line_count(facts).saturating_add(1), rows);
     let facts = all_facts(rt, facts)?;
     tally(rt, rt.alloc(), facts.as_str(), rows)
+}
+
+// How many lines the text has, where no line is ended behind the last.
+fn line_count(text: &str) -> usize {
+    let mut count: usize = 0;
+    for _ in text.split('\n') {
+        count = count.saturating_add(1);
+    }
+    count
 }
 
 // The facts, those of the file that they name, and a request where neither has one.
@@ -93,37 +138,47 @@ pub fn tally_of_rows(
     alloc: Global,
     facts: &str,
     setting: &Setting<'_, '_>,
-    rows: &str,
+    rows: Lines<'_>,
 ) -> Result<Tally, Unanswered> {
     let mut question = RcStr::from_str(alloc, "value")?;
     let mut tally = Tally::none();
-    for line in rows.lines() {
+    let mut before: usize = 0;
+    for line in rows.text.lines() {
         if let Some(asked) = fact(line, "ask") {
             question = RcStr::from_str(alloc, asked)?;
         } else if !line.is_empty() && !line.starts_with('#') {
-            let holds = row_holds(rt, alloc, facts, setting, question.as_str(), line)?;
+            let row = rows.further(before, line);
+            let holds = row_holds(rt, alloc, facts, setting, question.as_str(), row)?;
             tally = tally.with(holds);
         }
+        before = before.saturating_add(1);
     }
     Ok(tally)
 }
 
-// Whether the row has the answer that is wanted. Prints it if not. Want of memory is no answer.
+// Whether the row has the answer that is wanted. Prints it if not. Want of memory is no answer, but to the row that wants it.
 fn row_holds(
     rt: &impl Print,
     alloc: Global,
     facts: &str,
     setting: &Setting<'_, '_>,
     question: &str,
-    row: &str,
+    row: Lines<'_>,
 ) -> Result<bool, Unanswered> {
-    let (words, want) = row.split_once(" => ").ok_or("a row without an answer")?;
+    let (words, want) = row
+        .text
+        .split_once(" => ")
+        .ok_or("a row without an answer")?;
     let mut answer = Answer::new(alloc);
     ask(&mut answer, facts, setting, question, words, want);
     match answer.finish() {
-        Ok(answer) => is_wanted(rt, question, words, answer.as_str(), want),
-        Err(Unanswered::Unreadable(reason)) => is_wanted(rt, question, words, reason, want),
-        Err(Unanswered::Memory) => Err(Unanswered::Memory),
+        Ok(answer) => is_wanted(rt, question, row, answer.as_str(), want),
+        Err(Unanswered::Unreadable(reason)) => is_wanted(rt, question, row, reason, want),
+        Err(Unanswered::Memory) => if want == WANT_OF_MEMORY {
+            Ok(true)
+        } else {
+            Err(Unanswered::Memory)
+        },
         Err(Unanswered::InputOrOutput) => Err(Unanswered::InputOrOutput),
     }
 }
@@ -131,13 +186,14 @@ fn row_holds(
 fn is_wanted(
     rt: &impl Print,
     question: &str,
-    words: &str,
+    row: Lines<'_>,
     answer: &str,
     want: &str,
 ) -> Result<bool, Unanswered> {
     let holds = answer == want;
     if !holds {
-        println!(rt; "{question}: {words} => {answer}, not {want}")?;
+        let (file, number, row) = (row.file, row.number, row.text);
+        println!(rt; "{file}:{number}: {question}: {row}\n    is answered {answer}")?;
     }
     Ok(holds)
 }

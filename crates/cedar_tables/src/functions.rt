@@ -4,7 +4,7 @@ ghost use Rattle.std.specs.Prelude.{◌≡◌, true};
 ghost use Rattle.cedar_extensions.specs.Outcomes.{ComesTo, is_lawful, abstracts};
 ghost use Rattle.cedar_built_in_rows.specs.Stored.{even_of, fail_of, ask_of, made_of};
 
-use crate::cases::{Tally, tally_of_rows};
+use crate::cases::{Lines, Tally, tally_of_rows};
 use crate::notation::settings::setting_of;
 use crate::notation::unanswered::{Noted, Unanswered};
 use crate::notation::{add, both, fact, first_fact, or_memory};
@@ -18,7 +18,12 @@ use cedar_values::evaluator::err::EvaluationError;
 use std::alloc::{AllocError, Global};
 
 /// How many of these rows hold in the setting of these facts. Prints those that do not.
-pub fn tally(rt: &impl Print, alloc: Global, facts: &str, rows: &str) -> Result<Tally, Unanswered> {
+pub fn tally(
+    rt: &impl Print,
+    alloc: Global,
+    facts: &str,
+    rows: Lines<'_>,
+) -> Result<Tally, Unanswered> {
     if is_named(names_in(facts), "one") {
         tally_with_makers(rt, alloc, facts, rows)
     } else {
@@ -39,7 +44,7 @@ fn tally_with_others(
     rt: &impl Print,
     alloc: Global,
     facts: &str,
-    rows: &str,
+    rows: Lines<'_>,
 ) -> Result<Tally, Unanswered> {
     let even: ExtensionFunctionObject = Box::new(
         alloc,
@@ -81,7 +86,7 @@ fn tally_with_makers(
     rt: &impl Print,
     alloc: Global,
     facts: &str,
-    rows: &str,
+    rows: Lines<'_>,
 ) -> Result<Tally, Unanswered> {
     let one: ExtensionFunctionObject = Box::new(
         alloc,
@@ -160,7 +165,7 @@ fn tally_with(
     rt: &impl Print,
     alloc: Global,
     facts: &str,
-    rows: &str,
+    rows: Lines<'_>,
     functions: Vec<ExtensionFunction>,
 ) -> Result<Tally, Unanswered> {
     let (functions, (unknown, (title, types))) = both(
@@ -196,7 +201,7 @@ fn tally_in(
     rt: &impl Print,
     alloc: Global,
     facts: &str,
-    rows: &str,
+    rows: Lines<'_>,
     all: &[Extension],
 ) -> Result<Tally, Unanswered> {
     match Extensions::specific_extensions(alloc, all) {

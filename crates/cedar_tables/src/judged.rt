@@ -68,6 +68,10 @@ fn put_decided(answer: &mut Answer, kind: &str, response: &Response) {
             put_decision(answer, response);
             put_texts(answer, &response.diagnostics.errors);
         }
+        "decide-extensions" => {
+            put_decision(answer, response);
+            put_extensions(answer, &response.diagnostics.errors);
+        }
         _ => put_is_copied(answer, response),
     }
 }
@@ -116,6 +120,22 @@ fn put_texts(answer: &mut Answer, errors: &[AuthorizationError]) {
     for error in errors {
         answer.next("; ");
         answer.show_made(error.clone());
+    }
+    answer.put("]");
+}
+
+// ` [extensions]`: behind each policy that erred the extension of which a function failed, if one did.
+fn put_extensions(answer: &mut Answer, errors: &[AuthorizationError]) {
+    answer.put(" [");
+    answer.begin();
+    for error in errors {
+        let AuthorizationError::PolicyEvaluationError { id, error } = error;
+        answer.next("; ");
+        answer.show(id);
+        if let EvaluationError::FailedExtensionFunctionExecution(error) = error {
+            answer.put(" ");
+            answer.show(error.extension_name());
+        }
     }
     answer.put("]");
 }
@@ -208,7 +228,7 @@ fn put_set(answer: &mut Answer, kind: &str, policies: Vec<Policy>) {
             drop(set);
         }
         Err(error) => {
-            answer.show(&error);
+            answer.show_refusal(&error);
             drop(error);
         }
     }

@@ -6,6 +6,7 @@ mod answers;
 mod cases;
 mod functions;
 mod judged;
+mod levels;
 mod notation;
 mod program;
 mod questions;

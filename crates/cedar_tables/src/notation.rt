@@ -8,6 +8,7 @@ pub mod errors;
 pub mod expressions;
 pub mod leaves;
 pub mod policies;
+pub mod refusals;
 pub mod settings;
 pub mod shown;
 pub mod unanswered;

@@ -1,18 +1,21 @@
 //! What is known of policies, and what becomes of that in steps.
 use crate::answers::described::kind;
 use crate::judged::{put_decision, put_named};
+use crate::levels::{Asked, Met, answer_within, met_in};
 use crate::notation::answer::Answer;
 use crate::notation::policies::{policy_id, policy_set};
 use crate::notation::settings::Setting;
 use crate::notation::shown::is_equal;
 use crate::notation::unanswered::Unanswered;
-use crate::notation::{both, headed};
+use crate::notation::{add, both, headed};
 use crate::steps::{Step, mapping, sheet, steps};
 use cedar_authorizer::authorizer::{
     AuthorizationError, Authorizer, ConcretizationError, Decision, PartialResponse,
     ReauthorizationError, Reauthorize, ReportedIds, ReportedPolicies, Response,
 };
 use cedar_built_in_rows::lines::decision_text;
+use cedar_evaluator::evaluator::EvaluationError;
+use cedar_extensions::Extensions;
 use cedar_layers::expressions::Value;
 use cedar_layers::policies::{Entities, Policy, PolicyID, PolicySet};
 use cedar_requests::{Context, Request};
@@ -86,17 +89,28 @@ fn of_policies(
     facts: &str,
     setting: &Setting<'_, '_>,
     question: &str,
-    limit_text: &str,
+    argument: &str,
     ids: &str,
     steps: &[Step],
 ) {
+    let (asked, limit_text) = asked_and_limit(argument);
     let limit = answer.limit(limit_text);
     match policy_set(answer.alloc, facts, ids) {
         Ok(policies) => {
-            put_chained(answer, setting, question, limit, &policies, steps);
+            put_chained(answer, setting, question, asked, limit, &policies, steps);
             drop(policies);
         }
         Err(why) => answer.fail(why),
+    }
+}
+
+// What is asked of the response, if something else than what is known, and the limit, if it is written.
+fn asked_and_limit(argument: &str) -> (&str, &str) {
+    match headed(argument) {
+        ("get", _) => (argument, ""),
+        ("request", _) => (argument, ""),
+        ("readers", _) => (argument, ""),
+        (_, _) => ("", argument),
     }
 }
 
@@ -104,18 +118,19 @@ fn put_chained(
     answer: &mut Answer,
     setting: &Setting<'_, '_>,
     question: &str,
+    asked: &str,
     limit: usize,
     policies: &PolicySet,
     steps: &[Step],
 ) {
     match question {
-        "in-steps" => put_in_steps(answer, setting, limit, policies, steps),
-        "one-by-one" => put_one_by_one(answer, setting, limit, policies, steps),
+        "in-steps" => put_in_steps(answer, setting, asked, limit, policies, steps),
+        "one-by-one" => put_one_by_one(answer, setting, asked, limit, policies, steps),
         _ => {
             let mut text = Answer::new(answer.alloc);
-            put_in_steps(&mut text, setting, limit, policies, steps);
+            put_in_steps(&mut text, setting, asked, limit, policies, steps);
             let mut other = Answer::new(answer.alloc);
-            put_one_by_one(&mut other, setting, limit, policies, steps);
+            put_one_by_one(&mut other, setting, asked, limit, policies, steps);
             put_alike(answer, text.finish(), other.finish());
         }
     }
@@ -124,24 +139,26 @@ fn put_chained(
 fn put_in_steps(
     answer: &mut Answer,
     setting: &Setting<'_, '_>,
+    asked: &str,
     limit: usize,
     policies: &PolicySet,
     steps: &[Step],
 ) {
     let outcome = in_steps(answer.alloc, setting, limit, policies, steps);
-    put_answered(answer, "", &outcome);
+    put_answered(answer, asked, &outcome);
     drop(outcome);
 }
 
 fn put_one_by_one(
     answer: &mut Answer,
     setting: &Setting<'_, '_>,
+    asked: &str,
     limit: usize,
     policies: &PolicySet,
     steps: &[Step],
 ) {
     let outcome = from_core(answer.alloc, setting, limit, policies, steps);
-    put_answered(answer, "", &outcome);
+    put_answered(answer, asked, &outcome);
     drop(outcome);
 }
 
@@ -170,20 +187,22 @@ fn in_steps(
     policies: &PolicySet,
     steps: &[Step],
 ) -> Result<PartialResponse, ReauthorizationError> {
-    match steps {
-        [] => after(alloc, setting, limit, policies, &[]),
-        [step] => {
-            let steps = [(&step.map, &step.entities)];
-            after(alloc, setting, limit, policies, &steps)
-        }
-        [first, second, ..] => {
-            let steps = [
-                (&first.map, &first.entities),
-                (&second.map, &second.entities),
-            ];
-            after(alloc, setting, limit, policies, &steps)
-        }
+    match lent(alloc, steps) {
+        Ok(steps) => after(alloc, setting, limit, policies, steps.as_slice()),
+        Err(error) => Err(ReauthorizationError::Memory(error)),
     }
+}
+
+// The maps and the stores of these steps.
+fn lent(
+    alloc: Global,
+    steps: &[Step],
+) -> Result<Vec<(&HashMap<RcStr, Value>, &Entities)>, AllocError> {
+    let mut all: Vec<(&HashMap<RcStr, Value>, &Entities)> = Vec::new(alloc);
+    for step in steps {
+        add(&mut all, (&step.map, &step.entities))?;
+    }
+    Ok(all)
 }
 
 // What is known after these steps.
@@ -229,13 +248,24 @@ fn one_by_one(
     first: PartialResponse,
     steps: &[Step],
 ) -> Result<PartialResponse, ReauthorizationError> {
-    match steps {
-        [] => Ok(first),
-        [step] => taken(alloc, setting, limit, first, step),
-        [step, next, ..] => {
-            let response = taken(alloc, setting, limit, first, step)?;
-            taken(alloc, setting, limit, response, next)
-        }
+    let mut outcome: Result<PartialResponse, ReauthorizationError> = Ok(first);
+    for step in steps {
+        outcome = further(alloc, setting, limit, outcome, step);
+    }
+    outcome
+}
+
+// What is known after this step, where none before it was refused.
+fn further(
+    alloc: Global,
+    setting: &Setting<'_, '_>,
+    limit: usize,
+    outcome: Result<PartialResponse, ReauthorizationError>,
+    step: &Step,
+) -> Result<PartialResponse, ReauthorizationError> {
+    match outcome {
+        Ok(response) => taken(alloc, setting, limit, response, step),
+        Err(error) => Err(error),
     }
 }
 
@@ -302,7 +332,7 @@ fn put_answered(
         Err(error) => {
             answer.put(refusal(error));
             answer.put(": ");
-            answer.show(error);
+            answer.show_refusal(error);
         }
     }
 }
@@ -311,6 +341,7 @@ fn put_asked(answer: &mut Answer, asked: &str, response: &PartialResponse) {
     match headed(asked) {
         ("get", id) => put_got(answer, response, id),
         ("readers", _) => put_readers(answer, response),
+        ("request", _) => answer.show(response.request.as_ref()),
         (_, _) => {
             put_concrete(answer, response);
             put_known(answer, response);
@@ -485,9 +516,8 @@ fn put_policy(answer: &mut Answer, policy: &Policy) {
 
 /// The context of the setting with these values for unknowns, or the error that it evaluates to.
 pub fn ask_context(answer: &mut Answer, setting: &Setting<'_, '_>, limit_text: &str, values: &str) {
-    let limit = answer.limit(limit_text);
     match setting.request.context() {
-        Some(context) => put_context_with(answer, setting, limit, context, values),
+        Some(context) => put_context_with(answer, setting, limit_text, context, values),
         None => answer.refuse("no context"),
     }
 }
@@ -495,31 +525,62 @@ pub fn ask_context(answer: &mut Answer, setting: &Setting<'_, '_>, limit_text: &
 fn put_context_with(
     answer: &mut Answer,
     setting: &Setting<'_, '_>,
-    limit: usize,
+    limit_text: &str,
     context: &Context,
     values: &str,
 ) {
     match mapping(answer.alloc, values) {
         Ok(map) => {
-            put_substituted(answer, setting, limit, context, &map);
+            let asked = Substituted {
+                extensions: setting.extensions,
+                context,
+                map: &map,
+            };
+            answer_within(answer, &asked, limit_text);
             drop(map);
         }
         Err(why) => answer.fail(why),
     }
 }
 
-fn put_substituted(
-    answer: &mut Answer,
-    setting: &Setting<'_, '_>,
-    limit: usize,
-    context: &Context,
-    map: &HashMap<RcStr, Value>,
-) {
-    match context.clone() {
-        Ok(copy) => {
-            let made = copy.substitute(answer.alloc, map, setting.extensions, limit);
-            answer.tell(made);
+/// A context with these values for unknowns.
+#[derive(Clone, Copy)]
+struct Substituted<'a, 'f> {
+    extensions: &'a Extensions<'f>,
+    context: &'a Context,
+    map: &'a HashMap<RcStr, Value>,
+}
+
+impl Asked for Substituted<'_, '_> {
+    type Outcome = Result<Context, EvaluationError>;
+
+    fn outcome(&self, alloc: Global, limit: usize) -> Result<Context, EvaluationError> {
+        match self.context.clone() {
+            Ok(copy) => copy.substitute(alloc, self.map, self.extensions, limit),
+            Err(error) => Err(EvaluationError::Memory(error)),
         }
-        Err(_) => answer.lack_memory(),
+    }
+
+    fn met(&self, outcome: &Result<Context, EvaluationError>) -> Met {
+        met_in(outcome)
+    }
+
+    fn are_equal(
+        &self,
+        left: &Result<Context, EvaluationError>,
+        right: &Result<Context, EvaluationError>,
+    ) -> bool {
+        match (left, right) {
+            (Ok(left), Ok(right)) => *left == *right,
+            (Err(left), Err(right)) => *left == *right,
+            (_, _) => false,
+        }
+    }
+
+    fn put(&self, answer: &mut Answer, outcome: &Result<Context, EvaluationError>) {
+        match outcome {
+            Ok(context) => answer.show(context),
+            Err(error) => answer.show_refusal(error),
+        }
     }
 }

@@ -1,6 +1,6 @@
 //! Reads the steps that a response is taken further by, and what a response is made of.
 //!
-//! - `x L:1, y B:true` is a step with these values for unknowns, and `none` one with no value. Steps have ` / ` between them, at most two.
+//! - `x L:1, y B:true` is a step with these values for unknowns, and `none` one with no value. Steps have ` / ` between them.
 //! - `then x L:1` is a step over the second store, of which each fact stands behind `then` in the setting.
 //! - `permit a true, permit b=note error, forbid c U:x` is what a response is made of: `a` is satisfied, `b` erred and has the annotation `note`, and
 //!   `c` has these words left.
@@ -33,16 +33,7 @@ pub fn steps(alloc: Global, facts: &str, written: &str) -> Result<Vec<Step>, Una
             put_step(alloc, facts, step, &mut steps);
         }
     }
-    at_most_two(steps.all()?)
-}
-
-fn at_most_two(steps: Vec<Step>) -> Result<Vec<Step>, Unanswered> {
-    if steps.len() > 2 {
-        drop(steps);
-        Err(Unanswered::Unreadable("more than two steps"))
-    } else {
-        Ok(steps)
-    }
+    steps.all()
 }
 
 fn put_step(alloc: Global, facts: &str, written: &str, steps: &mut Parts<Step>) {

@@ -3,16 +3,16 @@
 //!
 //! - of the words of an expression: `text`, `cut BOUND` (`all` for no bound), `copy`, `shape`, and `substitute x WORDS`, which is answered by the
 //!   words of an expression;
-//! - of the words of a value: `value-text`, `value-cut BOUND`, `value-expression`, `value-type`, `value-copy`, `value-elements`, `part-text`,
+//! - of the words of a value: `value-text`, `value-cut BOUND`, `value-expression`, `value-type`, `value-copy`, `value-elements`, `value-kind`, `part-text`,
 //!   `part-cut BOUND`, `part-copy` and `part-expression`;
-//! - of two expressions with ` ~ ` between them: `equal`; of the keys of a record: `keys`; of two values: `order`; of a leaf: `leaf`;
+//! - of two expressions with ` ~ ` between them: `equal` and `alike` (shapes and hashes); of the keys of a record: `keys`; of two values: `order` and `hashes`; of a leaf: `leaf`;
 //! - of the words of a restricted expression: `restricted value LIMIT` and `restricted place LIMIT` (what it partly evaluates to, and where that stands),
 //!   `restricted wholly LIMIT`, `restricted type`, `restricted read`, and `restricted shape` of two with ` ~ ` between them; of the words of any
 //!   expression: `restricted text`, `restricted borrowed` and `restricted refused` (the feature and the part that may not stand there); of those of a
-//!   residual: `restricted residual` and `restricted residual-text`; of keys: `restricted pairs`;
+//!   residual: `restricted residual` (with `refused` before the part that is refused) and `restricted residual-text`; of keys: `restricted pairs`;
 //! - of a name and a type: `together`, whether a function of that name that takes that type can be used beside the function `make`, which takes a
-//!   text; of keys: `collected`, how many pairs they make;
-//! - of the pairs of a context: `context pairs LIMIT`, `context record LIMIT` and `context converted LIMIT`; of words: `context expression LIMIT`.
+//!   text, and `together in-one` the same in one extension; of keys: `collected`, how many pairs they make;
+//! - of the pairs of a context: `context pairs LIMIT`, `context record LIMIT`, `context converted LIMIT` and `context residual LIMIT`; of words: `context expression LIMIT`.
 
 pub mod contexts;
 pub mod expressions;
@@ -45,7 +45,7 @@ pub fn ask(
         }
         "substitute" => expressions::ask_substituted(answer, argument, words, want),
         "leaf" => leaves::ask(answer, words),
-        "together" => together::ask(answer, words),
+        "together" => together::ask(answer, argument, words),
         "collected" => together::ask_collected(answer, words),
         _ => if kind.starts_with("value-") {
             values::ask(answer, kind, argument, words);

@@ -1,5 +1,5 @@
 //! An expression that is deeper than the machine's stack would allow.
-use crate::answers::evaluated::of_expression;
+use crate::answers::evaluated::put_value_within;
 use crate::notation::add;
 use crate::notation::answer::Answer;
 use crate::notation::settings::Setting;
@@ -21,7 +21,7 @@ pub fn ask(answer: &mut Answer, setting: &Setting<'_, '_>, limit_text: &str, cou
 fn of_last(answer: &mut Answer, setting: &Setting<'_, '_>, limit: usize, negations: Vec<Expr>) {
     let mut negations = negations;
     match negations.last() {
-        Some(expr) => of_expression(answer, setting, "value", limit, expr),
+        Some(expr) => put_value_within(answer, setting, limit, expr),
         None => answer.refuse("no negation"),
     }
     for _ in 0..negations.len() {

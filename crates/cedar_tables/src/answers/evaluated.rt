@@ -1,16 +1,45 @@
 //! What an expression evaluates to in the setting.
 use crate::answers::described::describe;
+use crate::levels::{Asked, Met, answer_within, met_in, put_within};
 use crate::notation::answer::Answer;
 use crate::notation::expressions::expression;
 use crate::notation::settings::Setting;
-use crate::notation::shown::{LIMIT, Place, put_error_place, put_wanted};
-use crate::notation::unanswered::Unanswered;
+use crate::notation::shown::{Place, put_error_place, put_wanted};
 use cedar_evaluator::evaluator::{EvaluationError, Evaluator};
 use cedar_layers::expressions::{Expr, PartialValue, Value, ValueKind};
 use std::alloc::Global;
 
-/// Many more.
-const MANY: usize = 2000;
+/// What an expression evaluates to.
+#[derive(Clone, Copy)]
+struct Wholly<'a, 'e, 'f> {
+    setting: &'a Setting<'e, 'f>,
+    kind: &'a str,
+    expr: &'a Expr,
+}
+
+impl Asked for Wholly<'_, '_, '_> {
+    type Outcome = Result<Value, EvaluationError>;
+
+    fn outcome(&self, alloc: Global, limit: usize) -> Result<Value, EvaluationError> {
+        outcome(alloc, self.setting, limit, self.expr)
+    }
+
+    fn met(&self, outcome: &Result<Value, EvaluationError>) -> Met {
+        met_in(outcome)
+    }
+
+    fn are_equal(
+        &self,
+        left: &Result<Value, EvaluationError>,
+        right: &Result<Value, EvaluationError>,
+    ) -> bool {
+        *left == *right
+    }
+
+    fn put(&self, answer: &mut Answer, outcome: &Result<Value, EvaluationError>) {
+        put_asked(answer, self.kind, outcome);
+    }
+}
 
 /// What the expression evaluates to: its value or its error, the place of either, or the error's own text.
 pub fn ask(
@@ -20,24 +49,27 @@ pub fn ask(
     limit_text: &str,
     words: &str,
 ) {
-    let limit = answer.limit(limit_text);
     match expression(answer.alloc, words) {
-        Ok(expr) => of_expression(answer, setting, kind, limit, &expr),
+        Ok(expr) => {
+            let asked = Wholly {
+                setting,
+                kind,
+                expr: &expr,
+            };
+            answer_within(answer, &asked, limit_text);
+        }
         Err(why) => answer.fail(why),
     }
 }
 
-/// The same of an expression that is made.
-pub fn of_expression(
-    answer: &mut Answer,
-    setting: &Setting<'_, '_>,
-    kind: &str,
-    limit: usize,
-    expr: &Expr,
-) {
-    let outcome = outcome(answer.alloc, setting, limit, expr);
-    put_asked(answer, kind, &outcome);
-    drop(outcome);
+/// The value or the error within so many levels of an expression that is made.
+pub fn put_value_within(answer: &mut Answer, setting: &Setting<'_, '_>, limit: usize, expr: &Expr) {
+    let asked = Wholly {
+        setting,
+        kind: "value",
+        expr,
+    };
+    put_within(answer, &asked, limit);
 }
 
 fn put_asked(answer: &mut Answer, kind: &str, outcome: &Result<Value, EvaluationError>) {
@@ -125,12 +157,44 @@ fn put_element(answer: &mut Answer, element: &Value) {
 fn put_error(answer: &mut Answer, outcome: &Result<Value, EvaluationError>) {
     match outcome {
         Ok(_) => answer.put("no error"),
-        Err(error) => answer.show(error),
+        Err(error) => answer.show_refusal(error),
+    }
+}
+
+/// What an expression partly evaluates to.
+#[derive(Clone, Copy)]
+struct Partly<'a, 'e, 'f> {
+    setting: &'a Setting<'e, 'f>,
+    kind: &'a str,
+    expr: &'a Expr,
+    want: &'a str,
+}
+
+impl Asked for Partly<'_, '_, '_> {
+    type Outcome = Result<PartialValue, EvaluationError>;
+
+    fn outcome(&self, alloc: Global, limit: usize) -> Result<PartialValue, EvaluationError> {
+        partial_outcome(alloc, self.setting, limit, self.expr)
+    }
+
+    fn met(&self, outcome: &Result<PartialValue, EvaluationError>) -> Met {
+        met_in(outcome)
+    }
+
+    fn are_equal(
+        &self,
+        left: &Result<PartialValue, EvaluationError>,
+        right: &Result<PartialValue, EvaluationError>,
+    ) -> bool {
+        *left == *right
+    }
+
+    fn put(&self, answer: &mut Answer, outcome: &Result<PartialValue, EvaluationError>) {
+        put_partly(answer, self.kind, outcome, self.want);
     }
 }
 
 /// What the expression partly evaluates to: its text, or its place, or the words that are wanted, where they write what is left of it.
-/// With no limit it is answered within the fewest levels that do not meet the limit, and must be so within many.
 pub fn ask_partly(
     answer: &mut Answer,
     setting: &Setting<'_, '_>,
@@ -140,107 +204,16 @@ pub fn ask_partly(
     want: &str,
 ) {
     match expression(answer.alloc, words) {
-        Ok(expr) => partly_of(answer, setting, kind, limit_text, &expr, want),
+        Ok(expr) => {
+            let asked = Partly {
+                setting,
+                kind,
+                expr: &expr,
+                want,
+            };
+            answer_within(answer, &asked, limit_text);
+        }
         Err(why) => answer.fail(why),
-    }
-}
-
-fn partly_of(
-    answer: &mut Answer,
-    setting: &Setting<'_, '_>,
-    kind: &str,
-    limit_text: &str,
-    expr: &Expr,
-    want: &str,
-) {
-    if limit_text.is_empty() {
-        match fewest_levels(answer.alloc, setting, expr) {
-            Ok(limit) => by_fewest(answer, setting, kind, limit, expr, want),
-            Err(why) => answer.fail(why),
-        }
-    } else {
-        let limit = answer.limit(limit_text);
-        let outcome = partial_outcome(answer.alloc, setting, limit, expr);
-        put_partly(answer, kind, &outcome, want);
-        drop(outcome);
-    }
-}
-
-// The least limit that is not met.
-fn fewest_levels(
-    alloc: Global,
-    setting: &Setting<'_, '_>,
-    expr: &Expr,
-) -> Result<usize, Unanswered> {
-    for limit in 0..LIMIT {
-        let outcome = partial_outcome(alloc, setting, limit, expr);
-        let (is_met, is_wanting) = (is_limit(&outcome), is_want(&outcome));
-        drop(outcome);
-        if is_wanting {
-            return Err(Unanswered::Memory);
-        }
-        if !is_met {
-            return Ok(limit);
-        }
-    }
-    Err(Unanswered::Unreadable("it takes too many levels"))
-}
-
-// What is asked of the outcome within so many levels.
-fn by_fewest(
-    answer: &mut Answer,
-    setting: &Setting<'_, '_>,
-    kind: &str,
-    limit: usize,
-    expr: &Expr,
-    want: &str,
-) {
-    let outcome = partial_outcome(answer.alloc, setting, limit, expr);
-    by_many(answer, setting, kind, expr, &outcome, want);
-    drop(outcome);
-}
-
-// What is asked of the outcome, which must be that within many levels too.
-fn by_many(
-    answer: &mut Answer,
-    setting: &Setting<'_, '_>,
-    kind: &str,
-    expr: &Expr,
-    outcome: &Result<PartialValue, EvaluationError>,
-    want: &str,
-) {
-    let other = partial_outcome(answer.alloc, setting, MANY, expr);
-    put_alike(answer, kind, outcome, &other, want);
-    drop(other);
-}
-
-fn put_alike(
-    answer: &mut Answer,
-    kind: &str,
-    outcome: &Result<PartialValue, EvaluationError>,
-    other: &Result<PartialValue, EvaluationError>,
-    want: &str,
-) {
-    if *outcome == *other {
-        put_partly(answer, kind, outcome, want);
-    } else if is_want(outcome) || is_want(other) {
-        answer.lack_memory();
-    } else {
-        answer.refuse("the limit changes the answer");
-    }
-}
-
-fn is_limit(outcome: &Result<PartialValue, EvaluationError>) -> bool {
-    match outcome {
-        Ok(_) => false,
-        Err(error) => matches!(error, EvaluationError::RecursionLimit(_)),
-    }
-}
-
-fn is_want(outcome: &Result<PartialValue, EvaluationError>) -> bool {
-    match outcome {
-        Ok(_) => false,
-        Err(error) => matches!(error, EvaluationError::Memory(_)),
     }
 }
 

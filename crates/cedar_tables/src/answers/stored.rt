@@ -2,7 +2,8 @@
 use crate::answers::evaluated::place_of;
 use crate::notation::answer::Answer;
 use crate::notation::leaves::uid;
-use cedar_layers::expressions::{EntityUID, PartialValue, Unknown, Var};
+use cedar_extensions::Extensions;
+use cedar_layers::expressions::{EntityUID, Name, PartialValue, Unknown, Var};
 use cedar_layers::policies::{Dereference, Entities, Entity};
 use cedar_requests::{Context, EntityUIDEntry, Request, RequestType};
 use std::rc::RcStr;
@@ -103,6 +104,27 @@ pub fn ask_entity(answer: &mut Answer, entities: &Entities, name: &str) {
         }
         Err(why) => answer.fail(why),
     }
+}
+
+/// The names of the extensions, the types that their functions make, and those for which they overload `<`.
+pub fn ask_extensions(answer: &mut Answer, extensions: &Extensions<'_>) {
+    answer.put("named");
+    for name in extensions.ext_names() {
+        put_name(answer, name);
+    }
+    answer.put(", making");
+    for name in extensions.ext_types() {
+        put_name(answer, name);
+    }
+    answer.put(", overloading");
+    for name in extensions.types_with_operator_overloading() {
+        put_name(answer, name);
+    }
+}
+
+fn put_name(answer: &mut Answer, name: &Name) {
+    answer.put(" ");
+    answer.show(name);
 }
 
 fn put_found(answer: &mut Answer, entities: &Entities, uid: &EntityUID) {

@@ -1,4 +1,5 @@
 //! What is answered to a row, as it is written.
+use crate::notation::refusals::Refusal;
 use crate::notation::shown::limit;
 use crate::notation::unanswered::{Noted, Unanswered};
 use cedar_layers::expressions::{BoundedDisplay, Loc};
@@ -89,11 +90,20 @@ impl Answer {
         }
     }
 
+    /// Writes what the error prints as. Want of memory is no answer.
+    pub fn show_refusal<E: Refusal>(&mut self, error: &E) {
+        if error.is_want_of_memory() {
+            self.lack_memory();
+        } else {
+            self.show(error);
+        }
+    }
+
     /// Writes what was made prints as, or the error.
-    pub fn tell<T: fmt::Display + Drop, E: fmt::Display + Drop>(&mut self, made: Result<T, E>) {
+    pub fn tell<T: fmt::Display + Drop, E: Refusal>(&mut self, made: Result<T, E>) {
         match made {
             Ok(made) => self.show(&made),
-            Err(error) => self.show(&error),
+            Err(error) => self.show_refusal(&error),
         }
     }
 

@@ -14,9 +14,12 @@ use cedar_layers::policies::{Annotations, Effect, Policy, PolicyID, PolicySet, P
 use std::alloc::{AllocError, Global};
 use std::rc::Rc;
 
-/// The policies of these ids, in order.
+/// The policies of these ids, in order; `none` is no policy.
 pub fn policies(alloc: Global, setting: &str, ids: &str) -> Result<Vec<Policy>, Unanswered> {
     let mut policies: Vec<Policy> = Vec::new(alloc);
+    if ids == "none" {
+        return Ok(policies);
+    }
     for id in ids.split(' ') {
         let policy = policy(alloc, setting, id)?;
         policies.push(policy)?;

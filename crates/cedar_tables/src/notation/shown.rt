@@ -6,8 +6,9 @@ use cedar_layers::expressions::{Expr, Loc};
 use cedar_values::evaluator::err::EvaluationError;
 use std::alloc::AllocError;
 use std::fmt;
+use std::hash::{FoldHasher, Hash, Hasher};
 
-/// More levels than any expression of a row has.
+/// More levels than any policy of a row has.
 pub const LIMIT: usize = 1000;
 
 /// The limit that is written so.
@@ -42,6 +43,13 @@ pub fn are_equal<T: PartialEq + Drop>(
     } else {
         Err(Unanswered::Unreadable("equality has no order"))
     }
+}
+
+/// What the hasher makes of it.
+pub fn hash_of<T: Hash>(hashed: &T) -> u64 {
+    let mut hasher = FoldHasher::default();
+    hashed.hash(&mut hasher);
+    hasher.finish()
 }
 
 /// A place as text: `at 1-2`, or `nowhere`.

@@ -1,16 +1,18 @@
 //! What is answered of contexts that are made of restricted expressions: what they hold, or why there is none.
 //!
 //! Pairs are written `b=U:x, a=L:1 set:1`, in that order: names, and the words of a restricted expression. `none` is no pair.
+use crate::levels::{Asked, Met, answer_within, met_by};
 use crate::notation::answer::Answer;
 use crate::notation::expressions::restricted;
 use crate::notation::pair;
 use crate::notation::shown::is_equal;
 use crate::notation::unanswered::Unanswered;
 use cedar_extensions::Extensions;
-use cedar_layers::expressions::{ExpressionConstructionError, PartialValue};
+use cedar_layers::expressions::{Expr, ExpressionConstructionError, PartialValue};
 use cedar_requests::{Context, ContextCreationError};
 use cedar_restricted_expressions::RestrictedExpr;
 use std::alloc::{AllocError, Global};
+use std::collections::BTreeMap;
 use std::rc::RcStr;
 
 /// What is asked of the context of these words.
@@ -21,11 +23,10 @@ pub fn ask(
     limit_text: &str,
     written: &str,
 ) {
-    let limit = answer.limit(limit_text);
     match kind {
-        "expression" => of_words(answer, extensions, limit, written),
+        "expression" => of_words(answer, extensions, limit_text, written),
         _ => match pairs(answer.alloc, written) {
-            Ok(pairs) => of_pairs(answer, extensions, kind, limit, pairs),
+            Ok(pairs) => of_pairs(answer, extensions, kind, limit_text, pairs),
             Err(why) => answer.fail(why),
         },
     }
@@ -35,61 +36,187 @@ fn of_pairs(
     answer: &mut Answer,
     extensions: &Extensions<'_>,
     kind: &str,
-    limit: usize,
+    limit_text: &str,
     pairs: Vec<(RcStr, RestrictedExpr)>,
 ) {
-    let alloc = answer.alloc;
-    match kind {
-        "pairs" => put_made(answer, Context::from_pairs(alloc, pairs, extensions, limit)),
-        "converted" => put_converted(answer, Context::from_pairs(alloc, pairs, extensions, limit)),
-        "record" => of_record(
-            answer,
+    if kind == "record" {
+        let made = RestrictedExpr::record(answer.alloc, pairs);
+        of_record(answer, extensions, limit_text, made);
+    } else {
+        let asked = OfPairs {
             extensions,
-            limit,
-            RestrictedExpr::record(alloc, pairs),
-        ),
-        _ => {
-            drop(pairs);
-            answer.refuse("no such question");
+            kind,
+            pairs: &pairs,
+        };
+        answer_within(answer, &asked, limit_text);
+        drop(pairs);
+    }
+}
+
+/// The context of these pairs.
+#[derive(Clone, Copy)]
+struct OfPairs<'a, 'f> {
+    extensions: &'a Extensions<'f>,
+    kind: &'a str,
+    pairs: &'a [(RcStr, RestrictedExpr)],
+}
+
+impl Asked for OfPairs<'_, '_> {
+    type Outcome = Result<Context, ContextCreationError>;
+
+    fn outcome(&self, alloc: Global, limit: usize) -> Result<Context, ContextCreationError> {
+        match copied(alloc, self.pairs) {
+            Ok(pairs) => Context::from_pairs(alloc, pairs, self.extensions, limit),
+            Err(error) => Err(ContextCreationError::Memory(error)),
+        }
+    }
+
+    fn met(&self, outcome: &Result<Context, ContextCreationError>) -> Met {
+        met_in_creation(outcome)
+    }
+
+    fn are_equal(
+        &self,
+        left: &Result<Context, ContextCreationError>,
+        right: &Result<Context, ContextCreationError>,
+    ) -> bool {
+        are_same_contexts(left, right)
+    }
+
+    fn put(&self, answer: &mut Answer, outcome: &Result<Context, ContextCreationError>) {
+        match self.kind {
+            "pairs" => put_made(answer, outcome),
+            "converted" => put_converted(answer, outcome),
+            "residual" => put_residual(answer, outcome),
+            _ => answer.refuse("no such question"),
         }
     }
 }
 
-fn put_converted(answer: &mut Answer, made: Result<Context, ContextCreationError>) {
+/// The context of this expression.
+#[derive(Clone, Copy)]
+struct OfExpression<'a, 'f> {
+    extensions: &'a Extensions<'f>,
+    expr: &'a RestrictedExpr,
+}
+
+impl Asked for OfExpression<'_, '_> {
+    type Outcome = Result<Context, ContextCreationError>;
+
+    fn outcome(&self, alloc: Global, limit: usize) -> Result<Context, ContextCreationError> {
+        Context::from_expr(alloc, self.expr.as_borrowed(), self.extensions, limit)
+    }
+
+    fn met(&self, outcome: &Result<Context, ContextCreationError>) -> Met {
+        met_in_creation(outcome)
+    }
+
+    fn are_equal(
+        &self,
+        left: &Result<Context, ContextCreationError>,
+        right: &Result<Context, ContextCreationError>,
+    ) -> bool {
+        are_same_contexts(left, right)
+    }
+
+    fn put(&self, answer: &mut Answer, outcome: &Result<Context, ContextCreationError>) {
+        put_made(answer, outcome);
+    }
+}
+
+fn copied(
+    alloc: Global,
+    pairs: &[(RcStr, RestrictedExpr)],
+) -> Result<Vec<(RcStr, RestrictedExpr)>, AllocError> {
+    let mut copies: Vec<(RcStr, RestrictedExpr)> = Vec::new(alloc);
+    for (name, expr) in pairs {
+        put_copy(&mut copies, name, expr)?;
+    }
+    Ok(copies)
+}
+
+fn put_copy(
+    copies: &mut Vec<(RcStr, RestrictedExpr)>,
+    name: &RcStr,
+    expr: &RestrictedExpr,
+) -> Result<(), AllocError> {
+    let name = name.clone()?;
+    let expr = expr.clone()?;
+    pair(copies, name, expr)
+}
+
+fn met_in_creation(outcome: &Result<Context, ContextCreationError>) -> Met {
+    match outcome {
+        Ok(_) => Met::Neither,
+        Err(ContextCreationError::NotARecord(_)) => Met::Neither,
+        Err(ContextCreationError::Evaluation(error)) => met_by(error),
+        Err(ContextCreationError::ExpressionConstruction(_)) => Met::Neither,
+        Err(ContextCreationError::Memory(_)) => Met::Memory,
+    }
+}
+
+// Whether the contexts are equal. Errors are compared by what is asked of them.
+fn are_same_contexts(
+    left: &Result<Context, ContextCreationError>,
+    right: &Result<Context, ContextCreationError>,
+) -> bool {
+    match (left, right) {
+        (Ok(left), Ok(right)) => *left == *right,
+        (Err(_), Err(_)) => true,
+        (_, _) => false,
+    }
+}
+
+// The attributes of what is left with their expressions, or `none` of a context of values.
+fn put_residual(answer: &mut Answer, made: &Result<Context, ContextCreationError>) {
     match made {
-        Ok(context) => {
-            put_conversions(answer, &context);
-            drop(context);
-        }
-        Err(error) => {
-            answer.show(&error);
-            drop(error);
-        }
+        Ok(context) => match context.as_residual() {
+            Some(left) => put_left(answer, left),
+            None => answer.put("none"),
+        },
+        Err(error) => answer.show_refusal(error),
+    }
+}
+
+fn put_left(answer: &mut Answer, left: &BTreeMap<RcStr, Expr>) {
+    answer.begin();
+    for (name, expr) in left {
+        answer.next("; ");
+        answer.show(name);
+        answer.put(" ");
+        answer.show(expr);
+    }
+}
+
+fn put_converted(answer: &mut Answer, made: &Result<Context, ContextCreationError>) {
+    match made {
+        Ok(context) => put_conversions(answer, context),
+        Err(error) => answer.show_refusal(error),
     }
 }
 
 fn of_record(
     answer: &mut Answer,
     extensions: &Extensions<'_>,
-    limit: usize,
+    limit_text: &str,
     made: Result<RestrictedExpr, ExpressionConstructionError>,
 ) {
     match made {
         Ok(record) => {
-            of_expression(answer, extensions, limit, &record);
+            of_expression(answer, extensions, limit_text, &record);
             drop(record);
         }
         Err(error) => {
-            answer.show(&error);
+            answer.show_refusal(&error);
             drop(error);
         }
     }
 }
 
-fn of_words(answer: &mut Answer, extensions: &Extensions<'_>, limit: usize, words: &str) {
+fn of_words(answer: &mut Answer, extensions: &Extensions<'_>, limit_text: &str, words: &str) {
     match restricted(answer.alloc, words) {
         Ok(expr) => {
-            of_expression(answer, extensions, limit, &expr);
+            of_expression(answer, extensions, limit_text, &expr);
             drop(expr);
         }
         Err(why) => answer.fail(why),
@@ -120,27 +247,26 @@ fn put_pair(
 fn of_expression(
     answer: &mut Answer,
     extensions: &Extensions<'_>,
-    limit: usize,
+    limit_text: &str,
     expr: &RestrictedExpr,
 ) {
-    let made = Context::from_expr(answer.alloc, expr.as_borrowed(), extensions, limit);
-    put_made(answer, made);
+    answer_within(answer, &OfExpression { extensions, expr }, limit_text);
 }
 
-fn put_made(answer: &mut Answer, made: Result<Context, ContextCreationError>) {
+fn put_made(answer: &mut Answer, made: &Result<Context, ContextCreationError>) {
     match made {
-        Ok(context) => put_walked(answer, context),
-        Err(error) => {
-            put_refusal(answer, &error);
-            drop(error);
-        }
+        Ok(context) => match context.clone() {
+            Ok(copy) => put_walked(answer, copy),
+            Err(_) => answer.lack_memory(),
+        },
+        Err(error) => put_refusal(answer, error),
     }
 }
 
 fn put_refusal(answer: &mut Answer, error: &ContextCreationError) {
     answer.put(kind(error));
     answer.put(": ");
-    answer.show(error);
+    answer.show_refusal(error);
 }
 
 fn kind(error: &ContextCreationError) -> &'static str {

@@ -1,9 +1,9 @@
 //! Expressions as they are printed, copied, compared and changed.
 use crate::notation::answer::Answer;
 use crate::notation::expressions::expression;
-use crate::notation::pair;
-use crate::notation::shown::{are_equal, put_same, put_wanted};
+use crate::notation::shown::{are_equal, hash_of, put_same, put_wanted};
 use crate::notation::values::values;
+use crate::notation::{both, pair};
 use crate::steps::mapping;
 use cedar_layers::expressions::{
     BoundedDisplay, Expr, ExpressionConstructionError, Literal, Value,
@@ -11,12 +11,15 @@ use cedar_layers::expressions::{
 use std::alloc::{AllocError, Global};
 use std::cmp::Ordering;
 use std::collections::HashMap;
+use std::hash::{FoldHasher, Hasher};
 use std::rc::RcStr;
 
 /// What is asked of the expression that the words write, of two, of keys, or of two values.
 pub fn ask(answer: &mut Answer, kind: &str, bound: &str, words: &str) {
     match kind {
         "equal" => ask_equal(answer, words),
+        "alike" => ask_alike(answer, words),
+        "hashes" => ask_hashes(answer, words),
         "keys" => ask_record(answer, words),
         "order" => ask_order(answer, words),
         _ => match expression(answer.alloc, words) {
@@ -107,6 +110,57 @@ fn put_equal(answer: &mut Answer, left: &str, right: &str) {
     }
 }
 
+// Whether the two expressions have one shape, and whether they and their shapes hash alike.
+fn ask_alike(answer: &mut Answer, words: &str) {
+    match words.split_once(" ~ ") {
+        Some((left, right)) => {
+            let alloc = answer.alloc;
+            match both(expression(alloc, left), expression(alloc, right)) {
+                Ok((left, right)) => put_alike(answer, &left, &right),
+                Err(why) => answer.fail(why),
+            }
+        }
+        None => answer.refuse("two expressions"),
+    }
+}
+
+fn put_alike(answer: &mut Answer, left: &Expr, right: &Expr) {
+    answer.show(&left.eq_shape(right));
+    answer.put(", hashes ");
+    answer.show(&(hash_of(left) == hash_of(right)));
+    answer.put(" ");
+    answer.show(&(shape_hash(left) == shape_hash(right)));
+}
+
+fn shape_hash(expr: &Expr) -> u64 {
+    let mut hasher = FoldHasher::default();
+    expr.hash_shape(&mut hasher);
+    hasher.finish()
+}
+
+// Whether the two values hash alike, and whether what they are does.
+fn ask_hashes(answer: &mut Answer, words: &str) {
+    match values(answer.alloc, words) {
+        Ok(values) => {
+            put_hashes_of(answer, values.as_slice());
+            drop(values);
+        }
+        Err(why) => answer.fail(why),
+    }
+}
+
+fn put_hashes_of(answer: &mut Answer, values: &[Value]) {
+    match values {
+        [left, right] => {
+            let (kind, other) = (left.value_kind(), right.value_kind());
+            answer.show(&(hash_of(left) == hash_of(right)));
+            answer.put(" ");
+            answer.show(&(hash_of(kind) == hash_of(other)));
+        }
+        _ => answer.refuse("hashes are of two"),
+    }
+}
+
 // The record of `true` under these keys, or the text of its error as it is and in another context.
 fn ask_record(answer: &mut Answer, keys: &str) {
     match true_under(answer.alloc, keys) {
@@ -135,7 +189,7 @@ fn true_under(alloc: Global, keys: &str) -> Result<Vec<(RcStr, Expr)>, AllocErro
 }
 
 fn put_in_context(answer: &mut Answer, error: ExpressionConstructionError) {
-    answer.show(&error);
+    answer.show_refusal(&error);
     answer.put(", ");
     let error = error.with_context("in a row");
     answer.show(&error);

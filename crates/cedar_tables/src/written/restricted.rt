@@ -1,11 +1,13 @@
 //! What is answered of restricted expressions, of which the words write one.
-use crate::answers::evaluated::{put_partial, put_partial_place};
+use crate::answers::evaluated::{put_outcome, put_partial, put_partial_place};
+use crate::levels::{Asked, Met, answer_within, met_in};
 use crate::notation::answer::Answer;
 use crate::notation::expressions::{expression, restricted};
 use crate::notation::pair;
+use crate::notation::shown::hash_of;
 use crate::notation::unanswered::Unanswered;
 use cedar_extensions::Extensions;
-use cedar_layers::expressions::{Expr, Literal, PartialValue, ResidualExpr, Unknown};
+use cedar_layers::expressions::{Expr, Literal, PartialValue, ResidualExpr, Unknown, Value};
 use cedar_restricted::RestrictedEvaluator;
 use cedar_restricted_expressions::{
     BorrowedRestrictedExpr, PartialValueToRestrictedExprError, RestrictedExpr,
@@ -14,7 +16,6 @@ use cedar_restricted_expressions::{
 use cedar_values::evaluator::err::EvaluationError;
 use std::alloc::{AllocError, Global};
 use std::fmt;
-use std::hash::{FoldHasher, Hash, Hasher};
 use std::rc::RcStr;
 
 /// What is asked of the words, where the answer that is wanted is this one.
@@ -51,16 +52,83 @@ fn of_restricted(
     limit_text: &str,
     expr: &RestrictedExpr,
 ) {
-    let limit = answer.limit(limit_text);
     match kind {
         "type" => put_type(answer, extensions, expr),
         "read" => put_read(answer, expr.as_borrowed()),
-        "wholly" => put_wholly(answer, extensions, expr, limit),
+        "wholly" => answer_within(answer, &Wholly { extensions, expr }, limit_text),
         _ => {
-            let outcome = partly(answer.alloc, extensions, expr, limit);
-            put_partly(answer, kind, &outcome);
-            drop(outcome);
+            let asked = Partly {
+                extensions,
+                kind,
+                expr,
+            };
+            answer_within(answer, &asked, limit_text);
         }
+    }
+}
+
+/// What a restricted expression partly evaluates to.
+#[derive(Clone, Copy)]
+struct Partly<'a, 'f> {
+    extensions: &'a Extensions<'f>,
+    kind: &'a str,
+    expr: &'a RestrictedExpr,
+}
+
+impl Asked for Partly<'_, '_> {
+    type Outcome = Result<PartialValue, EvaluationError>;
+
+    fn outcome(&self, alloc: Global, limit: usize) -> Result<PartialValue, EvaluationError> {
+        let evaluator = RestrictedEvaluator::new(self.extensions, limit);
+        evaluator.partial_interpret(alloc, self.expr.as_borrowed())
+    }
+
+    fn met(&self, outcome: &Result<PartialValue, EvaluationError>) -> Met {
+        met_in(outcome)
+    }
+
+    fn are_equal(
+        &self,
+        left: &Result<PartialValue, EvaluationError>,
+        right: &Result<PartialValue, EvaluationError>,
+    ) -> bool {
+        *left == *right
+    }
+
+    fn put(&self, answer: &mut Answer, outcome: &Result<PartialValue, EvaluationError>) {
+        put_partly(answer, self.kind, outcome);
+    }
+}
+
+/// What a restricted expression evaluates to.
+#[derive(Clone, Copy)]
+struct Wholly<'a, 'f> {
+    extensions: &'a Extensions<'f>,
+    expr: &'a RestrictedExpr,
+}
+
+impl Asked for Wholly<'_, '_> {
+    type Outcome = Result<Value, EvaluationError>;
+
+    fn outcome(&self, alloc: Global, limit: usize) -> Result<Value, EvaluationError> {
+        let evaluator = RestrictedEvaluator::new(self.extensions, limit);
+        evaluator.interpret(alloc, self.expr.as_borrowed())
+    }
+
+    fn met(&self, outcome: &Result<Value, EvaluationError>) -> Met {
+        met_in(outcome)
+    }
+
+    fn are_equal(
+        &self,
+        left: &Result<Value, EvaluationError>,
+        right: &Result<Value, EvaluationError>,
+    ) -> bool {
+        *left == *right
+    }
+
+    fn put(&self, answer: &mut Answer, outcome: &Result<Value, EvaluationError>) {
+        put_outcome(answer, outcome);
     }
 }
 
@@ -121,10 +189,14 @@ fn is_refused_with(
     }
 }
 
-// Whether the residual becomes this expression, or is refused with it.
+// Whether the residual becomes this expression, or, where `refused` stands before it, is refused with it.
 fn ask_residual(answer: &mut Answer, words: &str, want: &str) {
-    match expression(answer.alloc, want) {
-        Ok(wanted) => match becomes(answer.alloc, words, &wanted) {
+    let (is_refused, written) = match want.strip_prefix("refused ") {
+        Some(written) => (true, written),
+        None => (false, want),
+    };
+    match expression(answer.alloc, written) {
+        Ok(wanted) => match comes_to(answer.alloc, words, &wanted, is_refused) {
             Ok(is_met) => put_met(answer, is_met, want),
             Err(why) => answer.fail(why),
         },
@@ -132,15 +204,15 @@ fn ask_residual(answer: &mut Answer, words: &str, want: &str) {
     }
 }
 
-fn becomes(alloc: Global, words: &str, want: &Expr) -> Result<bool, Unanswered> {
+fn comes_to(alloc: Global, words: &str, want: &Expr, is_refused: bool) -> Result<bool, Unanswered> {
     match RestrictedExpr::try_from_partial_value(alloc, residual(alloc, words)?) {
         Ok(expr) => {
-            let is_met = *expr == *want;
+            let is_met = !is_refused && *expr == *want;
             drop(expr);
             Ok(is_met)
         }
         Err(PartialValueToRestrictedExprError::NontrivialResidual { residual }) => {
-            let is_met = *residual == *want;
+            let is_met = is_refused && *residual == *want;
             drop(residual);
             Ok(is_met)
         }
@@ -188,7 +260,7 @@ fn put_type(answer: &mut Answer, extensions: &Extensions<'_>, expr: &RestrictedE
     }
 }
 
-// Whether the two have one shape, and whether they hash alike.
+// Whether the two have one shape, and whether their shapes and they hash alike.
 fn ask_shapes(answer: &mut Answer, words: &str) {
     match words.split_once(" ~ ") {
         Some((left, right)) => put_shapes_of(answer, left, right),
@@ -221,6 +293,7 @@ fn put_shapes(
     left: BorrowedRestrictedExpr<'_>,
     right: BorrowedRestrictedExpr<'_>,
 ) {
+    let are_hashed_alike = hash_of(&left) == hash_of(&right);
     let left = RestrictedExprShapeOnly::new(left);
     let right = RestrictedExprShapeOnly::new(right);
     let are_equal = left == right;
@@ -228,12 +301,8 @@ fn put_shapes(
     answer.show(&are_equal);
     answer.put(", hashes ");
     answer.show(&hash_alike);
-}
-
-fn hash_of(shape: &RestrictedExprShapeOnly<'_>) -> u64 {
-    let mut hasher = FoldHasher::default();
-    shape.hash(&mut hasher);
-    hasher.finish()
+    answer.put(" ");
+    answer.show(&are_hashed_alike);
 }
 
 // What the readers find.
@@ -302,28 +371,6 @@ fn put_call(answer: &mut Answer, expr: BorrowedRestrictedExpr<'_>) {
             answer.show(&argument);
         }
     }
-}
-
-// ---- evaluation
-
-fn partly(
-    alloc: Global,
-    extensions: &Extensions<'_>,
-    expr: &RestrictedExpr,
-    limit: usize,
-) -> Result<PartialValue, EvaluationError> {
-    RestrictedEvaluator::new(extensions, limit).partial_interpret(alloc, expr.as_borrowed())
-}
-
-fn put_wholly(
-    answer: &mut Answer,
-    extensions: &Extensions<'_>,
-    expr: &RestrictedExpr,
-    limit: usize,
-) {
-    let evaluator = RestrictedEvaluator::new(extensions, limit);
-    let outcome = evaluator.interpret(answer.alloc, expr.as_borrowed());
-    answer.tell(outcome);
 }
 
 // ---- what words write

@@ -10,7 +10,7 @@ use crate::notation::{add, both, headed, pair};
 use cedar_built_in_rows::functions::made;
 use cedar_extensions::util::{CollectError, collect_no_duplicates};
 use cedar_extensions::{
-    Extension, ExtensionFunction, ExtensionFunctionObject, ExtensionInitializationError,
+    ExtTypes, Extension, ExtensionFunction, ExtensionFunctionObject, ExtensionInitializationError,
     ExtensionOutputValue, Extensions,
 };
 use cedar_layers::expressions::{CallStyle, Type, Value};
@@ -18,16 +18,21 @@ use cedar_values::evaluator::err::EvaluationError;
 use std::alloc::{AllocError, Global};
 use std::rc::RcStr;
 
-/// Whether a function of this name that takes this type can be used beside `make`, which takes a text. Each is in an extension of its own, and makes
-/// values of the type `T`.
-pub fn ask(answer: &mut Answer, words: &str) {
+/// Whether a function of this name that takes this type can be used beside `make`, which takes a text. Each makes values of the type `T`, and is
+/// in an extension of its own, or both are `in-one`.
+pub fn ask(answer: &mut Answer, kind: &str, words: &str) {
     let (second, takes) = headed(words);
-    if let Err(why) = put_together(answer, second, takes) {
+    if let Err(why) = put_together(answer, kind == "in-one", second, takes) {
         answer.fail(why);
     }
 }
 
-fn put_together(answer: &mut Answer, second: &str, takes: &str) -> Result<(), Unanswered> {
+fn put_together(
+    answer: &mut Answer,
+    are_in_one: bool,
+    second: &str,
+    takes: &str,
+) -> Result<(), Unanswered> {
     let alloc = answer.alloc;
     let first: ExtensionFunctionObject = Box::new(
         alloc,
@@ -53,7 +58,7 @@ fn put_together(answer: &mut Answer, second: &str, takes: &str) -> Result<(), Un
     )?;
     let make = ExtensionFunction::new(make, style, first, Some(of_make), texts);
     let other = ExtensionFunction::new(other, style, last, Some(of_other), takes);
-    let (make, other) = both(alone(alloc, make), alone(alloc, other))?;
+    let (make, other) = shared_out(alloc, make, other, are_in_one)?;
     let makes = Extension::new(makes, make, Vec::new(alloc));
     let others = Extension::new(others, other, Vec::new(alloc));
     let all = vec![in alloc; makes, others]?;
@@ -68,6 +73,20 @@ fn types(alloc: Global, takes: &str) -> Result<(Type, Vec<Type>), Unanswered> {
     Ok((made, alone(alloc, taken)?))
 }
 
+// Two lists, of one each, or of both and of none.
+fn shared_out<T: Drop>(
+    alloc: Global,
+    first: T,
+    second: T,
+    are_in_one: bool,
+) -> Result<(Vec<T>, Vec<T>), Unanswered> {
+    let mut list: Vec<T> = Vec::new(alloc);
+    let mut other: Vec<T> = Vec::new(alloc);
+    add(&mut list, first)?;
+    add(if are_in_one { &mut list } else { &mut other }, second)?;
+    Ok((list, other))
+}
+
 // A list of this alone.
 fn alone<T: Drop>(alloc: Global, item: T) -> Result<Vec<T>, Unanswered> {
     let mut list: Vec<T> = Vec::new(alloc);
@@ -77,12 +96,32 @@ fn alone<T: Drop>(alloc: Global, item: T) -> Result<Vec<T>, Unanswered> {
 
 fn put_accepted(answer: &mut Answer, all: &[Extension]) {
     match Extensions::specific_extensions(answer.alloc, all) {
-        Ok(_) => answer.put("accepted"),
+        Ok(extensions) => {
+            answer.put("accepted, making");
+            put_types(answer, extensions.ext_types());
+            put_each(answer, all);
+        }
         Err(ExtensionInitializationError::Memory(_)) => answer.lack_memory(),
         Err(error) => {
             answer.show(&error);
             drop(error);
         }
+    }
+}
+
+// Each extension, and the types that its functions make.
+fn put_each(answer: &mut Answer, all: &[Extension]) {
+    for extension in all {
+        answer.put("; ");
+        answer.show(extension.name());
+        put_types(answer, extension.ext_types());
+    }
+}
+
+fn put_types(answer: &mut Answer, types: ExtTypes<'_>) {
+    for name in types {
+        answer.put(" ");
+        answer.show(name);
     }
 }
 

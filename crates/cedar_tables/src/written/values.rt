@@ -2,12 +2,13 @@
 use crate::answers::evaluated::put_elements_of;
 use crate::notation::answer::Answer;
 use crate::notation::leaves::unknown;
-use crate::notation::shown::put_same;
+use crate::notation::shown::{Place, put_same};
 use crate::notation::unanswered::Unanswered;
 use crate::notation::values::value;
 use crate::written::expressions::{cut, put_copy_of};
 use cedar_layers::expressions::{Expr, PartialValue, ResidualExpr, Value};
-use std::alloc::Global;
+use cedar_restricted_expressions::RestrictedExpr;
+use std::alloc::{AllocError, Global};
 
 /// What is asked of the value that the words write.
 pub fn ask(answer: &mut Answer, kind: &str, bound: &str, words: &str) {
@@ -28,6 +29,7 @@ fn of_value(answer: &mut Answer, kind: &str, bound: &str, value: &Value) {
         "value-expression" => put_expression(answer, value),
         "value-copy" => put_copy(answer, value),
         "value-elements" => put_elements_of(answer, value),
+        "value-kind" => put_kind(answer, value),
         _ => answer.refuse("no such question"),
     }
 }
@@ -44,6 +46,29 @@ fn put_copy(answer: &mut Answer, value: &Value) {
         Ok(copy) => {
             put_same(answer, &copy, value, copy.source_loc());
             drop(copy);
+        }
+        Err(_) => answer.lack_memory(),
+    }
+}
+
+// The restricted expression of what the value is, and where it stands.
+fn put_kind(answer: &mut Answer, value: &Value) {
+    match value.value_kind().clone() {
+        Ok(kind) => put_expr(
+            answer,
+            RestrictedExpr::try_from_value_kind(answer.alloc, kind),
+        ),
+        Err(_) => answer.lack_memory(),
+    }
+}
+
+fn put_expr(answer: &mut Answer, made: Result<RestrictedExpr, AllocError>) {
+    match made {
+        Ok(expr) => {
+            answer.show(&expr);
+            answer.put(", ");
+            answer.show(&Place(expr.source_loc()));
+            drop(expr);
         }
         Err(_) => answer.lack_memory(),
     }
