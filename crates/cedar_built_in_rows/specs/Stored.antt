@@ -1,7 +1,7 @@
 -- What the stored functions of the program and its tests answer.
-use Rattle.std.specs.Prelude.{ℕ, ℤ, pos, negsuc, Bool, true, false, List, [], ◌∷◌, codes, int_rem, Some}
+use Rattle.std.specs.Prelude.{ℕ, ℤ, pos, negsuc, Bool, true, false, List, [], ◌∷◌, codes, int_rem, Some, None}
 use Rattle.std.proofs.Common.{zero}
-use Rattle.cedar_model.specs.Terms.{bool_literal, long_literal, bool_type}
+use Rattle.cedar_model.specs.Terms.{bool_literal, long_literal, bool_type, long_type}
 use Rattle.cedar_model.specs.Values.{AbstractValue, plain, extension_value}
 use Rattle.cedar_model.specs.Outcomes.{type_error, function_failed}
 use Rattle.cedar_model.specs.World.{FunctionAnswer, function_gives, function_errs, function_asks}
@@ -26,3 +26,11 @@ made_of k vs = function_gives (extension_value (codes "T") (k ∷ []))
 -- whether the user is asked, which is not known
 abbrev pub ask_of : List AbstractValue → FunctionAnswer
 ask_of vs = function_asks (codes "asked") (Some bool_type)
+
+-- the unknown `q`, which stands for a long
+abbrev pub ask_long_of : List AbstractValue → FunctionAnswer
+ask_long_of vs = function_asks (codes "q") (Some long_type)
+
+-- the unknown `q`, which may stand for any value
+abbrev pub ask_any_of : List AbstractValue → FunctionAnswer
+ask_any_of vs = function_asks (codes "q") None

@@ -1,12 +1,12 @@
 //! The functions that policies call.
-ghost use Rattle.std.specs.Prelude.{◌≡◌, true, IfOk, codes, [], ◌∷◌};
+ghost use Rattle.std.specs.Prelude.{◌≡◌, true, IfOk, alloc_error, codes, [], ◌∷◌};
 ghost use Rattle.cedar_model.specs.Values.{abstract_value, extension_value};
 ghost use Rattle.cedar_model.specs.Outcomes.{type_error};
 ghost use Rattle.cedar_model.specs.World.{function_errs};
 ghost use Rattle.cedar_names.specs.Names.{name_text};
 ghost use Rattle.cedar_data.specs.Representations.{extension_what};
 ghost use Rattle.cedar_extensions.specs.Outcomes.{ComesTo, is_lawful, abstracts};
-ghost use Rattle.cedar_built_in_rows.specs.Stored.{even_of, fail_of, ask_of, made_of};
+ghost use Rattle.cedar_built_in_rows.specs.Stored.{even_of, fail_of, ask_of, ask_long_of, ask_any_of, made_of};
 
 use cedar_extensions::ExtensionOutputValue;
 use cedar_layers::expressions::{
@@ -93,6 +93,37 @@ pub fn ask(alloc: Global, args: &[Value]) -> Result<ExtensionOutputValue, Evalua
         Ok(name) => Ok(ExtensionOutputValue::Unknown(Unknown::new_with_type(name, Type::Bool))),
         Err(error) => Err(EvaluationError::Memory(error)),
     }
+}
+
+/// The unknown `q`, which stands for a long.
+pub fn ask_long(alloc: Global, args: &[Value]) -> Result<ExtensionOutputValue, EvaluationError>
+    ensures computes { ComesTo result (ask_long_of (abstracts args.now)) }
+    ensures lawful { is_lawful result ≡ true }
+{
+    match RcStr::from_str(alloc, "q") {
+        Ok(name) => Ok(ExtensionOutputValue::Unknown(Unknown::new_with_type(name, Type::Long))),
+        Err(error) => Err(EvaluationError::Memory(error)),
+    }
+}
+
+/// The unknown `q`, which may stand for any value.
+pub fn ask_any(alloc: Global, args: &[Value]) -> Result<ExtensionOutputValue, EvaluationError>
+    ensures computes { ComesTo result (ask_any_of (abstracts args.now)) }
+    ensures lawful { is_lawful result ≡ true }
+{
+    match RcStr::from_str(alloc, "q") {
+        Ok(name) => Ok(ExtensionOutputValue::Unknown(Unknown::new_untyped(name))),
+        Err(error) => Err(EvaluationError::Memory(error)),
+    }
+}
+
+/// Want of memory, however much there is.
+pub fn want(args: &[Value]) -> Result<ExtensionOutputValue, EvaluationError>
+    ensures wanting { result ≡ Err (EvaluationError.Memory alloc_error) }
+    ensures computes { ComesTo result (fail_of (abstracts args.now)) }
+    ensures lawful { is_lawful result ≡ true }
+{
+    Err(EvaluationError::Memory(AllocError))
 }
 
 /// The value of the type `T` with this key, which says that it was made by `two`.

@@ -1,14 +1,17 @@
-//! The functions that are stored for a case: of `even`, `fail`, `ask` and `unknown` those that the fact `functions` names, or, where it names `one`,
-//! of `one`, `two` and `unknown`.
+//! The functions that are stored for a case, in one extension, `ext`. The fact `functions` names them:
+//!
+//! - `even` (of a long), `fail` and `ask` (the unknown `asked`, a boolean); or, where it names `one`, `one` and `two`; or, where it names
+//!   `ask1`, `ask` (the unknown `q`, a long), `ask1` (of a value: the unknown `q`, of no type), `fail` and `want` (want of memory);
+//! - `unknown` beside any of them.
 ghost use Rattle.std.specs.Prelude.{◌≡◌, true};
 ghost use Rattle.cedar_extensions.specs.Outcomes.{ComesTo, is_lawful, abstracts};
-ghost use Rattle.cedar_built_in_rows.specs.Stored.{even_of, fail_of, ask_of, made_of};
+ghost use Rattle.cedar_built_in_rows.specs.Stored.{even_of, fail_of, ask_of, ask_long_of, ask_any_of, made_of};
 
 use crate::cases::{Lines, Tally, tally_of_rows};
 use crate::notation::settings::setting_of;
 use crate::notation::unanswered::{Noted, Unanswered};
 use crate::notation::{add, both, fact, first_fact, or_memory};
-use cedar_built_in_rows::functions::{ask, even, fail, made, plain_name};
+use cedar_built_in_rows::functions::{ask, ask_any, ask_long, even, fail, made, plain_name, want};
 use cedar_extensions::{
     Extension, ExtensionFunction, ExtensionFunctionObject, ExtensionInitializationError,
     ExtensionOutputValue, Extensions,
@@ -26,6 +29,8 @@ pub fn tally(
 ) -> Result<Tally, Unanswered> {
     if is_named(names_in(facts), "one") {
         tally_with_makers(rt, alloc, facts, rows)
+    } else if is_named(names_in(facts), "ask1") {
+        tally_with_asking(rt, alloc, facts, rows)
     } else {
         tally_with_others(rt, alloc, facts, rows)
     }
@@ -108,6 +113,60 @@ fn tally_with_makers(
     let two = ExtensionFunction::new(second, style, two, None, Vec::new(alloc));
     let functions = with(facts, Ok(Vec::new(alloc)), one);
     let functions = with(facts, functions, two)?;
+    tally_with(rt, alloc, facts, rows, functions)
+}
+
+// With `ask`, `ask1`, `fail` and `want`.
+fn tally_with_asking(
+    rt: &impl Print,
+    alloc: Global,
+    facts: &str,
+    rows: Lines<'_>,
+) -> Result<Tally, Unanswered> {
+    let ask: ExtensionFunctionObject = Box::new(
+        alloc,
+        move |args: &[Value]| -> Result<ExtensionOutputValue, EvaluationError>
+            ensures computes { ComesTo result (ask_long_of (abstracts args.now)) }
+            ensures lawful { is_lawful result ≡ true }
+        { ask_long(alloc, args) },
+    )?;
+    let ask1: ExtensionFunctionObject = Box::new(
+        alloc,
+        move |args: &[Value]| -> Result<ExtensionOutputValue, EvaluationError>
+            ensures computes { ComesTo result (ask_any_of (abstracts args.now)) }
+            ensures lawful { is_lawful result ≡ true }
+        { ask_any(alloc, args) },
+    )?;
+    let fail: ExtensionFunctionObject = Box::new(
+        alloc,
+        move |args: &[Value]| -> Result<ExtensionOutputValue, EvaluationError>
+            ensures computes { ComesTo result (fail_of (abstracts args.now)) }
+            ensures lawful { is_lawful result ≡ true }
+        { fail(alloc, args) },
+    )?;
+    let want: ExtensionFunctionObject = Box::new(
+        alloc,
+        move |args: &[Value]| -> Result<ExtensionOutputValue, EvaluationError>
+            ensures computes { ComesTo result (fail_of (abstracts args.now)) }
+            ensures lawful { is_lawful result ≡ true }
+        { want(args) },
+    )?;
+    let style = CallStyle::FunctionStyle;
+    let (((asks, asks1), (fails, wants)), longs) = both(
+        both(
+            both(named(alloc, "ask"), named(alloc, "ask1")),
+            both(named(alloc, "fail"), named(alloc, "want")),
+        ),
+        longs(alloc),
+    )?;
+    let ask = ExtensionFunction::new(asks, style, ask, None, Vec::new(alloc));
+    let ask1 = ExtensionFunction::new(asks1, style, ask1, None, longs);
+    let fail = ExtensionFunction::new(fails, style, fail, None, Vec::new(alloc));
+    let want = ExtensionFunction::new(wants, style, want, None, Vec::new(alloc));
+    let functions = with(facts, Ok(Vec::new(alloc)), ask);
+    let functions = with(facts, functions, ask1);
+    let functions = with(facts, functions, fail);
+    let functions = with(facts, functions, want)?;
     tally_with(rt, alloc, facts, rows, functions)
 }
 
