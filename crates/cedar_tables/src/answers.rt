@@ -5,6 +5,7 @@
 //!   `partial-place LIMIT` and `residual LIMIT` (what it partly evaluates to, where that stands, and the words of what is left of it);
 //! - of the words of values and then an operator: `operator PLACE`; of the words of an error: `built-error PLACE`;
 //! - of the setting: `request` and `entity`, and `extensions` (their names, the types that their functions make, and those that they overload);
+//! - of a name and values: `made-entity` (an entity that is made of values);
 //! - of a number: `negations LIMIT`, what `true` evaluates to under so many.
 //!
 //! Questions on what words write alone are those of `written`.
@@ -37,6 +38,7 @@ pub fn ask(
         "request" => stored::ask_request(answer, &setting.request, words),
         "entity" => stored::ask_entity(answer, &setting.entities, words),
         "extensions" => stored::ask_extensions(answer, setting.extensions),
+        "made-entity" => stored::ask_made_entity(answer, words),
         "negations" => deep::ask(answer, setting, argument, words),
         "value" | "place" | "elements" | "error" => {
             evaluated::ask(answer, setting, kind, argument, words)

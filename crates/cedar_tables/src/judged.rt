@@ -1,5 +1,6 @@
 //! What policies decide, and what a policy holds.
 use crate::answers::described::describe;
+use crate::levels::{Asked, Met, answer_within, met_in};
 use crate::notation::answer::Answer;
 use crate::notation::policies::{policies, policy, policy_set};
 use crate::notation::settings::Setting;
@@ -149,52 +150,102 @@ pub fn ask_condition(
     limit_text: &str,
     id: &str,
 ) {
-    let limit = answer.limit(limit_text);
     match policy(answer.alloc, facts, id) {
         Ok(policy) => {
-            let done = evaluate(answer, setting, kind, limit, &policy);
-            answer.note(done);
+            put_condition_of(answer, setting, kind, limit_text, &policy);
             drop(policy);
         }
         Err(why) => answer.fail(why),
     }
 }
 
-fn evaluate(
+fn put_condition_of(
     answer: &mut Answer,
     setting: &Setting<'_, '_>,
     kind: &str,
-    limit: usize,
-    policy: &Policy,
-) -> Result<(), AllocError> {
-    let request = setting.request.clone()?;
-    let evaluator = Evaluator::new(
-        answer.alloc,
-        request,
-        &setting.entities,
-        setting.extensions,
-        limit,
-    )?
-    .with_unknowns_mapper(&setting.map);
-    put_condition_by(answer, &evaluator, kind, policy);
-    drop(evaluator);
-    Ok(())
-}
-
-fn put_condition_by(
-    answer: &mut Answer,
-    evaluator: &Evaluator<'_, '_>,
-    kind: &str,
+    limit_text: &str,
     policy: &Policy,
 ) {
     if kind == "evaluate" {
-        let outcome = evaluator.evaluate(answer.alloc, policy);
-        put_truth(answer, &outcome);
-        drop(outcome);
+        answer_within(answer, &Wholly { setting, policy }, limit_text);
     } else {
-        let outcome = evaluator.partial_evaluate(answer.alloc, policy);
-        put_left(answer, &outcome);
-        drop(outcome);
+        answer_within(answer, &Partly { setting, policy }, limit_text);
+    }
+}
+
+/// What the condition of a policy comes out as.
+#[derive(Clone, Copy)]
+struct Wholly<'a, 'e, 'f> {
+    setting: &'a Setting<'e, 'f>,
+    policy: &'a Policy,
+}
+
+impl Asked for Wholly<'_, '_, '_> {
+    type Outcome = Result<bool, EvaluationError>;
+
+    fn outcome(&self, alloc: Global, limit: usize) -> Result<bool, EvaluationError> {
+        let request = self.setting.request.clone()?;
+        let (entities, extensions) = (&self.setting.entities, self.setting.extensions);
+        let evaluator = Evaluator::new(
+            alloc, request, entities, extensions, limit,
+        )?.with_unknowns_mapper(&self.setting.map);
+        let outcome = evaluator.evaluate(alloc, self.policy);
+        drop(evaluator);
+        outcome
+    }
+
+    fn met(&self, outcome: &Result<bool, EvaluationError>) -> Met {
+        met_in(outcome)
+    }
+
+    fn are_equal(
+        &self,
+        left: &Result<bool, EvaluationError>,
+        right: &Result<bool, EvaluationError>,
+    ) -> bool {
+        *left == *right
+    }
+
+    fn put(&self, answer: &mut Answer, outcome: &Result<bool, EvaluationError>) {
+        put_truth(answer, outcome);
+    }
+}
+
+/// What the condition of a policy partly comes out as.
+#[derive(Clone, Copy)]
+struct Partly<'a, 'e, 'f> {
+    setting: &'a Setting<'e, 'f>,
+    policy: &'a Policy,
+}
+
+impl Asked for Partly<'_, '_, '_> {
+    type Outcome = Result<Either<bool, Expr>, EvaluationError>;
+
+    fn outcome(&self, alloc: Global, limit: usize) -> Result<Either<bool, Expr>, EvaluationError> {
+        let request = self.setting.request.clone()?;
+        let (entities, extensions) = (&self.setting.entities, self.setting.extensions);
+        let evaluator = Evaluator::new(
+            alloc, request, entities, extensions, limit,
+        )?.with_unknowns_mapper(&self.setting.map);
+        let outcome = evaluator.partial_evaluate(alloc, self.policy);
+        drop(evaluator);
+        outcome
+    }
+
+    fn met(&self, outcome: &Result<Either<bool, Expr>, EvaluationError>) -> Met {
+        met_in(outcome)
+    }
+
+    fn are_equal(
+        &self,
+        left: &Result<Either<bool, Expr>, EvaluationError>,
+        right: &Result<Either<bool, Expr>, EvaluationError>,
+    ) -> bool {
+        *left == *right
+    }
+
+    fn put(&self, answer: &mut Answer, outcome: &Result<Either<bool, Expr>, EvaluationError>) {
+        put_left(answer, outcome);
     }
 }
 

@@ -7,7 +7,7 @@
 //!   `part-cut BOUND`, `part-copy` and `part-expression`;
 //! - of two expressions with ` ~ ` between them: `equal` and `alike` (shapes and hashes); of the keys of a record: `keys`; of two values: `order` and `hashes`; of a leaf: `leaf`;
 //! - of the words of a restricted expression: `restricted value LIMIT` and `restricted place LIMIT` (what it partly evaluates to, and where that stands),
-//!   `restricted wholly LIMIT`, `restricted type`, `restricted read`, and `restricted shape` of two with ` ~ ` between them; of the words of any
+//!   `restricted wholly LIMIT`, `restricted copy`, `restricted type`, `restricted read`, and `restricted shape` of two with ` ~ ` between them; of the words of any
 //!   expression: `restricted text`, `restricted borrowed` and `restricted refused` (the feature and the part that may not stand there); of those of a
 //!   residual: `restricted residual` (with `refused` before the part that is refused) and `restricted residual-text`; of keys: `restricted pairs`;
 //! - of a name and a type: `together`, whether a function of that name that takes that type can be used beside the function `make`, which takes a

@@ -1,11 +1,16 @@
 //! What a request and a store hold.
 use crate::answers::evaluated::place_of;
 use crate::notation::answer::Answer;
-use crate::notation::leaves::uid;
+use crate::notation::leaves::{text, uid};
+use crate::notation::unanswered::Unanswered;
+use crate::notation::values::value;
+use crate::notation::{Parts, both, headed, mapped, or_memory};
 use cedar_extensions::Extensions;
-use cedar_layers::expressions::{EntityUID, Name, PartialValue, Unknown, Var};
+use cedar_layers::expressions::{EntityUID, Name, PartialValue, Type, Unknown, Value, Var};
 use cedar_layers::policies::{Dereference, Entities, Entity};
 use cedar_requests::{Context, EntityUIDEntry, Request, RequestType};
+use std::alloc::{AllocError, Global};
+use std::collections::{BTreeMap, HashSet};
 use std::rc::RcStr;
 
 /// The part of the request of this name.
@@ -120,11 +125,78 @@ pub fn ask_extensions(answer: &mut Answer, extensions: &Extensions<'_>) {
     for name in extensions.types_with_operator_overloading() {
         put_name(answer, name);
     }
+    match extensions.overloaded_types(answer.alloc) {
+        Ok(types) => put_types_of(answer, &types),
+        Err(_) => answer.lack_memory(),
+    }
+}
+
+fn put_types_of(answer: &mut Answer, types: &[Type]) {
+    answer.put(", as types");
+    for ty in types {
+        answer.put(" ");
+        answer.show(ty);
+    }
 }
 
 fn put_name(answer: &mut Answer, name: &Name) {
     answer.put(" ");
     answer.show(name);
+}
+
+/// What an entity has that is made of values: `E:e / a L:1, b T:x / t L:2` has two attributes and a tag, and `none` is none.
+pub fn ask_made_entity(answer: &mut Answer, words: &str) {
+    let (name, parts) = split(words);
+    let (attributes, tags) = split(parts);
+    let alloc = answer.alloc;
+    match both(
+        uid(alloc, name),
+        both(values_named(alloc, attributes), values_named(alloc, tags)),
+    ) {
+        Ok((uid, (attributes, tags))) => {
+            let none: HashSet<EntityUID> = HashSet::new(alloc);
+            put_made(
+                answer,
+                Entity::from_values(alloc, uid, attributes, none, tags),
+            );
+        }
+        Err(why) => answer.fail(why),
+    }
+}
+
+fn split(words: &str) -> (&str, &str) {
+    match words.split_once(" / ") {
+        Some(both) => both,
+        None => (words, "none"),
+    }
+}
+
+fn values_named(alloc: Global, written: &str) -> Result<BTreeMap<RcStr, Value>, Unanswered> {
+    let mut parts: Parts<(RcStr, Value)> = Parts::new(alloc);
+    for named in written.split(", ") {
+        if named != "none" {
+            parts.push_read(value_named(alloc, named));
+        }
+    }
+    match parts.all() {
+        Ok(pairs) => or_memory(mapped(alloc, pairs)),
+        Err(why) => Err(why),
+    }
+}
+
+fn value_named(alloc: Global, named: &str) -> Result<(RcStr, Value), Unanswered> {
+    let (name, words) = headed(named);
+    both(or_memory(text(alloc, name)), value(alloc, words))
+}
+
+fn put_made(answer: &mut Answer, made: Result<Entity, AllocError>) {
+    match made {
+        Ok(entity) => {
+            put_entity(answer, &entity);
+            drop(entity);
+        }
+        Err(_) => answer.lack_memory(),
+    }
 }
 
 fn put_found(answer: &mut Answer, entities: &Entities, uid: &EntityUID) {

@@ -4,7 +4,7 @@ use crate::levels::{Asked, Met, answer_within, met_in};
 use crate::notation::answer::Answer;
 use crate::notation::expressions::{expression, restricted};
 use crate::notation::pair;
-use crate::notation::shown::hash_of;
+use crate::notation::shown::{hash_of, put_same};
 use crate::notation::unanswered::Unanswered;
 use cedar_extensions::Extensions;
 use cedar_layers::expressions::{Expr, Literal, PartialValue, ResidualExpr, Unknown, Value};
@@ -55,6 +55,7 @@ fn of_restricted(
     match kind {
         "type" => put_type(answer, extensions, expr),
         "read" => put_read(answer, expr.as_borrowed()),
+        "copy" => put_owned(answer, expr),
         "wholly" => answer_within(answer, &Wholly { extensions, expr }, limit_text),
         _ => {
             let asked = Partly {
@@ -64,6 +65,17 @@ fn of_restricted(
             };
             answer_within(answer, &asked, limit_text);
         }
+    }
+}
+
+// What is owned of it, where that stands, and whether it is equal.
+fn put_owned(answer: &mut Answer, expr: &RestrictedExpr) {
+    match expr.as_borrowed().to_owned() {
+        Ok(copy) => {
+            put_same(answer, &copy, expr, copy.source_loc());
+            drop(copy);
+        }
+        Err(_) => answer.lack_memory(),
     }
 }
 
