@@ -2,9 +2,11 @@
 //! built-in rows. All other questions are those of `answers` and `written`.
 //!
 //! - Of the ids of policies: `decide LIMIT`, `decide-texts LIMIT` (the errors' own texts), `decide-copy LIMIT` (whether a copy
-//!   is equal), `decide-extensions LIMIT` (the extensions whose functions failed), `evaluate LIMIT`, `partly-evaluate LIMIT`, `set`, `set-debug`, `policy` and `condition`;
-//! - of the ids of policies and the steps behind them: `chain LIMIT` (what is known after the last step, which is the same by `authorize_in_steps` and by
-//!   one `reauthorize` a step), `chain get ID`, `chain request` and `chain readers` of it, `in-steps LIMIT` and `one-by-one LIMIT` (by the first, and by the second alone);
+//!   is equal), `decide-extensions LIMIT` (the extensions whose functions failed), `evaluate LIMIT`, `partly-evaluate LIMIT`, `set`, `set-debug`,
+//!   `policy` and `condition`;
+//! - of the ids of policies and the steps behind them: `chain LIMIT` (what is known after the last step, which is the same by `authorize_in_steps`
+//!   and by one `reauthorize` a step), `in-steps LIMIT` and `one-by-one LIMIT` (by the first, and by the second alone), and, in the place of a
+//!   limit, `get ID`, `request` and `readers` (what these answer of it);
 //! - of the notes that a response is made of and the steps behind them: `made`, `made readers`, `made request` and `made get ID`;
 //! - of a step: `context-with LIMIT` (the context of the setting with its values);
 //! - of the arguments of the program of the built-in rows, `run` and, where no function is stored, `run-without-functions`; of a row, `step-refused`;

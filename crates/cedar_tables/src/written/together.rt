@@ -83,7 +83,11 @@ fn shared_out<T: Drop>(
     let mut list: Vec<T> = Vec::new(alloc);
     let mut other: Vec<T> = Vec::new(alloc);
     add(&mut list, first)?;
-    add(if are_in_one { &mut list } else { &mut other }, second)?;
+    if are_in_one {
+        add(&mut list, second)?;
+    } else {
+        add(&mut other, second)?;
+    }
     Ok((list, other))
 }
 
