@@ -13,7 +13,7 @@ use Rattle.cedar_responses.specs.declared.partial_response.PartialResponse.{Part
 use Rattle.cedar_responses.specs.declared.sheet.Outcome.{Outcome}
 use Rattle.cedar_responses.specs.declared.sheet.Outcome.TheVariants as outcomes
 use Rattle.cedar_responses.specs.declared.sheet.Sheet.{Sheet}
-use Rattle.cedar_responses.specs.Rows.{Located, located_of, residual_rows}
+use Rattle.cedar_responses.specs.Rows.{Located, clause_loc, located_of, residual_rows}
 use Rattle.cedar_responses.specs.Sheets.{Noted, sheet_view, nothing_noted, noted_also, outcome_view, placed_row}
 use Rattle.cedar_authorizer.specs.Running.{StandsAtPolicy, ResidualsStand, ResidualsAreNoted, IsLeftAt}
 
@@ -37,12 +37,12 @@ first_of_rest : (p : layers.Policy) (rest : List layers.Policy) → Contains (p 
 first_of_rest p rest = (0, omega arith, refl)
 
 -- a row that is residual stands at its policy
-residual_stands : (l : Option Loc) (o : Outcome) → IsLeftAt l o → is_residual (reported_of (outcome_view o)) ≡ true → (placed_loc : Option Loc) → placed_loc ≡ placed_loc → (q : layers.Policy) → policy_location q ≡ l → (placed_row (policy_view q) o).loc ≡ policy_location q
+residual_stands : (q : layers.Policy) (o : Outcome) → IsLeftAt (policy_location q) o → is_residual (reported_of (outcome_view o)) ≡ true → clause_loc (placed_row (policy_view q) o) ≡ policy_location q
 unfolding reported_of is_residual
-residual_stands l (outcomes.Decided true) h e x y q f = absurd (cc)
-residual_stands l (outcomes.Decided false) h e x y q f = absurd (cc)
-residual_stands l (outcomes.Residual r) h e x y q f = h ∙ sym f
-residual_stands l (outcomes.Failed r) h e x y q f = absurd (cc)
+residual_stands q (outcomes.Decided true) h e = absurd (cc)
+residual_stands q (outcomes.Decided false) h e = absurd (cc)
+residual_stands q (outcomes.Residual r) h e = h
+residual_stands q (outcomes.Failed r) h e = absurd (cc)
 
 kept_if : (all : List layers.Policy) (b c : Bool) (l : Located) → (c ≡ true → StandsAtPolicy all l) → All (StandsAtPolicy all) (cond (b && c) (l ∷ []) [])
 kept_if all true true l h = All-cons (StandsAtPolicy all) l [] (h refl) (All-nil (StandsAtPolicy all))
@@ -53,7 +53,7 @@ one_stands : (all : List layers.Policy) (p : layers.Policy) (o : Outcome) (e : E
 unfolding located_of
 one_stands all p o e among left =
     kept_if all (has_effect e (policy_view p).effect) (is_residual (reported_of (outcome_view o))) (placed_row (policy_view p) o)
-    (λ is. record { policy = p; among = among; id_is = refl; stands = residual_stands (policy_location p) o left is (policy_location p) refl p refl })
+    (λ is. record { policy = p; among = among; id_is = refl; stands = residual_stands p o left is })
 
 pub one_placed : (all left rest : List layers.Policy) (old new : Sheet) (p : layers.Policy) (o : Outcome) → left ≡ p ∷ rest → ArePlacedSoFar all left old → IsLeftAt (policy_location p) o
     → sheet_view new ≡ noted_also (sheet_view old) (placed_row (policy_view p) o) (error_of (outcome_view o)) → ArePlacedSoFar all rest new

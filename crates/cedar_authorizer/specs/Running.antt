@@ -23,7 +23,7 @@ use Rattle.cedar_responses.specs.declared.sheet.Outcome.TheVariants as outcomes
 use Rattle.cedar_responses.specs.declared.sheet.Sheet.{Sheet}
 use Rattle.cedar_responses.specs.Kept.{kept}
 use Rattle.cedar_responses.specs.Responses.{errors_view}
-use Rattle.cedar_responses.specs.Rows.{Located, true_rows, false_rows, residual_rows, rows_in, rows_view}
+use Rattle.cedar_responses.specs.Rows.{Located, clause_loc, true_rows, false_rows, residual_rows, rows_in, rows_view}
 use Rattle.cedar_responses.specs.Sheets.{sheet_view, sorted}
 
 -- ---- responses
@@ -105,7 +105,7 @@ pub record StandsAtPolicy (ps : List layers.Policy) (l : Located) : Type 0 where
   pub policy : layers.Policy
   pub among : Contains ps policy
   pub id_is : l.row.id ≡ (policy_view policy).id
-  pub stands : l.loc ≡ policy_location policy
+  pub stands : clause_loc l ≡ policy_location policy
 
 -- what is left of a policy stands where that policy does
 pub record ResidualsStand (ps : List layers.Policy) (r : PartialResponse) : Type 0 where
