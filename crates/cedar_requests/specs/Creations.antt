@@ -1,25 +1,29 @@
 -- What is answered where a context is asked for, against the rules of restricted evaluation.
-use Rattle.std.specs.Prelude.{◌≡◌, ◌≢◌, ℕ, Bool, true, false, List, Some, None, is_some, Result, Ok, Err, codes}
+use Rattle.std.specs.Prelude.{◌≡◌, ◌≢◌, ◌≤◌, ℕ, Bool, true, false, List, Some, None, is_some, Result, Ok, Err, IfErr}
+use Rattle.std.specs.Prelude.{codes}
 use Rattle.std.specs.Rc.{rc_str_bytes}
 use Rattle.std.specs.declared.alloc.Global.{Global}
 use Rattle.std.specs.declared.rc.RcStr.{RcStr}
 use Rattle.cedar_model.specs.Terms.{Term, record_of}
 use Rattle.cedar_model.specs.Values.{record_represented}
+use Rattle.cedar_model.specs.World as world
 use Rattle.cedar_model.specs.Failures as model
 use Rattle.cedar_model.specs.Failures.{out_of_memory, value, residual, answers, fails}
 use Rattle.cedar_model.specs.Settings.{Setting}
 use Rattle.cedar_model.specs.Rules.{StoredCalls, fields_of_record}
+use Rattle.cedar_model.specs.Agreement.{height}
 use Rattle.cedar_expressions.specs.declared.expr.Expr.{Expr}
 use Rattle.cedar_expressions.specs.declared.errors.ExpressionConstructionError.{ExpressionConstructionError}
 use Rattle.cedar_expressions.specs.declared.errors.ExpressionConstructionError.TheVariants as constructions
 use Rattle.cedar_expressions.specs.Records.{first_repeated, fields_in_order, pairs_view, keys_view}
 use Rattle.cedar_expressions.specs.View.{view}
 use Rattle.cedar_values.specs.Failures.{failure_of}
-use Rattle.cedar_restricted.specs.Evaluations.{IsAnswerWithin}
+use Rattle.cedar_restricted.specs.Evaluations.{IsBare, IsAnswerWithin}
 use Rattle.cedar_requests.specs.declared.context.Context.{Context}
 use Rattle.cedar_requests.specs.declared.errors.ContextCreationError.{ContextCreationError}
 use Rattle.cedar_requests.specs.declared.errors.ContextCreationError.TheVariants as refusals
 use Rattle.cedar_requests.specs.Contexts.{context_part_value}
+use Rattle.cedar_requests.specs.Errors.{IsAtLimit}
 
 -- whether an expression is a record
 abbrev pub is_record : Term → Bool
@@ -77,3 +81,18 @@ IsOfPairs s calls n ps (Err (refusals.Evaluation e)) =
     × IsOfRecord s calls n (record_of_pairs ps) (Err (refusals.Evaluation e))
 IsOfPairs s calls n ps (Err (refusals.ExpressionConstruction e)) = NamesKey ps e
 IsOfPairs s calls n ps (Err (refusals.Memory e)) = Unit {0}
+
+-- ---- where only extensions are given
+
+-- within so many levels this is answered of the expression, whatever else is in the setting
+abbrev pub IsCreated : world.Extensions → StoredCalls → ℕ → Term → Result Context ContextCreationError → Type 0
+IsCreated x calls n t r = (s : Setting) → IsBare x s → IsOfExpr s calls n t r
+
+-- and of the pairs
+abbrev pub IsCreatedOfPairs : world.Extensions → StoredCalls → ℕ → List (RcStr Global × Expr) →
+    Result Context ContextCreationError → Type 0
+IsCreatedOfPairs x calls n ps r = (s : Setting) → IsBare x s → IsOfPairs s calls n ps r
+
+-- an expression that is no higher than the limit never meets it
+abbrev pub MeetsNoLimit : ℕ → Term → Result Context ContextCreationError → Type 0
+MeetsNoLimit n t r = height t ≤ n → IfErr r (λ e. ¬ (IsAtLimit e))

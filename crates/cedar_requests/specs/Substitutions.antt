@@ -17,7 +17,7 @@ use Rattle.cedar_expressions.specs.Mappings.{mapping_of}
 use Rattle.cedar_data.specs.Sound.{Placed}
 use Rattle.cedar_values.specs.declared.evaluator.err.EvaluationError.{EvaluationError}
 use Rattle.cedar_values.specs.Failures.{failure_of}
-use Rattle.cedar_restricted.specs.Evaluations.{IsAnswerWithin}
+use Rattle.cedar_restricted.specs.Evaluations.{IsBare, IsAnswerWithin}
 use Rattle.cedar_requests.specs.declared.context.Context.{Context}
 use Rattle.cedar_requests.specs.Contexts.{context_view, context_part_value}
 
@@ -48,6 +48,16 @@ IsSubstitutedWithin s calls levels m absent_context r = context_result r ≡ Ok 
 IsSubstitutedWithin s calls levels m (known_context fs) r = context_result r ≡ Ok (known_context fs)
 IsSubstitutedWithin s calls levels m (residual_context fs) r =
     Meets (IsAnswerWithin s calls levels (record_of (substituted_at m fs))) (context_answer r)
+
+-- a step makes this of the context in each setting that has these extensions
+abbrev pub IsStepOfContext : world.Extensions → StoredCalls → ℕ → Mapping → ContextPart →
+    Result Context EvaluationError → Type 0
+IsStepOfContext x calls levels m c r = (s : Setting) → s.extensions ≡ x → IsSubstituted s calls levels m c r
+
+-- a residual is evaluated again with these extensions, whatever else is in the setting
+abbrev pub IsEvaluatedAgain : world.Extensions → StoredCalls → ℕ → Mapping → ContextPart →
+    Result Context EvaluationError → Type 0
+IsEvaluatedAgain x calls levels m c r = (s : Setting) → IsBare x s → IsSubstitutedWithin s calls levels m c r
 
 -- the world agrees with the context and fits it, and its values are faithful
 pub record CompletesContext (x : world.Extensions) (ans : Functions) (w : World) (c : ContextPart) : Type 0 where

@@ -45,6 +45,7 @@ pub mod context_creation_errors {
     }
 }
 
+/// `NotARecord`.
 impl From<context_creation_errors::NotARecord> for ContextCreationError {
     ghost from_gives = { λ error result. result ≡ NotARecord error };
 
@@ -53,7 +54,7 @@ impl From<context_creation_errors::NotARecord> for ContextCreationError {
     }
 }
 
-/// Want of memory stays want of memory.
+/// `Evaluation`, or `Memory` of want of memory.
 impl From<EvaluationError> for ContextCreationError {
     ghost from_gives = { IsEvaluationRefusal };
 
@@ -65,7 +66,7 @@ impl From<EvaluationError> for ContextCreationError {
     }
 }
 
-/// Want of memory stays want of memory.
+/// `ExpressionConstruction`, or `Memory` of want of memory.
 impl From<ExpressionConstructionError> for ContextCreationError {
     ghost from_gives = { λ error result. result ≡ construction_refusal error };
 
@@ -81,6 +82,7 @@ impl From<ExpressionConstructionError> for ContextCreationError {
     }
 }
 
+/// `Memory`.
 impl From<AllocError> for ContextCreationError {
     ghost from_gives = { λ error result. result ≡ Memory error };
 

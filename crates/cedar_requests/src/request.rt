@@ -30,9 +30,19 @@ impl Model for Request {
 
     ghost coded = { Prim.hlevel (codes, contexts.the_row.coded) };
 
-    ghost view = { λ a. record { principal = a.principal; action = a.action; resource = a.resource; context = a.context } };
+    ghost view = { λ a. record {
+      principal = a.principal;
+      action = a.action;
+      resource = a.resource;
+      context = a.context;
+    } };
 
-    ghost inverse = { λ a. record { principal = a.principal; action = a.action; resource = a.resource; context = a.context } };
+    ghost inverse = { λ a. record {
+      principal = a.principal;
+      action = a.action;
+      resource = a.resource;
+      context = a.context;
+    } };
 }
 
 impl Request {

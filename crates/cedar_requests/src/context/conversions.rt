@@ -15,7 +15,8 @@ use std::alloc::AllocError;
 impl TryFrom<Context> for PartialValue {
     type Error = AllocError;
 
-    ghost try_from_gives = { λ c r. IfOk r (λ p. (partial_view p ≡ context_part_value c) × (partial_loc p ≡ None)) };
+    ghost try_from_gives = { λ c r. IfOk r (λ p. (partial_view p ≡ context_part_value c)
+        × (partial_loc p ≡ None)) };
 
     #[tactic(auto, unfolding(cedar_model::specs::Settings::context_value))]
     fn try_from(context: Context) -> Result<PartialValue, AllocError> {

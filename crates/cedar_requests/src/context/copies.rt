@@ -35,7 +35,8 @@ impl Clone for ContextPairs {
 impl Clone for ResidualPairs {
     ghost use Rattle.cedar_requests.specs.Contexts.{residual_fields, residual_locs};
 
-    ghost is_clone = { λ r copy. (residual_fields copy ≡ residual_fields r) × (residual_locs copy ≡ residual_locs r) };
+    ghost is_clone = { λ r copy. (residual_fields copy ≡ residual_fields r)
+        × (residual_locs copy ≡ residual_locs r) };
 
     fn clone(&self) -> Result<ResidualPairs, AllocError> {
         let pairs = self.as_map().clone()?;

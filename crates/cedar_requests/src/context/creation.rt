@@ -18,9 +18,9 @@ ghost use Rattle.cedar_restricted_expressions.specs.Views.{borrowed_term, borrow
 ghost use Rattle.cedar_requests.specs.Contexts.{context_part_value, context_pairs, residual_fields};
 ghost use Rattle.cedar_requests.specs.Substitutions.{context_answer};
 ghost use Rattle.cedar_requests.specs.declared.context.pairs.ContextPairs.TheVariants.{Residual};
-ghost use Rattle.cedar_requests.specs.Errors.{IsAtLimit, NamesAt};
-ghost use Rattle.cedar_requests.specs.Creations.{is_record, IsRecordPart, IsNoRecord, IsOfRecord, IsOfExpr, IsOfPairs};
-ghost use Rattle.cedar_requests.specs.Creations.{record_of_pairs};
+ghost use Rattle.cedar_requests.specs.Errors.{NamesAt};
+ghost use Rattle.cedar_requests.specs.Creations.{is_record, record_of_pairs, IsRecordPart, IsNoRecord, IsOfRecord};
+ghost use Rattle.cedar_requests.specs.Creations.{IsCreated, IsCreatedOfPairs, MeetsNoLimit};
 
 use super::Context;
 use super::pairs::{ContextPairs, ResidualPairs};
@@ -47,10 +47,10 @@ impl Context {
         extensions: &Extensions<'_>,
         limit: usize,
     ) -> Result<Context, ContextCreationError>
-        ensures created { (s : Setting) → IsBare (extensions_view extensions.now) s →
-            IsOfExpr s (calls_of extensions.now) limit (borrowed_term expr.entry) result }
+        ensures created { IsCreated (extensions_view extensions.now) (calls_of extensions.now) limit
+            (borrowed_term expr.entry) result }
         ensures place { IfErr result (NamesAt (borrowed_loc expr.entry)) }
-        ensures low { height (borrowed_term expr.entry) ≤ limit → IfErr result (λ e. ¬ (IsAtLimit e)) }
+        ensures low { MeetsNoLimit limit (borrowed_term expr.entry) result }
     {
         if is_record(expr.as_ref()) {
             of_record(alloc, expr, extensions, limit)
@@ -68,9 +68,9 @@ impl Context {
         extensions: &Extensions<'_>,
         limit: usize,
     ) -> Result<Context, ContextCreationError>
-        ensures created { (s : Setting) → IsBare (extensions_view extensions.now) s →
-            IsOfPairs s (calls_of extensions.now) limit (pairs_in pairs.items) result }
-        ensures low { height (record_of_pairs (pairs_in pairs.items)) ≤ limit → IfErr result (λ e. ¬ (IsAtLimit e)) }
+        ensures created { IsCreatedOfPairs (extensions_view extensions.now) (calls_of extensions.now) limit
+            (pairs_in pairs.items) result }
+        ensures low { MeetsNoLimit limit (record_of_pairs (pairs_in pairs.items)) result }
     {
         match RestrictedExpr::record(alloc, pairs) {
             Ok(record) => {
@@ -103,7 +103,7 @@ fn of_record(
     requires { is_record (borrowed_term expr) ≡ true }
     ensures created { (s : Setting) → IsBare (extensions_view extensions.now) s →
         IsOfRecord s (calls_of extensions.now) limit (borrowed_term expr.entry) result }
-    ensures low { height (borrowed_term expr.entry) ≤ limit → IfErr result (λ e. ¬ (IsAtLimit e)) }
+    ensures low { MeetsNoLimit limit (borrowed_term expr.entry) result }
 {
     match evaluated(alloc, expr, extensions, limit) {
         Ok(context) => Ok(context),

@@ -36,7 +36,8 @@ impl Model for ResidualPairs {
 
     ghost Value = { LeftPairs };
 
-    ghost coded = { coded_via (Prim.hlevel (codes, btree_map_code, expressions.the_row.coded)) (λ r. r.pairs) same_left_pairs };
+    ghost coded = { coded_via (Prim.hlevel (codes, btree_map_code, expressions.the_row.coded))
+        (λ r. r.pairs) same_left_pairs };
 
     ghost view = { λ a. record { pairs = a.pairs; restricted = a.restricted; unknown = a.unknown } };
 }

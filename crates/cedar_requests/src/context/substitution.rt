@@ -2,15 +2,13 @@
 ghost use Rattle.std.specs.Prelude.{◌≡◌, ◌≢◌, ◌≤◌, Ok, IfOk, IfErr, IfSome};
 ghost use Rattle.cedar_model.specs.Terms.{record_of};
 ghost use Rattle.cedar_model.specs.Failures.{recursion_limit};
-ghost use Rattle.cedar_model.specs.Settings.{Setting};
 ghost use Rattle.cedar_model.specs.Chains.{substituted_at};
 ghost use Rattle.cedar_model.specs.Depth.{substituted_height};
 ghost use Rattle.cedar_extensions.specs.Extensions.{extensions_view, calls_of};
 ghost use Rattle.cedar_values.specs.Failures.{failure_of};
-ghost use Rattle.cedar_restricted.specs.Evaluations.{IsBare};
 ghost use Rattle.cedar_restricted_expressions.specs.Views.{restricted_term};
 ghost use Rattle.cedar_requests.specs.Contexts.{context_view, context_values, context_part_value, residual_fields};
-ghost use Rattle.cedar_requests.specs.Substitutions.{values_for, IsSubstituted, IsSubstitutedWithin};
+ghost use Rattle.cedar_requests.specs.Substitutions.{values_for, IsStepOfContext, IsEvaluatedAgain};
 ghost use Rattle.cedar_requests.specs.Substitutions.{KeepsCompletions};
 
 use super::Context;
@@ -40,10 +38,10 @@ impl Context {
         extensions: &Extensions<'_>,
         limit: usize,
     ) -> Result<Context, EvaluationError>
-        ensures substituted { (s : Setting) → s.extensions ≡ extensions_view extensions.now →
-            IsSubstituted s (calls_of extensions.now) limit (values_for map.now.entries) (context_view self) result }
-        ensures answer { (s : Setting) → IsBare (extensions_view extensions.now) s →
-            IsSubstitutedWithin s (calls_of extensions.now) limit (values_for map.now.entries) (context_view self) result }
+        ensures substituted { IsStepOfContext (extensions_view extensions.now) (calls_of extensions.now) limit
+            (values_for map.now.entries) (context_view self) result }
+        ensures answer { IsEvaluatedAgain (extensions_view extensions.now) (calls_of extensions.now) limit
+            (values_for map.now.entries) (context_view self) result }
         ensures values { IfSome (context_values self) (λ m. result ≡ Ok self) }
         ensures low { substituted_height (values_for map.now.entries) (context_part_value self) ≤ limit →
             IfErr result (λ e. failure_of e ≢ recursion_limit) }

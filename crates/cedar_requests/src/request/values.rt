@@ -12,9 +12,9 @@ use cedar_names::Var;
 use std::alloc::{AllocError, Global};
 
 impl Request {
-    /// What the variables `principal`, `action`, `resource` and `context` answer: the entities at the locations of their
-    /// entries, and the record of the context at none, or their unknowns. What they hold is moved there, and shared by
-    /// their copies. Refuses only for want of memory.
+    /// What the variables `principal`, `action`, `resource` and `context` answer: the entities at the locations of
+    /// their entries, and the record of the context at none, or their unknowns. What they hold is moved there, and
+    /// shared by their copies. Refuses only for want of memory.
     #[tactic(auto, unfolding(cedar_model::specs::Settings::variable_part))]
     pub fn variable_values(
         self,
