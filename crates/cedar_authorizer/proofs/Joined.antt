@@ -127,7 +127,7 @@ pub refused_request : {A B : Type 0} (P : Result A Refusal → Type 0) (Q : Resu
     → IfSome (option_map {U = Result A Refusal} Err (refusal_of e)) P → IfSome (option_map {U = Result B Refusal} Err (step_refusal r)) Q
 refused_request {A} {B} P Q k e (reauthorizations.PolicySetError p) is h = absurd is
 refused_request {A} {B} P Q k e (reauthorizations.ConcretizationError f) is h =
-    by (refusal_of f) (subst (λ x. IfSome (option_map {U = Result A Refusal} Err (refusal_of x)) P) (sym is) h)
+    by (refusal_of f) (subst (λ x. IfSome (option_map {U = Result A Refusal} Err (refusal_of x)) P) (sym is.0) h)
   where
     by : (o : Option Refusal) → IfSome (option_map {U = Result A Refusal} Err o) P → IfSome (option_map {U = Result B Refusal} Err o) Q
     by None h = tt
@@ -136,5 +136,5 @@ refused_request {A} {B} P Q k e (reauthorizations.Memory p) is h = tt
 
 pub request_low : (e : ConcretizationError) (r : ReauthorizationError) → IsRequestRefusal e r → refusal_of e ≢ Some (context_fails recursion_limit) → step_refusal r ≢ Some (context_fails recursion_limit)
 request_low e (reauthorizations.PolicySetError p) is h w = is
-request_low e (reauthorizations.ConcretizationError f) is h w = h (ap refusal_of (sym is) ∙ w)
+request_low e (reauthorizations.ConcretizationError f) is h w = h (ap refusal_of (sym is.0) ∙ w)
 request_low e (reauthorizations.Memory p) is h w = absurd (cc)

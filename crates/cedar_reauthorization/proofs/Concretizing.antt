@@ -4,7 +4,7 @@ use Rattle.std.proofs.Common.{refl, ap, ◌∙◌, sym, subst, codes}
 use Rattle.cedar_model.specs.Terms.{Text, EntityName}
 use Rattle.cedar_model.specs.Values.{Represented, abstract_value}
 use Rattle.cedar_model.specs.Outcomes.{entity_of, text_eq}
-use Rattle.cedar_model.specs.Failures.{Failure, recursion_limit}
+use Rattle.cedar_model.specs.Failures.{Failure}
 use Rattle.cedar_model.specs.Settings.{Entry, known_entry, unknown_entry, ContextPart, RequestPart, Setting}
 use Rattle.cedar_model.specs.Rules.{StoredCalls}
 use Rattle.cedar_model.specs.Refusals.{Refusal, type_is_other, context_fails, typed_entry, entry_beside, entry_by}
@@ -65,7 +65,7 @@ module _ (s : Setting) (calls : StoredCalls) (n : ℕ) (m : Mapping) where
   then_refused q None h = tt
   then_refused q (Some x) h = subst (λ y. AfterMap s calls n m y (Err x)) h refl
 
--- ---- the recursion limit
+-- ---- the recursion limit, and what the map is never refused for
 
 pub low_request : (m : Mapping) (n : ℕ) (r new : RequestPart) → Ok new ≡ concrete_request m r
     → IsResidualNoHigher m n r.context_part → IsResidualNoHigher m n new.context_part
@@ -107,8 +107,8 @@ request_evaluates_nothing m r f =
     (λ a. unless_it _ _ _ (entry_evaluates_nothing _ _ _ f)
     (λ e. unless_it _ _ _ (context_evaluates_nothing _ _ f) (λ c w. err_is_not_ok (sym w)))))
 
-pub low_map : (m : Mapping) (r : RequestPart) (o : Option Refusal)
-    → IfSome (option_map Err o) (λ a. a ≡ concrete_request m r) → o ≢ Some (context_fails recursion_limit)
-low_map m r None h w = absurd (cc)
-low_map m r (Some x) h w =
-    request_evaluates_nothing m r recursion_limit (sym h ∙ ap Err (some_inj w))
+pub map_refused : (f : Failure) (m : Mapping) (r : RequestPart) (o : Option Refusal)
+    → IfSome (option_map Err o) (λ a. a ≡ concrete_request m r) → o ≢ Some (context_fails f)
+map_refused f m r None h w = absurd (cc)
+map_refused f m r (Some x) h w =
+    request_evaluates_nothing m r f (sym h ∙ ap Err (some_inj w))

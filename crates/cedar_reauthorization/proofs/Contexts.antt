@@ -21,7 +21,7 @@ use Rattle.cedar_requests.specs.Substitutions.{IsSubstituted}
 use Rattle.cedar_requests.proofs.Substituting.{residual_height}
 use Rattle.cedar_reauthorization.specs.declared.err.ConcretizationError.{ConcretizationError}
 use Rattle.cedar_reauthorization.specs.declared.err.ConcretizationError.TheVariants as concretizations
-use Rattle.cedar_reauthorization.specs.Errors.{refusal_of, IsValueRefusal}
+use Rattle.cedar_reauthorization.specs.Errors.{refusal_of, IsValueRefusal, IsUnwrappedRefusal}
 use Rattle.cedar_reauthorization.specs.Concretizations.{fields_in, IsResidualNoHigher}
 
 some_inj : {A : Type 0} {x y : A} → Some x ≡ Some y → x ≡ y
@@ -108,6 +108,14 @@ low_refused e (concretizations.EntityTypeConfictError id type given) is h w = is
 low_refused e (concretizations.ValueEval g) is h w =
     h (ap failure_of (sym is.0) ∙ fails_inj (some_inj w))
 low_refused e (concretizations.Memory x) is h w = absurd (cc)
+
+-- want of memory is not wrapped
+pub value_unwrapped : (e : EvaluationError) (f : ConcretizationError) → IsValueRefusal e f → IsUnwrappedRefusal f
+value_unwrapped e (concretizations.ValueError id expected given) is w = is
+value_unwrapped e (concretizations.VarConfictError id existing given) is w = is
+value_unwrapped e (concretizations.EntityTypeConfictError id type given) is w = is
+value_unwrapped e (concretizations.ValueEval g) is w = is.1 (ap failure_of (sym is.0) ∙ fails_inj (some_inj w))
+value_unwrapped e (concretizations.Memory x) is w = absurd (cc)
 
 -- a context of values is never refused, and a residual one not for its height
 pub low_context : (m : Mapping) (n : ℕ) (c : Context) (e : EvaluationError)

@@ -1,3 +1,4 @@
 pub mod Carrying
 pub mod Concretizing
 pub mod Contexts
+pub mod Unwrapped

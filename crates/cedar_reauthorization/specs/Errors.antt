@@ -33,6 +33,28 @@ step_refusal (reauthorizations.PolicySetError e) = option_map id_comes_again (oc
 step_refusal (reauthorizations.ConcretizationError e) = refusal_of e
 step_refusal (reauthorizations.Memory e) = None
 
+-- ---- want of memory, which no other error holds
+
+-- it is want of memory: no refusal, or that of an evaluation that memory was wanting for
+abbrev pub IsForMemory : Option Refusal → Type 0
+IsForMemory None = Unit {0}
+IsForMemory (Some r) = r ≡ context_fails out_of_memory
+
+-- it is not
+abbrev pub IsNotForMemory : Option Refusal → Type 0
+IsNotForMemory None = ⊥
+IsNotForMemory (Some r) = r ≢ context_fails out_of_memory
+
+-- an error of the request is want of memory itself, or holds none
+abbrev pub IsUnwrappedRefusal : ConcretizationError → Type 0
+IsUnwrappedRefusal e = refusal_of e ≢ Some (context_fails out_of_memory)
+
+-- an error of a step is want of memory itself, or holds none
+abbrev pub IsUnwrapped : ReauthorizationError → Type 0
+IsUnwrapped (reauthorizations.PolicySetError e) = IsNotForMemory (option_map id_comes_again (occupied_id e))
+IsUnwrapped (reauthorizations.ConcretizationError e) = IsNotForMemory (refusal_of e)
+IsUnwrapped (reauthorizations.Memory e) = Unit {0}
+
 -- ---- answers: what was made, seen so, or the refusal
 
 abbrev pub answer_by : {A B : Type 0} → (A → B) → Result A ConcretizationError → Option (Result B Refusal)
@@ -58,8 +80,8 @@ abbrev pub IsPolicyRefusal : PolicySetError → ReauthorizationError → Type 0
 IsPolicyRefusal (sets.Occupied id) r = r ≡ reauthorizations.PolicySetError (sets.Occupied id)
 IsPolicyRefusal (sets.Memory e) r = r ≡ reauthorizations.Memory e
 
--- and one of the request
+-- and one of the request, from which want of memory is also taken where the evaluation of the context holds it
 abbrev pub IsRequestRefusal : ConcretizationError → ReauthorizationError → Type 0
 IsRequestRefusal e (reauthorizations.PolicySetError p) = ⊥
-IsRequestRefusal e (reauthorizations.ConcretizationError f) = f ≡ e
-IsRequestRefusal e (reauthorizations.Memory m) = refusal_of e ≡ None
+IsRequestRefusal e (reauthorizations.ConcretizationError f) = (f ≡ e) × IsNotForMemory (refusal_of f)
+IsRequestRefusal e (reauthorizations.Memory m) = IsForMemory (refusal_of e)

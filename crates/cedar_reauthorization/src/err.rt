@@ -67,7 +67,7 @@ pub enum ReauthorizationError {
     Memory(AllocError),
 }
 
-/// Want of memory stays want of memory.
+/// `ValueEval`, or `Memory` of want of memory.
 impl From<EvaluationError> for ConcretizationError {
     ghost from_gives = { IsValueRefusal };
 
@@ -79,6 +79,7 @@ impl From<EvaluationError> for ConcretizationError {
     }
 }
 
+/// `Memory`.
 impl From<AllocError> for ConcretizationError {
     ghost from_gives = { λ error result. result ≡ concretizations.Memory error };
 
@@ -87,7 +88,7 @@ impl From<AllocError> for ConcretizationError {
     }
 }
 
-/// Want of memory stays want of memory.
+/// `PolicySetError`, or `Memory` of want of memory.
 impl From<PolicySetError> for ReauthorizationError {
     ghost from_gives = { IsPolicyRefusal };
 
@@ -101,18 +102,30 @@ impl From<PolicySetError> for ReauthorizationError {
     }
 }
 
-/// Want of memory stays want of memory.
+/// `ConcretizationError`, or `Memory` of want of memory, also of a `ValueEval` that holds it.
 impl From<ConcretizationError> for ReauthorizationError {
     ghost from_gives = { IsRequestRefusal };
 
     fn from(error: ConcretizationError) -> ReauthorizationError {
         match error {
             ConcretizationError::Memory(error) => ReauthorizationError::Memory(error),
+            ConcretizationError::ValueEval(error) => of_evaluation(error),
             other => ReauthorizationError::ConcretizationError(other),
         }
     }
 }
 
+// The error of a step that the evaluation of the context failed with this.
+fn of_evaluation(error: EvaluationError) -> ReauthorizationError
+    ensures { IsRequestRefusal (concretizations.ValueEval error) result }
+{
+    match error {
+        EvaluationError::Memory(error) => ReauthorizationError::Memory(error),
+        other => ReauthorizationError::ConcretizationError(ConcretizationError::ValueEval(other)),
+    }
+}
+
+/// `Memory`.
 impl From<AllocError> for ReauthorizationError {
     ghost from_gives = { λ error result. result ≡ reauthorizations.Memory error };
 

@@ -1,9 +1,9 @@
 //! The policies of a partial response that are decided again.
-ghost use Rattle.std.specs.Prelude.{◌≡◌, map, IfOk, IfSome};
+ghost use Rattle.std.specs.Prelude.{◌≡◌, map, IfErr, IfOk, IfSome};
 ghost use Rattle.cedar_model.specs.Chains.{all_residuals};
 ghost use Rattle.cedar_layers.specs.Policies.{policy_view, decides_as};
 ghost use Rattle.cedar_responses.specs.Rows.{rows_view};
-ghost use Rattle.cedar_reauthorization.specs.Errors.{step_answer_by};
+ghost use Rattle.cedar_reauthorization.specs.Errors.{step_answer_by, IsUnwrapped};
 ghost use Rattle.cedar_reauthorization.specs.Policies.{set_policies, all_once};
 
 use crate::err::ReauthorizationError;
@@ -13,13 +13,14 @@ use std::alloc::{AllocError, Global};
 
 /// The set of every policy of the response, permits first: the satisfied ones, those that are not satisfied, and the
 /// residual ones, each with what is reported of it as its clause. Refuses the first id that comes again with
-/// `PolicySetError`, or for want of memory.
+/// `PolicySetError`, or for want of memory with `Memory` alone.
 pub fn residual_policies(
     alloc: Global,
     response: &PartialResponse,
 ) -> Result<PolicySet, ReauthorizationError>
-    ensures { IfSome (step_answer_by set_policies result)
+    ensures set { IfSome (step_answer_by set_policies result)
         (λ a. a ≡ all_once (all_residuals (rows_view response.now))) }
+    ensures memory { IfErr result IsUnwrapped }
 {
     let policies = carried(alloc, response)?;
     match PolicySet::try_from_iter(alloc, policies) {

@@ -9,7 +9,7 @@ ghost use Rattle.cedar_data.specs.Sound.{Placed};
 ghost use Rattle.cedar_extensions.specs.Extensions.{extensions_view, calls_of};
 ghost use Rattle.cedar_requests.specs.Requests.{entry_view, entry_loc, request_view};
 ghost use Rattle.cedar_requests.specs.Substitutions.{values_for};
-ghost use Rattle.cedar_reauthorization.specs.Errors.{refusal_of, answer_by};
+ghost use Rattle.cedar_reauthorization.specs.Errors.{refusal_of, answer_by, IsUnwrappedRefusal};
 ghost use Rattle.cedar_reauthorization.specs.Concretizations.{IsWithValues, IsConcrete, IsResidualNoHigher};
 ghost use Rattle.cedar_reauthorization.specs.Concretizations.{entity_locs, concrete_loc, concrete_locs};
 ghost use Rattle.cedar_reauthorization.specs.Concretizations.{after_principal, after_action, after_resource};
@@ -35,7 +35,7 @@ use std::rc::RcStr;
 /// the entry with `EntityTypeConfictError`. Then, where the map has a value for `context`, it is the context. Refuses
 /// one that is no record with `ValueError`, and a context that is there already with `VarConfictError`. Then the map's
 /// values are put into the context (`Context::substitute`). Refuses with `ValueEval` where that fails; or for want of
-/// memory.
+/// memory, with `Memory` alone.
 pub fn concretize_request(
     alloc: Global,
     request: &Request,
@@ -50,6 +50,7 @@ pub fn concretize_request(
         (λ r. entity_locs r ≡ concrete_locs (values_for map.now.entries) (entity_locs request.now)) }
     ensures low { IsResidualNoHigher (values_for map.now.entries) limit (request_view request.now).context_part →
         IfErr result (λ e. refusal_of e ≢ Some (context_fails recursion_limit)) }
+    ensures memory { IfErr result IsUnwrappedRefusal }
 {
     match mapped_request(alloc, request, map) {
         Ok(mapped) => substituted_request(alloc, mapped, map, extensions, limit),
@@ -155,6 +156,7 @@ fn substituted_request(
     ensures places { IfOk result (λ r. entity_locs r ≡ entity_locs request) }
     ensures low { IsResidualNoHigher (values_for map.now.entries) limit (request_view request).context_part →
         IfErr result (λ e. refusal_of e ≢ Some (context_fails recursion_limit)) }
+    ensures memory { IfErr result IsUnwrappedRefusal }
 {
     let (principal, action, resource, context) = request.into_parts();
     match with_values(alloc, context, map, extensions, limit) {

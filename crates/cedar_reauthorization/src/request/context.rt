@@ -12,7 +12,7 @@ ghost use Rattle.std.specs.declared.alloc.Global.{Global};
 ghost use Rattle.std.specs.declared.rc.Rc.{Rc};
 ghost use Rattle.cedar_requests.specs.Requests.{context_given};
 ghost use Rattle.cedar_requests.specs.Substitutions.{values_for};
-ghost use Rattle.cedar_reauthorization.specs.Errors.{refusal_of, answer_by};
+ghost use Rattle.cedar_reauthorization.specs.Errors.{refusal_of, answer_by, IsUnwrappedRefusal};
 ghost use Rattle.cedar_reauthorization.specs.Concretizations.{fields_in, IsResidualNoHigher};
 
 use super::refusals::{is_there_already, value_is_wrong};
@@ -107,6 +107,7 @@ pub(super) fn with_values(
         (SubstitutesTo s (calls_of extensions.now) limit (values_for map.now.entries) (context_given context)) }
     ensures low { IsResidualNoHigher (values_for map.now.entries) limit (context_given context) →
         IfErr result (λ e. refusal_of e ≢ Some (context_fails recursion_limit)) }
+    ensures memory { IfErr result IsUnwrappedRefusal }
 {
     match context {
         Some(context) => match context.substitute(alloc, map, extensions, limit) {

@@ -1,8 +1,9 @@
+use Rattle.cedar_model.specs.Failures.{recursion_limit, out_of_memory}
 use Rattle.cedar_extensions.specs.Extensions.{calls_of}
 use Rattle.cedar_requests.specs.Requests.{request_view}
 use Rattle.cedar_requests.specs.Substitutions.{values_for}
 use Rattle.cedar_reauthorization.specs.Errors.{refusal_of, answer_by}
-use Rattle.cedar_reauthorization.proofs.Concretizing.{then_values, then_refused, low_request, low_map}
+use Rattle.cedar_reauthorization.proofs.Concretizing.{then_values, then_refused, low_request, map_refused}
 use Rattle.cedar_reauthorization.proofs.request.concretize_request.Goals as goal
 
 pub returns-in-Ok-clause-concrete : goal.returns-in-Ok-clause-concrete
@@ -23,5 +24,10 @@ returns-in-Err-clause-concrete g c = λ s has.
 
 pub returns-in-Err-clause-low : goal.returns-in-Err-clause-low
 returns-in-Err-clause-low g c = λ low.
-    low_map (values_for c.args.map.now.entries) (request_view c.args.request.now) (refusal_of c.in-Err.error)
-    c.in-Err.ensures.view
+    map_refused recursion_limit (values_for c.args.map.now.entries) (request_view c.args.request.now)
+    (refusal_of c.in-Err.error) c.in-Err.ensures.view
+
+pub returns-in-Err-clause-memory : goal.returns-in-Err-clause-memory
+returns-in-Err-clause-memory g c =
+    map_refused out_of_memory (values_for c.args.map.now.entries) (request_view c.args.request.now)
+    (refusal_of c.in-Err.error) c.in-Err.ensures.view

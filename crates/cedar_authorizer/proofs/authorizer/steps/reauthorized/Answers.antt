@@ -13,9 +13,9 @@ use Rattle.cedar_authorizer.proofs.authorizer.steps.reauthorized.Goals as goal
 pub returns-in-Ok-clause-step : goal.returns-in-Ok-clause-step
 returns-in-Ok-clause-step g c =
     let s = under (configuration c.args.authorizer.now) (step_by c.args.map.now c.args.entities.now) (request_view (request_of c.args.response.now)) in
-    answered_step s (calls_of (extensions_of c.args.authorizer.now)) (limit_of c.args.authorizer.now) (values_for c.args.map.now.entries) (store_view c.args.entities.now) c.args.response.now (set_policies c.in-Ok.policies) _ c.in-Ok.ensures (rw c.deref.ensures at c.with_policies.ensures.step)
+    answered_step s (calls_of (extensions_of c.args.authorizer.now)) (limit_of c.args.authorizer.now) (values_for c.args.map.now.entries) (store_view c.args.entities.now) c.args.response.now (set_policies c.in-Ok.policies) _ c.in-Ok.ensures.set (rw c.deref.ensures at c.with_policies.ensures.step)
 
 pub returns-in-Err-clause-step : goal.returns-in-Err-clause-step
 returns-in-Err-clause-step g c =
     let s = under (configuration c.args.authorizer.now) (step_by c.args.map.now c.args.entities.now) (request_view (request_of c.args.response.now)) in
-    refused_policies s (calls_of (extensions_of c.args.authorizer.now)) (limit_of c.args.authorizer.now) (values_for c.args.map.now.entries) (store_view c.args.entities.now) c.args.response.now (step_refusal c.in-Err.error) c.in-Err.ensures
+    refused_policies s (calls_of (extensions_of c.args.authorizer.now)) (limit_of c.args.authorizer.now) (values_for c.args.map.now.entries) (store_view c.args.entities.now) c.args.response.now (step_refusal c.in-Err.error) c.in-Err.ensures.set

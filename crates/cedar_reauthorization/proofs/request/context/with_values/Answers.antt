@@ -5,7 +5,7 @@ use Rattle.cedar_requests.specs.Contexts.{context_view}
 use Rattle.cedar_requests.specs.Requests.{context_given}
 use Rattle.cedar_requests.specs.Substitutions.{values_for, IsSubstituted}
 use Rattle.cedar_reauthorization.specs.Concretizations.{IsResidualNoHigher}
-use Rattle.cedar_reauthorization.proofs.Contexts.{values_refused, low_refused, low_context}
+use Rattle.cedar_reauthorization.proofs.Contexts.{values_refused, low_refused, low_context, value_unwrapped}
 use Rattle.cedar_reauthorization.proofs.request.context.with_values.Goals as goal
 
 pub returns-in-Ok-clause-values : goal.returns-in-Ok-clause-values
@@ -28,3 +28,6 @@ returns-in-Err-clause-low g c = λ low.
     low_refused c.in-Err.error c.from.result c.from.ensures
     (low_context m c.args.limit c.in-Some.context c.in-Err.error c.in-Err.ensures.values c.in-Err.ensures.low
     (subst (λ o. IsResidualNoHigher m c.args.limit (context_given o)) c.in-Some.is low))
+
+pub returns-in-Err-clause-memory : goal.returns-in-Err-clause-memory
+returns-in-Err-clause-memory g c = value_unwrapped c.in-Err.error c.from.result c.from.ensures
