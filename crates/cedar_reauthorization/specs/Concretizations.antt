@@ -1,17 +1,20 @@
 -- The request that a map makes of one, against the model's steps.
-use Rattle.std.specs.Prelude.{◌≡◌, ℕ, ◌≤◌, Option, Some, None, codes, Result, Ok, Err}
+use Rattle.std.specs.Prelude.{◌≡◌, ℕ, ◌≤◌, Option, Some, None, IfSome, codes, Result, Ok, Err}
 use Rattle.cedar_model.specs.Terms.{record_of}
 use Rattle.cedar_model.specs.Values.{Represented, plain_represented, set_represented, record_represented}
 use Rattle.cedar_model.specs.Values.{extension_represented, RepresentedFields}
 use Rattle.cedar_model.specs.Settings.{Entry, ContextPart, absent_context, known_context, residual_context, RequestPart}
 use Rattle.cedar_model.specs.Settings.{Setting}
+use Rattle.cedar_model.specs.World as world
 use Rattle.cedar_model.specs.Agreement.{height}
 use Rattle.cedar_model.specs.Rules.{StoredCalls}
 use Rattle.cedar_model.specs.Refusals.{Refusal, concrete_entry, concrete_context, unless_refused, concrete_request}
 use Rattle.cedar_model.specs.Chains.{Mapping, substituted_at, with_context, SubstitutesTo}
 use Rattle.cedar_names.specs.declared.names.Loc.{Loc}
 use Rattle.cedar_requests.specs.declared.request.Request.{Request}
-use Rattle.cedar_requests.specs.Requests.{request_locs}
+use Rattle.cedar_requests.specs.Requests.{request_view, request_locs}
+use Rattle.cedar_reauthorization.specs.declared.err.ConcretizationError.{ConcretizationError}
+use Rattle.cedar_reauthorization.specs.Errors.{answer_by}
 
 -- the fields of a record, if the value is one
 abbrev pub fields_in : Represented → Option RepresentedFields
@@ -59,6 +62,12 @@ module _ (s : Setting) (calls : StoredCalls) (levels : ℕ) (m : Mapping) where
   -- the map makes the request concrete, and then its context is substituted
   abbrev pub IsConcrete : RequestPart → Result RequestPart Refusal → Type 0
   IsConcrete r x = AfterMap (concrete_request m r) x
+
+-- in each setting that has these extensions the map makes this of the request, want of memory aside
+abbrev pub IsConcretized : world.Extensions → StoredCalls → ℕ → Mapping → RequestPart →
+    Result Request ConcretizationError → Type 0
+IsConcretized x calls levels m r result = (s : Setting) → s.extensions ≡ x →
+    IfSome (answer_by request_view result) (IsConcrete s calls levels m r)
 
 -- a residual's record with the map's values in it is no higher; any other context is not evaluated
 abbrev pub IsResidualNoHigher : Mapping → ℕ → ContextPart → Type 0

@@ -1,7 +1,7 @@
 -- What the errors of a step say, as the model's refusals.
 use Rattle.std.specs.Prelude.{◌≡◌, ◌≢◌, Option, Some, None, option_map, Result, Ok, Err}
 use Rattle.std.specs.Rc.{rc_str_bytes}
-use Rattle.cedar_model.specs.Failures.{out_of_memory}
+use Rattle.cedar_model.specs.Failures.{recursion_limit, out_of_memory}
 use Rattle.cedar_model.specs.Refusals.{Refusal, id_comes_again, value_is_wrong, is_there_already, type_is_other}
 use Rattle.cedar_model.specs.Refusals.{context_fails}
 use Rattle.cedar_names.specs.Names.{type_text}
@@ -32,6 +32,10 @@ abbrev pub step_refusal : ReauthorizationError → Option Refusal
 step_refusal (reauthorizations.PolicySetError e) = option_map id_comes_again (occupied_id e)
 step_refusal (reauthorizations.ConcretizationError e) = refusal_of e
 step_refusal (reauthorizations.Memory e) = None
+
+-- it is not that the recursion limit was met
+abbrev pub IsBelowLimit : ConcretizationError → Type 0
+IsBelowLimit e = refusal_of e ≢ Some (context_fails recursion_limit)
 
 -- ---- want of memory, which no other error holds
 

@@ -1,16 +1,15 @@
 //! The request that a map of values for unknowns makes of another.
-ghost use Rattle.std.specs.Prelude.{◌≡◌, ◌≢◌, Some, IfOk, IfErr, IfSome, option_map, option_copied, codes};
-ghost use Rattle.cedar_model.specs.Failures.{recursion_limit};
+ghost use Rattle.std.specs.Prelude.{◌≡◌, IfOk, IfErr, IfSome, option_map, option_copied, codes};
 ghost use Rattle.cedar_model.specs.Settings.{Setting};
-ghost use Rattle.cedar_model.specs.Refusals.{context_fails, concrete_request};
+ghost use Rattle.cedar_model.specs.Refusals.{concrete_request};
 ghost use Rattle.cedar_names.specs.Leaves.{variable_view};
 ghost use Rattle.cedar_names.specs.Texts.{variable_text};
 ghost use Rattle.cedar_data.specs.Sound.{Placed};
 ghost use Rattle.cedar_extensions.specs.Extensions.{extensions_view, calls_of};
 ghost use Rattle.cedar_requests.specs.Requests.{entry_view, entry_loc, request_view};
 ghost use Rattle.cedar_requests.specs.Substitutions.{values_for};
-ghost use Rattle.cedar_reauthorization.specs.Errors.{refusal_of, answer_by, IsUnwrappedRefusal};
-ghost use Rattle.cedar_reauthorization.specs.Concretizations.{IsWithValues, IsConcrete, IsResidualNoHigher};
+ghost use Rattle.cedar_reauthorization.specs.Errors.{answer_by, IsBelowLimit, IsUnwrappedRefusal};
+ghost use Rattle.cedar_reauthorization.specs.Concretizations.{IsWithValues, IsConcretized, IsResidualNoHigher};
 ghost use Rattle.cedar_reauthorization.specs.Concretizations.{entity_locs, concrete_loc, concrete_locs};
 ghost use Rattle.cedar_reauthorization.specs.Concretizations.{after_principal, after_action, after_resource};
 
@@ -43,13 +42,12 @@ pub fn concretize_request(
     extensions: &Extensions<'_>,
     limit: usize,
 ) -> Result<Request, ConcretizationError>
-    ensures concrete { (s : Setting) → s.extensions ≡ extensions_view extensions.now →
-        IfSome (answer_by request_view result)
-        (IsConcrete s (calls_of extensions.now) limit (values_for map.now.entries) (request_view request.now)) }
+    ensures concrete { IsConcretized (extensions_view extensions.now) (calls_of extensions.now) limit
+        (values_for map.now.entries) (request_view request.now) result }
     ensures places { IfOk result
         (λ r. entity_locs r ≡ concrete_locs (values_for map.now.entries) (entity_locs request.now)) }
     ensures low { IsResidualNoHigher (values_for map.now.entries) limit (request_view request.now).context_part →
-        IfErr result (λ e. refusal_of e ≢ Some (context_fails recursion_limit)) }
+        IfErr result IsBelowLimit }
     ensures memory { IfErr result IsUnwrappedRefusal }
 {
     match mapped_request(alloc, request, map) {
@@ -155,7 +153,7 @@ fn substituted_request(
         (IsWithValues s (calls_of extensions.now) limit (values_for map.now.entries) (request_view request)) }
     ensures places { IfOk result (λ r. entity_locs r ≡ entity_locs request) }
     ensures low { IsResidualNoHigher (values_for map.now.entries) limit (request_view request).context_part →
-        IfErr result (λ e. refusal_of e ≢ Some (context_fails recursion_limit)) }
+        IfErr result IsBelowLimit }
     ensures memory { IfErr result IsUnwrappedRefusal }
 {
     let (principal, action, resource, context) = request.into_parts();
@@ -167,7 +165,8 @@ fn substituted_request(
 
 // The map's value for the variable, if it has one.
 fn value_for<'m>(map: &'m HashMap<RcStr, Value>, var: Var) -> Option<&'m Value>
-    ensures { option_map (λ (v : Placed). v.what) (option_copied result) ≡ values_for map.now.entries (variable_text (variable_view var)) }
+    ensures { option_map (λ (v : Placed). v.what) (option_copied result)
+        ≡ values_for map.now.entries (variable_text (variable_view var)) }
 {
     map.get(variable_text(var))
 }

@@ -1,9 +1,8 @@
 //! The context that a map makes of another.
-ghost use Rattle.std.specs.Prelude.{◌≡◌, ◌≢◌, Some, IfOk, IfErr, IfSome, option_map, option_copied};
+ghost use Rattle.std.specs.Prelude.{◌≡◌, IfOk, IfErr, IfSome, option_map, option_copied};
 ghost use Rattle.std.specs.Prelude.{codes};
-ghost use Rattle.cedar_model.specs.Failures.{recursion_limit};
 ghost use Rattle.cedar_model.specs.Settings.{Setting, known_context};
-ghost use Rattle.cedar_model.specs.Refusals.{context_fails, concrete_context, context_by};
+ghost use Rattle.cedar_model.specs.Refusals.{concrete_context, context_by};
 ghost use Rattle.cedar_model.specs.Chains.{SubstitutesTo};
 ghost use Rattle.cedar_data.specs.Sound.{whats_at};
 ghost use Rattle.cedar_extensions.specs.Extensions.{extensions_view, calls_of};
@@ -12,7 +11,7 @@ ghost use Rattle.std.specs.declared.alloc.Global.{Global};
 ghost use Rattle.std.specs.declared.rc.Rc.{Rc};
 ghost use Rattle.cedar_requests.specs.Requests.{context_given};
 ghost use Rattle.cedar_requests.specs.Substitutions.{values_for};
-ghost use Rattle.cedar_reauthorization.specs.Errors.{refusal_of, answer_by, IsUnwrappedRefusal};
+ghost use Rattle.cedar_reauthorization.specs.Errors.{answer_by, IsBelowLimit, IsUnwrappedRefusal};
 ghost use Rattle.cedar_reauthorization.specs.Concretizations.{fields_in, IsResidualNoHigher};
 
 use super::refusals::{is_there_already, value_is_wrong};
@@ -106,7 +105,7 @@ pub(super) fn with_values(
         IfSome (answer_by context_given result)
         (SubstitutesTo s (calls_of extensions.now) limit (values_for map.now.entries) (context_given context)) }
     ensures low { IsResidualNoHigher (values_for map.now.entries) limit (context_given context) →
-        IfErr result (λ e. refusal_of e ≢ Some (context_fails recursion_limit)) }
+        IfErr result IsBelowLimit }
     ensures memory { IfErr result IsUnwrappedRefusal }
 {
     match context {
