@@ -79,7 +79,8 @@ pub fn attribute_of(
     attr: &RcStr,
     loc: Option<&Loc>,
 ) -> Result<PartialValue, EvaluationError>
-    ensures { (s : Setting) → AnswersWith result (attribute_answer (over s (store_view entities.now)) value.now.what (rc_str_bytes attr.now)) }
+    ensures { (s : Setting) → AnswersWith result (attribute_answer (over s (store_view entities.now)) value.now.what
+        (rc_str_bytes attr.now)) }
 {
     match container_in(value) {
         Container::Record(pairs) => attribute_of_record(alloc, pairs, attr, loc),
@@ -99,7 +100,8 @@ fn attribute_of_entity(
     attr: &RcStr,
     loc: Option<&Loc>,
 ) -> Result<PartialValue, EvaluationError>
-    ensures { AnswersWith result (attribute_found (λ n. None) (look_up (store_view entities.now) (uid_name named.entry.0.now.value)) (uid_name named.entry.0.now.value) (rc_str_bytes attr.now)) }
+    ensures { AnswersWith result (attribute_found (λ n. None) (look_up (store_view entities.now) (uid_name
+        named.entry.0.now.value)) (uid_name named.entry.0.now.value) (rc_str_bytes attr.now)) }
 {
     match entities.entity(alloc, named.0)? {
         Dereference::NoSuchEntity => Err(no_such_entity(named.0, named.1)),
@@ -119,7 +121,8 @@ fn stored_attribute(
     attr: &RcStr,
     loc: Option<&Loc>,
 ) -> Result<PartialValue, EvaluationError>
-    ensures { AnswersWith result (attribute_found (λ n. None) (found (entity_view entity.now)) (uid_name uid.now.value) (rc_str_bytes attr.now)) }
+    ensures { AnswersWith result (attribute_found (λ n. None) (found (entity_view entity.now)) (uid_name uid.now.value)
+        (rc_str_bytes attr.now)) }
 {
     match entity.get(attr) {
         Some(part) => Ok(part.clone()?),
@@ -135,7 +138,8 @@ fn attribute_of_record(
     attr: &RcStr,
     loc: Option<&Loc>,
 ) -> Result<PartialValue, EvaluationError>
-    ensures { AnswersWith result (value_or_failure (represented_at (rc_str_bytes attr.now) (whats_at pairs.now.entries)) (key_is_missing (rc_str_bytes attr.now) (represented_names (whats_at pairs.now.entries)))) }
+    ensures { AnswersWith result (value_or_failure (represented_at (rc_str_bytes attr.now) (whats_at pairs.now.entries))
+        (key_is_missing (rc_str_bytes attr.now) (represented_names (whats_at pairs.now.entries)))) }
 {
     match pairs.get(attr) {
         Some(value) => Ok(PartialValue::Value(value.clone()?)),
@@ -153,7 +157,8 @@ pub fn has_attribute(
     value: &Value,
     attr: &RcStr,
 ) -> Result<PartialValue, EvaluationError>
-    ensures { (s : Setting) → AnswersWith result (has_answer (over s (store_view entities.now)) value.now.what (rc_str_bytes attr.now)) }
+    ensures { (s : Setting) → AnswersWith result (has_answer (over s (store_view entities.now)) value.now.what
+        (rc_str_bytes attr.now)) }
 {
     match container_in(value) {
         Container::Record(pairs) => Ok(bool_part(has_key(pairs, attr))),
@@ -177,7 +182,8 @@ fn entity_has(
     uid: &EntityUID,
     attr: &RcStr,
 ) -> Result<PartialValue, EvaluationError>
-    ensures { AnswersWith result (has_found (look_up (store_view entities.now) (uid_name uid.now)) (uid_name uid.now) (rc_str_bytes attr.now)) }
+    ensures { AnswersWith result (has_found (look_up (store_view entities.now) (uid_name uid.now)) (uid_name uid.now)
+        (rc_str_bytes attr.now)) }
 {
     match entities.entity(alloc, uid)? {
         Dereference::NoSuchEntity => Ok(bool_part(false)),
@@ -197,7 +203,8 @@ pub fn has_path(
     value: &Value,
     attrs: &FirstRest<RcStr>,
 ) -> Result<PartialValue, EvaluationError>
-    ensures { AnswersWith result (path_answer (store_view entities.now) value.now.what (rc_str_bytes attrs.now.first) (texts_view attrs.now.rest.items)) }
+    ensures { AnswersWith result (path_answer (store_view entities.now) value.now.what (rc_str_bytes attrs.now.first)
+        (texts_view attrs.now.rest.items)) }
 {
     let mut here: &Value = value;
     let mut first: &RcStr = &attrs.first;
@@ -224,7 +231,9 @@ fn step<'v>(
     attr: &RcStr,
     after: (&RcStr, &[RcStr]),
 ) -> PathStep<'v>
-    ensures { StepsTo result (step_in (store_view entities.now) (container_of value.now.what) (container_expected value.now.what) (rc_str_bytes attr.now) (rc_str_bytes after.entry.0.now) (texts_view after.entry.1.now)) }
+    ensures { StepsTo result (step_in (store_view entities.now) (container_of value.now.what)
+        (container_expected value.now.what) (rc_str_bytes attr.now) (rc_str_bytes after.entry.0.now)
+        (texts_view after.entry.1.now)) }
 {
     match container_in(value) {
         Container::Record(pairs) => step_of_record(pairs, attr),
@@ -255,7 +264,8 @@ fn step_of_entity<'v>(
     attr: &RcStr,
     after: (&RcStr, &[RcStr]),
 ) -> PathStep<'v>
-    ensures { StepsTo result (step_found (look_up (store_view entities.now) (uid_name uid.now)) (uid_name uid.now) (rc_str_bytes attr.now) (rc_str_bytes after.entry.0.now) (texts_view after.entry.1.now)) }
+    ensures { StepsTo result (step_found (look_up (store_view entities.now) (uid_name uid.now)) (uid_name uid.now)
+        (rc_str_bytes attr.now) (rc_str_bytes after.entry.0.now) (texts_view after.entry.1.now)) }
 {
     match entities.entity(alloc, uid) {
         Ok(found) => match found {
@@ -277,7 +287,8 @@ fn stored_step<'v>(
     attr: &RcStr,
     after: (&RcStr, &[RcStr]),
 ) -> PathStep<'v>
-    ensures { StepsTo result (step_to_stored (part_at (rc_str_bytes attr.now) (entity_view entity.now).attributes) (rc_str_bytes after.entry.0.now) (texts_view after.entry.1.now)) }
+    ensures { StepsTo result (step_to_stored (part_at (rc_str_bytes attr.now) (entity_view entity.now).attributes)
+        (rc_str_bytes after.entry.0.now) (texts_view after.entry.1.now)) }
 {
     match entity.get(attr) {
         Some(part) => match part {
@@ -297,7 +308,8 @@ fn missing_has(
     attr: &RcStr,
     after: (&RcStr, &[RcStr]),
 ) -> Result<PartialValue, EvaluationError>
-    ensures { AnswersWith result (answers_residual (extended_has (unknown_term value) (rc_str_bytes attr.now) (rc_str_bytes after.entry.0.now ∷ texts_view after.entry.1.now))) }
+    ensures { AnswersWith result (answers_residual (extended_has (unknown_term value) (rc_str_bytes attr.now)
+        (rc_str_bytes after.entry.0.now ∷ texts_view after.entry.1.now))) }
 {
     let attrs = path_from(alloc, attr, after.0, after.1)?;
     residual_path(alloc, residual_unknown(value), attrs)
@@ -309,7 +321,8 @@ fn stored_has(
     residual: &ResidualExpr,
     after: (&RcStr, &[RcStr]),
 ) -> Result<PartialValue, EvaluationError>
-    ensures { AnswersWith result (answers_residual (extended_has (residual_term residual.now) (rc_str_bytes after.entry.0.now) (texts_view after.entry.1.now))) }
+    ensures { AnswersWith result (answers_residual (extended_has (residual_term residual.now) (rc_str_bytes
+        after.entry.0.now) (texts_view after.entry.1.now))) }
 {
     let attrs = path(alloc, after.0, after.1)?;
     residual_path(alloc, residual.clone()?, attrs)
@@ -323,7 +336,8 @@ fn has_last(
     value: &Value,
     attr: &RcStr,
 ) -> Result<PartialValue, EvaluationError>
-    ensures { AnswersWith result (last_in (store_view entities.now) (container_of value.now.what) (container_expected value.now.what) (rc_str_bytes attr.now)) }
+    ensures { AnswersWith result (last_in (store_view entities.now) (container_of value.now.what)
+        (container_expected value.now.what) (rc_str_bytes attr.now)) }
 {
     match container_in(value) {
         Container::Record(pairs) => Ok(bool_part(has_key(pairs, attr))),
@@ -340,7 +354,8 @@ fn entity_has_last(
     uid: &EntityUID,
     attr: &RcStr,
 ) -> Result<PartialValue, EvaluationError>
-    ensures { AnswersWith result (last_found (look_up (store_view entities.now) (uid_name uid.now)) (uid_name uid.now) (rc_str_bytes attr.now)) }
+    ensures { AnswersWith result (last_found (look_up (store_view entities.now) (uid_name uid.now)) (uid_name uid.now)
+        (rc_str_bytes attr.now)) }
 {
     match entities.entity(alloc, uid)? {
         Dereference::NoSuchEntity => Ok(bool_part(false)),

@@ -59,7 +59,8 @@ pub(crate) fn entity_expected(alloc: Global, value: &Value) -> EvaluationError
 #[cold]
 #[inline(never)]
 pub(crate) fn or_entity_expected(alloc: Global, expected: Type, value: &Value) -> EvaluationError
-    ensures { FailsWith result (wrong_type (type_view expected) (Failures.any_entity ∷ []) (abstract_value value.now.what)) }
+    ensures { FailsWith result (wrong_type (type_view expected) (Failures.any_entity ∷ [])
+        (abstract_value value.now.what)) }
 {
     match or_entity_error(alloc, expected, value) {
         Ok(error) => error,
@@ -73,7 +74,8 @@ fn or_entity_error(
     expected: Type,
     value: &Value,
 ) -> Result<EvaluationError, AllocError>
-    ensures { IfOk result (λ e. FailsWith e (wrong_type (type_view expected) (Failures.any_entity ∷ []) (abstract_value value.now.what))) }
+    ensures { IfOk result (λ e. FailsWith e (wrong_type (type_view expected) (Failures.any_entity ∷ []) (abstract_value
+        value.now.what))) }
 {
     let actual = value.type_of()?;
     let mut rest = Vec::new(alloc);

@@ -31,7 +31,8 @@ pub(crate) fn no_such_attribute(
     attr: &RcStr,
     loc: Option<&Loc>,
 ) -> EvaluationError
-    ensures { FailsWith result (attribute_is_missing (entity_view entity.now) (uid_name uid.now.value) (rc_str_bytes attr.now)) }
+    ensures { FailsWith result (attribute_is_missing (entity_view entity.now) (uid_name uid.now.value)
+        (rc_str_bytes attr.now)) }
 {
     match missing_attribute(alloc, entity, uid, attr, loc) {
         Ok(error) => error,
@@ -46,7 +47,8 @@ fn missing_attribute(
     attr: &RcStr,
     loc: Option<&Loc>,
 ) -> Result<EvaluationError, AllocError>
-    ensures { IfOk result (λ e. failure_of e ≡ attribute_is_missing (entity_view entity.now) (uid_name uid.now.value) (rc_str_bytes attr.now)) }
+    ensures { IfOk result (λ e. failure_of e ≡ attribute_is_missing (entity_view entity.now) (uid_name uid.now.value)
+        (rc_str_bytes attr.now)) }
 {
     let attr_or_tag = attr.clone()?;
     let uid = uid.clone()?;
@@ -72,7 +74,8 @@ pub(crate) fn no_such_tag(
     tag: &RcStr,
     loc: Option<&Loc>,
 ) -> EvaluationError
-    ensures { FailsWith result (tag_is_missing (entity_view entity.now) (uid_name uid.now.value) (rc_str_bytes tag.now)) }
+    ensures { FailsWith result (tag_is_missing (entity_view entity.now) (uid_name uid.now.value)
+        (rc_str_bytes tag.now)) }
 {
     match missing_tag(alloc, entity, uid, tag, loc) {
         Ok(error) => error,
@@ -87,7 +90,8 @@ fn missing_tag(
     tag: &RcStr,
     loc: Option<&Loc>,
 ) -> Result<EvaluationError, AllocError>
-    ensures { IfOk result (λ e. failure_of e ≡ tag_is_missing (entity_view entity.now) (uid_name uid.now.value) (rc_str_bytes tag.now)) }
+    ensures { IfOk result (λ e. failure_of e ≡ tag_is_missing (entity_view entity.now) (uid_name uid.now.value)
+        (rc_str_bytes tag.now)) }
 {
     let attr_or_tag = tag.clone()?;
     let uid = uid.clone()?;
@@ -127,7 +131,8 @@ fn missing_key<V>(
     attr: &RcStr,
     loc: Option<&Loc>,
 ) -> Result<EvaluationError, AllocError>
-    ensures { IfOk result (λ e. failure_of e ≡ key_is_missing (rc_str_bytes attr.now) (map rc_str_bytes (keys_of pairs.now.entries))) }
+    ensures { IfOk result (λ e. failure_of e ≡ key_is_missing (rc_str_bytes attr.now)
+        (map rc_str_bytes (keys_of pairs.now.entries))) }
 {
     let attr = attr.clone()?;
     let available_attrs = first_names(alloc, pairs.keys())?;

@@ -77,7 +77,8 @@ pub(crate) fn arithmetic(
 // The sum, the difference or the product, where it fits 64 bits.
 fn checked(op: BinaryOp, m: i64, n: i64) -> Option<i64>
     requires { is_arithmetic (binary_view op) ≡ true }
-    ensures { SomeIff result (FitsSigned w64 (arithmetic_of (binary_view op) m n)) (arithmetic_of (binary_view op) m n) }
+    ensures { SomeIff result (FitsSigned w64 (arithmetic_of (binary_view op) m n))
+        (arithmetic_of (binary_view op) m n) }
 {
     match op {
         BinaryOp::Add => m.checked_add(n),

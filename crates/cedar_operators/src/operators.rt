@@ -6,7 +6,7 @@ ghost use Rattle.cedar_model.specs.Operators.{unary_answer, binary_answer, like_
 ghost use Rattle.cedar_names.specs.Names.{type_text};
 ghost use Rattle.cedar_names.specs.Leaves.{unary_view, binary_view, pattern_view};
 ghost use Rattle.cedar_values.specs.Answers.{Answers};
-ghost use Rattle.cedar_extensions.specs.Extensions.{no_extensions, extensions_view};
+ghost use Rattle.cedar_extensions.specs.Extensions.{extensions_view};
 ghost use Rattle.cedar_operators.specs.Operands.{with_extensions, is_relation, is_arithmetic};
 
 use crate::numbers::{arithmetic, negated};
@@ -49,7 +49,8 @@ pub fn binary_relation(
     extensions: &Extensions<'_>,
 ) -> Result<Value, EvaluationError>
     requires { is_relation (binary_view op) ≡ true }
-    ensures { (s : Setting) → Answers result (binary_answer (with_extensions s (extensions_view extensions.now)) (binary_view op) a.now.what b.now.what) }
+    ensures { (s : Setting) → Answers result (binary_answer (with_extensions s (extensions_view extensions.now))
+        (binary_view op) a.now.what b.now.what) }
 {
     match op {
         BinaryOp::Eq => Ok(bool_value(a == b)),
@@ -65,20 +66,6 @@ pub fn binary_relation(
         BinaryOp::GetTag => unreachable!(),
         BinaryOp::HasTag => unreachable!(),
     }
-}
-
-/// The same with no extension: `<` and `<=` of two longs alone.
-pub fn plain_relation(
-    alloc: Global,
-    op: BinaryOp,
-    a: &Value,
-    b: &Value,
-) -> Result<Value, EvaluationError>
-    requires { is_relation (binary_view op) ≡ true }
-    ensures { (s : Setting) → Answers result (binary_answer (with_extensions s no_extensions) (binary_view op) a.now.what b.now.what) }
-{
-    let none = Extensions::none();
-    binary_relation(alloc, op, a, b, &none)
 }
 
 /// Arithmetic of two values, as its caller hands `Add`, `Sub` or `Mul`. An operand, the left first, that is no long is a

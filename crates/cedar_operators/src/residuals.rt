@@ -1,8 +1,7 @@
 //! Residuals: an operator around what is not known. None stands at a location.
-ghost use Rattle.std.specs.Prelude.{◌≡◌, ◌||◌, ◌∷◌, ◌++◌, true, Ok, IfOk};
+ghost use Rattle.std.specs.Prelude.{◌≡◌, ◌∷◌, ◌++◌, Ok, IfOk};
 ghost use Rattle.std.specs.Rc.{rc_str_bytes};
 ghost use Rattle.cedar_model.specs.Terms.{binary, get_attribute, has_attribute, extended_has};
-ghost use Rattle.cedar_model.specs.Shapes.{has_unknown};
 ghost use Rattle.cedar_model.specs.Failures.{answers_residual};
 ghost use Rattle.cedar_names.specs.Leaves.{binary_view, texts_view};
 ghost use Rattle.cedar_expressions.specs.View.{view};
@@ -22,17 +21,16 @@ pub fn residual_unknown(value: Unknown) -> ResidualExpr
     ResidualExpr::new(Expr::unknown(value))
 }
 
-/// The operator on two expressions, of which one holds an unknown, at no location. Refuses only for want of memory.
-pub fn residual_binary(
+// The operator on the unknown and the expression, at no location. Refuses only for want of memory.
+pub(crate) fn binary_of_unknown(
     alloc: Global,
     op: BinaryOp,
-    first: Expr,
+    value: Unknown,
     second: Expr,
 ) -> Result<PartialValue, EvaluationError>
-    requires { has_unknown (view first) || has_unknown (view second) ≡ true }
-    ensures { AnswersWith result (answers_residual (binary (binary_view op) (view first) (view second))) }
+    ensures { AnswersWith result (answers_residual (binary (binary_view op) (unknown_term value) (view second))) }
 {
-    let expr = Expr::binary_app(alloc, op, first, second)?;
+    let expr = Expr::binary_app(alloc, op, Expr::unknown(value), second)?;
     Ok(PartialValue::Residual(ResidualExpr::new(expr)))
 }
 

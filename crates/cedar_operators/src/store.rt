@@ -15,7 +15,7 @@ ghost use Rattle.cedar_operators.specs.Operands.{over, unknown_term, is_within, 
 
 use crate::failures::or_entity_expected;
 use crate::missing::no_such_tag;
-use crate::residuals::residual_binary;
+use crate::residuals::binary_of_unknown;
 use crate::typed::{as_part, bool_part, bool_value, get_as_entity, get_as_string};
 use cedar_layers::expressions::{
     BinaryOp, EntityUID, Expr, Literal, Loc, PartialValue, Set, Type, Unknown, Value, ValueKind,
@@ -51,7 +51,8 @@ fn is_in_any(
     uid: &EntityUID,
     b: &Value,
 ) -> Result<PartialValue, EvaluationError>
-    ensures { AnswersWith result (in_found (look_up (store_view entities.now) (uid_name uid.now)) (uid_name uid.now) b.now.what) }
+    ensures { AnswersWith result (in_found (look_up (store_view entities.now) (uid_name uid.now))
+        (uid_name uid.now) b.now.what) }
 {
     match entities.entity(alloc, uid)? {
         Dereference::NoSuchEntity => as_part(in_right(alloc, uid, None, b)),
@@ -62,10 +63,11 @@ fn is_in_any(
 
 // `unknown in b`
 fn missing_in(alloc: Global, value: Unknown, b: &Value) -> Result<PartialValue, EvaluationError>
-    ensures { AnswersWith result (answers_residual (binary in_operator (unknown_term value) (expression_of b.now.what))) }
+    ensures { AnswersWith result (answers_residual (binary in_operator (unknown_term value)
+        (expression_of b.now.what))) }
 {
     let set = b.to_expr(alloc)?;
-    residual_binary(alloc, BinaryOp::In, Expr::unknown(value), set)
+    binary_of_unknown(alloc, BinaryOp::In, value, set)
 }
 
 // Whether the entity, of which these facts are known, is in the entity or the set on the right.
@@ -76,7 +78,8 @@ fn in_right(
     entity: Option<&Entity>,
     b: &Value,
 ) -> Result<Value, EvaluationError>
-    ensures { Answers result (right_answer (is_within (uid_name uid.now) (option_map entity_view (option_copied entity.entry))) b.now.what) }
+    ensures { Answers result (right_answer (is_within (uid_name uid.now) (option_map entity_view (option_copied
+        entity.entry))) b.now.what) }
 {
     match b.value_kind() {
         ValueKind::Lit(literal) => match literal {
@@ -98,7 +101,8 @@ fn in_set(
     entity: Option<&Entity>,
     set: &Set,
 ) -> Result<Value, EvaluationError>
-    ensures { Answers result (element_answer (is_within (uid_name uid.now) (option_map entity_view (option_copied entity.entry))) (right_expected (set_value (abstract_values set.now.all))) (abstract_values set.now.all)) }
+    ensures { Answers result (element_answer (is_within (uid_name uid.now) (option_map entity_view (option_copied
+        entity.entry))) (right_expected (set_value (abstract_values set.now.all))) (abstract_values set.now.all)) }
 {
     let mut is_found = false;
     'elements: for element in set.as_slice() {
@@ -114,7 +118,8 @@ fn in_set(
 
 // Whether the entity, of which these facts are known, is the other or has it among its ancestors.
 fn is_in_one(uid: &EntityUID, entity: Option<&Entity>, other: &EntityUID) -> bool
-    ensures { result ≡ is_within (uid_name uid.now) (option_map entity_view (option_copied entity.entry)) (uid_name other.now) }
+    ensures { result ≡ is_within (uid_name uid.now) (option_map entity_view (option_copied entity.entry))
+        (uid_name other.now) }
 {
     match entity {
         Some(entity) => uid == other || entity.is_descendant_of(other),
@@ -134,7 +139,8 @@ pub fn tag_of(
     b: &Value,
     loc: Option<&Loc>,
 ) -> Result<PartialValue, EvaluationError>
-    ensures { (s : Setting) → AnswersWith result (binary_answer (over s (store_view entities.now)) get_tag_operator a.now.what b.now.what) }
+    ensures { (s : Setting) → AnswersWith result (binary_answer (over s (store_view entities.now)) get_tag_operator
+        a.now.what b.now.what) }
 {
     let uid = get_as_entity(alloc, a)?;
     let tag = get_as_string(alloc, b)?;
@@ -150,7 +156,8 @@ fn tag_of_entity(
     tag: &RcStr,
     loc: Option<&Loc>,
 ) -> Result<PartialValue, EvaluationError>
-    ensures { AnswersWith result (tag_found (look_up (store_view entities.now) (uid_name named.entry.0.now.value)) (uid_name named.entry.0.now.value) (rc_str_bytes tag.now)) }
+    ensures { AnswersWith result (tag_found (look_up (store_view entities.now) (uid_name named.entry.0.now.value))
+        (uid_name named.entry.0.now.value) (rc_str_bytes tag.now)) }
 {
     match entities.entity(alloc, named.0)? {
         Dereference::NoSuchEntity => Err(no_such_entity(named.0, named.1)),
@@ -171,10 +178,11 @@ fn missing_tag_operator(
     value: Unknown,
     tag: &RcStr,
 ) -> Result<PartialValue, EvaluationError>
-    ensures { AnswersWith result (answers_residual (binary (binary_view op) (unknown_term value) (literal (text_literal (rc_str_bytes tag.now))))) }
+    ensures { AnswersWith result (answers_residual (binary (binary_view op) (unknown_term value) (literal (text_literal
+        (rc_str_bytes tag.now))))) }
 {
     let tag = Expr::val(Literal::String(tag.clone()?));
-    residual_binary(alloc, op, Expr::unknown(value), tag)
+    binary_of_unknown(alloc, op, value, tag)
 }
 
 // The tag as it is stored.
@@ -186,7 +194,8 @@ fn stored_tag(
     tag: &RcStr,
     loc: Option<&Loc>,
 ) -> Result<PartialValue, EvaluationError>
-    ensures { AnswersWith result (tag_found (found (entity_view entity.now)) (uid_name uid.now.value) (rc_str_bytes tag.now)) }
+    ensures { AnswersWith result (tag_found (found (entity_view entity.now)) (uid_name uid.now.value)
+        (rc_str_bytes tag.now)) }
 {
     match entity.get_tag(tag) {
         Some(part) => Ok(part.clone()?),
@@ -204,7 +213,8 @@ pub fn has_tag(
     a: &Value,
     b: &Value,
 ) -> Result<PartialValue, EvaluationError>
-    ensures { (s : Setting) → AnswersWith result (binary_answer (over s (store_view entities.now)) has_tag_operator a.now.what b.now.what) }
+    ensures { (s : Setting) → AnswersWith result (binary_answer (over s (store_view entities.now)) has_tag_operator
+        a.now.what b.now.what) }
 {
     let uid = get_as_entity(alloc, a)?;
     let tag = get_as_string(alloc, b)?;
@@ -219,7 +229,8 @@ fn entity_has_tag(
     uid: &EntityUID,
     tag: &RcStr,
 ) -> Result<PartialValue, EvaluationError>
-    ensures { AnswersWith result (has_tag_found (look_up (store_view entities.now) (uid_name uid.now)) (uid_name uid.now) (rc_str_bytes tag.now)) }
+    ensures { AnswersWith result (has_tag_found (look_up (store_view entities.now) (uid_name uid.now))
+        (uid_name uid.now) (rc_str_bytes tag.now)) }
 {
     match entities.entity(alloc, uid)? {
         Dereference::NoSuchEntity => Ok(bool_part(false)),

@@ -60,7 +60,8 @@ pub(crate) fn long_value(n: i64) -> Value
 #[inline(always)]
 pub fn get_as_bool(alloc: Global, value: &Value) -> Result<bool, EvaluationError>
     ensures ok { IfOk result (λ b. bool_of (abstract_value value.now.what) ≡ Some b) }
-    ensures no_bool { IfErr result (λ e. failure_of e ≢ out_of_memory → bool_of (abstract_value value.now.what) ≡ None) }
+    ensures no_bool { IfErr result (λ e. failure_of e ≢ out_of_memory → bool_of
+        (abstract_value value.now.what) ≡ None) }
     ensures error { IfErr result (λ e. FailsWith e (wrong_type bool_type [] (abstract_value value.now.what))) }
 {
     match bool_in(value) {
@@ -93,7 +94,8 @@ pub fn bool_in(value: &Value) -> Option<bool>
 #[inline(always)]
 pub(crate) fn get_as_long(alloc: Global, value: &Value) -> Result<i64, EvaluationError>
     ensures ok { IfOk result (λ n. long_of (abstract_value value.now.what) ≡ Some n) }
-    ensures no_long { IfErr result (λ e. failure_of e ≢ out_of_memory → long_of (abstract_value value.now.what) ≡ None) }
+    ensures no_long { IfErr result (λ e. failure_of e ≢ out_of_memory → long_of
+        (abstract_value value.now.what) ≡ None) }
     ensures error { IfErr result (λ e. FailsWith e (wrong_type long_type [] (abstract_value value.now.what))) }
 {
     match long_in(value) {
@@ -126,7 +128,8 @@ pub(crate) fn long_in(value: &Value) -> Option<i64>
 #[inline(always)]
 pub(crate) fn get_as_string(alloc: Global, value: &Value) -> Result<&RcStr, EvaluationError>
     ensures ok { IfOk result (λ t. text_of (abstract_value value.now.what) ≡ Some (rc_str_bytes t.now)) }
-    ensures no_text { IfErr result (λ e. failure_of e ≢ out_of_memory → text_of (abstract_value value.now.what) ≡ None) }
+    ensures no_text { IfErr result (λ e. failure_of e ≢ out_of_memory → text_of
+        (abstract_value value.now.what) ≡ None) }
     ensures error { IfErr result (λ e. FailsWith e (wrong_type string_type [] (abstract_value value.now.what))) }
 {
     match text_in(value) {
@@ -158,7 +161,8 @@ fn text_in(value: &Value) -> Option<&RcStr>
 #[inline(always)]
 pub(crate) fn get_as_entity(alloc: Global, value: &Value) -> Result<&Rc<EntityUID>, EvaluationError>
     ensures ok { IfOk result (λ u. entity_of (abstract_value value.now.what) ≡ Some (uid_name u.now.value)) }
-    ensures no_entity { IfErr result (λ e. failure_of e ≢ out_of_memory → entity_of (abstract_value value.now.what) ≡ None) }
+    ensures no_entity { IfErr result (λ e. failure_of e ≢ out_of_memory → entity_of
+        (abstract_value value.now.what) ≡ None) }
     ensures error { IfErr result (λ e. FailsWith e (wrong_type any_entity [] (abstract_value value.now.what))) }
 {
     match entity_in(value) {
@@ -171,7 +175,8 @@ pub(crate) fn get_as_entity(alloc: Global, value: &Value) -> Result<&Rc<EntityUI
 #[tactic(auto, unfolding(cedar_model::specs::Outcomes::entity_of))]
 #[inline(always)]
 pub fn entity_in(value: &Value) -> Option<&Rc<EntityUID>>
-    ensures { option_map (λ (u : Rc EntityUID Global). uid_name u.value) (option_copied result) ≡ entity_of (abstract_value value.now.what) }
+    ensures { option_map (λ (u : Rc EntityUID Global). uid_name u.value) (option_copied result) ≡ entity_of
+        (abstract_value value.now.what) }
 {
     match value.value_kind() {
         ValueKind::Lit(literal) => match literal {
@@ -191,7 +196,8 @@ pub fn entity_in(value: &Value) -> Option<&Rc<EntityUID>>
 #[inline(always)]
 pub(crate) fn get_as_set(alloc: Global, value: &Value) -> Result<&Set, EvaluationError>
     ensures ok { IfOk result (λ s. elements_of (abstract_value value.now.what) ≡ Some (abstract_values s.now.all)) }
-    ensures no_set { IfErr result (λ e. failure_of e ≢ out_of_memory → elements_of (abstract_value value.now.what) ≡ None) }
+    ensures no_set { IfErr result (λ e. failure_of e ≢ out_of_memory → elements_of
+        (abstract_value value.now.what) ≡ None) }
     ensures error { IfErr result (λ e. FailsWith e (wrong_type set_type [] (abstract_value value.now.what))) }
 {
     match set_in(value) {
@@ -203,7 +209,8 @@ pub(crate) fn get_as_set(alloc: Global, value: &Value) -> Result<&Set, Evaluatio
 #[tactic(auto, unfolding(cedar_model::specs::Outcomes::elements_of))]
 #[inline(always)]
 fn set_in(value: &Value) -> Option<&Set>
-    ensures { option_map (λ (s : Elements). abstract_values s.all) (option_copied result) ≡ elements_of (abstract_value value.now.what) }
+    ensures { option_map (λ (s : Elements). abstract_values s.all) (option_copied result) ≡ elements_of
+        (abstract_value value.now.what) }
 {
     match value.value_kind() {
         ValueKind::Lit(_) => None,

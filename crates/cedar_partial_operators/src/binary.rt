@@ -16,10 +16,9 @@ ghost use Rattle.cedar_operators.specs.Operands.{given};
 
 use crate::shapes::type_in_part;
 use cedar_extensions::Extensions;
-use cedar_layers::expressions::{BinaryOp, Expr, Loc, PartialValue};
+use cedar_layers::expressions::{BinaryOp, Expr, Loc, PartialValue, ResidualExpr};
 use cedar_layers::policies::Entities;
 use cedar_operators::binary::binary_app;
-use cedar_operators::residuals::residual_binary;
 use cedar_operators::typed::bool_part;
 use cedar_values::evaluator::err::EvaluationError;
 use std::alloc::{AllocError, Global};
@@ -96,6 +95,20 @@ fn around(
 {
     let (left, right) = both(into_expr(alloc, first), into_expr(alloc, second))?;
     residual_binary(alloc, op, left, right)
+}
+
+// The operator on two expressions, of which one holds an unknown.
+fn residual_binary(
+    alloc: Global,
+    op: BinaryOp,
+    first: Expr,
+    second: Expr,
+) -> Result<PartialValue, EvaluationError>
+    requires { has_unknown (view first) || has_unknown (view second) ≡ true }
+    ensures { AnswersWith result (answers_residual (binary (binary_view op) (view first) (view second))) }
+{
+    let expr = Expr::binary_app(alloc, op, first, second)?;
+    Ok(PartialValue::Residual(ResidualExpr::new(expr)))
 }
 
 // Both, or the first error.
