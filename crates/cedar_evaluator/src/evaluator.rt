@@ -25,6 +25,7 @@ use cedar_layers::policies::{Entities, Policy};
 use cedar_operators::failures::non_value;
 pub use cedar_operators::operators::{binary_arith, binary_relation, unary_app};
 use cedar_operators::typed::get_as_bool;
+pub use cedar_restricted::RestrictedEvaluator;
 pub use cedar_values::evaluator::err::{EvaluationError, evaluation_errors};
 use either::{Either, Left, Right};
 use std::alloc::{AllocError, Global};
