@@ -95,18 +95,12 @@ impl<'x, 'f> Authorizer<'x, 'f> {
         policies: &PolicySet,
         entities: &Entities,
     ) -> Result<Response, AllocError>
-        ensures response {
-            IfOk result (λ r. IsConcreteRun (configuration self.now) (asked self.now request entities.now)
-                (deciding policies.now) (response_view r))
-        }
-        ensures known {
-            IfOk result (λ r. IsKnownResponse (configuration self.now) (asked self.now request entities.now)
-                (deciding policies.now) (response_view r))
-        }
-        ensures limit {
-            IfOk result (λ r. MeetsNoLimit (configuration self.now) (asked self.now request entities.now)
-                (deciding policies.now) (response_view r).errors)
-        }
+        ensures response { IfOk result (λ r. IsConcreteRun (configuration self.now) (asked self.now request entities.now)
+            (deciding policies.now) (response_view r)) }
+        ensures known { IfOk result (λ r. IsKnownResponse (configuration self.now) (asked self.now request entities.now)
+            (deciding policies.now) (response_view r)) }
+        ensures limit { IfOk result (λ r. MeetsNoLimit (configuration self.now) (asked self.now request entities.now)
+            (deciding policies.now) (response_view r).errors) }
         ensures own_world { OwnWorldCompletesCall (asked self.now request entities.now) (deciding policies.now) }
     {
         let response = self.is_authorized_core(alloc, request, policies, entities)?;
@@ -124,25 +118,15 @@ impl<'x, 'f> Authorizer<'x, 'f> {
         policies: &PolicySet,
         entities: &Entities,
     ) -> Result<PartialResponse, AllocError>
-        ensures run {
-            IfOk result (IsRun (configuration self.now) (asked self.now request entities.now) (deciding policies.now))
-        }
-        ensures stands {
-            IfOk result (StandsInCompletions (configuration self.now) (asked self.now request entities.now)
-                (deciding policies.now))
-        }
-        ensures known {
-            IfOk result (λ r. IsKnownRun (configuration self.now) (asked self.now request entities.now)
-                (deciding policies.now) (rows_view r) (errors_of r))
-        }
-        ensures limit {
-            IfOk result (λ r. MeetsNoLimit (configuration self.now) (asked self.now request entities.now)
-                (deciding policies.now) (errors_of r))
-        }
-        ensures deep_enough {
-            IfOk result (IsDeepEnough (configuration self.now) (asked self.now request entities.now)
-                (deciding policies.now))
-        }
+        ensures run { IfOk result (IsRun (configuration self.now) (asked self.now request entities.now) (deciding policies.now)) }
+        ensures stands { IfOk result (StandsInCompletions (configuration self.now) (asked self.now request entities.now)
+            (deciding policies.now)) }
+        ensures known { IfOk result (λ r. IsKnownRun (configuration self.now) (asked self.now request entities.now)
+            (deciding policies.now) (rows_view r) (errors_of r)) }
+        ensures limit { IfOk result (λ r. MeetsNoLimit (configuration self.now) (asked self.now request entities.now)
+            (deciding policies.now) (errors_of r)) }
+        ensures deep_enough { IfOk result (IsDeepEnough (configuration self.now) (asked self.now request entities.now)
+            (deciding policies.now)) }
         ensures places { IfOk result (ResidualsStand (stored_policies policies.now)) }
         ensures request { IfOk result (λ r. request_of r ≡ request) }
     {
@@ -162,18 +146,12 @@ impl<'x, 'f> Authorizer<'x, 'f> {
         entities: &Entities,
         steps: &[(&HashMap<RcStr, Value>, &Entities)],
     ) -> Result<PartialResponse, ReauthorizationError>
-        ensures chain {
-            IfSome (step_answer result) (IsChain (configuration self.now) (asked self.now request entities.now)
-                (deciding policies.now) (steps_view steps.now))
-        }
-        ensures headline {
-            IfOk result (IsHeadline (configuration self.now) (asked self.now request entities.now)
-                (deciding policies.now) (steps_view steps.now))
-        }
-        ensures known {
-            IfOk result (LeavesNothing (configuration self.now) (asked self.now request entities.now)
-                (deciding policies.now))
-        }
+        ensures chain { IfSome (step_answer result) (IsChain (configuration self.now) (asked self.now request entities.now)
+            (deciding policies.now) (steps_view steps.now)) }
+        ensures headline { IfOk result (IsHeadline (configuration self.now) (asked self.now request entities.now)
+            (deciding policies.now) (steps_view steps.now)) }
+        ensures known { IfOk result (LeavesNothing (configuration self.now) (asked self.now request entities.now)
+            (deciding policies.now)) }
     {
         let response = self.is_authorized_core(alloc, request, policies, entities)?;
         take_steps(alloc, response, self, steps)
@@ -188,10 +166,8 @@ fn first_sheet(
     policies: &PolicySet,
     entities: &Entities,
 ) -> Result<Sheet, AllocError>
-    ensures run {
-        IfOk result (IsNotedBy (configuration authorizer.now) (asked authorizer.now request.now entities.now)
-            (deciding policies.now))
-    }
+    ensures run { IfOk result (IsNotedBy (configuration authorizer.now) (asked authorizer.now request.now entities.now)
+        (deciding policies.now)) }
     ensures places { IfOk result (ResidualsAreNoted (stored_policies policies.now)) }
 {
     let evaluator = Evaluator::new(
@@ -210,10 +186,8 @@ fn run_all(
     evaluator: &Evaluator<'_, '_>,
     policies: &PolicySet,
 ) -> Result<Sheet, AllocError>
-    ensures run {
-        IfOk result (IsNotedRun skip (setting_of evaluator.now no_slots) (calls_in evaluator.now)
-            (evaluations.limit_of evaluator.now) (deciding policies.now))
-    }
+    ensures run { IfOk result (IsNotedRun skip (setting_of evaluator.now no_slots) (calls_in evaluator.now)
+        (evaluations.limit_of evaluator.now) (deciding policies.now)) }
     ensures places { IfOk result (ResidualsAreNoted (stored_policies policies.now)) }
 {
     let mut sheet = Sheet::new(alloc);
@@ -230,9 +204,7 @@ fn outcome_of(
     evaluator: &Evaluator<'_, '_>,
     policy: &Policy,
 ) -> Result<Outcome, AllocError>
-    ensures outcome {
-        IfOk result (λ o. ComesOutBy (IsPromisedOf evaluator.now policy.now) (outcome_view o))
-    }
+    ensures outcome { IfOk result (λ o. ComesOutBy (IsPromisedOf evaluator.now policy.now) (outcome_view o)) }
     ensures place { IfOk result (IsLeftAt (policy_location policy.now)) }
 {
     match evaluator.partial_evaluate(alloc, policy) {

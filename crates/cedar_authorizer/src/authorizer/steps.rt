@@ -54,26 +54,14 @@ pub trait Reauthorize {
         authorizer: &Authorizer<'_, '_>,
         entities: &Entities,
     ) -> Result<PartialResponse, ReauthorizationError>
-        ensures step {
-            IfSome (step_answer result)
-                (IsStep (configuration authorizer.now) (step_by map.now entities.now) (said self.now))
-        }
-        ensures places {
-            IfOk result (λ r. entity_locs (request_of r) ≡ concrete_locs (values_for map.now.entries) (places self.now))
-        }
-        ensures stands {
-            IfOk result (KeepsWhatStands (configuration authorizer.now) (step_by map.now entities.now) (said self.now))
-        }
-        ensures kept {
-            IfOk result (TakesNothingBack (configuration authorizer.now) (step_by map.now entities.now) (said self.now))
-        }
-        ensures finishes {
-            IfOk result (Finishes (configuration authorizer.now) (step_by map.now entities.now) (said self.now))
-        }
-        ensures deep_enough {
-            IfSome (step_answer result)
-                (IsDeepEnough (configuration authorizer.now) (step_by map.now entities.now) (said self.now))
-        };
+        ensures step { IfSome (step_answer result)
+            (IsStep (configuration authorizer.now) (step_by map.now entities.now) (said self.now)) }
+        ensures places { IfOk result (λ r. entity_locs (request_of r) ≡ concrete_locs (values_for map.now.entries) (places self.now)) }
+        ensures stands { IfOk result (KeepsWhatStands (configuration authorizer.now) (step_by map.now entities.now) (said self.now)) }
+        ensures kept { IfOk result (TakesNothingBack (configuration authorizer.now) (step_by map.now entities.now) (said self.now)) }
+        ensures finishes { IfOk result (Finishes (configuration authorizer.now) (step_by map.now entities.now) (said self.now)) }
+        ensures deep_enough { IfSome (step_answer result)
+            (IsDeepEnough (configuration authorizer.now) (step_by map.now entities.now) (said self.now)) };
 }
 
 impl Reauthorize for PartialResponse {
@@ -100,19 +88,13 @@ fn reauthorized(
     authorizer: &Authorizer<'_, '_>,
     entities: &Entities,
 ) -> Result<PartialResponse, ReauthorizationError>
-    ensures step {
-        IfSome (step_answer result)
-            (IsStep (configuration authorizer.now) (step_by map.now entities.now) (response_said response.now))
-    }
-    ensures places {
-        IfOk result (λ r. entity_locs r.request.value
-            ≡ concrete_locs (values_for map.now.entries) (entity_locs response.now.request.value))
-    }
-    ensures low {
-        IsResidualNoHigher (values_for map.now.entries) (limit_of authorizer.now)
-            (request_view response.now.request.value).context_part
-            → IfErr result (λ e. step_refusal e ≢ Some (context_fails recursion_limit))
-    }
+    ensures step { IfSome (step_answer result)
+        (IsStep (configuration authorizer.now) (step_by map.now entities.now) (response_said response.now)) }
+    ensures places { IfOk result (λ r. entity_locs r.request.value
+        ≡ concrete_locs (values_for map.now.entries) (entity_locs response.now.request.value)) }
+    ensures low { IsResidualNoHigher (values_for map.now.entries) (limit_of authorizer.now)
+        (request_view response.now.request.value).context_part
+        → IfErr result (λ e. step_refusal e ≢ Some (context_fails recursion_limit)) }
 {
     match residual_policies(alloc, response) {
         Ok(policies) => {
@@ -138,20 +120,14 @@ fn with_policies(
     authorizer: &Authorizer<'_, '_>,
     entities: &Entities,
 ) -> Result<PartialResponse, ReauthorizationError>
-    ensures step {
-        IfSome (step_answer result)
-            (IsDecidedAgain (configuration authorizer.now) (step_by map.now entities.now) (request_view request.now)
-                (deciding policies.now))
-    }
-    ensures places {
-        IfOk result (λ r. entity_locs r.request.value
-            ≡ concrete_locs (values_for map.now.entries) (entity_locs request.now))
-    }
-    ensures low {
-        IsResidualNoHigher (values_for map.now.entries) (limit_of authorizer.now)
-            (request_view request.now).context_part
-            → IfErr result (λ e. step_refusal e ≢ Some (context_fails recursion_limit))
-    }
+    ensures step { IfSome (step_answer result)
+        (IsDecidedAgain (configuration authorizer.now) (step_by map.now entities.now) (request_view request.now)
+        (deciding policies.now)) }
+    ensures places { IfOk result (λ r. entity_locs r.request.value
+        ≡ concrete_locs (values_for map.now.entries) (entity_locs request.now)) }
+    ensures low { IsResidualNoHigher (values_for map.now.entries) (limit_of authorizer.now)
+        (request_view request.now).context_part
+        → IfErr result (λ e. step_refusal e ≢ Some (context_fails recursion_limit)) }
 {
     match concretize_request(alloc, request, map, authorizer.extensions, authorizer.limit) {
         Ok(request) => Ok(decided_again(alloc, request, policies, map, authorizer, entities)?),
@@ -168,11 +144,9 @@ fn decided_again(
     authorizer: &Authorizer<'_, '_>,
     entities: &Entities,
 ) -> Result<PartialResponse, AllocError>
-    ensures run {
-        IfOk result (IsRun (configuration authorizer.now)
-            (under (configuration authorizer.now) (step_by map.now entities.now) (request_view request))
-            (deciding policies.now))
-    }
+    ensures run { IfOk result (IsRun (configuration authorizer.now)
+        (under (configuration authorizer.now) (step_by map.now entities.now) (request_view request))
+        (deciding policies.now)) }
     ensures request { IfOk result (λ r. r.request.value ≡ request) }
 {
     let sheet = next_sheet(alloc, &request, policies, map, authorizer, entities)?;
@@ -188,11 +162,9 @@ fn next_sheet(
     authorizer: &Authorizer<'_, '_>,
     entities: &Entities,
 ) -> Result<Sheet, AllocError>
-    ensures {
-        IfOk result (IsNotedBy (configuration authorizer.now)
-            (under (configuration authorizer.now) (step_by map.now entities.now) (request_view request.now))
-            (deciding policies.now))
-    }
+    ensures { IfOk result (IsNotedBy (configuration authorizer.now)
+        (under (configuration authorizer.now) (step_by map.now entities.now) (request_view request.now))
+        (deciding policies.now)) }
 {
     let evaluator = Evaluator::new(
         alloc,
@@ -214,9 +186,7 @@ pub(super) fn take_steps(
     authorizer: &Authorizer<'_, '_>,
     steps: &[(&HashMap<RcStr, Value>, &Entities)],
 ) -> Result<PartialResponse, ReauthorizationError>
-    ensures {
-        IfSome (step_answer result) (IsTakenFurther (configuration authorizer.now) (steps_view steps.now) first)
-    }
+    ensures { IfSome (step_answer result) (IsTakenFurther (configuration authorizer.now) (steps_view steps.now) first) }
 {
     let mut response = first;
     'steps: for step in steps {
@@ -240,10 +210,8 @@ fn take_step(
     authorizer: &Authorizer<'_, '_>,
     entities: &Entities,
 ) -> Result<PartialResponse, ReauthorizationError>
-    ensures {
-        IfSome (step_answer result)
-            (IsStep (configuration authorizer.now) (step_by map.now entities.now) (response_said response))
-    }
+    ensures { IfSome (step_answer result)
+        (IsStep (configuration authorizer.now) (step_by map.now entities.now) (response_said response)) }
 {
     let next = reauthorized(alloc, &response, map, authorizer, entities);
     drop(response);
