@@ -1,11 +1,10 @@
 -- A chain, step by step, and the headline.
-use Rattle.std.specs.Prelude.{◌≡◌, ℕ, true, false, List, [], ◌∷◌, map, Option, Some, None, option_map, IfSome, IfOk, MatchBool, MatchResult, Result, Ok, Err}
+use Rattle.std.specs.Prelude.{◌≡◌, ℕ, true, false, List, [], ◌∷◌, Option, Some, None, option_map, IfSome, IfOk, MatchBool, MatchResult, Result, Ok, Err}
 use Rattle.std.proofs.Common.{refl, sym, ap, ◌∙◌, subst}
 use Rattle.cedar_model.specs.Configurations.{Configuration}
 use Rattle.cedar_model.specs.Headline.{Premises}
 use Rattle.cedar_model.specs.Settings.{Store, Setting}
 use Rattle.cedar_model.specs.Rules.{StoredCalls}
-use Rattle.cedar_model.specs.Agreement.{AgreesWithFunctions, HasNothingUnknown}
 use Rattle.cedar_model.specs.Policies.{Policy, skip}
 use Rattle.cedar_model.specs.Responses.{AreConditions, RunOf}
 use Rattle.cedar_model.specs.Refusals.{Refusal}
@@ -14,7 +13,6 @@ use Rattle.cedar_model.proofs.Bounds as bounds
 use Rattle.cedar_model.proofs.Chaining as chaining
 use Rattle.cedar_model.proofs.Concrete as concrete
 use Rattle.cedar_model.proofs.Configured.{configured_by}
-use Rattle.cedar_layers.specs.Policies.{PolicyView, decides_as}
 use Rattle.cedar_requests.specs.Requests.{request_view}
 use Rattle.cedar_responses.specs.declared.partial_response.PartialResponse.{PartialResponse}
 use Rattle.cedar_responses.specs.Rows.{rows_view}
@@ -127,7 +125,7 @@ module _ (s : Setting) (calls : StoredCalls) (levels : ℕ) (ps : List Policy) (
         defined = λ none. concrete.concrete_is_defined skip s.extensions ans w ps (rows_view r) stands none;
       }
 
-  chain_known : (r : PartialResponse) → without_map s ≡ s → IsChain by_all s ps all (Ok r) → LeavesNothing by_all s ps all r
+  chain_known : (r : PartialResponse) → without_map s ≡ s → IsChain by_all s ps all (Ok r) → LeavesNothing by_all s ps r
   chain_known r same (first, begins, (last, chain, says)) known ans agree k =
       let run : RunOf skip s calls levels ps first.rows first.errors = subst (λ (z : Setting). RunOf skip z calls levels ps first.rows first.errors) same begins.runs in
       let none = run_known s calls levels known ans agree ps first.rows first.errors k run in
@@ -137,6 +135,6 @@ module _ (s : Setting) (calls : StoredCalls) (levels : ℕ) (ps : List Policy) (
   chain_headlines (Ok r) conditions h = chain_headline r conditions h
   chain_headlines (Err e) conditions h = tt
 
-  pub chains_known : (x : Result PartialResponse ReauthorizationError) → without_map s ≡ s → IfSome (step_answer x) (IsChain by_all s ps all) → IfOk x (LeavesNothing by_all s ps all)
+  pub chains_known : (x : Result PartialResponse ReauthorizationError) → without_map s ≡ s → IfSome (step_answer x) (IsChain by_all s ps all) → IfOk x (LeavesNothing by_all s ps)
   chains_known (Ok r) same h = chain_known r same h
   chains_known (Err e) same h = tt

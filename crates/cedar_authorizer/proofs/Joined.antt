@@ -3,13 +3,12 @@ use Rattle.std.specs.Prelude.{◌≡◌, ◌≢◌, ℕ, List, map, Option, Some
 use Rattle.std.proofs.Common.{refl, sym, ap, ◌∙◌, subst}
 use Rattle.cedar_model.specs.Terms.{Text}
 use Rattle.cedar_model.specs.Failures.{Failure, recursion_limit}
-use Rattle.cedar_model.specs.Settings.{ContextPart, RequestPart, Store, Setting}
+use Rattle.cedar_model.specs.Settings.{RequestPart, Store, Setting}
 use Rattle.cedar_model.specs.Rules.{StoredCalls}
 use Rattle.cedar_model.specs.Policies.{Policy, skip}
 use Rattle.cedar_model.specs.Responses.{Row, RunOf}
 use Rattle.cedar_model.specs.Refusals.{Refusal, id_comes_again, context_fails, first_repeated, concrete_request}
-use Rattle.cedar_model.specs.Chains.{Mapping, Response, all_residuals, at_step, with_context, is_same_mode, AfterContext, AfterRequest, AfterIds, AfterMode, Steps, StepsTo}
-use Rattle.cedar_layers.specs.declared.policies.policy_set.PolicySet.{PolicySet}
+use Rattle.cedar_model.specs.Chains.{Mapping, Response, all_residuals, at_step, with_context, is_same_mode, AfterRequest, AfterIds, Steps}
 use Rattle.cedar_requests.specs.declared.request.Request.{Request}
 use Rattle.cedar_requests.specs.Requests.{request_view}
 use Rattle.cedar_responses.specs.declared.partial_response.PartialResponse.{PartialResponse}
@@ -18,10 +17,10 @@ use Rattle.cedar_reauthorization.specs.declared.err.ConcretizationError.{Concret
 use Rattle.cedar_reauthorization.specs.declared.err.ReauthorizationError.{ReauthorizationError}
 use Rattle.cedar_reauthorization.specs.declared.err.ReauthorizationError.TheVariants as reauthorizations
 use Rattle.cedar_reauthorization.specs.Errors.{refusal_of, step_refusal, IsRequestRefusal}
-use Rattle.cedar_reauthorization.specs.Concretizations.{in_context, AfterMap, IsConcrete}
-use Rattle.cedar_reauthorization.specs.Policies.{set_policies, unless_repeated, all_once}
+use Rattle.cedar_reauthorization.specs.Concretizations.{AfterMap, IsConcrete}
+use Rattle.cedar_reauthorization.specs.Policies.{unless_repeated, all_once}
 use Rattle.cedar_authorizer.specs.Running.{IsRun}
-use Rattle.cedar_authorizer.specs.Steps.{response_said, Says, IsDecidedAgain, IsStep}
+use Rattle.cedar_authorizer.specs.Steps.{response_said, IsDecidedAgain, IsStep}
 use Rattle.cedar_model.proofs.Configured.{configured_by}
 
 ok_inj : {A B : Type 0} {x y : A} → ◌≡◌ {A = Result A B} (Ok x) (Ok y) → x ≡ y

@@ -1,6 +1,6 @@
 -- Whether the recursion limit is among errors, one by one.
 use Rattle.std.specs.Prelude.{◌≡◌, Bool, true, false, ◌||◌, List, [], ◌∷◌}
-use Rattle.std.proofs.Common.{refl, sym, ap, ◌∙◌}
+use Rattle.std.proofs.Common.{refl, ap, ◌∙◌}
 use Rattle.cedar_model.specs.Failures.{failure_kind}
 use Rattle.cedar_model.specs.Chains.{is_limit, has_limit}
 use Rattle.cedar_responses.specs.declared.err.AuthorizationError.{AuthorizationError}

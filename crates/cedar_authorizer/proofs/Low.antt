@@ -1,6 +1,6 @@
 -- Runs that meet no recursion limit, since all that is given and each condition is low enough.
 use Rattle.std.specs.Prelude.{◌≡◌, ◌≢◌, ℕ, ◌+◌, ◌<◌, ◌≤◌, List, [], ◌∷◌, ◌++◌, map, codes, Option, Some, None, Result, Ok, Err}
-use Rattle.std.proofs.Common.{refl, sym, ap, ◌∙◌, subst, arith}
+use Rattle.std.proofs.Common.{refl, sym, ap, subst, arith}
 use Rattle.cedar_model.specs.Terms.{Text, Term, literal, variable, slot, unknown, if_then_else, both, either, unary, binary, call}
 use Rattle.cedar_model.specs.Terms.{get_attribute, has_attribute, extended_has, like, is_of_type, set_of, record_of}
 use Rattle.cedar_model.specs.Values.{Represented, RepresentedFields, plain_represented, set_represented, record_represented, extension_represented, abstract_value, expressions_at}
@@ -9,14 +9,13 @@ use Rattle.cedar_model.specs.World.{Slots}
 use Rattle.cedar_model.specs.Failures.{Failure, PartialValue, recursion_limit, value, residual, Answer, answers, fails, limit}
 use Rattle.cedar_model.specs.Settings.{ContextPart, absent_context, known_context, residual_context, RequestPart, Store, Setting, context_value}
 use Rattle.cedar_model.specs.Settings.{shallow}
-use Rattle.cedar_model.specs.Shapes.{has_unknown}
-use Rattle.cedar_model.specs.Rules.{StoredCalls, Runs, Allows, Exceeds}
+use Rattle.cedar_model.specs.Rules.{StoredCalls, Runs, Exceeds}
 use Rattle.cedar_model.specs.Agreement.{no_slots, height}
-use Rattle.cedar_model.specs.Restricted.{IsSound, AreSoundAt, IsSoundContext, IsGivenSound}
+use Rattle.cedar_model.specs.Restricted.{AreSoundAt, IsSoundContext, IsGivenSound}
 use Rattle.cedar_model.specs.Policies.{Policy, skip}
 use Rattle.cedar_model.specs.Responses.{Row, decided, decided_bool, error_of, with_slots, with_error, carried, RunOf}
-use Rattle.cedar_model.specs.Refusals.{concrete_context, context_by, context_beside, Refusal, IsContext}
-use Rattle.cedar_model.specs.Chains.{Mapping, Response, substituted, substituted_at, rows_by, all_residuals, at_step, without_map, with_context, SubstitutesTo, StepsTo}
+use Rattle.cedar_model.specs.Refusals.{concrete_context, context_by, context_beside, IsContext}
+use Rattle.cedar_model.specs.Chains.{Mapping, Response, substituted_at, rows_by, all_residuals, at_step, without_map, SubstitutesTo, StepsTo}
 use Rattle.cedar_model.specs.Policies.{permit, forbid}
 use Rattle.cedar_model.specs.Authorizations.{HaveNoLimit, AreNoHigher}
 use Rattle.cedar_model.specs.LevelLaws.{FunctionsMeetNoLimit}

@@ -1,12 +1,10 @@
 -- Where what is left of policies stands, policy by policy.
-use Rattle.std.specs.Prelude.{◌≡◌, ◌<◌, ◌+◌, Bool, true, false, cond, ◌&&◌, List, [], ◌∷◌, ◌++◌, Option, All, Contains, length}
+use Rattle.std.specs.Prelude.{◌≡◌, Bool, true, false, cond, ◌&&◌, List, [], ◌∷◌, ◌++◌, All, Contains}
 use Rattle.std.proofs.Common.{refl, sym, ap, ◌∙◌, subst, append_assoc, arith}
 use Rattle.std.proofs.lemmas.List.Elements.{All-nil, All-cons, All-append, Contains-append_right}
-use Rattle.cedar_model.specs.Failures.{Failure}
 use Rattle.cedar_model.specs.Policies.{Effect, permit, forbid}
 use Rattle.cedar_model.specs.Responses.{reported_of, error_of}
 use Rattle.cedar_model.specs.Chains.{has_effect, is_residual}
-use Rattle.cedar_names.specs.declared.names.Loc.{Loc}
 use Rattle.cedar_layers.specs.declared.policies.policy.Policy as layers
 use Rattle.cedar_layers.specs.Policies.{policy_view, policy_location}
 use Rattle.cedar_responses.specs.declared.partial_response.PartialResponse.{PartialResponse}

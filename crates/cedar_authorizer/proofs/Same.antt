@@ -1,15 +1,14 @@
 -- What two responses with the same rows, effect by effect and report by report, have in common.
-use Rattle.std.specs.Prelude.{◌≡◌, ℕ, Bool, true, false, cond, not, ◌&&◌, ◌||◌, List, ◌++◌, map, Option, Some, None, Result, Ok, Err}
-use Rattle.std.proofs.Common.{refl, sym, ap, ◌∙◌, subst}
+use Rattle.std.specs.Prelude.{◌≡◌, Bool, true, false, cond, not, ◌||◌, List, ◌++◌, map, Option, Some, None, Result, Ok, Err}
+use Rattle.std.proofs.Common.{ap, ◌∙◌, subst}
 use Rattle.cedar_model.specs.Terms.{Text}
-use Rattle.cedar_model.specs.Failures.{Failure}
-use Rattle.cedar_model.specs.Settings.{ContextPart, RequestPart, Store, Setting}
+use Rattle.cedar_model.specs.Settings.{ContextPart, RequestPart, Store}
 use Rattle.cedar_model.specs.Configurations.{Configuration}
-use Rattle.cedar_model.specs.Policies.{Policy, Effect, permit, forbid, Decision, allow, deny, skip}
+use Rattle.cedar_model.specs.Policies.{Policy, Effect, permit, forbid, Decision, allow, deny}
 use Rattle.cedar_model.specs.Responses.{Row, RunOf, carried}
-use Rattle.cedar_model.specs.Refusals.{Refusal, id_comes_again, mode_is_other, first_repeated, concrete_request}
+use Rattle.cedar_model.specs.Refusals.{Refusal, mode_is_other, first_repeated, concrete_request}
 use Rattle.cedar_model.specs.Chains.{Mapping, Response, rows_by, all_residuals, at_step, with_context, SubstitutesTo, is_same_mode, AfterContext, AfterRequest, AfterIds, AfterMode, Steps}
-use Rattle.cedar_model.specs.Reports.{some_row, trues, falses, residuals, given_decision, must_determine, may_determine, concrete_decision, concrete_reasons, HaveNoResidual}
+use Rattle.cedar_model.specs.Reports.{some_row, trues, falses, residuals, given_decision, must_determine, may_determine, HaveNoResidual}
 
 pub record SameRows (rows view : List Row) : Type 0 where
   pub same_trues : (e : Effect) → trues e view ≡ trues e rows

@@ -1,5 +1,5 @@
 -- What follows of a step that a response says.
-use Rattle.std.specs.Prelude.{◌≡◌, ◌≢◌, ℕ, ◌+◌, ◌≤◌, List, [], ◌∷◌, ◌++◌, map, Option, Some, None, option_map, IfSome, IfOk, IfErr, Result, Ok, Err}
+use Rattle.std.specs.Prelude.{◌≡◌, ◌≢◌, ℕ, ◌+◌, ◌≤◌, List, [], ◌∷◌, map, Option, Some, None, option_map, IfSome, IfOk, IfErr, Result, Ok, Err}
 use Rattle.std.proofs.Common.{refl, sym, ap, ◌∙◌, subst, arith}
 use Rattle.cedar_model.specs.Failures.{recursion_limit}
 use Rattle.cedar_model.specs.Settings.{ContextPart, absent_context, known_context, residual_context, Store, Setting}
@@ -12,15 +12,14 @@ use Rattle.cedar_model.specs.Policies.{permit, forbid, Policy, Effect, skip}
 use Rattle.cedar_model.specs.World.{World, Functions, Extensions}
 use Rattle.cedar_model.specs.Responses.{Row, Stand, AreConditions}
 use Rattle.cedar_model.specs.Refusals.{Refusal, context_fails}
-use Rattle.cedar_model.specs.Chains.{Mapping, Response, substituted, substituted_at, at_step, rows_by, all_residuals, StepsTo}
+use Rattle.cedar_model.specs.Chains.{Mapping, Response, substituted, substituted_at, at_step, all_residuals}
 use Rattle.cedar_model.specs.Terms.{Text, Fields, record_of}
 use Rattle.cedar_layers.specs.Policies.{PolicyView, decides_as}
-use Rattle.cedar_model.specs.ChainLaws.{KeepsWhatIsGiven}
 use Rattle.cedar_model.specs.ReportLaws.{Within}
-use Rattle.cedar_model.specs.Depth.{IsNoHigher, IsContextNoHigher}
+use Rattle.cedar_model.specs.Depth.{IsContextNoHigher}
 use Rattle.cedar_model.specs.LevelLaws.{FunctionsMeetNoLimit}
-use Rattle.cedar_model.specs.Authorizations.{HaveNoLimit, AreNoHigher}
-use Rattle.cedar_model.specs.Reports.{ids, must_determine, may_determine, trues, falses, residuals, HaveNoResidual}
+use Rattle.cedar_model.specs.Authorizations.{HaveNoLimit}
+use Rattle.cedar_model.specs.Reports.{ids, must_determine, may_determine, trues, falses, residuals}
 use Rattle.cedar_model.proofs.Chained.{sorted_is, step_stands}
 use Rattle.cedar_model.proofs.Completions.{step_completes}
 use Rattle.cedar_model.proofs.Concrete as concrete
@@ -35,12 +34,11 @@ use Rattle.cedar_responses.proofs.Rows.{trues_permit, falses_permit, residuals_p
 use Rattle.cedar_reauthorization.specs.declared.err.ReauthorizationError.{ReauthorizationError}
 use Rattle.cedar_reauthorization.specs.Errors.{step_refusal}
 use Rattle.cedar_reauthorization.specs.Concretizations.{IsResidualNoHigher}
-use Rattle.cedar_authorizer.specs.Running.{errors_of, HoldsRows}
-use Rattle.cedar_authorizer.specs.Steps as steps
-use Rattle.cedar_authorizer.specs.Steps.{step_answer, response_said, Says, IsStep, KeepsWhatStands, TakesNothingBack, Finishes, MeetsNoLimit, IsDeepEnough}
+use Rattle.cedar_authorizer.specs.Running.{HoldsRows}
+use Rattle.cedar_authorizer.specs.Steps.{step_answer, IsStep, KeepsWhatStands, TakesNothingBack, Finishes, IsDeepEnough}
 use Rattle.cedar_authorizer.proofs.Deciding.{rows_sorted}
 use Rattle.cedar_authorizer.proofs.Low.{step_is_deep}
-use Rattle.cedar_authorizer.proofs.Same.{SameRows, same_carried, same_decision, same_must, same_may, none_residual}
+use Rattle.cedar_authorizer.proofs.Same.{SameRows, same_decision, same_must, same_may, none_residual}
 
 -- ---- the rows that six maps hold
 
@@ -128,4 +126,4 @@ module _ (s : Setting) (calls : StoredCalls) (levels : ℕ) (m : Mapping) (store
       by : (o : Option Refusal) → step_refusal e ≡ o → IfSome (option_map {U = Result PartialResponse Refusal} Err o) (IsDeepEnough (configured_by calls skip s levels) (m, store) old)
       by None g = tt
       by (Some x) g =
-          λ b h sound low conditions enough w. refused (low_context b levels old.request.context_part (low_enough b h levels enough) low.context_low) (g ∙ ap Some w)
+          λ b h low conditions enough w. refused (low_context b levels old.request.context_part (low_enough b h levels enough) low.context_low) (g ∙ ap Some w)

@@ -34,18 +34,18 @@ module _ (c : Configuration) (steps : List (Mapping × Store)) where
   abbrev pub IsTakenFurther : PartialResponse → Result PartialResponse Refusal → Type 0
   IsTakenFurther r x = (first : Response) → Says r first → LeadsTo first x
 
+-- where nothing of the request, the store and the conditions is unknown, no residual is left
+abbrev pub LeavesNothing : Configuration → Setting → List Policy → PartialResponse → Type 0
+LeavesNothing c s ps r =
+    HasNothingUnknown s → (ans : Functions) → AgreesWithFunctions ans c.calls → HaveKnownConditions ans ps
+    → HaveNoResidual (rows_view r)
+
 module _ (c : Configuration) (s : Setting) (ps : List Policy) (steps : List (Mapping × Store)) where
   -- what the headline says of a response, in every completion
   abbrev pub IsHeadline : PartialResponse → Type 0
   IsHeadline r =
       (ans : Functions) (w : World) → Premises c s.request s.store ps steps ans w (errors_of r)
       → Headline c.mode s.extensions ans w ps (rows_view r)
-
-  -- where nothing of the request, the store and the conditions is unknown, no residual is left
-  abbrev pub LeavesNothing : PartialResponse → Type 0
-  LeavesNothing r =
-      HasNothingUnknown s → (ans : Functions) → AgreesWithFunctions ans c.calls → HaveKnownConditions ans ps
-      → HaveNoResidual (rows_view r)
 
   -- the model's chain of these steps leads to a response that says this, or is refused so
   abbrev pub IsChain : Result PartialResponse Refusal → Type 0

@@ -16,7 +16,8 @@ ghost use Rattle.cedar_responses.specs.Sheets.{outcome_view};
 ghost use Rattle.cedar_authorizer.specs.Configured.{configuration, asked};
 ghost use Rattle.cedar_authorizer.specs.Responding.{deciding};
 ghost use Rattle.cedar_authorizer.specs.Wanting.{is_of_memory};
-ghost use Rattle.cedar_authorizer.specs.Running.{errors_of, request_of, IsRun, StandsInCompletions, IsDeepEnough, IsConcreteRun};
+ghost use Rattle.cedar_authorizer.specs.Running.{errors_of, request_of, IsRun, StandsInCompletions};
+ghost use Rattle.cedar_authorizer.specs.Running.{IsDeepEnough, IsConcreteRun};
 ghost use Rattle.cedar_authorizer.specs.Running.{ComesOutBy, IsNotedRun, IsNotedBy, KeepsSheet};
 ghost use Rattle.cedar_authorizer.specs.Running.{ResidualsStand, ResidualsAreNoted, IsLeftAt};
 
@@ -73,7 +74,8 @@ pub struct Authorizer<'x, 'f> {
 impl<'x, 'f> Authorizer<'x, 'f> {
     ghost use Rattle.cedar_authorizer.specs.Steps.{step_answer};
     ghost use Rattle.cedar_authorizer.specs.Configured.{extensions_of, limit_of};
-    ghost use Rattle.cedar_authorizer.specs.Responding.{IsKnownResponse, IsKnownRun, MeetsNoLimit, OwnWorldCompletesCall};
+    ghost use Rattle.cedar_authorizer.specs.Responding.{IsKnownResponse, IsKnownRun, MeetsNoLimit};
+    ghost use Rattle.cedar_authorizer.specs.Responding.{OwnWorldCompletesCall};
     ghost use Rattle.cedar_authorizer.specs.Headline.{steps_view, IsChain, IsHeadline, LeavesNothing};
 
     /// The authorizer that uses these extensions. A condition whose evaluation goes more than `limit` levels deep counts as
@@ -95,12 +97,15 @@ impl<'x, 'f> Authorizer<'x, 'f> {
         policies: &PolicySet,
         entities: &Entities,
     ) -> Result<Response, AllocError>
-        ensures response { IfOk result (λ r. IsConcreteRun (configuration self.now) (asked self.now request entities.now)
-            (deciding policies.now) (response_view r)) }
-        ensures known { IfOk result (λ r. IsKnownResponse (configuration self.now) (asked self.now request entities.now)
-            (deciding policies.now) (response_view r)) }
-        ensures limit { IfOk result (λ r. MeetsNoLimit (configuration self.now) (asked self.now request entities.now)
-            (deciding policies.now) (response_view r).errors) }
+        ensures response { IfOk result (λ r.
+            IsConcreteRun (configuration self.now) (asked self.now request entities.now) (deciding policies.now)
+            (response_view r)) }
+        ensures known { IfOk result (λ r.
+            IsKnownResponse (configuration self.now) (asked self.now request entities.now) (deciding policies.now)
+            (response_view r)) }
+        ensures limit { IfOk result (λ r.
+            MeetsNoLimit (configuration self.now) (asked self.now request entities.now) (deciding policies.now)
+            (response_view r).errors) }
         ensures own_world { OwnWorldCompletesCall (asked self.now request entities.now) (deciding policies.now) }
     {
         let response = self.is_authorized_core(alloc, request, policies, entities)?;
@@ -118,7 +123,8 @@ impl<'x, 'f> Authorizer<'x, 'f> {
         policies: &PolicySet,
         entities: &Entities,
     ) -> Result<PartialResponse, AllocError>
-        ensures run { IfOk result (IsRun (configuration self.now) (asked self.now request entities.now) (deciding policies.now)) }
+        ensures run { IfOk result
+            (IsRun (configuration self.now) (asked self.now request entities.now) (deciding policies.now)) }
         ensures stands { IfOk result (StandsInCompletions (configuration self.now) (asked self.now request entities.now)
             (deciding policies.now)) }
         ensures known { IfOk result (λ r. IsKnownRun (configuration self.now) (asked self.now request entities.now)
@@ -146,7 +152,8 @@ impl<'x, 'f> Authorizer<'x, 'f> {
         entities: &Entities,
         steps: &[(&HashMap<RcStr, Value>, &Entities)],
     ) -> Result<PartialResponse, ReauthorizationError>
-        ensures chain { IfSome (step_answer result) (IsChain (configuration self.now) (asked self.now request entities.now)
+        ensures chain { IfSome (step_answer result)
+            (IsChain (configuration self.now) (asked self.now request entities.now)
             (deciding policies.now) (steps_view steps.now)) }
         ensures headline { IfOk result (IsHeadline (configuration self.now) (asked self.now request entities.now)
             (deciding policies.now) (steps_view steps.now)) }

@@ -13,7 +13,8 @@ ghost use Rattle.cedar_authorizer.specs.Configured.{configuration, limit_of};
 ghost use Rattle.cedar_authorizer.specs.Headline.{steps_view, IsTakenFurther};
 ghost use Rattle.cedar_authorizer.specs.Responding.{deciding};
 ghost use Rattle.cedar_authorizer.specs.Running.{request_of, IsRun, IsNotedBy};
-ghost use Rattle.cedar_authorizer.specs.Steps.{step_answer, response_said, step_by, under, IsDecidedAgain, IsStep, KeepsWhatStands};
+ghost use Rattle.cedar_authorizer.specs.Steps.{step_answer, response_said, step_by, under, IsDecidedAgain, IsStep};
+ghost use Rattle.cedar_authorizer.specs.Steps.{KeepsWhatStands};
 ghost use Rattle.cedar_authorizer.specs.Steps.{TakesNothingBack, Finishes, IsDeepEnough};
 
 use super::{Authorizer, response_of, run_all};
@@ -56,10 +57,14 @@ pub trait Reauthorize {
     ) -> Result<PartialResponse, ReauthorizationError>
         ensures step { IfSome (step_answer result)
             (IsStep (configuration authorizer.now) (step_by map.now entities.now) (said self.now)) }
-        ensures places { IfOk result (λ r. entity_locs (request_of r) ≡ concrete_locs (values_for map.now.entries) (places self.now)) }
-        ensures stands { IfOk result (KeepsWhatStands (configuration authorizer.now) (step_by map.now entities.now) (said self.now)) }
-        ensures kept { IfOk result (TakesNothingBack (configuration authorizer.now) (step_by map.now entities.now) (said self.now)) }
-        ensures finishes { IfOk result (Finishes (configuration authorizer.now) (step_by map.now entities.now) (said self.now)) }
+        ensures places { IfOk result (λ r.
+            entity_locs (request_of r) ≡ concrete_locs (values_for map.now.entries) (places self.now)) }
+        ensures stands { IfOk result
+            (KeepsWhatStands (configuration authorizer.now) (step_by map.now entities.now) (said self.now)) }
+        ensures kept { IfOk result
+            (TakesNothingBack (configuration authorizer.now) (step_by map.now entities.now) (said self.now)) }
+        ensures finishes { IfOk result
+            (Finishes (configuration authorizer.now) (step_by map.now entities.now) (said self.now)) }
         ensures deep_enough { IfSome (step_answer result)
             (IsDeepEnough (configuration authorizer.now) (step_by map.now entities.now) (said self.now)) };
 }
