@@ -13,6 +13,7 @@ mod policies;
 mod reading;
 mod report;
 mod requests;
+mod stages;
 mod stop;
 
 use cedar_extensions::{
@@ -39,6 +40,8 @@ pub const REPEATED_ID: u8 = 2;
 pub const OUT_OF_MEMORY: u8 = 3;
 /// The stored functions can't be used together.
 pub const WRONG_FUNCTIONS: u8 = 4;
+/// A response was not taken further.
+pub const STEP_REFUSED: u8 = 5;
 
 fn main(rt: HostRuntime) -> ExitCode {
     ExitCode::from(run(rt.alloc(), &mut io::writer(&rt)))
@@ -46,7 +49,7 @@ fn main(rt: HostRuntime) -> ExitCode {
 
 /// Prints the documents and the requests, and answers the exit status: `DONE`; `NOT_WRITTEN` where the writer failed; `REPEATED_ID`
 /// where two policies have one id; `OUT_OF_MEMORY` where memory was wanting; `WRONG_FUNCTIONS` where the stored functions can't be used
-/// together.
+/// together; `STEP_REFUSED` where a response was not taken further.
 pub fn run<W: Write>(alloc: Global, out: &mut W) -> u8 {
     match print_all(alloc, out) {
         Ok(()) => DONE,
@@ -54,6 +57,7 @@ pub fn run<W: Write>(alloc: Global, out: &mut W) -> u8 {
         Err(Stop::RepeatedId) => REPEATED_ID,
         Err(Stop::Memory) => OUT_OF_MEMORY,
         Err(Stop::Functions) => WRONG_FUNCTIONS,
+        Err(Stop::Step) => STEP_REFUSED,
     }
 }
 
@@ -114,6 +118,9 @@ fn print_lines<W: Write>(
     }
     for asked in &requests::ASKED {
         report::print_request(alloc, asked, policies, entities, extensions, out)?;
+    }
+    for asked in &requests::STAGED {
+        report::print_in_stages(alloc, asked, out)?;
     }
     Ok(())
 }

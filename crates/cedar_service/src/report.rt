@@ -1,7 +1,8 @@
 //! What is printed.
-use crate::names::uid;
+use crate::names::{both, uid};
 use crate::reading::{as_bool, as_entity, as_long, as_text, known};
-use crate::requests::Asked;
+use crate::requests::{Asked, Staged};
+use crate::stages::decided_in_stages;
 use crate::stop::Stop;
 use cedar_authorizer::authorizer::{
     AuthorizationError, Authorizer, Decision, PartialResponse, ReportedPolicies, Response,
@@ -83,6 +84,31 @@ pub fn print_request<W: Write>(
             printed
         }
     }
+}
+
+/// Decides in two stages, the second of which says who asks, and prints the decision: the document is its owner's alone.
+pub fn print_in_stages<W: Write>(alloc: Global, asked: &Staged, out: &mut W) -> Result<(), Stop> {
+    let decision = decide_in_stages(alloc, asked)?;
+    write!(
+        out,
+        "{} {} {}, which is {}'s alone: ",
+        asked.user, asked.action, asked.document, asked.owner
+    )?;
+    print_decision(decision, out)
+}
+
+fn decide_in_stages(alloc: Global, asked: &Staged) -> Result<Option<Decision>, Stop> {
+    let ((owner, user), (action, document)) = both(
+        both(
+            uid(alloc, "User", asked.owner),
+            uid(alloc, "User", asked.user),
+        ),
+        both(
+            uid(alloc, "Action", asked.action),
+            uid(alloc, "Document", asked.document),
+        ),
+    )?;
+    decided_in_stages(alloc, &owner, &user, &action, &document)
 }
 
 fn decide(

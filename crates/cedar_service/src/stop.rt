@@ -1,4 +1,5 @@
 //! Why the service stops.
+use cedar_authorizer::authorizer::ReauthorizationError;
 use cedar_extensions::ExtensionInitializationError;
 use cedar_layers::policies::PolicySetError;
 use std::alloc::{AllocError, AllocFailed};
@@ -15,6 +16,8 @@ pub enum Stop {
     RepeatedId,
     /// The stored functions can't be used together.
     Functions,
+    /// A response was not taken further.
+    Step,
 }
 
 impl From<AllocError> for Stop {
@@ -54,6 +57,19 @@ impl From<ExtensionInitializationError> for Stop {
             ExtensionInitializationError::FuncMultiplyDefined(_) => Stop::Functions,
             ExtensionInitializationError::MultipleConstructorsSameSignature(_) => Stop::Functions,
             ExtensionInitializationError::Memory(_) => Stop::Memory,
+        }
+    }
+}
+
+impl From<ReauthorizationError> for Stop {
+    fn from(error: ReauthorizationError) -> Stop {
+        match error {
+            ReauthorizationError::PolicySetError(error) => Stop::from(error),
+            ReauthorizationError::ConcretizationError(error) => {
+                drop(error);
+                Stop::Step
+            }
+            ReauthorizationError::Memory(_) => Stop::Memory,
         }
     }
 }

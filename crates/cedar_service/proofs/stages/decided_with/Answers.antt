@@ -1,0 +1,36 @@
+use Rattle.std.proofs.Common.{sym, subst, [], ◌∷◌}
+use Rattle.cedar_names.specs.Names.{uid_name}
+use Rattle.cedar_extensions.specs.Computations.{no_answers, AgreesWith, AreFaithfulBy}
+use Rattle.cedar_extensions.specs.Extensions.{extensions_view, calls_of}
+use Rattle.cedar_layers.specs.PolicySets.{policies_view}
+use Rattle.cedar_layers.specs.Stores.{store_view}
+use Rattle.cedar_requests.specs.Requests.{request_view}
+use Rattle.cedar_requests.specs.Substitutions.{values_for}
+use Rattle.cedar_authorizer.specs.Configured.{configuration, asked, extensions_of, limit_of}
+use Rattle.cedar_authorizer.specs.Responding.{deciding}
+use Rattle.cedar_service.specs.Stages.{IsDecidedIn, IsDecidedFor}
+use Rattle.cedar_service.proofs.Decided.{decided_for_owner, each_decision}
+use Rattle.cedar_service.proofs.stages.decided_with.Goals as goal
+
+pub returns : goal.returns
+returns c =
+    let authorizer = c.new-authorizer.result in
+    let extensions = extensions_of authorizer in
+    let none = c.none-extensions.ensures.extensions in
+    let own = sym c.new-authorizer.ensures.extensions in
+    let agree : AgreesWith extensions no_answers =
+    subst (λ x. AgreesWith x no_answers) own (c.no_functions_agree.ensures.agree none) in
+    let faithful : AreFaithfulBy extensions no_answers =
+    subst (λ x. AreFaithfulBy x no_answers) own (c.no_functions_agree.ensures.faithful none) in
+    let request = request_view c.in_ok-request.request in
+    let store = store_view c.new-none.result in
+    let policies = policies_view c.args.policies.now in
+    let values = values_for c.args.values.now.entries in
+    each_decision
+    (IsDecidedIn (configuration authorizer) (asked authorizer c.in_ok-request.request c.new-none.result)
+    (deciding c.args.policies.now) ((values, store) ∷ []))
+    (IsDecidedFor policies values)
+    (λ d. decided_for_owner (extensions_view extensions) (calls_of extensions) agree faithful (limit_of authorizer) d
+    request store policies values (uid_name c.args.action.now) (uid_name c.args.resource.now)
+    c.in_ok-request.ensures c.new-none.ensures)
+    c.decided_after-decision.result c.decided_after-decision.ensures
