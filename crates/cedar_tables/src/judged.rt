@@ -1,6 +1,6 @@
 //! What policies decide, and what a policy holds.
 use crate::answers::described::describe;
-use crate::levels::{Asked, Met, answer_within, met_in};
+use crate::levels::{Asked, Shortage, answer_within, met_in};
 use crate::notation::answer::Answer;
 use crate::notation::policies::{policies, policy, policy_set};
 use crate::notation::settings::Setting;
@@ -181,7 +181,7 @@ struct Wholly<'a, 'e, 'f> {
 }
 
 impl Asked for Wholly<'_, '_, '_> {
-    type Outcome = Result<bool, EvaluationError>;
+    type Ending = Result<bool, EvaluationError>;
 
     fn outcome(&self, alloc: Global, limit: usize) -> Result<bool, EvaluationError> {
         let request = self.setting.request.clone()?;
@@ -194,7 +194,7 @@ impl Asked for Wholly<'_, '_, '_> {
         outcome
     }
 
-    fn met(&self, outcome: &Result<bool, EvaluationError>) -> Met {
+    fn met(&self, outcome: &Result<bool, EvaluationError>) -> Shortage {
         met_in(outcome)
     }
 
@@ -219,7 +219,7 @@ struct Partly<'a, 'e, 'f> {
 }
 
 impl Asked for Partly<'_, '_, '_> {
-    type Outcome = Result<Either<bool, Expr>, EvaluationError>;
+    type Ending = Result<Either<bool, Expr>, EvaluationError>;
 
     fn outcome(&self, alloc: Global, limit: usize) -> Result<Either<bool, Expr>, EvaluationError> {
         let request = self.setting.request.clone()?;
@@ -232,7 +232,7 @@ impl Asked for Partly<'_, '_, '_> {
         outcome
     }
 
-    fn met(&self, outcome: &Result<Either<bool, Expr>, EvaluationError>) -> Met {
+    fn met(&self, outcome: &Result<Either<bool, Expr>, EvaluationError>) -> Shortage {
         met_in(outcome)
     }
 

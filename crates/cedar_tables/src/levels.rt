@@ -8,30 +8,30 @@ use std::alloc::Global;
 /// More levels than any expression of a row has.
 const MANY: usize = 2000;
 
-/// Whether an outcome is the recursion limit, want of memory, or another one.
+/// What an outcome says was too few: levels, where it is the recursion limit, memory, or nothing.
 #[derive(Clone, Copy)]
-pub enum Met {
-    Limit,
+pub enum Shortage {
+    Levels,
     Memory,
-    Neither,
+    Nothing,
 }
 
 /// What is asked of what is evaluated.
 pub trait Asked {
     /// What it comes to.
-    type Outcome: Drop;
+    type Ending: Drop;
 
     /// What it comes to within so many levels.
-    fn outcome(&self, alloc: Global, limit: usize) -> Self::Outcome;
+    fn outcome(&self, alloc: Global, limit: usize) -> Self::Ending;
 
-    /// Whether that is the recursion limit or want of memory.
-    fn met(&self, outcome: &Self::Outcome) -> Met;
+    /// What it says was too few.
+    fn met(&self, outcome: &Self::Ending) -> Shortage;
 
     /// Whether the two are equal.
-    fn are_equal(&self, left: &Self::Outcome, right: &Self::Outcome) -> bool;
+    fn are_equal(&self, left: &Self::Ending, right: &Self::Ending) -> bool;
 
     /// Writes what is asked of it.
-    fn put(&self, answer: &mut Answer, outcome: &Self::Outcome);
+    fn put(&self, answer: &mut Answer, outcome: &Self::Ending);
 }
 
 /// Answers within the limit that is written, or within the fewest levels where none is. Within one level less than the fewest it comes to the
@@ -63,9 +63,9 @@ fn fewest_levels<A: Asked>(alloc: Global, asked: &A) -> Result<usize, Unanswered
         let outcome = asked.outcome(alloc, limit);
         let met = asked.met(&outcome);
         let found = match met {
-            Met::Neither => is_settled(alloc, asked, &outcome),
-            Met::Limit => Ok(false),
-            Met::Memory => Err(Unanswered::Memory),
+            Shortage::Nothing => is_settled(alloc, asked, &outcome),
+            Shortage::Levels => Ok(false),
+            Shortage::Memory => Err(Unanswered::Memory),
         };
         drop(outcome);
         if found? {
@@ -76,11 +76,7 @@ fn fewest_levels<A: Asked>(alloc: Global, asked: &A) -> Result<usize, Unanswered
 }
 
 // Whether many levels make the same of it; it is refused if not.
-fn is_settled<A: Asked>(
-    alloc: Global,
-    asked: &A,
-    outcome: &A::Outcome,
-) -> Result<bool, Unanswered> {
+fn is_settled<A: Asked>(alloc: Global, asked: &A, outcome: &A::Ending) -> Result<bool, Unanswered> {
     let other = asked.outcome(alloc, MANY);
     let texts = both(
         text_of(alloc, asked, outcome),
@@ -96,25 +92,25 @@ fn is_settled<A: Asked>(
     }
 }
 
-fn text_of<A: Asked>(alloc: Global, asked: &A, outcome: &A::Outcome) -> Result<String, Unanswered> {
+fn text_of<A: Asked>(alloc: Global, asked: &A, outcome: &A::Ending) -> Result<String, Unanswered> {
     let mut answer = Answer::new(alloc);
     asked.put(&mut answer, outcome);
     answer.finish()
 }
 
-/// Whether this error is the recursion limit or want of memory.
-pub fn met_by(error: &EvaluationError) -> Met {
+/// What this error says was too few.
+pub fn met_by(error: &EvaluationError) -> Shortage {
     match error {
-        EvaluationError::RecursionLimit(_) => Met::Limit,
-        EvaluationError::Memory(_) => Met::Memory,
-        _ => Met::Neither,
+        EvaluationError::RecursionLimit(_) => Shortage::Levels,
+        EvaluationError::Memory(_) => Shortage::Memory,
+        _ => Shortage::Nothing,
     }
 }
 
-/// Whether this outcome is the recursion limit or want of memory.
-pub fn met_in<T>(outcome: &Result<T, EvaluationError>) -> Met {
+/// What this outcome says was too few.
+pub fn met_in<T>(outcome: &Result<T, EvaluationError>) -> Shortage {
     match outcome {
-        Ok(_) => Met::Neither,
+        Ok(_) => Shortage::Nothing,
         Err(error) => met_by(error),
     }
 }

@@ -1,7 +1,7 @@
 //! What is known of policies, and what becomes of that in steps.
 use crate::answers::described::kind;
 use crate::judged::{put_decision, put_named};
-use crate::levels::{Asked, Met, answer_within, met_in};
+use crate::levels::{Asked, Shortage, answer_within, met_in};
 use crate::notation::answer::Answer;
 use crate::notation::policies::{policy_id, policy_set};
 use crate::notation::settings::Setting;
@@ -552,7 +552,7 @@ struct Substituted<'a, 'f> {
 }
 
 impl Asked for Substituted<'_, '_> {
-    type Outcome = Result<Context, EvaluationError>;
+    type Ending = Result<Context, EvaluationError>;
 
     fn outcome(&self, alloc: Global, limit: usize) -> Result<Context, EvaluationError> {
         match self.context.clone() {
@@ -561,7 +561,7 @@ impl Asked for Substituted<'_, '_> {
         }
     }
 
-    fn met(&self, outcome: &Result<Context, EvaluationError>) -> Met {
+    fn met(&self, outcome: &Result<Context, EvaluationError>) -> Shortage {
         met_in(outcome)
     }
 

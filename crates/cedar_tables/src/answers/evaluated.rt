@@ -1,6 +1,6 @@
 //! What an expression evaluates to in the setting.
 use crate::answers::described::describe;
-use crate::levels::{Asked, Met, answer_within, met_in, put_within};
+use crate::levels::{Asked, Shortage, answer_within, met_in, put_within};
 use crate::notation::answer::Answer;
 use crate::notation::expressions::expression;
 use crate::notation::settings::Setting;
@@ -18,13 +18,13 @@ struct Wholly<'a, 'e, 'f> {
 }
 
 impl Asked for Wholly<'_, '_, '_> {
-    type Outcome = Result<Value, EvaluationError>;
+    type Ending = Result<Value, EvaluationError>;
 
     fn outcome(&self, alloc: Global, limit: usize) -> Result<Value, EvaluationError> {
         outcome(alloc, self.setting, limit, self.expr)
     }
 
-    fn met(&self, outcome: &Result<Value, EvaluationError>) -> Met {
+    fn met(&self, outcome: &Result<Value, EvaluationError>) -> Shortage {
         met_in(outcome)
     }
 
@@ -171,13 +171,13 @@ struct Partly<'a, 'e, 'f> {
 }
 
 impl Asked for Partly<'_, '_, '_> {
-    type Outcome = Result<PartialValue, EvaluationError>;
+    type Ending = Result<PartialValue, EvaluationError>;
 
     fn outcome(&self, alloc: Global, limit: usize) -> Result<PartialValue, EvaluationError> {
         partial_outcome(alloc, self.setting, limit, self.expr)
     }
 
-    fn met(&self, outcome: &Result<PartialValue, EvaluationError>) -> Met {
+    fn met(&self, outcome: &Result<PartialValue, EvaluationError>) -> Shortage {
         met_in(outcome)
     }
 

@@ -1,7 +1,7 @@
 //! What is answered of contexts that are made of restricted expressions: what they hold, or why there is none.
 //!
 //! Pairs are written `b=U:x, a=L:1 set:1`, in that order: names, and the words of a restricted expression. `none` is no pair.
-use crate::levels::{Asked, Met, answer_within, met_by};
+use crate::levels::{Asked, Shortage, answer_within, met_by};
 use crate::notation::answer::Answer;
 use crate::notation::expressions::restricted;
 use crate::notation::pair;
@@ -62,7 +62,7 @@ struct OfPairs<'a, 'f> {
 }
 
 impl Asked for OfPairs<'_, '_> {
-    type Outcome = Result<Context, ContextCreationError>;
+    type Ending = Result<Context, ContextCreationError>;
 
     fn outcome(&self, alloc: Global, limit: usize) -> Result<Context, ContextCreationError> {
         match copied(alloc, self.pairs) {
@@ -71,7 +71,7 @@ impl Asked for OfPairs<'_, '_> {
         }
     }
 
-    fn met(&self, outcome: &Result<Context, ContextCreationError>) -> Met {
+    fn met(&self, outcome: &Result<Context, ContextCreationError>) -> Shortage {
         met_in_creation(outcome)
     }
 
@@ -101,13 +101,13 @@ struct OfExpression<'a, 'f> {
 }
 
 impl Asked for OfExpression<'_, '_> {
-    type Outcome = Result<Context, ContextCreationError>;
+    type Ending = Result<Context, ContextCreationError>;
 
     fn outcome(&self, alloc: Global, limit: usize) -> Result<Context, ContextCreationError> {
         Context::from_expr(alloc, self.expr.as_borrowed(), self.extensions, limit)
     }
 
-    fn met(&self, outcome: &Result<Context, ContextCreationError>) -> Met {
+    fn met(&self, outcome: &Result<Context, ContextCreationError>) -> Shortage {
         met_in_creation(outcome)
     }
 
@@ -145,13 +145,13 @@ fn put_copy(
     pair(copies, name, expr)
 }
 
-fn met_in_creation(outcome: &Result<Context, ContextCreationError>) -> Met {
+fn met_in_creation(outcome: &Result<Context, ContextCreationError>) -> Shortage {
     match outcome {
-        Ok(_) => Met::Neither,
-        Err(ContextCreationError::NotARecord(_)) => Met::Neither,
+        Ok(_) => Shortage::Nothing,
+        Err(ContextCreationError::NotARecord(_)) => Shortage::Nothing,
         Err(ContextCreationError::Evaluation(error)) => met_by(error),
-        Err(ContextCreationError::ExpressionConstruction(_)) => Met::Neither,
-        Err(ContextCreationError::Memory(_)) => Met::Memory,
+        Err(ContextCreationError::ExpressionConstruction(_)) => Shortage::Nothing,
+        Err(ContextCreationError::Memory(_)) => Shortage::Memory,
     }
 }
 

@@ -1,6 +1,6 @@
 //! What is answered of restricted expressions, of which the words write one.
 use crate::answers::evaluated::{put_outcome, put_partial, put_partial_place};
-use crate::levels::{Asked, Met, answer_within, met_in};
+use crate::levels::{Asked, Shortage, answer_within, met_in};
 use crate::notation::answer::Answer;
 use crate::notation::expressions::{expression, restricted};
 use crate::notation::pair;
@@ -88,14 +88,14 @@ struct Partly<'a, 'f> {
 }
 
 impl Asked for Partly<'_, '_> {
-    type Outcome = Result<PartialValue, EvaluationError>;
+    type Ending = Result<PartialValue, EvaluationError>;
 
     fn outcome(&self, alloc: Global, limit: usize) -> Result<PartialValue, EvaluationError> {
         let evaluator = RestrictedEvaluator::new(self.extensions, limit);
         evaluator.partial_interpret(alloc, self.expr.as_borrowed())
     }
 
-    fn met(&self, outcome: &Result<PartialValue, EvaluationError>) -> Met {
+    fn met(&self, outcome: &Result<PartialValue, EvaluationError>) -> Shortage {
         met_in(outcome)
     }
 
@@ -120,14 +120,14 @@ struct Wholly<'a, 'f> {
 }
 
 impl Asked for Wholly<'_, '_> {
-    type Outcome = Result<Value, EvaluationError>;
+    type Ending = Result<Value, EvaluationError>;
 
     fn outcome(&self, alloc: Global, limit: usize) -> Result<Value, EvaluationError> {
         let evaluator = RestrictedEvaluator::new(self.extensions, limit);
         evaluator.interpret(alloc, self.expr.as_borrowed())
     }
 
-    fn met(&self, outcome: &Result<Value, EvaluationError>) -> Met {
+    fn met(&self, outcome: &Result<Value, EvaluationError>) -> Shortage {
         met_in(outcome)
     }
 
