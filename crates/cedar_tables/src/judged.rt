@@ -175,12 +175,12 @@ fn put_condition_of(
 
 /// What the condition of a policy comes out as.
 #[derive(Clone, Copy)]
-struct Wholly<'a, 'e, 'f> {
-    setting: &'a Setting<'e, 'f>,
+struct Wholly<'a> {
+    setting: &'a Setting<'a, 'a>,
     policy: &'a Policy,
 }
 
-impl Asked for Wholly<'_, '_, '_> {
+impl Asked for Wholly<'_> {
     type Ending = Result<bool, EvaluationError>;
 
     fn outcome(&self, alloc: Global, limit: usize) -> Result<bool, EvaluationError> {
@@ -213,12 +213,12 @@ impl Asked for Wholly<'_, '_, '_> {
 
 /// What the condition of a policy partly comes out as.
 #[derive(Clone, Copy)]
-struct Partly<'a, 'e, 'f> {
-    setting: &'a Setting<'e, 'f>,
+struct Partly<'a> {
+    setting: &'a Setting<'a, 'a>,
     policy: &'a Policy,
 }
 
-impl Asked for Partly<'_, '_, '_> {
+impl Asked for Partly<'_> {
     type Ending = Result<Either<bool, Expr>, EvaluationError>;
 
     fn outcome(&self, alloc: Global, limit: usize) -> Result<Either<bool, Expr>, EvaluationError> {

@@ -545,13 +545,13 @@ fn put_context_with(
 
 /// A context with these values for unknowns.
 #[derive(Clone, Copy)]
-struct Substituted<'a, 'f> {
-    extensions: &'a Extensions<'f>,
+struct Substituted<'a> {
+    extensions: &'a Extensions<'a>,
     context: &'a Context,
     map: &'a HashMap<RcStr, Value>,
 }
 
-impl Asked for Substituted<'_, '_> {
+impl Asked for Substituted<'_> {
     type Ending = Result<Context, EvaluationError>;
 
     fn outcome(&self, alloc: Global, limit: usize) -> Result<Context, EvaluationError> {

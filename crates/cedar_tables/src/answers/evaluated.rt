@@ -11,13 +11,13 @@ use std::alloc::Global;
 
 /// What an expression evaluates to.
 #[derive(Clone, Copy)]
-struct Wholly<'a, 'e, 'f> {
-    setting: &'a Setting<'e, 'f>,
+struct Wholly<'a> {
+    setting: &'a Setting<'a, 'a>,
     kind: &'a str,
     expr: &'a Expr,
 }
 
-impl Asked for Wholly<'_, '_, '_> {
+impl Asked for Wholly<'_> {
     type Ending = Result<Value, EvaluationError>;
 
     fn outcome(&self, alloc: Global, limit: usize) -> Result<Value, EvaluationError> {
@@ -163,14 +163,14 @@ fn put_error(answer: &mut Answer, outcome: &Result<Value, EvaluationError>) {
 
 /// What an expression partly evaluates to.
 #[derive(Clone, Copy)]
-struct Partly<'a, 'e, 'f> {
-    setting: &'a Setting<'e, 'f>,
+struct Partly<'a> {
+    setting: &'a Setting<'a, 'a>,
     kind: &'a str,
     expr: &'a Expr,
     want: &'a str,
 }
 
-impl Asked for Partly<'_, '_, '_> {
+impl Asked for Partly<'_> {
     type Ending = Result<PartialValue, EvaluationError>;
 
     fn outcome(&self, alloc: Global, limit: usize) -> Result<PartialValue, EvaluationError> {

@@ -6,7 +6,7 @@ use crate::notation::unanswered::Unanswered;
 use crate::notation::values::value;
 use crate::notation::{Parts, both, headed, mapped, or_memory};
 use cedar_extensions::Extensions;
-use cedar_layers::expressions::{EntityUID, Name, PartialValue, Type, Unknown, Value, Var};
+use cedar_layers::expressions::{EntityUID, PartialValue, Unknown, Value, Var};
 use cedar_layers::policies::{Dereference, Entities, Entity};
 use cedar_requests::{Context, EntityUIDEntry, Request, RequestType};
 use std::alloc::{AllocError, Global};
@@ -114,34 +114,18 @@ pub fn ask_entity(answer: &mut Answer, entities: &Entities, name: &str) {
 /// The names of the extensions, the types that their functions make, and those for which they overload `<`.
 pub fn ask_extensions(answer: &mut Answer, extensions: &Extensions<'_>) {
     answer.put("named");
-    for name in extensions.ext_names() {
-        put_name(answer, name);
-    }
+    answer.show_each(extensions.ext_names());
     answer.put(", making");
-    for name in extensions.ext_types() {
-        put_name(answer, name);
-    }
+    answer.show_each(extensions.ext_types());
     answer.put(", overloading");
-    for name in extensions.types_with_operator_overloading() {
-        put_name(answer, name);
-    }
+    answer.show_each(extensions.types_with_operator_overloading());
     match extensions.overloaded_types(answer.alloc) {
-        Ok(types) => put_types_of(answer, &types),
+        Ok(types) => {
+            answer.put(", as types");
+            answer.show_each(types.iter());
+        }
         Err(_) => answer.lack_memory(),
     }
-}
-
-fn put_types_of(answer: &mut Answer, types: &[Type]) {
-    answer.put(", as types");
-    for ty in types {
-        answer.put(" ");
-        answer.show(ty);
-    }
-}
-
-fn put_name(answer: &mut Answer, name: &Name) {
-    answer.put(" ");
-    answer.show(name);
 }
 
 /// What an entity has that is made of values: `E:e / a L:1, b T:x / t L:2` has two attributes and a tag, and `none` is none.

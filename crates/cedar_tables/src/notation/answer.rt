@@ -107,6 +107,17 @@ impl Answer {
         }
     }
 
+    /// Writes what each of these prints as, a space before each.
+    pub fn show_each<'a, T: fmt::Display + 'a, I: Iterator<Item = &'a T> + Drop>(
+        &mut self,
+        all: I,
+    ) {
+        for one in all {
+            self.put(" ");
+            self.show(one);
+        }
+    }
+
     /// Begins a list.
     pub fn begin(&mut self) {
         self.is_behind = false;

@@ -55,13 +55,13 @@ fn of_pairs(
 
 /// The context of these pairs.
 #[derive(Clone, Copy)]
-struct OfPairs<'a, 'f> {
-    extensions: &'a Extensions<'f>,
+struct OfPairs<'a> {
+    extensions: &'a Extensions<'a>,
     kind: &'a str,
     pairs: &'a [(RcStr, RestrictedExpr)],
 }
 
-impl Asked for OfPairs<'_, '_> {
+impl Asked for OfPairs<'_> {
     type Ending = Result<Context, ContextCreationError>;
 
     fn outcome(&self, alloc: Global, limit: usize) -> Result<Context, ContextCreationError> {
@@ -95,12 +95,12 @@ impl Asked for OfPairs<'_, '_> {
 
 /// The context of this expression.
 #[derive(Clone, Copy)]
-struct OfExpression<'a, 'f> {
-    extensions: &'a Extensions<'f>,
+struct OfExpression<'a> {
+    extensions: &'a Extensions<'a>,
     expr: &'a RestrictedExpr,
 }
 
-impl Asked for OfExpression<'_, '_> {
+impl Asked for OfExpression<'_> {
     type Ending = Result<Context, ContextCreationError>;
 
     fn outcome(&self, alloc: Global, limit: usize) -> Result<Context, ContextCreationError> {

@@ -81,13 +81,13 @@ fn put_owned(answer: &mut Answer, expr: &RestrictedExpr) {
 
 /// What a restricted expression partly evaluates to.
 #[derive(Clone, Copy)]
-struct Partly<'a, 'f> {
-    extensions: &'a Extensions<'f>,
+struct Partly<'a> {
+    extensions: &'a Extensions<'a>,
     kind: &'a str,
     expr: &'a RestrictedExpr,
 }
 
-impl Asked for Partly<'_, '_> {
+impl Asked for Partly<'_> {
     type Ending = Result<PartialValue, EvaluationError>;
 
     fn outcome(&self, alloc: Global, limit: usize) -> Result<PartialValue, EvaluationError> {
@@ -114,12 +114,12 @@ impl Asked for Partly<'_, '_> {
 
 /// What a restricted expression evaluates to.
 #[derive(Clone, Copy)]
-struct Wholly<'a, 'f> {
-    extensions: &'a Extensions<'f>,
+struct Wholly<'a> {
+    extensions: &'a Extensions<'a>,
     expr: &'a RestrictedExpr,
 }
 
-impl Asked for Wholly<'_, '_> {
+impl Asked for Wholly<'_> {
     type Ending = Result<Value, EvaluationError>;
 
     fn outcome(&self, alloc: Global, limit: usize) -> Result<Value, EvaluationError> {

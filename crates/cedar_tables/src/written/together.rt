@@ -10,7 +10,7 @@ use crate::notation::{add, both, headed, pair};
 use cedar_built_in_rows::functions::made;
 use cedar_extensions::util::{CollectError, collect_no_duplicates};
 use cedar_extensions::{
-    ExtTypes, Extension, ExtensionFunction, ExtensionFunctionObject, ExtensionInitializationError,
+    Extension, ExtensionFunction, ExtensionFunctionObject, ExtensionInitializationError,
     ExtensionOutputValue, Extensions,
 };
 use cedar_layers::expressions::{CallStyle, Type, Value};
@@ -102,7 +102,7 @@ fn put_accepted(answer: &mut Answer, all: &[Extension]) {
     match Extensions::specific_extensions(answer.alloc, all) {
         Ok(extensions) => {
             answer.put("accepted, making");
-            put_types(answer, extensions.ext_types());
+            answer.show_each(extensions.ext_types());
             put_each(answer, all);
         }
         Err(ExtensionInitializationError::Memory(_)) => answer.lack_memory(),
@@ -118,14 +118,7 @@ fn put_each(answer: &mut Answer, all: &[Extension]) {
     for extension in all {
         answer.put("; ");
         answer.show(extension.name());
-        put_types(answer, extension.ext_types());
-    }
-}
-
-fn put_types(answer: &mut Answer, types: ExtTypes<'_>) {
-    for name in types {
-        answer.put(" ");
-        answer.show(name);
+        answer.show_each(extension.ext_types());
     }
 }
 
