@@ -16,7 +16,8 @@ use Rattle.cedar_responses.specs.Responses.{errors_view}
 use Rattle.cedar_reauthorization.specs.declared.err.ConcretizationError.{ConcretizationError}
 use Rattle.cedar_reauthorization.specs.declared.err.ReauthorizationError.{ReauthorizationError}
 use Rattle.cedar_reauthorization.specs.declared.err.ReauthorizationError.TheVariants as reauthorizations
-use Rattle.cedar_reauthorization.specs.Errors.{refusal_of, step_refusal, IsRequestRefusal}
+use Rattle.std.specs.declared.alloc.AllocError.{AllocError}
+use Rattle.cedar_reauthorization.specs.Errors.{refusal_of, step_refusal, IsRequestRefusal, IsUnwrapped}
 use Rattle.cedar_reauthorization.specs.Concretizations.{AfterMap, IsConcrete}
 use Rattle.cedar_reauthorization.specs.Policies.{unless_repeated, all_once}
 use Rattle.cedar_authorizer.specs.Running.{IsRun}
@@ -137,3 +138,7 @@ pub request_low : (e : ConcretizationError) (r : ReauthorizationError) → IsReq
 request_low e (reauthorizations.PolicySetError p) is h w = is
 request_low e (reauthorizations.ConcretizationError f) is h w = h (ap refusal_of (sym is.0) ∙ w)
 request_low e (reauthorizations.Memory p) is h w = absurd (cc)
+
+-- want of memory stands alone
+pub memory_unwrapped : (x : AllocError) (r : ReauthorizationError) → r ≡ reauthorizations.Memory x → IsUnwrapped r
+memory_unwrapped x r e = subst IsUnwrapped (sym e) tt

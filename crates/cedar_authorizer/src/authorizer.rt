@@ -72,6 +72,8 @@ pub struct Authorizer<'x, 'f> {
 }
 
 impl<'x, 'f> Authorizer<'x, 'f> {
+    ghost use Rattle.std.specs.Prelude.{IfErr};
+    ghost use Rattle.cedar_reauthorization.specs.Errors.{IsUnwrapped};
     ghost use Rattle.cedar_authorizer.specs.Steps.{step_answer};
     ghost use Rattle.cedar_authorizer.specs.Configured.{extensions_of, limit_of};
     ghost use Rattle.cedar_authorizer.specs.Responding.{IsKnownResponse, IsKnownRun, MeetsNoLimit};
@@ -144,6 +146,7 @@ impl<'x, 'f> Authorizer<'x, 'f> {
     /// errors of a response hold the recursion limit, that response is the answer, and no step after it is taken: the limit can
     /// stand for a forbid that errs, which a further step would carry on as false. Refuses as the first step that is refused,
     /// or for want of memory.
+    #[tactic(auto, using(crate::proofs::Joined::memory_unwrapped))]
     pub fn authorize_in_steps(
         &self,
         alloc: Global,
@@ -155,6 +158,7 @@ impl<'x, 'f> Authorizer<'x, 'f> {
         ensures chain { IfSome (step_answer result)
             (IsChain (configuration self.now) (asked self.now request entities.now)
             (deciding policies.now) (steps_view steps.now)) }
+        ensures memory { IfErr result IsUnwrapped }
         ensures headline { IfOk result (IsHeadline (configuration self.now) (asked self.now request entities.now)
             (deciding policies.now) (steps_view steps.now)) }
         ensures known { IfOk result (LeavesNothing (configuration self.now) (asked self.now request entities.now)

@@ -8,7 +8,7 @@ ghost use Rattle.cedar_requests.specs.Requests.{request_view};
 ghost use Rattle.cedar_requests.specs.Substitutions.{values_for};
 ghost use Rattle.cedar_responses.specs.Responses.{error_view, errors_view};
 ghost use Rattle.cedar_reauthorization.specs.Concretizations.{entity_locs, concrete_locs, IsResidualNoHigher};
-ghost use Rattle.cedar_reauthorization.specs.Errors.{step_refusal};
+ghost use Rattle.cedar_reauthorization.specs.Errors.{step_refusal, IsUnwrapped};
 ghost use Rattle.cedar_authorizer.specs.Configured.{configuration, limit_of};
 ghost use Rattle.cedar_authorizer.specs.Headline.{steps_view, IsTakenFurther};
 ghost use Rattle.cedar_authorizer.specs.Responding.{deciding};
@@ -57,6 +57,7 @@ pub trait Reauthorize {
     ) -> Result<PartialResponse, ReauthorizationError>
         ensures step { IfSome (step_answer result)
             (IsStep (configuration authorizer.now) (step_by map.now entities.now) (said self.now)) }
+        ensures memory { IfErr result IsUnwrapped }
         ensures places { IfOk result (λ r.
             entity_locs (request_of r) ≡ concrete_locs (values_for map.now.entries) (places self.now)) }
         ensures stands { IfOk result
@@ -95,6 +96,7 @@ fn reauthorized(
 ) -> Result<PartialResponse, ReauthorizationError>
     ensures step { IfSome (step_answer result)
         (IsStep (configuration authorizer.now) (step_by map.now entities.now) (response_said response.now)) }
+    ensures memory { IfErr result IsUnwrapped }
     ensures places { IfOk result (λ r. entity_locs r.request.value
         ≡ concrete_locs (values_for map.now.entries) (entity_locs response.now.request.value)) }
     ensures low { IsResidualNoHigher (values_for map.now.entries) (limit_of authorizer.now)
@@ -117,6 +119,7 @@ fn reauthorized(
 }
 
 // The same, where the policies are made.
+#[tactic(auto, using(crate::proofs::Joined::memory_unwrapped, cedar_reauthorization::proofs::Unwrapped::request_unwrapped))]
 fn with_policies(
     alloc: Global,
     request: &Request,
@@ -128,6 +131,7 @@ fn with_policies(
     ensures step { IfSome (step_answer result)
         (IsDecidedAgain (configuration authorizer.now) (step_by map.now entities.now) (request_view request.now)
         (deciding policies.now)) }
+    ensures memory { IfErr result IsUnwrapped }
     ensures places { IfOk result (λ r. entity_locs r.request.value
         ≡ concrete_locs (values_for map.now.entries) (entity_locs request.now)) }
     ensures low { IsResidualNoHigher (values_for map.now.entries) (limit_of authorizer.now)
@@ -191,7 +195,8 @@ pub(super) fn take_steps(
     authorizer: &Authorizer<'_, '_>,
     steps: &[(&HashMap<RcStr, Value>, &Entities)],
 ) -> Result<PartialResponse, ReauthorizationError>
-    ensures { IfSome (step_answer result) (IsTakenFurther (configuration authorizer.now) (steps_view steps.now) first) }
+    ensures memory { IfErr result IsUnwrapped }
+    ensures taken { IfSome (step_answer result) (IsTakenFurther (configuration authorizer.now) (steps_view steps.now) first) }
 {
     let mut response = first;
     'steps: for step in steps {
@@ -215,7 +220,8 @@ fn take_step(
     authorizer: &Authorizer<'_, '_>,
     entities: &Entities,
 ) -> Result<PartialResponse, ReauthorizationError>
-    ensures { IfSome (step_answer result)
+    ensures memory { IfErr result IsUnwrapped }
+    ensures step { IfSome (step_answer result)
         (IsStep (configuration authorizer.now) (step_by map.now entities.now) (response_said response)) }
 {
     let next = reauthorized(alloc, &response, map, authorizer, entities);

@@ -17,7 +17,7 @@ returns-clause-chain g c =
     let ps = deciding c.args.policies.now in
     let steps = steps_view c.args.steps.now in
     let first = c.in_ok-response.ensures in
-    chain_of calls levels s refl ps steps c.in_ok-response.response first.run (ap request_view first.request) _ c.take_steps.ensures
+    chain_of calls levels s refl ps steps c.in_ok-response.response first.run (ap request_view first.request) _ c.take_steps.ensures.taken
 
 pub returns-clause-headline : goal.returns-clause-headline
 returns-clause-headline g c =
@@ -28,7 +28,7 @@ returns-clause-headline g c =
     let steps = steps_view c.args.steps.now in
     let first = c.in_ok-response.ensures in
     chain_headlines s calls levels ps steps c.take_steps.result (conditions_of (policies_view c.args.policies.now))
-    (chain_of calls levels s refl ps steps c.in_ok-response.response first.run (ap request_view first.request) _ c.take_steps.ensures)
+    (chain_of calls levels s refl ps steps c.in_ok-response.response first.run (ap request_view first.request) _ c.take_steps.ensures.taken)
 
 pub returns-clause-known : goal.returns-clause-known
 returns-clause-known g c =
@@ -39,4 +39,4 @@ returns-clause-known g c =
     let steps = steps_view c.args.steps.now in
     let first = c.in_ok-response.ensures in
     chains_known s calls levels ps steps c.take_steps.result refl
-    (chain_of calls levels s refl ps steps c.in_ok-response.response first.run (ap request_view first.request) _ c.take_steps.ensures)
+    (chain_of calls levels s refl ps steps c.in_ok-response.response first.run (ap request_view first.request) _ c.take_steps.ensures.taken)

@@ -11,8 +11,8 @@ pub steps-init : goal.steps-init
 steps-init g c =
     none_taken (configuration c.args.authorizer.now) c.args.first (steps_view c.args.steps.now)
 
-pub returns-then-has_recursion_limit : goal.returns-then-has_recursion_limit
-returns-then-has_recursion_limit g c =
+pub returns-then-has_recursion_limit-clause-taken : goal.returns-then-has_recursion_limit-clause-taken
+returns-then-has_recursion_limit-clause-taken g c =
     let steps = c.args.steps.now in
     let all = steps_view steps in
     let i = c.steps.step-index in
@@ -23,13 +23,13 @@ returns-then-has_recursion_limit g c =
     let taken : AreTaken (configuration c.args.authorizer.now) c.args.first all (step_view item ∷ left) c.steps.response = subst (λ l. AreTaken (configuration c.args.authorizer.now) c.args.first all (steps_view l) c.steps.response) next c.steps.invariant in
     stops_with (configuration c.args.authorizer.now) c.args.first all (step_view item) left c.steps.response taken (sym c.has_recursion_limit.ensures ∙ c.if-has_recursion_limit.true)
 
-pub returns : goal.returns
-returns g c =
+pub returns-clause-taken : goal.returns-clause-taken
+returns-clause-taken g c =
     let steps = c.args.steps.now in
     ends_with (configuration c.args.authorizer.now) c.args.first (steps_view steps) (steps_view (drop c.steps.step-index steps)) c.steps.response (ap steps_view (drop_all c.steps.step-index steps c.steps-test.false)) c.steps.invariant
 
-pub returns-in-Err : goal.returns-in-Err
-returns-in-Err g c =
+pub returns-in-Err-clause-taken : goal.returns-in-Err-clause-taken
+returns-in-Err-clause-taken g c =
     let steps = c.args.steps.now in
     let all = steps_view steps in
     let i = c.steps.step-index in
@@ -38,7 +38,7 @@ returns-in-Err g c =
     let next : drop i steps ≡ item ∷ drop (i + 1) steps = drop-cons steps i item c.steps-test.true ∙ ap (λ p. p ∷ drop (suc i) steps) (sym c.step-item.is) ∙ ap (λ j. item ∷ drop j steps) more in
     let left = steps_view (drop (i + 1) steps) in
     let taken : AreTaken (configuration c.args.authorizer.now) c.args.first all (step_view item ∷ left) c.steps.response = subst (λ l. AreTaken (configuration c.args.authorizer.now) c.args.first all (steps_view l) c.steps.response) next c.steps.invariant in
-    refused_with (configuration c.args.authorizer.now) c.args.first all (step_view item) left c.steps.response taken (sym c.has_recursion_limit.ensures ∙ c.if-has_recursion_limit.false) (step_refusal c.in-Err.error) c.in-Err.ensures
+    refused_with (configuration c.args.authorizer.now) c.args.first all (step_view item) left c.steps.response taken (sym c.has_recursion_limit.ensures ∙ c.if-has_recursion_limit.false) (step_refusal c.in-Err.error) c.in-Err.ensures.step
 
 pub steps-preserved : goal.steps-preserved
 steps-preserved g c =
@@ -50,4 +50,4 @@ steps-preserved g c =
     let next : drop i steps ≡ item ∷ drop (i + 1) steps = drop-cons steps i item c.steps-test.true ∙ ap (λ p. p ∷ drop (suc i) steps) (sym c.step-item.is) ∙ ap (λ j. item ∷ drop j steps) more in
     let left = steps_view (drop (i + 1) steps) in
     let taken : AreTaken (configuration c.args.authorizer.now) c.args.first all (step_view item ∷ left) c.steps.response = subst (λ l. AreTaken (configuration c.args.authorizer.now) c.args.first all (steps_view l) c.steps.response) next c.steps.invariant in
-    one_taken (configuration c.args.authorizer.now) c.args.first all (step_view item) left c.steps.response taken (sym c.has_recursion_limit.ensures ∙ c.if-has_recursion_limit.false) c.in-Ok.next c.in-Ok.ensures
+    one_taken (configuration c.args.authorizer.now) c.args.first all (step_view item) left c.steps.response taken (sym c.has_recursion_limit.ensures ∙ c.if-has_recursion_limit.false) c.in-Ok.next c.in-Ok.ensures.step
