@@ -6,7 +6,7 @@ use crate::notation::unanswered::Unanswered;
 use crate::notation::values::value;
 use crate::notation::{Parts, both, headed, mapped, or_memory};
 use cedar_extensions::Extensions;
-use cedar_layers::expressions::{EntityUID, PartialValue, Unknown, Value, Var};
+use cedar_layers::expressions::{EntityUID, PartialValue, Type, Unknown, Value, Var};
 use cedar_layers::policies::{Dereference, Entities, Entity};
 use cedar_requests::{Context, EntityUIDEntry, Request, RequestType};
 use std::alloc::{AllocError, Global};
@@ -111,20 +111,18 @@ pub fn ask_entity(answer: &mut Answer, entities: &Entities, name: &str) {
     }
 }
 
-/// The names of the extensions, the types that their functions make, and those for which they overload `<`.
+/// The types for which the extensions overload `<`.
 pub fn ask_extensions(answer: &mut Answer, extensions: &Extensions<'_>) {
-    answer.put("named");
-    answer.show_each(extensions.ext_names());
-    answer.put(", making");
-    answer.show_each(extensions.ext_types());
-    answer.put(", overloading");
-    answer.show_each(extensions.types_with_operator_overloading());
+    answer.put("overloading");
     match extensions.overloaded_types(answer.alloc) {
-        Ok(types) => {
-            answer.put(", as types");
-            answer.show_each(types.iter());
-        }
+        Ok(types) => put_overloaded(answer, &types),
         Err(_) => answer.lack_memory(),
+    }
+}
+
+fn put_overloaded(answer: &mut Answer, types: &[Type]) {
+    for one in types {
+        answer.show_next(one);
     }
 }
 

@@ -107,15 +107,10 @@ impl Answer {
         }
     }
 
-    /// Writes what each of these prints as, a space before each.
-    pub fn show_each<'a, T: fmt::Display + 'a, I: Iterator<Item = &'a T> + Drop>(
-        &mut self,
-        all: I,
-    ) {
-        for one in all {
-            self.put(" ");
-            self.show(one);
-        }
+    /// Writes a space, and what this prints as.
+    pub fn show_next<T: fmt::Display>(&mut self, one: &T) {
+        self.put(" ");
+        self.show(one);
     }
 
     /// Begins a list.

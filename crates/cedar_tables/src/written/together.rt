@@ -100,25 +100,12 @@ fn alone<T: Drop>(alloc: Global, item: T) -> Result<Vec<T>, Unanswered> {
 
 fn put_accepted(answer: &mut Answer, all: &[Extension]) {
     match Extensions::specific_extensions(answer.alloc, all) {
-        Ok(extensions) => {
-            answer.put("accepted, making");
-            answer.show_each(extensions.ext_types());
-            put_each(answer, all);
-        }
+        Ok(_) => answer.put("accepted"),
         Err(ExtensionInitializationError::Memory(_)) => answer.lack_memory(),
         Err(error) => {
             answer.show(&error);
             drop(error);
         }
-    }
-}
-
-// Each extension, and the types that its functions make.
-fn put_each(answer: &mut Answer, all: &[Extension]) {
-    for extension in all {
-        answer.put("; ");
-        answer.show(extension.name());
-        answer.show_each(extension.ext_types());
     }
 }
 
