@@ -3,9 +3,8 @@ use Rattle.std.specs.Prelude.{◌≡◌, ◌≢◌, Bool, true, false, cond, ◌
 use Rattle.std.proofs.Common.{refl, sym, ap, ◌∙◌}
 use Rattle.cedar_model.specs.Policies.{permit, forbid, erring, Judged, Decision, allow, deny, is_satisfied}
 use Rattle.cedar_model.specs.Policies.{is_satisfied_by, some_satisfied, decision, reasons}
-use Rattle.cedar_model.specs.Policies.{ErrorHandling, skip, forbid_on_error, counted, counted_verdict}
+use Rattle.cedar_model.specs.Policies.{ErrorHandling, skip, forbid_on_error, counted, counted_verdict, counting}
 use Rattle.cedar_model.specs.PolicyLaws
-use Rattle.cedar_model.specs.PolicyLaws.{counting}
 use Rattle.cedar_model.specs.Reordering.{IsReordering, nothing, keeping, swapping, chaining}
 use Rattle.cedar_model.proofs.Decisions.{order_changes_nothing, forbids_keep_deny, permits_keep_allow}
 use Rattle.cedar_model.proofs.Decisions.{erring_changes_nothing, some_with}
@@ -22,20 +21,38 @@ counting_append : (mode : ErrorHandling) (ps qs : List Judged)
 counting_append mode [] qs = refl
 counting_append mode (p ∷ ps) qs = ap (λ xs. counted mode p ∷ xs) (counting_append mode ps qs)
 
-pub order_in : PolicyLaws.OrderChangesNothingIn
-order_in mode ps qs r = order_changes_nothing (counting mode ps) (counting mode qs) (counted_reordered mode r)
+pub order : PolicyLaws.OrderChangesNothing
+order mode ps qs r = order_changes_nothing (counting mode ps) (counting mode qs) (counted_reordered mode r)
 
-pub forbids_in : PolicyLaws.ForbidsKeepDenyIn
-forbids_in mode before after p e h =
+pub forbids : PolicyLaws.ForbidsKeepDeny
+forbids mode before after p e h =
     ap decision (counting_append mode before (p ∷ after))
     ∙ forbids_keep_deny (counting mode before) (counting mode after) (counted mode p) e
     (sym (ap decision (counting_append mode before after)) ∙ h)
 
-pub permits_in : PolicyLaws.PermitsKeepAllowIn
-permits_in mode before after p e h =
+pub permits : PolicyLaws.PermitsKeepAllow
+permits mode before after p e h =
     ap decision (counting_append mode before (p ∷ after))
     ∙ permits_keep_allow (counting mode before) (counting mode after) (counted mode p) e
     (sym (ap decision (counting_append mode before after)) ∙ h)
+
+-- ---- an erring policy that is skipped
+
+-- it counts as erring
+without_one : (mode : ErrorHandling) (before after : List Judged) (p : Judged) → (counted mode p).verdict_of ≡ erring
+    → (decision (counting mode (before ++ (p ∷ after))) ≡ decision (counting mode (before ++ after)))
+    × (reasons (counting mode (before ++ (p ∷ after))) ≡ reasons (counting mode (before ++ after)))
+without_one mode before after p h =
+    let k = erring_changes_nothing (counting mode before) (counting mode after) (counted mode p) h in (
+      ap decision (counting_append mode before (p ∷ after)) ∙ k.0
+          ∙ sym (ap decision (counting_append mode before after)),
+      ap reasons (counting_append mode before (p ∷ after))
+          ∙ k.1 ∙ sym (ap reasons (counting_append mode before after)),
+    )
+
+pub erring_skipped : PolicyLaws.ErringChangesNothing
+unfolding counted_verdict
+erring_skipped before after p h = without_one skip before after p h
 
 erring_permit_counts : (mode : ErrorHandling) → counted_verdict mode permit erring ≡ erring
 unfolding counted_verdict
@@ -44,13 +61,7 @@ erring_permit_counts forbid_on_error = refl
 
 pub erring_permit : PolicyLaws.ErringPermitChangesNothing
 erring_permit mode before after p e h =
-    let k = erring_changes_nothing (counting mode before) (counting mode after) (counted mode p)
-    ((λ i. counted_verdict mode (e i) (h i)) ∙ erring_permit_counts mode) in (
-      ap decision (counting_append mode before (p ∷ after)) ∙ k.0
-          ∙ sym (ap decision (counting_append mode before after)),
-      ap reasons (counting_append mode before (p ∷ after))
-          ∙ k.1 ∙ sym (ap reasons (counting_append mode before after)),
-    )
+    without_one mode before after p ((λ i. counted_verdict mode (e i) (h i)) ∙ erring_permit_counts mode)
 
 -- ---- an erring forbid that counts
 

@@ -209,14 +209,16 @@ module _ (calls : StoredCalls) (ans : Functions) (agree : Agreement.AgreesWithFu
             ∙ kinds_same p.id _ _ later _ d ih.1,
       )
 
-  pub response_exact : (ps : List Policy) (r : Authorizations.Authorized) → Authorizations.HaveKnownConditions ans ps
-      → Authorizations.IsResponse (PolicyRuns s calls levels) ps r → Authorizations.HaveNoLimit r.errors
-      → Authorizations.IsExactResponse s.extensions ans own ps r
-  response_exact ps r k (js, j, d, h) n =
+  pub response_exact : (mode : Policies.ErrorHandling) (ps : List Policy) (r : Authorizations.Authorized)
+      → Authorizations.HaveKnownConditions ans ps
+      → Authorizations.IsResponse mode (PolicyRuns s calls levels) ps r → Authorizations.HaveNoLimit r.errors
+      → Authorizations.IsExactResponse mode s.extensions ans own ps r
+  response_exact mode ps r k (js, j, d, h) n =
       let both_are = judged_are ps js r.errors k j n in
       record {
-        decision_is = d ∙ ap Policies.decision both_are.0;
-        reasons_are = λ t. h t ∙ ap (λ us. Outcomes.has_text t (Policies.reasons us)) both_are.0;
+        decision_is = d ∙ ap (λ us. Policies.decision (Policies.counting mode us)) both_are.0;
+        reasons_are = λ t.
+            h t ∙ ap (λ us. Outcomes.has_text t (Policies.reasons (Policies.counting mode us))) both_are.0;
         errors_are = both_are.1;
       }
 
@@ -229,10 +231,11 @@ module _ (calls : StoredCalls) (ans : Functions) (agree : Agreement.AgreesWithFu
       (no_limit_with p.id (Authorizations.evaluated a) later ((exact_at p a k.0 m).limit_by_height h.0)
       (no_limits ps rest later k.1 j h.1))
 
-  pub low_conditions : (ps : List Policy) (r : Authorizations.Authorized) → Authorizations.HaveKnownConditions ans ps
-      → Authorizations.IsResponse (PolicyRuns s calls levels) ps r → Authorizations.AreNoHigher ps levels
+  pub low_conditions : (mode : Policies.ErrorHandling) (ps : List Policy) (r : Authorizations.Authorized)
+      → Authorizations.HaveKnownConditions ans ps
+      → Authorizations.IsResponse mode (PolicyRuns s calls levels) ps r → Authorizations.AreNoHigher ps levels
       → Authorizations.HaveNoLimit r.errors
-  low_conditions ps r k (js, j, d, h) low = no_limits ps js r.errors k j low
+  low_conditions mode ps r k (js, j, d, h) low = no_limits ps js r.errors k j low
 
 -- ---- the own world completes the call
 

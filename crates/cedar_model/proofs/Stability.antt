@@ -4,14 +4,14 @@ use Rattle.std.proofs.Common.{refl, sym, ap, ◌∙◌}
 use Rattle.cedar_model.specs.Terms.{Text}
 use Rattle.cedar_model.specs.Outcomes.{text_eq, has_text}
 use Rattle.cedar_model.specs.World.{World, Extensions, Functions}
-use Rattle.cedar_model.specs.Meaning.{meaning}
-use Rattle.cedar_model.specs.Policies.{Policy, permit, forbid, Judged, erring, verdict, judged, judge_each, decision}
-use Rattle.cedar_model.specs.Policies.{reasons, allow, deny}
+use Rattle.cedar_model.specs.Policies.{Policy, Effect, permit, forbid, Judged, judged, judge_each, decision, reasons}
+use Rattle.cedar_model.specs.Policies.{some_satisfied, ErrorHandling, skip, forbid_on_error, counting, counted_each}
 use Rattle.cedar_model.specs.Reordering.{IsReordering, nothing, keeping, swapping, chaining}
 use Rattle.cedar_model.specs.Authorizations.{Authorized, IsExactResponse}
+use Rattle.cedar_model.specs.AuthorizationLaws
 use Rattle.cedar_model.specs.AuthorizationLaws.{AgreeWhollyAs}
-use Rattle.cedar_model.proofs.Decisions.{order_changes_nothing, forbids_keep_deny, permits_keep_allow}
-use Rattle.cedar_model.proofs.Decisions.{erring_changes_nothing, or_swap}
+use Rattle.cedar_model.proofs.Decisions.{or_swap}
+use Rattle.cedar_model.proofs.Counted
 
 map_reordered : {A B : Type 0} (f : A → B) {xs ys : List A} → IsReordering A xs ys
     → IsReordering B (map f xs) (map f ys)
@@ -35,44 +35,77 @@ module _ (X : Extensions) (ans : Functions) (w : World) where
   abbrev J : List Policy → List Judged
   J ps = judge_each X ans w ps
 
-  same : (ps qs : List Policy) (r q : Authorized) → IsExactResponse X ans w ps r → IsExactResponse X ans w qs q
-      → decision (J ps) ≡ decision (J qs) → ((t : Text) → has_text t (reasons (J ps)) ≡ has_text t (reasons (J qs)))
-      → AgreeWhollyAs X ans w q r
-  same ps qs r q e f d h =
+  abbrev each : ErrorHandling → List Policy → List Judged
+  each mode ps = counted_each mode X ans w ps
+
+  same : (mode : ErrorHandling) (ps qs : List Policy) (r q : Authorized) → IsExactResponse mode X ans w ps r
+      → IsExactResponse mode X ans w qs q → decision (each mode ps) ≡ decision (each mode qs)
+      → ((t : Text) → has_text t (reasons (each mode ps)) ≡ has_text t (reasons (each mode qs))) → AgreeWhollyAs q r
+  same mode ps qs r q e f d h =
       (f.decision_is ∙ sym d ∙ sym e.decision_is, λ t. f.reasons_are t ∙ sym (h t) ∙ sym (e.reasons_are t))
 
-  pub order_same : (ps qs : List Policy) (r q : Authorized) → IsReordering Policy ps qs → IsExactResponse X ans w ps r
-      → IsExactResponse X ans w qs q → AgreeWhollyAs X ans w q r
-  order_same ps qs r q o e f =
-      let z = order_changes_nothing (J ps) (J qs) (map_reordered (judged X ans w) o) in
-      same ps qs r q e f z.0 (λ t. has_reordered t z.1)
+  pub order_same : AuthorizationLaws.OrderChangesNoResponse X ans w
+  order_same mode ps qs r q o e f =
+      let z = Counted.order mode (J ps) (J qs) (map_reordered (judged X ans w) o) in
+      same mode ps qs r q e f z.0 (λ t. has_reordered t z.1)
 
   with_one : (before after : List Policy) (p : Policy)
       → J (before ++ (p ∷ after)) ≡ J before ++ (judged X ans w p ∷ J after)
   with_one before after p = map_with (judged X ans w) before (p ∷ after)
 
-  pub forbid_keeps : (before after : List Policy) (p : Policy) (r q : Authorized) → p.effect ≡ forbid
-      → IsExactResponse X ans w (before ++ after) r → IsExactResponse X ans w (before ++ (p ∷ after)) q
-      → r.decided_as ≡ deny → q.decided_as ≡ deny
-  forbid_keeps before after p r q h e f d =
-      f.decision_is ∙ ap decision (with_one before after p)
-      ∙ forbids_keep_deny (J before) (J after) (judged X ans w p) h
-      (sym (ap decision (map_with (judged X ans w) before after)) ∙ sym e.decision_is ∙ d)
+  decides_with : (mode : ErrorHandling) (before after : List Policy) (p : Policy)
+      → decision (each mode (before ++ (p ∷ after)))
+      ≡ decision (counting mode (J before ++ (judged X ans w p ∷ J after)))
+  decides_with mode before after p = ap (λ js. decision (counting mode js)) (with_one before after p)
 
-  pub permit_keeps : (before after : List Policy) (p : Policy) (r q : Authorized) → p.effect ≡ permit
-      → IsExactResponse X ans w (before ++ after) r → IsExactResponse X ans w (before ++ (p ∷ after)) q
-      → r.decided_as ≡ allow → q.decided_as ≡ allow
-  permit_keeps before after p r q h e f d =
-      f.decision_is ∙ ap decision (with_one before after p)
-      ∙ permits_keep_allow (J before) (J after) (judged X ans w p) h
-      (sym (ap decision (map_with (judged X ans w) before after)) ∙ sym e.decision_is ∙ d)
+  decides_without : (mode : ErrorHandling) (before after : List Policy)
+      → decision (each mode (before ++ after)) ≡ decision (counting mode (J before ++ J after))
+  decides_without mode before after =
+      ap (λ js. decision (counting mode js)) (map_with (judged X ans w) before after)
 
-  pub erring_same : (before after : List Policy) (p : Policy) (r q : Authorized)
-      → verdict (meaning X ans w p.slots p.condition) ≡ erring → IsExactResponse X ans w (before ++ after) r
-      → IsExactResponse X ans w (before ++ (p ∷ after)) q → AgreeWhollyAs X ans w q r
+  pub forbid_keeps : AuthorizationLaws.AddedForbidKeepsDeny X ans w
+  forbid_keeps mode before after p r q h e f d =
+      f.decision_is ∙ decides_with mode before after p
+      ∙ Counted.forbids mode (J before) (J after) (judged X ans w p) h
+      (sym (decides_without mode before after) ∙ sym e.decision_is ∙ d)
+
+  pub permit_keeps : AuthorizationLaws.AddedPermitKeepsAllow X ans w
+  permit_keeps mode before after p r q h e f d =
+      f.decision_is ∙ decides_with mode before after p
+      ∙ Counted.permits mode (J before) (J after) (judged X ans w p) h
+      (sym (decides_without mode before after) ∙ sym e.decision_is ∙ d)
+
+  without : (mode : ErrorHandling) (before after : List Policy) (p : Policy) (r q : Authorized)
+      → IsExactResponse mode X ans w (before ++ after) r → IsExactResponse mode X ans w (before ++ (p ∷ after)) q
+      → decision (counting mode (J before ++ (judged X ans w p ∷ J after)))
+      ≡ decision (counting mode (J before ++ J after))
+      → reasons (counting mode (J before ++ (judged X ans w p ∷ J after)))
+      ≡ reasons (counting mode (J before ++ J after)) → AgreeWhollyAs q r
+  without mode before after p r q e f d g =
+      same mode (before ++ after) (before ++ (p ∷ after)) r q e f
+      (decides_without mode before after ∙ sym d ∙ sym (decides_with mode before after p))
+      (λ t. ap (λ js. has_text t (reasons (counting mode js))) (map_with (judged X ans w) before after)
+      ∙ sym (ap (has_text t) g)
+      ∙ sym (ap (λ js. has_text t (reasons (counting mode js))) (with_one before after p)))
+
+  pub erring_same : AuthorizationLaws.ErringChangesNoResponse X ans w
   erring_same before after p r q h e f =
-      let z = erring_changes_nothing (J before) (J after) (judged X ans w p) h in
-      same (before ++ after) (before ++ (p ∷ after)) r q e f
-      (ap decision (map_with (judged X ans w) before after) ∙ sym z.0 ∙ sym (ap decision (with_one before after p)))
-      (λ t. ap (λ js. has_text t (reasons js)) (map_with (judged X ans w) before after) ∙ sym (ap (has_text t) z.1)
-      ∙ sym (ap (λ js. has_text t (reasons js)) (with_one before after p)))
+      let z = Counted.erring_skipped (J before) (J after) (judged X ans w p) h in
+      without skip before after p r q e f z.0 z.1
+
+  pub erring_permit_same : AuthorizationLaws.ErringPermitChangesNoResponse X ans w
+  erring_permit_same mode before after p r q k h e f =
+      let z = Counted.erring_permit mode (J before) (J after) (judged X ans w p) k h in
+      without mode before after p r q e f z.0 z.1
+
+  pub erring_forbid_alone : AuthorizationLaws.ErringForbidDecidesAlone X ans w
+  erring_forbid_alone before after p r q k h e f n =
+      let z = Counted.erring_forbid (J before) (J after) (judged X ans w p) k h
+      (λ d. n (f.decision_is ∙ decides_with forbid_on_error before after p ∙ d
+      ∙ sym (decides_without forbid_on_error before after) ∙ sym e.decision_is)) in
+      (some_is forbid ∙ z.0, some_is permit ∙ z.1)
+    where
+      some_is : (effect : Effect) → some_satisfied effect (each forbid_on_error (before ++ after))
+          ≡ some_satisfied effect (counting forbid_on_error (J before ++ J after))
+      some_is effect =
+          ap (λ js. some_satisfied effect (counting forbid_on_error js)) (map_with (judged X ans w) before after)

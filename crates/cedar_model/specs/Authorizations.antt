@@ -12,7 +12,7 @@ use Rattle.cedar_model.specs.Settings.{Setting}
 use Rattle.cedar_model.specs.Rules.{StoredCalls, Exceeds}
 use Rattle.cedar_model.specs.Agreement.{Answers, height, IsKnown, AgreesAndFits}
 use Rattle.cedar_model.specs.Policies.{Policy, Verdict, satisfied, unsatisfied, erring, Judged, Decision, decision}
-use Rattle.cedar_model.specs.Policies.{reasons, judge_each}
+use Rattle.cedar_model.specs.Policies.{reasons, ErrorHandling, counting, counted_each}
 use Rattle.cedar_model.specs.Responses.{FitPolicies, decided, result_of, with_error}
 
 -- ---- what conditions come out as
@@ -64,11 +64,11 @@ pub record Authorized : Type 0 where
   pub is_reason : Text → Bool
   pub errors : List (Text × Failure)
 
--- the response to policies whose conditions may answer so
-abbrev pub IsResponse : (Policy → Answer → Type 0) → List Policy → Authorized → Type 0
-IsResponse May ps r =
-    (js : List Judged) × JudgesEach May ps js r.errors × (r.decided_as ≡ decision js)
-    × ((t : Text) → r.is_reason t ≡ has_text t (reasons js))
+-- the response to policies whose conditions may answer so: decision and reasons are by the verdicts that count
+abbrev pub IsResponse : ErrorHandling → (Policy → Answer → Type 0) → List Policy → Authorized → Type 0
+IsResponse mode May ps r =
+    (js : List Judged) × JudgesEach May ps js r.errors × (r.decided_as ≡ decision (counting mode js))
+    × ((t : Text) → r.is_reason t ≡ has_text t (reasons (counting mode js)))
 
 -- ---- exactness, where nothing is unknown
 
@@ -107,12 +107,12 @@ failure_kinds es = map {B = Text × FailureKind} (λ e. (e.0, failure_kind e.1))
 abbrev pub HaveKinds : List (Text × Failure) → List (Text × ErrorKind) → Type 0
 HaveKinds es ks = failure_kinds es ≡ map {B = Text × FailureKind} (λ k. (k.0, of_meaning k.1)) ks
 
--- the decision and the reasons of the policies in the world, and exactly the erring policies, in order, each with an
--- error of its kind
-pub record IsExactResponse (X : Extensions) (ans : Functions) (w : World) (ps : List Policy)
+-- the decision and the reasons of the policies in the world, in the mode, and exactly the erring policies, in order,
+-- each with an error of its kind
+pub record IsExactResponse (mode : ErrorHandling) (X : Extensions) (ans : Functions) (w : World) (ps : List Policy)
     (r : Authorized) : Type 0 where
-  pub decision_is : r.decided_as ≡ decision (judge_each X ans w ps)
-  pub reasons_are : (t : Text) → r.is_reason t ≡ has_text t (reasons (judge_each X ans w ps))
+  pub decision_is : r.decided_as ≡ decision (counted_each mode X ans w ps)
+  pub reasons_are : (t : Text) → r.is_reason t ≡ has_text t (reasons (counted_each mode X ans w ps))
   pub errors_are : HaveKinds r.errors (policy_errors X ans w ps)
 
 -- no error is the recursion limit

@@ -99,6 +99,9 @@ abbrev pub counted : ErrorHandling → Judged → Judged
 counted mode p =
     record { id = p.id; effect = p.effect; verdict_of = counted_verdict mode p.effect p.verdict_of }
 
+abbrev pub counting : ErrorHandling → List Judged → List Judged
+counting mode ps = map (counted mode) ps
+
 -- of policies in a world and a mode
 abbrev pub counted_each : ErrorHandling → Extensions → Functions → World → List Policy → List Judged
-counted_each mode X ans w ps = map (counted mode) (judge_each X ans w ps)
+counted_each mode X ans w ps = counting mode (judge_each X ans w ps)

@@ -7,7 +7,7 @@ use Rattle.cedar_model.specs.Failures.{Failure}
 use Rattle.cedar_model.specs.Settings.{Setting}
 use Rattle.cedar_model.specs.Rules.{StoredCalls}
 use Rattle.cedar_model.specs.Policies.{permit, forbid, Policy, Decision, decision, reasons}
-use Rattle.cedar_model.specs.Policies.{ErrorHandling, skip, counted_each}
+use Rattle.cedar_model.specs.Policies.{ErrorHandling, counting, counted_each}
 use Rattle.cedar_model.specs.Reordering.{IsReordering}
 use Rattle.cedar_model.specs.Responses.{Row, Stand, RunOf}
 use Rattle.cedar_model.specs.Chains.{rows_by}
@@ -52,16 +52,18 @@ ConcreteIsDefined =
     (mode : ErrorHandling) (X : Extensions) (ans : Functions) (w : World) (ps : List Policy) (rows : List Row)
     → Stand mode X ans w ps rows → HaveNoResidual rows → AreDecidedAs mode X ans w ps rows
 
--- where errors are skipped, the concrete decision is that of the rows as verdicts
+-- the concrete decision is that of the rows as verdicts
 abbrev pub ConcreteDecidesRows : Type 0
-ConcreteDecidesRows = (rows : List Row) → concrete_decision skip rows ≡ decision (map judged_row rows)
+ConcreteDecidesRows =
+    (mode : ErrorHandling) (rows : List Row)
+    → concrete_decision mode rows ≡ decision (counting mode (map (judged_row mode) rows))
 
 -- and a run that leaves no residual is concrete as the response to its policies
 abbrev pub RunsWithoutResidualsAreResponses : StoredCalls → Type 0
 RunsWithoutResidualsAreResponses calls =
-    (s : Setting) (levels : ℕ) (ps : List Policy) (rows : List Row) (errors : List (Text × Failure))
-    → RunOf skip s calls levels ps rows errors → HaveNoResidual rows
-    → IsResponse (PolicyRuns s calls levels) ps (concretized skip rows errors)
+    (mode : ErrorHandling) (s : Setting) (levels : ℕ) (ps : List Policy) (rows : List Row)
+    (errors : List (Text × Failure)) → RunOf mode s calls levels ps rows errors → HaveNoResidual rows
+    → IsResponse mode (PolicyRuns s calls levels) ps (concretized mode rows errors)
 
 -- the policies that are carried on are the rows, each once
 abbrev pub EachIsCarriedOnce : Type 0

@@ -137,12 +137,18 @@ get id rows = policy_with_id id (in_order_of_get permit rows ++ in_order_of_get 
 abbrev pub HaveNoResidual : List Row → Type 0
 HaveNoResidual rows = (residuals permit rows ≡ []) × (residuals forbid rows ≡ [])
 
--- what is reported, as a verdict; a residual is no bool
-unfoldable pub reported_verdict : Reported → Verdict
-reported_verdict reported_true = satisfied
-reported_verdict (reported_false true) = erring
-reported_verdict (reported_false false) = unsatisfied
-reported_verdict (reported_residual t) = erring
+-- a policy that is false with an error errs; a forbid, where an erring one counts, is unsatisfied
+unfoldable pub false_verdict : ErrorHandling → Effect → Verdict
+false_verdict skip effect = erring
+false_verdict forbid_on_error permit = erring
+false_verdict forbid_on_error forbid = unsatisfied
 
-abbrev pub judged_row : Row → Judged
-judged_row r = record { id = r.id; effect = r.effect; verdict_of = reported_verdict r.reported }
+-- what is reported, as a verdict; a residual is no bool
+unfoldable pub reported_verdict : ErrorHandling → Effect → Reported → Verdict
+reported_verdict mode effect reported_true = satisfied
+reported_verdict mode effect (reported_false true) = false_verdict mode effect
+reported_verdict mode effect (reported_false false) = unsatisfied
+reported_verdict mode effect (reported_residual t) = erring
+
+abbrev pub judged_row : ErrorHandling → Row → Judged
+judged_row mode r = record { id = r.id; effect = r.effect; verdict_of = reported_verdict mode r.effect r.reported }

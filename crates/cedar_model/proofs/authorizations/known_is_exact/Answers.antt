@@ -11,9 +11,9 @@ pub returns-clause-conditions : goal.returns-clause-conditions
 returns-clause-conditions g i = λ ans s k sigma. decision_exact _ ans k.functions_agree s k.nothing_unknown sigma
 
 pub returns-clause-responses : goal.returns-clause-responses
-returns-clause-responses g i = λ ans s k sigma levels.
-    response_exact _ ans k.functions_agree s k.nothing_unknown sigma levels
+returns-clause-responses g i = λ mode ans s k sigma levels.
+    response_exact _ ans k.functions_agree s k.nothing_unknown sigma levels mode
 
 pub returns-clause-limit : goal.returns-clause-limit
-returns-clause-limit g i = λ ans s k levels.
-    low_conditions _ ans k.functions_agree s k.nothing_unknown (λ n. plain (bool_literal false)) levels
+returns-clause-limit g i = λ mode ans s k levels.
+    low_conditions _ ans k.functions_agree s k.nothing_unknown (λ n. plain (bool_literal false)) levels mode

@@ -2,13 +2,16 @@ use Rattle.cedar_model.proofs.Counted
 use Rattle.cedar_model.proofs.policies.modes_are_stable.Goals as goal
 
 pub returns-clause-order : goal.returns-clause-order
-returns-clause-order c = Counted.order_in
+returns-clause-order c = Counted.order
 
 pub returns-clause-forbids : goal.returns-clause-forbids
-returns-clause-forbids c = Counted.forbids_in
+returns-clause-forbids c = Counted.forbids
 
 pub returns-clause-permits : goal.returns-clause-permits
-returns-clause-permits c = Counted.permits_in
+returns-clause-permits c = Counted.permits
+
+pub returns-clause-erring : goal.returns-clause-erring
+returns-clause-erring c = Counted.erring_skipped
 
 pub returns-clause-erring_permit : goal.returns-clause-erring_permit
 returns-clause-erring_permit c = Counted.erring_permit
