@@ -5,7 +5,7 @@ use Rattle.cedar_model.specs.Configurations.{Configuration}
 use Rattle.cedar_model.specs.Headline.{Premises}
 use Rattle.cedar_model.specs.Settings.{Store, Setting}
 use Rattle.cedar_model.specs.Rules.{StoredCalls}
-use Rattle.cedar_model.specs.Policies.{Policy, skip}
+use Rattle.cedar_model.specs.Policies.{Policy, ErrorHandling}
 use Rattle.cedar_model.specs.Responses.{AreConditions, RunOf}
 use Rattle.cedar_model.specs.Refusals.{Refusal}
 use Rattle.cedar_model.specs.Chains.{Mapping, Response, without_map, has_limit, Begins, Steps, ChainAnswers}
@@ -95,41 +95,41 @@ module _ (c : Configuration) (begun : PartialResponse) (all : List (Mapping × S
 
 -- ---- a chain, from the first response
 
-module _ (calls : StoredCalls) (levels : ℕ) (s : Setting) (unmapped : without_map s ≡ s) (ps : List Policy) (steps : List (Mapping × Store)) (r : PartialResponse)
-    (run : IsRun (configured_by calls skip s levels) s ps r) (asked : request_view (request_of r) ≡ s.request) where
-  pub chain_of : (o : Option (Result PartialResponse Refusal)) → IfSome o (IsTakenFurther (configured_by calls skip s levels) steps r) → IfSome o (IsChain (configured_by calls skip s levels) s ps steps)
+module _ (mode : ErrorHandling) (calls : StoredCalls) (levels : ℕ) (s : Setting) (unmapped : without_map s ≡ s) (ps : List Policy) (steps : List (Mapping × Store)) (r : PartialResponse)
+    (run : IsRun (configured_by calls mode s levels) s ps r) (asked : request_view (request_of r) ≡ s.request) where
+  pub chain_of : (o : Option (Result PartialResponse Refusal)) → IfSome o (IsTakenFurther (configured_by calls mode s levels) steps r) → IfSome o (IsChain (configured_by calls mode s levels) s ps steps)
   chain_of None h = tt
   chain_of (Some x) h =
-      let first : Response = record { mode = skip; request = s.request; rows = run.rows; errors = errors_of r } in
-      let begins : Begins (configured_by calls skip s levels) s.request s.store ps first = record {
+      let first : Response = record { mode = mode; request = s.request; rows = run.rows; errors = errors_of r } in
+      let begins : Begins (configured_by calls mode s levels) s.request s.store ps first = record {
         mode_is = refl;
         request_is = refl;
-        runs = subst (λ (z : Setting). RunOf skip z calls levels ps run.rows (errors_of r)) (sym unmapped) run.run;
+        runs = subst (λ (z : Setting). RunOf mode z calls levels ps run.rows (errors_of r)) (sym unmapped) run.run;
       } in
-      (first, begins, h first record { mode_is = refl; request_is = sym asked; errors_are = refl; held = run.held })
+      (first, begins, h first record { mode_is = sym run.mode_is; request_is = sym asked; errors_are = refl; held = run.held })
 
 -- ---- what follows of a chain
 
-module _ (s : Setting) (calls : StoredCalls) (levels : ℕ) (ps : List Policy) (all : List (Mapping × Store)) where
+module _ (mode : ErrorHandling) (s : Setting) (calls : StoredCalls) (levels : ℕ) (ps : List Policy) (all : List (Mapping × Store)) where
   abbrev by_all : Configuration
-  by_all = configured_by calls skip s levels
+  by_all = configured_by calls mode s levels
 
   chain_headline : (r : PartialResponse) → AreConditions ps → IsChain by_all s ps all (Ok r) → IsHeadline by_all s ps all r
   chain_headline r conditions (first, begins, (last, chain, says)) ans w p =
-      let h = chaining.headline skip calls s levels ps all first last conditions begins chain ans w
+      let h = chaining.headline mode calls s levels ps all first last conditions begins chain ans w
       (subst (Premises by_all s.request s.store ps all ans w) (sym says.errors_are) p) in
-      let stands = stand_sorted s.extensions ans w ps last.rows r says.held h.stands in
+      let stands = stand_sorted mode s.extensions ans w ps last.rows r says.held h.stands in
       record {
         stands = stands;
-        holds = bounds.reports_hold skip s.extensions ans w ps (rows_view r) stands;
-        defined = λ none. concrete.concrete_is_defined skip s.extensions ans w ps (rows_view r) stands none;
+        holds = bounds.reports_hold mode s.extensions ans w ps (rows_view r) stands;
+        defined = λ none. concrete.concrete_is_defined mode s.extensions ans w ps (rows_view r) stands none;
       }
 
   chain_known : (r : PartialResponse) → without_map s ≡ s → IsChain by_all s ps all (Ok r) → LeavesNothing by_all s ps r
   chain_known r same (first, begins, (last, chain, says)) known ans agree k =
-      let run : RunOf skip s calls levels ps first.rows first.errors = subst (λ (z : Setting). RunOf skip z calls levels ps first.rows first.errors) same begins.runs in
-      let none = run_known s calls levels known ans agree ps first.rows first.errors k run in
-      none_residual last.rows (rows_view r) (same_rows last.rows r says.held) (none_left s calls levels all first last chain none)
+      let run : RunOf mode s calls levels ps first.rows first.errors = subst (λ (z : Setting). RunOf mode z calls levels ps first.rows first.errors) same begins.runs in
+      let none = run_known mode s calls levels known ans agree ps first.rows first.errors k run in
+      none_residual last.rows (rows_view r) (same_rows last.rows r says.held) (none_left mode s calls levels all first last chain none)
 
   pub chain_headlines : (x : Result PartialResponse ReauthorizationError) → AreConditions ps → IfSome (step_answer x) (IsChain by_all s ps all) → IfOk x (IsHeadline by_all s ps all)
   chain_headlines (Ok r) conditions h = chain_headline r conditions h

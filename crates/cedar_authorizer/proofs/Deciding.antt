@@ -11,7 +11,7 @@ use Rattle.cedar_model.specs.LevelLaws.{FunctionsMeetNoLimit}
 use Rattle.cedar_model.specs.Rules.{StoredCalls}
 use Rattle.cedar_model.specs.Agreement.{AgreesWithFunctions, HasNothingUnknown, own_world}
 use Rattle.cedar_model.specs.Restricted.{IsGivenSound}
-use Rattle.cedar_model.specs.Policies.{Policy, permit, forbid, Decision, allow, deny, ErrorHandling, skip}
+use Rattle.cedar_model.specs.Policies.{Policy, permit, forbid, Decision, allow, deny, ErrorHandling, skip, forbid_on_error, counted_each}
 use Rattle.cedar_model.specs.Reordering.{IsReordering}
 use Rattle.cedar_model.specs.Responses.{Row}
 use Rattle.cedar_model.specs.Chains.{rows_by}
@@ -57,50 +57,60 @@ module _ (rows : List Row) (r : PartialResponse) (h : HoldsRows rows r) where
       ∙ sym (append_assoc (trues permit rows) (falses permit rows ++ residuals permit rows) (rows_by forbid rows)
       ∙ ap (λ (xs : List Row). trues permit rows ++ xs) (append_assoc (falses permit rows) (residuals permit rows) (rows_by forbid rows)))
 
-  abbrev concrete_by : List Row → List Row → List Row → List Row → List (Text × Failure) → Authorized
-  concrete_by tp rp tf rf errors = record {
-    decided_as = cond (some_row tp && not (some_row tf)) allow deny;
-    is_reason = λ t. has_text t (ids (cond (some_row tf || some_row rf) tf tp));
+  abbrev decision_by : ErrorHandling → List Row → List Row → List Row → Decision
+  decision_by skip tp tf rf = cond (some_row tp && not (some_row tf)) allow deny
+  decision_by forbid_on_error tp tf rf = cond (some_row tp && not (some_row tf || some_row rf)) allow deny
+
+  abbrev reasons_by : ErrorHandling → List Row → List Row → List Row → List Row
+  reasons_by skip tp tf rf = cond (some_row tf || some_row rf) tf tp
+  reasons_by forbid_on_error tp tf rf = cond (some_row tf || some_row rf) (tf ++ rf) tp
+
+  abbrev concrete_by : ErrorHandling → List Row → List Row → List Row → List Row → List (Text × Failure) → Authorized
+  concrete_by mode tp rp tf rf errors = record {
+    decided_as = decision_by mode tp tf rf;
+    is_reason = λ t. has_text t (ids (reasons_by mode tp tf rf));
     errors = map residual_error rf ++ (map residual_error rp ++ errors);
   }
 
-  pub concrete_alike : (errors : List (Text × Failure)) → concretized skip (rows_view r) errors ≡ concretized skip rows errors
-  concrete_alike errors =
-      λ i. concrete_by (true_permits i) (residual_permits i) (true_forbids i) (residual_forbids i) errors
+  pub concrete_alike : (mode : ErrorHandling) (errors : List (Text × Failure)) → concretized mode (rows_view r) errors ≡ concretized mode rows errors
+  concrete_alike skip errors =
+      λ i. concrete_by skip (true_permits i) (residual_permits i) (true_forbids i) (residual_forbids i) errors
+  concrete_alike forbid_on_error errors =
+      λ i. concrete_by forbid_on_error (true_permits i) (residual_permits i) (true_forbids i) (residual_forbids i) errors
 
 -- ---- a run
 
-module _ (s : Setting) (calls : StoredCalls) (levels : ℕ) (ps : List Policy) where
-  pub run_stands : (mode : ErrorHandling) (r : PartialResponse) → IsRun (configured_by calls mode s levels) s ps r → StandsInCompletions (configured_by calls mode s levels) s ps r
-  run_stands mode r is ans w c fit none = (
+module _ (mode : ErrorHandling) (s : Setting) (calls : StoredCalls) (levels : ℕ) (ps : List Policy) where
+  pub run_stands : (r : PartialResponse) → IsRun (configured_by calls mode s levels) s ps r → StandsInCompletions (configured_by calls mode s levels) s ps r
+  run_stands r is ans w c fit none = (
     is.rows,
     subst (IsReordering Row is.rows) (sym (rows_sorted is.rows r is.held)) (sorted_is is.rows),
     standing.run_stands mode ans calls c.functions_agree w s c.completion c.functions_are_faithful levels ps is.rows _ fit
         (run_recordable mode s calls levels ps is.rows _ none is.run) is.run,
   )
 
-  pub run_low : (r : PartialResponse) → FunctionsMeetNoLimit calls → s.resolution ≡ shallow → IsGivenSound calls s → IsRun (configured_by calls skip s levels) s ps r → IsDeepEnough (configured_by calls skip s levels) s ps r
+  pub run_low : (r : PartialResponse) → FunctionsMeetNoLimit calls → s.resolution ≡ shallow → IsGivenSound calls s → IsRun (configured_by calls mode s levels) s ps r → IsDeepEnough (configured_by calls mode s levels) s ps r
   run_low r no_limit is_shallow sound is b h low conditions enough =
-      run_is_deep s calls no_limit is_shallow b h levels sound low enough ps is.rows (errors_of r) conditions is.run
+      run_is_deep mode s calls no_limit is_shallow b h levels sound low enough ps is.rows (errors_of r) conditions is.run
 
-  pub run_concrete : (p : PartialResponse) (r : Authorized) → IsRun (configured_by calls skip s levels) s ps p → r ≡ concretized skip (rows_view p) (errors_of p) → IsConcreteRun (configured_by calls skip s levels) s ps r
+  pub run_concrete : (p : PartialResponse) (r : Authorized) → IsRun (configured_by calls mode s levels) s ps p → r ≡ concretized mode (rows_view p) (errors_of p) → IsConcreteRun (configured_by calls mode s levels) s ps r
   run_concrete p r is e = record {
     rows = is.rows;
     errors = errors_of p;
     run = is.run;
-    concrete = e ∙ concrete_alike is.rows p is.held (errors_of p);
+    concrete = e ∙ concrete_alike is.rows p is.held mode (errors_of p);
   }
 
-  module _ (r : Authorized) (is : IsConcreteRun (configured_by calls skip s levels) s ps r) where
-    known_run : HasNothingUnknown s → (ans : Functions) → AgreesWithFunctions ans calls → HaveKnownConditions ans ps → IsResponse (PolicyRuns s calls levels) ps r
+  module _ (r : Authorized) (is : IsConcreteRun (configured_by calls mode s levels) s ps r) where
+    known_run : HasNothingUnknown s → (ans : Functions) → AgreesWithFunctions ans calls → HaveKnownConditions ans ps → IsResponse mode (PolicyRuns s calls levels) ps r
     known_run known ans agree k =
-        subst (IsResponse (PolicyRuns s calls levels) ps) (sym is.concrete) (run_is_response calls s levels ps is.rows is.errors is.run (run_known s calls levels known ans agree ps is.rows is.errors k is.run))
+        subst (IsResponse mode (PolicyRuns s calls levels) ps) (sym is.concrete) (run_is_response mode calls s levels ps is.rows is.errors is.run (run_known mode s calls levels known ans agree ps is.rows is.errors k is.run))
 
-    pub known_response : IsKnownResponse (configured_by calls skip s levels) s ps r
-    known_response known ans agree k sigma none = exactly.response_exact calls ans agree s known sigma levels ps r k (known_run known ans agree k) none
+    pub known_response : IsKnownResponse (configured_by calls mode s levels) s ps r
+    known_response known ans agree k sigma none = exactly.response_exact calls ans agree s known sigma levels mode ps r k (known_run known ans agree k) none
 
-    pub no_limit : MeetsNoLimit (configured_by calls skip s levels) s ps r.errors
-    no_limit known ans agree k low = exactly.low_conditions calls ans agree s known (λ n. plain (bool_literal false)) levels ps r k (known_run known ans agree k) low
+    pub no_limit : MeetsNoLimit (configured_by calls mode s levels) s ps r.errors
+    no_limit known ans agree k low = exactly.low_conditions calls ans agree s known (λ n. plain (bool_literal false)) levels mode ps r k (known_run known ans agree k) low
 
 -- ---- a run of which nothing is left
 
@@ -113,43 +123,53 @@ settled_bits true false = refl
 settled_bits false true = refl
 settled_bits false false = refl
 
-given_is_concrete : (rows : List Row) → HaveNoResidual rows → given_decision rows ≡ Some (concrete_decision skip rows)
+settled_beside : (tf tp : Bool) → given_bits tf tp false false ≡ Some (cond (tp && not (tf || false)) allow deny)
+settled_beside true true = refl
+settled_beside true false = refl
+settled_beside false true = refl
+settled_beside false false = refl
+
+given_is_concrete : (mode : ErrorHandling) (rows : List Row) → HaveNoResidual rows → given_decision rows ≡ Some (concrete_decision mode rows)
 unfolding some_row
-given_is_concrete rows h =
+given_is_concrete forbid_on_error rows h =
+    (λ i. given_bits (some_row (trues forbid rows)) (some_row (trues permit rows)) (some_row (h.0 i)) (some_row (h.1 i)))
+    ∙ settled_beside (some_row (trues forbid rows)) (some_row (trues permit rows))
+    ∙ sym (λ i. Some (cond (some_row (trues permit rows) && not (some_row (trues forbid rows) || some_row (h.1 i))) allow deny))
+given_is_concrete skip rows h =
     (λ i. given_bits (some_row (trues forbid rows)) (some_row (trues permit rows)) (some_row (h.0 i)) (some_row (h.1 i)))
     ∙ settled_bits (some_row (trues forbid rows)) (some_row (trues permit rows))
 
 errors_are_those : (rows : List Row) (errors : List (Text × Failure)) → HaveNoResidual rows → concrete_errors rows errors ≡ errors
 errors_are_those rows errors h = λ i. map residual_error (h.1 i) ++ (map residual_error (h.0 i) ++ errors)
 
-module _ (s : Setting) (calls : StoredCalls) (levels : ℕ) (ps : List Policy) (r : PartialResponse) (is : IsRun (configured_by calls skip s levels) s ps r) where
+module _ (mode : ErrorHandling) (s : Setting) (calls : StoredCalls) (levels : ℕ) (ps : List Policy) (r : PartialResponse) (is : IsRun (configured_by calls mode s levels) s ps r) where
   abbrev made : Authorized
-  made = concretized skip (rows_view r) (errors_of r)
+  made = concretized mode (rows_view r) (errors_of r)
 
-  made_of_run : IsConcreteRun (configured_by calls skip s levels) s ps made
-  made_of_run = run_concrete s calls levels ps r made is refl
+  made_of_run : IsConcreteRun (configured_by calls mode s levels) s ps made
+  made_of_run = run_concrete mode s calls levels ps r made is refl
 
   none_left : HasNothingUnknown s → (ans : Functions) → AgreesWithFunctions ans calls → HaveKnownConditions ans ps → HaveNoResidual (rows_view r)
   none_left known ans agree k =
-      let none = run_known s calls levels known ans agree ps is.rows (errors_of r) k is.run in
+      let none = run_known mode s calls levels known ans agree ps is.rows (errors_of r) k is.run in
       (residual_permits is.rows r is.held ∙ none.0, residual_forbids is.rows r is.held ∙ none.1)
 
-  pub known_partly : IsKnownRun (configured_by calls skip s levels) s ps (rows_view r) (errors_of r)
+  pub known_partly : IsKnownRun (configured_by calls mode s levels) s ps (rows_view r) (errors_of r)
   known_partly known ans agree k =
       let none = none_left known ans agree k in
       let same = errors_are_those (rows_view r) (errors_of r) none in (
         none,
         λ sigma quiet.
-            let z = known_response s calls levels ps made made_of_run known ans agree k sigma (subst HaveNoLimit (sym same) quiet) in
+            let z = known_response mode s calls levels ps made made_of_run known ans agree k sigma (subst HaveNoLimit (sym same) quiet) in
             record {
-              decision_is = given_is_concrete (rows_view r) none ∙ ap Some z.decision_is;
+              decision_is = given_is_concrete mode (rows_view r) none ∙ ap Some z.decision_is;
               errors_are = subst (λ es. HaveKinds es (policy_errors s.extensions ans (own_world s sigma) ps)) same z.errors_are;
             },
       )
 
-  pub known_meets_no_limit : MeetsNoLimit (configured_by calls skip s levels) s ps (errors_of r)
+  pub known_meets_no_limit : MeetsNoLimit (configured_by calls mode s levels) s ps (errors_of r)
   known_meets_no_limit known ans agree k low =
-      subst HaveNoLimit (errors_are_those (rows_view r) (errors_of r) (none_left known ans agree k)) (no_limit s calls levels ps made made_of_run known ans agree k low)
+      subst HaveNoLimit (errors_are_those (rows_view r) (errors_of r) (none_left known ans agree k)) (no_limit mode s calls levels ps made made_of_run known ans agree k low)
 
 pub own_world_completes_call : (s : Setting) (ps : List Policy) → ((n : Text) → s.map n ≡ None) → OwnWorldCompletesCall s ps
 own_world_completes_call s ps unmapped known ans k sigma = exactly.own_world_completes ans s sigma ps known unmapped k

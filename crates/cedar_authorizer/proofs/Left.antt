@@ -1,19 +1,20 @@
 -- What is left of policies that are carried on: nothing, where nothing was left of them before.
 use Rattle.std.specs.Prelude.{◌≡◌, ℕ, Bool, true, false, cond, List, [], ◌∷◌, ◌++◌, map, Result, Ok, Err, MatchBool, MatchResult}
-use Rattle.std.proofs.Common.{inl, inr, refl, sym, ap, subst}
+use Rattle.std.proofs.Common.{inl, inr, refl, sym, ap, ◌∙◌, subst}
 use Rattle.cedar_model.specs.Terms.{Text, bool_literal, Term, literal}
 use Rattle.cedar_model.specs.Outcomes.{bool_of}
 use Rattle.cedar_model.specs.Failures.{Failure, Answer}
 use Rattle.cedar_model.specs.Settings.{Store, Setting}
 use Rattle.cedar_model.specs.Rules.{StoredCalls, Runs}
 use Rattle.cedar_model.specs.Agreement.{no_slots}
-use Rattle.cedar_model.specs.Policies.{Effect, permit, forbid, skip}
-use Rattle.cedar_model.specs.Responses.{Reported, reported_true, reported_false, reported_residual, Row, decided, decided_bool, reported_of, counted_report, with_slots, truth, clause_of, carried, RunOf}
+use Rattle.cedar_model.specs.Policies.{Effect, permit, forbid, ErrorHandling}
+use Rattle.cedar_model.specs.Responses.{Reported, reported_true, reported_false, reported_residual, Row, decided, decided_bool, reported_of, with_slots, truth, clause_of, carried, RunOf}
 use Rattle.cedar_model.specs.Terms.{both}
 use Rattle.cedar_model.specs.Refusals.{Refusal}
 use Rattle.cedar_model.specs.Chains.{Mapping, Response, has_effect, is_true, is_false, is_residual, rows_of, rows_by, all_residuals, has_limit, at_step, Steps, ChainOf}
 use Rattle.cedar_model.specs.Reports.{residuals, HaveNoResidual}
 use Rattle.cedar_model.proofs.Carried.{IsBoolOrLimit, literal_always, clause_always}
+use Rattle.cedar_model.proofs.Concrete.{residual_same}
 use Rattle.cedar_model.proofs.Stepping.{taken}
 use Rattle.cedar_model.proofs.Configured.{configured_by}
 
@@ -75,7 +76,7 @@ settled_answer b a (inl e) = ap (λ x. is_residual (reported_of (decided x))) e
 settled_answer true a (inr e) = ap (λ x. is_residual (reported_of (decided x))) e
 settled_answer false a (inr e) = ap (λ x. is_residual (reported_of (decided x))) e
 
-module _ (s : Setting) (calls : StoredCalls) (levels : ℕ) where
+module _ (mode : ErrorHandling) (s : Setting) (calls : StoredCalls) (levels : ℕ) where
   literal_row : (b : Bool) (t : Term) (a : Answer) → t ≡ literal (bool_literal b) → Runs (with_slots s no_slots) calls levels (both (both (both truth truth) truth) t) a → IsSettled (reported_of (decided a))
   literal_row b t a e runs =
       settled_answer b a (clause_always (with_slots s no_slots) calls b (literal (bool_literal b)) (literal_always (with_slots s no_slots) calls b) levels a
@@ -87,13 +88,12 @@ module _ (s : Setting) (calls : StoredCalls) (levels : ℕ) where
   settled_row (reported_false b) a h runs = literal_row false (literal (bool_literal false)) a refl runs
   settled_row (reported_residual t) a h runs = absurd (cc)
 
-  settled_run : (old rows : List Row) (errors : List (Text × Failure)) → AreSettled old → RunOf skip s calls levels (map carried old) rows errors → AreSettled rows
-  unfolding counted_report
+  settled_run : (old rows : List Row) (errors : List (Text × Failure)) → AreSettled old → RunOf mode s calls levels (map carried old) rows errors → AreSettled rows
   settled_run [] rows errors h run = subst AreSettled (sym run.0) tt
   settled_run (q ∷ qs) rows errors h (a, rest, later, runs, found, run, e, f) =
-      subst AreSettled (sym e) (settled_row q.reported a h.0 runs, settled_run qs rest later h.1 run)
+      subst AreSettled (sym e) (residual_same mode q.effect (reported_of (decided a)) ∙ settled_row q.reported a h.0 runs, settled_run qs rest later h.1 run)
 
-  pub none_carried : (old rows : List Row) (errors : List (Text × Failure)) → HaveNoResidual old → RunOf skip s calls levels (all_residuals old) rows errors → HaveNoResidual rows
+  pub none_carried : (old rows : List Row) (errors : List (Text × Failure)) → HaveNoResidual old → RunOf mode s calls levels (all_residuals old) rows errors → HaveNoResidual rows
   none_carried old rows errors h run =
       let k = settled_run (rows_by permit old ++ rows_by forbid old) rows errors (settled_append (rows_by permit old) (rows_by forbid old) (settled_by permit old h.0) (settled_by forbid old h.1)) run in
       (residuals_settled permit rows k, residuals_settled forbid rows k)
@@ -106,17 +106,17 @@ ok_inj e = cc
 err_is_not_ok : {A B : Type 0} {x : A} {y : B} → ◌≡◌ {A = Result A B} (Ok x) (Err y) → ⊥
 err_is_not_ok e = cc
 
-module _ (s : Setting) (calls : StoredCalls) (levels : ℕ) where
-  pub none_left : (steps : List (Mapping × Store)) (r last : Response) → ChainOf (configured_by calls skip s levels) r steps last → HaveNoResidual r.rows → HaveNoResidual last.rows
+module _ (mode : ErrorHandling) (s : Setting) (calls : StoredCalls) (levels : ℕ) where
+  pub none_left : (steps : List (Mapping × Store)) (r last : Response) → ChainOf (configured_by calls mode s levels) r steps last → HaveNoResidual r.rows → HaveNoResidual last.rows
   none_left [] r last h none = subst (λ (x : Response). HaveNoResidual x.rows) (sym (ok_inj h)) none
   none_left (step ∷ steps) r last h none = by (has_limit r.errors) (λ next. none_left steps next last) h
     where
-      on : (y : Result Response Refusal) → ((next : Response) → ChainOf (configured_by calls skip s levels) next steps last → HaveNoResidual next.rows → HaveNoResidual last.rows) → Steps (configured_by calls skip s levels) step.0 step.1 r y → MatchResult y (λ next. ChainOf (configured_by calls skip s levels) next steps last) (λ e. ◌≡◌ {A = Result Response Refusal} (Ok last) (Err e)) → HaveNoResidual last.rows
+      on : (y : Result Response Refusal) → ((next : Response) → ChainOf (configured_by calls mode s levels) next steps last → HaveNoResidual next.rows → HaveNoResidual last.rows) → Steps (configured_by calls mode s levels) step.0 step.1 r y → MatchResult y (λ next. ChainOf (configured_by calls mode s levels) next steps last) (λ e. ◌≡◌ {A = Result Response Refusal} (Ok last) (Err e)) → HaveNoResidual last.rows
       on (Ok next) leads g k =
-          let t = taken skip s calls levels step.0 step.1 r next g in
-          leads next k (none_carried (at_step s.extensions s.resolution next.request step.1 step.0) calls levels r.rows next.rows next.errors none t.runs)
+          let t = taken mode s calls levels step.0 step.1 r next g in
+          leads next k (none_carried mode (at_step s.extensions s.resolution next.request step.1 step.0) calls levels r.rows next.rows next.errors none t.runs)
       on (Err e) leads g k = absurd (err_is_not_ok k)
 
-      by : (b : Bool) → ((next : Response) → ChainOf (configured_by calls skip s levels) next steps last → HaveNoResidual next.rows → HaveNoResidual last.rows) → MatchBool b (◌≡◌ {A = Result Response Refusal} (Ok last) (Ok r)) ((y : Result Response Refusal) × Steps (configured_by calls skip s levels) step.0 step.1 r y × MatchResult y (λ next. ChainOf (configured_by calls skip s levels) next steps last) (λ e. ◌≡◌ {A = Result Response Refusal} (Ok last) (Err e))) → HaveNoResidual last.rows
+      by : (b : Bool) → ((next : Response) → ChainOf (configured_by calls mode s levels) next steps last → HaveNoResidual next.rows → HaveNoResidual last.rows) → MatchBool b (◌≡◌ {A = Result Response Refusal} (Ok last) (Ok r)) ((y : Result Response Refusal) × Steps (configured_by calls mode s levels) step.0 step.1 r y × MatchResult y (λ next. ChainOf (configured_by calls mode s levels) next steps last) (λ e. ◌≡◌ {A = Result Response Refusal} (Ok last) (Err e))) → HaveNoResidual last.rows
       by true leads k = subst (λ (x : Response). HaveNoResidual x.rows) (sym (ok_inj k)) none
       by false leads (y, g, k) = on y leads g k

@@ -12,7 +12,7 @@ use Rattle.cedar_model.specs.Settings.{shallow}
 use Rattle.cedar_model.specs.Rules.{StoredCalls, Runs, Exceeds}
 use Rattle.cedar_model.specs.Agreement.{no_slots, height}
 use Rattle.cedar_model.specs.Restricted.{AreSoundAt, IsSoundContext, IsGivenSound}
-use Rattle.cedar_model.specs.Policies.{Policy, skip}
+use Rattle.cedar_model.specs.Policies.{Policy, ErrorHandling}
 use Rattle.cedar_model.specs.Responses.{Row, decided, decided_bool, error_of, with_slots, with_error, carried, RunOf}
 use Rattle.cedar_model.specs.Refusals.{concrete_context, context_by, context_beside, IsContext}
 use Rattle.cedar_model.specs.Chains.{Mapping, Response, substituted_at, rows_by, all_residuals, at_step, without_map, SubstitutesTo, StepsTo}
@@ -49,13 +49,13 @@ unfolding with_error
 one_more id None later h k = k
 one_more id (Some e) later h k = (h, k)
 
-module _ (s : Setting) (calls : StoredCalls) (levels : ℕ) where
+module _ (mode : ErrorHandling) (s : Setting) (calls : StoredCalls) (levels : ℕ) where
   -- no condition's need is above the levels
   abbrev AreDeep : List Policy → Type 0
   AreDeep [] = Unit {0}
   AreDeep (p ∷ ps) = (Exceeds (with_slots s p.slots) calls p.condition levels → ⊥) × AreDeep ps
 
-  run_deep : (ps : List Policy) (rows : List Row) (errors : List (Text × Failure)) → AreDeep ps → RunOf skip s calls levels ps rows errors → HaveNoLimit errors
+  run_deep : (ps : List Policy) (rows : List Row) (errors : List (Text × Failure)) → AreDeep ps → RunOf mode s calls levels ps rows errors → HaveNoLimit errors
   run_deep [] rows errors h (e, f) = subst HaveNoLimit (sym f) tt
   run_deep (p ∷ ps) rows errors h (a, rest, later, runs, found, run, e, f) =
       subst HaveNoLimit (sym f) (one_more p.id (error_of (decided a)) later
@@ -75,7 +75,7 @@ too_deep : (n k h b : ℕ) → n < k + bound_of shallow b → k ≤ h → h + b 
 unfolding bound_of
 too_deep n k h b above low enough = omega (arith, above, low, enough)
 
-module _ (s : Setting) (calls : StoredCalls) (no_limit : FunctionsMeetNoLimit calls) (is_shallow : s.resolution ≡ shallow) (b h levels : ℕ)
+module _ (mode : ErrorHandling) (s : Setting) (calls : StoredCalls) (no_limit : FunctionsMeetNoLimit calls) (is_shallow : s.resolution ≡ shallow) (b h levels : ℕ)
     (sound : IsGivenSound calls s) (low : IsNoHigher calls s s.map b) (enough : h + b ≤ levels) where
   slots_deep : (slots : Slots) (t : Term) → height t ≤ h → Exceeds (with_slots s slots) calls t levels → ⊥
   slots_deep slots t k met =
@@ -84,9 +84,9 @@ module _ (s : Setting) (calls : StoredCalls) (no_limit : FunctionsMeetNoLimit ca
       record { context_low = low.context_low; stored_low = low.stored_low; mapped_low = low.mapped_low; answers_low = low.answers_low } levels t met in
       too_deep levels (height t) h b (subst (λ q. levels < height t + bound_of q b) is_shallow z) k enough
 
-  pub run_is_deep : (ps : List Policy) (rows : List Row) (errors : List (Text × Failure)) → AreNoHigher ps h → RunOf skip s calls levels ps rows errors → HaveNoLimit errors
+  pub run_is_deep : (ps : List Policy) (rows : List Row) (errors : List (Text × Failure)) → AreNoHigher ps h → RunOf mode s calls levels ps rows errors → HaveNoLimit errors
   run_is_deep ps rows errors low_conditions run =
-      run_deep s calls levels ps rows errors (all_deep s calls levels h ps slots_deep low_conditions) run
+      run_deep mode s calls levels ps rows errors (all_deep mode s calls levels h ps slots_deep low_conditions) run
 
 -- ---- the run of a step
 
@@ -149,7 +149,7 @@ context_answer (fails e) d h = absurd (err_is_not_ok (sym h))
 is_answer : (a : Answer) (p : PartialValue) → a ≡ answers p → answers p ≢ limit
 is_answer a p e w = absurd (cc)
 
-module _ (s : Setting) (calls : StoredCalls) (levels : ℕ) (m : Mapping) (store : Store) where
+module _ (mode : ErrorHandling) (s : Setting) (calls : StoredCalls) (levels : ℕ) (m : Mapping) (store : Store) where
   -- what follows of a context
   follows : (c d : ContextPart) (r : RequestPart) → SubstitutesTo (at_step s.extensions s.resolution r store m) calls levels m c (Ok d) → ContextFollows (without_map (at_step s.extensions s.resolution r store m)) calls m c d
   follows absent_context d r h = ok_inj h
@@ -174,7 +174,7 @@ module _ (s : Setting) (calls : StoredCalls) (levels : ℕ) (m : Mapping) (store
         record { context_low = no_higher; stored_low = low.stored_low; mapped_low = low.mapped_low; answers_low = low.answers_low }
         no_limit new f levels t met) k enough
 
-    deep : (new : Response) (z : Taken skip s calls levels m store old new) → Mapped (m (codes "context")) old.request.context_part z.request.context_part → (t : Term) → height t ≤ h → Exceeds (at_step s.extensions s.resolution new.request store m) calls t levels → ⊥
+    deep : (new : Response) (z : Taken mode s calls levels m store old new) → Mapped (m (codes "context")) old.request.context_part z.request.context_part → (t : Term) → height t ≤ h → Exceeds (at_step s.extensions s.resolution new.request store m) calls t levels → ⊥
     deep new z (as_it_was e) =
         deep_after old.request new.request sound.context_sound low.context_low
         (subst (λ q. ContextFollows (without_map (at_step s.extensions s.resolution old.request store m)) calls m old.request.context_part q) (sym (ap (λ q. q.context_part) z.request_is))
@@ -191,10 +191,10 @@ module _ (s : Setting) (calls : StoredCalls) (levels : ℕ) (m : Mapping) (store
             subst (λ x. ContextFollows (without_map (at_step s.extensions s.resolution z.request store m)) calls m x d) e (ok_inj (subst (λ x. SubstitutesTo (at_step s.extensions s.resolution old.request store m) calls levels m x (Ok d)) (sym e) g))
 
     -- a step meets no limit
-    pub step_is_deep : (new : Response) → StepsTo (configured_by calls skip s levels) m store old new → AreNoHigher (all_residuals old.rows) h → HaveNoLimit new.errors
+    pub step_is_deep : (new : Response) → StepsTo (configured_by calls mode s levels) m store old new → AreNoHigher (all_residuals old.rows) h → HaveNoLimit new.errors
     step_is_deep new taken_to conditions =
-        let z = taken skip s calls levels m store old new taken_to in
+        let z = taken mode s calls levels m store old new taken_to in
         let c = concrete_parts m old.request z.request z.concrete in
-        run_deep (at_step s.extensions s.resolution new.request store m) calls levels (all_residuals old.rows) new.rows new.errors
-        (carried_deep (at_step s.extensions s.resolution new.request store m) calls levels h (rows_by permit old.rows ++ rows_by forbid old.rows) (deep new z (mapped (m (codes "context")) old.request.context_part z.request.context_part c.context_is)) conditions)
+        run_deep mode (at_step s.extensions s.resolution new.request store m) calls levels (all_residuals old.rows) new.rows new.errors
+        (carried_deep mode (at_step s.extensions s.resolution new.request store m) calls levels h (rows_by permit old.rows ++ rows_by forbid old.rows) (deep new z (mapped (m (codes "context")) old.request.context_part z.request.context_part c.context_is)) conditions)
         z.runs

@@ -1,12 +1,12 @@
 -- A sheet on which the policies are noted one by one, and the response of it.
-use Rattle.std.specs.Prelude.{◌≡◌, ℕ, Bool, List, [], ◌∷◌, ◌++◌, map, None}
+use Rattle.std.specs.Prelude.{◌≡◌, ℕ, Bool, List, [], ◌∷◌, ◌++◌, map, None, Result, Ok, Err, IfOk}
 use Rattle.std.proofs.Common.{refl, sym, ap, ◌∙◌, subst, append_assoc}
 use Rattle.std.proofs.lemmas.List.{append-nil, map-append}
 use Rattle.cedar_model.specs.Terms.{Text}
 use Rattle.cedar_model.specs.Failures.{Failure}
 use Rattle.cedar_model.specs.Settings.{Setting}
 use Rattle.cedar_model.specs.Rules.{StoredCalls, Runs}
-use Rattle.cedar_model.specs.Policies.{Policy, Effect, permit, forbid, ErrorHandling, skip}
+use Rattle.cedar_model.specs.Policies.{Policy, Effect, permit, forbid, ErrorHandling}
 use Rattle.cedar_model.specs.Responses.{Row, Reported, Decided, decided, reported_of, error_of, counted_report, with_slots, with_error, RunOf}
 use Rattle.cedar_model.specs.Chains.{is_true, is_false, is_residual, rows_of}
 use Rattle.cedar_model.specs.Reports.{ids}
@@ -19,7 +19,7 @@ use Rattle.cedar_responses.specs.declared.sheet.Outcome.{Outcome}
 use Rattle.cedar_responses.specs.declared.sheet.Sheet.{Sheet}
 use Rattle.cedar_responses.specs.Kept.{kept}
 use Rattle.cedar_responses.specs.Responses.{errors_view}
-use Rattle.cedar_responses.specs.Rows.{Located, located_true, located_false, located_residual, rows_in, located_of}
+use Rattle.cedar_responses.specs.Rows.{mode_of, Located, located_true, located_false, located_residual, rows_in, located_of}
 use Rattle.cedar_responses.specs.Sheets.{Noted, outcome_view, placed_row, sheet_view, sorted, nothing_noted, noted_also}
 use Rattle.cedar_responses.proofs.Noted.{sorted_none, sorted_more}
 use Rattle.cedar_responses.proofs.Rows.{rows_of_located}
@@ -32,13 +32,13 @@ use Rattle.cedar_model.proofs.Configured.{configured_by}
 -- ---- the loop
 
 -- the policies before those that are left are noted
-pub record IsNotedSoFar (s : Setting) (calls : StoredCalls) (levels : ℕ) (all : List Policy) (sheet : Sheet) (left : List Policy) : Type 0 where
+pub record IsNotedSoFar (mode : ErrorHandling) (s : Setting) (calls : StoredCalls) (levels : ℕ) (all : List Policy) (sheet : Sheet) (left : List Policy) : Type 0 where
   pub done : List Policy
-  pub run : IsNotedRun skip s calls levels done sheet
+  pub run : IsNotedRun mode s calls levels done sheet
   pub same : all ≡ done ++ left
 
-module _ (s : Setting) (calls : StoredCalls) (levels : ℕ) where
-  pub noted_none : (all : List Policy) (sheet : Sheet) (left : List Policy) → sheet_view sheet ≡ nothing_noted → all ≡ left → IsNotedSoFar s calls levels all sheet left
+module _ (mode : ErrorHandling) (s : Setting) (calls : StoredCalls) (levels : ℕ) where
+  pub noted_none : (all : List Policy) (sheet : Sheet) (left : List Policy) → sheet_view sheet ≡ nothing_noted → all ≡ left → IsNotedSoFar mode s calls levels all sheet left
   noted_none all sheet left e same = record {
     done = [];
     run = record { located = []; errors = []; run = (refl, refl); noted = e ∙ sym sorted_none };
@@ -46,41 +46,41 @@ module _ (s : Setting) (calls : StoredCalls) (levels : ℕ) where
   }
 
   row_for : PolicyView → Decided → Row
-  row_for p d = record { id = p.id; effect = p.effect; annotations = p.annotations; reported = reported_of d }
+  row_for p d = record { id = p.id; effect = p.effect; annotations = p.annotations; reported = counted_report mode p.effect (reported_of d) }
 
-  pub noted_run : (done : List Policy) (old new : Sheet) (p : PolicyView) (o : Outcome) → IsNotedRun skip s calls levels done old → ComesOutBy (λ a. Runs (with_slots s p.slots) calls levels (condition_term p) a) (outcome_view o) → sheet_view new ≡ noted_also (sheet_view old) (placed_row p o) (error_of (outcome_view o)) → IsNotedRun skip s calls levels (done ++ decides_as p ∷ []) new
-  unfolding counted_report row_for
+  pub noted_run : (done : List Policy) (old new : Sheet) (p : PolicyView) (o : Outcome) → IsNotedRun mode s calls levels done old → ComesOutBy (λ a. Runs (with_slots s p.slots) calls levels (condition_term p) a) (outcome_view o) → sheet_view new ≡ noted_also (sheet_view old) (placed_row mode p o) (error_of (outcome_view o)) → IsNotedRun mode s calls levels (done ++ decides_as p ∷ []) new
+  unfolding row_for
   noted_run done old new p o before (a, runs, found, out) placed =
       let ls = before.located in
       let errors = before.errors in
-      let l = placed_row p o in
+      let l = placed_row mode p o in
       let e = error_of (outcome_view o) in
-      let more : RunOf skip s calls levels (done ++ decides_as p ∷ []) (rows_in ls ++ row_for p (decided a) ∷ []) (errors ++ with_error p.id (error_of (decided a)) []) =
-      run_more skip s calls levels done (rows_in ls) errors (decides_as p) a before.run runs found in
-      let noted : RunOf skip s calls levels (done ++ decides_as p ∷ []) (rows_in ls ++ l.row ∷ []) (errors ++ with_error p.id e []) =
-      subst (λ (d : Decided). RunOf skip s calls levels (done ++ decides_as p ∷ []) (rows_in ls ++ row_for p d ∷ []) (errors ++ with_error p.id (error_of d) [])) (sym out) more in
+      let more : RunOf mode s calls levels (done ++ decides_as p ∷ []) (rows_in ls ++ row_for p (decided a) ∷ []) (errors ++ with_error p.id (error_of (decided a)) []) =
+      run_more mode s calls levels done (rows_in ls) errors (decides_as p) a before.run runs found in
+      let noted : RunOf mode s calls levels (done ++ decides_as p ∷ []) (rows_in ls ++ l.row ∷ []) (errors ++ with_error p.id e []) =
+      subst (λ (d : Decided). RunOf mode s calls levels (done ++ decides_as p ∷ []) (rows_in ls ++ row_for p d ∷ []) (errors ++ with_error p.id (error_of d) [])) (sym out) more in
       record {
         located = ls ++ l ∷ [];
         errors = errors ++ with_error p.id e [];
-        run = subst (λ (rows : List Row). RunOf skip s calls levels (done ++ decides_as p ∷ []) rows (errors ++ with_error p.id e [])) (sym (map-append (λ (x : Located). x.row) ls (l ∷ []))) noted;
+        run = subst (λ (rows : List Row). RunOf mode s calls levels (done ++ decides_as p ∷ []) rows (errors ++ with_error p.id e [])) (sym (map-append (λ (x : Located). x.row) ls (l ∷ []))) noted;
         noted = placed ∙ ap (λ (n : Noted). noted_also n l e) before.noted ∙ sym (sorted_more ls errors l e);
       }
 
-  pub noted_more : (all : List Policy) (old new : Sheet) (p : PolicyView) (o : Outcome) (rest left : List Policy) → left ≡ decides_as p ∷ rest → IsNotedSoFar s calls levels all old left → ComesOutBy (λ a. Runs (with_slots s p.slots) calls levels (condition_term p) a) (outcome_view o) → sheet_view new ≡ noted_also (sheet_view old) (placed_row p o) (error_of (outcome_view o)) → IsNotedSoFar s calls levels all new rest
+  pub noted_more : (all : List Policy) (old new : Sheet) (p : PolicyView) (o : Outcome) (rest left : List Policy) → left ≡ decides_as p ∷ rest → IsNotedSoFar mode s calls levels all old left → ComesOutBy (λ a. Runs (with_slots s p.slots) calls levels (condition_term p) a) (outcome_view o) → sheet_view new ≡ noted_also (sheet_view old) (placed_row mode p o) (error_of (outcome_view o)) → IsNotedSoFar mode s calls levels all new rest
   noted_more all old new p o rest left e before out placed = record {
     done = before.done ++ decides_as p ∷ [];
     run = noted_run before.done old new p o before.run out placed;
     same = before.same ∙ ap (λ (l : List Policy). before.done ++ l) e ∙ sym (append_assoc before.done (decides_as p ∷ []) rest);
   }
 
-  pub noted_all : (all : List Policy) (sheet : Sheet) (left : List Policy) → left ≡ [] → IsNotedSoFar s calls levels all sheet left → IsNotedRun skip s calls levels all sheet
+  pub noted_all : (all : List Policy) (sheet : Sheet) (left : List Policy) → left ≡ [] → IsNotedSoFar mode s calls levels all sheet left → IsNotedRun mode s calls levels all sheet
   noted_all all sheet left e before =
-      subst (λ (l : List Policy). IsNotedRun skip s calls levels l sheet) (sym (before.same ∙ ap (λ (l : List Policy). before.done ++ l) e ∙ append-nil before.done)) before.run
+      subst (λ (l : List Policy). IsNotedRun mode s calls levels l sheet) (sym (before.same ∙ ap (λ (l : List Policy). before.done ++ l) e ∙ append-nil before.done)) before.run
 
 -- a run in a setting, by functions and with levels that are the same
-pub noted_alike : (s z : Setting) (calls answers : StoredCalls) (levels limit : ℕ) (ps : List Policy) (sheet : Sheet) → s ≡ z → calls ≡ answers → levels ≡ limit → IsNotedRun skip s calls levels ps sheet → IsNotedRun skip z answers limit ps sheet
-noted_alike s z calls answers levels limit ps sheet e f n run =
-    subst (λ q. IsNotedRun skip z answers q ps sheet) n (subst (λ q. IsNotedRun skip z q levels ps sheet) f (subst (λ q. IsNotedRun skip q calls levels ps sheet) e run))
+pub noted_alike : (mode : ErrorHandling) (s z : Setting) (calls answers : StoredCalls) (levels limit : ℕ) (ps : List Policy) (sheet : Sheet) → s ≡ z → calls ≡ answers → levels ≡ limit → IsNotedRun mode s calls levels ps sheet → IsNotedRun mode z answers limit ps sheet
+noted_alike mode s z calls answers levels limit ps sheet e f n run =
+    subst (λ q. IsNotedRun mode z answers q ps sheet) n (subst (λ q. IsNotedRun mode z q levels ps sheet) f (subst (λ q. IsNotedRun mode q calls levels ps sheet) e run))
 
 -- ---- the response
 
@@ -118,13 +118,14 @@ ids_deciding [] = refl
 ids_deciding (p ∷ ps) = ap (λ (ts : List Text). p.id ∷ ts) (ids_deciding ps)
 
 -- what a response keeps of the run of a set on a sheet is that run
-pub is_run : (mode : ErrorHandling) (s : Setting) (calls : StoredCalls) (levels : ℕ) (policies : PolicySet) (sheet : Sheet) (r : PartialResponse) → IsNotedRun mode s calls levels (deciding policies) sheet → KeepsSheet sheet r → IsRun (configured_by calls mode s levels) s (deciding policies) r
-is_run mode s calls levels policies sheet r on k =
+pub is_run : (mode : ErrorHandling) (s : Setting) (calls : StoredCalls) (levels : ℕ) (policies : PolicySet) (sheet : Sheet) (r : PartialResponse) → IsNotedRun mode s calls levels (deciding policies) sheet → mode_of r ≡ mode → KeepsSheet sheet r → IsRun (configured_by calls mode s levels) s (deciding policies) r
+is_run mode s calls levels policies sheet r on is_in k =
     let ls = on.located in
     let apart : first_repeated (located_ids ls) ≡ None =
     ap first_repeated (rows_located ls ∙ run_ids mode s calls levels (deciding policies) (rows_in ls) on.errors on.run ∙ ids_deciding (policies_view policies)) ∙ policies.distinct in
     let same : errors_view r.errors.items ≡ on.errors = ap errors_view k.errors ∙ ap (λ (n : Noted). n.errors) on.noted in
     record {
+      mode_is = is_in;
       rows = rows_in ls;
       run = subst (RunOf mode s calls levels (deciding policies) (rows_in ls)) (sym same) on.run;
       held = holds_rows ls apart sheet r on.errors k on.noted;
@@ -141,3 +142,10 @@ module _ (mode : ErrorHandling) (s : Setting) (calls : StoredCalls) (levels : �
 
   pub residual_forbids_are : r.residual_forbids.entries ≡ sheet.residual_forbids.items
   residual_forbids_are = whole on.located apart forbid is_residual (located_residual forbid) (λ e. refl) _ _ k.residual_forbids (ap (λ (n : Noted). n.residual_forbids) on.noted)
+
+-- what follows of a response that is in the mode and keeps a sheet
+pub if_in_mode : (mode : ErrorHandling) {E : Type 0} (x : Result PartialResponse E) (sheet : Sheet) {P : PartialResponse → Type 0}
+    → ((r : PartialResponse) → mode_of r ≡ mode → KeepsSheet sheet r → P r)
+    → IfOk x (λ r. mode_of r ≡ mode) → IfOk x (λ r. KeepsSheet sheet r) → IfOk x P
+if_in_mode mode (Ok r) sheet f m k = f r m k
+if_in_mode mode (Err e) sheet f m k = tt

@@ -2,9 +2,10 @@
 use Rattle.std.specs.Prelude.{◌≡◌, Bool, true, false, cond, ◌&&◌, List, [], ◌∷◌, ◌++◌, All, Contains}
 use Rattle.std.proofs.Common.{refl, sym, ap, ◌∙◌, subst, append_assoc, arith}
 use Rattle.std.proofs.lemmas.List.Elements.{All-nil, All-cons, All-append, Contains-append_right}
-use Rattle.cedar_model.specs.Policies.{Effect, permit, forbid}
-use Rattle.cedar_model.specs.Responses.{reported_of, error_of}
+use Rattle.cedar_model.specs.Policies.{Effect, permit, forbid, ErrorHandling}
+use Rattle.cedar_model.specs.Responses.{reported_of, error_of, counted_report}
 use Rattle.cedar_model.specs.Chains.{has_effect, is_residual}
+use Rattle.cedar_model.proofs.Concrete.{residual_same}
 use Rattle.cedar_layers.specs.declared.policies.policy.Policy as layers
 use Rattle.cedar_layers.specs.Policies.{policy_view, policy_location}
 use Rattle.cedar_responses.specs.declared.partial_response.PartialResponse.{PartialResponse}
@@ -35,27 +36,27 @@ first_of_rest : (p : layers.Policy) (rest : List layers.Policy) → Contains (p 
 first_of_rest p rest = (0, omega arith, refl)
 
 -- a row that is residual stands at its policy
-residual_stands : (q : layers.Policy) (o : Outcome) → IsLeftAt (policy_location q) o → is_residual (reported_of (outcome_view o)) ≡ true → clause_loc (placed_row (policy_view q) o) ≡ policy_location q
+residual_stands : (mode : ErrorHandling) (q : layers.Policy) (o : Outcome) → IsLeftAt (policy_location q) o → is_residual (reported_of (outcome_view o)) ≡ true → clause_loc (placed_row mode (policy_view q) o) ≡ policy_location q
 unfolding reported_of is_residual
-residual_stands q (outcomes.Decided true) h e = absurd (cc)
-residual_stands q (outcomes.Decided false) h e = absurd (cc)
-residual_stands q (outcomes.Residual r) h e = h
-residual_stands q (outcomes.Failed r) h e = absurd (cc)
+residual_stands mode q (outcomes.Decided true) h e = absurd (cc)
+residual_stands mode q (outcomes.Decided false) h e = absurd (cc)
+residual_stands mode q (outcomes.Residual r) h e = h
+residual_stands mode q (outcomes.Failed r) h e = absurd (cc)
 
 kept_if : (all : List layers.Policy) (b c : Bool) (l : Located) → (c ≡ true → StandsAtPolicy all l) → All (StandsAtPolicy all) (cond (b && c) (l ∷ []) [])
 kept_if all true true l h = All-cons (StandsAtPolicy all) l [] (h refl) (All-nil (StandsAtPolicy all))
 kept_if all true false l h = All-nil (StandsAtPolicy all)
 kept_if all false c l h = All-nil (StandsAtPolicy all)
 
-one_stands : (all : List layers.Policy) (p : layers.Policy) (o : Outcome) (e : Effect) → Contains all p → IsLeftAt (policy_location p) o → All (StandsAtPolicy all) (located_of e is_residual (placed_row (policy_view p) o ∷ []))
+one_stands : (mode : ErrorHandling) (all : List layers.Policy) (p : layers.Policy) (o : Outcome) (e : Effect) → Contains all p → IsLeftAt (policy_location p) o → All (StandsAtPolicy all) (located_of e is_residual (placed_row mode (policy_view p) o ∷ []))
 unfolding located_of
-one_stands all p o e among left =
-    kept_if all (has_effect e (policy_view p).effect) (is_residual (reported_of (outcome_view o))) (placed_row (policy_view p) o)
-    (λ is. record { policy = p; among = among; id_is = refl; stands = residual_stands p o left is })
+one_stands mode all p o e among left =
+    kept_if all (has_effect e (policy_view p).effect) (is_residual (counted_report mode (policy_view p).effect (reported_of (outcome_view o)))) (placed_row mode (policy_view p) o)
+    (λ is. record { policy = p; among = among; id_is = refl; stands = residual_stands mode p o left (sym (residual_same mode (policy_view p).effect (reported_of (outcome_view o))) ∙ is) })
 
-pub one_placed : (all left rest : List layers.Policy) (old new : Sheet) (p : layers.Policy) (o : Outcome) → left ≡ p ∷ rest → ArePlacedSoFar all left old → IsLeftAt (policy_location p) o
-    → sheet_view new ≡ noted_also (sheet_view old) (placed_row (policy_view p) o) (error_of (outcome_view o)) → ArePlacedSoFar all rest new
-one_placed all left rest old new p o e before stands noted =
+pub one_placed : (mode : ErrorHandling) (all left rest : List layers.Policy) (old new : Sheet) (p : layers.Policy) (o : Outcome) → left ≡ p ∷ rest → ArePlacedSoFar all left old → IsLeftAt (policy_location p) o
+    → sheet_view new ≡ noted_also (sheet_view old) (placed_row mode (policy_view p) o) (error_of (outcome_view o)) → ArePlacedSoFar all rest new
+one_placed mode all left rest old new p o e before stands noted =
     let same : all ≡ before.done ++ (p ∷ rest) = before.same ∙ ap (λ (ls : List layers.Policy). before.done ++ ls) e in
     let among : Contains all p = subst (λ (ls : List layers.Policy). Contains ls p) (sym same) (Contains-append_right before.done (p ∷ rest) p (first_of_rest p rest)) in
     record {
@@ -63,9 +64,9 @@ one_placed all left rest old new p o e before stands noted =
       same = same ∙ sym (append_assoc before.done (p ∷ []) rest);
       placed = record {
         permits = subst (λ (n : Noted). All (StandsAtPolicy all) n.residual_permits) (sym noted)
-            (All-append (StandsAtPolicy all) _ _ before.placed.permits (one_stands all p o permit among stands));
+            (All-append (StandsAtPolicy all) _ _ before.placed.permits (one_stands mode all p o permit among stands));
         forbids = subst (λ (n : Noted). All (StandsAtPolicy all) n.residual_forbids) (sym noted)
-            (All-append (StandsAtPolicy all) _ _ before.placed.forbids (one_stands all p o forbid among stands));
+            (All-append (StandsAtPolicy all) _ _ before.placed.forbids (one_stands mode all p o forbid among stands));
       };
     }
 

@@ -9,11 +9,12 @@ use Rattle.cedar_model.specs.Failures.{Failure, value, residual, Answer, answers
 use Rattle.cedar_model.specs.Settings.{Setting}
 use Rattle.cedar_model.specs.Rules.{StoredCalls, Runs}
 use Rattle.cedar_model.specs.Agreement.{AgreesWithFunctions, HasNothingUnknown, IsKnown, Answers}
-use Rattle.cedar_model.specs.Policies.{Policy, Effect, permit, forbid, ErrorHandling, skip}
+use Rattle.cedar_model.specs.Policies.{Policy, Effect, permit, forbid, ErrorHandling}
 use Rattle.cedar_model.specs.Responses.{Row, Reported, decided, decided_bool, reported_of, error_of, counted_report, with_slots, with_error, row_of, RunOf}
 use Rattle.cedar_model.specs.Chains.{has_effect, is_residual, rows_of}
 use Rattle.cedar_model.specs.Authorizations.{HaveKnownConditions}
 use Rattle.cedar_model.specs.Reports.{ids, HaveNoResidual}
+use Rattle.cedar_model.proofs.Concrete.{residual_same}
 use Rattle.cedar_model.proofs.Exactly as exactly
 
 -- ---- one policy more
@@ -57,19 +58,19 @@ no_row effect other r row rows h = by (has_effect effect other) (is_residual r) 
     by true false g = refl
     by false false g = refl
 
-module _ (s : Setting) (calls : StoredCalls) (levels : ℕ) (known : HasNothingUnknown s) (ans : Functions) (agree : AgreesWithFunctions ans calls) where
+module _ (mode : ErrorHandling) (s : Setting) (calls : StoredCalls) (levels : ℕ) (known : HasNothingUnknown s) (ans : Functions) (agree : AgreesWithFunctions ans calls) where
   answered : (p : Policy) (a : Answer) → IsKnown ans p.condition → Runs (with_slots s p.slots) calls levels p.condition a → is_residual (reported_of (decided a)) ≡ false
   answered p a k runs =
       no_residual_answer a _ (exactly.answer_exact calls ans agree (with_slots s p.slots) (exactly.known_with_slots s p.slots known) (λ n. plain (bool_literal false)) levels p.condition a k runs).meant
 
-  none_of : (effect : Effect) (ps : List Policy) (rows : List Row) (errors : List (Text × Failure)) → HaveKnownConditions ans ps → RunOf skip s calls levels ps rows errors → rows_of effect is_residual rows ≡ []
-  unfolding rows_of counted_report
+  none_of : (effect : Effect) (ps : List Policy) (rows : List Row) (errors : List (Text × Failure)) → HaveKnownConditions ans ps → RunOf mode s calls levels ps rows errors → rows_of effect is_residual rows ≡ []
+  unfolding rows_of
   none_of effect [] rows errors k (e, f) = ap (rows_of effect is_residual) e
   none_of effect (p ∷ ps) rows errors k (a, rest, later, m, g, j, e, f) =
       ap (rows_of effect is_residual) e
-      ∙ no_row effect p.effect (reported_of (decided a)) (row_of skip p a) (rows_of effect is_residual rest) (answered p a k.0 m)
+      ∙ no_row effect p.effect (counted_report mode p.effect (reported_of (decided a))) (row_of mode p a) (rows_of effect is_residual rest) (residual_same mode p.effect (reported_of (decided a)) ∙ answered p a k.0 m)
       ∙ none_of effect ps rest later k.1 j
 
   -- no row of a run is residual
-  pub run_known : (ps : List Policy) (rows : List Row) (errors : List (Text × Failure)) → HaveKnownConditions ans ps → RunOf skip s calls levels ps rows errors → HaveNoResidual rows
+  pub run_known : (ps : List Policy) (rows : List Row) (errors : List (Text × Failure)) → HaveKnownConditions ans ps → RunOf mode s calls levels ps rows errors → HaveNoResidual rows
   run_known ps rows errors k run = (none_of permit ps rows errors k run, none_of forbid ps rows errors k run)

@@ -8,7 +8,7 @@ use Rattle.cedar_model.specs.Agreement.{height}
 use Rattle.cedar_model.specs.Restricted.{IsSound, IsSoundContext, IsGivenSound}
 use Rattle.cedar_model.specs.Values.{Represented}
 use Rattle.cedar_model.specs.Reordering.{IsReordering, chaining}
-use Rattle.cedar_model.specs.Policies.{permit, forbid, Policy, Effect, skip}
+use Rattle.cedar_model.specs.Policies.{permit, forbid, Policy, Effect, ErrorHandling}
 use Rattle.cedar_model.specs.World.{World, Functions, Extensions}
 use Rattle.cedar_model.specs.Responses.{Row, Stand, AreConditions}
 use Rattle.cedar_model.specs.Refusals.{Refusal, context_fails}
@@ -62,8 +62,8 @@ conditions_of [] = tt
 conditions_of (p ∷ ps) = (tt, conditions_of ps)
 
 -- what stands in one order stands in the order of the maps
-pub stand_sorted : (X : Extensions) (ans : Functions) (w : World) (ps : List Policy) (rows : List Row) (r : PartialResponse) → HoldsRows rows r → Stand skip X ans w ps rows → Stand skip X ans w ps (rows_view r)
-stand_sorted X ans w ps rows r h (ordered, reordered, stand) =
+pub stand_sorted : (mode : ErrorHandling) (X : Extensions) (ans : Functions) (w : World) (ps : List Policy) (rows : List Row) (r : PartialResponse) → HoldsRows rows r → Stand mode X ans w ps rows → Stand mode X ans w ps (rows_view r)
+stand_sorted mode X ans w ps rows r h (ordered, reordered, stand) =
     (ordered, subst (IsReordering Row ordered) (sym (rows_sorted rows r h)) (chaining reordered (sorted_is rows)), stand)
 
 pub if_stepped : (result : Result PartialResponse ReauthorizationError) (P : Result PartialResponse Refusal → Type 0) (Q : PartialResponse → Type 0) → ((r : PartialResponse) → P (Ok r) → Q r) → IfSome (step_answer result) P → IfOk result Q
@@ -72,20 +72,20 @@ if_stepped (Err e) P Q k h = tt
 
 -- ---- what a step keeps
 
-module _ (s : Setting) (calls : StoredCalls) (levels : ℕ) (m : Mapping) (store : Store) (old : Response) where
-  pub kept_standing : (r : PartialResponse) → IsStep (configured_by calls skip s levels) (m, store) old (Ok r) → KeepsWhatStands (configured_by calls skip s levels) (m, store) old r
+module _ (mode : ErrorHandling) (s : Setting) (calls : StoredCalls) (levels : ℕ) (m : Mapping) (store : Store) (old : Response) where
+  pub kept_standing : (r : PartialResponse) → IsStep (configured_by calls mode s levels) (m, store) old (Ok r) → KeepsWhatStands (configured_by calls mode s levels) (m, store) old r
   kept_standing r (new, step, says) ans w c views h none =
       let ps = map decides_as views in
-      let t = taken skip s calls levels m store old new step in
-      let z = step_completes skip ans calls c.functions_agree w s levels m store old new c.completion c.functions_are_faithful step in
+      let t = taken mode s calls levels m store old new step in
+      let z = step_completes mode ans calls c.functions_agree w s levels m store old new c.completion c.functions_are_faithful step in
       let quiet : HaveNoLimit new.errors = subst HaveNoLimit (sym says.errors_are) none in
-      stand_sorted s.extensions ans w ps new.rows r says.held
-      (step_stands skip ans calls c.functions_agree w (at_step s.extensions s.resolution new.request store m) z c.functions_are_faithful levels ps old.rows new.rows new.errors (conditions_of views) h
-      (run_recordable skip (at_step s.extensions s.resolution new.request store m) calls levels (all_residuals old.rows) new.rows new.errors quiet t.runs) t.runs)
+      stand_sorted mode s.extensions ans w ps new.rows r says.held
+      (step_stands mode ans calls c.functions_agree w (at_step s.extensions s.resolution new.request store m) z c.functions_are_faithful levels ps old.rows new.rows new.errors (conditions_of views) h
+      (run_recordable mode (at_step s.extensions s.resolution new.request store m) calls levels (all_residuals old.rows) new.rows new.errors quiet t.runs) t.runs)
 
-  pub nothing_back : (r : PartialResponse) → IsStep (configured_by calls skip s levels) (m, store) old (Ok r) → TakesNothingBack (configured_by calls skip s levels) (m, store) old r
+  pub nothing_back : (r : PartialResponse) → IsStep (configured_by calls mode s levels) (m, store) old (Ok r) → TakesNothingBack (configured_by calls mode s levels) (m, store) old r
   nothing_back r (new, step, says) none =
-      let k = nothing_taken_back calls skip s levels m store old new step (subst HaveNoLimit (sym says.errors_are) none) in
+      let k = nothing_taken_back calls mode s levels m store old new step (subst HaveNoLimit (sym says.errors_are) none) in
       let same = same_rows new.rows r says.held in
       record {
         decision_stays = λ d e. same_decision new.rows (rows_view r) same ∙ k.decision_stays d e;
@@ -93,11 +93,11 @@ module _ (s : Setting) (calls : StoredCalls) (levels : ℕ) (m : Mapping) (store
         may_stays = subst (λ (rows : List Row). Within (ids rows) (ids (may_determine old.rows))) (sym (same_may new.rows (rows_view r) same)) k.may_stays;
       }
 
-  pub step_finishes : (r : PartialResponse) → IsSoundContext old.request.context_part → ((n : Text) (v : Represented) → m n ≡ Some v → IsSound v) → IsStep (configured_by calls skip s levels) (m, store) old (Ok r) → Finishes (configured_by calls skip s levels) (m, store) old r
+  pub step_finishes : (r : PartialResponse) → IsSoundContext old.request.context_part → ((n : Text) (v : Represented) → m n ≡ Some v → IsSound v) → IsStep (configured_by calls mode s levels) (m, store) old (Ok r) → Finishes (configured_by calls mode s levels) (m, store) old r
   step_finishes r sound mapped_sound (new, step, says) ans agree is_concrete stored named =
-      let k = steps_finish calls ans agree skip s.resolution s.extensions levels m store old new is_concrete stored sound mapped_sound named step in
+      let k = steps_finish calls ans agree mode s.resolution s.extensions levels m store old new is_concrete stored sound mapped_sound named step in
       let none = none_residual new.rows (rows_view r) (same_rows new.rows r says.held) k.0 in
-      (none, λ w ps h. concrete.concrete_is_defined skip s.extensions ans w ps (rows_view r) h none)
+      (none, λ w ps h. concrete.concrete_is_defined mode s.extensions ans w ps (rows_view r) h none)
 
   -- ---- the depth bound
 
@@ -116,14 +116,14 @@ module _ (s : Setting) (calls : StoredCalls) (levels : ℕ) (m : Mapping) (store
   low_enough : (b h n : ℕ) → h + (b + b) ≤ n → b ≤ n
   low_enough b h n enough = omega (arith, enough)
 
-  pub answered_low : FunctionsMeetNoLimit calls → IsGivenSound calls (at_step s.extensions s.resolution old.request store m) → (result : Result PartialResponse ReauthorizationError) → IfSome (step_answer result) (IsStep (configured_by calls skip s levels) (m, store) old)
+  pub answered_low : FunctionsMeetNoLimit calls → IsGivenSound calls (at_step s.extensions s.resolution old.request store m) → (result : Result PartialResponse ReauthorizationError) → IfSome (step_answer result) (IsStep (configured_by calls mode s levels) (m, store) old)
       → (IsResidualNoHigher m levels old.request.context_part → IfErr result (λ e. step_refusal e ≢ Some (context_fails recursion_limit)))
-      → IfSome (step_answer result) (IsDeepEnough (configured_by calls skip s levels) (m, store) old)
+      → IfSome (step_answer result) (IsDeepEnough (configured_by calls mode s levels) (m, store) old)
   answered_low no_limit sound (Ok r) (new, step, says) refused =
-      λ b h low conditions enough. subst HaveNoLimit says.errors_are (step_is_deep s calls levels m store no_limit b h old sound low enough new step conditions)
+      λ b h low conditions enough. subst HaveNoLimit says.errors_are (step_is_deep mode s calls levels m store no_limit b h old sound low enough new step conditions)
   answered_low no_limit sound (Err e) is refused = by (step_refusal e) refl
     where
-      by : (o : Option Refusal) → step_refusal e ≡ o → IfSome (option_map {U = Result PartialResponse Refusal} Err o) (IsDeepEnough (configured_by calls skip s levels) (m, store) old)
+      by : (o : Option Refusal) → step_refusal e ≡ o → IfSome (option_map {U = Result PartialResponse Refusal} Err o) (IsDeepEnough (configured_by calls mode s levels) (m, store) old)
       by None g = tt
       by (Some x) g =
           λ b h low conditions enough w. refused (low_context b levels old.request.context_part (low_enough b h levels enough) low.context_low) (g ∙ ap Some w)

@@ -1,9 +1,10 @@
 -- What an authorizer is configured with, and what it is asked.
 use Rattle.std.specs.Prelude.{ℕ}
 use Rattle.cedar_model.specs.Settings.{shallow, Setting}
-use Rattle.cedar_model.specs.Policies.{skip}
+use Rattle.cedar_model.specs.Policies.{ErrorHandling}
 use Rattle.cedar_model.specs.Configurations.{Configuration, configured}
 use Rattle.cedar_model.specs.Chains.{at_step, no_values}
+use Rattle.cedar_decisions.specs.Decisions.{mode_view}
 use Rattle.cedar_extensions.specs.declared.extensions.Extensions.{Extensions}
 use Rattle.cedar_extensions.specs.Extensions.{extensions_view, calls_of}
 use Rattle.cedar_layers.specs.declared.policies.entities.Entities.{Entities}
@@ -20,9 +21,14 @@ extensions_of a = a.extensions.now
 abbrev pub limit_of : {X : Type 0} {F : X → Type 0} {g : _} → Authorizer X F g → ℕ
 limit_of a = a.limit
 
--- what it is configured with: errors are skipped, and a stored residual answers itself
+-- how it handles errors
+abbrev pub mode_of : {X : Type 0} {F : X → Type 0} {g : _} → Authorizer X F g → ErrorHandling
+mode_of a = mode_view a.error_handling
+
+-- what it is configured with; a stored residual answers itself
 abbrev pub configuration : {X : Type 0} {F : X → Type 0} {g : _} → Authorizer X F g → Configuration
-configuration a = configured (calls_of (extensions_of a)) skip shallow (extensions_view (extensions_of a)) (limit_of a)
+configuration a =
+    configured (calls_of (extensions_of a)) (mode_of a) shallow (extensions_view (extensions_of a)) (limit_of a)
 
 -- what it is asked: a request over a store, where no unknown has a value
 abbrev pub asked : {X : Type 0} {F : X → Type 0} {g : _} → Authorizer X F g → Request → Entities → Setting

@@ -28,12 +28,12 @@ abbrev pub IsKnownResponse : Configuration → Setting → List model.Policy →
 IsKnownResponse c s ps r =
     HasNothingUnknown s → (ans : Functions) → AgreesWithFunctions ans c.calls → HaveKnownConditions ans ps →
     (sigma : Text → AbstractValue) → HaveNoLimit r.errors →
-    IsExactResponse s.extensions ans (own_world s sigma) ps r
+    IsExactResponse c.mode s.extensions ans (own_world s sigma) ps r
 
 -- a given decision is that of the policies in a world, and the errors are exactly those of the erring ones
-pub record IsDecidedExactly (X : Extensions) (ans : Functions) (w : World) (ps : List model.Policy) (rows : List Row)
-    (errors : List (Text × Failure)) : Type 0 where
-  pub decision_is : given_decision rows ≡ Some (model.decision (model.judge_each X ans w ps))
+pub record IsDecidedExactly (mode : model.ErrorHandling) (X : Extensions) (ans : Functions) (w : World)
+    (ps : List model.Policy) (rows : List Row) (errors : List (Text × Failure)) : Type 0 where
+  pub decision_is : given_decision rows ≡ Some (model.decision (model.counted_each mode X ans w ps))
   pub errors_are : HaveKinds errors (policy_errors X ans w ps)
 
 -- no residual is left, and if no error is the recursion limit the decision is given, that of the policies in the own
@@ -42,7 +42,7 @@ abbrev pub IsKnownRun : Configuration → Setting → List model.Policy → List
 IsKnownRun c s ps rows errors =
     HasNothingUnknown s → (ans : Functions) → AgreesWithFunctions ans c.calls → HaveKnownConditions ans ps →
     HaveNoResidual rows × ((sigma : Text → AbstractValue) → HaveNoLimit errors →
-    IsDecidedExactly s.extensions ans (own_world s sigma) ps rows errors)
+    IsDecidedExactly c.mode s.extensions ans (own_world s sigma) ps rows errors)
 
 -- where no condition is higher than the limit, no error is the recursion limit
 abbrev pub MeetsNoLimit : Configuration → Setting → List model.Policy → List (Text × Failure) → Type 0

@@ -24,6 +24,7 @@ use Rattle.cedar_responses.specs.declared.sheet.Sheet.{Sheet}
 use Rattle.cedar_responses.specs.Kept.{kept}
 use Rattle.cedar_responses.specs.Responses.{errors_view}
 use Rattle.cedar_responses.specs.Rows.{Located, clause_loc, true_rows, false_rows, residual_rows, rows_in, rows_view}
+use Rattle.cedar_responses.specs.Rows.{mode_of}
 use Rattle.cedar_responses.specs.Sheets.{sheet_view, sorted}
 
 -- ---- responses
@@ -44,8 +45,9 @@ pub record HoldsRows (rows : List Row) (r : PartialResponse) : Type 0 where
   pub false_forbids : rows_in (false_rows forbid r.false_forbids.entries) ≡ falses forbid rows
   pub residual_forbids : rows_in (residual_rows forbid r.residual_forbids.entries) ≡ residuals forbid rows
 
--- a response holds the rows of a run, and its errors in order
+-- a response is in the mode, and holds the rows of a run, and its errors in order
 pub record IsRun (c : Configuration) (s : Setting) (ps : List Policy) (r : PartialResponse) : Type 0 where
+  pub mode_is : mode_of r ≡ c.mode
   pub rows : List Row
   pub run : RunOf c.mode s c.calls c.levels ps rows (errors_of r)
   pub held : HoldsRows rows r

@@ -9,7 +9,7 @@ use Rattle.cedar_model.specs.World.{World, Functions}
 use Rattle.cedar_model.specs.Failures.{recursion_limit}
 use Rattle.cedar_model.specs.Settings.{RequestPart, Store, Setting}
 use Rattle.cedar_model.specs.Agreement.{AgreesWithFunctions, EachStored, CompletesWith}
-use Rattle.cedar_model.specs.Policies.{Policy, skip}
+use Rattle.cedar_model.specs.Policies.{Policy}
 use Rattle.cedar_model.specs.Configurations.{Configuration}
 use Rattle.cedar_model.specs.Responses.{Stand}
 use Rattle.cedar_model.specs.Refusals.{Refusal, context_fails}
@@ -27,7 +27,7 @@ use Rattle.cedar_layers.specs.Stores.{store_view}
 use Rattle.cedar_requests.specs.Requests.{request_view}
 use Rattle.cedar_requests.specs.Substitutions.{values_for}
 use Rattle.cedar_responses.specs.declared.partial_response.PartialResponse.{PartialResponse}
-use Rattle.cedar_responses.specs.Rows.{rows_view}
+use Rattle.cedar_responses.specs.Rows.{mode_of, rows_view}
 use Rattle.cedar_reauthorization.specs.declared.err.ReauthorizationError.{ReauthorizationError}
 use Rattle.cedar_reauthorization.specs.Concretizations.{IsConcrete}
 use Rattle.cedar_reauthorization.specs.Errors.{step_answer_by}
@@ -36,7 +36,7 @@ use Rattle.cedar_authorizer.specs.Running.{errors_of, request_of, HoldsRows, IsR
 -- what a response says, as the model has it, with its rows in the order of its six maps
 abbrev pub response_said : PartialResponse → Response
 response_said r = record {
-  mode = skip;
+  mode = mode_of r;
   request = request_view (request_of r);
   rows = rows_view r;
   errors = errors_of r;
@@ -44,7 +44,7 @@ response_said r = record {
 
 -- a response says what one of the model does, whose rows are in its six maps
 pub record Says (r : PartialResponse) (a : Response) : Type 0 where
-  pub mode_is : a.mode ≡ skip
+  pub mode_is : a.mode ≡ mode_of r
   pub request_is : a.request ≡ request_view (request_of r)
   pub errors_are : a.errors ≡ errors_of r
   pub held : HoldsRows a.rows r

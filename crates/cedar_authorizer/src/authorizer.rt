@@ -3,6 +3,7 @@ ghost use Rattle.std.specs.Prelude.{◌≡◌, ◌≢◌, true, false, Option, I
 ghost use Rattle.cedar_model.specs.Agreement.{no_slots};
 ghost use Rattle.cedar_model.specs.Failures.{out_of_memory, failure_kind};
 ghost use Rattle.cedar_model.specs.Policies.{skip};
+ghost use Rattle.cedar_decisions.specs.Decisions.{mode_view};
 ghost use Rattle.cedar_model.specs.Responses.{errs_with};
 ghost use Rattle.cedar_names.specs.declared.names.Loc.{Loc};
 ghost use Rattle.cedar_layers.specs.Policies.{policy_location};
@@ -12,6 +13,7 @@ ghost use Rattle.cedar_evaluator.specs.Evaluations.{setting_of, calls_in, IsProm
 ghost use Rattle.cedar_evaluator.specs.Evaluations as evaluations;
 ghost use Rattle.cedar_responses.specs.Responses.{response_view};
 ghost use Rattle.cedar_responses.specs.Rows.{rows_view};
+ghost use Rattle.cedar_responses.specs.Rows as rows;
 ghost use Rattle.cedar_responses.specs.Sheets.{outcome_view};
 ghost use Rattle.cedar_authorizer.specs.Configured.{configuration, asked};
 ghost use Rattle.cedar_authorizer.specs.Responding.{deciding};
@@ -29,8 +31,8 @@ use cedar_layers::policies::{Entities, Policy, PolicyID, PolicySet};
 pub use cedar_reauthorization::{ConcretizationError, ReauthorizationError};
 use cedar_responses::shared::{Outcome, Sheet};
 pub use cedar_responses::{
-    AuthorizationError, Decision, Diagnostics, ErrorState, PartialResponse, ReportedIds,
-    ReportedPolicies, Response,
+    AuthorizationError, Decision, Diagnostics, ErrorHandling, ErrorState, PartialResponse,
+    ReportedIds, ReportedPolicies, Response,
 };
 use cedar_values::extensions::ExtensionFunctionLookupError;
 use either::{Left, Right};
@@ -64,34 +66,60 @@ pub struct EvaluationResponse {
     pub forbid_residuals: PolicySet,
 }
 
-/// Decides requests, with these extensions and within so many levels of evaluation.
+/// Decides requests, with these extensions, within so many levels of evaluation, and in one of two ways to handle errors.
 #[derive(Clone, Copy)]
 pub struct Authorizer<'x, 'f> {
     extensions: &'x Extensions<'f>,
     limit: usize,
+    error_handling: ErrorHandling,
 }
 
 impl<'x, 'f> Authorizer<'x, 'f> {
     ghost use Rattle.std.specs.Prelude.{IfErr};
     ghost use Rattle.cedar_reauthorization.specs.Errors.{IsUnwrapped};
     ghost use Rattle.cedar_authorizer.specs.Steps.{step_answer};
-    ghost use Rattle.cedar_authorizer.specs.Configured.{extensions_of, limit_of};
+    ghost use Rattle.cedar_authorizer.specs.Configured.{extensions_of, limit_of, mode_of};
     ghost use Rattle.cedar_authorizer.specs.Responding.{IsKnownResponse, IsKnownRun, MeetsNoLimit};
     ghost use Rattle.cedar_authorizer.specs.Responding.{OwnWorldCompletesCall};
     ghost use Rattle.cedar_authorizer.specs.Headline.{steps_view, IsChain, IsHeadline, LeavesNothing};
 
-    /// The authorizer that uses these extensions. A condition whose evaluation goes more than `limit` levels deep counts as
+    /// The authorizer that uses these extensions, and skips errors. A condition whose evaluation goes more than `limit` levels deep counts as
     /// erring, with `RecursionLimit`: an expression is one level and its parts one more, and a part that is not read takes none.
     pub fn new(extensions: &'x Extensions<'f>, limit: usize) -> Authorizer<'x, 'f>
         ensures extensions { extensions_of result ≡ extensions.now }
         ensures limit { limit_of result ≡ limit }
+        ensures mode { mode_of result ≡ skip }
     {
-        Authorizer { extensions, limit }
+        Authorizer {
+            extensions,
+            limit,
+            error_handling: ErrorHandling::Skip,
+        }
+    }
+
+    /// The same authorizer, which handles errors so.
+    pub fn with_error_handling(self, error_handling: ErrorHandling) -> Authorizer<'x, 'f>
+        ensures extensions { extensions_of result ≡ extensions_of self }
+        ensures limit { limit_of result ≡ limit_of self }
+        ensures mode { mode_of result ≡ mode_view error_handling }
+    {
+        Authorizer {
+            extensions: self.extensions,
+            limit: self.limit,
+            error_handling,
+        }
+    }
+
+    /// How it handles errors.
+    pub fn error_handling(&self) -> ErrorHandling
+        ensures { mode_view result ≡ mode_of self.now }
+    {
+        self.error_handling
     }
 
     /// What the policies decide for the request over this store: a satisfied forbid denies, else a satisfied permit allows, else it
     /// is denied. A policy that errs is skipped, and its error is recorded; so is one of whose condition something is left, with
-    /// `NonValue`. It is what `is_authorized_core` answers, made concrete. Refuses only for want of memory.
+    /// `NonValue`. In `ForbidOnError` a forbid that errs, or of whose condition something is left, denies too. It is what `is_authorized_core` answers, made concrete. Refuses only for want of memory.
     pub fn is_authorized(
         &self,
         alloc: Global,
@@ -115,8 +143,8 @@ impl<'x, 'f> Authorizer<'x, 'f> {
     }
 
     /// What is known of each policy for the request over this store: whether it is satisfied, or what is left of its condition. A
-    /// policy that errs is false with `ErrorState::Error`, and its error is recorded, the recursion limit included. In every
-    /// completion of the request and the store what is reported stands, if no recursion limit is recorded. Where nothing is
+    /// policy that errs is false with `ErrorState::Error`, and its error is recorded, the recursion limit included; in
+    /// `ForbidOnError` a forbid that errs is satisfied, and its error recorded. In every completion of the request and the store what is reported stands, if no recursion limit is recorded. Where nothing is
     /// unknown no residual is left, and the decision is given. Refuses only for want of memory.
     pub fn is_authorized_core(
         &self,
@@ -139,7 +167,7 @@ impl<'x, 'f> Authorizer<'x, 'f> {
         ensures request { IfOk result (λ r. request_of r ≡ request) }
     {
         let sheet = first_sheet(alloc, self, &request, policies, entities)?;
-        response_of(alloc, sheet, Rc::new(alloc, request)?)
+        response_of(alloc, self.error_handling, sheet, Rc::new(alloc, request)?)
     }
 
     /// The core call, and then one `reauthorize` a step, each with the step's map of values for unknowns and its store. Where the
@@ -188,23 +216,24 @@ fn first_sheet(
         authorizer.extensions,
         authorizer.limit,
     )?;
-    run_all(alloc, &evaluator, policies)
+    run_all(alloc, authorizer.error_handling, &evaluator, policies)
 }
 
 // How each policy comes out by this evaluator, in their order.
 fn run_all(
     alloc: Global,
+    mode: ErrorHandling,
     evaluator: &Evaluator<'_, '_>,
     policies: &PolicySet,
 ) -> Result<Sheet, AllocError>
-    ensures run { IfOk result (IsNotedRun skip (setting_of evaluator.now no_slots) (calls_in evaluator.now)
+    ensures run { IfOk result (IsNotedRun (mode_view mode) (setting_of evaluator.now no_slots) (calls_in evaluator.now)
         (evaluations.limit_of evaluator.now) (deciding policies.now)) }
     ensures places { IfOk result (ResidualsAreNoted (stored_policies policies.now)) }
 {
     let mut sheet = Sheet::new(alloc);
     'policies: for policy in policies.policies() {
         let outcome = outcome_of(alloc, evaluator, policy)?;
-        sheet.place(policy, outcome)?;
+        sheet.place(mode, policy, outcome)?;
     }
     Ok(sheet)
 }
@@ -241,14 +270,17 @@ fn failed(error: EvaluationError) -> Result<Outcome, AllocError>
 // The response of what is noted.
 fn response_of(
     alloc: Global,
+    mode: ErrorHandling,
     sheet: Sheet,
     request: Rc<Request>,
 ) -> Result<PartialResponse, AllocError>
+    ensures mode { IfOk result (λ r. rows.mode_of r ≡ mode_view mode) }
     ensures kept { IfOk result (λ r. KeepsSheet sheet r) }
     ensures request { IfOk result (λ r. r.request ≡ request) }
 {
-    PartialResponse::new(
+    PartialResponse::new_in_mode(
         alloc,
+        mode,
         sheet.true_permits.into_iter(),
         sheet.false_permits.into_iter(),
         sheet.residual_permits.into_iter(),

@@ -55,7 +55,8 @@ fn line(alloc: Global, row: Row, response: &Response) -> Result<String, AllocErr
 
 fn decide(alloc: Global, row: Row, extensions: &Extensions<'_>) -> Result<Response, Stop> {
     let policies = set_of(alloc, policies_of(alloc, row)?)?;
-    let response = decide_by(alloc, row, &Authorizer::new(extensions, LIMIT), &policies);
+    let authorizer = Authorizer::new(extensions, LIMIT).with_error_handling(row.error_handling());
+    let response = decide_by(alloc, row, &authorizer, &policies);
     drop(policies);
     response
 }
@@ -73,6 +74,8 @@ fn decide_by(
         Row::Skip3 => at_once(alloc, row, authorizer, policies),
         Row::Skip4 => at_once(alloc, row, authorizer, policies),
         Row::Residual => at_once(alloc, row, authorizer, policies),
+        Row::Strict3 => at_once(alloc, row, authorizer, policies),
+        Row::StrictResidual => at_once(alloc, row, authorizer, policies),
         Row::Early => without_steps(alloc, row, authorizer, policies),
         Row::Chain => in_two_steps(alloc, row, authorizer, policies),
         Row::StepFalse => {

@@ -30,6 +30,8 @@ pub fn policies_of(alloc: Global, row: Row) -> Result<Vec<Policy>, AllocError>
         Row::Kept => permitted_when(alloc, of_wrong_sum(alloc)?),
         Row::NonBool => permitted_when(alloc, unknown(alloc, "r")?),
         Row::Stored => permitted_when(alloc, of_even_number(alloc)?),
+        Row::Strict3 => skipped_forbid(alloc),
+        Row::StrictResidual => forbidden_in_context(alloc),
     }
 }
 

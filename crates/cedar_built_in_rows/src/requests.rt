@@ -25,6 +25,8 @@ pub fn request_of(alloc: Global, row: Row) -> Result<Request, Stop> {
         Row::Kept => Ok(in_empty_context(alloc)?),
         Row::NonBool => Ok(in_empty_context(alloc)?),
         Row::Stored => in_unknown_context(alloc, "n", "n"),
+        Row::Strict3 => Ok(in_empty_context(alloc)?),
+        Row::StrictResidual => in_unknown_context(alloc, "test", "name"),
     }
 }
 

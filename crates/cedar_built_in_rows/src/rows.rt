@@ -1,4 +1,5 @@
 //! The built-in rows.
+use cedar_authorizer::authorizer::ErrorHandling;
 
 /// A built-in row.
 #[derive(Debug, Clone, Copy, PartialEq, Eq)]
@@ -29,10 +30,14 @@ pub enum Row {
     NonBool,
     /// 1 permits when `even(context.n)`, and `n` is not known; a step says that it is 4.
     Stored,
+    /// As `Skip3`, where a forbid that errs forbids.
+    Strict3,
+    /// As `Residual`, where a forbid that errs forbids.
+    StrictResidual,
 }
 
 /// All rows, in the order in which they are printed.
-pub const ROWS: [Row; 12] = [
+pub const ROWS: [Row; 14] = [
     Row::Empty,
     Row::Skip2,
     Row::Skip3,
@@ -45,6 +50,8 @@ pub const ROWS: [Row; 12] = [
     Row::Kept,
     Row::NonBool,
     Row::Stored,
+    Row::Strict3,
+    Row::StrictResidual,
 ];
 
 impl Row {
@@ -63,6 +70,28 @@ impl Row {
             Row::Kept => "kept",
             Row::NonBool => "nonbool",
             Row::Stored => "stored",
+            Row::Strict3 => "strict3",
+            Row::StrictResidual => "strict-residual",
+        }
+    }
+
+    /// How the row's policies are decided where one errs.
+    pub fn error_handling(self) -> ErrorHandling {
+        match self {
+            Row::Empty => ErrorHandling::Skip,
+            Row::Skip2 => ErrorHandling::Skip,
+            Row::Skip3 => ErrorHandling::Skip,
+            Row::Skip4 => ErrorHandling::Skip,
+            Row::Residual => ErrorHandling::Skip,
+            Row::StepFalse => ErrorHandling::Skip,
+            Row::StepTrue => ErrorHandling::Skip,
+            Row::Early => ErrorHandling::Skip,
+            Row::Chain => ErrorHandling::Skip,
+            Row::Kept => ErrorHandling::Skip,
+            Row::NonBool => ErrorHandling::Skip,
+            Row::Stored => ErrorHandling::Skip,
+            Row::Strict3 => ErrorHandling::ForbidOnError,
+            Row::StrictResidual => ErrorHandling::ForbidOnError,
         }
     }
 }

@@ -63,6 +63,7 @@ pub fn context_refused(alloc: Global, error: &ContextCreationError) -> Stop {
 /// The stop at a step that is refused so.
 pub fn step_refused(alloc: Global, error: &ReauthorizationError) -> Stop {
     match error {
+        ReauthorizationError::ErrorHandlingConflict { .. } => refused(format!(in alloc; "{error}")),
         ReauthorizationError::PolicySetError(_) => refused(format!(in alloc; "{error}")),
         ReauthorizationError::ConcretizationError(_) => refused(format!(in alloc; "{error}")),
         ReauthorizationError::Memory(_) => Stop::Memory,

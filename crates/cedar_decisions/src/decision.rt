@@ -1,7 +1,8 @@
 //! A decision, and the rules by which it comes about.
-ghost use Rattle.std.specs.Prelude.{◌≡◌, ◌&&◌, cond, not, Some, option_map};
+ghost use Rattle.std.specs.Prelude.{◌≡◌, ◌&&◌, ◌||◌, cond, not, Some, option_map};
 ghost use Rattle.cedar_model.specs.Policies.{allow, deny};
-ghost use Rattle.cedar_decisions.specs.Decisions.{decision_view, decision_text, known_decision};
+ghost use Rattle.cedar_decisions.specs.Decisions.{decision_view, decision_text, known_decision, mode_view, forbids};
+ghost use Rattle.cedar_decisions.specs.declared.decision.ErrorHandling.TheVariants as modes;
 
 use std::fmt;
 
@@ -26,6 +27,24 @@ impl fmt::Display for Decision {
     }
 }
 
+/// How the errors of policies are handled.
+#[derive(Debug, Clone, Copy, PartialEq, Eq)]
+pub enum ErrorHandling {
+    /// A policy that errs is skipped: it neither permits nor forbids.
+    Skip,
+    /// A permit that errs is skipped, and a forbid that errs forbids.
+    ForbidOnError,
+}
+
+/// `Skip`.
+impl Default for ErrorHandling {
+    fn default() -> ErrorHandling
+        ensures { result ≡ modes.Skip }
+    {
+        ErrorHandling::Skip
+    }
+}
+
 /// The decision, where it is known, by whether there are such policies: `Deny` with a satisfied forbid, or where no permit is
 /// satisfied or residual; else none beside a residual forbid; else `Allow` with a satisfied permit; else none.
 pub fn decide(
@@ -46,13 +65,31 @@ pub fn decide(
     }
 }
 
-/// The decision where all that is left counts as an error: `Allow` where a permit is satisfied and no forbid is, and else `Deny`.
-pub fn decide_concretely(has_true_permit: bool, has_true_forbid: bool) -> Decision
-    ensures { decision_view result ≡ cond (has_true_permit && not has_true_forbid) allow deny }
+/// The decision where all that is left counts as an error: `Allow` where a permit is satisfied and no forbid is, and else `Deny`;
+/// where a forbid that errs forbids, a residual forbid denies too.
+pub fn decide_concretely(
+    mode: ErrorHandling,
+    true_permit: bool,
+    true_forbid: bool,
+    residual_forbid: bool,
+) -> Decision
+    ensures { decision_view result
+        ≡ cond (true_permit && not (forbids (mode_view mode) true_forbid residual_forbid)) allow deny }
 {
-    if has_true_permit && !has_true_forbid {
+    if true_permit && !forbids(mode, true_forbid, residual_forbid) {
         Decision::Allow
     } else {
         Decision::Deny
+    }
+}
+
+/// Whether something forbids where all that is left counts as an error: a satisfied forbid and, where a forbid that errs forbids,
+/// a residual one.
+pub fn forbids(mode: ErrorHandling, true_forbid: bool, residual_forbid: bool) -> bool
+    ensures { result ≡ forbids (mode_view mode) true_forbid residual_forbid }
+{
+    match mode {
+        ErrorHandling::Skip => true_forbid,
+        ErrorHandling::ForbidOnError => true_forbid || residual_forbid,
     }
 }

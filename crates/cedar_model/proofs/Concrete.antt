@@ -341,7 +341,7 @@ verdict_same forbid_on_error forbid (Responses.decides false) = refl
 verdict_same forbid_on_error forbid (Responses.errs_with e) = refl
 verdict_same forbid_on_error forbid (Responses.leaves t) = refl
 
-residual_same : (mode : ErrorHandling) (effect : Effect) (o : Reported)
+pub residual_same : (mode : ErrorHandling) (effect : Effect) (o : Reported)
     → is_residual (Responses.counted_report mode effect o) ≡ is_residual o
 unfolding is_residual Responses.counted_report
 residual_same skip effect o = refl

@@ -2,8 +2,9 @@
 use Rattle.std.specs.Prelude.{◌≡◌, ◌≢◌, Option, Some, None, option_map, Result, Ok, Err}
 use Rattle.std.specs.Rc.{rc_str_bytes}
 use Rattle.cedar_model.specs.Failures.{recursion_limit, out_of_memory}
-use Rattle.cedar_model.specs.Refusals.{Refusal, id_comes_again, value_is_wrong, is_there_already, type_is_other}
-use Rattle.cedar_model.specs.Refusals.{context_fails}
+use Rattle.cedar_model.specs.Refusals.{Refusal, mode_is_other, id_comes_again, value_is_wrong, is_there_already}
+use Rattle.cedar_model.specs.Refusals.{type_is_other, context_fails}
+use Rattle.cedar_decisions.specs.Decisions.{mode_view}
 use Rattle.cedar_names.specs.Names.{type_text}
 use Rattle.cedar_data.specs.Residuals.{partial_view}
 use Rattle.cedar_layers.specs.declared.policies.policy_set.PolicySetError.{PolicySetError}
@@ -29,6 +30,8 @@ refusal_of (concretizations.ValueEval e) = Some (context_fails (failure_of e))
 refusal_of (concretizations.Memory e) = None
 
 abbrev pub step_refusal : ReauthorizationError → Option Refusal
+step_refusal (reauthorizations.ErrorHandlingConflict response authorizer) =
+    Some (mode_is_other (mode_view response) (mode_view authorizer))
 step_refusal (reauthorizations.PolicySetError e) = option_map id_comes_again (occupied_id e)
 step_refusal (reauthorizations.ConcretizationError e) = refusal_of e
 step_refusal (reauthorizations.Memory e) = None
@@ -55,6 +58,7 @@ IsUnwrappedRefusal e = refusal_of e ≢ Some (context_fails out_of_memory)
 
 -- an error of a step is want of memory itself, or holds none
 abbrev pub IsUnwrapped : ReauthorizationError → Type 0
+IsUnwrapped (reauthorizations.ErrorHandlingConflict response authorizer) = Unit {0}
 IsUnwrapped (reauthorizations.PolicySetError e) = IsNotForMemory (option_map id_comes_again (occupied_id e))
 IsUnwrapped (reauthorizations.ConcretizationError e) = IsNotForMemory (refusal_of e)
 IsUnwrapped (reauthorizations.Memory e) = Unit {0}
@@ -86,6 +90,7 @@ IsPolicyRefusal (sets.Memory e) r = r ≡ reauthorizations.Memory e
 
 -- and one of the request, from which want of memory is also taken where the evaluation of the context holds it
 abbrev pub IsRequestRefusal : ConcretizationError → ReauthorizationError → Type 0
+IsRequestRefusal e (reauthorizations.ErrorHandlingConflict response authorizer) = ⊥
 IsRequestRefusal e (reauthorizations.PolicySetError p) = ⊥
 IsRequestRefusal e (reauthorizations.ConcretizationError f) = (f ≡ e) × IsNotForMemory (refusal_of f)
 IsRequestRefusal e (reauthorizations.Memory m) = IsForMemory (refusal_of e)

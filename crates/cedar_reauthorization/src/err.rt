@@ -5,6 +5,7 @@ ghost use Rattle.cedar_reauthorization.specs.declared.err.ConcretizationError.Th
 ghost use Rattle.cedar_reauthorization.specs.declared.err.ReauthorizationError.TheVariants as reauthorizations;
 
 use cedar_data::{PartialValue, Value};
+use cedar_decisions::ErrorHandling;
 use cedar_layers::policies::PolicySetError;
 use cedar_names::EntityType;
 use cedar_values::evaluator::err::EvaluationError;
@@ -56,6 +57,14 @@ pub enum ConcretizationError {
 /// Why a partial response was not taken further.
 #[derive(Debug, Drop, Error)]
 pub enum ReauthorizationError {
+    /// The response and the authorizer handle errors in different ways. It stands at no place.
+    #[error("the response and the authorizer have different error handling modes")]
+    ErrorHandlingConflict {
+        /// The response's.
+        response: ErrorHandling,
+        /// The authorizer's.
+        authorizer: ErrorHandling,
+    },
     /// Two of its policies have one id.
     #[error(transparent)]
     PolicySetError(PolicySetError),

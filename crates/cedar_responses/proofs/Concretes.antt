@@ -8,17 +8,19 @@ use Rattle.cedar_model.specs.Failures.{Failure, residual_is_left}
 use Rattle.cedar_model.specs.Policies as model
 use Rattle.cedar_model.specs.Policies.{Effect, permit, forbid, allow, deny, ErrorHandling, skip, forbid_on_error}
 use Rattle.cedar_model.specs.Responses.{Row, clause_of}
-use Rattle.cedar_model.specs.Reports.{some_row, ids, trues, residuals, must_determine, residual_error, concretized}
+use Rattle.cedar_model.specs.Reports.{some_row, ids, trues, residuals, residual_error, concretized}
 use Rattle.cedar_model.specs.Reports.{concrete_decision, concrete_reasons, HaveNoResidual}
 use Rattle.cedar_model.proofs.Concrete.{concrete_is_defined}
 use Rattle.cedar_names.specs.declared.names.Loc.{Loc}
 use Rattle.cedar_expressions.specs.View.{view, expr_loc}
 use Rattle.cedar_layers.specs.Policies.{policy_id_text}
 use Rattle.cedar_responses.specs.declared.partial_response.PartialResponse.{PartialResponse}
-use Rattle.cedar_responses.specs.Rows.{ResidualEntry, residual_rows, rows_in, locs_in, located_view, rows_view}
-use Rattle.cedar_responses.specs.Concrete.{id_texts, errors_left, places_left, places_with}
+use Rattle.cedar_decisions.specs.Decisions.{forbids}
+use Rattle.cedar_responses.specs.Readers.{entry_ids}
+use Rattle.cedar_responses.specs.Rows.{ResidualEntry, residual_rows, rows_in, locs_in, mode_of, located_view, rows_view}
+use Rattle.cedar_responses.specs.Concrete.{id_texts, reason_texts, errors_left, places_left, places_with}
 use Rattle.cedar_responses.specs.Promises.{IsDecidedByPolicies}
-use Rattle.cedar_responses.proofs.Naming.{ids_of_trues}
+use Rattle.cedar_responses.proofs.Naming.{ids_of_trues, ids_of_residuals, ids_append}
 use Rattle.cedar_responses.proofs.Rows.{residual_permits, residual_forbids, trues_permit, trues_forbid, residuals_permit, residuals_forbid}
 
 -- what holds of an answer, where it is this one
@@ -50,13 +52,29 @@ ids_if true xs ys ts us h g = h
 ids_if false xs ys ts us h g = g
 
 module _ (r : PartialResponse) where
-  must_ids : (m : Bool) → m ≡ (some_row (trues forbid (rows_view r)) || some_row (residuals forbid (rows_view r)))
-      → cond m (id_texts r.satisfied_forbids.entries) (id_texts r.satisfied_permits.entries) ≡ ids (must_determine (rows_view r))
-  must_ids m h =
-      sym (ids_if m (trues forbid (rows_view r)) (trues permit (rows_view r)) _ _
-      (ap ids (trues_forbid r) ∙ ids_of_trues forbid r.satisfied_forbids.entries)
-      (ap ids (trues_permit r) ∙ ids_of_trues permit r.satisfied_permits.entries))
-      ∙ ap (λ b. ids (cond b (trues forbid (rows_view r)) (trues permit (rows_view r)))) h
+  abbrev rows : List Row
+  rows = rows_view r
+
+  reason_ids : (mode : ErrorHandling) (m : Bool) → m ≡ (some_row (trues forbid rows) || some_row (residuals forbid rows))
+      → reason_texts mode m (id_texts r.satisfied_permits.entries) (id_texts r.satisfied_forbids.entries) (entry_ids r.residual_forbids.entries)
+      ≡ ids (concrete_reasons mode rows)
+  reason_ids skip m h =
+      by m ∙ ap (λ b. ids (cond b (trues forbid rows) (trues permit rows))) h
+    where
+      by : (b : Bool) → reason_texts skip b (id_texts r.satisfied_permits.entries) (id_texts r.satisfied_forbids.entries) (entry_ids r.residual_forbids.entries)
+          ≡ ids (cond b (trues forbid rows) (trues permit rows))
+      by true = sym (ap ids (trues_forbid r) ∙ ids_of_trues forbid r.satisfied_forbids.entries)
+      by false = sym (ap ids (trues_permit r) ∙ ids_of_trues permit r.satisfied_permits.entries)
+  reason_ids forbid_on_error m h =
+      by m ∙ ap (λ b. ids (cond b (trues forbid rows ++ residuals forbid rows) (trues permit rows))) h
+    where
+      by : (b : Bool) → reason_texts forbid_on_error b (id_texts r.satisfied_permits.entries) (id_texts r.satisfied_forbids.entries) (entry_ids r.residual_forbids.entries)
+          ≡ ids (cond b (trues forbid rows ++ residuals forbid rows) (trues permit rows))
+      by true =
+          sym (ids_append (trues forbid rows) (residuals forbid rows)
+          ∙ (λ i. ids (trues_forbid r i) ++ ids (residuals_forbid r i))
+          ∙ (λ i. ids_of_trues forbid r.satisfied_forbids.entries i ++ ids_of_residuals forbid r.residual_forbids.entries i))
+      by false = sym (ap ids (trues_permit r) ∙ ids_of_trues permit r.satisfied_permits.entries)
 
   left_errors : (recorded : List (Text × Failure)) → errors_left r.residual_forbids.entries ++ (errors_left r.residual_permits.entries ++ recorded)
       ≡ map residual_error (residuals forbid (rows_view r)) ++ (map residual_error (residuals permit (rows_view r)) ++ recorded)
@@ -64,20 +82,17 @@ module _ (r : PartialResponse) where
       sym ((λ i. map residual_error (residuals_forbid r i) ++ (map residual_error (residuals_permit r i) ++ recorded))
       ∙ (λ i. errors_of_residuals forbid r.residual_forbids.entries i ++ (errors_of_residuals permit r.residual_permits.entries i ++ recorded)))
 
-  pub concrete : (p f m : Bool) (d : model.Decision) (reason : Text → Bool) (recorded errors : List (Text × Failure))
-      → p ≡ some_row (trues permit (rows_view r)) → f ≡ some_row (trues forbid (rows_view r))
-      → m ≡ (some_row (trues forbid (rows_view r)) || some_row (residuals forbid (rows_view r)))
-      → d ≡ cond (p && not f) allow deny
-      → reason ≡ (λ t. has_text t (cond m (id_texts r.satisfied_forbids.entries) (id_texts r.satisfied_permits.entries)))
+  pub concrete : (m : Bool) (d : model.Decision) (reason : Text → Bool) (recorded errors : List (Text × Failure))
+      → m ≡ (some_row (trues forbid rows) || some_row (residuals forbid rows))
+      → d ≡ concrete_decision (mode_of r) rows
+      → reason ≡ (λ t. has_text t (reason_texts (mode_of r) m (id_texts r.satisfied_permits.entries) (id_texts r.satisfied_forbids.entries) (entry_ids r.residual_forbids.entries)))
       → errors ≡ errors_left r.residual_forbids.entries ++ (errors_left r.residual_permits.entries ++ recorded)
-      → record { decided_as = d; is_reason = reason; errors = errors } ≡ concretized skip (rows_view r) recorded
-  concrete p f m d reason recorded errors hp hf hm hd hr he =
-      let a : d ≡ cond (some_row (trues permit (rows_view r)) && not (some_row (trues forbid (rows_view r)))) allow deny =
-      hd ∙ (λ i. cond (hp i && not (hf i)) allow deny) in
-      let b : reason ≡ (λ (t : Text). has_text t (ids (must_determine (rows_view r)))) =
-      hr ∙ (λ i t. has_text t (must_ids m hm i)) in
+      → record { decided_as = d; is_reason = reason; errors = errors } ≡ concretized (mode_of r) rows recorded
+  concrete m d reason recorded errors hm hd hr he =
+      let b : reason ≡ (λ (t : Text). has_text t (ids (concrete_reasons (mode_of r) rows))) =
+      hr ∙ (λ i t. has_text t (reason_ids (mode_of r) m hm i)) in
       let c = he ∙ left_errors recorded in
-      λ i. record { decided_as = a i; is_reason = b i; errors = c i }
+      λ i. record { decided_as = hd i; is_reason = b i; errors = c i }
 
   pub concrete_at : (recorded places : List (Option Loc)) → places ≡ places_left r.residual_forbids.entries ++ (places_left r.residual_permits.entries ++ recorded)
       → places ≡ places_with (located_view r) recorded
@@ -110,9 +125,16 @@ reasons_alike forbid_on_error rows none =
     ap (λ rs. cond (some_row (trues forbid rows) || some_row (residuals forbid rows)) rs (trues permit rows))
     (sym (ap (λ rs. trues forbid rows ++ rs) none.1 ∙ append-nil (trues forbid rows)))
 
-pub decided_by_policies : (rows : List Row) (errors : List (Text × Failure)) → IsDecidedByPolicies rows (concretized skip rows errors)
-decided_by_policies rows errors none mode X ans w ps stand =
+pub decided_by_policies : (own : ErrorHandling) (rows : List Row) (errors : List (Text × Failure)) → IsDecidedByPolicies rows (concretized own rows errors)
+decided_by_policies own rows errors none mode X ans w ps stand =
     let h = concrete_is_defined mode X ans w ps rows stand none in (
-      decision_alike mode rows none ∙ h.0,
-      λ t. ap (λ rs. has_text t (ids rs)) (reasons_alike mode rows none) ∙ h.1 t,
+      sym (decision_alike own rows none) ∙ decision_alike mode rows none ∙ h.0,
+      λ t. ap (λ rs. has_text t (ids rs)) (sym (reasons_alike own rows none) ∙ reasons_alike mode rows none) ∙ h.1 t,
     )
+
+-- the concrete decision by whether there are such rows
+pub decided_concretely : (mode : ErrorHandling) (rows : List Row) (d : model.Decision) (p f g : Bool)
+    → p ≡ some_row (trues permit rows) → f ≡ some_row (trues forbid rows) → g ≡ some_row (residuals forbid rows)
+    → d ≡ cond (p && not (forbids mode f g)) allow deny → d ≡ concrete_decision mode rows
+decided_concretely skip rows d p f g hp hf hg h = h ∙ (λ i. cond (hp i && not (hf i)) allow deny)
+decided_concretely forbid_on_error rows d p f g hp hf hg h = h ∙ (λ i. cond (hp i && not (hf i || hg i)) allow deny)

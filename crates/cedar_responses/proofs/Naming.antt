@@ -29,7 +29,7 @@ pub ids_of_trues : (e : Effect) (es : List TrueEntry) → ids (rows_in (true_row
 ids_of_trues e [] = refl
 ids_of_trues e (x ∷ xs) = ap (λ ts. policy_id_text x.0 ∷ ts) (ids_of_trues e xs)
 
-ids_append : (xs ys : List Row) → ids (xs ++ ys) ≡ ids xs ++ ids ys
+pub ids_append : (xs ys : List Row) → ids (xs ++ ys) ≡ ids xs ++ ids ys
 ids_append xs ys = map-append (λ (r : Row). r.id) xs ys
 
 ids_of_errored : (e : Effect) → has_effect e e ≡ true → (es : List FalseEntry) → ids (rows_in (located_of e is_errored (false_rows e es))) ≡ errored_ids es

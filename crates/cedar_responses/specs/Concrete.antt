@@ -1,8 +1,8 @@
 -- What a partial response is made of once it is made concrete.
-use Rattle.std.specs.Prelude.{◌≡◌, List, ◌++◌, map, Option}
+use Rattle.std.specs.Prelude.{◌≡◌, Bool, true, false, List, ◌++◌, map, Option}
 use Rattle.cedar_model.specs.Terms.{Text}
 use Rattle.cedar_model.specs.Failures.{Failure, residual_is_left}
-use Rattle.cedar_model.specs.Policies.{permit, forbid, skip}
+use Rattle.cedar_model.specs.Policies.{permit, forbid, ErrorHandling, skip, forbid_on_error}
 use Rattle.cedar_model.specs.Chains.{is_residual}
 use Rattle.cedar_model.specs.Authorizations.{Authorized}
 use Rattle.cedar_model.specs.Reports.{concretized}
@@ -15,10 +15,17 @@ use Rattle.cedar_responses.specs.declared.response.Response.{Response}
 use Rattle.cedar_responses.specs.Promises.{KeepsDecision, IsDecidedByPolicies}
 use Rattle.cedar_responses.specs.Responses.{errors_view, error_places, response_view, response_places}
 use Rattle.cedar_responses.specs.Rows.{TrueEntry, ResidualEntry, Located, locs_in, located_of, located_view, rows_view}
+use Rattle.cedar_responses.specs.Rows.{mode_of}
 
 -- the ids of entries
 abbrev pub id_texts : List TrueEntry → List Text
 id_texts es = map (λ e. policy_id_text e.0) es
+
+-- the ids of reasons, of true permits, true forbids and residual forbids, by whether there is a true or a residual forbid
+abbrev pub reason_texts : ErrorHandling → Bool → List Text → List Text → List Text → List Text
+reason_texts mode false permits forbids residuals = permits
+reason_texts skip true permits forbids residuals = forbids
+reason_texts forbid_on_error true permits forbids residuals = forbids ++ residuals
 
 -- that their residuals are left
 abbrev pub errors_left : List ResidualEntry → List (Text × Failure)
@@ -35,7 +42,7 @@ places_with ls recorded =
 
 -- what a partial response is made concrete as: each residual counts as an error
 abbrev pub concrete_response : PartialResponse → Authorized
-concrete_response p = concretized skip (rows_view p) (errors_view p.errors.items)
+concrete_response p = concretized (mode_of p) (rows_view p) (errors_view p.errors.items)
 
 -- where its errors arise: at the residual forbids, at the residual permits, and where those recorded do
 abbrev pub concrete_places : PartialResponse → List (Option Loc)

@@ -6,7 +6,7 @@ use Rattle.cedar_responses.specs.declared.response.Diagnostics.{Diagnostics}
 use Rattle.cedar_responses.specs.declared.response.Response.{Response}
 use Rattle.cedar_responses.specs.Responses.{has_id, errors_view, error_places, response_view, response_places}
 use Rattle.cedar_responses.specs.Rows.{TrueEntry, FalseEntry, ResidualEntry, true_rows, false_rows, residual_rows}
-use Rattle.cedar_responses.specs.Rows.{located_view}
+use Rattle.cedar_responses.specs.Rows.{mode_of, located_view}
 
 -- the same ids as reasons, and in order the same errors: the ids of their policies, their kinds and fields, and their places
 pub record IsCopyOfDiagnostics (d copy : Diagnostics) : Type 0 where
@@ -19,8 +19,9 @@ pub record IsCopyOfResponse (r copy : Response) : Type 0 where
   pub response : response_view copy ≡ response_view r
   pub places : response_places copy ≡ response_places r
 
--- the same rows with their residuals whole, errors, places of these and request
+-- the same way to handle errors, rows with their residuals whole, errors, places of these and request
 pub record IsCopyOfPartialResponse (r copy : PartialResponse) : Type 0 where
+  pub mode : mode_of copy ≡ mode_of r
   pub rows : located_view copy ≡ located_view r
   pub errors : errors_view copy.errors.items ≡ errors_view r.errors.items
   pub places : error_places copy.errors.items ≡ error_places r.errors.items

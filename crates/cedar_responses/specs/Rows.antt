@@ -4,9 +4,10 @@ use Rattle.std.specs.Prelude.{Bool, true, false, cond, ◌&&◌, List, [], ◌�
 use Rattle.std.specs.declared.alloc.Global.{Global}
 use Rattle.std.specs.declared.rc.Rc.{Rc}
 use Rattle.cedar_model.specs.Terms.{Text}
-use Rattle.cedar_model.specs.Policies.{Effect, permit, forbid}
+use Rattle.cedar_model.specs.Policies.{Effect, permit, forbid, ErrorHandling}
 use Rattle.cedar_model.specs.Responses.{Reported, reported_true, reported_false, reported_residual, Row}
 use Rattle.cedar_model.specs.Chains.{has_effect}
+use Rattle.cedar_decisions.specs.Decisions.{mode_view}
 use Rattle.cedar_names.specs.declared.names.Loc.{Loc}
 use Rattle.cedar_expressions.specs.declared.expr.Expr.{Expr}
 use Rattle.cedar_expressions.specs.View.{view, expr_loc}
@@ -88,6 +89,10 @@ rows_in ls = map (λ l. l.row) ls
 
 abbrev pub locs_in : List Located → List (Option Loc)
 locs_in ls = map clause_loc ls
+
+-- how errors are handled in a response
+abbrev pub mode_of : PartialResponse → ErrorHandling
+mode_of r = mode_view r.error_handling
 
 -- the rows of a response
 abbrev pub rows_view : PartialResponse → List Row

@@ -2,8 +2,9 @@
 use Rattle.std.specs.Prelude.{List, [], ◌∷◌, ◌++◌, Option, None, Some}
 use Rattle.cedar_model.specs.Terms.{Text}
 use Rattle.cedar_model.specs.Failures.{Failure}
-use Rattle.cedar_model.specs.Policies.{permit, forbid}
-use Rattle.cedar_model.specs.Responses.{Decided, decides, leaves, errs_with, reported_of, error_of, with_error}
+use Rattle.cedar_model.specs.Policies.{permit, forbid, ErrorHandling}
+use Rattle.cedar_model.specs.Responses.{Decided, decides, leaves, errs_with, reported_of, counted_report, error_of}
+use Rattle.cedar_model.specs.Responses.{with_error}
 use Rattle.cedar_model.specs.Chains.{is_true, is_false, is_residual}
 use Rattle.cedar_expressions.specs.declared.expr.Expr.{Expr}
 use Rattle.cedar_expressions.specs.View.{view}
@@ -27,8 +28,10 @@ outcome_residual (outcomes.Residual e) = Some e.value
 outcome_residual (outcomes.Failed e) = None
 
 -- the row of a policy whose condition came out so
-abbrev pub placed_row : PolicyView → Outcome → Located
-placed_row p o = located p.effect p.id p.annotations (reported_of (outcome_view o)) (outcome_residual o)
+abbrev pub placed_row : ErrorHandling → PolicyView → Outcome → Located
+placed_row mode p o =
+    located p.effect p.id p.annotations (counted_report mode p.effect (reported_of (outcome_view o)))
+    (outcome_residual o)
 
 -- rows by effect and report, and the errors
 pub record Noted : Type 0 where
@@ -87,5 +90,5 @@ noted_also s l e = record {
 }
 
 -- what is noted once the condition of one more policy came out so
-abbrev pub noting : Noted → PolicyView → Outcome → Noted
-noting s p o = noted_also s (placed_row p o) (error_of (outcome_view o))
+abbrev pub noting : ErrorHandling → Noted → PolicyView → Outcome → Noted
+noting mode s p o = noted_also s (placed_row mode p o) (error_of (outcome_view o))

@@ -9,7 +9,7 @@ mod response;
 pub mod shared;
 mod sheet;
 
-pub use cedar_decisions::Decision;
+pub use cedar_decisions::{Decision, ErrorHandling};
 pub use err::AuthorizationError;
 pub use partial_response::{ErrorState, PartialResponse, ReportedIds, ReportedPolicies};
 pub use response::{Diagnostics, Response};

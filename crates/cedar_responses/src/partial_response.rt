@@ -1,11 +1,11 @@
 //! What is answered to a request of which parts are unknown.
 ghost use Rattle.std.specs.Prelude.{◌≡◌, ◌||◌, cond, not, Some, None, IfOk, IfSome, option_map};
 ghost use Rattle.std.specs.Iterator.{IsFinite};
-ghost use Rattle.cedar_model.specs.Policies.{permit, forbid, allow, deny};
-ghost use Rattle.cedar_model.specs.Reports.{some_row, trues, residuals, given_decision};
+ghost use Rattle.cedar_model.specs.Policies.{permit, forbid, allow, deny, skip};
+ghost use Rattle.cedar_model.specs.Reports.{some_row, trues, residuals, given_decision, concrete_decision};
 ghost use Rattle.cedar_responses.specs.Kept.{Keeps, Gives};
-ghost use Rattle.cedar_decisions.specs.Decisions.{decision_view};
-ghost use Rattle.cedar_responses.specs.Rows.{rows_view};
+ghost use Rattle.cedar_decisions.specs.Decisions.{decision_view, mode_view};
+ghost use Rattle.cedar_responses.specs.Rows.{mode_of, rows_view};
 ghost use Rattle.cedar_responses.specs.Promises.{IsDecisionOf};
 
 mod concrete;
@@ -17,7 +17,7 @@ mod policies;
 
 use crate::beside::beside;
 use crate::err::AuthorizationError;
-use cedar_decisions::{Decision, decide};
+use cedar_decisions::{Decision, ErrorHandling, decide, decide_concretely};
 use cedar_expressions::Expr;
 use cedar_layers::policies::{Annotations, PolicyID};
 use cedar_requests::Request;
@@ -37,7 +37,7 @@ pub enum ErrorState {
 }
 
 /// What is known of each policy, where parts of a request or of the store are unknown: whether it is satisfied, or what is left of
-/// its condition. The maps keep the order in which the policies were decided.
+/// its condition; and how errors are handled. The maps keep the order in which the policies were decided.
 #[derive(Debug, Drop)]
 pub struct PartialResponse {
     /// The permits that are satisfied.
@@ -56,10 +56,11 @@ pub struct PartialResponse {
     pub errors: Vec<AuthorizationError>,
     /// The request.
     pub request: Rc<Request>,
+    error_handling: ErrorHandling,
 }
 
 impl PartialResponse {
-    /// The response of these policies and errors. An id that comes again within one of the six keeps its first place and takes its
+    /// The response of these policies and errors, where errors are skipped. An id that comes again within one of the six keeps its first place and takes its
     /// last value. Each iterator must come to an end. Refuses only for want of memory.
     pub fn new<
         TP: Iterator<Item = (PolicyID, Rc<Annotations>)> + Drop,
@@ -95,6 +96,59 @@ impl PartialResponse {
         ensures residual_forbids { IfOk result (λ r. Keeps RF.next_gives residual_forbids r.residual_forbids.entries) }
         ensures errors { IfOk result (λ r. Gives E.next_gives errors r.errors.items) }
         ensures request { IfOk result (λ r. r.request ≡ request) }
+        ensures mode { IfOk result (λ r. mode_of r ≡ skip) }
+    {
+        PartialResponse::new_in_mode(
+            alloc,
+            ErrorHandling::Skip,
+            true_permits,
+            false_permits,
+            residual_permits,
+            true_forbids,
+            false_forbids,
+            residual_forbids,
+            errors,
+            request,
+        )
+    }
+
+    /// The same, where errors are handled so.
+    pub fn new_in_mode<
+        TP: Iterator<Item = (PolicyID, Rc<Annotations>)> + Drop,
+        FP: Iterator<Item = (PolicyID, (ErrorState, Rc<Annotations>))> + Drop,
+        RP: Iterator<Item = (PolicyID, (Rc<Expr>, Rc<Annotations>))> + Drop,
+        TF: Iterator<Item = (PolicyID, Rc<Annotations>)> + Drop,
+        FF: Iterator<Item = (PolicyID, (ErrorState, Rc<Annotations>))> + Drop,
+        RF: Iterator<Item = (PolicyID, (Rc<Expr>, Rc<Annotations>))> + Drop,
+        E: Iterator<Item = AuthorizationError> + Drop,
+    >(
+        alloc: Global,
+        mode: ErrorHandling,
+        true_permits: TP,
+        false_permits: FP,
+        residual_permits: RP,
+        true_forbids: TF,
+        false_forbids: FF,
+        residual_forbids: RF,
+        errors: E,
+        request: Rc<Request>,
+    ) -> Result<PartialResponse, AllocError>
+        requires true_permits { TP.can_next true_permits × IsFinite (TP.remaining true_permits) }
+        requires false_permits { FP.can_next false_permits × IsFinite (FP.remaining false_permits) }
+        requires residual_permits { RP.can_next residual_permits × IsFinite (RP.remaining residual_permits) }
+        requires true_forbids { TF.can_next true_forbids × IsFinite (TF.remaining true_forbids) }
+        requires false_forbids { FF.can_next false_forbids × IsFinite (FF.remaining false_forbids) }
+        requires residual_forbids { RF.can_next residual_forbids × IsFinite (RF.remaining residual_forbids) }
+        requires errors { E.can_next errors × IsFinite (E.remaining errors) }
+        ensures true_permits { IfOk result (λ r. Keeps TP.next_gives true_permits r.satisfied_permits.entries) }
+        ensures false_permits { IfOk result (λ r. Keeps FP.next_gives false_permits r.false_permits.entries) }
+        ensures residual_permits { IfOk result (λ r. Keeps RP.next_gives residual_permits r.residual_permits.entries) }
+        ensures true_forbids { IfOk result (λ r. Keeps TF.next_gives true_forbids r.satisfied_forbids.entries) }
+        ensures false_forbids { IfOk result (λ r. Keeps FF.next_gives false_forbids r.false_forbids.entries) }
+        ensures residual_forbids { IfOk result (λ r. Keeps RF.next_gives residual_forbids r.residual_forbids.entries) }
+        ensures errors { IfOk result (λ r. Gives E.next_gives errors r.errors.items) }
+        ensures request { IfOk result (λ r. r.request ≡ request) }
+        ensures mode { IfOk result (λ r. mode_of r ≡ mode_view mode) }
     {
         let (request, permits) = beside(
             request,
@@ -117,11 +171,19 @@ impl PartialResponse {
             residual_forbids: forbids.residual,
             errors,
             request,
+            error_handling: mode,
         })
     }
 }
 
 impl PartialResponse {
+    /// How errors are handled.
+    pub fn error_handling(&self) -> ErrorHandling
+        ensures { mode_view result ≡ mode_of self.now }
+    {
+        self.error_handling
+    }
+
     /// The decision, where it is known: `Deny` with a satisfied forbid, or where no permit is satisfied or residual; else none
     /// beside a residual forbid; else `Allow` with a satisfied permit; else none. A decision that is given is that of the policies
     /// in every world in which what is reported of them stands.
@@ -167,6 +229,18 @@ impl PartialResponse {
             || some_row (residuals forbid (rows_view self.now))) }
     {
         self.has_true_forbid() || self.has_residual_forbid()
+    }
+
+    // The decision where each residual counts as an error.
+    fn concrete_decision(&self) -> Decision
+        ensures { decision_view result ≡ concrete_decision (mode_of self.now) (rows_view self.now) }
+    {
+        decide_concretely(
+            self.error_handling,
+            self.has_true_permit(),
+            self.has_true_forbid(),
+            self.has_residual_forbid(),
+        )
     }
 }
 

@@ -1,6 +1,7 @@
 //! What an authorization notes of its policies, before a response is made of it.
 ghost use Rattle.std.specs.Prelude.{◌≡◌, true, false, Some, None, OnOk};
-ghost use Rattle.cedar_model.specs.Responses.{reported_true, reported_false, reported_residual};
+ghost use Rattle.cedar_model.specs.Responses.{reported_true, reported_false, reported_residual, counted_report};
+ghost use Rattle.cedar_decisions.specs.Decisions.{mode_view};
 ghost use Rattle.cedar_expressions.specs.View.{view};
 ghost use Rattle.cedar_layers.specs.Policies.{policy_view, effect_view, policy_id_text, annotations_view};
 ghost use Rattle.cedar_values.specs.Failures.{failure_of};
@@ -10,6 +11,7 @@ ghost use Rattle.cedar_responses.specs.Sheets.{sheet_view, nothing_noted, noted_
 use crate::beside::{add_last, beside};
 use crate::err::AuthorizationError;
 use crate::partial_response::ErrorState;
+use cedar_decisions::ErrorHandling;
 use cedar_expressions::Expr;
 use cedar_layers::policies::{Annotations, Effect, Policy, PolicyID};
 use cedar_values::evaluator::err::EvaluationError;
@@ -62,10 +64,17 @@ impl Sheet {
         }
     }
 
-    /// Notes how one more policy came out; where it erred, it is false, and its error is noted too. Refuses only for want of memory.
+    /// Notes how one more policy came out; where it erred, its error is noted too, and it is false, but that a forbid is satisfied
+    /// where one that errs forbids. Refuses only for want of memory.
     #[tactic(auto, unfolding(cedar_model::specs::Responses::reported_of, cedar_model::specs::Responses::error_of))]
-    pub fn place(&mut self, policy: &Policy, outcome: Outcome) -> Result<(), AllocError>
-        ensures { OnOk result (sheet_view self.new ≡ noting (sheet_view self.old) (policy_view policy.now) outcome) }
+    pub fn place(
+        &mut self,
+        mode: ErrorHandling,
+        policy: &Policy,
+        outcome: Outcome,
+    ) -> Result<(), AllocError>
+        ensures { OnOk result (sheet_view self.new
+            ≡ noting (mode_view mode) (sheet_view self.old) (policy_view policy.now) outcome) }
     {
         let (outcome, id) = beside(outcome, policy.id().clone())?;
         let ((outcome, id), annotations) = beside((outcome, id), policy.annotations_rc().clone())?;
@@ -73,7 +82,13 @@ impl Sheet {
             Outcome::Decided(true) => self.note_true(policy.effect(), id, annotations),
             Outcome::Decided(false) => self.note_false(policy.effect(), id, annotations),
             Outcome::Residual(expr) => self.note_residual(policy.effect(), id, expr, annotations),
-            Outcome::Failed(error) => self.note_error(policy.effect(), id, error, annotations),
+            Outcome::Failed(error) => self.note_error(
+                mode,
+                policy.effect(),
+                id,
+                error,
+                annotations,
+            ),
         }
     }
 
@@ -142,9 +157,10 @@ impl Sheet {
     }
 
     // An erring policy.
-    #[tactic(auto, unfolding(cedar_model::specs::Responses::reported_of, cedar_model::specs::Responses::error_of, cedar_model::specs::Responses::with_error, cedar_model::specs::Chains::has_effect, cedar_model::specs::Chains::is_true, cedar_model::specs::Chains::is_false, cedar_model::specs::Chains::is_residual, crate::specs::Rows::located_of))]
+    #[tactic(auto, unfolding(cedar_model::specs::Responses::reported_of, cedar_model::specs::Responses::error_of, cedar_model::specs::Responses::with_error, cedar_model::specs::Chains::has_effect, cedar_model::specs::Chains::is_true, cedar_model::specs::Chains::is_false, cedar_model::specs::Chains::is_residual, crate::specs::Rows::located_of, cedar_model::specs::Responses::counted_report))]
     fn note_error(
         &mut self,
+        mode: ErrorHandling,
         effect: Effect,
         id: PolicyID,
         error: EvaluationError,
@@ -152,22 +168,26 @@ impl Sheet {
     ) -> Result<(), AllocError>
         ensures { OnOk result (sheet_view self.new ≡ noted_also (sheet_view self.old)
             (located (effect_view effect) (policy_id_text id) (annotations_view annotations.value)
-            (reported_false true) None) (Some (failure_of error))) }
+            (counted_report (mode_view mode) (effect_view effect) (reported_false true)) None)
+            (Some (failure_of error))) }
     {
         let (error, erring) = beside(error, id.clone())?;
         add_last(
             &mut self.errors,
             AuthorizationError::PolicyEvaluationError { id: erring, error },
         )?;
-        match effect {
-            Effect::Permit => add_last(
+        match (effect, mode) {
+            (Effect::Permit, _) => add_last(
                 &mut self.false_permits,
                 (id, (ErrorState::Error, annotations)),
             )?,
-            Effect::Forbid => add_last(
+            (Effect::Forbid, ErrorHandling::Skip) => add_last(
                 &mut self.false_forbids,
                 (id, (ErrorState::Error, annotations)),
             )?,
+            (Effect::Forbid, ErrorHandling::ForbidOnError) => {
+                add_last(&mut self.true_forbids, (id, annotations))?
+            }
         }
         Ok(())
     }

@@ -64,6 +64,7 @@ impl From<ExtensionInitializationError> for Stop {
 impl From<ReauthorizationError> for Stop {
     fn from(error: ReauthorizationError) -> Stop {
         match error {
+            ReauthorizationError::ErrorHandlingConflict { .. } => Stop::Step,
             ReauthorizationError::PolicySetError(error) => Stop::from(error),
             ReauthorizationError::ConcretizationError(error) => {
                 drop(error);

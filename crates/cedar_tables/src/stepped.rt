@@ -351,6 +351,7 @@ fn put_asked(answer: &mut Answer, asked: &str, response: &PartialResponse) {
 
 fn refusal(error: &ReauthorizationError) -> &'static str {
     match error {
+        ReauthorizationError::ErrorHandlingConflict { .. } => "ErrorHandlingConflict",
         ReauthorizationError::PolicySetError(_) => "PolicySetError",
         ReauthorizationError::ConcretizationError(error) => match error {
             ConcretizationError::ValueError { .. } => "ValueError",

@@ -1,15 +1,17 @@
 //! Reauthorization: a response taken further, by values for its unknowns and another store.
-ghost use Rattle.std.specs.Prelude.{◌≡◌, ◌≢◌, Option, Some, IfOk, IfErr, IfSome};
-ghost use Rattle.cedar_model.specs.Chains.{Response, is_limit, has_limit};
+ghost use Rattle.std.specs.Prelude.{◌≡◌, ◌≢◌, true, Option, Some, IfOk, IfErr, IfSome};
+ghost use Rattle.cedar_model.specs.Chains.{Response, is_limit, has_limit, is_same_mode};
 ghost use Rattle.cedar_model.specs.Failures.{recursion_limit, failure_kind};
 ghost use Rattle.cedar_model.specs.Refusals.{context_fails};
+ghost use Rattle.cedar_decisions.specs.Decisions.{mode_view};
 ghost use Rattle.cedar_names.specs.declared.names.Loc.{Loc};
 ghost use Rattle.cedar_requests.specs.Requests.{request_view};
 ghost use Rattle.cedar_requests.specs.Substitutions.{values_for};
 ghost use Rattle.cedar_responses.specs.Responses.{error_view, errors_view};
 ghost use Rattle.cedar_reauthorization.specs.Concretizations.{entity_locs, concrete_locs, IsResidualNoHigher};
 ghost use Rattle.cedar_reauthorization.specs.Errors.{step_refusal, IsUnwrapped};
-ghost use Rattle.cedar_authorizer.specs.Configured.{configuration, limit_of};
+ghost use Rattle.cedar_responses.specs.Rows as rows;
+ghost use Rattle.cedar_authorizer.specs.Configured.{configuration, limit_of, mode_of};
 ghost use Rattle.cedar_authorizer.specs.Headline.{steps_view, IsTakenFurther};
 ghost use Rattle.cedar_authorizer.specs.Responding.{deciding};
 ghost use Rattle.cedar_authorizer.specs.Running.{request_of, IsRun, IsNotedBy};
@@ -25,7 +27,7 @@ use cedar_layers::policies::{Entities, PolicySet};
 use cedar_reauthorization::ReauthorizationError;
 use cedar_reauthorization::shared::{concretize_request, residual_policies};
 use cedar_responses::shared::Sheet;
-use cedar_responses::{AuthorizationError, PartialResponse};
+use cedar_responses::{AuthorizationError, ErrorHandling, PartialResponse};
 use std::alloc::{AllocError, Global};
 use std::collections::HashMap;
 use std::rc::{Rc, RcStr};
@@ -40,7 +42,8 @@ pub trait Reauthorize {
 
     /// The response that follows by the map's values for unknowns, over this store. All policies are decided again, each with
     /// what was reported of it as its condition: the satisfied permits, those that are not, the residual ones, and then the
-    /// forbids. Refuses, in this order: with `PolicySetError` where two of them have one id; with `ConcretizationError` where
+    /// forbids. Refuses, in this order: with `ErrorHandlingConflict`, before anything is allocated, where the response and the
+    /// authorizer handle errors in different ways; with `PolicySetError` where two of the policies have one id; with `ConcretizationError` where
     /// the map makes no request of the response's (`ValueError`, `VarConfictError`, `EntityTypeConfictError`, of principal,
     /// action, resource and context in turn), or where the evaluation of the context with the map's values in it fails
     /// (`ValueEval`); or for want of memory. Evaluation goes at most the authorizer's limit of levels deep.
@@ -86,7 +89,7 @@ impl Reauthorize for PartialResponse {
     }
 }
 
-// The policies of the response, decided again.
+// The response taken further, where both handle errors in the same way.
 fn reauthorized(
     alloc: Global,
     response: &PartialResponse,
@@ -96,6 +99,47 @@ fn reauthorized(
 ) -> Result<PartialResponse, ReauthorizationError>
     ensures step { IfSome (step_answer result)
         (IsStep (configuration authorizer.now) (step_by map.now entities.now) (response_said response.now)) }
+    ensures memory { IfErr result IsUnwrapped }
+    ensures places { IfOk result (λ r. entity_locs r.request.value
+        ≡ concrete_locs (values_for map.now.entries) (entity_locs response.now.request.value)) }
+    ensures low { IsResidualNoHigher (values_for map.now.entries) (limit_of authorizer.now)
+        (request_view response.now.request.value).context_part
+        → IfErr result (λ e. step_refusal e ≢ Some (context_fails recursion_limit)) }
+{
+    let mode = response.error_handling();
+    if is_same_mode(authorizer.error_handling, mode) {
+        in_same_mode(alloc, response, map, authorizer, entities)
+    } else {
+        Err(ReauthorizationError::ErrorHandlingConflict {
+            response: mode,
+            authorizer: authorizer.error_handling,
+        })
+    }
+}
+
+// Whether both handle errors in the same way.
+#[tactic(auto, unfolding(cedar_model::specs::Chains::is_same_mode))]
+fn is_same_mode(one: ErrorHandling, other: ErrorHandling) -> bool
+    ensures { result ≡ is_same_mode (mode_view one) (mode_view other) }
+{
+    match (one, other) {
+        (ErrorHandling::Skip, ErrorHandling::Skip) => true,
+        (ErrorHandling::Skip, ErrorHandling::ForbidOnError) => false,
+        (ErrorHandling::ForbidOnError, ErrorHandling::Skip) => false,
+        (ErrorHandling::ForbidOnError, ErrorHandling::ForbidOnError) => true,
+    }
+}
+
+// The policies of the response, decided again, if both handle errors in the same way.
+fn in_same_mode(
+    alloc: Global,
+    response: &PartialResponse,
+    map: &HashMap<RcStr, Value>,
+    authorizer: &Authorizer<'_, '_>,
+    entities: &Entities,
+) -> Result<PartialResponse, ReauthorizationError>
+    ensures step { is_same_mode (mode_of authorizer.now) (rows.mode_of response.now) ≡ true →
+        IfSome (step_answer result) (IsStep (configuration authorizer.now) (step_by map.now entities.now) (response_said response.now)) }
     ensures memory { IfErr result IsUnwrapped }
     ensures places { IfOk result (λ r. entity_locs r.request.value
         ≡ concrete_locs (values_for map.now.entries) (entity_locs response.now.request.value)) }
@@ -159,7 +203,12 @@ fn decided_again(
     ensures request { IfOk result (λ r. r.request.value ≡ request) }
 {
     let sheet = next_sheet(alloc, &request, policies, map, authorizer, entities)?;
-    response_of(alloc, sheet, Rc::new(alloc, request)?)
+    response_of(
+        alloc,
+        authorizer.error_handling,
+        sheet,
+        Rc::new(alloc, request)?,
+    )
 }
 
 // How each policy comes out, in their order, with the map's values for unknowns.
@@ -183,7 +232,7 @@ fn next_sheet(
         authorizer.limit,
     )?;
     let evaluator = evaluator.with_unknowns_mapper(map);
-    let sheet = run_all(alloc, &evaluator, policies);
+    let sheet = run_all(alloc, authorizer.error_handling, &evaluator, policies);
     drop(evaluator);
     sheet
 }

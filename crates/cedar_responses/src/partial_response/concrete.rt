@@ -1,22 +1,23 @@
 //! A partial response made concrete.
-ghost use Rattle.std.specs.Prelude.{◌≡◌, [], ◌∷◌, ◌++◌, Ok, cond, IfOk, OnOk};
+ghost use Rattle.std.specs.Prelude.{◌≡◌, ◌||◌, [], ◌∷◌, ◌++◌, Ok, IfOk, OnOk};
 ghost use Rattle.cedar_model.specs.Outcomes.{has_text};
 ghost use Rattle.cedar_layers.specs.Policies.{policy_id_text};
 ghost use Rattle.cedar_expressions.specs.View.{view, expr_loc};
 ghost use Rattle.cedar_model.specs.Failures.{residual_is_left};
-ghost use Rattle.cedar_decisions.specs.Decisions.{decision_view};
+ghost use Rattle.cedar_decisions.specs.Decisions.{decision_view, mode_view};
 ghost use Rattle.cedar_responses.specs.Responses.{error_view, errors_view, error_place, error_places, has_id};
 ghost use Rattle.cedar_responses.specs.Responses.{response_view, response_places};
 ghost use Rattle.cedar_responses.specs.Rows.{rows_view};
 ghost use Rattle.cedar_responses.specs.Promises.{KeepsDecision, IsDecidedByPolicies};
 ghost use Rattle.cedar_responses.specs.Concrete.{concrete_response, concrete_places, IsConcreteOf};
-ghost use Rattle.cedar_responses.specs.Concrete.{id_texts, errors_left, places_left};
+ghost use Rattle.cedar_responses.specs.Concrete.{id_texts, reason_texts, errors_left, places_left};
+ghost use Rattle.cedar_responses.specs.Readers.{entry_ids};
 
 use super::PartialResponse;
 use crate::beside::{add_last, beside, both};
 use crate::err::AuthorizationError;
 use crate::response::{Diagnostics, Response};
-use cedar_decisions::decide_concretely;
+use cedar_decisions::ErrorHandling;
 use cedar_expressions::Expr;
 use cedar_layers::policies::{Annotations, PolicyID};
 use cedar_values::evaluator::err::EvaluationError;
@@ -29,7 +30,8 @@ use std::rc::Rc;
 impl PartialResponse {
     /// The response where each residual counts as an error, `NonValue` at the residual's location: `Allow` where a permit is
     /// satisfied and no forbid is, for the reasons that must determine the decision; with the errors of residual forbids, then of
-    /// residual permits, then those recorded. A decision that is given stays. Where no residual is left, decision and reasons are
+    /// residual permits, then those recorded. Where a forbid that errs forbids, a residual forbid denies too, and the reasons are
+    /// the satisfied and the residual forbids or, with none, the satisfied permits. A decision that is given stays. Where no residual is left, decision and reasons are
     /// those of the policies, wherever what is reported of them stands. Refuses only for want of memory.
     pub fn concretize(self, alloc: Global) -> Result<Response, AllocError>
         ensures response { IfOk result (λ r. response_view r ≡ concrete_response self) }
@@ -37,8 +39,7 @@ impl PartialResponse {
         ensures given { IfOk result (λ r. KeepsDecision (rows_view self) (decision_view r.decision)) }
         ensures decided { IfOk result (λ r. IsDecidedByPolicies (rows_view self) (response_view r)) }
     {
-        let has_true_permit = self.has_true_permit();
-        let has_true_forbid = self.has_true_forbid();
+        let decision = self.concrete_decision();
         let may_forbid = self.may_forbid();
         let PartialResponse {
             satisfied_permits,
@@ -49,15 +50,18 @@ impl PartialResponse {
             residual_forbids,
             errors,
             request,
+            error_handling,
         } = self;
         drop(false_permits);
         drop(false_forbids);
         drop(request);
         let reason: Result<HashSet<PolicyID>, AllocError> = reasons(
             alloc,
+            error_handling,
             may_forbid,
             satisfied_permits,
             satisfied_forbids,
+            &residual_forbids,
         );
         let errors: Result<Vec<AuthorizationError>, AllocError> = all_errors(
             alloc,
@@ -67,7 +71,7 @@ impl PartialResponse {
         );
         let diagnostics = diagnostics_of(reason, errors)?;
         Ok(Response {
-            decision: decide_concretely(has_true_permit, has_true_forbid),
+            decision,
             diagnostics,
         })
     }
@@ -97,23 +101,50 @@ fn diagnostics_of(
     Ok(Diagnostics { reason, errors })
 }
 
-// The ids of the satisfied forbids where a forbid is satisfied or may be, else of the satisfied permits.
+// The ids of the satisfied forbids where a forbid is satisfied or may be, else of the satisfied permits; where a forbid that errs
+// forbids, those of the residual forbids beside the satisfied ones.
 fn reasons(
     alloc: Global,
+    mode: ErrorHandling,
     may_forbid: bool,
     permits: IndexMap<PolicyID, Rc<Annotations>>,
     forbids: IndexMap<PolicyID, Rc<Annotations>>,
+    residual_forbids: &IndexMap<PolicyID, (Rc<Expr>, Rc<Annotations>)>,
 ) -> Result<HashSet<PolicyID>, AllocError>
     ensures { IfOk result (λ s. has_id s
-        ≡ (λ t. has_text t (cond may_forbid (id_texts forbids.entries) (id_texts permits.entries)))) }
+        ≡ (λ t. has_text t (reason_texts (mode_view mode) may_forbid (id_texts permits.entries)
+        (id_texts forbids.entries) (entry_ids residual_forbids.now.entries)))) }
 {
-    if may_forbid {
-        drop(permits);
-        ids_of(alloc, forbids)
-    } else {
-        drop(forbids);
-        ids_of(alloc, permits)
+    match (may_forbid, mode) {
+        (true, ErrorHandling::Skip) => {
+            drop(permits);
+            ids_of(alloc, forbids)
+        }
+        (true, ErrorHandling::ForbidOnError) => {
+            drop(permits);
+            all_forbids(alloc, forbids, residual_forbids)
+        }
+        (false, _) => {
+            drop(forbids);
+            ids_of(alloc, permits)
+        }
     }
+}
+
+// The ids of both.
+fn all_forbids(
+    alloc: Global,
+    forbids: IndexMap<PolicyID, Rc<Annotations>>,
+    residual_forbids: &IndexMap<PolicyID, (Rc<Expr>, Rc<Annotations>)>,
+) -> Result<HashSet<PolicyID>, AllocError>
+    ensures { IfOk result (λ s. has_id s
+        ≡ (λ t. has_text t (id_texts forbids.entries ++ entry_ids residual_forbids.now.entries))) }
+{
+    let mut ids = ids_of(alloc, forbids)?;
+    'residuals: for id in residual_forbids.keys() {
+        ids.insert(id.clone()?)?;
+    }
+    Ok(ids)
 }
 
 fn ids_of(

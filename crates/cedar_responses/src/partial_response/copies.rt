@@ -12,7 +12,7 @@ use indexmap::IndexMap;
 use std::alloc::AllocError;
 use std::rc::Rc;
 
-/// The copy has the same policies and, in order, the same errors, each with its fields and its location; it shares the residuals,
+/// The copy handles errors in the same way, and has the same policies and, in order, the same errors, each with its fields and its location; it shares the residuals,
 /// the annotations and the request.
 impl Clone for PartialResponse {
     ghost is_clone = { IsCopyOfPartialResponse };
@@ -41,6 +41,7 @@ impl Clone for PartialResponse {
             residual_forbids: forbids.residual,
             errors,
             request,
+            error_handling: self.error_handling,
         })
     }
 }

@@ -22,6 +22,7 @@ impl Refusal for EvaluationError {
 impl Refusal for ReauthorizationError {
     fn is_want_of_memory(&self) -> bool {
         match self {
+            ReauthorizationError::ErrorHandlingConflict { .. } => false,
             ReauthorizationError::PolicySetError(error) => error.is_want_of_memory(),
             ReauthorizationError::ConcretizationError(error) => {
                 matches!(error, ConcretizationError::Memory(_))

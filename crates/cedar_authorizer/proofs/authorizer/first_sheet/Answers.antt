@@ -11,4 +11,4 @@ use Rattle.cedar_authorizer.proofs.authorizer.first_sheet.Goals as goal
 pub returns-clause-run : goal.returns-clause-run
 returns-clause-run g c =
     let e = c.in_ok-evaluator.ensures in
-    IfOk-weaker c.run_all.result _ _ (λ s h. noted_alike _ _ _ _ _ _ _ s (e.setting no_slots ∙ ap (λ r. setting_for r (store_view c.args.entities.now) (extensions_view (extensions_of c.args.authorizer.now)) (λ n. None) no_slots) c.in_ok-clone.ensures.cases.0) (ap calls_of e.extensions) e.limit h) c.run_all.ensures.run
+    IfOk-weaker c.run_all.result _ _ (λ s h. noted_alike _ _ _ _ _ _ _ _ s (e.setting no_slots ∙ ap (λ r. setting_for r (store_view c.args.entities.now) (extensions_view (extensions_of c.args.authorizer.now)) (λ n. None) no_slots) c.in_ok-clone.ensures.cases.0) (ap calls_of e.extensions) e.limit h) c.run_all.ensures.run

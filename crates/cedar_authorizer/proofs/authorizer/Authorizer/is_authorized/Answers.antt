@@ -2,7 +2,7 @@ use Rattle.std.proofs.Common.{refl}
 use Rattle.std.proofs.lemmas.Result.{IfOk-weaker}
 use Rattle.cedar_extensions.specs.Extensions.{calls_of}
 use Rattle.cedar_responses.specs.Responses.{response_view}
-use Rattle.cedar_authorizer.specs.Configured.{extensions_of, limit_of, asked}
+use Rattle.cedar_authorizer.specs.Configured.{extensions_of, limit_of, mode_of, asked}
 use Rattle.cedar_authorizer.specs.Responding.{deciding}
 use Rattle.cedar_authorizer.proofs.Deciding.{run_concrete, known_response, no_limit, own_world_completes_call}
 use Rattle.cedar_authorizer.proofs.authorizer.Authorizer.is_authorized.Goals as goal
@@ -15,24 +15,27 @@ returns-clause-own_world g c = own_world_completes_call (asked c.args.self.now c
 
 pub returns-clause-response : goal.returns-clause-response
 returns-clause-response g c =
+    let mode = mode_of c.args.self.now in
     let calls = calls_of (extensions_of c.args.self.now) in
     let levels = limit_of c.args.self.now in
     let s = asked c.args.self.now c.args.request c.args.entities.now in
     let ps = deciding c.args.policies.now in
-    IfOk-weaker c.concretize.result _ _ (λ r e. run_concrete s calls levels ps c.in_ok-response.response (response_view r) c.in_ok-response.ensures.run e) c.concretize.ensures.response
+    IfOk-weaker c.concretize.result _ _ (λ r e. run_concrete mode s calls levels ps c.in_ok-response.response (response_view r) c.in_ok-response.ensures.run e) c.concretize.ensures.response
 
 pub returns-clause-known : goal.returns-clause-known
 returns-clause-known g c =
+    let mode = mode_of c.args.self.now in
     let calls = calls_of (extensions_of c.args.self.now) in
     let levels = limit_of c.args.self.now in
     let s = asked c.args.self.now c.args.request c.args.entities.now in
     let ps = deciding c.args.policies.now in
-    IfOk-weaker c.concretize.result _ _ (λ r e. known_response s calls levels ps (response_view r) (run_concrete s calls levels ps c.in_ok-response.response (response_view r) c.in_ok-response.ensures.run e)) c.concretize.ensures.response
+    IfOk-weaker c.concretize.result _ _ (λ r e. known_response mode s calls levels ps (response_view r) (run_concrete mode s calls levels ps c.in_ok-response.response (response_view r) c.in_ok-response.ensures.run e)) c.concretize.ensures.response
 
 pub returns-clause-limit : goal.returns-clause-limit
 returns-clause-limit g c =
+    let mode = mode_of c.args.self.now in
     let calls = calls_of (extensions_of c.args.self.now) in
     let levels = limit_of c.args.self.now in
     let s = asked c.args.self.now c.args.request c.args.entities.now in
     let ps = deciding c.args.policies.now in
-    IfOk-weaker c.concretize.result _ _ (λ r e. no_limit s calls levels ps (response_view r) (run_concrete s calls levels ps c.in_ok-response.response (response_view r) c.in_ok-response.ensures.run e)) c.concretize.ensures.response
+    IfOk-weaker c.concretize.result _ _ (λ r e. no_limit mode s calls levels ps (response_view r) (run_concrete mode s calls levels ps c.in_ok-response.response (response_view r) c.in_ok-response.ensures.run e)) c.concretize.ensures.response

@@ -15,4 +15,4 @@ returns g c =
     let e = c.in_ok-evaluator.ensures in
     let k = c.with_unknowns_mapper-evaluator.ensures in
     let m = values_for c.args.map.now.entries in
-    IfOk-weaker c.run_all-sheet.result _ _ (λ s h. noted_alike _ _ _ _ _ _ _ s (k.setting no_slots ∙ ap (λ (q : Setting). setting_for q.request q.store q.extensions m no_slots) (e.setting no_slots) ∙ ap (λ r. setting_for r (store_view c.args.entities.now) (extensions_view (extensions_of c.args.authorizer.now)) m no_slots) c.in_ok-clone.ensures.cases.0) (ap calls_of (k.extensions ∙ e.extensions)) (k.limit ∙ e.limit) h) c.run_all-sheet.ensures.run
+    IfOk-weaker c.run_all-sheet.result _ _ (λ s h. noted_alike _ _ _ _ _ _ _ _ s (k.setting no_slots ∙ ap (λ (q : Setting). setting_for q.request q.store q.extensions m no_slots) (e.setting no_slots) ∙ ap (λ r. setting_for r (store_view c.args.entities.now) (extensions_view (extensions_of c.args.authorizer.now)) m no_slots) c.in_ok-clone.ensures.cases.0) (ap calls_of (k.extensions ∙ e.extensions)) (k.limit ∙ e.limit) h) c.run_all-sheet.ensures.run

@@ -2,7 +2,7 @@ use Rattle.cedar_extensions.specs.Extensions.{calls_of}
 use Rattle.cedar_extensions.specs.StoredLaws.{calls_meet_no_limit}
 use Rattle.cedar_layers.specs.Stores.{store_view}
 use Rattle.cedar_requests.specs.Substitutions.{values_for}
-use Rattle.cedar_authorizer.specs.Configured.{configuration, extensions_of, limit_of}
+use Rattle.cedar_authorizer.specs.Configured.{configuration, extensions_of, limit_of, mode_of}
 use Rattle.cedar_authorizer.specs.Running.{request_of}
 use Rattle.cedar_authorizer.specs.Steps.{response_said, step_by, under}
 use Rattle.cedar_authorizer.proofs.Kept.{request_sound, values_sound, step_sound}
@@ -13,40 +13,44 @@ pub returns-clause-stands : goal.returns-clause-stands
 returns-clause-stands g c =
     let old = response_said c.args.self.now in
     let s = under (configuration c.args.authorizer.now) (step_by c.args.map.now c.args.entities.now) old.request in
+    let mode = mode_of c.args.authorizer.now in
     let calls = calls_of (extensions_of c.args.authorizer.now) in
     let levels = limit_of c.args.authorizer.now in
     let m = values_for c.args.map.now.entries in
     let store = store_view c.args.entities.now in
-    if_stepped c.reauthorized.result _ _ (λ r. kept_standing s calls levels m store old r) c.reauthorized.ensures.step
+    if_stepped c.reauthorized.result _ _ (λ r. kept_standing mode s calls levels m store old r) c.reauthorized.ensures.step
 
 pub returns-clause-kept : goal.returns-clause-kept
 returns-clause-kept g c =
     let old = response_said c.args.self.now in
     let s = under (configuration c.args.authorizer.now) (step_by c.args.map.now c.args.entities.now) old.request in
+    let mode = mode_of c.args.authorizer.now in
     let calls = calls_of (extensions_of c.args.authorizer.now) in
     let levels = limit_of c.args.authorizer.now in
     let m = values_for c.args.map.now.entries in
     let store = store_view c.args.entities.now in
-    if_stepped c.reauthorized.result _ _ (λ r. nothing_back s calls levels m store old r) c.reauthorized.ensures.step
+    if_stepped c.reauthorized.result _ _ (λ r. nothing_back mode s calls levels m store old r) c.reauthorized.ensures.step
 
 pub returns-clause-finishes : goal.returns-clause-finishes
 returns-clause-finishes g c =
     let old = response_said c.args.self.now in
     let s = under (configuration c.args.authorizer.now) (step_by c.args.map.now c.args.entities.now) old.request in
+    let mode = mode_of c.args.authorizer.now in
     let calls = calls_of (extensions_of c.args.authorizer.now) in
     let levels = limit_of c.args.authorizer.now in
     let m = values_for c.args.map.now.entries in
     let store = store_view c.args.entities.now in
-    if_stepped c.reauthorized.result _ _ (λ r. step_finishes s calls levels m store old r
+    if_stepped c.reauthorized.result _ _ (λ r. step_finishes mode s calls levels m store old r
     (request_sound (request_of c.args.self.now)) (values_sound c.args.map.now)) c.reauthorized.ensures.step
 
 pub returns-clause-deep_enough : goal.returns-clause-deep_enough
 returns-clause-deep_enough g c =
     let old = response_said c.args.self.now in
     let s = under (configuration c.args.authorizer.now) (step_by c.args.map.now c.args.entities.now) old.request in
+    let mode = mode_of c.args.authorizer.now in
     let calls = calls_of (extensions_of c.args.authorizer.now) in
     let levels = limit_of c.args.authorizer.now in
     let m = values_for c.args.map.now.entries in
     let store = store_view c.args.entities.now in
-    answered_low s calls levels m store old (calls_meet_no_limit (extensions_of c.args.authorizer.now))
+    answered_low mode s calls levels m store old (calls_meet_no_limit (extensions_of c.args.authorizer.now))
     (step_sound c.args.authorizer.now c.args.map.now c.args.entities.now (request_of c.args.self.now)) c.reauthorized.result c.reauthorized.ensures.step c.reauthorized.ensures.low

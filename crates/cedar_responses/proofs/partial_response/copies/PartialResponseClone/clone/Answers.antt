@@ -1,4 +1,4 @@
-use Rattle.std.proofs.Common.{◌≡◌, subst, IfOk}
+use Rattle.std.proofs.Common.{◌≡◌, refl, subst, IfOk}
 use Rattle.cedar_model.specs.Policies.{Effect}
 use Rattle.cedar_responses.specs.Rows.{true_rows, false_rows, residual_rows}
 use Rattle.cedar_responses.specs.Responses.{errors_view, error_places}
@@ -13,6 +13,7 @@ returns c =
     let f = c.copied_entries-forbids.ensures in
     record {
       cases = record {
+        mode = refl;
         rows = same_rows r _
             (subst (λ x. IfOk x (λ m. (e : Effect) → true_rows e m.satisfied.entries ≡ true_rows e r.satisfied_permits.entries)) made.first p.trues)
             (subst (λ x. IfOk x (λ m. (e : Effect) → false_rows e m.unsatisfied.entries ≡ false_rows e r.false_permits.entries)) made.first p.falses)
