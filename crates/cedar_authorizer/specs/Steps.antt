@@ -1,5 +1,5 @@
 -- Steps from one response to the next.
-use Rattle.std.specs.Prelude.{◌≡◌, ◌≢◌, ℕ, ◌+◌, ◌≤◌, false, List, map, Option, Result, Ok, Err}
+use Rattle.std.specs.Prelude.{◌≡◌, ◌≢◌, ℕ, ◌+◌, ◌≤◌, false, List, map, Option, Some, Result, Ok, Err}
 use Rattle.std.specs.HashMap.{HashMap}
 use Rattle.std.specs.declared.alloc.Global.{Global}
 use Rattle.std.specs.declared.hash.BuildHasherDefault.{BuildHasherDefault}
@@ -9,11 +9,11 @@ use Rattle.cedar_model.specs.World.{World, Functions}
 use Rattle.cedar_model.specs.Failures.{recursion_limit}
 use Rattle.cedar_model.specs.Settings.{RequestPart, Store, Setting}
 use Rattle.cedar_model.specs.Agreement.{AgreesWithFunctions, EachStored, CompletesWith}
-use Rattle.cedar_model.specs.Policies.{Policy}
+use Rattle.cedar_model.specs.Policies.{Policy, ErrorHandling}
 use Rattle.cedar_model.specs.Configurations.{Configuration}
 use Rattle.cedar_model.specs.Responses.{Stand}
-use Rattle.cedar_model.specs.Refusals.{Refusal, context_fails}
-use Rattle.cedar_model.specs.Chains.{Mapping, Response, at_step, all_residuals, Steps, StepsTo}
+use Rattle.cedar_model.specs.Refusals.{Refusal, mode_is_other, context_fails}
+use Rattle.cedar_model.specs.Chains.{Mapping, Response, at_step, all_residuals, is_same_mode, Steps, StepsTo}
 use Rattle.cedar_model.specs.ChainLaws.{KeepsWhatIsGiven}
 use Rattle.cedar_model.specs.Depth.{IsNoHigher}
 use Rattle.cedar_model.specs.Authorizations.{HaveNoLimit, AreNoHigher}
@@ -52,6 +52,11 @@ pub record Says (r : PartialResponse) (a : Response) : Type 0 where
 -- what a step answered: a response, or why it is refused; nothing, where it lacked memory
 abbrev pub step_answer : Result PartialResponse ReauthorizationError → Option (Result PartialResponse Refusal)
 step_answer = step_answer_by (λ r. r)
+
+-- where response and authorizer handle errors in different ways, that is the refusal, even where memory is wanting
+abbrev pub IsConflict : ErrorHandling → ErrorHandling → Option (Result PartialResponse Refusal) → Type 0
+IsConflict authorizer response answer =
+    is_same_mode authorizer response ≡ false → answer ≡ Some (Err (mode_is_other response authorizer))
 
 -- values for unknowns, by name
 abbrev pub ValuesByName : Type 0

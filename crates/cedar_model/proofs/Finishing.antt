@@ -17,7 +17,7 @@ use Rattle.cedar_model.specs.Settings.{Entry, known_entry, unknown_entry, Contex
 use Rattle.cedar_model.specs.Settings.{residual_context, Setting, Store}
 use Rattle.cedar_model.specs.Rules.{StoredCalls}
 use Rattle.cedar_model.specs.Agreement
-use Rattle.cedar_model.specs.Policies.{Effect, permit, forbid, ErrorHandling, skip, forbid_on_error}
+use Rattle.cedar_model.specs.Policies.{Effect, permit, forbid, ErrorHandling}
 use Rattle.cedar_model.specs.Reordering.{IsReordering, nothing, keeping, swapping, chaining}
 use Rattle.cedar_model.specs.Responses
 use Rattle.cedar_model.specs.Responses.{Reported, reported_true, reported_false, reported_residual, Row}
@@ -31,7 +31,7 @@ use Rattle.cedar_model.proofs.RestrictedAnswers.{sound_restricted}
 use Rattle.cedar_model.proofs.Unread.{IsNoResidual}
 use Rattle.cedar_model.proofs.Chained.{sorted_is}
 use Rattle.cedar_model.proofs.Completions.{concrete_parts}
-use Rattle.cedar_model.proofs.Concrete.{concrete_is_defined}
+use Rattle.cedar_model.proofs.Concrete.{concrete_is_defined, residual_same}
 use Rattle.cedar_model.proofs.Stepping.{taken}
 use Rattle.cedar_model.proofs.Configured.{configured_by}
 
@@ -221,16 +221,6 @@ not_residual (answers (value v)) h = by (bool_of (abstract_value v))
 not_residual (answers (residual t)) h = absurd h
 not_residual (fails e) h = refl
 
-counted_residual : (mode : ErrorHandling) (e : Effect) (o : Reported)
-    → is_residual (Responses.counted_report mode e o) ≡ is_residual o
-unfolding is_residual Responses.counted_report
-counted_residual skip e o = refl
-counted_residual forbid_on_error permit o = refl
-counted_residual forbid_on_error forbid reported_true = refl
-counted_residual forbid_on_error forbid (reported_false true) = refl
-counted_residual forbid_on_error forbid (reported_false false) = refl
-counted_residual forbid_on_error forbid (reported_residual t) = refl
-
 none_more : (a b : Bool) (r : Row) (xs : List Row) → b ≡ false → xs ≡ [] → cond a (cond b (r ∷ xs) xs) xs ≡ []
 none_more true true r xs h k = absurd (cc)
 none_more true false r xs h k = k
@@ -272,7 +262,7 @@ module _ (mode : ErrorHandling) (ans : Functions) (calls : StoredCalls)
       let i = Answering.named_runs ans calls agree z (ready_with_slots s Agreement.no_slots known) levels
       (Responses.carried q).condition a (((tt, tt), tt), clause_named ans s.map q.reported n.0) g in
       subst Reports.HaveNoResidual (sym e) (more_none (Responses.row_of mode (Responses.carried q) a) rest
-      (counted_residual mode q.effect (Responses.reported_of (Responses.decided a))
+      (residual_same mode q.effect (Responses.reported_of (Responses.decided a))
       ∙ not_residual a i) (run_finishes s known levels qs rest later n.1 j))
 
   module _ (s : Setting) (levels : ℕ) (m : Mapping) (store : Store) (old new : Response)

@@ -55,5 +55,6 @@ pub mod Answering
 pub mod Finishing
 pub mod Exemplified
 pub mod TwoSteps
+pub mod StrictSteps
 pub mod Counted
 pub mod Configured

@@ -186,7 +186,7 @@ context_completes = record {
       ((codes "c", plain_represented (bool_literal true)) ∷ (codes "d", a_number 10) ∷ []) (tt, (tt, tt));
 }
 
-functional : Agreement.AgreesWithFunctions some_functions some_calls
+pub functional : Agreement.AgreesWithFunctions some_functions some_calls
 unfolding Agreement.function_answer
 functional f vs a h = ap Agreement.function_answer h
 
@@ -194,7 +194,7 @@ is_bool : (a : Answer) (v : Represented) → a ≡ answers_bool true → a ≡ a
     → plain_represented (bool_literal true) ≡ v
 is_bool a v h e = let z = sym h ∙ e in cc
 
-faithful : Agreement.AnswerFaithfully some_extensions some_functions some_calls
+pub faithful : Agreement.AnswerFaithfully some_extensions some_functions some_calls
 faithful f vs v h e = subst (Agreement.IsFaithful some_extensions some_functions)
     (is_bool (answers (value v)) v e refl) tt
 

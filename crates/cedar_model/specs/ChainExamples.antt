@@ -1,7 +1,7 @@
 -- Worked examples: what responses say, which steps are refused, and chains.
-use Rattle.std.specs.Prelude.{◌≡◌, ℕ, pos, true, false, List, [], ◌∷◌, map, Some, None, Ok, Err, unwrap_or, codes}
+use Rattle.std.specs.Prelude.{◌≡◌, ℕ, pos, Bool, true, false, List, [], ◌∷◌, map, Some, None, Ok, Err, unwrap_or, codes}
 use Rattle.cedar_model.specs.Terms.{Text, EntityName, entity_literal, long_literal, bool_literal, principal, resource}
-use Rattle.cedar_model.specs.Terms.{context, eq_operator, Term, variable, unknown, both, binary, call, get_attribute}
+use Rattle.cedar_model.specs.Terms.{context, eq_operator, add_operator, Term, variable, unknown, both, binary, call, get_attribute}
 use Rattle.cedar_model.specs.Terms.{terms_of, fields_of}
 use Rattle.cedar_model.specs.Values.{plain, no_values_at, one_value_at, Represented, plain_represented}
 use Rattle.cedar_model.specs.Values.{record_represented, no_represented_at, one_represented_at}
@@ -10,7 +10,7 @@ use Rattle.cedar_model.specs.Failures.{Failure, function_is_missing, residual_is
 use Rattle.cedar_model.specs.Settings.{Entry, known_entry, unknown_entry, ContextPart, absent_context, known_context}
 use Rattle.cedar_model.specs.Settings.{residual_context, RequestPart, Store, shallow, Setting, part_at}
 use Rattle.cedar_model.specs.Agreement.{no_slots}
-use Rattle.cedar_model.specs.Policies.{Effect, permit, forbid, Policy, allow, deny, decision, reasons, judge_each}
+use Rattle.cedar_model.specs.Policies.{Effect, permit, forbid, Policy, allow, deny, decision, reasons, judge_each, counted_each}
 use Rattle.cedar_model.specs.Policies.{ErrorHandling, skip, forbid_on_error}
 use Rattle.cedar_model.specs.Responses.{RunOf, Reported, reported_true, reported_false, reported_residual, Row, truth}
 use Rattle.cedar_model.specs.Responses.{carried}
@@ -25,7 +25,7 @@ use Rattle.cedar_model.specs.Reports.{concrete_errors, definitely_satisfied, def
 use Rattle.cedar_model.specs.Reports.{nontrivial_residual_ids, nontrivial_forbids, get, HaveNoResidual}
 use Rattle.cedar_model.specs.Headline.{Premises}
 use Rattle.cedar_model.specs.Progress.{NamesAll}
-use Rattle.cedar_model.specs.Examples.{entity_of_type, user, long, entity, bool, x, some_calls, some_functions}
+use Rattle.cedar_model.specs.Examples.{entity_of_type, user, long, text, entity, bool, x, some_calls, some_functions}
 use Rattle.cedar_model.specs.Examples.{some_extensions}
 
 -- ---- what responses say
@@ -114,11 +114,14 @@ ResidualPermitMay =
     (given_decision rows ≡ Some allow) × (ids (must_determine rows) ≡ codes "0" ∷ [])
     × (ids (may_determine rows) ≡ codes "0" ∷ codes "1" ∷ [])
 
--- beside a residual forbid, where no permit is true or residual, Deny is given
+-- beside a residual forbid, where no permit is true or residual, Deny is given; made concrete where erring forbids count,
+-- for that forbid, whose residual is left
 abbrev pub EarlyDeny : Type 0
 EarlyDeny =
-    given_decision (row (codes "1") permit (reported_false false) ∷ row (codes "2") forbid (reported_residual x) ∷ [])
-    ≡ Some deny
+    let rows = row (codes "1") permit (reported_false false) ∷ row (codes "2") forbid (reported_residual x) ∷ [] in
+    (given_decision rows ≡ Some deny) × (concrete_decision forbid_on_error rows ≡ deny)
+    × (ids (concrete_reasons forbid_on_error rows) ≡ codes "2" ∷ [])
+    × (concrete_errors rows [] ≡ (codes "2", residual_is_left x) ∷ [])
 
 -- ---- the request that a map makes
 
@@ -370,17 +373,78 @@ RefusalEndsAChain =
 
 -- ---- erring forbids
 
--- a permit of all, and a forbid that errs
+-- a permit of all, and a permit and a forbid that err
 abbrev pub erring_policies : List Policy
 erring_policies =
-    policy (codes "1") permit truth ∷ policy (codes "3") forbid
-    (binary eq_operator (attribute (codes "bad")) (long 2)) ∷ []
+    policy (codes "1") permit truth ∷
+    policy (codes "2") permit (binary eq_operator (attribute (codes "bad")) (long 2)) ∷
+    policy (codes "3") forbid (binary eq_operator (attribute (codes "bad")) (long 2)) ∷ []
+
+-- rows of them, by what is reported of the forbid
+abbrev pub erring_rows : Reported → List Row
+erring_rows o =
+    row (codes "1") permit reported_true ∷ row (codes "2") permit (reported_false true) ∷ row (codes "3") forbid o ∷ []
 
 -- skipped, the forbid is reported false, and the decision is Allow; where it counts, it is reported true, and the
--- decision is Deny for it. Its error is recorded either way
+-- decision is Deny for it. The errors are recorded either way, and a permit that errs permits in neither
 abbrev pub ErringForbid : Type 0
 ErringForbid =
     (error : Failure) × RunOf skip (setting_of known_request) some_calls 9 erring_policies
-    (row (codes "1") permit reported_true ∷ row (codes "3") forbid (reported_false true) ∷ []) ((codes "3", error) ∷ [])
+    (erring_rows (reported_false true)) ((codes "2", error) ∷ (codes "3", error) ∷ [])
     × RunOf forbid_on_error (setting_of known_request) some_calls 9 erring_policies
-    (row (codes "1") permit reported_true ∷ row (codes "3") forbid reported_true ∷ []) ((codes "3", error) ∷ [])
+    (erring_rows reported_true) ((codes "2", error) ∷ (codes "3", error) ∷ [])
+    × (concrete_decision skip (erring_rows (reported_false true)) ≡ allow)
+    × (ids (concrete_reasons skip (erring_rows (reported_false true))) ≡ codes "1" ∷ [])
+    × (definitely_errored (erring_rows (reported_false true)) ≡ codes "2" ∷ codes "3" ∷ [])
+    × (concrete_decision forbid_on_error (erring_rows reported_true) ≡ deny)
+    × (ids (concrete_reasons forbid_on_error (erring_rows reported_true)) ≡ codes "3" ∷ [])
+    × (definitely_errored (erring_rows reported_true) ≡ codes "2" ∷ [])
+
+-- 1: permit all; 2: forbid when x and 1 + "a"
+abbrev pub strict_policies : List Policy
+strict_policies =
+    policy (codes "1") permit truth ∷
+    policy (codes "2") forbid (both x (binary add_operator (long 1) (text (codes "a")))) ∷ []
+
+-- where x has this value
+abbrev pub x_is : Bool → Mapping
+x_is b = map_of ((codes "x", plain_represented (bool_literal b)) ∷ [])
+
+-- a world in which x is true
+abbrev pub strict_world : World
+strict_world = record {
+  principal_entity = user (codes "a");
+  action_entity = user (codes "act");
+  resource_entity = user (codes "r");
+  context_record = no_values_at;
+  store = λ e. None;
+  sigma = λ n. plain (bool_literal true);
+}
+
+-- a chain where erring forbids count: at first nothing is decided; where x is false, Allow; where it is true, the forbid
+-- errs, so it counts: Deny for it, and its error is recorded. A further step keeps it true, and records no error
+abbrev pub StrictChain : Type 0
+StrictChain =
+    (first : Response) × (allowed : Response) × (denied : Response) × (again : Response)
+    × Begins (configured_in forbid_on_error 9) known_request empty_store strict_policies first
+    × StepsTo (configured_in forbid_on_error 9) (x_is false) empty_store first allowed
+    × StepsTo (configured_in forbid_on_error 9) (x_is true) empty_store first denied
+    × StepsTo (configured_in forbid_on_error 9) no_map empty_store denied again
+    × (given_decision first.rows ≡ None) × (given_decision allowed.rows ≡ Some allow)
+    × (ids (must_determine allowed.rows) ≡ codes "1" ∷ []) × (given_decision denied.rows ≡ Some deny)
+    × (ids (must_determine denied.rows) ≡ codes "2" ∷ []) × (map (λ e. e.0) denied.errors ≡ codes "2" ∷ [])
+    × (definitely_errored denied.rows ≡ []) × (given_decision again.rows ≡ Some deny)
+    × (ids (must_determine again.rows) ≡ codes "2" ∷ []) × (again.errors ≡ [])
+
+-- the world completes it, and there the policies decide as the chain says
+abbrev pub StrictChainIsCompleted : Type 0
+StrictChainIsCompleted =
+    (first : Response) × (last : Response)
+    × Begins (configured_in forbid_on_error 9) known_request empty_store strict_policies first
+    × ChainOf (configured_in forbid_on_error 9) first ((x_is true, empty_store) ∷ []) last
+    × Premises (configured_in forbid_on_error 9) known_request empty_store strict_policies
+    ((x_is true, empty_store) ∷ []) some_functions strict_world last.errors
+    × (given_decision last.rows ≡ Some deny)
+    × (decision (counted_each forbid_on_error some_extensions some_functions strict_world strict_policies) ≡ deny)
+    × (reasons (counted_each forbid_on_error some_extensions some_functions strict_world strict_policies)
+    ≡ codes "2" ∷ [])

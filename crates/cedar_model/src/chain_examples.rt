@@ -1,6 +1,7 @@
 //! Worked examples: what responses say, which steps are refused, and chains. Each function is a set of examples, and
 //! does nothing.
-ghost use Rattle.cedar_model.specs.ChainExamples.{OtherModeIsRefused, ErringForbid};
+ghost use Rattle.cedar_model.specs.ChainExamples.{OtherModeIsRefused, ErringForbid, StrictChain};
+ghost use Rattle.cedar_model.specs.ChainExamples.{StrictChainIsCompleted};
 ghost use Rattle.cedar_model.specs.ChainExamples.{ForbidDecides, AllAreCarried, CarriedByReport, ForbidErrorsFirst};
 ghost use Rattle.cedar_model.specs.ChainExamples.{OtherReaders, GetFindsThePermit, ResidualForbidHolds};
 ghost use Rattle.cedar_model.specs.ChainExamples.{ResidualPermitMay, EarlyDeny, KnownEntryIsRefused};
@@ -42,11 +43,14 @@ pub fn steps_answer()
     ensures old_request { ContextIsReadUnderTheOldRequest }
 {}
 
-/// Examples: a chain of two steps, a world that completes it, and chains that end before their last step.
+/// Examples: a chain of two steps, a world that completes it, chains that end before their last step, and a chain where
+/// an erring forbid counts, with a world that completes it.
 pub fn chains_answer()
     ensures two_steps { TwoSteps }
     ensures completed { TwoStepsAreCompleted }
     ensures ends_at_limit { EndsAtTheLimit }
     ensures ends_at_refusal { RefusalEndsAChain }
     ensures erring_forbid { ErringForbid }
+    ensures strict { StrictChain }
+    ensures strict_completed { StrictChainIsCompleted }
 {}

@@ -112,3 +112,62 @@ pub among_entries : (t : Text) (es : List TrueEntry) → among t (keys_of es) �
 unfolding has_text
 among_entries t [] = refl
 among_entries t (e ∷ es) = ap (λ b. text_eq t (policy_id_text e.0) || b) (among_entries t es)
+
+-- ---- ids that are put into a set one by one
+
+-- a text is among those that were put in or are left exactly where it is among all
+abbrev pub AreNamedSoFar : List Text → List Text → List PolicyID → List PolicyID → Type 0
+AreNamedSoFar first more ks left = (t : Text) → (among t ks || among t left) ≡ has_text t (first ++ more)
+
+has_text_append : (t : Text) (xs ys : List Text) → has_text t (xs ++ ys) ≡ (has_text t xs || has_text t ys)
+unfolding has_text
+has_text_append t [] ys = refl
+has_text_append t (x ∷ xs) ys = ap (λ b. text_eq t x || b) (has_text_append t xs ys) ∙ or_both (text_eq t x) (has_text t xs) (has_text t ys)
+  where
+    or_both : (a b c : Bool) → (a || (b || c)) ≡ ((a || b) || c)
+    or_both true b c = refl
+    or_both false b c = refl
+
+among_residuals : (t : Text) (es : List ResidualEntry) → among t (keys_of es) ≡ has_text t (entry_ids es)
+unfolding has_text
+among_residuals t [] = refl
+among_residuals t (e ∷ es) = ap (λ b. text_eq t (policy_id_text e.0) || b) (among_residuals t es)
+
+pub named_none : (first : List Text) (es : List ResidualEntry) (ks left : List PolicyID) → (λ t. among t ks) ≡ (λ t. has_text t first) → left ≡ keys_of es → AreNamedSoFar first (entry_ids es) ks left
+named_none first es ks left h e t =
+    (λ i. h i t || (ap (among t) e ∙ among_residuals t es) i) ∙ sym (has_text_append t first (entry_ids es))
+
+same_swapped : (i j : PolicyID) → is_same_id i j ≡ is_same_id j i
+same_swapped i j = by (is_same_id i j) (is_same_id j i) refl refl
+  where
+    by : (b c : Bool) → is_same_id i j ≡ b → is_same_id j i ≡ c → b ≡ c
+    by true c e g = sym ((bytes_eq-Decides (policy_id_text j) (policy_id_text i)).1 (sym ((bytes_eq-Decides (policy_id_text i) (policy_id_text j)).0 e))) ∙ g
+    by false true e g = sym e ∙ (bytes_eq-Decides (policy_id_text i) (policy_id_text j)).1 (sym ((bytes_eq-Decides (policy_id_text j) (policy_id_text i)).0 g))
+    by false false e g = refl
+
+cond_or : (a b : Bool) → cond a true b ≡ (a || b)
+cond_or true b = refl
+cond_or false b = refl
+
+or_moved : (a b c : Bool) → ((a || b) || c) ≡ (b || (a || c))
+or_moved true true c = refl
+or_moved true false c = refl
+or_moved false b c = refl
+
+-- one more is put in
+pub named_more : (first more : List Text) (ks new left rest : List PolicyID) (k j : PolicyID) → left ≡ k ∷ rest → policy_id_text j ≡ policy_id_text k
+    → ((q : PolicyID) → list_any (is_same_id q) new ≡ cond (is_same_id j q) true (list_any (is_same_id q) ks)) → AreNamedSoFar first more ks left → AreNamedSoFar first more new rest
+named_more first more ks new left rest k j e copied puts before t =
+    ap (λ b. b || among t rest) (same_texts new (j ∷ ks) (λ q. puts q ∙ cond_or (is_same_id j q) (list_any (is_same_id q) ks) ∙ ap (λ b. b || list_any (is_same_id q) ks) (same_swapped j q)) t)
+    ∙ or_moved (text_eq t (policy_id_text j)) (among t ks) (among t rest)
+    ∙ ap (λ u. among t ks || (text_eq t u || among t rest)) copied
+    ∙ sym (ap (λ l. among t ks || among t l) e) ∙ before t
+
+-- nothing is left
+pub named_all : (first more : List Text) (ks left : List PolicyID) → left ≡ [] → AreNamedSoFar first more ks left → (λ t. among t ks) ≡ (λ t. has_text t (first ++ more))
+named_all first more ks left e before =
+    λ i t. (sym (or_none (among t ks)) ∙ sym (ap (λ l. among t ks || among t l) e) ∙ before t) i
+  where
+    or_none : (b : Bool) → (b || false) ≡ b
+    or_none true = refl
+    or_none false = refl

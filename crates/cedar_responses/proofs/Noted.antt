@@ -1,9 +1,9 @@
 -- A sheet that is filled policy by policy, for the crate above.
-use Rattle.std.proofs.Common.{◌≡◌, List, [], ◌∷◌, ◌++◌, Option, refl}
-use Rattle.cedar_model.specs.Terms.{Text}
+use Rattle.std.proofs.Common.{◌≡◌, true, false, List, [], ◌∷◌, ◌++◌, Option, refl}
+use Rattle.cedar_model.specs.Terms.{Text, Term}
 use Rattle.cedar_model.specs.Failures.{Failure}
-use Rattle.cedar_model.specs.Policies.{permit, forbid}
-use Rattle.cedar_model.specs.Responses.{with_error}
+use Rattle.cedar_model.specs.Policies.{Effect, permit, forbid, ErrorHandling, skip, forbid_on_error}
+use Rattle.cedar_model.specs.Responses.{with_error, counted_report, reported_true, reported_false, reported_residual}
 use Rattle.cedar_model.specs.Chains.{is_true, is_false, is_residual}
 use Rattle.cedar_responses.specs.Rows.{Located, located_of}
 use Rattle.cedar_responses.specs.Sheets.{sorted, nothing_noted, noted_also}
@@ -25,3 +25,23 @@ sorted_more ls errors l e = λ i. record {
   residual_forbids = of_append forbid is_residual ls (l ∷ []) i;
   errors = errors ++ with_error l.row.id e [];
 }
+
+-- ---- what no mode changes
+
+pub true_stays : (mode : ErrorHandling) (e : Effect) → counted_report mode e reported_true ≡ reported_true
+unfolding counted_report
+true_stays skip e = refl
+true_stays forbid_on_error permit = refl
+true_stays forbid_on_error forbid = refl
+
+pub false_stays : (mode : ErrorHandling) (e : Effect) → counted_report mode e (reported_false false) ≡ reported_false false
+unfolding counted_report
+false_stays skip e = refl
+false_stays forbid_on_error permit = refl
+false_stays forbid_on_error forbid = refl
+
+pub residual_stays : (mode : ErrorHandling) (e : Effect) (t : Term) → counted_report mode e (reported_residual t) ≡ reported_residual t
+unfolding counted_report
+residual_stays skip e t = refl
+residual_stays forbid_on_error permit t = refl
+residual_stays forbid_on_error forbid t = refl

@@ -66,7 +66,7 @@ impl Sheet {
 
     /// Notes how one more policy came out; where it erred, its error is noted too, and it is false, but that a forbid is satisfied
     /// where one that errs forbids. Refuses only for want of memory.
-    #[tactic(auto, unfolding(cedar_model::specs::Responses::reported_of, cedar_model::specs::Responses::error_of))]
+    #[tactic(auto, using(crate::proofs::Noted::true_stays, crate::proofs::Noted::false_stays, crate::proofs::Noted::residual_stays), unfolding(cedar_model::specs::Responses::reported_of, cedar_model::specs::Responses::error_of))]
     pub fn place(
         &mut self,
         mode: ErrorHandling,

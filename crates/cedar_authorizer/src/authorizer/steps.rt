@@ -3,6 +3,7 @@ ghost use Rattle.std.specs.Prelude.{◌≡◌, ◌≢◌, true, Option, Some, If
 ghost use Rattle.cedar_model.specs.Chains.{Response, is_limit, has_limit, is_same_mode};
 ghost use Rattle.cedar_model.specs.Failures.{recursion_limit, failure_kind};
 ghost use Rattle.cedar_model.specs.Refusals.{context_fails};
+ghost use Rattle.cedar_authorizer.specs.Steps.{IsConflict};
 ghost use Rattle.cedar_decisions.specs.Decisions.{mode_view};
 ghost use Rattle.cedar_names.specs.declared.names.Loc.{Loc};
 ghost use Rattle.cedar_requests.specs.Requests.{request_view};
@@ -58,6 +59,7 @@ pub trait Reauthorize {
         authorizer: &Authorizer<'_, '_>,
         entities: &Entities,
     ) -> Result<PartialResponse, ReauthorizationError>
+        ensures conflict { IsConflict (mode_of authorizer.now) (said self.now).mode (step_answer result) }
         ensures step { IfSome (step_answer result)
             (IsStep (configuration authorizer.now) (step_by map.now entities.now) (said self.now)) }
         ensures memory { IfErr result IsUnwrapped }
@@ -97,6 +99,7 @@ fn reauthorized(
     authorizer: &Authorizer<'_, '_>,
     entities: &Entities,
 ) -> Result<PartialResponse, ReauthorizationError>
+    ensures conflict { IsConflict (mode_of authorizer.now) (rows.mode_of response.now) (step_answer result) }
     ensures step { IfSome (step_answer result)
         (IsStep (configuration authorizer.now) (step_by map.now entities.now) (response_said response.now)) }
     ensures memory { IfErr result IsUnwrapped }
@@ -139,7 +142,8 @@ fn in_same_mode(
     entities: &Entities,
 ) -> Result<PartialResponse, ReauthorizationError>
     ensures step { is_same_mode (mode_of authorizer.now) (rows.mode_of response.now) ≡ true →
-        IfSome (step_answer result) (IsStep (configuration authorizer.now) (step_by map.now entities.now) (response_said response.now)) }
+        IfSome (step_answer result)
+        (IsStep (configuration authorizer.now) (step_by map.now entities.now) (response_said response.now)) }
     ensures memory { IfErr result IsUnwrapped }
     ensures places { IfOk result (λ r. entity_locs r.request.value
         ≡ concrete_locs (values_for map.now.entries) (entity_locs response.now.request.value)) }

@@ -5,6 +5,7 @@ use Rattle.cedar_model.specs.Policies.{permit, skip, forbid_on_error}
 use Rattle.cedar_model.specs.Responses.{truth}
 use Rattle.cedar_model.specs.ChainExamples
 use Rattle.cedar_model.proofs.Exemplified.{chain_opened, finds_none, is_memory, run_to}
+use Rattle.cedar_model.proofs.StrictSteps as strict
 use Rattle.cedar_model.proofs.TwoSteps as two
 use Rattle.cedar_model.proofs.chain_examples.chains_answer.Goals as goal
 
@@ -54,7 +55,50 @@ pub returns-clause-erring_forbid : goal.returns-clause-erring_forbid
 unfolding chain_opened finds_none is_memory
 returns-clause-erring_forbid c = (
   _,
-  run_to skip (ChainExamples.setting_of ChainExamples.known_request) 9 ChainExamples.erring_policies (refl, (refl, tt)),
+  run_to skip (ChainExamples.setting_of ChainExamples.known_request) 9 ChainExamples.erring_policies
+      (refl, (refl, (refl, tt))),
   run_to forbid_on_error (ChainExamples.setting_of ChainExamples.known_request) 9 ChainExamples.erring_policies
-      (refl, (refl, tt)),
+      (refl, (refl, (refl, tt))),
+  refl,
+  refl,
+  refl,
+  refl,
+  refl,
+  refl,
+)
+
+pub returns-clause-strict : goal.returns-clause-strict
+unfolding chain_opened
+returns-clause-strict c = (
+  strict.first,
+  strict.allowed,
+  strict.denied,
+  strict.again,
+  strict.begins,
+  strict.is_allowed,
+  strict.is_denied,
+  strict.is_kept,
+  refl,
+  refl,
+  refl,
+  refl,
+  refl,
+  refl,
+  refl,
+  refl,
+  refl,
+  refl,
+)
+
+pub returns-clause-strict_completed : goal.returns-clause-strict_completed
+unfolding chain_opened
+returns-clause-strict_completed c = (
+  strict.first,
+  strict.denied,
+  strict.begins,
+  strict.chained,
+  strict.completed,
+  refl,
+  refl,
+  refl,
 )

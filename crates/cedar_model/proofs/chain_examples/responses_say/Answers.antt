@@ -36,4 +36,4 @@ returns-clause-residual_permit_may c = (refl, refl, refl)
 
 pub returns-clause-early_deny : goal.returns-clause-early_deny
 unfolding chain_opened
-returns-clause-early_deny c = refl
+returns-clause-early_deny c = (refl, refl, refl, refl)
