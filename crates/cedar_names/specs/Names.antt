@@ -19,9 +19,21 @@ name_loc n = n.loc
 abbrev pub type_text : EntityType → Text
 type_text t = name_text t.0
 
+-- the name of an entity type, whole: its location included
+abbrev pub type_name_of : EntityType → Name
+type_name_of t = t.0
+
+-- where an entity type is named
+abbrev pub type_loc : EntityType → Option Loc
+type_loc t = name_loc t.0
+
 -- the name of an entity
 abbrev pub uid_name : EntityUID → EntityName
 uid_name u = record { type_name = type_text u.ty; id = rc_str_bytes u.eid }
+
+-- the type of an entity, whole: the location of its name included
+abbrev pub uid_type : EntityUID → EntityType
+uid_type u = u.ty
 
 -- where an entity is named
 abbrev pub uid_loc : EntityUID → Option Loc

@@ -1,7 +1,8 @@
 //! Names: of entity types, of entities, of functions, of slots and of the request's variables.
 ghost use Rattle.std.specs.Prelude.{◌≡◌, option_copied};
 ghost use Rattle.std.specs.Rc.{rc_str_bytes};
-ghost use Rattle.cedar_names.specs.Names.{name_text, name_loc, type_text, uid_name, uid_loc};
+ghost use Rattle.cedar_names.specs.Names.{name_text, name_loc, type_text, type_name_of};
+ghost use Rattle.cedar_names.specs.Names.{uid_name, uid_type, uid_loc};
 
 mod parts;
 mod texts;
@@ -74,7 +75,8 @@ impl Drop for EntityType {
 impl EntityType {
     /// The entity type of this name.
     pub fn new(name: Name) -> EntityType
-        ensures { type_text result ≡ name_text name }
+        ensures text { type_text result ≡ name_text name }
+        ensures whole { type_name_of result ≡ name }
     {
         EntityType(name)
     }
@@ -114,14 +116,16 @@ impl EntityUID {
     /// The entity of this type with this id, named at this location or at none that is known.
     pub fn new(ty: EntityType, eid: RcStr, loc: Option<Loc>) -> EntityUID
         ensures name { uid_name result ≡ record { type_name = type_text ty; id = rc_str_bytes eid } }
+        ensures whole { uid_type result ≡ ty }
         ensures loc { uid_loc result ≡ loc }
     {
         EntityUID { ty, eid, loc }
     }
 
-    /// The type of the entity.
+    /// The type of the entity, with its location.
     pub fn entity_type(&self) -> &EntityType
-        ensures { type_text result.now ≡ (uid_name self.now).type_name }
+        ensures text { type_text result.now ≡ (uid_name self.now).type_name }
+        ensures whole { result.now ≡ uid_type self.now }
     {
         &self.ty
     }

@@ -2,11 +2,17 @@
 use Rattle.std.specs.Prelude.{List, [], Option, Some, None, option_map}
 use Rattle.cedar_model.specs.Terms.{Text, EntityName}
 use Rattle.cedar_model.specs.Settings.{Entry, known_entry, unknown_entry, ContextPart, absent_context, RequestPart}
+use Rattle.cedar_names.specs.declared.names.EntityType.{EntityType}
 use Rattle.cedar_names.specs.declared.names.EntityUID.{EntityUID}
 use Rattle.cedar_names.specs.declared.names.Loc.{Loc}
-use Rattle.cedar_names.specs.Names.{type_text, uid_name}
+use Rattle.cedar_names.specs.Names.{type_text, uid_name, uid_type}
+use Rattle.cedar_names.specs.declared.types.«Type».{«Type» as RType}
+use Rattle.cedar_names.specs.declared.types.«Type».TheVariants as types
+use Rattle.cedar_expressions.specs.Nodes as node
+use Rattle.cedar_expressions.specs.Nodes.{Node, node_of}
 use Rattle.cedar_data.specs.declared.partial_value.PartialValue.{PartialValue}
-use Rattle.cedar_data.specs.Residuals.{partial_loc}
+use Rattle.cedar_data.specs.declared.partial_value.PartialValue.TheVariants as partials
+use Rattle.cedar_data.specs.Residuals.{partial_loc, residual_expr}
 use Rattle.cedar_requests.specs.declared.context.Context.{Context}
 use Rattle.cedar_requests.specs.declared.entry.EntityUIDEntry.{EntityUIDEntry}
 use Rattle.cedar_requests.specs.declared.entry.EntityUIDEntry.TheVariants.{Known, Unknown}
@@ -19,6 +25,16 @@ use Rattle.cedar_requests.specs.Contexts.{context_view, context_locs}
 abbrev pub entry_uid : EntityUIDEntry → Option EntityUID
 entry_uid (Known u l) = Some u
 entry_uid (Unknown t l) = None
+
+-- the type of its entity as it was handed in, location included, where it is known
+abbrev pub entry_entity_type : EntityUIDEntry → Option EntityType
+entry_entity_type (Known u l) = Some (uid_type u)
+entry_entity_type (Unknown t l) = t
+
+-- the type that its unknown is annotated with
+abbrev pub entry_annotation : EntityUIDEntry → Option EntityType
+entry_annotation (Known u l) = None
+entry_annotation (Unknown t l) = t
 
 -- where an entry names it
 abbrev pub entry_loc : EntityUIDEntry → Option Loc
@@ -72,6 +88,21 @@ request_locs r = (entry_loc r.principal, entry_loc r.action, entry_loc r.resourc
 
 -- ---- variables
 
+-- the entity type that an unknown is annotated with, whole: its location included
+abbrev pub annotated_type : Option RType → Option EntityType
+annotated_type (Some (types.Entity t)) = Some t
+annotated_type other = None
+
+-- that of an expression which is an unknown
+abbrev pub node_annotation : Node → Option EntityType
+node_annotation (node.Unknown u) = annotated_type u.type_annotation
+node_annotation other = None
+
+-- and of an answer which is an unknown
+abbrev pub partial_annotation : PartialValue → Option EntityType
+partial_annotation (partials.Value v) = None
+partial_annotation (partials.Residual r) = node_annotation (node_of (residual_expr r))
+
 -- where the answers of the variables stand: of principal, action, resource and context
 abbrev pub AnswerLocs : Type 0
 AnswerLocs = Option Loc × Option Loc × Option Loc × Option Loc
@@ -82,3 +113,14 @@ answer_locs p = (partial_loc p.0, partial_loc p.1, partial_loc p.2, partial_loc 
 -- an entity stands where its entry names it, and a context nowhere
 abbrev pub variable_locs : Request → AnswerLocs
 variable_locs r = (entry_loc r.principal, entry_loc r.action, entry_loc r.resource, None)
+
+-- the entity types that the answers of principal, action and resource are annotated with
+abbrev pub AnswerAnnotations : Type 0
+AnswerAnnotations = Option EntityType × Option EntityType × Option EntityType
+
+abbrev pub answer_annotations : PartialValue × PartialValue × PartialValue × PartialValue → AnswerAnnotations
+answer_annotations p = (partial_annotation p.0, partial_annotation p.1, partial_annotation p.2)
+
+-- those of the entries, as they were handed in
+abbrev pub variable_annotations : Request → AnswerAnnotations
+variable_annotations r = (entry_annotation r.principal, entry_annotation r.action, entry_annotation r.resource)

@@ -28,7 +28,9 @@ impl EntityUIDEntry {
     ghost use Rattle.cedar_names.specs.Texts.{variable_text};
     ghost use Rattle.cedar_data.specs.Residuals.{partial_view, partial_loc};
     ghost use Rattle.cedar_requests.specs.declared.entry.EntityUIDEntry.TheVariants.{Known, Unknown};
-    ghost use Rattle.cedar_requests.specs.Requests.{entry_view, entry_uid, entry_loc, entry_name, entry_type};
+    ghost use Rattle.cedar_requests.specs.Requests.{entry_view, entry_uid, entry_entity_type, entry_loc};
+    ghost use Rattle.cedar_requests.specs.Requests.{entry_name, entry_type, entry_annotation, partial_annotation};
+    ghost use Rattle.cedar_requests.specs.Types.{placed_type};
 
     /// A known entity, named at this location.
     pub fn known(euid: EntityUID, loc: Option<Loc>) -> EntityUIDEntry
@@ -65,9 +67,11 @@ impl EntityUIDEntry {
         }
     }
 
-    /// The type of the entity, where that is known: of a known entity, or the type that an unknown one has.
+    /// The type of the entity, with its location, where it is known: of a known entity, or the type that an unknown one
+    /// has.
     pub fn get_type(&self) -> Option<&EntityType>
-        ensures { option_map type_text (option_copied result) ≡ entry_type (entry_view self.now) }
+        ensures text { option_map type_text (option_copied result) ≡ entry_type (entry_view self.now) }
+        ensures whole { option_copied result ≡ entry_entity_type self.now }
     {
         match self {
             EntityUIDEntry::Known { euid, loc: _ } => Some(euid.entity_type()),
@@ -76,11 +80,14 @@ impl EntityUIDEntry {
     }
 
     /// What the variable answers that the entry stands for, at the entry's location: the entity, or the unknown of the
-    /// variable's name, which is annotated with the entity's type where that is known. Refuses only for want of memory.
+    /// variable's name, which is annotated with the entity's type, with its location, where that is known. Refuses only
+    /// for want of memory.
     pub fn evaluate(&self, alloc: Global, var: Var) -> Result<PartialValue, AllocError>
         ensures view { IfOk result (λ p. partial_view p
             ≡ entry_part (entry_view self.now) (variable_text (variable_view var))) }
         ensures place { IfOk result (λ p. partial_loc p ≡ entry_loc self.now) }
+        ensures annotation { IfOk result (λ p. option_map placed_type (partial_annotation p)
+            ≡ option_map placed_type (entry_annotation self.now)) }
     {
         let entry = self.clone()?;
         entry.into_part(alloc, var)
@@ -92,6 +99,7 @@ impl EntityUIDEntry {
         ensures view { IfOk result (λ p. partial_view p
             ≡ entry_part (entry_view self) (variable_text (variable_view var))) }
         ensures place { IfOk result (λ p. partial_loc p ≡ entry_loc self) }
+        ensures annotation { IfOk result (λ p. partial_annotation p ≡ entry_annotation self) }
     {
         match self {
             EntityUIDEntry::Known { euid, loc } => known_part(alloc, euid, loc),

@@ -9,7 +9,7 @@ ghost use Rattle.cedar_names.specs.Names.{type_text, uid_name};
 ghost use Rattle.cedar_names.specs.Leaves.{type_view, variable_view};
 ghost use Rattle.cedar_names.specs.Texts.{variable_text};
 ghost use Rattle.cedar_data.specs.Residuals.{partial_view, partial_loc};
-ghost use Rattle.cedar_requests.specs.Requests.{context_given};
+ghost use Rattle.cedar_requests.specs.Requests.{context_given, annotated_type, partial_annotation};
 
 use crate::context::Context;
 use cedar_data::{PartialValue, ResidualExpr, Value, ValueKind};
@@ -39,6 +39,7 @@ pub(crate) fn known_part(
 ) -> Result<PartialValue, AllocError>
     ensures view { IfOk result (λ p. partial_view p ≡ value (plain_represented (entity_literal (uid_name euid)))) }
     ensures place { IfOk result (λ p. partial_loc p ≡ loc) }
+    ensures annotation { IfOk result (λ p. partial_annotation p ≡ None) }
 {
     let uid = Rc::new(alloc, euid)?;
     let entity = Value::new(ValueKind::Lit(Literal::EntityUID(uid)), loc);
@@ -55,6 +56,7 @@ pub(crate) fn unknown_part(
     ensures view { IfOk result (λ p. partial_view p
         ≡ residual (unknown (variable_text (variable_view var)) (type_annotation (option_map type_text ty)))) }
     ensures place { IfOk result (λ p. partial_loc p ≡ loc) }
+    ensures annotation { IfOk result (λ p. partial_annotation p ≡ ty) }
 {
     let name = RcStr::from_str(alloc, variable_text(var))?;
     let expr = Expr::unknown(unknown_of(name, ty)).with_maybe_source_loc(loc);
@@ -66,6 +68,7 @@ pub(crate) fn unknown_part(
 fn unknown_of(name: RcStr, ty: Option<EntityType>) -> Unknown
     ensures name { rc_str_bytes result.name ≡ rc_str_bytes name }
     ensures annotation { option_map type_view result.type_annotation ≡ type_annotation (option_map type_text ty) }
+    ensures whole { annotated_type result.type_annotation ≡ ty }
 {
     match ty {
         Some(ty) => Unknown::new_with_type(name, Type::Entity { ty }),

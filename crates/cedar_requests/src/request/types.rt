@@ -1,8 +1,7 @@
 //! The types of a request.
-ghost use Rattle.std.specs.Prelude.{◌≡◌, Some, IfOk, IfSome, option_map};
-ghost use Rattle.cedar_names.specs.Names.{uid_loc};
-ghost use Rattle.cedar_requests.specs.Requests.{entry_uid, request_parts, request_view};
-ghost use Rattle.cedar_requests.specs.Types.{request_type_view, request_type};
+ghost use Rattle.std.specs.Prelude.{◌≡◌, IfOk, IfSome, option_map};
+ghost use Rattle.cedar_requests.specs.Requests.{request_parts, request_view};
+ghost use Rattle.cedar_requests.specs.Types.{request_type_view, request_type, IsTypeOf, IsEntityOf};
 
 use super::Request;
 use cedar_names::{EntityType, EntityUID};
@@ -20,12 +19,13 @@ pub struct RequestType {
 }
 
 impl Request {
-    /// The types of the principal and the resource, and the action: `None` unless all three are known. Refuses only for
-    /// want of memory.
+    /// The types of the principal and the resource, and the action, each with its location: `None` unless all three are
+    /// known. Refuses only for want of memory.
     pub fn to_request_type(&self) -> Result<Option<RequestType>, AllocError>
         ensures view { IfOk result (λ t. option_map request_type_view t ≡ request_type (request_view self.now)) }
-        ensures place { IfOk result (λ t. IfSome t (λ k. option_map uid_loc (entry_uid (request_parts self.now).1)
-            ≡ Some (uid_loc k.action))) }
+        ensures principal { IfOk result (λ t. IfSome t (λ k. IsTypeOf (request_parts self.now).0 k.principal)) }
+        ensures action { IfOk result (λ t. IfSome t (λ k. IsEntityOf (request_parts self.now).1 k.action)) }
+        ensures resource { IfOk result (λ t. IfSome t (λ k. IsTypeOf (request_parts self.now).2 k.resource)) }
     {
         let Some(principal) = self.principal.uid() else {
             return Ok(None);

@@ -4,6 +4,7 @@ ghost use Rattle.cedar_model.specs.Terms.{principal, action, resource, context};
 ghost use Rattle.cedar_model.specs.Settings.{variable_part};
 ghost use Rattle.cedar_data.specs.Residuals.{partial_view};
 ghost use Rattle.cedar_requests.specs.Requests.{request_view, answer_locs, variable_locs};
+ghost use Rattle.cedar_requests.specs.Requests.{answer_annotations, variable_annotations};
 
 use super::Request;
 use crate::variables::context_part;
@@ -25,6 +26,7 @@ impl Request {
         ensures resource { IfOk result (λ p. partial_view p.2 ≡ variable_part (request_view self) resource) }
         ensures context { IfOk result (λ p. partial_view p.3 ≡ variable_part (request_view self) context) }
         ensures places { IfOk result (λ p. answer_locs p ≡ variable_locs self) }
+        ensures annotations { IfOk result (λ p. answer_annotations p ≡ variable_annotations self) }
     {
         let (principal, action, resource, context) = self.into_parts();
         let (principal, action, resource, context) = all(
