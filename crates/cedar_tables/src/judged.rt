@@ -4,8 +4,8 @@ use crate::levels::{Asked, Shortage, answer_within, met_in};
 use crate::notation::answer::Answer;
 use crate::notation::policies::{policies, policy, policy_set};
 use crate::notation::settings::Setting;
-use crate::notation::shown::{Place, is_equal};
-use cedar_authorizer::authorizer::{AuthorizationError, Authorizer, Response};
+use crate::notation::shown::{LIMIT, Place, is_equal};
+use cedar_authorizer::authorizer::{AuthorizationError, Authorizer, ErrorHandling, Response};
 use cedar_built_in_rows::lines::{decision_text, reasons_text};
 use cedar_evaluator::evaluator::{EvaluationError, Evaluator};
 use cedar_layers::expressions::{Expr, ExprKind};
@@ -54,7 +54,7 @@ fn response(
     limit: usize,
     policies: &PolicySet,
 ) -> Result<Response, AllocError> {
-    let authorizer = Authorizer::new(setting.extensions, limit);
+    let authorizer = setting.authorizer(limit);
     let request = setting.request.clone()?;
     authorizer.is_authorized(alloc, request, policies, &setting.entities)
 }
@@ -74,6 +74,22 @@ fn put_decided(answer: &mut Answer, kind: &str, response: &Response) {
             put_extensions(answer, &response.diagnostics.errors);
         }
         _ => put_is_copied(answer, response),
+    }
+}
+
+/// How errors are handled by default, by a new authorizer, or by that of the setting.
+pub fn ask_mode(answer: &mut Answer, setting: &Setting<'_, '_>, words: &str) {
+    match words {
+        "default" => answer.show_debug(&ErrorHandling::default()),
+        "new" => {
+            let authorizer = Authorizer::new(setting.extensions, LIMIT);
+            answer.show_debug(&authorizer.error_handling());
+        }
+        "setting" => {
+            let authorizer = setting.authorizer(LIMIT);
+            answer.show_debug(&authorizer.error_handling());
+        }
+        _ => answer.refuse("no such authorizer"),
     }
 }
 

@@ -112,7 +112,7 @@ fn put_refused_by(
     policies: &PolicySet,
 ) {
     let none = Extensions::none();
-    let authorizer = Authorizer::new(&none, LIMIT);
+    let authorizer = Authorizer::new(&none, LIMIT).with_error_handling(row.error_handling());
     match in_one_step(answer.alloc, row, &authorizer, policies, step) {
         Ok(response) => {
             drop(response);

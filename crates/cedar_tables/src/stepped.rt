@@ -10,7 +10,7 @@ use crate::notation::unanswered::Unanswered;
 use crate::notation::{add, both, headed};
 use crate::steps::{Step, mapping, sheet, steps};
 use cedar_authorizer::authorizer::{
-    AuthorizationError, Authorizer, ConcretizationError, Decision, PartialResponse,
+    AuthorizationError, ConcretizationError, Decision, ErrorHandling, PartialResponse,
     ReauthorizationError, Reauthorize, ReportedIds, ReportedPolicies, Response,
 };
 use cedar_built_in_rows::lines::decision_text;
@@ -110,6 +110,7 @@ fn asked_and_limit(argument: &str) -> (&str, &str) {
         ("get", _) => (argument, ""),
         ("request", _) => (argument, ""),
         ("readers", _) => (argument, ""),
+        ("mode", _) => (argument, ""),
         (_, _) => ("", argument),
     }
 }
@@ -213,7 +214,7 @@ fn after(
     policies: &PolicySet,
     steps: &[(&HashMap<RcStr, Value>, &Entities)],
 ) -> Result<PartialResponse, ReauthorizationError> {
-    let authorizer = Authorizer::new(setting.extensions, limit);
+    let authorizer = setting.authorizer(limit);
     let request = setting.request.clone()?;
     authorizer.authorize_in_steps(alloc, request, policies, &setting.entities, steps)
 }
@@ -236,7 +237,7 @@ fn core(
     limit: usize,
     policies: &PolicySet,
 ) -> Result<PartialResponse, AllocError> {
-    let authorizer = Authorizer::new(setting.extensions, limit);
+    let authorizer = setting.authorizer(limit);
     let request = setting.request.clone()?;
     authorizer.is_authorized_core(alloc, request, policies, &setting.entities)
 }
@@ -277,7 +278,9 @@ fn taken(
     response: PartialResponse,
     step: &Step,
 ) -> Result<PartialResponse, ReauthorizationError> {
-    let authorizer = Authorizer::new(setting.extensions, limit);
+    let authorizer = setting
+        .authorizer(limit)
+        .with_error_handling(step.error_handling);
     let next = response.reauthorize(alloc, &step.map, &authorizer, &step.entities);
     drop(response);
     next
@@ -289,9 +292,9 @@ fn made(
     setting: &Setting<'_, '_>,
     notes: &str,
 ) -> Result<PartialResponse, Unanswered> {
-    let sheet = sheet(alloc, notes)?;
+    let sheet = sheet(alloc, setting.error_handling, notes)?;
     match shared_request(alloc, &setting.request) {
-        Ok(request) => Ok(made_of(alloc, sheet, request)?),
+        Ok(request) => Ok(made_of(alloc, setting.error_handling, sheet, request)?),
         Err(error) => {
             drop(sheet);
             Err(error.into())
@@ -305,11 +308,43 @@ fn shared_request(alloc: Global, request: &Request) -> Result<Rc<Request>, Alloc
 
 fn made_of(
     alloc: Global,
+    mode: ErrorHandling,
+    sheet: Sheet,
+    request: Rc<Request>,
+) -> Result<PartialResponse, AllocError> {
+    match mode {
+        ErrorHandling::Skip => made_new(alloc, sheet, request),
+        ErrorHandling::ForbidOnError => made_in_mode(alloc, mode, sheet, request),
+    }
+}
+
+fn made_new(
+    alloc: Global,
     sheet: Sheet,
     request: Rc<Request>,
 ) -> Result<PartialResponse, AllocError> {
     PartialResponse::new(
         alloc,
+        sheet.true_permits.into_iter(),
+        sheet.false_permits.into_iter(),
+        sheet.residual_permits.into_iter(),
+        sheet.true_forbids.into_iter(),
+        sheet.false_forbids.into_iter(),
+        sheet.residual_forbids.into_iter(),
+        sheet.errors.into_iter(),
+        request,
+    )
+}
+
+fn made_in_mode(
+    alloc: Global,
+    mode: ErrorHandling,
+    sheet: Sheet,
+    request: Rc<Request>,
+) -> Result<PartialResponse, AllocError> {
+    PartialResponse::new_in_mode(
+        alloc,
+        mode,
         sheet.true_permits.into_iter(),
         sheet.false_permits.into_iter(),
         sheet.residual_permits.into_iter(),
@@ -333,6 +368,7 @@ fn put_answered(
             answer.put(refusal(error));
             answer.put(": ");
             answer.show_refusal(error);
+            put_conflict(answer, error);
         }
     }
 }
@@ -341,6 +377,7 @@ fn put_asked(answer: &mut Answer, asked: &str, response: &PartialResponse) {
     match headed(asked) {
         ("get", id) => put_got(answer, response, id),
         ("readers", _) => put_readers(answer, response),
+        ("mode", _) => put_modes(answer, response),
         ("request", _) => answer.show(response.request.as_ref()),
         (_, _) => {
             put_concrete(answer, response);
@@ -362,6 +399,40 @@ fn refusal(error: &ReauthorizationError) -> &'static str {
         },
         ReauthorizationError::Memory(_) => "Memory",
     }
+}
+
+// Behind a conflict the response's mode and the authorizer's.
+fn put_conflict(answer: &mut Answer, error: &ReauthorizationError) {
+    if let ReauthorizationError::ErrorHandlingConflict {
+        response,
+        authorizer,
+    } = error
+    {
+        answer.put(", response ");
+        answer.show_debug(response);
+        answer.put(", authorizer ");
+        answer.show_debug(authorizer);
+    }
+}
+
+// How the response handles errors, and how a copy of it does.
+fn put_modes(answer: &mut Answer, response: &PartialResponse) {
+    match response.clone() {
+        Ok(copy) => {
+            put_both_modes(answer, response.error_handling(), copy.error_handling());
+            drop(copy);
+        }
+        Err(_) => answer.lack_memory(),
+    }
+}
+
+fn put_both_modes(answer: &mut Answer, mode: ErrorHandling, copy: ErrorHandling) {
+    let is_same = mode == copy;
+    answer.show_debug(&mode);
+    answer.put(", of a copy ");
+    answer.show_debug(&copy);
+    answer.put(", the same ");
+    answer.show(&is_same);
 }
 
 // The decision, and the response made concrete, as `Allow; Allow [reasons] [errors]`. Both ways to make it concrete must answer the same.

@@ -1,16 +1,18 @@
 //! Reads the steps that a response is taken further by, and what a response is made of.
 //!
 //! - `x L:1, y B:true` is a step with these values for unknowns, and `none` one with no value. Steps have ` / ` between them.
-//! - `then x L:1` is a step over the second store, of which each fact stands behind `then` in the setting.
+//! - `then x L:1` is a step over the second store, of which each fact stands behind `then` in the setting; by an authorizer that handles errors as
+//!   `then errors` says, or as the setting does.
 //! - `permit a true, permit b=note error, forbid c U:x` is what a response is made of: `a` is satisfied, `b` erred and has the annotation `note`, and
 //!   `c` has these words left.
 use crate::notation::errors::error;
 use crate::notation::expressions::expression;
 use crate::notation::leaves::text;
 use crate::notation::policies::{effect, policy_id};
-use crate::notation::settings::{put_value, stored};
+use crate::notation::settings::{error_handling, put_value, stored};
 use crate::notation::unanswered::{Noted, Unanswered};
-use crate::notation::{Parts, fact, headed};
+use crate::notation::{Parts, fact, first_fact, headed};
+use cedar_authorizer::authorizer::ErrorHandling;
 use cedar_layers::expressions::{Expr, Literal, Value};
 use cedar_layers::policies::{Annotations, Effect, Entities, Policy};
 use cedar_responses::shared::{Outcome, Sheet};
@@ -23,6 +25,7 @@ use std::rc::{Rc, RcStr};
 pub struct Step {
     pub map: HashMap<RcStr, Value>,
     pub entities: Entities,
+    pub error_handling: ErrorHandling,
 }
 
 /// The steps that are written so, in the setting of these facts.
@@ -38,7 +41,7 @@ pub fn steps(alloc: Global, facts: &str, written: &str) -> Result<Vec<Step>, Una
 
 fn put_step(alloc: Global, facts: &str, written: &str, steps: &mut Parts<Step>) {
     match written.strip_prefix("then ") {
-        Some(values) => match second_store(alloc, facts) {
+        Some(values) => match second_facts(alloc, facts) {
             Ok(second) => put_step_over(alloc, second.as_str(), values, steps),
             Err(_) => steps.lack_memory(),
         },
@@ -50,20 +53,29 @@ fn put_step_over(alloc: Global, facts: &str, values: &str, steps: &mut Parts<Ste
     let mut noted = Noted::none();
     let map = read_mapping(alloc, values, &mut noted);
     let entities = stored(alloc, facts, &mut noted);
-    steps.push(Step { map, entities });
+    let error_handling = error_handling(facts, &mut noted);
+    steps.push(Step {
+        map,
+        entities,
+        error_handling,
+    });
     if let Some(why) = noted.why() {
         steps.fail(why);
     }
 }
 
-// The facts of the second store.
-fn second_store(alloc: Global, facts: &str) -> Result<String, AllocError> {
+// The facts of the second store, and behind them how errors are handled in the setting.
+fn second_facts(alloc: Global, facts: &str) -> Result<String, AllocError> {
     let mut second = String::new(alloc);
     for line in facts.lines() {
         if let Some(rest) = fact(line, "then") {
             second.push_str(rest)?;
             second.push_str("\n")?;
         }
+    }
+    if let Some(handling) = first_fact(facts, "errors") {
+        second.push_str("errors ")?;
+        second.push_str(handling)?;
     }
     Ok(second)
 }
@@ -88,11 +100,11 @@ fn read_mapping(alloc: Global, written: &str, noted: &mut Noted) -> HashMap<RcSt
     map
 }
 
-/// The sheet with these notes.
-pub fn sheet(alloc: Global, written: &str) -> Result<Sheet, Unanswered> {
+/// The sheet with these notes, where errors are handled so.
+pub fn sheet(alloc: Global, mode: ErrorHandling, written: &str) -> Result<Sheet, Unanswered> {
     let mut sheet = Sheet::new(alloc);
     for note in written.split(", ") {
-        if let Err(error) = put_note(alloc, &mut sheet, note) {
+        if let Err(error) = put_note(alloc, mode, &mut sheet, note) {
             drop(sheet);
             return Err(error);
         }
@@ -100,20 +112,26 @@ pub fn sheet(alloc: Global, written: &str) -> Result<Sheet, Unanswered> {
     Ok(sheet)
 }
 
-fn put_note(alloc: Global, sheet: &mut Sheet, written: &str) -> Result<(), Unanswered> {
+fn put_note(
+    alloc: Global,
+    mode: ErrorHandling,
+    sheet: &mut Sheet,
+    written: &str,
+) -> Result<(), Unanswered> {
     let (effect, rest) = headed(written);
     let (named, came_out) = headed(rest);
     let policy = noted(alloc, effect, named)?;
-    put_outcome(alloc, sheet, &policy, came_out)
+    put_outcome(alloc, mode, sheet, &policy, came_out)
 }
 
 fn put_outcome(
     alloc: Global,
+    mode: ErrorHandling,
     sheet: &mut Sheet,
     policy: &Policy,
     came_out: &str,
 ) -> Result<(), Unanswered> {
-    Ok(sheet.place(policy, outcome(alloc, came_out)?)?)
+    Ok(sheet.place(mode, policy, outcome(alloc, came_out)?)?)
 }
 
 fn outcome(alloc: Global, written: &str) -> Result<Outcome, Unanswered> {

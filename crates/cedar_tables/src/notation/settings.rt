@@ -11,6 +11,8 @@
 //!   expression.
 //! - `ancestor User:a Group:g`.
 //! - `map x L:1` is the value of an unknown.
+//! - `errors skip` and `errors forbid` say how errors are handled: a policy that errs is skipped, as where neither stands; or a forbid that errs
+//!   forbids.
 //! - `functions` and `overloads` say which functions are stored, and for which types `<` is overloaded; `policies` reads the facts on
 //!   policies.
 ghost use Rattle.std.specs.Prelude.{◌≡◌, true};
@@ -22,6 +24,7 @@ use crate::notation::leaves::{entity_type, slot, text, uid};
 use crate::notation::unanswered::{Noted, Unanswered};
 use crate::notation::values::value;
 use crate::notation::{add, both, fact, first_fact, headed, or_memory, put};
+use cedar_authorizer::authorizer::{Authorizer, ErrorHandling};
 use cedar_extensions::Extensions;
 use cedar_layers::expressions::{EntityUID, Expr, PartialValue, ResidualExpr, SlotEnv, Value};
 use cedar_layers::policies::{Entities, Entity};
@@ -83,7 +86,15 @@ pub struct Setting<'e, 'f> {
     pub slots: SlotEnv,
     pub entities: Entities,
     pub map: HashMap<RcStr, Value>,
+    pub error_handling: ErrorHandling,
     pub extensions: &'e Extensions<'f>,
+}
+
+impl<'e, 'f> Setting<'e, 'f> {
+    /// The authorizer of the setting, within so many levels.
+    pub fn authorizer(&self, limit: usize) -> Authorizer<'e, 'f> {
+        Authorizer::new(self.extensions, limit).with_error_handling(self.error_handling)
+    }
 }
 
 /// The setting of these facts, with these extensions; why it can't be read is noted.
@@ -98,6 +109,7 @@ pub fn setting_of<'e, 'f>(
         slots: slots(alloc, facts, noted),
         entities: stored(alloc, facts, noted),
         map: mapped_values(alloc, facts, noted),
+        error_handling: error_handling(facts, noted),
         extensions,
     }
 }
@@ -208,6 +220,19 @@ fn reason(error: &ContextCreationError) -> Unanswered {
         ContextCreationError::ExpressionConstruction(_) => {
             Unanswered::Unreadable("a context that repeats a name")
         }
+    }
+}
+
+/// How errors are handled by these facts.
+pub fn error_handling(facts: &str, noted: &mut Noted) -> ErrorHandling {
+    match first_fact(facts, "errors") {
+        Some("skip") => ErrorHandling::Skip,
+        Some("forbid") => ErrorHandling::ForbidOnError,
+        Some(_) => {
+            noted.refuse("no such mode");
+            ErrorHandling::default()
+        }
+        None => ErrorHandling::default(),
     }
 }
 
