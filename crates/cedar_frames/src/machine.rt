@@ -1,6 +1,6 @@
 //! What an evaluator is, for the loop.
 ghost use Rattle.std.specs.Prelude.{◌≡◌, ℕ, suc, ◌≤◌, Bool, true};
-ghost use Rattle.cedar_frames.specs.Frames.{Resumes, Fewer, Below};
+ghost use Rattle.cedar_frames.specs.Frames.{Resumes, GoesOn, Rises, Fewer, Below};
 
 use std::alloc::Global;
 
@@ -45,8 +45,8 @@ pub trait Machine {
     /// The answer where memory is wanting.
     ghost at_want: { Self.Answer };
 
-    /// Looks at a part: answers it, or waits for a part of it. So many levels are left for the part, at least one: it is one of them
-    /// itself, and its parts are one more.
+    /// Looks at a part: answers it, or waits for a part of it. So many levels are left for the part, at least one: it
+    /// is one of them itself, and its parts are one more.
     fn start(
         &self,
         alloc: Global,
@@ -56,7 +56,8 @@ pub trait Machine {
         ensures right { (k : ℕ) → suc k ≡ levels → Resumes (right self.now) (waits self.now) k part result }
         ensures below { Below left_of most result };
 
-    /// Goes on with the answer of the part that the frame waits for. So many levels are left for what waits, at least one.
+    /// Goes on with the answer of the part that the frame waits for. So many levels are left for what waits, at least
+    /// one.
     fn resume(
         &self,
         alloc: Global,
@@ -64,7 +65,7 @@ pub trait Machine {
         answer: Self::Answer,
         levels: usize,
     ) -> Step<Self::Frame, Self::Part, Self::Answer>
-        ensures right { (k : ℕ) (t c : Self.Part) → suc k ≡ levels → waits self.now k frame t c → right self.now k c answer → Resumes (right self.now) (waits self.now) k t result }
+        ensures right { GoesOn (right self.now) (waits self.now) levels frame answer result }
         ensures fewer { Fewer left_of frame result };
 
     /// Whether the answer ends the whole at once.
@@ -89,7 +90,7 @@ pub trait Machine {
     ghost limit_ends: { ends_all at_limit ≡ true };
 
     /// An answer that ends the whole is right of a part only where it is right of what waits for the part.
-    ghost right_upward: { (s : Self) (k : ℕ) (f : Self.Frame) (t c : Self.Part) (a : Self.Answer) → ends_all a ≡ true → waits s k f t c → right s k c a → right s (suc k) t a };
+    ghost right_upward: { (s : Self) → Rises ends_all (right s) (waits s) };
 
     /// A frame that waits can wait once.
     ghost some_left: { (f : Self.Frame) → 1 ≤ left_of f };

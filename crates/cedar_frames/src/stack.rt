@@ -1,5 +1,6 @@
 //! The stack of frames.
-ghost use Rattle.std.specs.Prelude.{◌≡◌, ◌+◌, ◌++◌, ◌∷◌, [], ◌<◌, ◌≤◌, IfOk, IfSome, MatchOption, vec_len, length};
+ghost use Rattle.std.specs.Prelude.{◌≡◌, ◌+◌, ◌++◌, ◌∷◌, [], ◌<◌, ◌≤◌, IfOk, IfSome, vec_len, length};
+ghost use Rattle.cedar_frames.specs.Stacks.{IsPopped};
 
 use std::alloc::{AllocError, Global};
 
@@ -51,10 +52,23 @@ impl<F> Stack<F> {
         }
     }
 
+    // Takes all frames away. It costs one test where there is none.
+    #[inline(always)]
+    pub(crate) fn clear(&mut self)
+    where
+        F: Drop,
+        ensures limit { self.new.limit ≡ self.old.limit }
+        ensures empty { self.new.frames.items ≡ [] }
+    {
+        if !self.frames.is_empty() {
+            self.frames.clear();
+        }
+    }
+
     /// Takes the frame on top away.
     pub fn pop(&mut self) -> Option<F>
         ensures limit { self.new.limit ≡ self.old.limit }
-        ensures top { MatchOption result (self.old.frames.items ≡ []) (λ f. self.old.frames.items ≡ self.new.frames.items ++ f ∷ []) }
+        ensures top { IsPopped self.old.frames.items self.new.frames.items result }
         ensures room { IfSome result (λ _. length self.new.frames.items < self.old.limit) }
     {
         self.frames.pop()

@@ -1,6 +1,7 @@
 //! The loop: turn by turn, over the stack.
-ghost use Rattle.std.specs.Prelude.{◌≡◌, ◌++◌, ◌∷◌, [], ℕ, ◌<◌, List, vec_len};
-ghost use Rattle.cedar_frames.specs.Frames.{State, Turned, Less, IsHandedOn, work_left};
+ghost use Rattle.std.specs.Prelude.{◌≡◌, ◌<◌, vec_len};
+ghost use Rattle.cedar_frames.specs.Frames.{IsRightTurn, IsRightWait, StaysRight, IsHandedOn};
+ghost use Rattle.cedar_frames.specs.Frames.{IsLessLeft, IsWaitLeft, IsAnswerLeft};
 ghost use Rattle.cedar_frames.specs.declared.turns.Mode.TheVariants.{Eval, Answer};
 
 use crate::machine::{Machine, Step};
@@ -25,8 +26,8 @@ pub enum Turn<P, A> {
     End(A),
 }
 
-/// Evaluates: the answer is right, with so many levels. The whole is one level, its parts one more. Where no level is left the
-/// loop ends with the machine's answer for that; where the stack finds no memory, with that for want of memory.
+/// Evaluates: the answer is right, with so many levels. The whole is one level, its parts one more. Where no level is
+/// left the loop ends with the machine's answer for that; where the stack finds no memory, with that for want of it.
 pub fn interpret<M: Machine>(machine: &M, alloc: Global, part: M::Part, limit: usize) -> M::Answer
     ensures { M.right machine.now limit part result }
 {
@@ -34,17 +35,17 @@ pub fn interpret<M: Machine>(machine: &M, alloc: Global, part: M::Part, limit: u
     interpret_on(machine, alloc, &mut stack, part)
 }
 
-/// The same on this stack, which is empty, with as many levels as it has room for. Where an answer ended the whole, the stack has
-/// the frames that waited then.
+/// The same on this stack, with as many levels as it has room for. What frames it has are taken away first. Where an
+/// answer ended the whole, the stack has the frames that waited then.
 pub fn interpret_on<M: Machine>(
     machine: &M,
     alloc: Global,
     stack: &mut Stack<M::Frame>,
     part: M::Part,
 ) -> M::Answer
-    requires { stack.old.frames.items ≡ [] }
     ensures { M.right machine.now stack.old.limit part result }
 {
+    stack.clear();
     let mut mode = Mode::Eval(part);
     'turns: loop {
         match advance(machine, alloc, stack, mode) {
@@ -63,8 +64,8 @@ pub fn advance<M: Machine>(
     mode: Mode<M::Part, M::Answer>,
 ) -> Turn<M::Part, M::Answer>
     ensures limit { stack.new.limit ≡ stack.old.limit }
-    ensures right { (e : M.Part) → State (M.right machine.now) (M.waits machine.now) stack.old.limit e stack.old.frames.items mode → Turned (M.right machine.now) (M.waits machine.now) stack.old.limit e stack.new.frames.items result }
-    ensures less { Less M.left_of (work_left M.left_of M.most stack.old.limit stack.old.frames.items mode) M.most stack.old.limit stack.new.frames.items result }
+    ensures right { IsRightTurn (M.right machine.now) (M.waits machine.now) stack.old mode stack.new result }
+    ensures less { IsLessLeft M.left_of M.most stack.old mode stack.new result }
     ensures handed_on { IsHandedOn M.ends_all result }
 {
     match mode {
@@ -82,8 +83,8 @@ fn looked_at<M: Machine>(
     part: M::Part,
 ) -> Turn<M::Part, M::Answer>
     ensures limit { stack.new.limit ≡ stack.old.limit }
-    ensures right { (e : M.Part) → State (M.right machine.now) (M.waits machine.now) stack.old.limit e stack.old.frames.items (Eval part) → Turned (M.right machine.now) (M.waits machine.now) stack.old.limit e stack.new.frames.items result }
-    ensures less { Less M.left_of (work_left {P = M.Part} {A = M.Answer} M.left_of M.most stack.old.limit stack.old.frames.items (Eval part)) M.most stack.old.limit stack.new.frames.items result }
+    ensures right { IsRightTurn (M.right machine.now) (M.waits machine.now) stack.old (Eval part) stack.new result }
+    ensures less { IsLessLeft M.left_of M.most stack.old (Eval part) stack.new result }
     ensures handed_on { IsHandedOn M.ends_all result }
 {
     let levels = stack.levels_left();
@@ -105,8 +106,8 @@ fn handed_on<M: Machine>(
     answer: M::Answer,
 ) -> Turn<M::Part, M::Answer>
     ensures limit { stack.new.limit ≡ stack.old.limit }
-    ensures right { (e : M.Part) → State (M.right machine.now) (M.waits machine.now) stack.old.limit e stack.old.frames.items (Answer answer) → Turned (M.right machine.now) (M.waits machine.now) stack.old.limit e stack.new.frames.items result }
-    ensures less { Less M.left_of (work_left {P = M.Part} {A = M.Answer} M.left_of M.most stack.old.limit stack.old.frames.items (Answer answer)) M.most stack.old.limit stack.new.frames.items result }
+    ensures right { IsRightTurn (M.right machine.now) (M.waits machine.now) stack.old (Answer answer) stack.new result }
+    ensures less { IsLessLeft M.left_of M.most stack.old (Answer answer) stack.new result }
     ensures handed_on { IsHandedOn M.ends_all result }
 {
     let Some(frame) = stack.pop() else {
@@ -122,8 +123,8 @@ fn handed_on<M: Machine>(
 // On with an answer, or the end.
 #[inline(always)]
 fn answered<M: Machine>(machine: &M, answer: M::Answer) -> Turn<M::Part, M::Answer>
-    ensures right { (limit : ℕ) (e : M.Part) (fs : List M.Frame) → State (M.right machine.now) (M.waits machine.now) limit e fs (Answer answer) → Turned (M.right machine.now) (M.waits machine.now) limit e fs result }
-    ensures less { (n limit : ℕ) (fs : List M.Frame) → work_left {P = M.Part} M.left_of M.most limit fs (Answer answer) < n → Less M.left_of n M.most limit fs result }
+    ensures right { StaysRight (M.right machine.now) (M.waits machine.now) answer result }
+    ensures less { IsAnswerLeft M.left_of M.most answer result }
     ensures handed_on { IsHandedOn M.ends_all result }
 {
     if machine.ends(&answer) {
@@ -143,8 +144,8 @@ fn waiting<M: Machine>(
 ) -> Turn<M::Part, M::Answer>
     requires { vec_len stack.old.frames < stack.old.limit }
     ensures limit { stack.new.limit ≡ stack.old.limit }
-    ensures right { (e : M.Part) → State (M.right machine.now) (M.waits machine.now) stack.old.limit e (stack.old.frames.items ++ frame ∷ []) (Eval part) → Turned (M.right machine.now) (M.waits machine.now) stack.old.limit e stack.new.frames.items result }
-    ensures less { (n : ℕ) → work_left {A = M.Answer} M.left_of M.most stack.old.limit (stack.old.frames.items ++ frame ∷ []) (Eval part) < n → Less M.left_of n M.most stack.old.limit stack.new.frames.items result }
+    ensures right { IsRightWait (M.right machine.now) (M.waits machine.now) stack.old frame part stack.new result }
+    ensures less { IsWaitLeft M.left_of M.most stack.old frame part stack.new result }
     ensures handed_on { IsHandedOn M.ends_all result }
 {
     match stack.push(frame) {

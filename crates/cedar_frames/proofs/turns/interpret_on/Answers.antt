@@ -4,7 +4,7 @@ use Rattle.cedar_frames.proofs.turns.interpret_on.Goals as goal
 pub turns-init : goal.turns-init
 turns-init g c = record {
   limit = cc;
-  right = first (g.M.Machine.right c.args.machine.now) (g.M.Machine.waits c.args.machine.now) c.args.stack.now.limit c.args.part c.args.stack.now.frames.items c.requires;
+  right = first (g.M.Machine.right c.args.machine.now) (g.M.Machine.waits c.args.machine.now) c.args.stack.now.limit c.args.part c.clear.new.self.frames.items c.clear.ensures.empty;
 }
 
 pub turns-preserved : goal.turns-preserved
