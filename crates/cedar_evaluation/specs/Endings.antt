@@ -15,6 +15,10 @@ stopped_failure stops.Memory = out_of_memory
 stopped_failure stops.Limit = recursion_limit
 stopped_failure (stops.Failed f) = failure_of f.value.error
 
+-- what a value or a residual in a box answers
+abbrev pub boxed_answer : Box PartialValue Global → Answer
+boxed_answer p = answers (partial_view p.value)
+
 -- what an evaluation ends with
 abbrev pub Outcome : Type 0
 Outcome = Result (Box PartialValue Global) Stopped

@@ -1,15 +1,22 @@
 -- Best effort: an error of the language keeps the part that failed.
-use Rattle.std.specs.Prelude.{◌≡◌, ◌≢◌, false}
+use Rattle.std.specs.Prelude.{◌≡◌, ◌≢◌, false, Result, IfOk}
 use Rattle.std.proofs.Common.{refl, subst}
+use Rattle.std.specs.declared.alloc.AllocError.{AllocError}
 use Rattle.cedar_model.specs.Terms.{Term, slot, principal_slot}
-use Rattle.cedar_model.specs.Failures.{fails, out_of_memory, failure_kind}
+use Rattle.cedar_model.specs.Failures.{Answer, fails, out_of_memory, failure_kind}
 use Rattle.cedar_model.specs.Rules.{best, best_of_kind, kept}
+use Rattle.cedar_expressions.specs.declared.expr.Expr.{Expr}
+use Rattle.cedar_expressions.specs.View.{view}
 use Rattle.cedar_values.specs.declared.extensions.ExtensionFunctionLookupError.TheVariants as lookups
 use Rattle.cedar_values.specs.declared.evaluator.err.evaluation_errors.IntegerOverflowError.TheVariants as overflows
 use Rattle.cedar_values.specs.declared.evaluator.err.EvaluationError.{EvaluationError}
 use Rattle.cedar_values.specs.declared.evaluator.err.EvaluationError.TheVariants as errors
 use Rattle.cedar_values.specs.Failures.{failure_of}
 use Rattle.cedar_evaluation.specs.Finals.{is_final}
+
+-- what best effort keeps of the part after this answer, unless memory is wanting
+abbrev pub IsKept : Result Expr AllocError → Answer → Expr → Type 0
+IsKept m x part = IfOk m (λ e. best x (view part) ≡ kept (view e))
 
 some_term : Term
 some_term = slot principal_slot

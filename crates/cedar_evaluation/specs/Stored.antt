@@ -1,5 +1,7 @@
 -- Stored attributes: one that is an unknown goes through the map.
 use Rattle.std.specs.Prelude.{◌≡◌, ◌≢◌, Bool, true, false, Option, None, Some, Result}
+use Rattle.std.specs.Option.{option_map}
+use Rattle.std.specs.Rc.{rc_str_bytes}
 use Rattle.std.proofs.Common.{refl, sym, ap, ◌∙◌, subst}
 use Rattle.cedar_model.specs.Terms.{Text, EntityName, Term, literal, variable, slot, unknown, if_then_else, both, either, unary, binary, call, get_attribute, has_attribute, extended_has, like, is_of_type, set_of, record_of, Fields}
 use Rattle.cedar_model.specs.Values.{Represented}
@@ -8,6 +10,8 @@ use Rattle.cedar_model.specs.Settings.{Found, found, not_there, not_known, look_
 use Rattle.cedar_model.specs.Operators.{Container, a_record, an_entity, no_container, container_of, container_expected, unknown_answer, stored_attribute, attribute_found, attribute_in, attribute_answer, value_or_failure, represented_at, represented_names, key_is_missing, term_at, field_names}
 use Rattle.cedar_model.specs.Shapes.{is_projectable}
 use Rattle.cedar_model.specs.Rules.{MayAnswer, AtAttribute, fields_of_record}
+use Rattle.cedar_names.specs.declared.types.Unknown.{Unknown}
+use Rattle.cedar_names.specs.Leaves.{type_view}
 use Rattle.cedar_expressions.specs.declared.expr.Expr.{Expr}
 use Rattle.cedar_expressions.specs.View.{view}
 use Rattle.cedar_data.specs.declared.partial_value.PartialValue.{PartialValue as RustPartialValue}
@@ -17,6 +21,10 @@ use Rattle.cedar_operators.specs.Operands.{over}
 use Rattle.cedar_partial_operators.specs.declared.attributes.Projected.TheVariants as projections
 use Rattle.cedar_partial_operators.specs.Parts.{Projection, answered, interpreted_again, projected, projection_of, projection_at, projection, Projects, ProjectsTo}
 use Rattle.cedar_partial_operators.proofs.Projections.{at_attribute}
+
+-- what the map says of an unknown
+abbrev pub mapped_unknown : (Text → Option Represented) → Unknown → Answer
+mapped_unknown map u = unknown_answer map (rc_str_bytes u.name) (option_map type_view u.type_annotation)
 
 -- an unknown goes through the map; any other answer stays
 unfoldable pub remapped : (Text → Option Represented) → Answer → Answer

@@ -1,5 +1,6 @@
 -- What is told without a turn of its own.
-use Rattle.std.specs.Prelude.{◌≡◌, ◌≤◌, ◌<◌, ℕ, zero, suc, Bool, true, false, Option, Some, None, Result, IfSome}
+use Rattle.std.specs.Prelude.{◌≡◌, ◌≤◌, ◌<◌, ℕ, zero, suc, Bool, true, false}
+use Rattle.std.specs.Prelude.{Option, Some, None, Result, IfSome}
 use Rattle.std.proofs.Common.{refl, sym, ap, ◌∙◌, subst, arith}
 use Rattle.std.specs.declared.alloc.Global.{Global}
 use Rattle.std.specs.declared.boxed.Box.{Box}
@@ -26,7 +27,8 @@ use Rattle.cedar_evaluation.specs.Endings.{outcome_answer}
 use Rattle.cedar_evaluation.specs.Booleans.{part_bool, is_bool, and_true, or_false}
 use Rattle.cedar_evaluation.specs.Settings.{Speaks, setting_of, calls_in, some_request}
 use Rattle.cedar_evaluation.specs.Tasks.{Part, Next, Uses, WaitsFor, WaitsAgain, Gives, GoesOn, pending_left}
-use Rattle.cedar_evaluation.specs.Laws.{goes_on_through, fewer_through, goes_on_placed, goes_on_fewer, gives_begins, gives_placed, literal_joined}
+use Rattle.cedar_evaluation.specs.Laws.{goes_on_through, fewer_through, goes_on_placed, goes_on_fewer}
+use Rattle.cedar_evaluation.specs.Laws.{gives_begins, gives_placed, literal_joined}
 use Rattle.cedar_evaluation.specs.PartsLaws.{no_fail}
 use Rattle.cedar_values.specs.declared.evaluator.err.EvaluationError.{EvaluationError}
 use Rattle.cedar_values.specs.Answers.{partial_answer, AnswersWith}
@@ -34,7 +36,7 @@ use Rattle.cedar_operators.specs.Operands.{over}
 use Rattle.cedar_partial_operators.specs.Parts.{projection}
 use Rattle.cedar_partial_operators.proofs.Projections.{at_attribute}
 use Rattle.cedar_evaluation.specs.Stored.{of_value, value_stays}
-use Rattle.cedar_evaluation.specs.Steps.{BeginsIn, GoesOnIn, LeadsIn, goes_on_in}
+use Rattle.cedar_evaluation.specs.Steps.{GoesOnAt, BeginsIn, GoesOnIn, LeadsIn, goes_on_in}
 
 -- the value, if there is one, is right of the term, with so many levels
 abbrev pub IsTold : Setting → StoredCalls → ℕ → Term → Option Placed → Type 0
@@ -75,17 +77,51 @@ IsPlaced o l None = Unit {0}
 IsPlaced None l (Some w) = ⊥
 IsPlaced (Some v) l (Some w) = (w.what ≡ v.what) × (w.loc ≡ l)
 
--- the right side of `&&` or `||`, which must be a boolean: one that is told is the answer at this place, and anything else is waited
--- for
-abbrev pub IsRightSide : {X : Type 0} {F : X → Type 0} {g : _} → Evaluation X F g → ℕ → Option Loc → Pending → Part → Next → Type 0
-IsRightSide e levels l p c (Done o) =
-    (b : Bool) × ((r : RequestPart) (k : ℕ) → Speaks r e → levels ≤ suc (suc k) → Runs (setting_of r e) (calls_in e) (suc k) (view c.value) (answers_bool b)) × Gives l (Done o) (answers_bool b)
-IsRightSide e levels l p c (Wait f d) = (f.task ≡ tasks.Other p) × (d ≡ c) × (expr_loc f.whole.value ≡ l)
+-- ---- what is told in an evaluation
+
+-- the term is told so, with at least this many levels
+abbrev pub Tells : {X : Type 0} {F : X → Type 0} {g : _} → Evaluation X F g → ℕ → Term → Option Placed → Type 0
+Tells e h t o = (r : RequestPart) (k : ℕ) → Speaks r e → h ≤ k → IsTold (setting_of r e) (calls_in e) k t o
+
+-- the same as a boolean
+abbrev pub TellsBool : {X : Type 0} {F : X → Type 0} {g : _} → Evaluation X F g → ℕ → Term → Option Bool → Type 0
+TellsBool e h t b = (r : RequestPart) (k : ℕ) → Speaks r e → h ≤ k → IsBoolTold (setting_of r e) (calls_in e) k t b
+
+-- the term is told so, where its parts have at least this many levels
+abbrev pub TellsAbove : {X : Type 0} {F : X → Type 0} {g : _} → Evaluation X F g → ℕ → Term → Option Placed → Type 0
+TellsAbove e h t o =
+    (r : RequestPart) (k : ℕ) → Speaks r e → h ≤ k → IsTold (setting_of r e) (calls_in e) (suc k) t o
+
+-- the part is told so, where so many levels are left for the whole
+abbrev pub ToldIn : {X : Type 0} {F : X → Type 0} {g : _} → Evaluation X F g → ℕ → Term → Option Placed → Type 0
+ToldIn e levels t o =
+    (r : RequestPart) (k : ℕ) → Speaks r e → levels ≤ suc k → IsTold (setting_of r e) (calls_in e) k t o
+
+-- the same in a box
+abbrev pub BoxedToldIn : {X : Type 0} {F : X → Type 0} {g : _} → Evaluation X F g → ℕ → Term
+    → Option (Box PartialValue Global) → Type 0
+BoxedToldIn e levels t b =
+    (r : RequestPart) (k : ℕ) → Speaks r e → levels ≤ suc k → IsBoxedTold (setting_of r e) (calls_in e) k t b
+
+-- the same as a boolean
+abbrev pub BoolToldIn : {X : Type 0} {F : X → Type 0} {g : _} → Evaluation X F g → ℕ → Term → Option Bool → Type 0
+BoolToldIn e levels t b =
+    (r : RequestPart) (k : ℕ) → Speaks r e → levels ≤ suc k → IsBoolTold (setting_of r e) (calls_in e) k t b
+
+-- the right side of `&&` or `||`, which must be a boolean: one that is told is the answer where the whole stands, and
+-- anything else is waited for
+abbrev pub IsRightSide : {X : Type 0} {F : X → Type 0} {g : _} → Evaluation X F g → ℕ → Part → Pending → Part → Next
+    → Type 0
+IsRightSide e levels w p c (Done o) =
+    (b : Bool) × ((r : RequestPart) (k : ℕ) → Speaks r e → levels ≤ suc (suc k) →
+    Runs (setting_of r e) (calls_in e) (suc k) (view c.value) (answers_bool b))
+    × Gives (expr_loc w.value) (Done o) (answers_bool b)
+IsRightSide e levels w p c (Wait f d) = (f.task ≡ tasks.Other p) × (d ≡ c) × (expr_loc f.whole.value ≡ expr_loc w.value)
 
 -- the right side is waited for
-abbrev pub IsAwaited : Option Loc → Pending → Part → Next → Type 0
-IsAwaited l p c (Done o) = ⊥
-IsAwaited l p c (Wait f d) = (f.task ≡ tasks.Other p) × (d ≡ c) × (expr_loc f.whole.value ≡ l)
+abbrev pub IsAwaited : Part → Pending → Part → Next → Type 0
+IsAwaited w p c (Done o) = ⊥
+IsAwaited w p c (Wait f d) = (f.task ≡ tasks.Other p) × (d ≡ c) × (expr_loc f.whole.value ≡ expr_loc w.value)
 
 -- ---- laws
 
@@ -145,86 +181,114 @@ placed_there None l (Some w) is = absurd is
 placed_there (Some v) l (Some w) is = is.1
 
 -- where the first part of a term is told, what its answer leads to is what begins
-pub told_begins : {X : Type 0} {F : X → Type 0} {g : _} (e : Evaluation X F g) (levels : ℕ) (l : Option Loc) (p : Pending) (t c : Term) (v : model.PartialValue) (n : Next) →
+pub told_begins : {X : Type 0} {F : X → Type 0} {g : _} (e : Evaluation X F g) (levels : ℕ) (w : Part) (p : Pending)
+    (t c : Term) (v : model.PartialValue) (n : Next) →
     ((r : RequestPart) (k : ℕ) → WaitsFor (setting_of r e) (calls_in e) k (tasks.Other p) t c) →
     ((r : RequestPart) (k : ℕ) → Speaks r e → levels ≤ suc k → Runs (setting_of r e) (calls_in e) k c (answers v)) →
-    LeadsIn e levels l (tasks.Other p) (answers v) n → BeginsIn e levels l t n
-told_begins e levels l p t c v n waits told (leads, place, fewer) =
+    LeadsIn e levels w (tasks.Other p) (answers v) n → BeginsIn e levels w t n
+told_begins e levels w p t c v n waits told (leads, place, fewer) =
     (λ r k speaks low. leads r k speaks low t c (waits r k) (λ ok. told r k speaks low), place)
 
 -- where the first part of a term is told, what the rules make of it is the answer
-pub told_gives : {X : Type 0} {F : X → Type 0} {g : _} (e : Evaluation X F g) (levels : ℕ) (l : Option Loc) (u t : Term) (v : Represented) (f : Answer → Answer) (n : Next) →
-    ((r : RequestPart) (k : ℕ) (x a : Answer) → Runs (setting_of r e) (calls_in e) k t x → a ≡ f x → Runs (setting_of r e) (calls_in e) (suc k) u a) →
-    ((r : RequestPart) (k : ℕ) → Speaks r e → levels ≤ suc k → Runs (setting_of r e) (calls_in e) k t (answers_value v)) →
-    Gives l n (f (answers_value v)) → BeginsIn e levels l u n
-told_gives e levels l u t v f n rule told gives = (
-  λ r k speaks low. gives_begins (setting_of r e) (calls_in e) k l u (f (answers_value v)) n (λ a ok is. rule r k (answers_value v) a (told r k speaks low) is) gives,
-  gives_placed l n (f (answers_value v)) gives,
+pub told_gives : {X : Type 0} {F : X → Type 0} {g : _} (e : Evaluation X F g) (levels : ℕ) (w : Part) (u t : Term)
+    (v : Represented) (f : Answer → Answer) (n : Next) →
+    ((r : RequestPart) (k : ℕ) (x a : Answer) → Runs (setting_of r e) (calls_in e) k t x → a ≡ f x →
+    Runs (setting_of r e) (calls_in e) (suc k) u a) →
+    ((r : RequestPart) (k : ℕ) → Speaks r e → levels ≤ suc k →
+    Runs (setting_of r e) (calls_in e) k t (answers_value v)) →
+    Gives (expr_loc w.value) n (f (answers_value v)) → BeginsIn e levels w u n
+told_gives e levels w u t v f n rule told gives = (
+  λ r k speaks low. gives_begins (setting_of r e) (calls_in e) k (expr_loc w.value) u (f (answers_value v)) n
+      (λ a ok is. rule r k (answers_value v) a (told r k speaks low) is) gives,
+  gives_placed (expr_loc w.value) n (f (answers_value v)) gives,
 )
 
 -- where the next part is told, what goes on after it goes on
-pub told_goes_on : {X : Type 0} {F : X → Type 0} {g : _} (e : Evaluation X F g) (levels : ℕ) (l : Option Loc) (p q : Pending) (x y : Answer) (n : Next) →
-    pending_left q < pending_left p →
+pub told_goes_on : {X : Type 0} {F : X → Type 0} {g : _} (e : Evaluation X F g) (levels : ℕ) (w : Part) (p q : Pending)
+    (x y : Answer) (n : Next) → pending_left q < pending_left p →
     ((r : RequestPart) (k : ℕ) → Speaks r e → levels ≤ suc (suc k) → (a : Answer) →
     Uses (setting_of r e) (Runs (setting_of r e) (calls_in e) (suc k)) q y a →
     Uses (setting_of r e) (Runs (setting_of r e) (calls_in e) (suc k)) p x a) →
-    ((r : RequestPart) (k : ℕ) → GoesOn (setting_of r e) (calls_in e) k l q y n) → GoesOnIn e levels l p x n
-told_goes_on e levels l p q x y n fewer lift goes = (
-  λ r k speaks low. goes_on_through (setting_of r e) (calls_in e) (suc k) l p q x y n fewer (lift r k speaks low) (goes r (suc k)),
-  goes_on_placed (setting_of some_request e) (calls_in e) 0 l q y n (goes some_request 0),
-  fewer_through p q n fewer (goes_on_fewer (setting_of some_request e) (calls_in e) 0 l q y n (goes some_request 0)),
+    GoesOnAt e w q y n → GoesOnIn e levels w p x n
+told_goes_on e levels w p q x y n fewer lift goes = (
+  λ r k speaks low. goes_on_through (setting_of r e) (calls_in e) (suc k) (expr_loc w.value) p q x y n fewer
+      (lift r k speaks low) (goes r (suc k)),
+  goes_on_placed (setting_of some_request e) (calls_in e) 0 (expr_loc w.value) q y n (goes some_request 0),
+  fewer_through p q n fewer
+      (goes_on_fewer (setting_of some_request e) (calls_in e) 0 (expr_loc w.value) q y n (goes some_request 0)),
 )
 
 -- ---- right sides
 
-pub awaited : {X : Type 0} {F : X → Type 0} {g : _} (e : Evaluation X F g) (levels : ℕ) (l : Option Loc) (p : Pending) (c : Part) (n : Next) →
-    IsAwaited l p c n → IsRightSide e levels l p c n
-awaited e levels l p c (Done o) is = absurd is
-awaited e levels l p c (Wait f d) is = is
+pub awaited : {X : Type 0} {F : X → Type 0} {g : _} (e : Evaluation X F g) (levels : ℕ) (w : Part) (p : Pending)
+    (c : Part) (n : Next) → IsAwaited w p c n → IsRightSide e levels w p c n
+awaited e levels w p c (Done o) is = absurd is
+awaited e levels w p c (Wait f d) is = is
 
-pub right_given : {X : Type 0} {F : X → Type 0} {g : _} (e : Evaluation X F g) (levels : ℕ) (l : Option Loc) (p : Pending) (c : Part) (n : Next) (b : Bool) →
-    ((r : RequestPart) (k : ℕ) → Speaks r e → levels ≤ suc (suc k) → Runs (setting_of r e) (calls_in e) (suc k) (view c.value) (answers_bool b)) →
-    Gives l n (answers_bool b) → IsRightSide e levels l p c n
-right_given e levels l p c (Done o) b runs gives = (b, runs, gives)
-right_given e levels l p c (Wait f d) b runs gives = absurd gives
+pub right_given : {X : Type 0} {F : X → Type 0} {g : _} (e : Evaluation X F g) (levels : ℕ) (w : Part) (p : Pending)
+    (c : Part) (n : Next) (b : Bool) →
+    ((r : RequestPart) (k : ℕ) → Speaks r e → levels ≤ suc (suc k) →
+    Runs (setting_of r e) (calls_in e) (suc k) (view c.value) (answers_bool b)) →
+    Gives (expr_loc w.value) n (answers_bool b) → IsRightSide e levels w p c n
+right_given e levels w p c (Done o) b runs gives = (b, runs, gives)
+right_given e levels w p c (Wait f d) b runs gives = absurd gives
 
 -- a literal boolean
-pub literal_right : {X : Type 0} {F : X → Type 0} {g : _} (e : Evaluation X F g) (levels : ℕ) (l : Option Loc) (p : Pending) (c : Part) (n : Next) (b : Bool) →
-    view c.value ≡ literal (bool_literal b) → Gives l n (answers_bool b) → IsRightSide e levels l p c n
-literal_right e levels l p c n b seen gives =
-    right_given e levels l p c n b (λ r k speaks low. subst (λ t. Runs (setting_of r e) (calls_in e) (suc k) t (answers_bool b)) (sym seen) refl) gives
+pub literal_right : {X : Type 0} {F : X → Type 0} {g : _} (e : Evaluation X F g) (levels : ℕ) (w : Part) (p : Pending)
+    (c : Part) (n : Next) (b : Bool) → view c.value ≡ literal (bool_literal b) →
+    Gives (expr_loc w.value) n (answers_bool b) → IsRightSide e levels w p c n
+literal_right e levels w p c n b seen gives =
+    right_given e levels w p c n b
+    (λ r k speaks low. subst (λ t. Runs (setting_of r e) (calls_in e) (suc k) t (answers_bool b)) (sym seen) refl) gives
 
-module _ {X : Type 0} {F : X → Type 0} {g : _} (e : Evaluation X F g) (levels : ℕ) (l : Option Loc) (right : Part) (p : model.PartialValue) where
+module _ {X : Type 0} {F : X → Type 0} {g : _} (e : Evaluation X F g) (levels : ℕ) (w right : Part)
+    (p : model.PartialValue) where
   -- a true left side of `&&`
-  pub and_right_side : (n : Next) → part_bool p ≡ Some true → IsRightSide e levels l pendings.AndRight right n → GoesOnIn e levels l (pendings.AndLeft right) (answers p) n
+  pub and_right_side : (n : Next) → part_bool p ≡ Some true → IsRightSide e levels w pendings.AndRight right n →
+      GoesOnIn e levels w (pendings.AndLeft right) (answers p) n
   and_right_side (Done o) is (b, runs, (gives, place)) = (
-    λ r k speaks low.
-        (λ ok. and_true (Runs (setting_of r e) (calls_in e) (suc k)) p (view right.value) (answers_bool b) (outcome_answer o) is (runs r k speaks low) (gives ok ∙ literal_joined (both (literal (bool_literal true))) b), place),
+    λ r k speaks low. (
+      λ ok. and_true (Runs (setting_of r e) (calls_in e) (suc k)) p (view right.value) (answers_bool b)
+          (outcome_answer o) is (runs r k speaks low) (gives ok ∙ literal_joined (both (literal (bool_literal true))) b),
+      place,
+    ),
     place,
     tt,
   )
   and_right_side (Wait f d) is (task, part, place) =
-      goes_on_in e levels l (pendings.AndLeft right) (answers p) (Wait f d)
+      goes_on_in e levels w (pendings.AndLeft right) (answers p) (Wait f d)
       (λ r k. (
-        subst (λ x. WaitsAgain (setting_of r e) (calls_in e) (suc k) (pendings.AndLeft right) (answers p) x (view d.value)) (sym task)
-            (subst (λ c. WaitsAgain (setting_of r e) (calls_in e) (suc k) (pendings.AndLeft right) (answers p) (tasks.Other pendings.AndRight) (view c.value)) (sym part)
-            (omega arith, λ y a runs uses. and_true (Runs (setting_of r e) (calls_in e) (suc k)) p (view right.value) y a is runs uses)),
+        subst (λ x. WaitsAgain (setting_of r e) (calls_in e) k (pendings.AndLeft right) (answers p) x (view d.value))
+            (sym task)
+            (subst (λ c. WaitsAgain (setting_of r e) (calls_in e) k (pendings.AndLeft right) (answers p)
+            (tasks.Other pendings.AndRight) (view c.value)) (sym part) (
+              omega arith,
+              λ y a runs uses. and_true (Runs (setting_of r e) (calls_in e) k) p (view right.value) y a is runs uses,
+            )),
         place,
       ))
 
   -- a false left side of `||`
-  pub or_right_side : (n : Next) → part_bool p ≡ Some false → IsRightSide e levels l pendings.OrRight right n → GoesOnIn e levels l (pendings.OrLeft right) (answers p) n
+  pub or_right_side : (n : Next) → part_bool p ≡ Some false → IsRightSide e levels w pendings.OrRight right n →
+      GoesOnIn e levels w (pendings.OrLeft right) (answers p) n
   or_right_side (Done o) is (b, runs, (gives, place)) = (
-    λ r k speaks low.
-        (λ ok. or_false (Runs (setting_of r e) (calls_in e) (suc k)) p (view right.value) (answers_bool b) (outcome_answer o) is (runs r k speaks low) (gives ok ∙ literal_joined (either (literal (bool_literal false))) b), place),
+    λ r k speaks low. (
+      λ ok. or_false (Runs (setting_of r e) (calls_in e) (suc k)) p (view right.value) (answers_bool b)
+          (outcome_answer o) is (runs r k speaks low) (gives ok ∙ literal_joined (either (literal (bool_literal false))) b),
+      place,
+    ),
     place,
     tt,
   )
   or_right_side (Wait f d) is (task, part, place) =
-      goes_on_in e levels l (pendings.OrLeft right) (answers p) (Wait f d)
+      goes_on_in e levels w (pendings.OrLeft right) (answers p) (Wait f d)
       (λ r k. (
-        subst (λ x. WaitsAgain (setting_of r e) (calls_in e) (suc k) (pendings.OrLeft right) (answers p) x (view d.value)) (sym task)
-            (subst (λ c. WaitsAgain (setting_of r e) (calls_in e) (suc k) (pendings.OrLeft right) (answers p) (tasks.Other pendings.OrRight) (view c.value)) (sym part)
-            (omega arith, λ y a runs uses. or_false (Runs (setting_of r e) (calls_in e) (suc k)) p (view right.value) y a is runs uses)),
+        subst (λ x. WaitsAgain (setting_of r e) (calls_in e) k (pendings.OrLeft right) (answers p) x (view d.value))
+            (sym task)
+            (subst (λ c. WaitsAgain (setting_of r e) (calls_in e) k (pendings.OrLeft right) (answers p)
+            (tasks.Other pendings.OrRight) (view c.value)) (sym part) (
+              omega arith,
+              λ y a runs uses. or_false (Runs (setting_of r e) (calls_in e) k) p (view right.value) y a is runs uses,
+            )),
         place,
       ))

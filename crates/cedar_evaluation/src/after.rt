@@ -1,15 +1,13 @@
 //! What comes after the answer of a part.
-ghost use Rattle.std.specs.Prelude.{◌≡◌, ℕ, IfOk};
+ghost use Rattle.std.specs.Prelude.{◌≡◌, IfOk};
 ghost use Rattle.cedar_model.specs.Terms.{Term};
 ghost use Rattle.cedar_model.specs.Failures.{answers, fails};
-ghost use Rattle.cedar_model.specs.Settings.{RequestPart};
 ghost use Rattle.cedar_model.specs.Rules.{best, kept};
-ghost use Rattle.cedar_expressions.specs.View.{view, expr_loc};
+ghost use Rattle.cedar_expressions.specs.View.{view};
 ghost use Rattle.cedar_data.specs.Residuals.{partial_view};
 ghost use Rattle.cedar_values.specs.Failures.{failure_of};
-ghost use Rattle.cedar_evaluation.specs.Settings.{setting_of, calls_in};
-ghost use Rattle.cedar_evaluation.specs.Tasks.{GoesOn};
-ghost use Rattle.cedar_evaluation.specs.Steps.{GoesOnIn};
+ghost use Rattle.cedar_evaluation.specs.Steps.{GoesOnIn, GoesOnAt};
+ghost use Rattle.cedar_evaluation.specs.Endings.{boxed_answer};
 ghost use Rattle.cedar_evaluation.specs.declared.frame.Pending.TheVariants as pendings;
 
 use crate::answers::{or_want, passed_on, put_at};
@@ -31,7 +29,7 @@ impl<'e, 'g, 'f> Evaluation<'e, 'g, 'f> {
         answer: Box<PartialValue>,
         levels: usize,
     ) -> Next
-        ensures { GoesOnIn self.now levels (expr_loc whole.value) pending (answers (partial_view answer.value)) result }
+        ensures { GoesOnIn self.now levels whole pending (boxed_answer answer) result }
     {
         match pending {
             Pending::Passed => put_at(alloc, &whole, answer),
@@ -76,7 +74,7 @@ impl<'e, 'g, 'f> Evaluation<'e, 'g, 'f> {
         first: Box<FirstBranch>,
         answer: Box<PartialValue>,
     ) -> Next
-        ensures { (r : RequestPart) (k : ℕ) → GoesOn (setting_of r self.now) (calls_in self.now) k (expr_loc whole.value) (pendings.Then first) (answers (partial_view answer.value)) result }
+        ensures { GoesOnAt self.now whole (pendings.Then first) (boxed_answer answer) result }
     {
         let kept = kept_part(alloc, answer);
         or_want(self.second_branch(alloc, whole, first, kept))
@@ -92,7 +90,7 @@ impl<'e, 'g, 'f> Evaluation<'e, 'g, 'f> {
         second: Box<SecondBranch>,
         answer: Box<PartialValue>,
     ) -> Next
-        ensures { (r : RequestPart) (k : ℕ) → GoesOn (setting_of r self.now) (calls_in self.now) k (expr_loc whole.value) (pendings.Else second) (answers (partial_view answer.value)) result }
+        ensures { GoesOnAt self.now whole (pendings.Else second) (boxed_answer answer) result }
     {
         let kept = kept_part(alloc, answer);
         self.both_branches(alloc, whole, second, kept)
@@ -109,7 +107,7 @@ impl<'e, 'g, 'f> Evaluation<'e, 'g, 'f> {
         right: Rc<Expr>,
         answer: Box<PartialValue>,
     ) -> Next
-        ensures { (r : RequestPart) (k : ℕ) → GoesOn (setting_of r self.now) (calls_in self.now) k (expr_loc whole.value) (pendings.AndKept left right) (answers (partial_view answer.value)) result }
+        ensures { GoesOnAt self.now whole (pendings.AndKept left right) (boxed_answer answer) result }
     {
         let kept = kept_part(alloc, answer);
         self.kept_conjunction(alloc, whole, left, right, kept)
@@ -126,13 +124,14 @@ impl<'e, 'g, 'f> Evaluation<'e, 'g, 'f> {
         right: Rc<Expr>,
         answer: Box<PartialValue>,
     ) -> Next
-        ensures { (r : RequestPart) (k : ℕ) → GoesOn (setting_of r self.now) (calls_in self.now) k (expr_loc whole.value) (pendings.OrKept left right) (answers (partial_view answer.value)) result }
+        ensures { GoesOnAt self.now whole (pendings.OrKept left right) (boxed_answer answer) result }
     {
         let kept = kept_part(alloc, answer);
         self.kept_disjunction(alloc, whole, left, right, kept)
     }
 
-    // What comes next of what waited, after this error: beside a residual the part's original is kept, elsewhere it is the answer.
+    // What comes next of what waited, after this error: beside a residual the part's original is kept, elsewhere it is
+    // the answer.
     #[cold]
     #[inline(never)]
     pub(crate) fn failed(
@@ -142,7 +141,7 @@ impl<'e, 'g, 'f> Evaluation<'e, 'g, 'f> {
         pending: Pending,
         failed: Box<Failed>,
     ) -> Next
-        ensures { (r : RequestPart) (k : ℕ) → GoesOn (setting_of r self.now) (calls_in self.now) k (expr_loc whole.value) pending (fails (failure_of failed.value.error)) result }
+        ensures { GoesOnAt self.now whole pending (fails (failure_of failed.value.error)) result }
     {
         match pending {
             Pending::Then(first) => self.failed_then(alloc, whole, first, failed),
@@ -183,7 +182,7 @@ impl<'e, 'g, 'f> Evaluation<'e, 'g, 'f> {
         first: Box<FirstBranch>,
         failed: Box<Failed>,
     ) -> Next
-        ensures { (r : RequestPart) (k : ℕ) → GoesOn (setting_of r self.now) (calls_in self.now) k (expr_loc whole.value) (pendings.Then first) (fails (failure_of failed.value.error)) result }
+        ensures { GoesOnAt self.now whole (pendings.Then first) (fails (failure_of failed.value.error)) result }
     {
         let kept = original_of(failed, &first.then_expr);
         or_want(self.second_branch(alloc, whole, first, kept))
@@ -197,7 +196,7 @@ impl<'e, 'g, 'f> Evaluation<'e, 'g, 'f> {
         second: Box<SecondBranch>,
         failed: Box<Failed>,
     ) -> Next
-        ensures { (r : RequestPart) (k : ℕ) → GoesOn (setting_of r self.now) (calls_in self.now) k (expr_loc whole.value) (pendings.Else second) (fails (failure_of failed.value.error)) result }
+        ensures { GoesOnAt self.now whole (pendings.Else second) (fails (failure_of failed.value.error)) result }
     {
         let kept = original_of(failed, &second.else_expr);
         self.both_branches(alloc, whole, second, kept)

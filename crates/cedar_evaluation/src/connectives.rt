@@ -1,20 +1,15 @@
 //! `&&` and `||`.
-ghost use Rattle.std.specs.Prelude.{◌≡◌, ℕ, suc, true, false, Some, None, IfOk, IfSome};
-ghost use Rattle.std.specs.declared.alloc.Global.{Global};
-ghost use Rattle.std.specs.declared.rc.Rc.{Rc};
+ghost use Rattle.std.specs.Prelude.{◌≡◌, true, false, Some, None, IfOk, IfSome};
 ghost use Rattle.cedar_model.specs.Terms.{bool_literal, literal, both, either};
 ghost use Rattle.cedar_model.specs.Values.{plain_represented};
-ghost use Rattle.cedar_model.specs.Failures.{Answer, value, answers, answers_residual};
-ghost use Rattle.cedar_model.specs.Rules.{best, kept};
-ghost use Rattle.cedar_model.specs.Settings.{RequestPart};
-ghost use Rattle.cedar_expressions.specs.View.{view, expr_loc};
-ghost use Rattle.cedar_expressions.specs.declared.expr.Expr.{Expr};
+ghost use Rattle.cedar_model.specs.Failures.{Answer, value, answers_residual};
+ghost use Rattle.cedar_expressions.specs.View.{view};
 ghost use Rattle.cedar_data.specs.Residuals.{partial_view, residual_term};
 ghost use Rattle.cedar_evaluation.specs.Booleans.{part_bool};
-ghost use Rattle.cedar_evaluation.specs.Settings.{setting_of, calls_in};
-ghost use Rattle.cedar_evaluation.specs.Tasks.{Begins, GoesOn};
-ghost use Rattle.cedar_evaluation.specs.Steps.{GoesOnIn};
+ghost use Rattle.cedar_evaluation.specs.Steps.{GoesOnIn, BeginsAt, GoesOnAt};
 ghost use Rattle.cedar_evaluation.specs.Told.{IsRightSide, IsAwaited};
+ghost use Rattle.cedar_evaluation.specs.Endings.{boxed_answer};
+ghost use Rattle.cedar_evaluation.specs.Kept.{IsKept};
 ghost use Rattle.cedar_evaluation.specs.declared.frame.Pending.TheVariants as pendings;
 
 use crate::answers::{answered, bool_at, both, known_bool, no_bool, or_want};
@@ -36,7 +31,7 @@ use std::rc::Rc;
 impl<'e, 'g, 'f> Evaluation<'e, 'g, 'f> {
     // `&&` waits for its left side.
     pub(crate) fn conjunction(&self, whole: &Part, left: &Part, right: &Part) -> Next
-        ensures { (r : RequestPart) (k : ℕ) → Begins (setting_of r self.now) (calls_in self.now) k (expr_loc whole.now.value) (both (view left.now.value) (view right.now.value)) result }
+        ensures { BeginsAt self.now whole.now (both (view left.now.value) (view right.now.value)) result }
     {
         match right.clone() {
             Ok(right) => match both(whole, left) {
@@ -52,7 +47,7 @@ impl<'e, 'g, 'f> Evaluation<'e, 'g, 'f> {
 
     // `||` waits for its left side.
     pub(crate) fn disjunction(&self, whole: &Part, left: &Part, right: &Part) -> Next
-        ensures { (r : RequestPart) (k : ℕ) → Begins (setting_of r self.now) (calls_in self.now) k (expr_loc whole.now.value) (either (view left.now.value) (view right.now.value)) result }
+        ensures { BeginsAt self.now whole.now (either (view left.now.value) (view right.now.value)) result }
     {
         match right.clone() {
             Ok(right) => match both(whole, left) {
@@ -75,7 +70,7 @@ impl<'e, 'g, 'f> Evaluation<'e, 'g, 'f> {
         left: Box<PartialValue>,
         levels: usize,
     ) -> Next
-        ensures { GoesOnIn self.now levels (expr_loc whole.value) (pendings.AndLeft right) (answers (partial_view left.value)) result }
+        ensures { GoesOnIn self.now levels whole (pendings.AndLeft right) (boxed_answer left) result }
     {
         match known_bool(&left) {
             Some(true) => self.right_of_and(alloc, whole, right, left, levels),
@@ -98,7 +93,7 @@ impl<'e, 'g, 'f> Evaluation<'e, 'g, 'f> {
         left: Box<PartialValue>,
     ) -> Result<Next, AllocError>
         requires { part_bool (partial_view left.value) ≡ None }
-        ensures { (r : RequestPart) (k : ℕ) → IfOk result (GoesOn (setting_of r self.now) (calls_in self.now) k (expr_loc whole.value) (pendings.AndLeft right) (answers (partial_view left.value))) }
+        ensures { IfOk result (GoesOnAt self.now whole (pendings.AndLeft right) (boxed_answer left)) }
     {
         match Box::into_inner(left) {
             PartialValue::Value(value) => Ok(no_bool(alloc, &whole, &value)),
@@ -116,7 +111,8 @@ impl<'e, 'g, 'f> Evaluation<'e, 'g, 'f> {
         left: ResidualExpr,
         right: Rc<Expr>,
     ) -> Result<Next, AllocError>
-        ensures { (r : RequestPart) (k : ℕ) → IfOk result (GoesOn (setting_of r self.now) (calls_in self.now) k (expr_loc whole.value) (pendings.AndLeft right) (answers_residual (residual_term left))) }
+        ensures { IfOk result (GoesOnAt self.now whole (pendings.AndLeft right)
+            (answers_residual (residual_term left))) }
     {
         let (left, right, part) = boxed_beside(alloc, left, right)?;
         let task = Task::Other(Pending::AndKept { left, right });
@@ -131,7 +127,7 @@ impl<'e, 'g, 'f> Evaluation<'e, 'g, 'f> {
         whole: Part,
         right: Box<PartialValue>,
     ) -> Next
-        ensures { (r : RequestPart) (k : ℕ) → GoesOn (setting_of r self.now) (calls_in self.now) k (expr_loc whole.value) pendings.AndRight (answers (partial_view right.value)) result }
+        ensures { GoesOnAt self.now whole pendings.AndRight (boxed_answer right) result }
     {
         match known_bool(&right) {
             Some(b) => Step::Done(Ok(bool_at(&whole, right, b))),
@@ -143,7 +139,7 @@ impl<'e, 'g, 'f> Evaluation<'e, 'g, 'f> {
     #[cold]
     #[inline(never)]
     fn after_no_bool_and_right(&self, alloc: Global, whole: Part, right: Box<PartialValue>) -> Next
-        ensures { (r : RequestPart) (k : ℕ) → GoesOn (setting_of r self.now) (calls_in self.now) k (expr_loc whole.value) pendings.AndRight (answers (partial_view right.value)) result }
+        ensures { GoesOnAt self.now whole pendings.AndRight (boxed_answer right) result }
     {
         answered(alloc, &whole, true_and(alloc, Box::into_inner(right)))
     }
@@ -157,7 +153,8 @@ impl<'e, 'g, 'f> Evaluation<'e, 'g, 'f> {
         right: Rc<Expr>,
         right_kept: Result<Expr, AllocError>,
     ) -> Next
-        ensures { (r : RequestPart) (k : ℕ) (x : Answer) → IfOk right_kept (λ e. best x (view right.value) ≡ kept (view e)) → GoesOn (setting_of r self.now) (calls_in self.now) k (expr_loc whole.value) (pendings.AndKept left right) x result }
+        ensures { (x : Answer) → IsKept right_kept x right.value
+            → GoesOnAt self.now whole (pendings.AndKept left right) x result }
     {
         match right_kept {
             Ok(right) => {
@@ -177,7 +174,7 @@ impl<'e, 'g, 'f> Evaluation<'e, 'g, 'f> {
         left: Box<PartialValue>,
         levels: usize,
     ) -> Next
-        ensures { GoesOnIn self.now levels (expr_loc whole.value) (pendings.OrLeft right) (answers (partial_view left.value)) result }
+        ensures { GoesOnIn self.now levels whole (pendings.OrLeft right) (boxed_answer left) result }
     {
         match known_bool(&left) {
             Some(true) => {
@@ -200,7 +197,7 @@ impl<'e, 'g, 'f> Evaluation<'e, 'g, 'f> {
         left: Box<PartialValue>,
     ) -> Result<Next, AllocError>
         requires { part_bool (partial_view left.value) ≡ None }
-        ensures { (r : RequestPart) (k : ℕ) → IfOk result (GoesOn (setting_of r self.now) (calls_in self.now) k (expr_loc whole.value) (pendings.OrLeft right) (answers (partial_view left.value))) }
+        ensures { IfOk result (GoesOnAt self.now whole (pendings.OrLeft right) (boxed_answer left)) }
     {
         match Box::into_inner(left) {
             PartialValue::Value(value) => Ok(no_bool(alloc, &whole, &value)),
@@ -218,7 +215,8 @@ impl<'e, 'g, 'f> Evaluation<'e, 'g, 'f> {
         left: ResidualExpr,
         right: Rc<Expr>,
     ) -> Result<Next, AllocError>
-        ensures { (r : RequestPart) (k : ℕ) → IfOk result (GoesOn (setting_of r self.now) (calls_in self.now) k (expr_loc whole.value) (pendings.OrLeft right) (answers_residual (residual_term left))) }
+        ensures { IfOk result (GoesOnAt self.now whole (pendings.OrLeft right)
+            (answers_residual (residual_term left))) }
     {
         let (left, right, part) = boxed_beside(alloc, left, right)?;
         let task = Task::Other(Pending::OrKept { left, right });
@@ -233,7 +231,7 @@ impl<'e, 'g, 'f> Evaluation<'e, 'g, 'f> {
         whole: Part,
         right: Box<PartialValue>,
     ) -> Next
-        ensures { (r : RequestPart) (k : ℕ) → GoesOn (setting_of r self.now) (calls_in self.now) k (expr_loc whole.value) pendings.OrRight (answers (partial_view right.value)) result }
+        ensures { GoesOnAt self.now whole pendings.OrRight (boxed_answer right) result }
     {
         match known_bool(&right) {
             Some(b) => Step::Done(Ok(bool_at(&whole, right, b))),
@@ -245,7 +243,7 @@ impl<'e, 'g, 'f> Evaluation<'e, 'g, 'f> {
     #[cold]
     #[inline(never)]
     fn after_no_bool_or_right(&self, alloc: Global, whole: Part, right: Box<PartialValue>) -> Next
-        ensures { (r : RequestPart) (k : ℕ) → GoesOn (setting_of r self.now) (calls_in self.now) k (expr_loc whole.value) pendings.OrRight (answers (partial_view right.value)) result }
+        ensures { GoesOnAt self.now whole pendings.OrRight (boxed_answer right) result }
     {
         answered(alloc, &whole, false_or(alloc, Box::into_inner(right)))
     }
@@ -259,7 +257,8 @@ impl<'e, 'g, 'f> Evaluation<'e, 'g, 'f> {
         right: Rc<Expr>,
         right_kept: Result<Expr, AllocError>,
     ) -> Next
-        ensures { (r : RequestPart) (k : ℕ) (x : Answer) → IfOk right_kept (λ e. best x (view right.value) ≡ kept (view e)) → GoesOn (setting_of r self.now) (calls_in self.now) k (expr_loc whole.value) (pendings.OrKept left right) x result }
+        ensures { (x : Answer) → IsKept right_kept x right.value
+            → GoesOnAt self.now whole (pendings.OrKept left right) x result }
     {
         match right_kept {
             Ok(right) => {
@@ -280,7 +279,7 @@ impl<'e, 'g, 'f> Evaluation<'e, 'g, 'f> {
         levels: usize,
     ) -> Next
         requires { part_bool (partial_view left.value) ≡ Some true }
-        ensures { IsRightSide self.now levels (expr_loc whole.value) pendings.AndRight right result }
+        ensures { IsRightSide self.now levels whole pendings.AndRight right result }
     {
         match bool_literal_in(&right) {
             Some(true) => Step::Done(Ok(bool_at(&whole, left, true))),
@@ -299,7 +298,7 @@ impl<'e, 'g, 'f> Evaluation<'e, 'g, 'f> {
         levels: usize,
     ) -> Next
         requires { part_bool (partial_view left.value) ≡ Some true }
-        ensures { IsRightSide self.now levels (expr_loc whole.value) pendings.AndRight right result }
+        ensures { IsRightSide self.now levels whole pendings.AndRight right result }
     {
         match self.told_bool(alloc, &right, levels) {
             Some(b) => Step::Done(Ok(bool_at(&whole, with_bool(left, b), b))),
@@ -317,7 +316,7 @@ impl<'e, 'g, 'f> Evaluation<'e, 'g, 'f> {
         levels: usize,
     ) -> Next
         requires { part_bool (partial_view left.value) ≡ Some false }
-        ensures { IsRightSide self.now levels (expr_loc whole.value) pendings.OrRight right result }
+        ensures { IsRightSide self.now levels whole pendings.OrRight right result }
     {
         match bool_literal_in(&right) {
             Some(false) => Step::Done(Ok(bool_at(&whole, left, false))),
@@ -336,7 +335,7 @@ impl<'e, 'g, 'f> Evaluation<'e, 'g, 'f> {
         levels: usize,
     ) -> Next
         requires { part_bool (partial_view left.value) ≡ Some false }
-        ensures { IsRightSide self.now levels (expr_loc whole.value) pendings.OrRight right result }
+        ensures { IsRightSide self.now levels whole pendings.OrRight right result }
     {
         match self.told_bool(alloc, &right, levels) {
             Some(b) => Step::Done(Ok(bool_at(&whole, with_bool(left, b), b))),
@@ -372,7 +371,7 @@ fn with_bool(mut part: Box<PartialValue>, b: bool) -> Box<PartialValue>
 
 // The right side is waited for.
 fn wait_for_right(whole: Part, pending: Pending, right: Part) -> Next
-    ensures { IsAwaited (expr_loc whole.value) pending right result }
+    ensures { IsAwaited whole pending right result }
 {
     let task = Task::Other(pending);
     Step::Wait(Frame { whole, task }, right)

@@ -15,7 +15,8 @@ pub enum Mapper<'g> {
     Values(&'g HashMap<RcStr, Value>),
 }
 
-/// What all evaluations for a request are given: what its variables stand for, a store, extensions, and values for unknowns.
+/// What all evaluations for a request are given: what its variables stand for, a store, extensions, and values for
+/// unknowns.
 #[derive(Drop)]
 pub struct Given<'g, 'f> {
     /// What `principal` stands for.

@@ -1,17 +1,13 @@
 //! `if`.
-ghost use Rattle.std.specs.Prelude.{◌≡◌, ℕ, None, IfOk};
+ghost use Rattle.std.specs.Prelude.{◌≡◌, None, IfOk};
 ghost use Rattle.cedar_model.specs.Terms.{if_then_else};
-ghost use Rattle.cedar_model.specs.Failures.{Answer, answers, answers_residual};
-ghost use Rattle.cedar_model.specs.Rules.{best, kept};
-ghost use Rattle.cedar_model.specs.Settings.{RequestPart};
-ghost use Rattle.cedar_expressions.specs.View.{view, expr_loc};
+ghost use Rattle.cedar_model.specs.Failures.{Answer, answers_residual};
+ghost use Rattle.cedar_expressions.specs.View.{view};
 ghost use Rattle.cedar_data.specs.Residuals.{partial_view, residual_term};
-ghost use Rattle.cedar_expressions.specs.declared.expr.Expr.{Expr};
-ghost use Rattle.std.specs.declared.alloc.Global.{Global};
-ghost use Rattle.std.specs.declared.rc.Rc.{Rc};
 ghost use Rattle.cedar_evaluation.specs.Booleans.{part_bool};
-ghost use Rattle.cedar_evaluation.specs.Settings.{setting_of, calls_in};
-ghost use Rattle.cedar_evaluation.specs.Tasks.{Begins, GoesOn};
+ghost use Rattle.cedar_evaluation.specs.Steps.{BeginsAt, GoesOnAt};
+ghost use Rattle.cedar_evaluation.specs.Endings.{boxed_answer};
+ghost use Rattle.cedar_evaluation.specs.Kept.{IsKept};
 ghost use Rattle.cedar_evaluation.specs.declared.frame.Pending.TheVariants as pendings;
 
 use crate::answers::{answered, both, known_bool, no_bool, or_want};
@@ -35,7 +31,8 @@ impl<'e, 'g, 'f> Evaluation<'e, 'g, 'f> {
         then_expr: &Part,
         else_expr: &Part,
     ) -> Next
-        ensures { (r : RequestPart) (k : ℕ) → Begins (setting_of r self.now) (calls_in self.now) k (expr_loc whole.now.value) (if_then_else (view test_expr.now.value) (view then_expr.now.value) (view else_expr.now.value)) result }
+        ensures { BeginsAt self.now whole.now
+            (if_then_else (view test_expr.now.value) (view then_expr.now.value) (view else_expr.now.value)) result }
     {
         match both(then_expr, else_expr) {
             Ok((then_expr, else_expr)) => match both(whole, test_expr) {
@@ -61,7 +58,7 @@ impl<'e, 'g, 'f> Evaluation<'e, 'g, 'f> {
         else_expr: Rc<Expr>,
         guard: Box<PartialValue>,
     ) -> Next
-        ensures { (r : RequestPart) (k : ℕ) → GoesOn (setting_of r self.now) (calls_in self.now) k (expr_loc whole.value) (pendings.Guard then_expr else_expr) (answers (partial_view guard.value)) result }
+        ensures { GoesOnAt self.now whole (pendings.Guard then_expr else_expr) (boxed_answer guard) result }
     {
         match known_bool(&guard) {
             Some(true) => {
@@ -90,7 +87,7 @@ impl<'e, 'g, 'f> Evaluation<'e, 'g, 'f> {
         guard: Box<PartialValue>,
     ) -> Result<Next, AllocError>
         requires { part_bool (partial_view guard.value) ≡ None }
-        ensures { (r : RequestPart) (k : ℕ) → IfOk result (GoesOn (setting_of r self.now) (calls_in self.now) k (expr_loc whole.value) (pendings.Guard then_expr else_expr) (answers (partial_view guard.value))) }
+        ensures { IfOk result (GoesOnAt self.now whole (pendings.Guard then_expr else_expr) (boxed_answer guard)) }
     {
         match Box::into_inner(guard) {
             PartialValue::Value(value) => {
@@ -115,7 +112,8 @@ impl<'e, 'g, 'f> Evaluation<'e, 'g, 'f> {
         then_expr: Rc<Expr>,
         else_expr: Rc<Expr>,
     ) -> Result<Next, AllocError>
-        ensures { (r : RequestPart) (k : ℕ) → IfOk result (GoesOn (setting_of r self.now) (calls_in self.now) k (expr_loc whole.value) (pendings.Guard then_expr else_expr) (answers_residual (residual_term guard))) }
+        ensures { IfOk result (GoesOnAt self.now whole (pendings.Guard then_expr else_expr)
+            (answers_residual (residual_term guard))) }
     {
         let part: Result<Rc<Expr>, AllocError> = then_expr.clone();
         let first = FirstBranch {
@@ -136,7 +134,8 @@ impl<'e, 'g, 'f> Evaluation<'e, 'g, 'f> {
         first: Box<FirstBranch>,
         then_kept: Result<Expr, AllocError>,
     ) -> Result<Next, AllocError>
-        ensures { (r : RequestPart) (k : ℕ) (x : Answer) → IfOk then_kept (λ e. best x (view first.value.then_expr.value) ≡ kept (view e)) → IfOk result (GoesOn (setting_of r self.now) (calls_in self.now) k (expr_loc whole.value) (pendings.Then first) x) }
+        ensures { (x : Answer) → IsKept then_kept x first.value.then_expr.value
+            → IfOk result (GoesOnAt self.now whole (pendings.Then first) x) }
     {
         let then_expr = then_kept?;
         let FirstBranch {
@@ -163,7 +162,8 @@ impl<'e, 'g, 'f> Evaluation<'e, 'g, 'f> {
         second: Box<SecondBranch>,
         else_kept: Result<Expr, AllocError>,
     ) -> Next
-        ensures { (r : RequestPart) (k : ℕ) (x : Answer) → IfOk else_kept (λ e. best x (view second.value.else_expr.value) ≡ kept (view e)) → GoesOn (setting_of r self.now) (calls_in self.now) k (expr_loc whole.value) (pendings.Else second) x result }
+        ensures { (x : Answer) → IsKept else_kept x second.value.else_expr.value
+            → GoesOnAt self.now whole (pendings.Else second) x result }
     {
         match else_kept {
             Ok(else_expr) => {

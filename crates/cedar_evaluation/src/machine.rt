@@ -1,12 +1,10 @@
 //! The evaluation, for the loop over frames.
 ghost use Rattle.std.specs.Prelude.{ℕ, ◌+◌, ◌^◌, Ok, Err};
-ghost use Rattle.cedar_model.specs.Failures.{answers, fails};
-ghost use Rattle.cedar_expressions.specs.View.{expr_loc};
-ghost use Rattle.cedar_data.specs.Residuals.{partial_view};
+ghost use Rattle.cedar_model.specs.Failures.{fails};
 ghost use Rattle.cedar_values.specs.Failures.{failure_of};
 ghost use Rattle.cedar_evaluation.specs.declared.frame.Task.TheVariants as tasks;
 ghost use Rattle.cedar_evaluation.specs.declared.stopped.Stopped.TheVariants as stops;
-ghost use Rattle.cedar_evaluation.specs.Endings.{outcome_answer, stopped_failure};
+ghost use Rattle.cedar_evaluation.specs.Endings.{outcome_answer, stopped_failure, boxed_answer};
 ghost use Rattle.cedar_evaluation.specs.Settings.{Speaks, setting_of, calls_in};
 ghost use Rattle.cedar_evaluation.specs.Steps.{LeadsIn};
 ghost use Rattle.cedar_evaluation.specs.Frames.{IsRight, Waits, left_of, ends_all};
@@ -31,9 +29,11 @@ impl<'e, 'g, 'f> Machine for Evaluation<'e, 'g, 'f> {
 
     type Answer = Outcome;
 
-    ghost right = { λ s k t a. IsRight (λ r. Speaks r s) (λ r. setting_of r s) (calls_in s) k t a × OutcomeStands t a };
+    ghost right = { λ s k t a.
+        IsRight (λ r. Speaks r s) (λ r. setting_of r s) (calls_in s) k t a × OutcomeStands t a };
 
-    ghost waits = { λ s k f t c. Waits (λ r. Speaks r s) (λ r. setting_of r s) (calls_in s) k f t c × FrameStands f t c };
+    ghost waits = { λ s k f t c.
+        Waits (λ r. Speaks r s) (λ r. setting_of r s) (calls_in s) k f t c × FrameStands f t c };
 
     ghost left_of = { left_of };
 
@@ -80,7 +80,10 @@ impl<'e, 'g, 'f> Machine for Evaluation<'e, 'g, 'f> {
 
     ghost limit_ends = { limit_ends };
 
-    ghost right_upward = { λ s k f t c a ends waits right. (right_upward (λ r. Speaks r s) (λ r. setting_of r s) (calls_in s) k f t c a ends waits.0 right.0, ended_stands t a ends) };
+    ghost right_upward = { λ s k f t c a ends waits right. (
+      right_upward (λ r. Speaks r s) (λ r. setting_of r s) (calls_in s) k f t c a ends waits.0 right.0,
+      ended_stands t a ends,
+    ) };
 
     ghost some_left = { some_left };
 
@@ -98,7 +101,7 @@ impl<'e, 'g, 'f> Evaluation<'e, 'g, 'f> {
         answer: Outcome,
         levels: usize,
     ) -> Next
-        ensures leads { LeadsIn self.now levels (expr_loc whole.value) task (outcome_answer answer) result }
+        ensures leads { LeadsIn self.now levels whole task (outcome_answer answer) result }
         ensures elements { TaskGoesOn task answer result }
     {
         match answer {
@@ -111,7 +114,7 @@ impl<'e, 'g, 'f> Evaluation<'e, 'g, 'f> {
     #[cold]
     #[inline(never)]
     fn stopped(&self, alloc: Global, whole: Part, task: Task, stopped: Stopped) -> Next
-        ensures leads { (levels : ℕ) → LeadsIn self.now levels (expr_loc whole.value) task (fails (stopped_failure stopped)) result }
+        ensures leads { (levels : ℕ) → LeadsIn self.now levels whole task (fails (stopped_failure stopped)) result }
         ensures elements { TaskGoesOn task (Err stopped) result }
     {
         match stopped {
@@ -131,7 +134,7 @@ impl<'e, 'g, 'f> Evaluation<'e, 'g, 'f> {
         value: Box<PartialValue>,
         levels: usize,
     ) -> Next
-        ensures leads { LeadsIn self.now levels (expr_loc whole.value) task (answers (partial_view value.value)) result }
+        ensures leads { LeadsIn self.now levels whole task (boxed_answer value) result }
         ensures elements { TaskGoesOn task (Ok value) result }
     {
         match task {
@@ -148,7 +151,7 @@ impl<'e, 'g, 'f> Evaluation<'e, 'g, 'f> {
         frame: Box<PartsFrame>,
         value: Box<PartialValue>,
     ) -> Next
-        ensures leads { (levels : ℕ) → LeadsIn self.now levels (expr_loc whole.value) (tasks.Parts frame) (answers (partial_view value.value)) result }
+        ensures leads { (levels : ℕ) → LeadsIn self.now levels whole (tasks.Parts frame) (boxed_answer value) result }
         ensures elements { TaskGoesOn (tasks.Parts frame) (Ok value) result }
     {
         let parts = Box::into_inner(frame);
@@ -162,7 +165,8 @@ impl<'e, 'g, 'f> Evaluation<'e, 'g, 'f> {
 
     // The same after an error.
     fn kept_or_failed(&self, alloc: Global, whole: Part, task: Task, failed: Box<Failed>) -> Next
-        ensures leads { (levels : ℕ) → LeadsIn self.now levels (expr_loc whole.value) task (fails (failure_of failed.value.error)) result }
+        ensures leads { (levels : ℕ) →
+            LeadsIn self.now levels whole task (fails (failure_of failed.value.error)) result }
         ensures elements { TaskGoesOn task (Err (stops.Failed failed)) result }
     {
         match task {

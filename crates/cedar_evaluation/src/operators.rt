@@ -1,16 +1,15 @@
 //! Operators on the answers of parts.
-ghost use Rattle.std.specs.Prelude.{◌≡◌, ℕ, true, false};
+ghost use Rattle.std.specs.Prelude.{◌≡◌, true, false};
 ghost use Rattle.cedar_model.specs.Terms.{unary};
 ghost use Rattle.cedar_model.specs.Operators.{unary_answer};
 ghost use Rattle.cedar_model.specs.Rules.{on_part};
 ghost use Rattle.cedar_names.specs.Leaves.{unary_view};
 ghost use Rattle.cedar_model.specs.Failures.{answers};
-ghost use Rattle.cedar_model.specs.Settings.{RequestPart};
 ghost use Rattle.cedar_expressions.specs.View.{expr_loc};
 ghost use Rattle.cedar_data.specs.Residuals.{partial_view};
-ghost use Rattle.cedar_evaluation.specs.Settings.{setting_of, calls_in};
-ghost use Rattle.cedar_evaluation.specs.Tasks.{GoesOn, IsPassed, IsWaiting};
-ghost use Rattle.cedar_evaluation.specs.Steps.{GoesOnIn};
+ghost use Rattle.cedar_evaluation.specs.Tasks.{IsPassed, IsWaiting};
+ghost use Rattle.cedar_evaluation.specs.Steps.{GoesOnIn, GoesOnAt};
+ghost use Rattle.cedar_evaluation.specs.Endings.{boxed_answer};
 ghost use Rattle.cedar_evaluation.specs.declared.frame.Pending.TheVariants as pendings;
 ghost use Rattle.cedar_evaluation.specs.declared.frame.Task.TheVariants as tasks;
 
@@ -42,7 +41,7 @@ impl<'e, 'g, 'f> Evaluation<'e, 'g, 'f> {
         op: UnaryOp,
         mut operand: Box<PartialValue>,
     ) -> Next
-        ensures { (r : RequestPart) (k : ℕ) → GoesOn (setting_of r self.now) (calls_in self.now) k (expr_loc whole.now.value) (pendings.Unary op) (answers (partial_view operand.value)) result }
+        ensures { GoesOnAt self.now whole.now (pendings.Unary op) (boxed_answer operand) result }
     {
         if is_negated(op, &mut operand) {
             put_at(alloc, whole, operand)
@@ -60,7 +59,7 @@ impl<'e, 'g, 'f> Evaluation<'e, 'g, 'f> {
         op: UnaryOp,
         mut operand: Box<PartialValue>,
     ) -> Next
-        ensures { (r : RequestPart) (k : ℕ) → GoesOn (setting_of r self.now) (calls_in self.now) k (expr_loc whole.now.value) (pendings.Unary op) (answers (partial_view operand.value)) result }
+        ensures { GoesOnAt self.now whole.now (pendings.Unary op) (boxed_answer operand) result }
     {
         let part = taken_out(&mut operand);
         answered_in(alloc, whole, operand, unary_of_part(alloc, op, part, None))
@@ -76,7 +75,7 @@ impl<'e, 'g, 'f> Evaluation<'e, 'g, 'f> {
         left: Box<PartialValue>,
         levels: usize,
     ) -> Next
-        ensures { GoesOnIn self.now levels (expr_loc whole.now.value) (pendings.BinaryLeft op right.now) (answers (partial_view left.value)) result }
+        ensures { GoesOnIn self.now levels whole.now (pendings.BinaryLeft op right.now) (boxed_answer left) result }
     {
         match self.told(alloc, right, levels) {
             Some(right) => self.applied(alloc, whole, op, left, PartialValue::Value(right)),
@@ -93,7 +92,7 @@ impl<'e, 'g, 'f> Evaluation<'e, 'g, 'f> {
         left: Box<PartialValue>,
         right: Box<PartialValue>,
     ) -> Next
-        ensures { (r : RequestPart) (k : ℕ) → GoesOn (setting_of r self.now) (calls_in self.now) k (expr_loc whole.now.value) (pendings.BinaryRight op left) (answers (partial_view right.value)) result }
+        ensures { GoesOnAt self.now whole.now (pendings.BinaryRight op left) (boxed_answer right) result }
     {
         self.applied(alloc, whole, op, left, Box::into_inner(right))
     }
@@ -107,7 +106,7 @@ impl<'e, 'g, 'f> Evaluation<'e, 'g, 'f> {
         mut left: Box<PartialValue>,
         right: PartialValue,
     ) -> Next
-        ensures { (r : RequestPart) (k : ℕ) → GoesOn (setting_of r self.now) (calls_in self.now) k (expr_loc whole.now.value) (pendings.BinaryRight op left) (answers (partial_view right)) result }
+        ensures { GoesOnAt self.now whole.now (pendings.BinaryRight op left) (answers (partial_view right)) result }
     {
         let left_part = taken_out(&mut left);
         let entities = self.given.entities;
@@ -128,7 +127,7 @@ impl<'e, 'g, 'f> Evaluation<'e, 'g, 'f> {
         attr: &RcStr,
         mut container: Box<PartialValue>,
     ) -> Next
-        ensures { (r : RequestPart) (k : ℕ) → GoesOn (setting_of r self.now) (calls_in self.now) k (expr_loc whole.now.value) (pendings.GetAttr attr.now) (answers (partial_view container.value)) result }
+        ensures { GoesOnAt self.now whole.now (pendings.GetAttr attr.now) (boxed_answer container) result }
     {
         let part = taken_out(&mut container);
         match attribute_of_part(alloc, self.given.entities, part, attr, None) {
@@ -147,7 +146,7 @@ impl<'e, 'g, 'f> Evaluation<'e, 'g, 'f> {
         attr: &RcStr,
         mut container: Box<PartialValue>,
     ) -> Next
-        ensures { (r : RequestPart) (k : ℕ) → GoesOn (setting_of r self.now) (calls_in self.now) k (expr_loc whole.now.value) (pendings.HasAttr attr.now) (answers (partial_view container.value)) result }
+        ensures { GoesOnAt self.now whole.now (pendings.HasAttr attr.now) (boxed_answer container) result }
     {
         let part = taken_out(&mut container);
         answered_in(
@@ -166,7 +165,7 @@ impl<'e, 'g, 'f> Evaluation<'e, 'g, 'f> {
         attrs: &Rc<FirstRest<RcStr>>,
         mut container: Box<PartialValue>,
     ) -> Next
-        ensures { (r : RequestPart) (k : ℕ) → GoesOn (setting_of r self.now) (calls_in self.now) k (expr_loc whole.now.value) (pendings.ExtHasAttr attrs.now) (answers (partial_view container.value)) result }
+        ensures { GoesOnAt self.now whole.now (pendings.ExtHasAttr attrs.now) (boxed_answer container) result }
     {
         let part = taken_out(&mut container);
         answered_in(
@@ -185,7 +184,7 @@ impl<'e, 'g, 'f> Evaluation<'e, 'g, 'f> {
         pattern: &Box<Pattern>,
         mut text: Box<PartialValue>,
     ) -> Next
-        ensures { (r : RequestPart) (k : ℕ) → GoesOn (setting_of r self.now) (calls_in self.now) k (expr_loc whole.now.value) (pendings.Like pattern.now) (answers (partial_view text.value)) result }
+        ensures { GoesOnAt self.now whole.now (pendings.Like pattern.now) (boxed_answer text) result }
     {
         let part = taken_out(&mut text);
         answered_in(alloc, whole, text, like_of_part(alloc, part, pattern))
@@ -199,7 +198,7 @@ impl<'e, 'g, 'f> Evaluation<'e, 'g, 'f> {
         entity_type: &Box<EntityType>,
         mut entity: Box<PartialValue>,
     ) -> Next
-        ensures { (r : RequestPart) (k : ℕ) → GoesOn (setting_of r self.now) (calls_in self.now) k (expr_loc whole.now.value) (pendings.Is entity_type.now) (answers (partial_view entity.value)) result }
+        ensures { GoesOnAt self.now whole.now (pendings.Is entity_type.now) (boxed_answer entity) result }
     {
         let part = taken_out(&mut entity);
         answered_in(alloc, whole, entity, is_of_part(alloc, part, entity_type))
@@ -239,7 +238,8 @@ fn projected(alloc: Global, whole: &Part, part: Expr) -> Next
 
 // Negates a boolean where the operator is `!`. Anything else stays.
 fn is_negated(op: UnaryOp, part: &mut PartialValue) -> bool
-    ensures negated { result ≡ true → answers (partial_view part.new) ≡ on_part (unary_answer (unary_view op)) (unary (unary_view op)) (answers (partial_view part.old)) }
+    ensures negated { result ≡ true → answers (partial_view part.new)
+        ≡ on_part (unary_answer (unary_view op)) (unary (unary_view op)) (answers (partial_view part.old)) }
     ensures same { result ≡ false → part.new ≡ part.old }
 {
     match op {

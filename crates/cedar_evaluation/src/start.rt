@@ -1,17 +1,18 @@
 //! What comes first of an expression.
-ghost use Rattle.std.specs.Prelude.{◌≡◌, ℕ, option_map, IfOk};
+ghost use Rattle.std.specs.Prelude.{◌≡◌, ℕ, IfOk};
 ghost use Rattle.std.specs.Rc.{rc_str_bytes};
 ghost use Rattle.cedar_model.specs.Terms as Terms;
-ghost use Rattle.cedar_model.specs.Settings.{RequestPart};
 ghost use Rattle.cedar_model.specs.Failures.{fails, slot_is_unlinked};
 ghost use Rattle.cedar_model.specs.Operators.{slot_answer};
-ghost use Rattle.cedar_names.specs.Names.{name_text, type_text};
-ghost use Rattle.cedar_names.specs.Leaves.{literal_view, variable_view, slot_view, type_view, unary_view, binary_view, pattern_view, texts_view};
-ghost use Rattle.cedar_expressions.specs.View.{view, terms_view, fields_view, expr_loc};
+ghost use Rattle.cedar_names.specs.Names.{type_text};
+ghost use Rattle.cedar_names.specs.Leaves.{literal_view, variable_view, slot_view};
+ghost use Rattle.cedar_names.specs.Leaves.{unary_view, binary_view, pattern_view};
+ghost use Rattle.cedar_expressions.specs.View.{view, terms_view, fields_view, extended_has_of, call_of, expr_loc};
 ghost use Rattle.cedar_layers.specs.Policies.{slots_view};
-ghost use Rattle.cedar_evaluation.specs.Settings.{setting_of, calls_in, given_for};
-ghost use Rattle.cedar_evaluation.specs.Tasks.{Begins, Gives};
-ghost use Rattle.cedar_evaluation.specs.Steps.{BeginsIn};
+ghost use Rattle.cedar_operators.specs.Operands.{unknown_term};
+ghost use Rattle.cedar_evaluation.specs.Settings.{given_for};
+ghost use Rattle.cedar_evaluation.specs.Tasks.{Gives};
+ghost use Rattle.cedar_evaluation.specs.Steps.{BeginsIn, BeginsAt};
 ghost use Rattle.cedar_evaluation.specs.PartsLaws.{IsTaken, IsNextPart};
 ghost use Rattle.cedar_evaluation.specs.Elements.{IsPartTaken, NextStands, SetNext};
 
@@ -40,7 +41,7 @@ impl<'e, 'g, 'f> Evaluation<'e, 'g, 'f> {
     // Looks at an expression, which is that of the whole: answers it, or waits for its first part.
     #[tactic(auto, using(cedar_expressions::proofs::Levels::levels))]
     pub(crate) fn begin(&self, alloc: Global, whole: &Part, e: &Expr, levels: usize) -> Next
-        ensures begins { BeginsIn self.now levels (expr_loc whole.now.value) (view e.now) result }
+        ensures begins { BeginsIn self.now levels whole.now (view e.now) result }
         ensures elements { NextStands e.now result }
     {
         match e.expr_kind() {
@@ -79,7 +80,7 @@ impl<'e, 'g, 'f> Evaluation<'e, 'g, 'f> {
     }
 
     fn literal(&self, alloc: Global, whole: &Part, value: &Literal) -> Next
-        ensures { (r : RequestPart) (k : ℕ) → Begins (setting_of r self.now) (calls_in self.now) k (expr_loc whole.now.value) (Terms.literal (literal_view value.now)) result }
+        ensures { BeginsAt self.now whole.now (Terms.literal (literal_view value.now)) result }
     {
         match literal_value(value) {
             Some(value) => done(alloc, whole, PartialValue::Value(value)),
@@ -88,7 +89,7 @@ impl<'e, 'g, 'f> Evaluation<'e, 'g, 'f> {
     }
 
     fn variable(&self, alloc: Global, whole: &Part, var: Var) -> Next
-        ensures { (levels : ℕ) → BeginsIn self.now levels (expr_loc whole.now.value) (Terms.variable (variable_view var)) result }
+        ensures { (levels : ℕ) → BeginsIn self.now levels whole.now (Terms.variable (variable_view var)) result }
     {
         match self.given_for(var).clone() {
             Ok(part) => done(alloc, whole, part),
@@ -109,20 +110,20 @@ impl<'e, 'g, 'f> Evaluation<'e, 'g, 'f> {
     }
 
     fn slot(&self, alloc: Global, whole: &Part, slot: SlotId) -> Next
-        ensures { (r : RequestPart) (k : ℕ) → Begins (setting_of r self.now) (calls_in self.now) k (expr_loc whole.now.value) (Terms.slot (slot_view slot)) result }
+        ensures { BeginsAt self.now whole.now (Terms.slot (slot_view slot)) result }
     {
         or_want(slot_answer(alloc, whole, self.slots, slot))
     }
 
     fn unknown(&self, alloc: Global, whole: &Part, e: &Expr, unknown: &Unknown) -> Next
-        requires { view e.now ≡ Terms.unknown (rc_str_bytes unknown.now.name) (option_map type_view unknown.now.type_annotation) }
-        ensures { (r : RequestPart) (k : ℕ) → Begins (setting_of r self.now) (calls_in self.now) k (expr_loc whole.now.value) (view e.now) result }
+        requires { view e.now ≡ unknown_term unknown.now }
+        ensures { BeginsAt self.now whole.now (view e.now) result }
     {
         or_want(mapped(alloc, whole, &self.given.mapper, e, unknown))
     }
 
     fn operand(&self, whole: &Part, op: UnaryOp, arg: &Part) -> Next
-        ensures { (r : RequestPart) (k : ℕ) → Begins (setting_of r self.now) (calls_in self.now) k (expr_loc whole.now.value) (Terms.unary (unary_view op) (view arg.now.value)) result }
+        ensures { BeginsAt self.now whole.now (Terms.unary (unary_view op) (view arg.now.value)) result }
     {
         match both(whole, arg) {
             Ok((whole, arg)) => {
@@ -142,7 +143,8 @@ impl<'e, 'g, 'f> Evaluation<'e, 'g, 'f> {
         right: &Part,
         levels: usize,
     ) -> Next
-        ensures { BeginsIn self.now levels (expr_loc whole.now.value) (Terms.binary (binary_view op) (view left.now.value) (view right.now.value)) result }
+        ensures { BeginsIn self.now levels whole.now
+            (Terms.binary (binary_view op) (view left.now.value) (view right.now.value)) result }
     {
         match self.told_boxed(alloc, left, levels) {
             Some(told) => self.after_left(alloc, whole, op, right, told, levels),
@@ -151,7 +153,8 @@ impl<'e, 'g, 'f> Evaluation<'e, 'g, 'f> {
     }
 
     fn wait_for_left(&self, whole: &Part, op: BinaryOp, left: &Part, right: &Part) -> Next
-        ensures { (r : RequestPart) (k : ℕ) → Begins (setting_of r self.now) (calls_in self.now) k (expr_loc whole.now.value) (Terms.binary (binary_view op) (view left.now.value) (view right.now.value)) result }
+        ensures { BeginsAt self.now whole.now
+            (Terms.binary (binary_view op) (view left.now.value) (view right.now.value)) result }
     {
         match right.clone() {
             Ok(right) => match both(whole, left) {
@@ -173,7 +176,8 @@ impl<'e, 'g, 'f> Evaluation<'e, 'g, 'f> {
         attr: &RcStr,
         levels: usize,
     ) -> Next
-        ensures { BeginsIn self.now levels (expr_loc whole.now.value) (Terms.get_attribute (view expr.now.value) (rc_str_bytes attr.now)) result }
+        ensures { BeginsIn self.now levels whole.now
+            (Terms.get_attribute (view expr.now.value) (rc_str_bytes attr.now)) result }
     {
         match self.told_boxed(alloc, expr, levels) {
             Some(told) => self.after_container(alloc, whole, attr, told),
@@ -182,7 +186,8 @@ impl<'e, 'g, 'f> Evaluation<'e, 'g, 'f> {
     }
 
     fn wait_for_container(&self, whole: &Part, expr: &Part, attr: &RcStr) -> Next
-        ensures { (r : RequestPart) (k : ℕ) → Begins (setting_of r self.now) (calls_in self.now) k (expr_loc whole.now.value) (Terms.get_attribute (view expr.now.value) (rc_str_bytes attr.now)) result }
+        ensures { BeginsAt self.now whole.now
+            (Terms.get_attribute (view expr.now.value) (rc_str_bytes attr.now)) result }
     {
         match attr.clone() {
             Ok(attr) => match both(whole, expr) {
@@ -197,7 +202,8 @@ impl<'e, 'g, 'f> Evaluation<'e, 'g, 'f> {
     }
 
     fn tested(&self, alloc: Global, whole: &Part, expr: &Part, attr: &RcStr, levels: usize) -> Next
-        ensures { BeginsIn self.now levels (expr_loc whole.now.value) (Terms.has_attribute (view expr.now.value) (rc_str_bytes attr.now)) result }
+        ensures { BeginsIn self.now levels whole.now
+            (Terms.has_attribute (view expr.now.value) (rc_str_bytes attr.now)) result }
     {
         match self.told_boxed(alloc, expr, levels) {
             Some(told) => self.after_tested(alloc, whole, attr, told),
@@ -206,7 +212,8 @@ impl<'e, 'g, 'f> Evaluation<'e, 'g, 'f> {
     }
 
     fn wait_for_tested(&self, whole: &Part, expr: &Part, attr: &RcStr) -> Next
-        ensures { (r : RequestPart) (k : ℕ) → Begins (setting_of r self.now) (calls_in self.now) k (expr_loc whole.now.value) (Terms.has_attribute (view expr.now.value) (rc_str_bytes attr.now)) result }
+        ensures { BeginsAt self.now whole.now
+            (Terms.has_attribute (view expr.now.value) (rc_str_bytes attr.now)) result }
     {
         match attr.clone() {
             Ok(attr) => match both(whole, expr) {
@@ -228,7 +235,7 @@ impl<'e, 'g, 'f> Evaluation<'e, 'g, 'f> {
         attrs: &Rc<FirstRest<RcStr>>,
         levels: usize,
     ) -> Next
-        ensures { BeginsIn self.now levels (expr_loc whole.now.value) (Terms.extended_has (view expr.now.value) (rc_str_bytes attrs.now.value.first) (texts_view attrs.now.value.rest.items)) result }
+        ensures { BeginsIn self.now levels whole.now (extended_has_of (view expr.now.value) attrs.now.value) result }
     {
         match self.told_boxed(alloc, expr, levels) {
             Some(told) => self.after_walked(alloc, whole, attrs, told),
@@ -237,7 +244,7 @@ impl<'e, 'g, 'f> Evaluation<'e, 'g, 'f> {
     }
 
     fn wait_for_walked(&self, whole: &Part, expr: &Part, attrs: &Rc<FirstRest<RcStr>>) -> Next
-        ensures { (r : RequestPart) (k : ℕ) → Begins (setting_of r self.now) (calls_in self.now) k (expr_loc whole.now.value) (Terms.extended_has (view expr.now.value) (rc_str_bytes attrs.now.value.first) (texts_view attrs.now.value.rest.items)) result }
+        ensures { BeginsAt self.now whole.now (extended_has_of (view expr.now.value) attrs.now.value) result }
     {
         match attrs.clone() {
             Ok(attrs) => match both(whole, expr) {
@@ -259,7 +266,8 @@ impl<'e, 'g, 'f> Evaluation<'e, 'g, 'f> {
         pattern: &Pattern,
         levels: usize,
     ) -> Next
-        ensures { BeginsIn self.now levels (expr_loc whole.now.value) (Terms.like (view expr.now.value) (pattern_view pattern.now)) result }
+        ensures { BeginsIn self.now levels whole.now
+            (Terms.like (view expr.now.value) (pattern_view pattern.now)) result }
     {
         match self.told(alloc, expr, levels) {
             Some(told) => {
@@ -274,7 +282,7 @@ impl<'e, 'g, 'f> Evaluation<'e, 'g, 'f> {
     }
 
     fn wait_for_text(&self, alloc: Global, whole: &Part, expr: &Part, pattern: &Pattern) -> Next
-        ensures { (r : RequestPart) (k : ℕ) → Begins (setting_of r self.now) (calls_in self.now) k (expr_loc whole.now.value) (Terms.like (view expr.now.value) (pattern_view pattern.now)) result }
+        ensures { BeginsAt self.now whole.now (Terms.like (view expr.now.value) (pattern_view pattern.now)) result }
     {
         match boxed_pattern(alloc, pattern) {
             Ok(pattern) => match both(whole, expr) {
@@ -296,7 +304,8 @@ impl<'e, 'g, 'f> Evaluation<'e, 'g, 'f> {
         entity_type: &EntityType,
         levels: usize,
     ) -> Next
-        ensures { BeginsIn self.now levels (expr_loc whole.now.value) (Terms.is_of_type (view expr.now.value) (type_text entity_type.now)) result }
+        ensures { BeginsIn self.now levels whole.now
+            (Terms.is_of_type (view expr.now.value) (type_text entity_type.now)) result }
     {
         match self.told(alloc, expr, levels) {
             Some(told) => {
@@ -317,7 +326,8 @@ impl<'e, 'g, 'f> Evaluation<'e, 'g, 'f> {
         expr: &Part,
         entity_type: &EntityType,
     ) -> Next
-        ensures { (r : RequestPart) (k : ℕ) → Begins (setting_of r self.now) (calls_in self.now) k (expr_loc whole.now.value) (Terms.is_of_type (view expr.now.value) (type_text entity_type.now)) result }
+        ensures { BeginsAt self.now whole.now
+            (Terms.is_of_type (view expr.now.value) (type_text entity_type.now)) result }
     {
         match boxed_type(alloc, entity_type) {
             Ok(entity_type) => match both(whole, expr) {
@@ -332,7 +342,7 @@ impl<'e, 'g, 'f> Evaluation<'e, 'g, 'f> {
     }
 
     fn set(&self, alloc: Global, whole: &Part, parts: &Rc<Vec<Expr>>) -> Next
-        ensures begins { (r : RequestPart) (k : ℕ) → Begins (setting_of r self.now) (calls_in self.now) k (expr_loc whole.now.value) (Terms.set_of (terms_view parts.now.value.items)) result }
+        ensures begins { BeginsAt self.now whole.now (Terms.set_of (terms_view parts.now.value.items)) result }
         ensures elements { SetNext parts.now.value.items result }
     {
         let next = PartsFrame::set(alloc, self.given.extensions, parts, loc_of(whole));
@@ -340,14 +350,14 @@ impl<'e, 'g, 'f> Evaluation<'e, 'g, 'f> {
     }
 
     fn record(&self, alloc: Global, whole: &Part, pairs: &BTreeMap<RcStr, Expr>) -> Next
-        ensures { (r : RequestPart) (k : ℕ) → Begins (setting_of r self.now) (calls_in self.now) k (expr_loc whole.now.value) (Terms.record_of (fields_view pairs.now.entries)) result }
+        ensures { BeginsAt self.now whole.now (Terms.record_of (fields_view pairs.now.entries)) result }
     {
         let next = PartsFrame::record(alloc, self.given.extensions, pairs, loc_of(whole));
         first_part(alloc, whole, next)
     }
 
     fn call(&self, alloc: Global, whole: &Part, fn_name: &Name, args: &Rc<Vec<Expr>>) -> Next
-        ensures { (r : RequestPart) (k : ℕ) → Begins (setting_of r self.now) (calls_in self.now) k (expr_loc whole.now.value) (Terms.call (name_text fn_name.now) (terms_view args.now.value.items)) result }
+        ensures { BeginsAt self.now whole.now (call_of fn_name.now args.now.value.items) result }
     {
         let next = PartsFrame::call(alloc, self.given.extensions, fn_name, args, loc_of(whole));
         first_part(alloc, whole, next)
@@ -376,7 +386,8 @@ fn slot_answer(
     slots: &SlotEnv,
     slot: SlotId,
 ) -> Result<Next, AllocError>
-    ensures { IfOk result (λ n. Gives (expr_loc whole.now.value) n (slot_answer (slot_view slot) (slots_view slots.now (slot_view slot)))) }
+    ensures { IfOk result (λ n. Gives (expr_loc whole.now.value) n
+        (slot_answer (slot_view slot) (slots_view slots.now (slot_view slot)))) }
 {
     match slots.get(&slot) {
         Some(uid) => {

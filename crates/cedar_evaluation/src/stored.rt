@@ -1,20 +1,20 @@
 //! Unknowns, and stored attributes that are unknowns: the map may have a value for them.
 ghost use Rattle.std.specs.Prelude.{◌≡◌, true, [], Some, option_map, option_copied, MatchOption, IfOk};
 ghost use Rattle.std.specs.Rc.{rc_str_bytes};
-ghost use Rattle.cedar_model.specs.Terms as Terms;
 ghost use Rattle.cedar_model.specs.Values.{abstract_value};
 ghost use Rattle.cedar_model.specs.Shapes.{has_unknown};
 ghost use Rattle.cedar_model.specs.Outcomes.{type_eq};
 ghost use Rattle.cedar_model.specs.Failures.{Answer, fails, answers_residual, wrong_type};
-ghost use Rattle.cedar_model.specs.Operators.{unknown_answer, typed_value};
+ghost use Rattle.cedar_model.specs.Operators.{typed_value};
 ghost use Rattle.cedar_names.specs.Leaves.{type_view};
 ghost use Rattle.cedar_expressions.specs.View.{view, expr_loc};
 ghost use Rattle.cedar_data.specs.Residuals.{residual_term};
 ghost use Rattle.cedar_data.specs.Sound.{Placed};
 ghost use Rattle.cedar_values.specs.Answers.{AnswersWith};
+ghost use Rattle.cedar_operators.specs.Operands.{unknown_term};
 ghost use Rattle.cedar_evaluation.specs.Settings.{mapper_view};
 ghost use Rattle.cedar_evaluation.specs.Tasks.{Gives};
-ghost use Rattle.cedar_evaluation.specs.Stored.{remapped, IsNoUnknown};
+ghost use Rattle.cedar_evaluation.specs.Stored.{remapped, IsNoUnknown, mapped_unknown};
 
 use crate::answers::{answered_in, done, loc_of, or_want};
 use crate::evaluation::Mapper;
@@ -39,7 +39,8 @@ pub(crate) fn stored_in(
     container: Box<PartialValue>,
     answer: Result<PartialValue, EvaluationError>,
 ) -> Next
-    ensures { (b : Answer) → AnswersWith answer b → Gives (expr_loc whole.now.value) result (remapped (mapper_view mapper.now) b) }
+    ensures { (b : Answer) → AnswersWith answer b
+        → Gives (expr_loc whole.now.value) result (remapped (mapper_view mapper.now) b) }
 {
     match answer {
         Ok(PartialValue::Value(value)) => {
@@ -60,7 +61,8 @@ fn stored_residual(
     mapper: &Mapper<'_>,
     residual: ResidualExpr,
 ) -> Result<Next, AllocError>
-    ensures { IfOk result (λ n. Gives (expr_loc whole.now.value) n (remapped (mapper_view mapper.now) (answers_residual (residual_term residual)))) }
+    ensures { IfOk result (λ n. Gives (expr_loc whole.now.value) n
+        (remapped (mapper_view mapper.now) (answers_residual (residual_term residual)))) }
 {
     match unknown_in(residual.as_expr()) {
         Some(unknown) => {
@@ -75,7 +77,7 @@ fn stored_residual(
 // The unknown that the expression is, if it is one.
 #[tactic(auto, using(cedar_expressions::proofs::Levels::levels), unfolding(crate::specs::Stored::remapped))]
 fn unknown_in(e: &Expr) -> Option<&Unknown>
-    ensures { MatchOption result (IsNoUnknown (view e.now)) (λ u. view e.now ≡ Terms.unknown (rc_str_bytes u.now.name) (option_map type_view u.now.type_annotation)) }
+    ensures { MatchOption result (IsNoUnknown (view e.now)) (λ u. view e.now ≡ unknown_term u.now) }
 {
     match e.expr_kind() {
         ExprKind::Unknown(unknown) => Some(unknown),
@@ -124,8 +126,9 @@ pub(crate) fn mapped(
     e: &Expr,
     unknown: &Unknown,
 ) -> Result<Next, AllocError>
-    requires { view e.now ≡ Terms.unknown (rc_str_bytes unknown.now.name) (option_map type_view unknown.now.type_annotation) }
-    ensures { IfOk result (λ n. Gives (expr_loc whole.now.value) n (unknown_answer (mapper_view mapper.now) (rc_str_bytes unknown.now.name) (option_map type_view unknown.now.type_annotation))) }
+    requires { view e.now ≡ unknown_term unknown.now }
+    ensures { IfOk result (λ n. Gives (expr_loc whole.now.value) n
+        (mapped_unknown (mapper_view mapper.now) unknown.now)) }
 {
     match value_of(mapper, &unknown.name) {
         Some(value) => match &unknown.type_annotation {
@@ -138,7 +141,8 @@ pub(crate) fn mapped(
 
 // The value of the unknown of this name, if there is one.
 fn value_of<'v>(mapper: &Mapper<'v>, name: &RcStr) -> Option<&'v Value>
-    ensures { option_map (λ (v : Placed). v.what) (option_copied result) ≡ mapper_view mapper.now (rc_str_bytes name.now) }
+    ensures { option_map (λ (v : Placed). v.what) (option_copied result)
+        ≡ mapper_view mapper.now (rc_str_bytes name.now) }
 {
     match mapper {
         Mapper::Empty => None,
@@ -149,7 +153,8 @@ fn value_of<'v>(mapper: &Mapper<'v>, name: &RcStr) -> Option<&'v Value>
 // The value, if it is of this type.
 #[tactic(auto, unfolding(cedar_model::specs::Operators::typed_value))]
 fn of_type(alloc: Global, whole: &Part, value: &Value, ty: &Type) -> Result<Next, AllocError>
-    ensures { IfOk result (λ n. Gives (expr_loc whole.now.value) n (typed_value (Some (type_view ty.now)) value.now.what)) }
+    ensures { IfOk result (λ n. Gives (expr_loc whole.now.value) n
+        (typed_value (Some (type_view ty.now)) value.now.what)) }
 {
     if same_type(&value.type_of()?, ty) {
         Ok(done(alloc, whole, PartialValue::Value(value.clone()?)))
@@ -170,7 +175,8 @@ fn same_type(ty: &Type, other: &Type) -> bool
 #[cold]
 #[inline(never)]
 fn wrong_type(alloc: Global, whole: &Part, ty: Type, value: &Value) -> Next
-    ensures { Gives (expr_loc whole.now.value) result (fails (wrong_type (type_view ty) [] (abstract_value value.now.what))) }
+    ensures { Gives (expr_loc whole.now.value) result
+        (fails (wrong_type (type_view ty) [] (abstract_value value.now.what))) }
 {
     Step::Done(Err(Stopped::of(alloc, type_error(alloc, ty, value), loc_of(whole))))
 }

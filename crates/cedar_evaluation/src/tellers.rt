@@ -5,16 +5,14 @@ ghost use Rattle.std.specs.List.{zip};
 ghost use Rattle.std.specs.List.Sorted.{IsStrictlySortedBy};
 ghost use Rattle.std.specs.Rc.{rc_str_bytes};
 ghost use Rattle.cedar_model.specs.Terms as Terms;
-ghost use Rattle.cedar_model.specs.Settings.{RequestPart};
 ghost use Rattle.cedar_model.specs.Sets.{represented_fields_of};
 ghost use Rattle.cedar_model.specs.Values.{record_represented};
 ghost use Rattle.cedar_names.specs.Names.{type_text};
-ghost use Rattle.cedar_names.specs.Leaves.{unary_view, binary_view, pattern_view, texts_view, variable_view};
-ghost use Rattle.cedar_expressions.specs.View.{view, expr_loc, terms_view, fields_view};
+ghost use Rattle.cedar_names.specs.Leaves.{unary_view, binary_view, pattern_view, variable_view};
+ghost use Rattle.cedar_expressions.specs.View.{view, expr_loc, terms_view, fields_view, extended_has_of};
 ghost use Rattle.cedar_data.specs.Sound.{whats};
 ghost use Rattle.cedar_restricted.specs.Keys.{key_order, texts_of, under};
-ghost use Rattle.cedar_evaluation.specs.Settings.{Speaks, setting_of, calls_in};
-ghost use Rattle.cedar_evaluation.specs.Told.{IsTold, IsBoolTold, IsValueOf};
+ghost use Rattle.cedar_evaluation.specs.Told.{IsValueOf, Tells, TellsBool, TellsAbove};
 ghost use Rattle.cedar_evaluation.specs.Tellers.{TellsParts, TellsPairs, some_above};
 
 use crate::evaluation::Evaluation;
@@ -35,12 +33,13 @@ pub(crate) trait Teller {
     /// How high they are.
     ghost height: { ℕ };
 
-    /// Whether the expression is worth a try: it is no higher, and has neither calls nor slots nor unknowns. No promise rests on it.
+    /// Whether the expression is worth a try: it is no higher, and has neither calls nor slots nor unknowns. No promise
+    /// rests on it.
     fn suits(&self, e: &Expr) -> bool;
 
     /// The value of the expression, if it is told.
     fn tell(&self, within: &Evaluation<'_, '_, '_>, alloc: Global, e: &Expr) -> Option<Value>
-        ensures { (r : RequestPart) (k : ℕ) → Speaks r within.now → height ≤ k → IsTold (setting_of r within.now) (calls_in within.now) k (view e.now) result };
+        ensures { Tells within.now height (view e.now) result };
 
     /// They are at least one level high.
     ghost some: { 1 ≤ height };
@@ -171,7 +170,8 @@ impl<T: Teller> TellerAbove<T> {
         then_expr: &Expr,
         else_expr: &Expr,
     ) -> Option<Value>
-        ensures { (r : RequestPart) (k : ℕ) → Speaks r within.now → T.height ≤ k → IsTold (setting_of r within.now) (calls_in within.now) (suc k) (Terms.if_then_else (view test_expr.now) (view then_expr.now) (view else_expr.now)) result }
+        ensures { TellsAbove within.now T.height
+            (Terms.if_then_else (view test_expr.now) (view then_expr.now) (view else_expr.now)) result }
     {
         match self.boolean(within, alloc, test_expr) {
             Some(true) => self.below.tell(within, alloc, then_expr),
@@ -188,7 +188,7 @@ impl<T: Teller> TellerAbove<T> {
         left: &Expr,
         right: &Expr,
     ) -> Option<Value>
-        ensures { (r : RequestPart) (k : ℕ) → Speaks r within.now → T.height ≤ k → IsTold (setting_of r within.now) (calls_in within.now) (suc k) (Terms.both (view left.now) (view right.now)) result }
+        ensures { TellsAbove within.now T.height (Terms.both (view left.now) (view right.now)) result }
     {
         match self.boolean(within, alloc, left) {
             Some(true) => value_of(self.boolean(within, alloc, right)),
@@ -205,7 +205,7 @@ impl<T: Teller> TellerAbove<T> {
         left: &Expr,
         right: &Expr,
     ) -> Option<Value>
-        ensures { (r : RequestPart) (k : ℕ) → Speaks r within.now → T.height ≤ k → IsTold (setting_of r within.now) (calls_in within.now) (suc k) (Terms.either (view left.now) (view right.now)) result }
+        ensures { TellsAbove within.now T.height (Terms.either (view left.now) (view right.now)) result }
     {
         match self.boolean(within, alloc, left) {
             Some(true) => value_of(Some(true)),
@@ -216,7 +216,7 @@ impl<T: Teller> TellerAbove<T> {
 
     // The boolean that an expression is, if it is told and is one.
     fn boolean(&self, within: &Evaluation<'_, '_, '_>, alloc: Global, e: &Expr) -> Option<bool>
-        ensures { (r : RequestPart) (k : ℕ) → Speaks r within.now → T.height ≤ k → IsBoolTold (setting_of r within.now) (calls_in within.now) k (view e.now) result }
+        ensures { TellsBool within.now T.height (view e.now) result }
     {
         bool_value(self.below.tell(within, alloc, e))
     }
@@ -229,7 +229,7 @@ impl<T: Teller> TellerAbove<T> {
         op: UnaryOp,
         arg: &Expr,
     ) -> Option<Value>
-        ensures { (r : RequestPart) (k : ℕ) → Speaks r within.now → T.height ≤ k → IsTold (setting_of r within.now) (calls_in within.now) (suc k) (Terms.unary (unary_view op) (view arg.now)) result }
+        ensures { TellsAbove within.now T.height (Terms.unary (unary_view op) (view arg.now)) result }
     {
         match self.below.tell(within, alloc, arg) {
             Some(value) => value_in(unary_of_part(alloc, op, PartialValue::Value(value), None)),
@@ -246,7 +246,8 @@ impl<T: Teller> TellerAbove<T> {
         left: &Expr,
         right: &Expr,
     ) -> Option<Value>
-        ensures { (r : RequestPart) (k : ℕ) → Speaks r within.now → T.height ≤ k → IsTold (setting_of r within.now) (calls_in within.now) (suc k) (Terms.binary (binary_view op) (view left.now) (view right.now)) result }
+        ensures { TellsAbove within.now T.height
+            (Terms.binary (binary_view op) (view left.now) (view right.now)) result }
     {
         match self.below.tell(within, alloc, left) {
             Some(left) => match self.below.tell(within, alloc, right) {
@@ -269,7 +270,7 @@ impl<T: Teller> TellerAbove<T> {
         expr: &Expr,
         attr: &RcStr,
     ) -> Option<Value>
-        ensures { (r : RequestPart) (k : ℕ) → Speaks r within.now → T.height ≤ k → IsTold (setting_of r within.now) (calls_in within.now) (suc k) (Terms.get_attribute (view expr.now) (rc_str_bytes attr.now)) result }
+        ensures { TellsAbove within.now T.height (Terms.get_attribute (view expr.now) (rc_str_bytes attr.now)) result }
     {
         match variable_in(expr) {
             Some(var) => within.attribute_of_variable(alloc, var, attr),
@@ -285,7 +286,7 @@ impl<T: Teller> TellerAbove<T> {
         expr: &Expr,
         attr: &RcStr,
     ) -> Option<Value>
-        ensures { (r : RequestPart) (k : ℕ) → Speaks r within.now → T.height ≤ k → IsTold (setting_of r within.now) (calls_in within.now) (suc k) (Terms.get_attribute (view expr.now) (rc_str_bytes attr.now)) result }
+        ensures { TellsAbove within.now T.height (Terms.get_attribute (view expr.now) (rc_str_bytes attr.now)) result }
     {
         match self.below.tell(within, alloc, expr) {
             Some(value) => {
@@ -303,7 +304,7 @@ impl<T: Teller> TellerAbove<T> {
         expr: &Expr,
         attr: &RcStr,
     ) -> Option<Value>
-        ensures { (r : RequestPart) (k : ℕ) → Speaks r within.now → T.height ≤ k → IsTold (setting_of r within.now) (calls_in within.now) (suc k) (Terms.has_attribute (view expr.now) (rc_str_bytes attr.now)) result }
+        ensures { TellsAbove within.now T.height (Terms.has_attribute (view expr.now) (rc_str_bytes attr.now)) result }
     {
         match self.below.tell(within, alloc, expr) {
             Some(value) => {
@@ -322,7 +323,7 @@ impl<T: Teller> TellerAbove<T> {
         expr: &Expr,
         attrs: &FirstRest<RcStr>,
     ) -> Option<Value>
-        ensures { (r : RequestPart) (k : ℕ) → Speaks r within.now → T.height ≤ k → IsTold (setting_of r within.now) (calls_in within.now) (suc k) (Terms.extended_has (view expr.now) (rc_str_bytes attrs.now.first) (texts_view attrs.now.rest.items)) result }
+        ensures { TellsAbove within.now T.height (extended_has_of (view expr.now) attrs.now) result }
     {
         match self.below.tell(within, alloc, expr) {
             Some(value) => {
@@ -341,7 +342,7 @@ impl<T: Teller> TellerAbove<T> {
         expr: &Expr,
         pattern: &Pattern,
     ) -> Option<Value>
-        ensures { (r : RequestPart) (k : ℕ) → Speaks r within.now → T.height ≤ k → IsTold (setting_of r within.now) (calls_in within.now) (suc k) (Terms.like (view expr.now) (pattern_view pattern.now)) result }
+        ensures { TellsAbove within.now T.height (Terms.like (view expr.now) (pattern_view pattern.now)) result }
     {
         match self.below.tell(within, alloc, expr) {
             Some(value) => value_in(like_of_part(alloc, PartialValue::Value(value), pattern)),
@@ -357,7 +358,7 @@ impl<T: Teller> TellerAbove<T> {
         expr: &Expr,
         entity_type: &EntityType,
     ) -> Option<Value>
-        ensures { (r : RequestPart) (k : ℕ) → Speaks r within.now → T.height ≤ k → IsTold (setting_of r within.now) (calls_in within.now) (suc k) (Terms.is_of_type (view expr.now) (type_text entity_type.now)) result }
+        ensures { TellsAbove within.now T.height (Terms.is_of_type (view expr.now) (type_text entity_type.now)) result }
     {
         match self.below.tell(within, alloc, expr) {
             Some(value) => value_in(is_of_part(alloc, PartialValue::Value(value), entity_type)),
@@ -367,7 +368,7 @@ impl<T: Teller> TellerAbove<T> {
 
     // A set of what is told.
     fn set(&self, within: &Evaluation<'_, '_, '_>, alloc: Global, parts: &[Expr]) -> Option<Value>
-        ensures { (r : RequestPart) (k : ℕ) → Speaks r within.now → T.height ≤ k → IsTold (setting_of r within.now) (calls_in within.now) (suc k) (Terms.set_of (terms_view parts.now)) result }
+        ensures { TellsAbove within.now T.height (Terms.set_of (terms_view parts.now)) result }
     {
         match self.values(within, alloc, parts) {
             Ok(Some(values)) => made(Value::set(alloc, values, None)),
@@ -402,7 +403,7 @@ impl<T: Teller> TellerAbove<T> {
         alloc: Global,
         pairs: &BTreeMap<RcStr, Expr>,
     ) -> Option<Value>
-        ensures { (r : RequestPart) (k : ℕ) → Speaks r within.now → T.height ≤ k → IsTold (setting_of r within.now) (calls_in within.now) (suc k) (Terms.record_of (fields_view pairs.now.entries)) result }
+        ensures { TellsAbove within.now T.height (Terms.record_of (fields_view pairs.now.entries)) result }
     {
         match self.pairs(within, alloc, pairs) {
             Ok(Some((keys, values))) => made(record_value(alloc, keys, values)),
@@ -468,7 +469,8 @@ fn standing_at(mut value: Value, e: &Expr) -> Value
 // The record of these values under these keys.
 fn record_value(alloc: Global, keys: Vec<RcStr>, values: Vec<Value>) -> Result<Value, AllocError>
     requires { (length keys.items ≡ length values.items) × IsStrictlySortedBy key_order keys.items }
-    ensures { IfOk result (λ v. v.what ≡ record_represented (represented_fields_of (under (texts_of keys.items) (whats values.items)))) }
+    ensures { IfOk result (λ v. v.what
+        ≡ record_represented (represented_fields_of (under (texts_of keys.items) (whats values.items)))) }
 {
     let fields = fields_of(alloc, keys, values)?;
     Ok(Value::record(alloc, fields, None)?)

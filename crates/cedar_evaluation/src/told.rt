@@ -1,15 +1,14 @@
-//! What is told without a turn of its own: the value of an expression that is low, of operators on literals and known variables.
-ghost use Rattle.std.specs.Prelude.{◌≡◌, ◌≤◌, ℕ, suc, true, IfSome};
+//! What is told without a turn of its own: the value of an expression that is low, of operators on literals and known
+//! variables.
+ghost use Rattle.std.specs.Prelude.{◌≡◌, ◌≤◌, true, IfSome};
 ghost use Rattle.std.specs.Rc.{rc_str_bytes};
 ghost use Rattle.cedar_model.specs.Terms as Terms;
 ghost use Rattle.cedar_model.specs.Failures.{answers_value};
-ghost use Rattle.cedar_model.specs.Settings.{RequestPart};
 ghost use Rattle.cedar_model.specs.Values.{plain_represented};
 ghost use Rattle.cedar_names.specs.Leaves.{literal_view, variable_view};
 ghost use Rattle.cedar_expressions.specs.View.{view, expr_loc};
 ghost use Rattle.cedar_values.specs.Answers.{partial_answer};
-ghost use Rattle.cedar_evaluation.specs.Settings.{Speaks, setting_of, calls_in};
-ghost use Rattle.cedar_evaluation.specs.Told.{IsTold, IsBoxedTold, IsBoolTold, IsBoxOf, IsBoolOf, IsPlaced};
+ghost use Rattle.cedar_evaluation.specs.Told.{IsBoxOf, IsBoolOf, IsPlaced, Tells, ToldIn, BoxedToldIn, BoolToldIn};
 
 use crate::evaluation::Evaluation;
 use crate::tellers::{LeafTeller, Teller, TellerAbove};
@@ -30,7 +29,7 @@ impl<'e, 'g, 'f> Evaluation<'e, 'g, 'f> {
         part: &Expr,
         levels: usize,
     ) -> Option<Box<PartialValue>>
-        ensures { (r : RequestPart) (k : ℕ) → Speaks r self.now → levels ≤ suc k → IsBoxedTold (setting_of r self.now) (calls_in self.now) k (view part.now) result }
+        ensures { BoxedToldIn self.now levels (view part.now) result }
     {
         if is_tried(part, levels) {
             boxed_at(
@@ -45,7 +44,7 @@ impl<'e, 'g, 'f> Evaluation<'e, 'g, 'f> {
 
     // The boolean that the part is, if it is told and is one.
     pub(crate) fn told_bool(&self, alloc: Global, part: &Expr, levels: usize) -> Option<bool>
-        ensures { (r : RequestPart) (k : ℕ) → Speaks r self.now → levels ≤ suc k → IsBoolTold (setting_of r self.now) (calls_in self.now) k (view part.now) result }
+        ensures { BoolToldIn self.now levels (view part.now) result }
     {
         if is_tried(part, levels) {
             bool_value(self.told_value(alloc, part))
@@ -56,7 +55,7 @@ impl<'e, 'g, 'f> Evaluation<'e, 'g, 'f> {
 
     // The value of the part, if it is told: where the part stands.
     pub(crate) fn told(&self, alloc: Global, part: &Expr, levels: usize) -> Option<Value>
-        ensures told { (r : RequestPart) (k : ℕ) → Speaks r self.now → levels ≤ suc k → IsTold (setting_of r self.now) (calls_in self.now) k (view part.now) result }
+        ensures told { ToldIn self.now levels (view part.now) result }
         ensures place { IfSome result (λ v. v.loc ≡ expr_loc part.now) }
     {
         if is_tried(part, levels) {
@@ -68,14 +67,14 @@ impl<'e, 'g, 'f> Evaluation<'e, 'g, 'f> {
 
     // The value of an expression for which there are five levels, if it is told, wherever that value stands.
     fn told_value(&self, alloc: Global, part: &Expr) -> Option<Value>
-        ensures { (r : RequestPart) (k : ℕ) → Speaks r self.now → 5 ≤ k → IsTold (setting_of r self.now) (calls_in self.now) k (view part.now) result }
+        ensures { Tells self.now 5 (view part.now) result }
     {
         highest().tell(self, alloc, part)
     }
 
     // The value of the variable, if it is known.
     pub(crate) fn told_variable(&self, var: Var) -> Option<Value>
-        ensures { (r : RequestPart) (k : ℕ) → Speaks r self.now → IsTold (setting_of r self.now) (calls_in self.now) (suc k) (Terms.variable (variable_view var)) result }
+        ensures { Tells self.now 1 (Terms.variable (variable_view var)) result }
     {
         match self.given_for(var) {
             PartialValue::Value(value) => match value.clone() {
@@ -93,7 +92,8 @@ impl<'e, 'g, 'f> Evaluation<'e, 'g, 'f> {
         var: Var,
         attr: &RcStr,
     ) -> Option<Value>
-        ensures { (r : RequestPart) (k : ℕ) → Speaks r self.now → IsTold (setting_of r self.now) (calls_in self.now) (suc (suc k)) (Terms.get_attribute (Terms.variable (variable_view var)) (rc_str_bytes attr.now)) result }
+        ensures { Tells self.now 2
+            (Terms.get_attribute (Terms.variable (variable_view var)) (rc_str_bytes attr.now)) result }
     {
         match self.given_for(var) {
             PartialValue::Value(value) => {

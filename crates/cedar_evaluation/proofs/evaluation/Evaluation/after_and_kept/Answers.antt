@@ -4,4 +4,5 @@ use Rattle.cedar_data.specs.Residuals.{partial_view}
 use Rattle.cedar_evaluation.proofs.evaluation.Evaluation.after_and_kept.Goals as goal
 
 pub returns : goal.returns
-returns g c r k = c.kept_conjunction.ensures r k (answers (partial_view c.args.answer.value)) (c.kept_part-kept.ensures (view c.args.right.value))
+returns g c =
+    c.kept_conjunction.ensures (answers (partial_view c.args.answer.value)) (c.kept_part-kept.ensures (view c.args.right.value))

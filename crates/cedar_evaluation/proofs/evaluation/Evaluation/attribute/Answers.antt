@@ -17,11 +17,11 @@ returns-in-Some g c =
     let p = pendings.GetAttr c.args.attr.now in
     let t = get_attribute (view c.args.expr.now.value) (rc_str_bytes c.args.attr.now) in
     let v = partial_view c.in-Some.told.value in
-    told_begins e c.args.levels (expr_loc c.args.whole.now.value) p t (view c.args.expr.now.value) v c.after_container.result
+    told_begins e c.args.levels c.args.whole.now p t (view c.args.expr.now.value) v c.after_container.result
     (λ r k x a runs uses. (x, runs, uses))
     (λ r k speaks low. subst (λ d. Runs (setting_of r e) (calls_in e) k (view d) (answers v)) c.deref.ensures (c.in-Some.ensures r k speaks low))
-    (value_leads_in e c.args.levels (expr_loc c.args.whole.now.value) p v c.after_container.result (goes_on_in e c.args.levels (expr_loc c.args.whole.now.value) p (answers v) c.after_container.result (λ r k. c.after_container.ensures r (suc k))))
+    (value_leads_in e c.args.levels c.args.whole.now p v c.after_container.result (goes_on_in e c.args.levels c.args.whole.now p (answers v) c.after_container.result c.after_container.ensures))
 
 pub returns-in-None : goal.returns-in-None
 returns-in-None g c =
-    begins_in c.args.self.now c.args.levels (expr_loc c.args.whole.now.value) (get_attribute (view c.args.expr.now.value) (rc_str_bytes c.args.attr.now)) c.wait_for_container.result (λ r k. c.wait_for_container.ensures r k)
+    begins_in c.args.self.now c.args.levels c.args.whole.now (get_attribute (view c.args.expr.now.value) (rc_str_bytes c.args.attr.now)) c.wait_for_container.result c.wait_for_container.ensures

@@ -1,4 +1,4 @@
-use Rattle.std.proofs.Common.{refl, suc, sym, ap, ◌∙◌}
+use Rattle.std.proofs.Common.{zero, suc, refl, sym, ap, ◌∙◌, arith}
 use Rattle.std.specs.Rc.{rc_str_bytes}
 use Rattle.cedar_model.specs.Terms.{variable}
 use Rattle.cedar_model.specs.Failures.{answers}
@@ -9,7 +9,9 @@ use Rattle.cedar_evaluation.specs.Told.{attribute_told, value_found}
 use Rattle.cedar_evaluation.proofs.evaluation.Evaluation.attribute_of_variable.Goals as goal
 
 pub returns-in-Value : goal.returns-in-Value
-returns-in-Value g c r k speaks =
+returns-in-Value g c r zero speaks low = absurd (omega (arith, low))
+returns-in-Value g c r (suc zero) speaks low = absurd (omega (arith, low))
+returns-in-Value g c r (suc (suc k)) speaks low =
     let s = setting_of r c.args.self.now in
     attribute_told s (calls_in c.args.self.now) (suc k) (variable (variable_view c.args.var)) c.in-Value.value.what (rc_str_bytes c.args.attr.now) c.value_in.result refl
     (sym (ap (λ p. answers (partial_view p)) c.in-Value.is) ∙ ap (λ p. answers (partial_view p)) c.given_for.ensures ∙ ap answers (speaks (variable_view c.args.var)))

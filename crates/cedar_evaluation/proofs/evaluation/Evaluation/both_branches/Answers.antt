@@ -10,7 +10,7 @@ use Rattle.cedar_evaluation.specs.Laws.{gives_goes_on}
 use Rattle.cedar_evaluation.proofs.evaluation.Evaluation.both_branches.Goals as goal
 
 pub returns-in-Ok : goal.returns-in-Ok
-returns-in-Ok g c r k x is_kept =
+returns-in-Ok g c x is_kept r k =
     let f = c.args.second.value in
     let right = view f.else_expr.value in
     let best_is : best x right ≡ kept (view c.in-Ok.else_expr) = subst (λ m. IfOk m (λ e. best x right ≡ kept (view e))) c.in-Ok.is is_kept in

@@ -74,9 +74,9 @@ returns-in-Else g c r k =
 pub returns-in-AndKept : goal.returns-in-AndKept
 returns-in-AndKept g c r k =
     let x = fails (failure_of c.args.failed.value.error) in
-    subst (λ p. GoesOn (setting_of r c.args.self.now) (calls_in c.args.self.now) k (expr_loc c.args.whole.value) p x c.kept_conjunction.result) (sym c.in-AndKept.is) (c.kept_conjunction.ensures r k x c.original_of-kept.ensures)
+    subst (λ p. GoesOn (setting_of r c.args.self.now) (calls_in c.args.self.now) k (expr_loc c.args.whole.value) p x c.kept_conjunction.result) (sym c.in-AndKept.is) (c.kept_conjunction.ensures x c.original_of-kept.ensures r k)
 
 pub returns-in-OrKept : goal.returns-in-OrKept
 returns-in-OrKept g c r k =
     let x = fails (failure_of c.args.failed.value.error) in
-    subst (λ p. GoesOn (setting_of r c.args.self.now) (calls_in c.args.self.now) k (expr_loc c.args.whole.value) p x c.kept_disjunction.result) (sym c.in-OrKept.is) (c.kept_disjunction.ensures r k x c.original_of-kept-in-OrKept.ensures)
+    subst (λ p. GoesOn (setting_of r c.args.self.now) (calls_in c.args.self.now) k (expr_loc c.args.whole.value) p x c.kept_disjunction.result) (sym c.in-OrKept.is) (c.kept_disjunction.ensures x c.original_of-kept-in-OrKept.ensures r k)

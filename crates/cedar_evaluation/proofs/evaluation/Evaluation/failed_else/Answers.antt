@@ -3,5 +3,5 @@ use Rattle.cedar_values.specs.Failures.{failure_of}
 use Rattle.cedar_evaluation.proofs.evaluation.Evaluation.failed_else.Goals as goal
 
 pub returns : goal.returns
-returns g c r k =
-    c.both_branches.ensures r k (fails (failure_of c.args.failed.value.error)) (rw (c.deref.ensures) at c.original_of-kept.ensures)
+returns g c =
+    c.both_branches.ensures (fails (failure_of c.args.failed.value.error)) (rw (c.deref.ensures) at c.original_of-kept.ensures)

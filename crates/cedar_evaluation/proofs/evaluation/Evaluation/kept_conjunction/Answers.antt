@@ -10,7 +10,7 @@ use Rattle.cedar_evaluation.specs.Laws.{gives_goes_on}
 use Rattle.cedar_evaluation.proofs.evaluation.Evaluation.kept_conjunction.Goals as goal
 
 pub returns-in-Ok : goal.returns-in-Ok
-returns-in-Ok g c r k x is_kept =
+returns-in-Ok g c x is_kept r k =
     let l = c.args.left in
     let right = view c.args.right.value in
     let best_is : best x right ≡ kept (view c.in-Ok.right) = subst (λ m. IfOk m (λ e. best x right ≡ kept (view e))) c.in-Ok.is is_kept in

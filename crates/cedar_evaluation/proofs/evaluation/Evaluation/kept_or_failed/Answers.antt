@@ -10,15 +10,15 @@ use Rattle.cedar_evaluation.proofs.evaluation.Evaluation.kept_or_failed.Goals as
 pub returns-in-Parts-clause-leads : goal.returns-in-Parts-clause-leads
 returns-in-Parts-clause-leads g c levels =
     let e = failure_of c.args.failed.value.error in
-    subst (λ t. LeadsIn c.args.self.now levels (expr_loc c.args.whole.value) t (fails e) c.passed_on.result) (sym c.in-Parts.is)
-    (parts_failure_in c.args.self.now levels (expr_loc c.args.whole.value) c.in-Parts.frame e c.passed_on.result c.passed_on.ensures)
+    subst (λ t. LeadsIn c.args.self.now levels c.args.whole t (fails e) c.passed_on.result) (sym c.in-Parts.is)
+    (parts_failure_in c.args.self.now levels c.args.whole c.in-Parts.frame e c.passed_on.result c.passed_on.ensures)
 
 pub returns-in-Other-clause-leads : goal.returns-in-Other-clause-leads
 returns-in-Other-clause-leads g c levels =
     let e = failure_of c.args.failed.value.error in
-    subst (λ t. LeadsIn c.args.self.now levels (expr_loc c.args.whole.value) t (fails e) c.failed.result) (sym c.in-Other.is)
-    (failure_leads_in c.args.self.now levels (expr_loc c.args.whole.value) c.in-Other.pending e c.failed.result
-    (ordinary_no_want c.args.failed.value.error c.args.failed.value.ordinary) (λ r k. c.failed.ensures r k))
+    subst (λ t. LeadsIn c.args.self.now levels c.args.whole t (fails e) c.failed.result) (sym c.in-Other.is)
+    (failure_leads_in c.args.self.now levels c.args.whole c.in-Other.pending e c.failed.result
+    (ordinary_no_want c.args.failed.value.error c.args.failed.value.ordinary) c.failed.ensures)
 
 pub returns-in-Parts-clause-elements : goal.returns-in-Parts-clause-elements
 returns-in-Parts-clause-elements g c es d waits stands =

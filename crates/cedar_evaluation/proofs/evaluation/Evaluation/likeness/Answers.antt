@@ -15,11 +15,11 @@ returns-in-Some g c =
     let e = c.args.self.now in
     let t = view c.args.expr.now.value in
     let p = pattern_view c.args.pattern.now in
-    told_gives e c.args.levels (expr_loc c.args.whole.now.value) (like t p) t c.in-Some.told.what (on_part (like_answer p) (λ q. like q p)) c.answered.result
+    told_gives e c.args.levels c.args.whole.now (like t p) t c.in-Some.told.what (on_part (like_answer p) (λ q. like q p)) c.answered.result
     (λ r k x a runs is. (x, runs, is))
     (λ r k speaks low. subst (λ d. Runs (setting_of r e) (calls_in e) k (view d) (answers_value c.in-Some.told.what)) c.deref.ensures (c.in-Some.ensures.told r k speaks low))
     (c.answered.ensures _ c.like_of_part.ensures)
 
 pub returns-in-None : goal.returns-in-None
 returns-in-None g c =
-    begins_in c.args.self.now c.args.levels (expr_loc c.args.whole.now.value) (like (view c.args.expr.now.value) (pattern_view c.args.pattern.now)) c.wait_for_text.result (λ r k. c.wait_for_text.ensures r k)
+    begins_in c.args.self.now c.args.levels c.args.whole.now (like (view c.args.expr.now.value) (pattern_view c.args.pattern.now)) c.wait_for_text.result c.wait_for_text.ensures

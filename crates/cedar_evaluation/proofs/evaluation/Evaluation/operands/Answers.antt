@@ -17,11 +17,11 @@ returns-in-Some g c =
     let p = pendings.BinaryLeft c.args.op c.args.right.now in
     let t = binary (binary_view c.args.op) (view c.args.left.now.value) (view c.args.right.now.value) in
     let v = partial_view c.in-Some.told.value in
-    told_begins e c.args.levels (expr_loc c.args.whole.now.value) p t (view c.args.left.now.value) v c.after_left.result
+    told_begins e c.args.levels c.args.whole.now p t (view c.args.left.now.value) v c.after_left.result
     (λ r k x a runs uses. (x, runs, uses))
     (λ r k speaks low. subst (λ d. Runs (setting_of r e) (calls_in e) k (view d) (answers v)) c.deref.ensures (c.in-Some.ensures r k speaks low))
-    (value_leads_in e c.args.levels (expr_loc c.args.whole.now.value) p v c.after_left.result c.after_left.ensures)
+    (value_leads_in e c.args.levels c.args.whole.now p v c.after_left.result c.after_left.ensures)
 
 pub returns-in-None : goal.returns-in-None
 returns-in-None g c =
-    begins_in c.args.self.now c.args.levels (expr_loc c.args.whole.now.value) (binary (binary_view c.args.op) (view c.args.left.now.value) (view c.args.right.now.value)) c.wait_for_left.result (λ r k. c.wait_for_left.ensures r k)
+    begins_in c.args.self.now c.args.levels c.args.whole.now (binary (binary_view c.args.op) (view c.args.left.now.value) (view c.args.right.now.value)) c.wait_for_left.result c.wait_for_left.ensures

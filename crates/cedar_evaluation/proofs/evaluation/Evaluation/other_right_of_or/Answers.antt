@@ -11,10 +11,10 @@ use Rattle.cedar_evaluation.proofs.evaluation.Evaluation.other_right_of_or.Goals
 pub returns-in-Some : goal.returns-in-Some
 returns-in-Some g c =
     let e = c.args.self.now in
-    right_given e c.args.levels (expr_loc c.args.whole.value) pendings.OrRight c.args.right (Done (Ok c.bool_at.result)) c.in-Some.b
+    right_given e c.args.levels c.args.whole pendings.OrRight c.args.right (Done (Ok c.bool_at.result)) c.in-Some.b
     (λ r k speaks low. subst (λ d. Runs (setting_of r e) (calls_in e) (suc k) (view d) (answers_bool c.in-Some.b)) c.deref.ensures (c.in-Some.ensures r (suc k) speaks low))
     (λ ok. ap answers c.bool_at.ensures.view ∙ ap answers c.with_bool.ensures.view, c.bool_at.ensures.place)
 
 pub returns-in-None : goal.returns-in-None
 returns-in-None g c =
-    awaited c.args.self.now c.args.levels (expr_loc c.args.whole.value) pendings.OrRight c.args.right c.wait_for_right.result c.wait_for_right.ensures
+    awaited c.args.self.now c.args.levels c.args.whole pendings.OrRight c.args.right c.wait_for_right.result c.wait_for_right.ensures

@@ -7,11 +7,11 @@ use Rattle.cedar_evaluation.proofs.evaluation.Evaluation.resumed.Goals as goal
 
 pub returns-in-Ok-clause-leads : goal.returns-in-Ok-clause-leads
 returns-in-Ok-clause-leads g c =
-    subst (λ o. LeadsIn c.args.self.now c.args.levels (expr_loc c.args.whole.value) c.args.task (outcome_answer o) c.valued.result) (sym c.in-Ok.is) c.valued.ensures.leads
+    subst (λ o. LeadsIn c.args.self.now c.args.levels c.args.whole c.args.task (outcome_answer o) c.valued.result) (sym c.in-Ok.is) c.valued.ensures.leads
 
 pub returns-in-Err-clause-leads : goal.returns-in-Err-clause-leads
 returns-in-Err-clause-leads g c =
-    subst (λ o. LeadsIn c.args.self.now c.args.levels (expr_loc c.args.whole.value) c.args.task (outcome_answer o) c.stopped.result) (sym c.in-Err.is) (c.stopped.ensures.leads c.args.levels)
+    subst (λ o. LeadsIn c.args.self.now c.args.levels c.args.whole c.args.task (outcome_answer o) c.stopped.result) (sym c.in-Err.is) (c.stopped.ensures.leads c.args.levels)
 
 pub returns-in-Ok-clause-elements : goal.returns-in-Ok-clause-elements
 returns-in-Ok-clause-elements g c =

@@ -14,7 +14,7 @@ returns-in-Some-false g c =
     let seen : view c.args.right.value ≡ literal (bool_literal false) =
     subst (λ e. view e ≡ literal (bool_literal false)) c.deref.ensures
     (subst (λ o. IfSome o (λ b. view c.deref.result.now ≡ literal (bool_literal b))) (c.in-Some-false.is ∙ ap Some c.in-Some-false.field-0-test) c.bool_literal_in.ensures) in
-    literal_right c.args.self.now c.args.levels (expr_loc c.args.whole.value) pendings.OrRight c.args.right (Done (Ok c.bool_at-in-Some-false.result)) false seen
+    literal_right c.args.self.now c.args.levels c.args.whole pendings.OrRight c.args.right (Done (Ok c.bool_at-in-Some-false.result)) false seen
     (λ ok. ap answers c.bool_at-in-Some-false.ensures.view ∙ part_is_bool (partial_view c.args.left.value) false c.requires, c.bool_at-in-Some-false.ensures.place)
 
 pub returns-in-Some-true : goal.returns-in-Some-true
@@ -22,5 +22,5 @@ returns-in-Some-true g c =
     let seen : view c.args.right.value ≡ literal (bool_literal true) =
     subst (λ e. view e ≡ literal (bool_literal true)) c.deref.ensures
     (subst (λ o. IfSome o (λ b. view c.deref.result.now ≡ literal (bool_literal b))) (c.in-Some-true.is ∙ ap Some c.in-Some-true.field-0-test) c.bool_literal_in.ensures) in
-    literal_right c.args.self.now c.args.levels (expr_loc c.args.whole.value) pendings.OrRight c.args.right (Done (Ok c.bool_at.result)) true seen
+    literal_right c.args.self.now c.args.levels c.args.whole pendings.OrRight c.args.right (Done (Ok c.bool_at.result)) true seen
     (λ ok. ap answers c.bool_at.ensures.view ∙ ap answers c.with_bool.ensures.view, c.bool_at.ensures.place)

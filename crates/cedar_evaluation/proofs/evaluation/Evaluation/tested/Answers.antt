@@ -17,11 +17,11 @@ returns-in-Some g c =
     let p = pendings.HasAttr c.args.attr.now in
     let t = has_attribute (view c.args.expr.now.value) (rc_str_bytes c.args.attr.now) in
     let v = partial_view c.in-Some.told.value in
-    told_begins e c.args.levels (expr_loc c.args.whole.now.value) p t (view c.args.expr.now.value) v c.after_tested.result
+    told_begins e c.args.levels c.args.whole.now p t (view c.args.expr.now.value) v c.after_tested.result
     (λ r k x a runs uses. (x, runs, uses))
     (λ r k speaks low. subst (λ d. Runs (setting_of r e) (calls_in e) k (view d) (answers v)) c.deref.ensures (c.in-Some.ensures r k speaks low))
-    (value_leads_in e c.args.levels (expr_loc c.args.whole.now.value) p v c.after_tested.result (goes_on_in e c.args.levels (expr_loc c.args.whole.now.value) p (answers v) c.after_tested.result (λ r k. c.after_tested.ensures r (suc k))))
+    (value_leads_in e c.args.levels c.args.whole.now p v c.after_tested.result (goes_on_in e c.args.levels c.args.whole.now p (answers v) c.after_tested.result c.after_tested.ensures))
 
 pub returns-in-None : goal.returns-in-None
 returns-in-None g c =
-    begins_in c.args.self.now c.args.levels (expr_loc c.args.whole.now.value) (has_attribute (view c.args.expr.now.value) (rc_str_bytes c.args.attr.now)) c.wait_for_tested.result (λ r k. c.wait_for_tested.ensures r k)
+    begins_in c.args.self.now c.args.levels c.args.whole.now (has_attribute (view c.args.expr.now.value) (rc_str_bytes c.args.attr.now)) c.wait_for_tested.result c.wait_for_tested.ensures

@@ -8,12 +8,12 @@ use Rattle.cedar_evaluation.proofs.evaluation.Evaluation.valued.Goals as goal
 
 pub returns-in-Parts-clause-leads : goal.returns-in-Parts-clause-leads
 returns-in-Parts-clause-leads g c =
-    subst (λ t. LeadsIn c.args.self.now c.args.levels (expr_loc c.args.whole.value) t (answers (partial_view c.args.value.value)) c.after_part.result) (sym c.in-Parts.is) (c.after_part.ensures.leads c.args.levels)
+    subst (λ t. LeadsIn c.args.self.now c.args.levels c.args.whole t (answers (partial_view c.args.value.value)) c.after_part.result) (sym c.in-Parts.is) (c.after_part.ensures.leads c.args.levels)
 
 pub returns-in-Other-clause-leads : goal.returns-in-Other-clause-leads
 returns-in-Other-clause-leads g c =
-    subst (λ t. LeadsIn c.args.self.now c.args.levels (expr_loc c.args.whole.value) t (answers (partial_view c.args.value.value)) c.after.result) (sym c.in-Other.is)
-    (value_leads_in c.args.self.now c.args.levels (expr_loc c.args.whole.value) c.in-Other.pending (partial_view c.args.value.value) c.after.result c.after.ensures)
+    subst (λ t. LeadsIn c.args.self.now c.args.levels c.args.whole t (answers (partial_view c.args.value.value)) c.after.result) (sym c.in-Other.is)
+    (value_leads_in c.args.self.now c.args.levels c.args.whole c.in-Other.pending (partial_view c.args.value.value) c.after.result c.after.ensures)
 
 pub returns-in-Parts-clause-elements : goal.returns-in-Parts-clause-elements
 returns-in-Parts-clause-elements g c =

@@ -18,11 +18,11 @@ returns-in-Some g c =
     let p = pendings.ExtHasAttr c.args.attrs.now in
     let t = extended_has (view c.args.expr.now.value) (rc_str_bytes c.args.attrs.now.value.first) (texts_view c.args.attrs.now.value.rest.items) in
     let v = partial_view c.in-Some.told.value in
-    told_begins e c.args.levels (expr_loc c.args.whole.now.value) p t (view c.args.expr.now.value) v c.after_walked.result
+    told_begins e c.args.levels c.args.whole.now p t (view c.args.expr.now.value) v c.after_walked.result
     (λ r k x a runs uses. (x, runs, uses))
     (λ r k speaks low. subst (λ d. Runs (setting_of r e) (calls_in e) k (view d) (answers v)) c.deref.ensures (c.in-Some.ensures r k speaks low))
-    (value_leads_in e c.args.levels (expr_loc c.args.whole.now.value) p v c.after_walked.result (goes_on_in e c.args.levels (expr_loc c.args.whole.now.value) p (answers v) c.after_walked.result (λ r k. c.after_walked.ensures r (suc k))))
+    (value_leads_in e c.args.levels c.args.whole.now p v c.after_walked.result (goes_on_in e c.args.levels c.args.whole.now p (answers v) c.after_walked.result c.after_walked.ensures))
 
 pub returns-in-None : goal.returns-in-None
 returns-in-None g c =
-    begins_in c.args.self.now c.args.levels (expr_loc c.args.whole.now.value) (extended_has (view c.args.expr.now.value) (rc_str_bytes c.args.attrs.now.value.first) (texts_view c.args.attrs.now.value.rest.items)) c.wait_for_walked.result (λ r k. c.wait_for_walked.ensures r k)
+    begins_in c.args.self.now c.args.levels c.args.whole.now (extended_has (view c.args.expr.now.value) (rc_str_bytes c.args.attrs.now.value.first) (texts_view c.args.attrs.now.value.rest.items)) c.wait_for_walked.result c.wait_for_walked.ensures

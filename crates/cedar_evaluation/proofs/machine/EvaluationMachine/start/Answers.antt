@@ -12,7 +12,7 @@ returns-clause-right g c k is =
     let p = c.args.part in
     let n = c.begin.result in
     let low : c.args.levels ≤ suc k = omega (arith, is) in
-    let begins : BeginsIn s c.args.levels (expr_loc p.value) (view p.value) n = subst (λ e. BeginsIn s c.args.levels (expr_loc p.value) (view e) n) c.deref.ensures c.begin.ensures.begins in
+    let begins : BeginsIn s c.args.levels p (view p.value) n = subst (λ e. BeginsIn s c.args.levels p (view e) n) c.deref.ensures c.begin.ensures.begins in
     both_resume (λ r. Speaks r s) (λ r. setting_of r s) (calls_in s) k p n
     (start_right (λ r. Speaks r s) (λ r. setting_of r s) (calls_in s) k p (expr_loc p.value) n (λ r speaks. begins.0 r k speaks low) begins.1 refl)
     (subst (λ e. NextStands e n) c.deref.ensures c.begin.ensures.elements)

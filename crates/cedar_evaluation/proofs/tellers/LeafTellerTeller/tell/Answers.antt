@@ -1,4 +1,4 @@
-use Rattle.std.proofs.Common.{sym, ap, ◌∙◌}
+use Rattle.std.proofs.Common.{suc, sym, ap, ◌∙◌, arith}
 use Rattle.cedar_expressions.specs.View.{view, kind_view}
 use Rattle.cedar_expressions.proofs.Levels as levels
 use Rattle.cedar_evaluation.specs.Settings.{setting_of, calls_in}
@@ -12,5 +12,5 @@ returns-in-Lit g c r k speaks low =
 
 pub returns-in-Var : goal.returns-in-Var
 returns-in-Var g c r k speaks low =
-    told_above (setting_of r c.args.within.now) (calls_in c.args.within.now) 0 k _ (view c.args.e.now) c.told_variable.result (λ j some. c.told_variable.ensures r j speaks) low
+    told_above (setting_of r c.args.within.now) (calls_in c.args.within.now) 0 k _ (view c.args.e.now) c.told_variable.result (λ j some. c.told_variable.ensures r (suc j) speaks (omega arith)) low
     (sym (levels.kind_view-Var _) ∙ sym (ap kind_view c.in-Var.is) ∙ c.expr_kind.ensures.view)

@@ -1,4 +1,4 @@
-use Rattle.std.proofs.Common.{sym, ap, ◌∙◌, suc, subst}
+use Rattle.std.proofs.Common.{sym, ap, ◌∙◌, suc, subst, arith}
 use Rattle.std.specs.declared.alloc.Global.{Global}
 use Rattle.std.specs.declared.vec.Vec.{Vec}
 use Rattle.cedar_model.specs.Terms.{set_of}
@@ -16,7 +16,7 @@ returns-in-Lit g c r k speaks low =
 
 pub returns-in-Var : goal.returns-in-Var
 returns-in-Var g c r k speaks low =
-    told_above (setting_of r c.args.within.now) (calls_in c.args.within.now) g.T.Teller.height k _ (view c.args.e.now) c.told_variable.result (λ j some. c.told_variable.ensures r j speaks) low
+    told_above (setting_of r c.args.within.now) (calls_in c.args.within.now) g.T.Teller.height k _ (view c.args.e.now) c.told_variable.result (λ j some. c.told_variable.ensures r (suc j) speaks (omega arith)) low
     (sym (levels.kind_view-Var _) ∙ sym (ap kind_view c.in-Var.is) ∙ c.expr_kind.ensures.view)
 
 pub returns-in-UnaryApp : goal.returns-in-UnaryApp
