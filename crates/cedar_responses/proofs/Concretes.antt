@@ -52,26 +52,26 @@ ids_if true xs ys ts us h g = h
 ids_if false xs ys ts us h g = g
 
 module _ (r : PartialResponse) where
-  abbrev rows : List Row
-  rows = rows_view r
+  abbrev shown : List Row
+  shown = rows_view r
 
-  reason_ids : (mode : ErrorHandling) (m : Bool) → m ≡ (some_row (trues forbid rows) || some_row (residuals forbid rows))
+  reason_ids : (mode : ErrorHandling) (m : Bool) → m ≡ (some_row (trues forbid shown) || some_row (residuals forbid shown))
       → reason_texts mode m (id_texts r.satisfied_permits.entries) (id_texts r.satisfied_forbids.entries) (entry_ids r.residual_forbids.entries)
-      ≡ ids (concrete_reasons mode rows)
+      ≡ ids (concrete_reasons mode shown)
   reason_ids skip m h =
-      by m ∙ ap (λ b. ids (cond b (trues forbid rows) (trues permit rows))) h
+      by m ∙ ap (λ b. ids (cond b (trues forbid shown) (trues permit shown))) h
     where
       by : (b : Bool) → reason_texts skip b (id_texts r.satisfied_permits.entries) (id_texts r.satisfied_forbids.entries) (entry_ids r.residual_forbids.entries)
-          ≡ ids (cond b (trues forbid rows) (trues permit rows))
+          ≡ ids (cond b (trues forbid shown) (trues permit shown))
       by true = sym (ap ids (trues_forbid r) ∙ ids_of_trues forbid r.satisfied_forbids.entries)
       by false = sym (ap ids (trues_permit r) ∙ ids_of_trues permit r.satisfied_permits.entries)
   reason_ids forbid_on_error m h =
-      by m ∙ ap (λ b. ids (cond b (trues forbid rows ++ residuals forbid rows) (trues permit rows))) h
+      by m ∙ ap (λ b. ids (cond b (trues forbid shown ++ residuals forbid shown) (trues permit shown))) h
     where
       by : (b : Bool) → reason_texts forbid_on_error b (id_texts r.satisfied_permits.entries) (id_texts r.satisfied_forbids.entries) (entry_ids r.residual_forbids.entries)
-          ≡ ids (cond b (trues forbid rows ++ residuals forbid rows) (trues permit rows))
+          ≡ ids (cond b (trues forbid shown ++ residuals forbid shown) (trues permit shown))
       by true =
-          sym (ids_append (trues forbid rows) (residuals forbid rows)
+          sym (ids_append (trues forbid shown) (residuals forbid shown)
           ∙ (λ i. ids (trues_forbid r i) ++ ids (residuals_forbid r i))
           ∙ (λ i. ids_of_trues forbid r.satisfied_forbids.entries i ++ ids_of_residuals forbid r.residual_forbids.entries i))
       by false = sym (ap ids (trues_permit r) ∙ ids_of_trues permit r.satisfied_permits.entries)
@@ -83,13 +83,13 @@ module _ (r : PartialResponse) where
       ∙ (λ i. errors_of_residuals forbid r.residual_forbids.entries i ++ (errors_of_residuals permit r.residual_permits.entries i ++ recorded)))
 
   pub concrete : (m : Bool) (d : model.Decision) (reason : Text → Bool) (recorded errors : List (Text × Failure))
-      → m ≡ (some_row (trues forbid rows) || some_row (residuals forbid rows))
-      → d ≡ concrete_decision (mode_of r) rows
+      → m ≡ (some_row (trues forbid shown) || some_row (residuals forbid shown))
+      → d ≡ concrete_decision (mode_of r) shown
       → reason ≡ (λ t. has_text t (reason_texts (mode_of r) m (id_texts r.satisfied_permits.entries) (id_texts r.satisfied_forbids.entries) (entry_ids r.residual_forbids.entries)))
       → errors ≡ errors_left r.residual_forbids.entries ++ (errors_left r.residual_permits.entries ++ recorded)
-      → record { decided_as = d; is_reason = reason; errors = errors } ≡ concretized (mode_of r) rows recorded
+      → record { decided_as = d; is_reason = reason; errors = errors } ≡ concretized (mode_of r) shown recorded
   concrete m d reason recorded errors hm hd hr he =
-      let b : reason ≡ (λ (t : Text). has_text t (ids (concrete_reasons (mode_of r) rows))) =
+      let b : reason ≡ (λ (t : Text). has_text t (ids (concrete_reasons (mode_of r) shown))) =
       hr ∙ (λ i t. has_text t (reason_ids (mode_of r) m hm i)) in
       let c = he ∙ left_errors recorded in
       λ i. record { decided_as = hd i; is_reason = b i; errors = c i }

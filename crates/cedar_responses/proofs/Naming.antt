@@ -133,7 +133,7 @@ unfolding has_text
 among_residuals t [] = refl
 among_residuals t (e ∷ es) = ap (λ b. text_eq t (policy_id_text e.0) || b) (among_residuals t es)
 
-pub named_none : (first : List Text) (es : List ResidualEntry) (ks left : List PolicyID) → (λ t. among t ks) ≡ (λ t. has_text t first) → left ≡ keys_of es → AreNamedSoFar first (entry_ids es) ks left
+pub named_none : (first : List Text) (es : List ResidualEntry) (ks left : List PolicyID) → ◌≡◌ {A = Text → Bool} (λ t. among t ks) (λ t. has_text t first) → left ≡ keys_of es → AreNamedSoFar first (entry_ids es) ks left
 named_none first es ks left h e t =
     (λ i. h i t || (ap (among t) e ∙ among_residuals t es) i) ∙ sym (has_text_append t first (entry_ids es))
 
@@ -164,7 +164,7 @@ named_more first more ks new left rest k j e copied puts before t =
     ∙ sym (ap (λ l. among t ks || among t l) e) ∙ before t
 
 -- nothing is left
-pub named_all : (first more : List Text) (ks left : List PolicyID) → left ≡ [] → AreNamedSoFar first more ks left → (λ t. among t ks) ≡ (λ t. has_text t (first ++ more))
+pub named_all : (first more : List Text) (ks left : List PolicyID) → left ≡ [] → AreNamedSoFar first more ks left → ◌≡◌ {A = Text → Bool} (λ t. among t ks) (λ t. has_text t (first ++ more))
 named_all first more ks left e before =
     λ i t. (sym (or_none (among t ks)) ∙ sym (ap (λ l. among t ks || among t l) e) ∙ before t) i
   where
