@@ -26,7 +26,7 @@ use Rattle.cedar_evaluation.specs.declared.frame.Task.TheVariants as tasks
 use Rattle.cedar_evaluation.specs.Endings.{outcome_answer}
 use Rattle.cedar_evaluation.specs.Booleans.{part_bool, is_bool, and_true, or_false}
 use Rattle.cedar_evaluation.specs.Settings.{Speaks, setting_of, calls_in, some_request}
-use Rattle.cedar_evaluation.specs.Tasks.{Part, Next, Uses, WaitsFor, WaitsAgain, Gives, GoesOn, pending_left}
+use Rattle.cedar_evaluation.specs.Tasks.{Part, Next, Uses, WaitsFor, WaitsAgain, Gives, pending_left}
 use Rattle.cedar_evaluation.specs.Laws.{goes_on_through, fewer_through, goes_on_placed, goes_on_fewer}
 use Rattle.cedar_evaluation.specs.Laws.{gives_begins, gives_placed, literal_joined}
 use Rattle.cedar_evaluation.specs.PartsLaws.{no_fail}

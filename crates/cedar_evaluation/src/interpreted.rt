@@ -24,8 +24,8 @@ impl<'e, 'g, 'f> Evaluation<'e, 'g, 'f> {
     /// The value of the expression, or what is left of it, at the expression's location; at most `limit` levels deep,
     /// where an expression is one level and its parts one more. Fails with the first error in the order of evaluation,
     /// and with `RecursionLimit` where it would go deeper, at the location of the nearest expression around that has
-    /// one. The elements of a set that is its value stand where the parts do of which they are the values: of equal ones
-    /// the first stays, with its location; and so do those of a set in it.
+    /// one. The elements of a set that is its value stand where the parts do of which they are the values: of equal
+    /// ones the first stays, with its location; and so do those of a set in it.
     pub fn interpret(
         &self,
         alloc: Global,

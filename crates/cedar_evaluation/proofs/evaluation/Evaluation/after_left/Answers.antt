@@ -1,7 +1,7 @@
 use Rattle.std.proofs.Common.{suc, arith, subst}
 use Rattle.cedar_model.specs.Failures.{answers, answers_value}
 use Rattle.cedar_model.specs.Rules.{Runs}
-use Rattle.cedar_expressions.specs.View.{view, expr_loc}
+use Rattle.cedar_expressions.specs.View.{view}
 use Rattle.cedar_data.specs.Residuals.{partial_view}
 use Rattle.cedar_evaluation.specs.declared.frame.Pending.TheVariants as pendings
 use Rattle.cedar_evaluation.specs.Settings.{setting_of, calls_in}

@@ -4,7 +4,7 @@ use Rattle.cedar_model.specs.Operators.{like_answer}
 use Rattle.cedar_model.specs.Failures.{answers_value}
 use Rattle.cedar_model.specs.Rules.{Runs, on_part}
 use Rattle.cedar_names.specs.Leaves.{pattern_view}
-use Rattle.cedar_expressions.specs.View.{view, expr_loc}
+use Rattle.cedar_expressions.specs.View.{view}
 use Rattle.cedar_evaluation.specs.Settings.{setting_of, calls_in}
 use Rattle.cedar_evaluation.specs.Steps.{begins_in}
 use Rattle.cedar_evaluation.specs.Told.{told_gives}

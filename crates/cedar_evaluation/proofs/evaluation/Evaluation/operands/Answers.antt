@@ -3,7 +3,7 @@ use Rattle.cedar_model.specs.Terms.{binary}
 use Rattle.cedar_model.specs.Failures.{answers}
 use Rattle.cedar_model.specs.Rules.{Runs}
 use Rattle.cedar_names.specs.Leaves.{binary_view}
-use Rattle.cedar_expressions.specs.View.{view, expr_loc}
+use Rattle.cedar_expressions.specs.View.{view}
 use Rattle.cedar_data.specs.Residuals.{partial_view}
 use Rattle.cedar_evaluation.specs.declared.frame.Pending.TheVariants as pendings
 use Rattle.cedar_evaluation.specs.Settings.{setting_of, calls_in}

@@ -2,7 +2,7 @@ use Rattle.std.proofs.Common.{◌∙◌, ap, subst, suc, Ok}
 use Rattle.cedar_model.specs.Failures.{answers, answers_bool}
 use Rattle.cedar_model.specs.Rules.{Runs}
 use Rattle.cedar_frames.specs.declared.machine.Step.TheVariants.{Done}
-use Rattle.cedar_expressions.specs.View.{view, expr_loc}
+use Rattle.cedar_expressions.specs.View.{view}
 use Rattle.cedar_evaluation.specs.declared.frame.Pending.TheVariants as pendings
 use Rattle.cedar_evaluation.specs.Settings.{setting_of, calls_in}
 use Rattle.cedar_evaluation.specs.Told.{right_given, awaited}

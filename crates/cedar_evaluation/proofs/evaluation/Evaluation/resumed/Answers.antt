@@ -1,5 +1,4 @@
 use Rattle.std.proofs.Common.{sym, subst}
-use Rattle.cedar_expressions.specs.View.{expr_loc}
 use Rattle.cedar_evaluation.specs.Endings.{outcome_answer}
 use Rattle.cedar_evaluation.specs.Steps.{LeadsIn}
 use Rattle.cedar_evaluation.specs.Elements.{TaskGoesOn}

@@ -2,7 +2,7 @@ use Rattle.std.proofs.Common.{◌≡◌, ap, ◌∙◌, subst, IfSome, Some, Ok,
 use Rattle.cedar_model.specs.Terms.{bool_literal, literal}
 use Rattle.cedar_model.specs.Failures.{answers}
 use Rattle.cedar_frames.specs.declared.machine.Step.TheVariants.{Done}
-use Rattle.cedar_expressions.specs.View.{view, expr_loc}
+use Rattle.cedar_expressions.specs.View.{view}
 use Rattle.cedar_data.specs.Residuals.{partial_view}
 use Rattle.cedar_evaluation.specs.declared.frame.Pending.TheVariants as pendings
 use Rattle.cedar_evaluation.specs.Booleans.{part_is_bool}

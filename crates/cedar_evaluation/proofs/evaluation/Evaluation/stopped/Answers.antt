@@ -1,7 +1,6 @@
 use Rattle.std.proofs.Common.{sym, subst, Err}
 use Rattle.cedar_model.specs.Failures.{fails}
 use Rattle.cedar_frames.specs.declared.machine.Step.TheVariants.{Done}
-use Rattle.cedar_expressions.specs.View.{expr_loc}
 use Rattle.cedar_evaluation.specs.declared.stopped.Stopped.TheVariants as stops
 use Rattle.cedar_evaluation.specs.Endings.{stopped_failure}
 use Rattle.cedar_evaluation.specs.Elements.{TaskGoesOn}

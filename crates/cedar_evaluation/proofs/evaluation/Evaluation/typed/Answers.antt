@@ -3,7 +3,7 @@ use Rattle.cedar_model.specs.Terms.{is_of_type}
 use Rattle.cedar_model.specs.Failures.{answers_value}
 use Rattle.cedar_model.specs.Rules.{Runs, is_part}
 use Rattle.cedar_names.specs.Names.{type_text}
-use Rattle.cedar_expressions.specs.View.{view, expr_loc}
+use Rattle.cedar_expressions.specs.View.{view}
 use Rattle.cedar_evaluation.specs.Settings.{setting_of, calls_in}
 use Rattle.cedar_evaluation.specs.Steps.{begins_in}
 use Rattle.cedar_evaluation.specs.Told.{told_gives}

@@ -1,6 +1,5 @@
 use Rattle.std.proofs.Common.{sym, subst, Ok}
 use Rattle.cedar_model.specs.Failures.{answers}
-use Rattle.cedar_expressions.specs.View.{expr_loc}
 use Rattle.cedar_data.specs.Residuals.{partial_view}
 use Rattle.cedar_evaluation.specs.Steps.{LeadsIn, value_leads_in}
 use Rattle.cedar_evaluation.specs.Elements.{TaskWaits, TaskGoesOn}
