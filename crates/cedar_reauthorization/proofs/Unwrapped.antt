@@ -14,6 +14,7 @@ policies_unwrapped (sets.Memory e) r is = subst IsUnwrapped (sym is) tt
 
 -- what an error of the request becomes
 pub request_unwrapped : (e : ConcretizationError) (r : ReauthorizationError) → IsRequestRefusal e r → IsUnwrapped r
+request_unwrapped e (reauthorizations.ErrorHandlingConflict o a) is = tt
 request_unwrapped e (reauthorizations.PolicySetError p) is = absurd is
 request_unwrapped e (reauthorizations.ConcretizationError f) is = is.1
 request_unwrapped e (reauthorizations.Memory m) is = tt
