@@ -25,7 +25,7 @@ use Rattle.cedar_model.proofs.Recorded.{run_recordable}
 use Rattle.cedar_model.proofs.Standing as standing
 use Rattle.cedar_model.proofs.Configured.{configured_by}
 use Rattle.cedar_responses.specs.declared.partial_response.PartialResponse.{PartialResponse}
-use Rattle.cedar_responses.specs.Rows.{located_view, rows_view}
+use Rattle.cedar_responses.specs.Rows.{mode_of, located_view, rows_view}
 use Rattle.cedar_responses.proofs.Rows.{trues_permit, falses_permit, residuals_permit, trues_forbid, falses_forbid, residuals_forbid, chosen_rows}
 use Rattle.cedar_authorizer.specs.Responding.{IsKnownResponse, IsKnownRun, MeetsNoLimit, OwnWorldCompletesCall}
 use Rattle.cedar_authorizer.specs.Running.{errors_of, HoldsRows, IsRun, StandsInCompletions, IsDeepEnough, IsConcreteRun}
@@ -93,12 +93,12 @@ module _ (mode : ErrorHandling) (s : Setting) (calls : StoredCalls) (levels : �
   run_low r no_limit is_shallow sound is b h low conditions enough =
       run_is_deep mode s calls no_limit is_shallow b h levels sound low enough ps is.rows (errors_of r) conditions is.run
 
-  pub run_concrete : (p : PartialResponse) (r : Authorized) → IsRun (configured_by calls mode s levels) s ps p → r ≡ concretized mode (rows_view p) (errors_of p) → IsConcreteRun (configured_by calls mode s levels) s ps r
+  pub run_concrete : (p : PartialResponse) (r : Authorized) → IsRun (configured_by calls mode s levels) s ps p → r ≡ concretized (mode_of p) (rows_view p) (errors_of p) → IsConcreteRun (configured_by calls mode s levels) s ps r
   run_concrete p r is e = record {
     rows = is.rows;
     errors = errors_of p;
     run = is.run;
-    concrete = e ∙ concrete_alike is.rows p is.held mode (errors_of p);
+    concrete = e ∙ ap (λ m. concretized m (rows_view p) (errors_of p)) is.mode_is ∙ concrete_alike is.rows p is.held mode (errors_of p);
   }
 
   module _ (r : Authorized) (is : IsConcreteRun (configured_by calls mode s levels) s ps r) where
@@ -147,7 +147,8 @@ module _ (mode : ErrorHandling) (s : Setting) (calls : StoredCalls) (levels : �
   made = concretized mode (rows_view r) (errors_of r)
 
   made_of_run : IsConcreteRun (configured_by calls mode s levels) s ps made
-  made_of_run = run_concrete mode s calls levels ps r made is refl
+  made_of_run =
+      run_concrete mode s calls levels ps r made is (ap (λ m. concretized m (rows_view r) (errors_of r)) (sym is.mode_is))
 
   none_left : HasNothingUnknown s → (ans : Functions) → AgreesWithFunctions ans calls → HaveKnownConditions ans ps → HaveNoResidual (rows_view r)
   none_left known ans agree k =

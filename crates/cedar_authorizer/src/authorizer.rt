@@ -99,8 +99,8 @@ impl<'x, 'f> Authorizer<'x, 'f> {
 
     /// The same authorizer, which handles errors so.
     pub fn with_error_handling(self, error_handling: ErrorHandling) -> Authorizer<'x, 'f>
-        ensures extensions { extensions_of result ≡ extensions_of self }
-        ensures limit { limit_of result ≡ limit_of self }
+        ensures extensions { extensions_of result ≡ extensions_of self.entry }
+        ensures limit { limit_of result ≡ limit_of self.entry }
         ensures mode { mode_of result ≡ mode_view error_handling }
     {
         Authorizer {

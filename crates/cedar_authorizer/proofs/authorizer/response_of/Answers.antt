@@ -4,8 +4,8 @@ use Rattle.cedar_authorizer.proofs.authorizer.response_of.Goals as goal
 
 pub returns-clause-kept : goal.returns-clause-kept
 returns-clause-kept c =
-    let n = c.new.ensures in
-    if_ok_seven c.new.result _ _ _ _ _ _ _ (λ r. KeepsSheet c.args.sheet r) (λ r tp fp rp tf ff rf es. record {
+    let n = c.new_in_mode.ensures in
+    if_ok_seven c.new_in_mode.result _ _ _ _ _ _ _ (λ r. KeepsSheet c.args.sheet r) (λ r tp fp rp tf ff rf es. record {
       true_permits = kept_items c.into_iter.result _ _ c.into_iter.ensures.rest tp;
       false_permits = kept_items c.into_iter-2.result _ _ c.into_iter-2.ensures.rest fp;
       residual_permits = kept_items c.into_iter-3.result _ _ c.into_iter-3.ensures.rest rp;
