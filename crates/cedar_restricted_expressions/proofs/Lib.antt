@@ -1,2 +1,3 @@
 pub mod Levels
 pub mod Made
+pub mod FirstParts

@@ -65,7 +65,7 @@ value_restricted p = restricted-from_sound p.what p.sound
 
 -- ---- no disallowed part
 
-none_named : (o : Option Disallowed) → None ≡ option_map with_its_text o → o ≡ None
+pub none_named : (o : Option Disallowed) → None ≡ option_map with_its_text o → o ≡ None
 none_named None h = refl
 none_named (Some d) h = absurd (cc)
 

@@ -1,10 +1,15 @@
 -- Which part of an expression is refused, and what the refusal says.
-use Rattle.std.specs.Prelude.{◌≡◌, Option, Some, None, codes}
+use Rattle.std.specs.Prelude.{◌≡◌, Bool, true, false, List, ◌∷◌, map, Option, Some, None, is_some, codes}
+use Rattle.std.specs.declared.alloc.Global.{Global}
+use Rattle.std.specs.declared.rc.RcStr.{RcStr}
 use Rattle.cedar_model.specs.Terms.{Text, Term}
-use Rattle.cedar_model.specs.Restricted.{Feature, of_variable, of_slot, of_if, of_and, of_or, of_unary, of_binary}
-use Rattle.cedar_model.specs.Restricted.{of_attribute, of_has, of_like, of_is, Disallowed}
+use Rattle.cedar_model.specs.Shapes.{is_restricted}
+use Rattle.cedar_model.specs.Restricted.{Feature, feature_of, of_variable, of_slot, of_if, of_and, of_or, of_unary}
+use Rattle.cedar_model.specs.Restricted.{of_binary, of_attribute, of_has, of_like, of_is, Disallowed}
 use Rattle.cedar_names.specs.Texts.{unary_text, binary_text}
-use Rattle.cedar_expressions.specs.View.{view}
+use Rattle.cedar_expressions.specs.declared.expr.Expr.{Expr}
+use Rattle.cedar_expressions.specs.View.{view, expr_loc}
+use Rattle.cedar_expressions.specs.Nodes.{parts_of}
 use Rattle.cedar_restricted_expressions.specs.declared.restricted_expr.disallowed.Found.{Found}
 use Rattle.cedar_restricted_expressions.specs.declared.err.RestrictedExpressionError.{RestrictedExpressionError}
 use Rattle.cedar_restricted_expressions.specs.declared.err.RestrictedExpressionError.TheVariants as refusals
@@ -51,3 +56,44 @@ IsRefusal first (refusals.Memory e) = Unit {0}
 abbrev pub IsRefusedResidual : Option Disallowed → refused.PartialValueToRestrictedExprError → Type 0
 IsRefusedResidual first (residuals.NontrivialResidual e) = IsFirstPart first (view e.value)
 IsRefusedResidual first (residuals.Memory e) = Unit {0}
+
+-- ---- the part as it stands in the expression
+
+-- the parts of a record, in the order of their keys
+abbrev pub entry_parts : List (RcStr Global × Expr) → List Expr
+entry_parts fs = map {B = Expr} (λ f. f.1) fs
+
+-- whether a node may not stand in a restricted expression
+abbrev pub is_disallowed : Expr → Bool
+is_disallowed e = is_some (feature_of (view e))
+
+mutual
+  -- the first disallowed part of an expression, as it stands there: a disallowed node itself, else that of its parts
+  pub data IsFirstDisallowed : Expr → Expr → Type 0 where
+    itself : (e : Expr) → is_disallowed e ≡ true → IsFirstDisallowed e e
+    inside : (e part : Expr) → is_disallowed e ≡ false → IsFirstAmong (parts_of e) part → IsFirstDisallowed e part
+
+  -- of parts in order, that of the first which is not restricted
+  pub data IsFirstAmong : List Expr → Expr → Type 0 where
+    here : (e : Expr) (es : List Expr) (part : Expr) → IsFirstDisallowed e part → IsFirstAmong (e ∷ es) part
+    later : (e : Expr) (es : List Expr) (part : Expr) → is_restricted (view e) ≡ true → IsFirstAmong es part →
+        IsFirstAmong (e ∷ es) part
+
+-- the same term at the same place, of the very parts
+abbrev pub IsCopyOf : Expr → Expr → Type 0
+IsCopyOf e copy = (view copy ≡ view e) × (expr_loc copy ≡ expr_loc e) × (parts_of copy ≡ parts_of e)
+
+-- what is named is a copy of the first disallowed part of an expression, with its place
+pub record NamesFirstPart (e named : Expr) : Type 0 where
+  pub part : Expr
+  pub first : IsFirstDisallowed e part
+  pub copy : IsCopyOf part named
+
+-- the refusal holds that part of this expression, or is for want of memory
+abbrev pub HoldsFirstPart : Expr → RestrictedExpressionError → Type 0
+HoldsFirstPart e (refusals.InvalidRestrictedExpression r) = NamesFirstPart e r.expr
+HoldsFirstPart e (refusals.Memory m) = Unit {0}
+
+abbrev pub HoldsFirstPartOfResidual : Expr → refused.PartialValueToRestrictedExprError → Type 0
+HoldsFirstPartOfResidual e (residuals.NontrivialResidual r) = NamesFirstPart e r.value
+HoldsFirstPartOfResidual e (residuals.Memory m) = Unit {0}

@@ -4,7 +4,7 @@ ghost use Rattle.cedar_model.specs.Shapes.{is_restricted};
 ghost use Rattle.cedar_model.specs.Restricted.{first_disallowed};
 ghost use Rattle.cedar_expressions.specs.View.{view};
 ghost use Rattle.cedar_expressions.specs.Nodes.{parts_of};
-ghost use Rattle.cedar_restricted_expressions.specs.Refusals.{IsRefusal};
+ghost use Rattle.cedar_restricted_expressions.specs.Refusals.{IsRefusal, HoldsFirstPart};
 
 use super::disallowed::check;
 use super::{BorrowedRestrictedExpr, RestrictedExpr};
@@ -20,6 +20,7 @@ impl<'a> BorrowedRestrictedExpr<'a> {
     pub fn new(expr: &'a Expr) -> Result<BorrowedRestrictedExpr<'a>, RestrictedExpressionError>
         ensures expr { IfOk result (λ b. borrowed_expr b ≡ expr.now) }
         ensures refused { IfErr result (IsRefusal (first_disallowed (view expr.now))) }
+        ensures whole { IfErr result (HoldsFirstPart expr.now) }
     {
         check(expr)?;
         Ok(BorrowedRestrictedExpr::new_unchecked(expr))

@@ -3,8 +3,8 @@ ghost use Rattle.std.specs.Prelude.{◌≡◌, IfOk, IfErr, None};
 ghost use Rattle.cedar_model.specs.Values.{expression_of};
 ghost use Rattle.cedar_model.specs.Restricted.{first_disallowed};
 ghost use Rattle.cedar_data.specs.Kinds.{kind_what};
-ghost use Rattle.cedar_data.specs.Residuals.{partial_view, partial_loc, partial_term};
-ghost use Rattle.cedar_restricted_expressions.specs.Refusals.{IsRefusedResidual};
+ghost use Rattle.cedar_data.specs.Residuals.{partial_view, partial_loc, partial_term, residual_expr, IfResidual};
+ghost use Rattle.cedar_restricted_expressions.specs.Refusals.{IsRefusedResidual, HoldsFirstPartOfResidual};
 
 use super::{BorrowedRestrictedExpr, RestrictedExpr};
 use crate::err::{PartialValueToRestrictedExprError, RestrictedExpressionError};
@@ -35,7 +35,8 @@ impl RestrictedExpr {
     }
 
     /// The expression of the value, or the residual, with its location. Refuses a residual that is not restricted with
-    /// `NontrivialResidual`, which holds the part that `new` names; and with `Memory` for want of memory.
+    /// `NontrivialResidual`, which holds the part that `new` names, with its location; and with `Memory` for want of
+    /// memory.
     pub fn try_from_partial_value(
         alloc: Global,
         value: PartialValue,
@@ -43,6 +44,7 @@ impl RestrictedExpr {
         ensures view { IfOk result (λ r. restricted_term r ≡ partial_term (partial_view value)) }
         ensures loc { IfOk result (λ r. restricted_loc r ≡ partial_loc value) }
         ensures refused { IfErr result (IsRefusedResidual (first_disallowed (partial_term (partial_view value)))) }
+        ensures whole { IfErr result (λ e. IfResidual value (λ r. HoldsFirstPartOfResidual (residual_expr r) e)) }
     {
         match value {
             PartialValue::Value(value) => match RestrictedExpr::try_from_value(alloc, value) {

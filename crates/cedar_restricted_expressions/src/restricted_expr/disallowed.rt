@@ -1,12 +1,14 @@
 #![tactic(auto, using(crate::proofs::Levels::terms), unfolding(cedar_model::specs::Restricted::first_disallowed))]
 //! The first part of an expression that may not stand in a restricted one.
-ghost use Rattle.std.specs.Prelude.{◌≡◌, true, Some, option_map, OnOk, IfErr};
+ghost use Rattle.std.specs.Prelude.{◌≡◌, true, Some, option_map, OnOk, IfErr, IfSome};
 ghost use Rattle.cedar_model.specs.Shapes.{is_restricted};
 ghost use Rattle.cedar_model.specs.Restricted.{first_disallowed, first_disallowed_of, first_disallowed_at};
 ghost use Rattle.cedar_names.specs.Leaves.{unary_view, binary_view};
 ghost use Rattle.cedar_names.specs.Texts.{unary_text, binary_text};
 ghost use Rattle.cedar_expressions.specs.View.{view, terms_view, fields_view};
 ghost use Rattle.cedar_restricted_expressions.specs.Refusals.{with_its_text, found_view, IsRefusal};
+ghost use Rattle.cedar_restricted_expressions.specs.Refusals.{is_disallowed, IsFirstDisallowed, IsFirstAmong};
+ghost use Rattle.cedar_restricted_expressions.specs.Refusals.{HoldsFirstPart, entry_parts};
 
 use crate::err::RestrictedExpressionError;
 use crate::err::restricted_expr_errors::InvalidRestrictedExpressionError;
@@ -27,6 +29,7 @@ pub(crate) struct Found<'a> {
 pub(crate) fn check(expr: &Expr) -> Result<(), RestrictedExpressionError>
     ensures restricted { OnOk result (is_restricted (view expr.now) ≡ true) }
     ensures refused { IfErr result (IsRefusal (first_disallowed (view expr.now))) }
+    ensures whole { IfErr result (HoldsFirstPart expr.now) }
 {
     match first_found(expr) {
         None => Ok(()),
@@ -44,8 +47,10 @@ pub(crate) fn check(expr: &Expr) -> Result<(), RestrictedExpressionError>
 
 // A node that may not stand at once, else the first of its parts in order.
 #[cycle(found)]
+#[tactic(auto, using(crate::proofs::Levels::terms), unfolding(cedar_model::specs::Restricted::first_disallowed, cedar_model::specs::Restricted::feature_of))]
 fn first_found(expr: &Expr) -> Option<Found<'_>>
-    ensures { option_map found_view result ≡ option_map with_its_text (first_disallowed (view expr.now)) }
+    ensures view { option_map found_view result ≡ option_map with_its_text (first_disallowed (view expr.now)) }
+    ensures whole { IfSome result (λ f. IsFirstDisallowed expr.now f.part.now) }
 {
     match expr.expr_kind() {
         ExprKind::Lit(_) => None,
@@ -85,8 +90,9 @@ fn first_found(expr: &Expr) -> Option<Found<'_>>
 #[cycle(found)]
 #[tactic(auto, unfolding(cedar_model::specs::Restricted::first_disallowed, cedar_model::specs::Restricted::or_else))]
 fn first_found_of(parts: &Vec<Expr>) -> Option<Found<'_>>
-    ensures { option_map found_view result ≡
+    ensures view { option_map found_view result ≡
         option_map with_its_text (first_disallowed_of (terms_view parts.now.items)) }
+    ensures whole { IfSome result (λ f. IsFirstAmong parts.now.items f.part.now) }
 {
     'parts: for part in parts {
         if let Some(found) = first_found(part) {
@@ -99,8 +105,9 @@ fn first_found_of(parts: &Vec<Expr>) -> Option<Found<'_>>
 #[cycle(found)]
 #[tactic(auto, unfolding(cedar_model::specs::Restricted::first_disallowed, cedar_model::specs::Restricted::or_else))]
 fn first_found_at(pairs: &BTreeMap<RcStr, Expr>) -> Option<Found<'_>>
-    ensures { option_map found_view result ≡
+    ensures view { option_map found_view result ≡
         option_map with_its_text (first_disallowed_at (fields_view pairs.now.entries)) }
+    ensures whole { IfSome result (λ f. IsFirstAmong (entry_parts pairs.now.entries) f.part.now) }
 {
     'pairs: for (_, part) in pairs {
         if let Some(first) = first_found(part) {
@@ -111,7 +118,9 @@ fn first_found_at(pairs: &BTreeMap<RcStr, Expr>) -> Option<Found<'_>>
 }
 
 fn refused<'a>(feature: &'static str, part: &'a Expr) -> Option<Found<'a>>
-    ensures { option_map found_view result ≡ Some (feature.now, view part.now) }
+    requires { is_disallowed part.now ≡ true }
+    ensures view { option_map found_view result ≡ Some (feature.now, view part.now) }
+    ensures whole { IfSome result (λ f. IsFirstDisallowed part.now f.part.now) }
 {
     Some(Found { feature, part })
 }

@@ -3,7 +3,7 @@ ghost use Rattle.std.specs.Prelude.{◌≡◌, true, IfOk, IfErr};
 ghost use Rattle.cedar_model.specs.Shapes.{is_restricted};
 ghost use Rattle.cedar_model.specs.Restricted.{first_disallowed};
 ghost use Rattle.cedar_expressions.specs.View.{view};
-ghost use Rattle.cedar_restricted_expressions.specs.Refusals.{IsRefusal};
+ghost use Rattle.cedar_restricted_expressions.specs.Refusals.{IsRefusal, HoldsFirstPart};
 
 use super::disallowed::check;
 use super::{BorrowedRestrictedExpr, RestrictedExpr};
@@ -17,11 +17,12 @@ impl RestrictedExpr {
 
     /// The expression, as a restricted one. Refuses an expression that is not restricted with
     /// `InvalidRestrictedExpression`, which names the first part that may not stand in it (such a node at once, else
-    /// its parts in order, those of a record in byte order of the keys) and what it uses; and with `Memory` for want of
-    /// memory.
+    /// its parts in order, those of a record in byte order of the keys), with its location, and what it uses; and with
+    /// `Memory` for want of memory.
     pub fn new(expr: Expr) -> Result<RestrictedExpr, RestrictedExpressionError>
         ensures expr { IfOk result (λ r. expr_in r ≡ expr) }
         ensures refused { IfErr result (IsRefusal (first_disallowed (view expr))) }
+        ensures whole { IfErr result (HoldsFirstPart expr) }
     {
         check(&expr)?;
         Ok(RestrictedExpr::new_unchecked(expr))
