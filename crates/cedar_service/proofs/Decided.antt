@@ -19,7 +19,8 @@ use Rattle.cedar_model.specs.Settings.{shallow, RequestPart, Store, Setting, fou
 use Rattle.cedar_model.specs.Rules.{StoredCalls}
 use Rattle.cedar_model.specs.Agreement.{no_slots, AgreesWithFunctions, IsFaithful, AnswerFaithfully}
 use Rattle.cedar_model.specs.Policies as model
-use Rattle.cedar_model.specs.Policies.{permit, Judged, allow, deny, decision, skip, counted, counted_each}
+use Rattle.cedar_model.specs.Policies.{permit, Judged, allow, deny, decision, ErrorHandling, skip, forbid_on_error, counted}
+use Rattle.cedar_model.specs.Policies.{counted_each}
 use Rattle.cedar_model.specs.Configurations.{Configuration, configured}
 use Rattle.cedar_model.specs.Reports.{given_decision}
 use Rattle.cedar_model.specs.Chains.{Mapping, at_step, no_values}
@@ -82,12 +83,12 @@ completes_store X user action resource = record {
 }
 
 -- the premises of the headline are met
-premises : (X : Extensions) (calls : StoredCalls) → AgreesWithFunctions no_answers calls
+premises : (mode : ErrorHandling) (X : Extensions) (calls : StoredCalls) → AgreesWithFunctions no_answers calls
     → AnswerFaithfully X no_answers calls → (levels : ℕ) (owner user action resource : EntityName)
-    → Premises (configured calls skip shallow X levels) (from_someone action resource) no_store
+    → Premises (configured calls mode shallow X levels) (from_someone action resource) no_store
     (decides_as (owner_may owner) ∷ []) ((values_of user, no_store) ∷ []) no_answers
     (user_asks user action resource) []
-premises X calls agree faithful levels owner user action resource = record {
+premises mode X calls agree faithful levels owner user action resource = record {
   request_agrees = record {
     principal_agrees = (refl, tt);
     action_agrees = refl;
@@ -130,17 +131,20 @@ condition_means X owner user action resource = scope_is (is_owner user owner)
 abbrev judged_by : Outcome → List Judged
 judged_by o = record { id = codes "owner"; effect = permit; verdict_of = model.verdict o } ∷ []
 
-permitted : (b : Bool) → decision (map (counted skip) (judged_by (gives_bool b))) ≡ cond b allow deny
+permitted : (mode : ErrorHandling) (b : Bool)
+    → decision (map (counted mode) (judged_by (gives_bool b))) ≡ cond b allow deny
 unfolding model.verdict model.is_satisfied_by model.some_satisfied model.counted_verdict
-permitted true = refl
-permitted false = refl
+permitted skip true = refl
+permitted skip false = refl
+permitted forbid_on_error true = refl
+permitted forbid_on_error false = refl
 
-policy_decides : (X : Extensions) (owner user action resource : EntityName)
-    → decision (counted_each skip X no_answers (user_asks user action resource) (decides_as (owner_may owner) ∷ []))
+policy_decides : (mode : ErrorHandling) (X : Extensions) (owner user action resource : EntityName)
+    → decision (counted_each mode X no_answers (user_asks user action resource) (decides_as (owner_may owner) ∷ []))
     ≡ cond (is_owner user owner) allow deny
-policy_decides X owner user action resource =
-    ap (λ o. decision (map (counted skip) (judged_by o))) (condition_means X owner user action resource)
-    ∙ permitted (is_owner user owner)
+policy_decides mode X owner user action resource =
+    ap (λ o. decision (map (counted mode) (judged_by o))) (condition_means X owner user action resource)
+    ∙ permitted mode (is_owner user owner)
 
 -- so it allows exactly the owner
 is_allow : (b : Bool) → cond b allow deny ≡ allow → b ≡ true
@@ -171,10 +175,10 @@ decided_in c s ps steps r (Some d) h none given =
     (decision_view d) given
 
 -- of the owner's policy and the values of a user it allows exactly the owner
-module _ (X : Extensions) (calls : StoredCalls) (agree : AgreesWithFunctions no_answers calls)
+module _ (mode : ErrorHandling) (X : Extensions) (calls : StoredCalls) (agree : AgreesWithFunctions no_answers calls)
     (faithful : AnswerFaithfully X no_answers calls) (levels : ℕ) (d : model.Decision) where
   abbrev c : Configuration
-  c = configured calls skip shallow X levels
+  c = configured calls mode shallow X levels
 
   abbrev IsDecided : RequestPart → Store → List PolicyView → Mapping → Type 0
   IsDecided r store ps values =
@@ -189,9 +193,9 @@ module _ (X : Extensions) (calls : StoredCalls) (agree : AgreesWithFunctions no_
       let h3 = subst (λ x. IsDecided (from_someone action resource) no_store x values) ep h2 in
       let h4 = subst (λ x. IsDecided (from_someone action resource) no_store (owner_may owner ∷ []) x) ev h3 in
       allows_owner owner user d
-      (sym (policy_decides X owner user action resource)
+      (sym (policy_decides mode X owner user action resource)
       ∙ h4 no_answers (user_asks user action resource)
-      (premises X calls agree faithful levels owner user action resource))
+      (premises mode X calls agree faithful levels owner user action resource))
 
 -- what holds of each decision holds of the one that is answered
 pub each_decision : (P Q : model.Decision → Type 0) → ((d : model.Decision) → P d → Q d)
