@@ -54,7 +54,9 @@ fn response(
     limit: usize,
     policies: &PolicySet,
 ) -> Result<Response, AllocError> {
-    let authorizer = setting.authorizer(limit);
+    let authorizer = Authorizer::new(setting.extensions, limit).with_error_handling(
+        setting.error_handling,
+    );
     let request = setting.request.clone()?;
     authorizer.is_authorized(alloc, request, policies, &setting.entities)
 }
@@ -81,16 +83,24 @@ fn put_decided(answer: &mut Answer, kind: &str, response: &Response) {
 pub fn ask_mode(answer: &mut Answer, setting: &Setting<'_, '_>, words: &str) {
     match words {
         "default" => answer.show_debug(&ErrorHandling::default()),
-        "new" => {
-            let authorizer = Authorizer::new(setting.extensions, LIMIT);
-            answer.show_debug(&authorizer.error_handling());
-        }
-        "setting" => {
-            let authorizer = setting.authorizer(LIMIT);
-            answer.show_debug(&authorizer.error_handling());
-        }
+        "new" => answer.show_debug(&mode_of_new(setting)),
+        "setting" => answer.show_debug(&mode_of(setting)),
         _ => answer.refuse("no such authorizer"),
     }
+}
+
+// How a new authorizer handles errors.
+fn mode_of_new(setting: &Setting<'_, '_>) -> ErrorHandling {
+    let authorizer = Authorizer::new(setting.extensions, LIMIT);
+    authorizer.error_handling()
+}
+
+// How one that handles errors as the setting says does.
+fn mode_of(setting: &Setting<'_, '_>) -> ErrorHandling {
+    let authorizer = Authorizer::new(setting.extensions, LIMIT).with_error_handling(
+        setting.error_handling,
+    );
+    authorizer.error_handling()
 }
 
 // Whether a copy of the response is equal to it.

@@ -10,7 +10,7 @@ use crate::notation::unanswered::Unanswered;
 use crate::notation::{add, both, headed};
 use crate::steps::{Step, mapping, sheet, steps};
 use cedar_authorizer::authorizer::{
-    AuthorizationError, ConcretizationError, Decision, ErrorHandling, PartialResponse,
+    AuthorizationError, Authorizer, ConcretizationError, Decision, ErrorHandling, PartialResponse,
     ReauthorizationError, Reauthorize, ReportedIds, ReportedPolicies, Response,
 };
 use cedar_built_in_rows::lines::decision_text;
@@ -214,7 +214,9 @@ fn after(
     policies: &PolicySet,
     steps: &[(&HashMap<RcStr, Value>, &Entities)],
 ) -> Result<PartialResponse, ReauthorizationError> {
-    let authorizer = setting.authorizer(limit);
+    let authorizer = Authorizer::new(setting.extensions, limit).with_error_handling(
+        setting.error_handling,
+    );
     let request = setting.request.clone()?;
     authorizer.authorize_in_steps(alloc, request, policies, &setting.entities, steps)
 }
@@ -237,7 +239,9 @@ fn core(
     limit: usize,
     policies: &PolicySet,
 ) -> Result<PartialResponse, AllocError> {
-    let authorizer = setting.authorizer(limit);
+    let authorizer = Authorizer::new(setting.extensions, limit).with_error_handling(
+        setting.error_handling,
+    );
     let request = setting.request.clone()?;
     authorizer.is_authorized_core(alloc, request, policies, &setting.entities)
 }
@@ -278,9 +282,9 @@ fn taken(
     response: PartialResponse,
     step: &Step,
 ) -> Result<PartialResponse, ReauthorizationError> {
-    let authorizer = setting
-        .authorizer(limit)
-        .with_error_handling(step.error_handling);
+    let authorizer = Authorizer::new(setting.extensions, limit).with_error_handling(
+        step.error_handling,
+    );
     let next = response.reauthorize(alloc, &step.map, &authorizer, &step.entities);
     drop(response);
     next

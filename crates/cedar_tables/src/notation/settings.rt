@@ -24,7 +24,7 @@ use crate::notation::leaves::{entity_type, slot, text, uid};
 use crate::notation::unanswered::{Noted, Unanswered};
 use crate::notation::values::value;
 use crate::notation::{add, both, fact, first_fact, headed, or_memory, put};
-use cedar_authorizer::authorizer::{Authorizer, ErrorHandling};
+use cedar_authorizer::authorizer::ErrorHandling;
 use cedar_extensions::Extensions;
 use cedar_layers::expressions::{EntityUID, Expr, PartialValue, ResidualExpr, SlotEnv, Value};
 use cedar_layers::policies::{Entities, Entity};
@@ -88,13 +88,6 @@ pub struct Setting<'e, 'f> {
     pub map: HashMap<RcStr, Value>,
     pub error_handling: ErrorHandling,
     pub extensions: &'e Extensions<'f>,
-}
-
-impl<'e, 'f> Setting<'e, 'f> {
-    /// The authorizer of the setting, within so many levels.
-    pub fn authorizer(&self, limit: usize) -> Authorizer<'e, 'f> {
-        Authorizer::new(self.extensions, limit).with_error_handling(self.error_handling)
-    }
 }
 
 /// The setting of these facts, with these extensions; why it can't be read is noted.
