@@ -83,8 +83,9 @@ impl<'x, 'f> Authorizer<'x, 'f> {
     ghost use Rattle.cedar_authorizer.specs.Responding.{OwnWorldCompletesCall};
     ghost use Rattle.cedar_authorizer.specs.Headline.{steps_view, IsChain, IsHeadline, LeavesNothing};
 
-    /// The authorizer that uses these extensions, and skips errors. A condition whose evaluation goes more than `limit` levels deep counts as
-    /// erring, with `RecursionLimit`: an expression is one level and its parts one more, and a part that is not read takes none.
+    /// The authorizer that uses these extensions, and skips errors. A condition whose evaluation goes more than `limit` levels deep
+    /// counts as erring, with `RecursionLimit`: an expression is one level and its parts one more, and a part that is not read
+    /// takes none.
     pub fn new(extensions: &'x Extensions<'f>, limit: usize) -> Authorizer<'x, 'f>
         ensures extensions { extensions_of result ≡ extensions.now }
         ensures limit { limit_of result ≡ limit }
@@ -119,7 +120,8 @@ impl<'x, 'f> Authorizer<'x, 'f> {
 
     /// What the policies decide for the request over this store: a satisfied forbid denies, else a satisfied permit allows, else it
     /// is denied. A policy that errs is skipped, and its error is recorded; so is one of whose condition something is left, with
-    /// `NonValue`. In `ForbidOnError` a forbid that errs, or of whose condition something is left, denies too. It is what `is_authorized_core` answers, made concrete. Refuses only for want of memory.
+    /// `NonValue`. In `ForbidOnError` a forbid that errs, or of whose condition something is left, denies too. It is what
+    /// `is_authorized_core` answers, made concrete. Refuses only for want of memory.
     pub fn is_authorized(
         &self,
         alloc: Global,
@@ -144,8 +146,9 @@ impl<'x, 'f> Authorizer<'x, 'f> {
 
     /// What is known of each policy for the request over this store: whether it is satisfied, or what is left of its condition. A
     /// policy that errs is false with `ErrorState::Error`, and its error is recorded, the recursion limit included; in
-    /// `ForbidOnError` a forbid that errs is satisfied, and its error recorded. In every completion of the request and the store what is reported stands, if no recursion limit is recorded. Where nothing is
-    /// unknown no residual is left, and the decision is given. Refuses only for want of memory.
+    /// `ForbidOnError` a forbid that errs is satisfied, and its error recorded. In every completion of the request and the store
+    /// what is reported stands, if no recursion limit is recorded. Where nothing is unknown no residual is left, and the decision
+    /// is given. Refuses only for want of memory.
     pub fn is_authorized_core(
         &self,
         alloc: Global,

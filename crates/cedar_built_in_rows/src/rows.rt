@@ -21,8 +21,8 @@ pub enum Row {
     /// 1 permits when `false`, 2 forbids when `unknown("a")`; there is no step.
     Early,
     /// policy0 permits when `principal == NS::"a" && resource == NS::"b"`, policy1 forbids when `context.c && context.d == 10`. The
-    /// principal is `NS::"a"`, and nothing else is known. The first step says that the resource is `NS::"b"`, the second that `c` is
-    /// true and `d` is 10.
+    /// principal is `NS::"a"`, and nothing else is known. The first step says that the resource is `NS::"b"`, the second that `c`
+    /// is true and `d` is 10.
     Chain,
     /// 1 permits when `unknown("x") && (1 + "a")`; a step says that `x` is true.
     Kept,

@@ -98,8 +98,8 @@ impl Extension {
 
     // Adds the types whose values the order compares, in order.
     pub(crate) fn push_types(&self, types: &mut Vec<Type>) -> Result<(), AllocError>
-        ensures { OnOk result
-            (map type_view types.new.items ≡ map type_view types.old.items ++ types_named (overloading_types self.now)) }
+        ensures { OnOk result (map type_view types.new.items ≡
+            map type_view types.old.items ++ types_named (overloading_types self.now)) }
     {
         let mut rest = self.types_with_operator_overloading.as_slice();
         'types: while let Some((name, others)) = rest.split_first() {

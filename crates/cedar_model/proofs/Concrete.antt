@@ -21,6 +21,7 @@ use Rattle.cedar_model.specs.Reports
 use Rattle.cedar_model.specs.Reports.{some_row, ids, trues, residuals, judged_row, reported_verdict}
 use Rattle.cedar_model.specs.ReportLaws
 use Rattle.cedar_model.proofs.Bounds
+use Rattle.cedar_model.proofs.Counting.{is_open}
 
 none_isn't : {A : Type 0} {x : A} → None ≡ Some x → ⊥
 none_isn't h = cc
@@ -58,12 +59,6 @@ given_is_concrete forbid_on_error rows d h =
     (some_row (residuals forbid rows)) d h
 
 -- ---- rows as verdicts
-
--- true or residual
-unfoldable is_open : Reported → Bool
-is_open reported_true = true
-is_open (reported_false e) = false
-is_open (reported_residual t) = true
 
 -- what is reported of a policy of the effect counts as satisfied
 unfoldable counts : ErrorHandling → Effect → Reported → Bool

@@ -15,7 +15,8 @@ use crate::names::{EntityType, EntityUID, Name};
 use crate::pattern::Pattern;
 use crate::types::{Literal, Type, Unknown};
 
-/// Names and entity types are equal exactly where their texts are, and names of entities where their types and ids are: locations change nothing.
+/// Names and entity types are equal exactly where their texts are, and names of entities where their types and ids are: locations
+/// change nothing.
 pub fn names_are_equal_by_text()
     ensures names { (a b : Name) → Decides (⟦<Name as PartialEq>⟧.eq a b) (name_text a ≡ name_text b) }
     ensures types { (a b : EntityType) → Decides (⟦<EntityType as PartialEq>⟧.eq a b) (type_text a ≡ type_text b) }

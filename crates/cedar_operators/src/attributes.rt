@@ -192,11 +192,12 @@ fn entity_has(
     }
 }
 
-/// `value has a.b..`: whether the value has the first attribute, that attribute the second and so on; what follows an attribute that
-/// is not there is not looked at. Where the way leads to an entity that a partial store lacks, the answer is the unknown that stands
-/// for it `has` the attributes not yet walked; where it leads to a stored residual, that residual `has` the attributes after it.
-/// The last attribute is only looked for: where it is stored as a residual, it is there. A residual made here is at no location. A
-/// `TypeError`, at the value's location, for a value on the way, the last aside, that is neither a record nor an entity.
+/// `value has a.b..`: whether the value has the first attribute, that attribute the second and so on; what follows an attribute
+/// that is not there is not looked at. Where the way leads to an entity that a partial store lacks, the answer is the unknown that
+/// stands for it `has` the attributes not yet walked; where it leads to a stored residual, that residual `has` the attributes after
+/// it. The last attribute is only looked for: where it is stored as a residual, it is there. A residual made here is at no
+/// location. A `TypeError`, at the value's location, for a value on the way, the last aside, that is neither a record nor an
+/// entity.
 pub fn has_path(
     alloc: Global,
     entities: &Entities,

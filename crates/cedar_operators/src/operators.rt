@@ -18,8 +18,8 @@ use cedar_values::evaluator::err::EvaluationError;
 use std::alloc::Global;
 
 /// An operator on one value: `!` of a boolean, `-` of a long, `isEmpty` of a set. A value of another type is a `TypeError` at the
-/// value's location; a negated long that needs more than 64 bits is an `IntegerOverflow` with its operand, at the location handed in.
-/// The result is at no known location.
+/// value's location; a negated long that needs more than 64 bits is an `IntegerOverflow` with its operand, at the location handed
+/// in. The result is at no known location.
 pub fn unary_app(
     alloc: Global,
     op: UnaryOp,

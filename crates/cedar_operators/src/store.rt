@@ -129,8 +129,8 @@ fn is_in_one(uid: &EntityUID, entity: Option<&Entity>, other: &EntityUID) -> boo
 
 /// `a.getTag(b)`: the entity's tag, as it is stored, at its own location; where a partial store lacks the entity, `u.getTag(b)`, at
 /// no location, of the unknown `u` that stands for it. A `TypeError`, at the value's location, where the left is no entity or then
-/// the right no text; `EntityDoesNotExist`, at the location of the entity, where a concrete store lacks it; `EntityAttrDoesNotExist`,
-/// at the location handed in, where the entity lacks the tag.
+/// the right no text; `EntityDoesNotExist`, at the location of the entity, where a concrete store lacks it;
+/// `EntityAttrDoesNotExist`, at the location handed in, where the entity lacks the tag.
 #[tactic(auto, unfolding(cedar_model::specs::Operators::binary_answer, cedar_model::specs::Operators::expecting))]
 pub fn tag_of(
     alloc: Global,

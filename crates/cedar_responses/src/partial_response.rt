@@ -60,8 +60,8 @@ pub struct PartialResponse {
 }
 
 impl PartialResponse {
-    /// The response of these policies and errors, where errors are skipped. An id that comes again within one of the six keeps its first place and takes its
-    /// last value. Each iterator must come to an end. Refuses only for want of memory.
+    /// The response of these policies and errors, where errors are skipped. An id that comes again within one of the six keeps its
+    /// first place and takes its last value. Each iterator must come to an end. Refuses only for want of memory.
     pub fn new<
         TP: Iterator<Item = (PolicyID, Rc<Annotations>)> + Drop,
         FP: Iterator<Item = (PolicyID, (ErrorState, Rc<Annotations>))> + Drop,

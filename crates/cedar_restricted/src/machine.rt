@@ -99,15 +99,16 @@ impl<'x, 'f> Machine for Restricted<'x, 'f> {
 }
 
 impl<'x, 'f> Restricted<'x, 'f> {
-    // What the expression is answered within so many levels. An error that came up in an expression that was not looked at stands at the
-    // nearest one around it that has a location.
+    // What the expression is answered within so many levels. An error that came up in an expression that was not looked at stands
+    // at the nearest one around it that has a location.
     pub(crate) fn evaluated(
         &self,
         alloc: Global,
         expr: Expr,
         limit: usize,
     ) -> Result<PartialValue, EvaluationError>
-        ensures right { IsRight (extensions_view self.now.extensions.now) (calls_of self.now.extensions.now) limit expr result }
+        ensures right { IsRight (extensions_view self.now.extensions.now) (calls_of self.now.extensions.now) limit expr
+            result }
         ensures elements { AnswerStands expr result }
     {
         let mut stack = Stack::new(alloc, limit);

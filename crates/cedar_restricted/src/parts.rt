@@ -164,7 +164,8 @@ impl PartsFrame {
     ) -> NextPart
         requires keys { HasKeys whole (length parts.value.items) }
         requires no_more { count answers ≤ length parts.value.items }
-        ensures reads { Reads (extensions_view extensions.now) (calls_of extensions.now) whole parts answers loc result }
+        ensures reads { Reads (extensions_view extensions.now) (calls_of extensions.now) whole parts answers loc
+            result }
         ensures elements { whole ≡ wholes.Set → ((n : ℕ) → FirstStand n parts.value.items answers) →
             SetLeads parts.value.items result }
     {

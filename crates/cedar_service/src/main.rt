@@ -48,8 +48,8 @@ fn main(rt: HostRuntime) -> ExitCode {
 }
 
 /// Prints the documents and the requests, and answers the exit status: `DONE`; `NOT_WRITTEN` where the writer failed; `REPEATED_ID`
-/// where two policies have one id; `OUT_OF_MEMORY` where memory was wanting; `WRONG_FUNCTIONS` where the stored functions can't be used
-/// together; `STEP_REFUSED` where a response was not taken further.
+/// where two policies have one id; `OUT_OF_MEMORY` where memory was wanting; `WRONG_FUNCTIONS` where the stored functions can't be
+/// used together; `STEP_REFUSED` where a response was not taken further.
 pub fn run<W: Write>(alloc: Global, out: &mut W) -> u8 {
     match print_all(alloc, out) {
         Ok(()) => DONE,

@@ -1,5 +1,5 @@
-//! Reads what a line of a table says: expressions and values as words, policies, and the setting that rows are answered in; and shows what answers have
-//! in common.
+//! Reads what a line of a table says: expressions and values as words, policies, and the setting that rows are answered in; and
+//! shows what answers have in common.
 //!
 //! A text stands in a word as it is, but for `␣`, which stands for a space. A place is written as its ends, `1-2`.
 
@@ -46,8 +46,8 @@ pub fn headed(text: &str) -> (&str, &str) {
     }
 }
 
-/// The parts that were read and that no later word has taken, the latest one last. Why they can't be read is noted in them, so that who reads a
-/// word looks at nothing, and they are looked at once, when all are read.
+/// The parts that were read and that no later word has taken, the latest one last. Why they can't be read is noted in them, so that
+/// who reads a word looks at nothing, and they are looked at once, when all are read.
 #[derive(Drop)]
 pub struct Parts<T: Drop> {
     parts: Vec<T>,

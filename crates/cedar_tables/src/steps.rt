@@ -1,10 +1,10 @@
 //! Reads the steps that a response is taken further by, and what a response is made of.
 //!
 //! - `x L:1, y B:true` is a step with these values for unknowns, and `none` one with no value. Steps have ` / ` between them.
-//! - `then x L:1` is a step over the second store, of which each fact stands behind `then` in the setting; by an authorizer that handles errors as
-//!   `then errors` says, or as the setting does.
-//! - `permit a true, permit b=note error, forbid c U:x` is what a response is made of: `a` is satisfied, `b` erred and has the annotation `note`, and
-//!   `c` has these words left.
+//! - `then x L:1` is a step over the second store, of which each fact stands behind `then` in the setting; by an authorizer that
+//!   handles errors as `then errors` says, or as the setting does.
+//! - `permit a true, permit b=note error, forbid c U:x` is what a response is made of: `a` is satisfied, `b` erred and has the
+//!   annotation `note`, and `c` has these words left.
 use crate::notation::errors::error;
 use crate::notation::expressions::expression;
 use crate::notation::leaves::text;

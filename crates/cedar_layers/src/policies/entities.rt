@@ -46,10 +46,10 @@ impl Entity {
     ghost use Rattle.cedar_layers.specs.Stores.{entity_uid, entity_attributes, entity_tags, entity_ancestors};
     ghost use Rattle.cedar_layers.specs.Stores.{entity_name, entity_view, facts_of, facts_of_values};
 
-    /// The entity of this uid with these attributes, ancestors and tags, taken as they are. The caller owes two facts, one of `attrs`
-    /// and one of `tags`: each residual there is a restricted expression, that is, made of literals, unknowns, sets, records and
-    /// calls of extension functions alone. Values may stand there freely; `from_values` takes nothing else, and asks nothing.
-    /// `ancestors` are all the entities that this one is in, not its parents alone: none is added.
+    /// The entity of this uid with these attributes, ancestors and tags, taken as they are. The caller owes two facts, one of
+    /// `attrs` and one of `tags`: each residual there is a restricted expression, that is, made of literals, unknowns, sets,
+    /// records and calls of extension functions alone. Values may stand there freely; `from_values` takes nothing else, and asks
+    /// nothing. `ancestors` are all the entities that this one is in, not its parents alone: none is added.
     pub fn new(
         uid: EntityUID,
         attrs: BTreeMap<RcStr, PartialValue>,
@@ -269,7 +269,8 @@ impl Entities {
 
     // The unknown that stands for the entity of this uid.
     fn missing(alloc: Global, uid: &EntityUID) -> Result<Unknown, AllocError>
-        ensures { IfOk result (λ u. unknown (rc_str_bytes u.name) (option_map type_view u.type_annotation) ≡ missing_entity (uid_name uid.now)) }
+        ensures { IfOk result (λ u. unknown (rc_str_bytes u.name) (option_map type_view u.type_annotation) ≡
+            missing_entity (uid_name uid.now)) }
     {
         let name = RcStr::from_string(uid.to_string(alloc)?)?;
         let ty = Type::Entity {

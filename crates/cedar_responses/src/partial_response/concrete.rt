@@ -31,8 +31,9 @@ impl PartialResponse {
     /// The response where each residual counts as an error, `NonValue` at the residual's location: `Allow` where a permit is
     /// satisfied and no forbid is, for the reasons that must determine the decision; with the errors of residual forbids, then of
     /// residual permits, then those recorded. Where a forbid that errs forbids, a residual forbid denies too, and the reasons are
-    /// the satisfied and the residual forbids or, with none, the satisfied permits. A decision that is given stays. Where no residual is left, decision and reasons are
-    /// those of the policies, wherever what is reported of them stands. Refuses only for want of memory.
+    /// the satisfied and the residual forbids or, with none, the satisfied permits. A decision that is given stays. Where no
+    /// residual is left, decision and reasons are those of the policies, wherever what is reported of them stands. Refuses only for
+    /// want of memory.
     pub fn concretize(self, alloc: Global) -> Result<Response, AllocError>
         ensures response { IfOk result (λ r. response_view r ≡ concrete_response self) }
         ensures places { IfOk result (λ r. response_places r ≡ concrete_places self) }

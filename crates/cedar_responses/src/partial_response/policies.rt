@@ -19,7 +19,8 @@ use std::rc::Rc;
 
 /// Policies of a partial response, permits first, and true ones before false ones before residual ones. A policy has the effect,
 /// the id and the annotations that it was decided with, constraints that are all `true`, the clause `true`, `false` or its
-/// residual, with the residual's own locations, and that clause's location. Where memory is wanting for one, an `Err` stands in its place, and the walk goes on.
+/// residual, with the residual's own locations, and that clause's location. Where memory is wanting for one, an `Err` stands in its
+/// place, and the walk goes on.
 #[derive(Drop)]
 pub struct ReportedPolicies<'a> {
     alloc: Global,

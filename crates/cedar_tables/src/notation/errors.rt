@@ -1,5 +1,6 @@
-//! Reads errors of evaluation: `TypeError Bool Long,String` has the type that was given and those that were expected, `WrongNumArguments f 2 1` the
-//! function, the count that it takes and the count that it was given, `FailedExtensionFunctionExecution f text` the extension and what it says.
+//! Reads errors of evaluation: `TypeError Bool Long,String` has the type that was given and those that were expected,
+//! `WrongNumArguments f 2 1` the function, the count that it takes and the count that it was given,
+//! `FailedExtensionFunctionExecution f text` the extension and what it says.
 use crate::notation::leaves::{name, named_type, text};
 use crate::notation::unanswered::Unanswered;
 use crate::notation::{Parts, both, headed};

@@ -1,10 +1,12 @@
 //! Reads expressions that are written as words, each after its parts: `L:1 L:2 add` is `1 + 2`.
 //!
-//! - `B:true`, `L:-1`, `T:text` and `E:User:a` are literals, `V:principal` a variable, `S:principal` a slot, `U:x` and `U:x:Long` unknowns;
-//!   `M:User:a` is the unknown that stands for an entity that a partial store lacks.
+//! - `B:true`, `L:-1`, `T:text` and `E:User:a` are literals, `V:principal` a variable, `S:principal` a slot, `U:x` and `U:x:Long`
+//!   unknowns; `M:User:a` is the unknown that stands for an entity that a partial store lacks.
 //! - `eq`, `add`, `isEmpty`, `and`, `if` and the like take the parts before them.
-//! - `get:k`, `has:k`, `ext:k.l`, `like:p*` and `is:User` take the part before them. In a pattern `\` goes before a character that stands for itself.
-//! - `set:3` takes three parts, `record:k,l` and `fields:k,l` a part for each key, and `call:f:2` two arguments; `call:f@1-2:2` has its name at a place.
+//! - `get:k`, `has:k`, `ext:k.l`, `like:p*` and `is:User` take the part before them. In a pattern `\` goes before a character that
+//!   stands for itself.
+//! - `set:3` takes three parts, `record:k,l` and `fields:k,l` a part for each key, and `call:f:2` two arguments; `call:f@1-2:2` has
+//!   its name at a place.
 //! - `@1-2` puts the part before it at this place.
 //! - `many:9:record:a;get:a` are the words `record:a get:a`, nine times.
 use crate::notation::leaves::{

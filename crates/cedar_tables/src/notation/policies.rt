@@ -1,7 +1,8 @@
 //! Reads policies, of which each is a fact of the setting.
 //!
 //! - `policy p permit WORDS` has this when clause, constraints that are `true`, and no place.
-//! - `policy p permit WORDS | WORDS | WORDS | WORDS` has these constraints on the principal, the action and the resource, and this when clause.
+//! - `policy p permit WORDS | WORDS | WORDS | WORDS` has these constraints on the principal, the action and the resource, and this
+//!   when clause.
 //! - `clause p forbid 3-5 WORDS` is a policy made from its when clause alone, at a place.
 //! - `annotation p key text` is an annotation of a policy.
 use crate::notation::expressions::expression;

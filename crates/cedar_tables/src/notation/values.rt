@@ -1,5 +1,5 @@
-//! Reads values: literals, sets and records, as words alike. `@1-2` puts the value before it at this place. `X:decimal:1.5` is the extension value of
-//! this type that a function of the type's name makes of the text, which is its key.
+//! Reads values: literals, sets and records, as words alike. `@1-2` puts the value before it at this place. `X:decimal:1.5` is the
+//! extension value of this type that a function of the type's name makes of the text, which is its key.
 use crate::notation::leaves::{literal, name, place, text};
 use crate::notation::unanswered::Unanswered;
 use crate::notation::{Parts, mapped};
