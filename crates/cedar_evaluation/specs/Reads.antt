@@ -157,7 +157,7 @@ module _ (May : MayAnswer) (store : Store) where
   -- where nothing on the way is a stored residual, the walk ends as it does with shallow resolution
   walk_stored : (ks : List Text) (v : Represented) (k : Text) → path_residual store v k ks ≡ None
       → Walks May store v k ks (path_answer store v k ks)
-  unfolding path_answer path_residual
+  unfolding path_answer path_residual read_or
   walk_stored [] v k none = refl
   walk_stored (l ∷ ls) v k none =
       by (attribute_residual store v k) (next_in store (container_of v) k) refl refl none
@@ -168,7 +168,6 @@ module _ (May : MayAnswer) (store : Store) where
       by : (o : Option Term) (w : Option Represented) → attribute_residual store v k ≡ o
           → next_in store (container_of v) k ≡ w → read_or o w l ls (λ u. path_residual store u l ls) ≡ None
           → StepsOn May o z l ls (λ u. Walks May store u l ls) (after_step z (λ u. path_answer store u l ls))
-      unfolding read_or
       by (Some t) w i j h = absurd (cc)
       by None (Some u) i j h =
           walks_from (Some u) z (λ x. Walks May store x l ls) (λ x. path_answer store x l ls)
@@ -188,7 +187,7 @@ module _ (May : MayAnswer) (store : Store) where
   walk_read : (ks : List Text) (v : Represented) (k : Text) (t : Term) (n : Text) (ns : List Text)
       → path_residual store v k ks ≡ Some (t, n, ns) → (y a : Answer) → May t y → WalksFrom May store y n ns a
       → Walks May store v k ks a
-  unfolding path_residual
+  unfolding path_residual read_or
   walk_read [] v k t n ns some y a may from = absurd (cc)
   walk_read (l ∷ ls) v k t n ns some y a may from =
       by (attribute_residual store v k) (next_in store (container_of v) k) refl refl some
@@ -200,7 +199,6 @@ module _ (May : MayAnswer) (store : Store) where
           → next_in store (container_of v) k ≡ w
           → read_or o w l ls (λ u. path_residual store u l ls) ≡ Some (t, n, ns)
           → StepsOn May o z l ls (λ u. Walks May store u l ls) a
-      unfolding read_or
       by (Some r) w i j h =
           let e = read_inj h in (
             y,
@@ -233,14 +231,13 @@ module _ (May : MayAnswer) (store : Store) where
 -- fewer attributes come after it
 path_shorter : (store : Store) (ks : List Text) (v : Represented) (k : Text) (t : Term) (n : Text) (ns : List Text)
     → path_residual store v k ks ≡ Some (t, n, ns) → length ns < length ks
-unfolding path_residual
+unfolding path_residual read_or
 path_shorter store [] v k t n ns some = absurd (cc)
 path_shorter store (l ∷ ls) v k t n ns some =
     by (attribute_residual store v k) (next_in store (container_of v) k) some
   where
     by : (o : Option Term) (w : Option Represented)
         → read_or o w l ls (λ u. path_residual store u l ls) ≡ Some (t, n, ns) → length ns < suc (length ls)
-    unfolding read_or
     by (Some r) w h = let e = (read_inj h).2 in subst (λ x. length x < suc (length ls)) e (omega arith)
     by None (Some u) h = let i = path_shorter store ls u l t n ns h in omega (arith, i)
     by None None h = absurd (cc)
@@ -305,7 +302,7 @@ container_stops store no_container failure k t l ls is = absurd (cc)
 
 pub path_value : (store : Store) (ks : List Text) (v : Represented) (k : Text) (x : Represented)
     → answers_value x ≡ path_answer store v k ks → path_residual store v k ks ≡ None
-unfolding path_answer path_residual
+unfolding path_answer path_residual read_or after_step
 path_value store [] v k x is = refl
 path_value store (l ∷ ls) v k x is =
     by (attribute_residual store v k) (next_in store (container_of v) k) refl refl
@@ -315,7 +312,6 @@ path_value store (l ∷ ls) v k x is =
 
     by : (o : Option Term) (w : Option Represented) → attribute_residual store v k ≡ o
         → next_in store (container_of v) k ≡ w → read_or o w l ls (λ u. path_residual store u l ls) ≡ None
-    unfolding read_or after_step
     by (Some t) w i j =
         let stopped : z ≡ stops (answers (residual (extended_has t l ls))) =
         container_stops store (container_of v) (container_expected v) k t l ls (sym (in_its_container store v k) ∙ i) in
