@@ -137,7 +137,7 @@ two_begin = record {
       (refl, (refl, tt));
 }
 
-first_step : Chains.StepsTo (StoredChains.with_resolution shallow) StoredChains.principal_map StoredChains.set_store
+pub first_step : Chains.StepsTo (StoredChains.with_resolution shallow) StoredChains.principal_map StoredChains.set_store
     first_of_two middle
 unfolding Exemplified.chain_opened Exemplified.finds_none Exemplified.is_memory
 first_step = (

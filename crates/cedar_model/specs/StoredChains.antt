@@ -130,16 +130,18 @@ DeepStepIsCompleted = IsCompleted asking one_reads (step_in deep principal_map �
 abbrev pub steps_by : Resolution → Resolution → List ChainStep
 steps_by r q = step_in r principal_map ∷ step_in q resource_map ∷ []
 
--- after a shallow step the forbid is read at another: a deep one makes it false, and the permit that the first left true,
--- so the decision is Allow; a shallow one leaves the forbid, so that nothing is decided
+-- a shallow step by the principal leaves both policies residual. Then a deep step by the resource makes the permit true
+-- and the forbid false: Allow; a shallow one makes the permit true and leaves the forbid: nothing is decided
 abbrev pub StepsDiffer : Type 0
 StepsDiffer =
-    (first : Response) × (allowed : Response) × (kept : Response)
+    (first : Response) × (middle : Response) × (allowed : Response) × (kept : Response)
     × Begins (with_resolution shallow) asking_twice set_store two_read first
+    × StepsTo (with_resolution shallow) principal_map set_store first middle
     × ChainOf (with_resolution shallow) first (steps_by shallow deep) allowed
     × ChainOf (with_resolution shallow) first (steps_by shallow shallow) kept
-    × (given_decision first.rows ≡ None) × (given_decision allowed.rows ≡ Some allow)
-    × (given_decision kept.rows ≡ None) × (nontrivial_residual_ids kept.rows ≡ codes "2" ∷ [])
+    × (given_decision middle.rows ≡ None) × (nontrivial_residual_ids middle.rows ≡ codes "1" ∷ codes "2" ∷ [])
+    × (given_decision allowed.rows ≡ Some allow) × (given_decision kept.rows ≡ None)
+    × (ids (must_determine kept.rows) ≡ []) × (nontrivial_residual_ids kept.rows ≡ codes "2" ∷ [])
 
 abbrev pub DifferingStepsAreCompleted : Type 0
 DifferingStepsAreCompleted = IsCompleted asking_twice two_read (steps_by shallow deep)

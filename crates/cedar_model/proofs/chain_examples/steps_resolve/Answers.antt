@@ -42,11 +42,15 @@ pub returns-clause-differ : goal.returns-clause-differ
 unfolding chain_opened
 returns-clause-differ c = (
   stored.first_of_two,
+  stored.middle,
   stored.last deep,
   stored.last shallow,
   stored.two_begin,
+  stored.first_step,
   stored.ends_deep,
   stored.ends_shallow,
+  refl,
+  refl,
   refl,
   refl,
   refl,
