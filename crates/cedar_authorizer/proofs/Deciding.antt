@@ -6,7 +6,7 @@ use Rattle.cedar_model.specs.Values.{plain}
 use Rattle.cedar_model.specs.Outcomes.{has_text}
 use Rattle.cedar_model.specs.World.{Functions}
 use Rattle.cedar_model.specs.Failures.{Failure}
-use Rattle.cedar_model.specs.Settings.{shallow, Setting}
+use Rattle.cedar_model.specs.Settings.{Setting}
 use Rattle.cedar_model.specs.LevelLaws.{FunctionsMeetNoLimit}
 use Rattle.cedar_model.specs.Rules.{StoredCalls}
 use Rattle.cedar_model.specs.Agreement.{AgreesWithFunctions, HasNothingUnknown, own_world}
@@ -89,9 +89,9 @@ module _ (mode : ErrorHandling) (s : Setting) (calls : StoredCalls) (levels : �
         (run_recordable mode s calls levels ps is.rows _ none is.run) is.run,
   )
 
-  pub run_low : (r : PartialResponse) → FunctionsMeetNoLimit calls → s.resolution ≡ shallow → IsGivenSound calls s → IsRun (configured_by calls mode s levels) s ps r → IsDeepEnough (configured_by calls mode s levels) s ps r
-  run_low r no_limit is_shallow sound is b h low conditions enough =
-      run_is_deep mode s calls no_limit is_shallow b h levels sound low enough ps is.rows (errors_of r) conditions is.run
+  pub run_low : (r : PartialResponse) → FunctionsMeetNoLimit calls → IsGivenSound calls s → IsRun (configured_by calls mode s levels) s ps r → IsDeepEnough (configured_by calls mode s levels) s ps r
+  run_low r no_limit sound is b h low conditions enough =
+      run_is_deep mode s calls no_limit b h levels sound low enough ps is.rows (errors_of r) conditions is.run
 
   pub run_concrete : (p : PartialResponse) (r : Authorized) → IsRun (configured_by calls mode s levels) s ps p → r ≡ concretized (mode_of p) (rows_view p) (errors_of p) → IsConcreteRun (configured_by calls mode s levels) s ps r
   run_concrete p r is e = record {

@@ -4,19 +4,19 @@ use Rattle.std.proofs.Common.{inl, inr, refl, sym, ap, ◌∙◌, subst}
 use Rattle.cedar_model.specs.Terms.{Text, bool_literal, Term, literal}
 use Rattle.cedar_model.specs.Outcomes.{bool_of}
 use Rattle.cedar_model.specs.Failures.{Failure, Answer}
-use Rattle.cedar_model.specs.Settings.{Store, Setting}
+use Rattle.cedar_model.specs.Settings.{Setting}
 use Rattle.cedar_model.specs.Rules.{StoredCalls, Runs}
 use Rattle.cedar_model.specs.Agreement.{no_slots}
 use Rattle.cedar_model.specs.Policies.{Effect, permit, forbid, ErrorHandling}
 use Rattle.cedar_model.specs.Responses.{Reported, reported_true, reported_false, reported_residual, Row, decided, decided_bool, reported_of, with_slots, truth, clause_of, carried, RunOf}
 use Rattle.cedar_model.specs.Terms.{both}
 use Rattle.cedar_model.specs.Refusals.{Refusal}
-use Rattle.cedar_model.specs.Chains.{Mapping, Response, has_effect, is_true, is_false, is_residual, rows_of, rows_by, all_residuals, has_limit, at_step, Steps, ChainOf}
+use Rattle.cedar_model.specs.Chains.{ChainStep, Response, has_effect, is_true, is_false, is_residual, rows_of, rows_by, all_residuals, has_limit, at_step, Steps, ChainOf}
 use Rattle.cedar_model.specs.Reports.{residuals, HaveNoResidual}
 use Rattle.cedar_model.proofs.Carried.{IsBoolOrLimit, literal_always, clause_always}
 use Rattle.cedar_model.proofs.Concrete.{residual_same}
 use Rattle.cedar_model.proofs.Stepping.{taken}
-use Rattle.cedar_model.proofs.Configured.{configured_by}
+use Rattle.cedar_model.proofs.Configured.{configured_by, in_step}
 
 -- ---- rows of which nothing is left
 
@@ -107,16 +107,16 @@ err_is_not_ok : {A B : Type 0} {x : A} {y : B} → ◌≡◌ {A = Result A B} (O
 err_is_not_ok e = cc
 
 module _ (mode : ErrorHandling) (s : Setting) (calls : StoredCalls) (levels : ℕ) where
-  pub none_left : (steps : List (Mapping × Store)) (r last : Response) → ChainOf (configured_by calls mode s levels) r steps last → HaveNoResidual r.rows → HaveNoResidual last.rows
+  pub none_left : (steps : List ChainStep) (r last : Response) → ChainOf (configured_by calls mode s levels) r steps last → HaveNoResidual r.rows → HaveNoResidual last.rows
   none_left [] r last h none = subst (λ (x : Response). HaveNoResidual x.rows) (sym (ok_inj h)) none
   none_left (step ∷ steps) r last h none = by (has_limit r.errors) (λ next. none_left steps next last) h
     where
-      on : (y : Result Response Refusal) → ((next : Response) → ChainOf (configured_by calls mode s levels) next steps last → HaveNoResidual next.rows → HaveNoResidual last.rows) → Steps (configured_by calls mode s levels) step.0 step.1 r y → MatchResult y (λ next. ChainOf (configured_by calls mode s levels) next steps last) (λ e. ◌≡◌ {A = Result Response Refusal} (Ok last) (Err e)) → HaveNoResidual last.rows
+      on : (y : Result Response Refusal) → ((next : Response) → ChainOf (configured_by calls mode s levels) next steps last → HaveNoResidual next.rows → HaveNoResidual last.rows) → Steps (configured_by calls mode (in_step s step) levels) step.mapping step.store r y → MatchResult y (λ next. ChainOf (configured_by calls mode s levels) next steps last) (λ e. ◌≡◌ {A = Result Response Refusal} (Ok last) (Err e)) → HaveNoResidual last.rows
       on (Ok next) leads g k =
-          let t = taken mode s calls levels step.0 step.1 r next g in
-          leads next k (none_carried mode (at_step s.extensions s.resolution next.request step.1 step.0) calls levels r.rows next.rows next.errors none t.runs)
+          let t = taken mode (in_step s step) calls levels step.mapping step.store r next g in
+          leads next k (none_carried mode (at_step s.extensions step.resolution next.request step.store step.mapping) calls levels r.rows next.rows next.errors none t.runs)
       on (Err e) leads g k = absurd (err_is_not_ok k)
 
-      by : (b : Bool) → ((next : Response) → ChainOf (configured_by calls mode s levels) next steps last → HaveNoResidual next.rows → HaveNoResidual last.rows) → MatchBool b (◌≡◌ {A = Result Response Refusal} (Ok last) (Ok r)) ((y : Result Response Refusal) × Steps (configured_by calls mode s levels) step.0 step.1 r y × MatchResult y (λ next. ChainOf (configured_by calls mode s levels) next steps last) (λ e. ◌≡◌ {A = Result Response Refusal} (Ok last) (Err e))) → HaveNoResidual last.rows
+      by : (b : Bool) → ((next : Response) → ChainOf (configured_by calls mode s levels) next steps last → HaveNoResidual next.rows → HaveNoResidual last.rows) → MatchBool b (◌≡◌ {A = Result Response Refusal} (Ok last) (Ok r)) ((y : Result Response Refusal) × Steps (configured_by calls mode (in_step s step) levels) step.mapping step.store r y × MatchResult y (λ next. ChainOf (configured_by calls mode s levels) next steps last) (λ e. ◌≡◌ {A = Result Response Refusal} (Ok last) (Err e))) → HaveNoResidual last.rows
       by true leads k = subst (λ (x : Response). HaveNoResidual x.rows) (sym (ok_inj k)) none
       by false leads (y, g, k) = on y leads g k

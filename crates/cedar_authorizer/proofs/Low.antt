@@ -8,7 +8,6 @@ use Rattle.cedar_model.specs.Outcomes.{bool_of}
 use Rattle.cedar_model.specs.World.{Slots}
 use Rattle.cedar_model.specs.Failures.{Failure, PartialValue, recursion_limit, value, residual, Answer, answers, fails, limit}
 use Rattle.cedar_model.specs.Settings.{ContextPart, absent_context, known_context, residual_context, RequestPart, Store, Setting, context_value}
-use Rattle.cedar_model.specs.Settings.{shallow}
 use Rattle.cedar_model.specs.Rules.{StoredCalls, Runs, Exceeds}
 use Rattle.cedar_model.specs.Agreement.{no_slots, height}
 use Rattle.cedar_model.specs.Restricted.{AreSoundAt, IsSoundContext, IsGivenSound}
@@ -71,18 +70,17 @@ module _ (mode : ErrorHandling) (s : Setting) (calls : StoredCalls) (levels : �
 
 -- ---- a first run
 
-too_deep : (n k h b : ℕ) → n < k + bound_of shallow b → k ≤ h → h + b ≤ n → ⊥
-unfolding bound_of
+too_deep : (n k h b : ℕ) → n < k + b → k ≤ h → h + b ≤ n → ⊥
 too_deep n k h b above low enough = omega (arith, above, low, enough)
 
-module _ (mode : ErrorHandling) (s : Setting) (calls : StoredCalls) (no_limit : FunctionsMeetNoLimit calls) (is_shallow : s.resolution ≡ shallow) (b h levels : ℕ)
-    (sound : IsGivenSound calls s) (low : IsNoHigher calls s s.map b) (enough : h + b ≤ levels) where
+module _ (mode : ErrorHandling) (s : Setting) (calls : StoredCalls) (no_limit : FunctionsMeetNoLimit calls) (b h levels : ℕ)
+    (sound : IsGivenSound calls s) (low : IsNoHigher calls s s.map b) (enough : h + bound_of s.resolution b ≤ levels) where
   slots_deep : (slots : Slots) (t : Term) → height t ≤ h → Exceeds (with_slots s slots) calls t levels → ⊥
   slots_deep slots t k met =
       let z = need_bounded (with_slots s slots) calls no_limit b
       record { context_sound = sound.context_sound; stored_sound = sound.stored_sound; mapped_sound = sound.mapped_sound; answers_sound = sound.answers_sound }
       record { context_low = low.context_low; stored_low = low.stored_low; mapped_low = low.mapped_low; answers_low = low.answers_low } levels t met in
-      too_deep levels (height t) h b (subst (λ q. levels < height t + bound_of q b) is_shallow z) k enough
+      too_deep levels (height t) h (bound_of s.resolution b) z k enough
 
   pub run_is_deep : (ps : List Policy) (rows : List Row) (errors : List (Text × Failure)) → AreNoHigher ps h → RunOf mode s calls levels ps rows errors → HaveNoLimit errors
   run_is_deep ps rows errors low_conditions run =

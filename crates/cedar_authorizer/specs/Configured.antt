@@ -1,10 +1,11 @@
 -- What an authorizer is configured with, and what it is asked.
 use Rattle.std.specs.Prelude.{ℕ}
-use Rattle.cedar_model.specs.Settings.{shallow, Setting}
+use Rattle.cedar_model.specs.Settings.{Resolution, Setting}
 use Rattle.cedar_model.specs.Policies.{ErrorHandling}
 use Rattle.cedar_model.specs.Configurations.{Configuration, configured}
 use Rattle.cedar_model.specs.Chains.{at_step, no_values}
 use Rattle.cedar_decisions.specs.Decisions.{mode_view}
+use Rattle.cedar_evaluation.specs.Settings.{resolution_view}
 use Rattle.cedar_extensions.specs.declared.extensions.Extensions.{Extensions}
 use Rattle.cedar_extensions.specs.Extensions.{extensions_view, calls_of}
 use Rattle.cedar_layers.specs.declared.policies.entities.Entities.{Entities}
@@ -25,12 +26,18 @@ limit_of a = a.limit
 abbrev pub mode_of : {X : Type 0} {F : X → Type 0} {g : _} → Authorizer X F g → ErrorHandling
 mode_of a = mode_view a.error_handling
 
--- what it is configured with; a stored residual answers itself
+-- what reading a stored residual answers
+abbrev pub resolution_of : {X : Type 0} {F : X → Type 0} {g : _} → Authorizer X F g → Resolution
+resolution_of a = resolution_view a.resolution
+
+-- what it is configured with
 abbrev pub configuration : {X : Type 0} {F : X → Type 0} {g : _} → Authorizer X F g → Configuration
 configuration a =
-    configured (calls_of (extensions_of a)) (mode_of a) shallow (extensions_view (extensions_of a)) (limit_of a)
+    configured (calls_of (extensions_of a)) (mode_of a) (resolution_of a) (extensions_view (extensions_of a))
+    (limit_of a)
 
 -- what it is asked: a request over a store, where no unknown has a value
 abbrev pub asked : {X : Type 0} {F : X → Type 0} {g : _} → Authorizer X F g → Request → Entities → Setting
 asked a request entities =
-    at_step (extensions_view (extensions_of a)) shallow (request_view request) (store_view entities) no_values
+    at_step (extensions_view (extensions_of a)) (resolution_of a) (request_view request) (store_view entities)
+    no_values

@@ -2,30 +2,34 @@
 use Rattle.std.specs.Prelude.{List, map, Result, Ok, Err}
 use denote.Ref.{Bor}
 use Rattle.cedar_model.specs.World.{World, Functions}
-use Rattle.cedar_model.specs.Settings.{Store, Setting}
+use Rattle.cedar_model.specs.Settings.{Resolution, Setting}
 use Rattle.cedar_model.specs.Agreement.{AgreesWithFunctions, HasNothingUnknown}
 use Rattle.cedar_model.specs.Policies.{Policy}
 use Rattle.cedar_model.specs.Configurations.{Configuration}
 use Rattle.cedar_model.specs.Refusals.{Refusal}
-use Rattle.cedar_model.specs.Chains.{Mapping, Response, Begins, ChainAnswers, ChainOf}
+use Rattle.cedar_model.specs.Chains.{ChainStep, Response, Begins, ChainAnswers, ChainOf}
 use Rattle.cedar_model.specs.Authorizations.{HaveKnownConditions}
 use Rattle.cedar_model.specs.Reports.{HaveNoResidual}
 use Rattle.cedar_model.specs.Headline.{Premises, Headline}
 use Rattle.cedar_layers.specs.declared.policies.entities.Entities.{Entities}
+use Rattle.cedar_layers.specs.Stores.{store_view}
+use Rattle.cedar_requests.specs.Substitutions.{values_for}
 use Rattle.cedar_responses.specs.declared.partial_response.PartialResponse.{PartialResponse}
 use Rattle.cedar_responses.specs.Rows.{rows_view}
 use Rattle.cedar_authorizer.specs.Running.{errors_of}
-use Rattle.cedar_authorizer.specs.Steps.{Says, ValuesByName, step_by}
+use Rattle.cedar_authorizer.specs.Steps.{Says, ValuesByName}
 
 -- the steps, each with its values for unknowns and its store
-abbrev pub step_view : (Bor ValuesByName × Bor Entities) → Mapping × Store
-step_view p = step_by p.0.now p.1.now
+abbrev pub step_view : Resolution → (Bor ValuesByName × Bor Entities) → ChainStep
+step_view resolution p =
+    record { mapping = values_for p.0.now.entries; store = store_view p.1.now; resolution = resolution }
 
-abbrev pub steps_view : List (Bor ValuesByName × Bor Entities) → List (Mapping × Store)
-steps_view steps = map step_view steps
+-- all with this resolution
+abbrev pub steps_view : Resolution → List (Bor ValuesByName × Bor Entities) → List ChainStep
+steps_view resolution steps = map (step_view resolution) steps
 
 -- from a response of the model the chain of these steps leads to one that says this, or is refused so
-module _ (c : Configuration) (steps : List (Mapping × Store)) where
+module _ (c : Configuration) (steps : List ChainStep) where
   abbrev pub LeadsTo : Response → Result PartialResponse Refusal → Type 0
   LeadsTo first (Ok r) = (last : Response) × ChainOf c first steps last × Says r last
   LeadsTo first (Err e) = ChainAnswers c first steps (Err e)
@@ -40,7 +44,7 @@ LeavesNothing c s ps r =
     HasNothingUnknown s → (ans : Functions) → AgreesWithFunctions ans c.calls → HaveKnownConditions ans ps
     → HaveNoResidual (rows_view r)
 
-module _ (c : Configuration) (s : Setting) (ps : List Policy) (steps : List (Mapping × Store)) where
+module _ (c : Configuration) (s : Setting) (ps : List Policy) (steps : List ChainStep) where
   -- what the headline says of a response, in every completion
   abbrev pub IsHeadline : PartialResponse → Type 0
   IsHeadline r =

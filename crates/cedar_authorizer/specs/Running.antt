@@ -10,7 +10,7 @@ use Rattle.cedar_model.specs.Policies.{Policy, ErrorHandling, permit, forbid}
 use Rattle.cedar_model.specs.Responses.{Row, Decided, decided, RunOf, Stand, FitPolicies}
 use Rattle.cedar_model.specs.Authorizations.{Authorized, HaveNoLimit, AreNoHigher}
 use Rattle.cedar_model.specs.Configurations.{Configuration}
-use Rattle.cedar_model.specs.Depth.{IsNoHigher}
+use Rattle.cedar_model.specs.Depth.{IsNoHigher, bound_of}
 use Rattle.cedar_model.specs.Reports.{trues, falses, residuals, concretized}
 use Rattle.cedar_names.specs.declared.names.Loc.{Loc}
 use Rattle.cedar_expressions.specs.View.{expr_loc}
@@ -59,10 +59,10 @@ StandsInCompletions c s ps r =
     HaveNoLimit (errors_of r) → Stand c.mode s.extensions ans w ps (rows_view r)
 
 -- the depth bound: the recursion limit is not recorded where all that is given is no higher than b, and no condition is
--- higher than what the levels have above b
+-- higher than what the levels have above b, with deep resolution above twice b
 abbrev pub IsDeepEnough : Configuration → Setting → List Policy → PartialResponse → Type 0
 IsDeepEnough c s ps r =
-    (b h : ℕ) → IsNoHigher c.calls s s.map b → AreNoHigher ps h → h + b ≤ c.levels →
+    (b h : ℕ) → IsNoHigher c.calls s s.map b → AreNoHigher ps h → h + bound_of c.resolution b ≤ c.levels →
     HaveNoLimit (errors_of r)
 
 -- a run that is made concrete

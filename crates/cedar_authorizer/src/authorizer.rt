@@ -3,6 +3,8 @@ ghost use Rattle.std.specs.Prelude.{◌≡◌, ◌≢◌, true, false, Option, I
 ghost use Rattle.cedar_model.specs.Agreement.{no_slots};
 ghost use Rattle.cedar_model.specs.Failures.{out_of_memory, failure_kind};
 ghost use Rattle.cedar_model.specs.Policies.{skip};
+ghost use Rattle.cedar_model.specs.Settings.{shallow};
+ghost use Rattle.cedar_evaluation.specs.Settings.{resolution_view};
 ghost use Rattle.cedar_decisions.specs.Decisions.{mode_view};
 ghost use Rattle.cedar_model.specs.Responses.{errs_with};
 ghost use Rattle.cedar_names.specs.declared.names.Loc.{Loc};
@@ -24,6 +26,7 @@ ghost use Rattle.cedar_authorizer.specs.Running.{ComesOutBy, IsNotedRun, IsNoted
 ghost use Rattle.cedar_authorizer.specs.Running.{ResidualsStand, ResidualsAreNoted, IsLeftAt};
 
 use cedar_data::Value;
+pub use cedar_evaluator::evaluator::Resolution;
 use cedar_evaluator::evaluator::{EvaluationError, Evaluator};
 use cedar_evaluator::request::Request;
 use cedar_extensions::Extensions;
@@ -66,35 +69,39 @@ pub struct EvaluationResponse {
     pub forbid_residuals: PolicySet,
 }
 
-/// Decides requests, with these extensions, within so many levels of evaluation, and in one of two ways to handle errors.
+/// Decides requests, with these extensions, within so many levels of evaluation, in one of two ways to handle errors and in one of
+/// two to answer what reads a stored residual.
 #[derive(Clone, Copy)]
 pub struct Authorizer<'x, 'f> {
     extensions: &'x Extensions<'f>,
     limit: usize,
     error_handling: ErrorHandling,
+    resolution: Resolution,
 }
 
 impl<'x, 'f> Authorizer<'x, 'f> {
     ghost use Rattle.std.specs.Prelude.{IfErr};
     ghost use Rattle.cedar_reauthorization.specs.Errors.{IsUnwrapped};
     ghost use Rattle.cedar_authorizer.specs.Steps.{step_answer};
-    ghost use Rattle.cedar_authorizer.specs.Configured.{extensions_of, limit_of, mode_of};
+    ghost use Rattle.cedar_authorizer.specs.Configured.{extensions_of, limit_of, mode_of, resolution_of};
     ghost use Rattle.cedar_authorizer.specs.Responding.{IsKnownResponse, IsKnownRun, MeetsNoLimit};
     ghost use Rattle.cedar_authorizer.specs.Responding.{OwnWorldCompletesCall};
     ghost use Rattle.cedar_authorizer.specs.Headline.{steps_view, IsChain, IsHeadline, LeavesNothing};
 
-    /// The authorizer that uses these extensions, and skips errors. A condition whose evaluation goes more than `limit` levels deep
+    /// The authorizer that uses these extensions, skips errors, and answers stored residuals as they are stored. A condition whose evaluation goes more than `limit` levels deep
     /// counts as erring, with `RecursionLimit`: an expression is one level and its parts one more, and a part that is not read
     /// takes none.
     pub fn new(extensions: &'x Extensions<'f>, limit: usize) -> Authorizer<'x, 'f>
         ensures extensions { extensions_of result ≡ extensions.now }
         ensures limit { limit_of result ≡ limit }
         ensures mode { mode_of result ≡ skip }
+        ensures resolution { resolution_of result ≡ shallow }
     {
         Authorizer {
             extensions,
             limit,
             error_handling: ErrorHandling::Skip,
+            resolution: Resolution::Shallow,
         }
     }
 
@@ -103,11 +110,28 @@ impl<'x, 'f> Authorizer<'x, 'f> {
         ensures extensions { extensions_of result ≡ extensions_of self.entry }
         ensures limit { limit_of result ≡ limit_of self.entry }
         ensures mode { mode_of result ≡ mode_view error_handling }
+        ensures resolution { resolution_of result ≡ resolution_of self.entry }
     {
         Authorizer {
             extensions: self.extensions,
             limit: self.limit,
             error_handling,
+            resolution: self.resolution,
+        }
+    }
+
+    /// The same authorizer, which answers so what reads a stored residual.
+    pub fn with_resolution(self, resolution: Resolution) -> Authorizer<'x, 'f>
+        ensures extensions { extensions_of result ≡ extensions_of self.entry }
+        ensures limit { limit_of result ≡ limit_of self.entry }
+        ensures mode { mode_of result ≡ mode_of self.entry }
+        ensures resolution { resolution_of result ≡ resolution_view resolution }
+    {
+        Authorizer {
+            extensions: self.extensions,
+            limit: self.limit,
+            error_handling: self.error_handling,
+            resolution,
         }
     }
 
@@ -116,6 +140,13 @@ impl<'x, 'f> Authorizer<'x, 'f> {
         ensures { mode_view result ≡ mode_of self.now }
     {
         self.error_handling
+    }
+
+    /// What reading a stored residual answers.
+    pub fn resolution(&self) -> Resolution
+        ensures { resolution_view result ≡ resolution_of self.now }
+    {
+        self.resolution
     }
 
     /// What the policies decide for the request over this store: a satisfied forbid denies, else a satisfied permit allows, else it
@@ -188,10 +219,10 @@ impl<'x, 'f> Authorizer<'x, 'f> {
     ) -> Result<PartialResponse, ReauthorizationError>
         ensures chain { IfSome (step_answer result)
             (IsChain (configuration self.now) (asked self.now request entities.now)
-            (deciding policies.now) (steps_view steps.now)) }
+            (deciding policies.now) (steps_view (resolution_of self.now) steps.now)) }
         ensures memory { IfErr result IsUnwrapped }
         ensures headline { IfOk result (IsHeadline (configuration self.now) (asked self.now request entities.now)
-            (deciding policies.now) (steps_view steps.now)) }
+            (deciding policies.now) (steps_view (resolution_of self.now) steps.now)) }
         ensures known { IfOk result (LeavesNothing (configuration self.now) (asked self.now request entities.now)
             (deciding policies.now)) }
     {
@@ -219,6 +250,7 @@ fn first_sheet(
         authorizer.extensions,
         authorizer.limit,
     )?;
+    let evaluator = evaluator.with_resolution(authorizer.resolution);
     run_all(alloc, authorizer.error_handling, &evaluator, policies)
 }
 

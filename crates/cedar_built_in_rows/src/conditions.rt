@@ -71,3 +71,11 @@ pub fn of_even_number(alloc: Global) -> Result<Expr, AllocError> {
     let even = name(alloc, "even")?;
     Expr::call_extension_fn(alloc, even, number)
 }
+
+/// `principal.g.contains(1)`
+pub fn of_one_in_g(alloc: Global) -> Result<Expr, AllocError> {
+    let g = RcStr::from_str(alloc, "g")?;
+    let set = Expr::get_attr(alloc, Expr::var(Var::Principal), g)?;
+    let one = Expr::val(Literal::Long(1));
+    Expr::binary_app(alloc, BinaryOp::Contains, set, one)
+}

@@ -15,6 +15,7 @@ mod requests;
 pub mod rows;
 pub mod steps;
 pub mod stop;
+mod stores;
 
 use cedar_extensions::{
     Extension, ExtensionFunction, ExtensionFunctionObject, ExtensionOutputValue, Extensions,

@@ -6,8 +6,9 @@ ghost use Rattle.cedar_built_in_rows.specs.Ids.{ids_of};
 use crate::policies::policies_of;
 use crate::requests::request_of;
 use crate::rows::Row;
-use crate::steps::{c_and_d, number_of, resource_is_b, truth_of};
+use crate::steps::{c_and_d, number_of, principal_and_u, resource_is_b, truth_of};
 use crate::stop::{Stop, step_refused};
+use crate::stores::store_of_e;
 use cedar_authorizer::authorizer::{
     AuthorizationError, Authorizer, Decision, PartialResponse, ReauthorizationError, Response,
 };
@@ -55,7 +56,9 @@ fn line(alloc: Global, row: Row, response: &Response) -> Result<String, AllocErr
 
 fn decide(alloc: Global, row: Row, extensions: &Extensions<'_>) -> Result<Response, Stop> {
     let policies = set_of(alloc, policies_of(alloc, row)?)?;
-    let authorizer = Authorizer::new(extensions, LIMIT).with_error_handling(row.error_handling());
+    let authorizer = Authorizer::new(extensions, LIMIT)
+        .with_error_handling(row.error_handling())
+        .with_resolution(row.resolution());
     let response = decide_by(alloc, row, &authorizer, &policies);
     drop(policies);
     response
@@ -78,6 +81,7 @@ fn decide_by(
         Row::StrictResidual => at_once(alloc, row, authorizer, policies),
         Row::Early => without_steps(alloc, row, authorizer, policies),
         Row::Chain => in_two_steps(alloc, row, authorizer, policies),
+        Row::Deep => over_store(alloc, row, authorizer, policies),
         Row::StepFalse => {
             let step = truth_of(alloc, "test", false)?;
             after(alloc, row, authorizer, policies, step)
@@ -157,16 +161,55 @@ pub fn in_one_step(
     policies: &PolicySet,
     step: &HashMap<RcStr, Value>,
 ) -> Result<Response, Stop> {
+    let none = Entities::new(alloc);
+    let response = in_one_step_over(alloc, row, authorizer, policies, step, &none);
+    drop(none);
+    response
+}
+
+// The same over this store.
+fn in_one_step_over(
+    alloc: Global,
+    row: Row,
+    authorizer: &Authorizer<'_, '_>,
+    policies: &PolicySet,
+    step: &HashMap<RcStr, Value>,
+    store: &Entities,
+) -> Result<Response, Stop> {
     match request_of(alloc, row) {
         Ok(request) => {
-            let none = Entities::new(alloc);
-            let steps = [(step, &none)];
-            let answer = authorizer.authorize_in_steps(alloc, request, policies, &none, &steps);
-            drop(none);
+            let steps = [(step, store)];
+            let answer = authorizer.authorize_in_steps(alloc, request, policies, store, &steps);
             concrete(alloc, answer)
         }
         Err(stop) => Err(stop),
     }
+}
+
+// What the policies decide over the row's store, after its step.
+fn over_store(
+    alloc: Global,
+    row: Row,
+    authorizer: &Authorizer<'_, '_>,
+    policies: &PolicySet,
+) -> Result<Response, Stop> {
+    let store = store_of_e(alloc)?;
+    let response = after_over(alloc, row, authorizer, policies, &store);
+    drop(store);
+    response
+}
+
+fn after_over(
+    alloc: Global,
+    row: Row,
+    authorizer: &Authorizer<'_, '_>,
+    policies: &PolicySet,
+    store: &Entities,
+) -> Result<Response, Stop> {
+    let step = principal_and_u(alloc)?;
+    let response = in_one_step_over(alloc, row, authorizer, policies, &step, store);
+    drop(step);
+    response
 }
 
 // What is answered after both steps of the chain, made concrete.

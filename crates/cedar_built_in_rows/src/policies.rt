@@ -4,7 +4,8 @@ ghost use Rattle.cedar_layers.specs.Policies.{policy_view, policy_id_text, first
 ghost use Rattle.cedar_built_in_rows.specs.Ids.{ids_of, id_one, ids_to_two, ids_to_three, ids_to_four, ids_from_zero, chain_ids};
 
 use crate::conditions::{
-    attribute, attribute_is, of_a_and_b, of_c_and_d, of_even_number, of_wrong_sum, truth, unknown,
+    attribute, attribute_is, of_a_and_b, of_c_and_d, of_even_number, of_one_in_g, of_wrong_sum,
+    truth, unknown,
 };
 use crate::entities::both;
 use crate::rows::Row;
@@ -32,6 +33,7 @@ pub fn policies_of(alloc: Global, row: Row) -> Result<Vec<Policy>, AllocError>
         Row::Stored => permitted_when(alloc, of_even_number(alloc)?),
         Row::Strict3 => skipped_forbid(alloc),
         Row::StrictResidual => forbidden_in_context(alloc),
+        Row::Deep => permitted_when(alloc, of_one_in_g(alloc)?),
     }
 }
 

@@ -27,6 +27,7 @@ pub fn request_of(alloc: Global, row: Row) -> Result<Request, Stop> {
         Row::Stored => in_unknown_context(alloc, "n", "n"),
         Row::Strict3 => Ok(in_empty_context(alloc)?),
         Row::StrictResidual => in_unknown_context(alloc, "test", "name"),
+        Row::Deep => Ok(of_someone(alloc)?),
     }
 }
 
@@ -74,6 +75,20 @@ fn of_a_in_context(alloc: Global, context: Context) -> Result<Request, AllocErro
         EntityUIDEntry::unknown(),
         EntityUIDEntry::unknown(),
         Some(context),
+    ))
+}
+
+// The principal is not known, and the context is empty.
+fn of_someone(alloc: Global) -> Result<Request, AllocError> {
+    let (action, photo) = both(
+        entity(alloc, "Action", "view"),
+        entity(alloc, "Photo", "sunset"),
+    )?;
+    Ok(Request::new_with_unknowns(
+        EntityUIDEntry::unknown(),
+        EntityUIDEntry::known(action, None),
+        EntityUIDEntry::known(photo, None),
+        Some(Context::empty(alloc)),
     ))
 }
 

@@ -1,5 +1,5 @@
 //! The built-in rows.
-use cedar_authorizer::authorizer::ErrorHandling;
+use cedar_authorizer::authorizer::{ErrorHandling, Resolution};
 
 /// A built-in row.
 #[derive(Debug, Clone, Copy, PartialEq, Eq)]
@@ -34,10 +34,13 @@ pub enum Row {
     Strict3,
     /// As `Residual`, where a forbid that errs forbids.
     StrictResidual,
+    /// 1 permits when `principal.g.contains(1)`; the principal is not known, and `E::"e"` stores `g` as `[unknown("u")]`. A step says
+    /// that the principal is `E::"e"` and `u` is 1. Stored residuals are evaluated.
+    Deep,
 }
 
 /// All rows, in the order in which they are printed.
-pub const ROWS: [Row; 14] = [
+pub const ROWS: [Row; 15] = [
     Row::Empty,
     Row::Skip2,
     Row::Skip3,
@@ -52,6 +55,7 @@ pub const ROWS: [Row; 14] = [
     Row::Stored,
     Row::Strict3,
     Row::StrictResidual,
+    Row::Deep,
 ];
 
 impl Row {
@@ -72,6 +76,7 @@ impl Row {
             Row::Stored => "stored",
             Row::Strict3 => "strict3",
             Row::StrictResidual => "strict-residual",
+            Row::Deep => "deep",
         }
     }
 
@@ -92,6 +97,28 @@ impl Row {
             Row::Stored => ErrorHandling::Skip,
             Row::Strict3 => ErrorHandling::ForbidOnError,
             Row::StrictResidual => ErrorHandling::ForbidOnError,
+            Row::Deep => ErrorHandling::Skip,
+        }
+    }
+
+    /// What reading a stored residual answers where the row's policies are decided.
+    pub fn resolution(self) -> Resolution {
+        match self {
+            Row::Empty => Resolution::Shallow,
+            Row::Skip2 => Resolution::Shallow,
+            Row::Skip3 => Resolution::Shallow,
+            Row::Skip4 => Resolution::Shallow,
+            Row::Residual => Resolution::Shallow,
+            Row::StepFalse => Resolution::Shallow,
+            Row::StepTrue => Resolution::Shallow,
+            Row::Early => Resolution::Shallow,
+            Row::Chain => Resolution::Shallow,
+            Row::Kept => Resolution::Shallow,
+            Row::NonBool => Resolution::Shallow,
+            Row::Stored => Resolution::Shallow,
+            Row::Strict3 => Resolution::Shallow,
+            Row::StrictResidual => Resolution::Shallow,
+            Row::Deep => Resolution::Deep,
         }
     }
 }

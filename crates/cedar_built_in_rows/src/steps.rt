@@ -42,6 +42,14 @@ pub fn c_and_d(alloc: Global) -> Result<HashMap<RcStr, Value>, AllocError> {
     Ok(map)
 }
 
+/// The principal is `E::"e"`, and `u` is 1.
+pub fn principal_and_u(alloc: Global) -> Result<HashMap<RcStr, Value>, AllocError> {
+    let mut map = number_of(alloc, "u", 1)?;
+    let e = Value::from(literal(alloc, "E", "e")?);
+    put(alloc, &mut map, "principal", e)?;
+    Ok(map)
+}
+
 // Puts the value into the map, under this name.
 fn put<V: Drop>(
     alloc: Global,

@@ -1,5 +1,5 @@
 -- The laws of the evaluation over frames.
-use Rattle.std.specs.Prelude.{◌≡◌, ◌≢◌, ℕ, suc, ◌+◌, ◌^◌, ◌<◌, ◌≤◌, Bool, true, List, Option, None, Result, Ok, Err, IfOk}
+use Rattle.std.specs.Prelude.{◌≡◌, ◌≢◌, ℕ, suc, ◌+◌, ◌^◌, ◌<◌, ◌≤◌, Bool, true, List, length, Option, Some, None, Result, Ok, Err, IfOk}
 use Rattle.std.proofs.Common.{refl, sym, ap, ◌∙◌, subst, arith}
 use Rattle.std.specs.declared.alloc.AllocError.{AllocError}
 use Rattle.cedar_model.specs.Terms.{Text, Term, bool_literal}
@@ -22,6 +22,12 @@ use Rattle.cedar_restricted.specs.Frames.{NextPart}
 use Rattle.cedar_restricted.specs.Laws.{left_below}
 use Rattle.std.specs.declared.alloc.Global.{Global}
 use Rattle.std.specs.declared.boxed.Box.{Box}
+use Rattle.std.specs.declared.rc.Rc.{Rc}
+use Rattle.std.specs.declared.rc.RcStr.{RcStr}
+use Rattle.std.specs.Rc.{rc_str_bytes}
+use Rattle.std.proofs.lemmas.List.{length-map}
+use Rattle.cedar_names.specs.declared.types.FirstRest.{FirstRest}
+use Rattle.cedar_names.specs.Leaves.{texts_view}
 use Rattle.cedar_evaluation.specs.declared.frame.Frame.{Frame}
 use Rattle.cedar_evaluation.specs.declared.frame.Pending.{Pending}
 use Rattle.cedar_evaluation.specs.declared.frame.Pending.TheVariants as pendings
@@ -29,7 +35,8 @@ use Rattle.cedar_evaluation.specs.declared.frame.Task.{Task}
 use Rattle.cedar_evaluation.specs.declared.frame.Task.TheVariants as tasks
 use Rattle.cedar_evaluation.specs.declared.stopped.Stopped.TheVariants as stops
 use Rattle.cedar_evaluation.specs.Endings.{Outcome, outcome_answer}
-use Rattle.cedar_evaluation.specs.Tasks.{Part, Next, StandsAt, Uses, WaitsFor, Begins, Gives, HasPlace, IsOrWant, IsWaiting, IsPassed, WaitsAgain, GoesOn, Leads, LeftFewer, pending_left, task_left}
+use Rattle.cedar_evaluation.specs.Reads.{resolved_in, part_path, read_shorter, path_as_read}
+use Rattle.cedar_evaluation.specs.Tasks.{Part, Next, StandsAt, Uses, WaitsFor, Begins, Gives, HasPlace, IsOrWant, IsWaiting, IsWalkedOn, IsPassed, WaitsAgain, GoesOn, Leads, LeftFewer, pending_left, task_left}
 use Rattle.cedar_evaluation.specs.Frames.{IsRight, Waits, ends_all, left_of}
 use Rattle.cedar_evaluation.specs.Booleans.{joins}
 use Rattle.cedar_evaluation.specs.PartsLaws.{IsTaken, IsNextPart, no_fail, parts_fail, parts_go_on}
@@ -145,16 +152,39 @@ fewer_through p q (Done r) fewer less = tt
 fewer_through p q (Wait f d) fewer less = omega (arith, fewer, less)
 
 -- a part that is the answer
-pub passed_again : (s : Setting) (calls : StoredCalls) (k : ℕ) (l : Option Loc) (p : Pending) (x : Answer) (e : Expr) (n : Next) →
-    pending_left pendings.Passed < pending_left p → ((y a : Answer) → Runs s calls k (view e) y → a ≡ y → Uses s (Runs s calls k) p x a) →
-    IsPassed l e n → GoesOn s calls k l p x n
-passed_again s calls k l p x e (Done r) fewer uses is =
+pub passed_again : (s : Setting) (calls : StoredCalls) (k : ℕ) (l : Option Loc) (p : Pending) (x : Answer) (t : Term) (n : Next) →
+    pending_left pendings.Passed < pending_left p → ((y a : Answer) → Runs s calls k t y → a ≡ y → Uses s (Runs s calls k) p x a) →
+    IsPassed l t n → GoesOn s calls k l p x n
+passed_again s calls k l p x t (Done r) fewer uses is =
     subst (λ o. GoesOn s calls k l p x (Done o)) (sym is) (λ ok. absurd (ok refl), tt)
-passed_again s calls k l p x e (Wait f d) fewer uses (task, part, place) = (
-  subst (λ t. WaitsAgain s calls k p x t (view d.value)) (sym task)
-      (subst (λ c. WaitsAgain s calls k p x (tasks.Other pendings.Passed) (view c)) (sym part) (fewer, uses)),
+passed_again s calls k l p x t (Wait f d) fewer uses (task, part, place) = (
+  subst (λ y. WaitsAgain s calls k p x y (view d.value)) (sym task)
+      (subst (λ c. WaitsAgain s calls k p x (tasks.Other pendings.Passed) c) (sym part) (fewer, uses)),
   place,
 )
+
+-- a stored residual on the way of an extended `has`, which is waited for
+pub walked_goes_on : (s : Setting) (calls : StoredCalls) (k : ℕ) (l : Option Loc) (path : Rc (FirstRest (RcStr Global)) Global)
+    (p : model.PartialValue) (t : Term) (n : Text) (ns : List Text) (x : Next)
+    → resolved_in s.resolution (part_path s.store p (rc_str_bytes path.value.first) (texts_view path.value.rest.items)) ≡ Some (t, n, ns)
+    → IsWalkedOn l t n ns x → GoesOn s calls k l (pendings.ExtHasAttr path) (answers p) x
+walked_goes_on s calls k l path p t n ns (Done r) some is =
+    subst (λ o. GoesOn s calls k l (pendings.ExtHasAttr path) (answers p) (Done o)) (sym is) (λ ok. absurd (ok refl), tt)
+walked_goes_on s calls k l path p t n ns (Wait f c) some (q, task, first, rest, part, place) = (
+  subst (λ y. WaitsAgain s calls k (pendings.ExtHasAttr path) (answers p) y (view c.value)) (sym task)
+      (subst (λ y. WaitsAgain s calls k (pendings.ExtHasAttr path) (answers p) (tasks.Other (pendings.ExtHasAttr q)) y) (sym part) (
+        fewer_texts (length q.value.rest.items) (length path.value.rest.items) (length ns) (length (texts_view path.value.rest.items))
+            (sym (length-map {f = rc_str_bytes} {xs = q.value.rest.items}) ∙ ap length rest) (length-map {f = rc_str_bytes} {xs = path.value.rest.items})
+            (read_shorter s.resolution s.store p (rc_str_bytes path.value.first) (texts_view path.value.rest.items) t n ns some),
+        λ y a runs uses. path_as_read (Runs s calls k) s.store s.resolution p (rc_str_bytes path.value.first) (texts_view path.value.rest.items) t n ns some y a runs
+            (subst (λ m. AtPath (Runs s calls k) s.resolution s.store y m ns a) first
+            (subst (λ ms. AtPath (Runs s calls k) s.resolution s.store y (rc_str_bytes q.value.first) ms a) rest uses)),
+      )),
+  place,
+)
+  where
+    fewer_texts : (a b m n : ℕ) → a ≡ m → n ≡ b → m < n → suc a < suc b
+    fewer_texts a b m n is same fewer = omega (arith, is, same, fewer)
 
 resolved : (May : MayAnswer) (q : Resolution) (a : Answer) → Resolves May q None a a
 resolved May shallow a = refl
@@ -344,7 +374,7 @@ few_pending (pendings.BinaryLeft op r) = omega arith
 few_pending (pendings.BinaryRight op l) = omega arith
 few_pending (pendings.GetAttr k) = omega arith
 few_pending (pendings.HasAttr k) = omega arith
-few_pending (pendings.ExtHasAttr ks) = omega arith
+few_pending (pendings.ExtHasAttr ks) = let h = ks.value.rest.small in let l = ks.value.rest.ok in omega arith
 few_pending (pendings.Like p) = omega arith
 few_pending (pendings.Is t) = omega arith
 

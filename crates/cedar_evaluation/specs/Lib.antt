@@ -5,6 +5,7 @@ pub mod Types
 pub mod Settings
 pub mod Tasks
 pub mod Operands
+pub mod Reads
 pub mod Stored
 pub mod Frames
 pub mod PartsLaws

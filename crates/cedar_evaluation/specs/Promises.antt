@@ -7,7 +7,7 @@ use Rattle.cedar_model.specs.World.{World, Functions}
 use Rattle.cedar_model.specs.Meaning.{meaning}
 use Rattle.cedar_model.specs.Alike.{AreFunctional}
 use Rattle.cedar_model.specs.Failures.{Answer, limit}
-use Rattle.cedar_model.specs.Settings.{RequestPart, shallow, Setting}
+use Rattle.cedar_model.specs.Settings.{RequestPart, Setting}
 use Rattle.cedar_model.specs.Rules.{StoredCalls, Runs, Meets, Allows, Exceeds}
 use Rattle.cedar_model.specs.Agreement.{height, IsKnown, HasNothingUnknown, AgreesWithFunctions, CompletesWith, Fits, StandsFor, own_world}
 use Rattle.cedar_model.specs.Authorizations.{IsExact}
@@ -35,9 +35,11 @@ IsSound s calls t a =
     (ans : Functions) (w : World) → CompletesWith calls ans w s → Fits ans w t → a ≢ limit →
     StandsFor s.extensions ans w a (meaning s.extensions ans w s.slots t)
 
--- the depth bound: where the expression and all that is given are together no higher than the levels, no recursion limit
+-- the depth bound: where the expression and all that is given (with deep resolution twice that) are together no higher than the
+-- levels, no recursion limit
 abbrev pub IsDeepEnough : Setting → StoredCalls → ℕ → Term → Answer → Type 0
-IsDeepEnough s calls levels t a = (b : ℕ) → IsNoHigher calls s s.map b → height t + b ≤ levels → a ≢ limit
+IsDeepEnough s calls levels t a =
+    (b : ℕ) → IsNoHigher calls s s.map b → height t + bound_of s.resolution b ≤ levels → a ≢ limit
 
 -- the recursion limit exactly where the need is above the levels
 abbrev pub IsLimitByNeed : Setting → StoredCalls → ℕ → Term → Answer → Type 0
@@ -57,14 +59,13 @@ pub record IsPromised (s : Setting) (calls : StoredCalls) (levels : ℕ) (t : Te
   pub sound : IsSound s calls t a
   pub deep_enough : IsDeepEnough s calls levels t a
 
-too_deep : (n h b : ℕ) → n < h + bound_of shallow b → h + b ≤ n → ⊥
-unfolding bound_of
-too_deep n h b above enough = omega (arith, above, enough)
+too_deep : (n h : ℕ) → n < h → h ≤ n → ⊥
+too_deep n h above enough = omega (arith, above, enough)
 
--- with shallow resolution, and where what is given is sound, what runs is as promised
+-- where what is given is sound, what runs is as promised
 pub promised : (s : Setting) (calls : StoredCalls) → AreFunctional calls → FunctionsMeetNoLimit calls → IsGivenSound calls s →
-    s.resolution ≡ shallow → (levels : ℕ) (t : Term) (a : Answer) → Runs s calls levels t a → IsPromised s calls levels t a
-promised s calls functional no_limit given_sound is_shallow levels t a runs = record {
+    (levels : ℕ) (t : Term) (a : Answer) → Runs s calls levels t a → IsPromised s calls levels t a
+promised s calls functional no_limit given_sound levels t a runs = record {
   runs = runs;
   limited = (λ is. subst (Runs s calls levels t) is runs, λ met. limit_alone s calls functional levels t a met runs);
   allowed = λ below. (below, levels, runs);
@@ -72,15 +73,13 @@ promised s calls functional no_limit given_sound is_shallow levels t a runs = re
   sound = λ ans w c fits below. allowed_sound ans calls c.functions_agree w s c.completion c.functions_are_faithful t a fits (below, levels, runs);
   deep_enough = λ b low enough is.
       let met : Exceeds s calls t levels = subst (Runs s calls levels t) is runs in
-      let above : levels < height t + bound_of s.resolution b = need_bounded s calls no_limit b given_sound low levels t met in
-      let within : levels < height t + bound_of shallow b = subst (λ q. levels < height t + bound_of q b) is_shallow above in
-      too_deep levels (height t) b within enough;
+      too_deep levels (height t + bound_of s.resolution b) (need_bounded s calls no_limit b given_sound low levels t met) enough;
 }
 
 pub meets_promised : (s : Setting) (calls : StoredCalls) (levels : ℕ) (t : Term) → AreFunctional calls → FunctionsMeetNoLimit calls →
-    IsGivenSound calls s → s.resolution ≡ shallow → (a : Answer) → Meets (Runs s calls levels t) a → Meets (IsPromised s calls levels t) a
-meets_promised s calls levels t functional no_limit given_sound is_shallow a runs ok =
-    promised s calls functional no_limit given_sound is_shallow levels t a (runs ok)
+    IsGivenSound calls s → (a : Answer) → Meets (Runs s calls levels t) a → Meets (IsPromised s calls levels t) a
+meets_promised s calls levels t functional no_limit given_sound a runs ok =
+    promised s calls functional no_limit given_sound levels t a (runs ok)
 
 -- ---- what an evaluation promises, for whatever request it speaks of
 

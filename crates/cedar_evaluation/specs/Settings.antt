@@ -2,7 +2,8 @@
 use Rattle.std.specs.Prelude.{◌≡◌, Option, None}
 use Rattle.cedar_model.specs.Terms.{Text, Variable, principal, action, resource, context}
 use Rattle.cedar_model.specs.Values.{Represented}
-use Rattle.cedar_model.specs.Settings.{unknown_entry, absent_context, RequestPart, shallow, Setting, variable_part}
+use Rattle.cedar_model.specs.Settings as model
+use Rattle.cedar_model.specs.Settings.{unknown_entry, absent_context, RequestPart, Setting, variable_part}
 use Rattle.cedar_data.specs.declared.partial_value.PartialValue.{PartialValue}
 use Rattle.cedar_data.specs.Residuals.{partial_view}
 use Rattle.cedar_data.specs.Sound.{Placed}
@@ -15,11 +16,18 @@ use Rattle.cedar_evaluation.specs.declared.evaluation.Evaluation.{Evaluation}
 use Rattle.cedar_evaluation.specs.declared.evaluation.Given.{Given}
 use Rattle.cedar_evaluation.specs.declared.evaluation.Mapper.{Mapper}
 use Rattle.cedar_evaluation.specs.declared.evaluation.Mapper.TheVariants as mappers
+use Rattle.cedar_evaluation.specs.declared.evaluation.Resolution.{Resolution}
+use Rattle.cedar_evaluation.specs.declared.evaluation.Resolution.TheVariants as resolutions
 
 -- the values of unknowns
 abbrev pub mapper_view : Mapper → Text → Option Represented
 mapper_view mappers.Empty n = None
 mapper_view (mappers.Values m) n = mapping_of (λ (v : Placed). v.what) m.now.entries n
+
+-- what reading a stored residual answers
+abbrev pub resolution_view : Resolution → model.Resolution
+resolution_view resolutions.Shallow = model.shallow
+resolution_view resolutions.Deep = model.deep
 
 -- what is given for a variable
 abbrev pub given_for : {X : Type 0} {F : X → Type 0} {g : _} → Given X F g → Variable → PartialValue
@@ -41,7 +49,7 @@ setting_of r e =
       map = mapper_view e.given.now.mapper;
       slots = slots_view e.slots.now;
       extensions = extensions_view e.given.now.extensions.now;
-      resolution = shallow;
+      resolution = resolution_view e.given.now.resolution;
     }
 
 -- what the stored functions may answer

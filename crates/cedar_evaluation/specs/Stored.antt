@@ -6,8 +6,8 @@ use Rattle.std.proofs.Common.{refl, sym, ap, ◌∙◌, subst}
 use Rattle.cedar_model.specs.Terms.{Text, EntityName, Term, literal, variable, slot, unknown, if_then_else, both, either, unary, binary, call, get_attribute, has_attribute, extended_has, like, is_of_type, set_of, record_of, Fields}
 use Rattle.cedar_model.specs.Values.{Represented}
 use Rattle.cedar_model.specs.Failures.{Failure, PartialValue, value, residual, Answer, answers, fails, out_of_memory, answers_residual}
-use Rattle.cedar_model.specs.Settings.{Found, found, not_there, not_known, look_up, part_at, shallow, Setting}
-use Rattle.cedar_model.specs.Operators.{Container, a_record, an_entity, no_container, container_of, container_expected, unknown_answer, stored_attribute, attribute_found, attribute_in, attribute_answer, value_or_failure, represented_at, represented_names, key_is_missing, term_at, field_names}
+use Rattle.cedar_model.specs.Settings.{Found, found, not_there, not_known, look_up, part_at, Setting}
+use Rattle.cedar_model.specs.Operators.{Container, a_record, an_entity, no_container, container_of, container_expected, unknown_answer, stored_attribute, attribute_residual, attribute_found, attribute_in, attribute_answer, value_or_failure, represented_at, represented_names, key_is_missing, term_at, field_names}
 use Rattle.cedar_model.specs.Shapes.{is_projectable}
 use Rattle.cedar_model.specs.Rules.{MayAnswer, AtAttribute, fields_of_record}
 use Rattle.cedar_names.specs.declared.types.Unknown.{Unknown}
@@ -21,6 +21,7 @@ use Rattle.cedar_operators.specs.Operands.{over}
 use Rattle.cedar_partial_operators.specs.declared.attributes.Projected.TheVariants as projections
 use Rattle.cedar_partial_operators.specs.Parts.{Projection, answered, interpreted_again, projected, projection_of, projection_at, projection, Projects, ProjectsTo}
 use Rattle.cedar_partial_operators.proofs.Projections.{at_attribute}
+use Rattle.cedar_evaluation.specs.Reads.{resolved_in, part_residual, nothing_resolved, as_stored, as_read}
 
 -- what the map says of an unknown
 abbrev pub mapped_unknown : (Text → Option Represented) → Unknown → Answer
@@ -117,21 +118,37 @@ unfolding projection remapped_projection
 of_projection s (value v) k = ap answered (of_value s v k)
 of_projection s (residual r) k = of_fields s.map (fields_of_record r) r k
 
-module _ (May : MayAnswer) (s : Setting) (is_shallow : s.resolution ≡ shallow) (p : PartialValue) (k : Text) where
+module _ (May : MayAnswer) (s : Setting) (p : PartialValue) (k : Text) where
+  -- where the attribute reads no stored residual that is evaluated
+  pub part_stored : (a : Answer) → resolved_in s.resolution (part_residual s.store p k) ≡ None
+      → Projects May (projection s p k) a → AtAttribute May s (answers p) k a
+  part_stored a none is =
+      at_attribute May s p k a (λ v same stored. as_stored May s.resolution (attribute_residual s.store v k) (attribute_answer s v k) a
+      (subst (λ x. resolved_in s.resolution (part_residual s.store x k) ≡ None) same none) stored) is
+
+  -- and where it reads one
+  pub part_read : (t : Term) (a : Answer) → resolved_in s.resolution (part_residual s.store p k) ≡ Some t → May t a
+      → AtAttribute May s (answers p) k a
+  part_read t a some may = by p some
+    where
+      by : (q : PartialValue) → resolved_in s.resolution (part_residual s.store q k) ≡ Some t → AtAttribute May s (answers q) k a
+      by (value v) h = as_read May s.resolution (attribute_residual s.store v k) t (attribute_answer s v k) a h may
+      by (residual r) h = absurd (nothing_resolved s.resolution t h)
+
   pub stored_uses : (x : Result RustPartialValue EvaluationError) (a : Answer) → a ≢ fails out_of_memory →
       a ≡ remapped s.map (partial_answer x) → ProjectsTo (projections.Answer x) (projection (over s s.store) p k) →
-      AtAttribute May s (answers p) k a
+      resolved_in s.resolution (part_residual s.store p k) ≡ None → AtAttribute May s (answers p) k a
   unfolding remapped remapped_projection
-  stored_uses x a no_want is h =
+  stored_uses x a no_want is h none =
       let not_want : partial_answer x ≢ fails out_of_memory = λ w. no_want (is ∙ ap (remapped s.map) w) in
       let same : answered (partial_answer x) ≡ projection (over s s.store) p k = h (λ w. not_want (cc)) in
       let all : projection s p k ≡ answered (remapped s.map (partial_answer x)) = of_projection s p k ∙ ap (remapped_projection s.map) (sym same) in
-      at_attribute May s p k a is_shallow (subst (λ q. Projects May q a) (sym all) is)
+      part_stored a none (subst (λ q. Projects May q a) (sym all) is)
 
   pub part_uses : (e : Expr) → ProjectsTo (projections.Part e) (projection (over s s.store) p k) → (y a : Answer) → May (view e) y →
-      a ≡ y → AtAttribute May s (answers p) k a
+      a ≡ y → resolved_in s.resolution (part_residual s.store p k) ≡ None → AtAttribute May s (answers p) k a
   unfolding remapped_projection
-  part_uses e h y a may is =
+  part_uses e h y a may is none =
       let same : interpreted_again (view e) ≡ projection (over s s.store) p k = h (λ w. cc) in
       let all : projection s p k ≡ interpreted_again (view e) = of_projection s p k ∙ ap (remapped_projection s.map) (sym same) in
-      at_attribute May s p k a is_shallow (subst (λ q. Projects May q a) (sym all) (subst (May (view e)) (sym is) may))
+      part_stored a none (subst (λ q. Projects May q a) (sym all) (subst (May (view e)) (sym is) may))

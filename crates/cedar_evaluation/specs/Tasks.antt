@@ -1,10 +1,11 @@
 -- What frames wait for, and what comes next.
-use Rattle.std.specs.Prelude.{◌≡◌, ◌≢◌, ◌<◌, ℕ, suc, true, false, Option, Result, Ok, Err, IfOk}
+use Rattle.std.specs.Prelude.{◌≡◌, ◌≢◌, ◌<◌, ℕ, suc, true, false, List, length, Option, Result, Ok, Err, IfOk}
 use Rattle.std.specs.declared.alloc.AllocError.{AllocError}
 use Rattle.std.specs.declared.alloc.Global.{Global}
 use Rattle.std.specs.declared.rc.Rc.{Rc}
 use Rattle.std.specs.Rc.{rc_str_bytes}
-use Rattle.cedar_model.specs.Terms.{Terms, one_term, Term, bool_literal, literal, if_then_else, both, either, unary, like}
+use Rattle.std.specs.declared.rc.RcStr.{RcStr}
+use Rattle.cedar_model.specs.Terms.{Text, Terms, one_term, Term, bool_literal, literal, if_then_else, both, either, unary, like}
 use Rattle.cedar_model.specs.Failures.{Answer, fails, out_of_memory, answers_residual}
 use Rattle.cedar_model.specs.Operators.{unary_answer, like_answer}
 use Rattle.cedar_model.specs.Settings.{Setting}
@@ -12,6 +13,7 @@ use Rattle.cedar_model.specs.Rules.{MayAnswer, StoredCalls, Runs, Meets, best, A
 use Rattle.cedar_names.specs.Names.{type_text}
 use Rattle.cedar_names.specs.Leaves.{unary_view, binary_view, pattern_view, texts_view}
 use Rattle.cedar_names.specs.declared.names.Loc.{Loc}
+use Rattle.cedar_names.specs.declared.types.FirstRest.{FirstRest}
 use Rattle.cedar_expressions.specs.declared.expr.Expr.{Expr}
 use Rattle.cedar_expressions.specs.View.{view, terms_view, expr_loc}
 use Rattle.cedar_data.specs.Residuals.{partial_view, partial_loc, residual_term}
@@ -117,9 +119,17 @@ IsOrWant (Ok n) x = x ≡ n
 IsOrWant (Err e) x = x ≡ Done (Err stops.Memory)
 
 -- the answer of this expression is that of the whole at this place, unless memory is wanting
-abbrev pub IsPassed : Option Loc → Expr → Next → Type 0
-IsPassed l e (Done r) = r ≡ Err stops.Memory
-IsPassed l e (Wait f c) = (f.task ≡ tasks.Other pendings.Passed) × (c.value ≡ e) × (expr_loc f.whole.value ≡ l)
+abbrev pub IsPassed : Option Loc → Term → Next → Type 0
+IsPassed l t (Done r) = r ≡ Err stops.Memory
+IsPassed l t (Wait f c) = (f.task ≡ tasks.Other pendings.Passed) × (view c.value ≡ t) × (expr_loc f.whole.value ≡ l)
+
+-- the whole at this place waits for this stored residual, to test it for these attributes, unless memory is wanting
+abbrev pub IsWalkedOn : Option Loc → Term → Text → List Text → Next → Type 0
+IsWalkedOn l t k ks (Done r) = r ≡ Err stops.Memory
+IsWalkedOn l t k ks (Wait f c) =
+    (path : Rc (FirstRest (RcStr Global)) Global) × (f.task ≡ tasks.Other (pendings.ExtHasAttr path))
+    × (rc_str_bytes path.value.first ≡ k) × (texts_view path.value.rest.items ≡ ks) × (view c.value ≡ t)
+    × (expr_loc f.whole.value ≡ l)
 
 -- how often what waits can still wait, this time included
 abbrev pub pending_left : Pending → ℕ
@@ -134,11 +144,11 @@ pending_left (pendings.OrLeft r) = 2
 pending_left pendings.OrRight = 1
 pending_left (pendings.OrKept l r) = 1
 pending_left (pendings.Unary op) = 1
-pending_left (pendings.BinaryLeft op r) = 2
-pending_left (pendings.BinaryRight op l) = 1
+pending_left (pendings.BinaryLeft op r) = 3
+pending_left (pendings.BinaryRight op l) = 2
 pending_left (pendings.GetAttr k) = 2
 pending_left (pendings.HasAttr k) = 1
-pending_left (pendings.ExtHasAttr ks) = 1
+pending_left (pendings.ExtHasAttr ks) = suc (length ks.value.rest.items)
 pending_left (pendings.Like p) = 1
 pending_left (pendings.Is t) = 1
 

@@ -11,8 +11,8 @@ use Rattle.cedar_model.specs.Values.{Represented, set_represented, record_repres
 use Rattle.cedar_model.specs.Sets.{canonical_set, represented_fields_of}
 use Rattle.cedar_model.specs.Failures.{Answer, value, answers_value, answers_bool}
 use Rattle.cedar_model.specs.Operators.{binary_answer}
-use Rattle.cedar_model.specs.Settings.{RequestPart, Setting, shallow}
-use Rattle.cedar_model.specs.Rules.{StoredCalls, Parts, Resolves, Runs, beside_residual, binary_beside, binary_of_parts, AfterAndLeft, AfterOrLeft}
+use Rattle.cedar_model.specs.Settings.{RequestPart, Setting}
+use Rattle.cedar_model.specs.Rules.{StoredCalls, Parts, Runs, beside_residual, binary_beside, binary_of_parts, AfterAndLeft, AfterOrLeft}
 use Rattle.cedar_expressions.specs.declared.expr.Expr.{Expr}
 use Rattle.cedar_expressions.specs.View.{view, terms_view, fields_view}
 use Rattle.cedar_data.specs.Sound.{Placed, whats}
@@ -27,6 +27,7 @@ use Rattle.cedar_evaluation.specs.Booleans.{guard_true, guard_false, and_true, a
 use Rattle.cedar_evaluation.specs.Laws.{literal_joined}
 use Rattle.cedar_evaluation.specs.declared.evaluation.Evaluation.{Evaluation}
 use Rattle.cedar_evaluation.specs.Settings.{Speaks, setting_of, calls_in}
+use Rattle.cedar_evaluation.specs.Reads.{as_stored, none_resolved, operator_value}
 use Rattle.cedar_evaluation.specs.Told.{IsTold, IsBoolTold, IsValueOf}
 
 -- the expressions of pairs
@@ -136,17 +137,18 @@ made_of m (Some v) P made is = subst (λ x. IfOk x P) is made
 
 -- an operator on two operands that are told
 pub operands_told : (s : Setting) (calls : StoredCalls) (j : ℕ) (op : BinaryOperator) (t u : Term) (v w : Represented) (o : Option Placed) →
-    s.resolution ≡ shallow → Runs s calls j t (answers_value v) → Runs s calls j u (answers_value w) →
+    Runs s calls j t (answers_value v) → Runs s calls j u (answers_value w) →
     IfSome o (λ a. answers_value a.what ≡ binary_answer s op v w) → IsTold s calls (suc j) (binary op t u) o
 unfolding binary_beside binary_of_parts
-operands_told s calls j op t u v w None is_shallow left right found = tt
-operands_told s calls j op t u v w (Some a) is_shallow left right found = (
+operands_told s calls j op t u v w None left right found = tt
+operands_told s calls j op t u v w (Some a) left right found = (
   answers_value v,
   left,
   (
     answers_value w,
     right,
-    subst (λ x. Resolves (Runs s calls j) x (beside_residual s.store op (value v) (answers_value w)) (binary_answer s op v w) (answers_value a.what)) (sym is_shallow) found,
+    as_stored (Runs s calls j) s.resolution (beside_residual s.store op (value v) (answers_value w)) (binary_answer s op v w) (answers_value a.what)
+        (none_resolved s.resolution (beside_residual s.store op (value v) (answers_value w)) (operator_value s op v w a.what found)) found,
   ),
 )
 

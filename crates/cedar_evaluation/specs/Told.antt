@@ -8,8 +8,8 @@ use Rattle.cedar_model.specs.Terms.{Text, Literal, Term, bool_literal, literal, 
 use Rattle.cedar_model.specs.Values.{Represented, plain_represented, abstract_value}
 use Rattle.cedar_model.specs.Outcomes.{bool_of}
 use Rattle.cedar_model.specs.Failures.{Answer, value, answers, answers_value, answers_bool, out_of_memory}
-use Rattle.cedar_model.specs.Operators.{attribute_answer}
-use Rattle.cedar_model.specs.Settings.{Setting, shallow}
+use Rattle.cedar_model.specs.Operators.{attribute_answer, attribute_residual}
+use Rattle.cedar_model.specs.Settings.{Setting}
 use Rattle.cedar_model.specs.Rules.{StoredCalls, Runs}
 use Rattle.cedar_expressions.specs.View.{view, expr_loc}
 use Rattle.cedar_data.specs.Sound.{Placed}
@@ -34,8 +34,8 @@ use Rattle.cedar_values.specs.declared.evaluator.err.EvaluationError.{Evaluation
 use Rattle.cedar_values.specs.Answers.{partial_answer, AnswersWith}
 use Rattle.cedar_operators.specs.Operands.{over}
 use Rattle.cedar_partial_operators.specs.Parts.{projection}
-use Rattle.cedar_partial_operators.proofs.Projections.{at_attribute}
-use Rattle.cedar_evaluation.specs.Stored.{of_value, value_stays}
+use Rattle.cedar_evaluation.specs.Reads.{none_resolved, attribute_value}
+use Rattle.cedar_evaluation.specs.Stored.{of_value, value_stays, part_stored}
 use Rattle.cedar_evaluation.specs.Steps.{GoesOnAt, BeginsIn, GoesOnIn, LeadsIn, goes_on_in}
 
 -- the value, if there is one, is right of the term, with so many levels
@@ -144,15 +144,16 @@ value_found x (Some v) b same found = sym same ∙ found (λ w. no_fail (value v
 
 -- an attribute of what is told
 pub attribute_told : (s : Setting) (calls : StoredCalls) (j : ℕ) (t : Term) (w : Represented) (k : Text) (o : Option Placed) →
-    s.resolution ≡ shallow → Runs s calls j t (answers_value w) →
+    Runs s calls j t (answers_value w) →
     IfSome o (λ a. answers_value a.what ≡ attribute_answer (over s s.store) w k) →
     IsTold s calls (suc j) (get_attribute t k) o
 unfolding projection
-attribute_told s calls j t w k None is_shallow runs found = tt
-attribute_told s calls j t w k (Some a) is_shallow runs found = (
+attribute_told s calls j t w k None runs found = tt
+attribute_told s calls j t w k (Some a) runs found = (
   answers_value w,
   runs,
-  at_attribute (Runs s calls j) s (value w) k (answers_value a.what) is_shallow
+  part_stored (Runs s calls j) s (value w) k (answers_value a.what)
+      (none_resolved s.resolution (attribute_residual s.store w k) (attribute_value s s.store w k a.what found))
       (value_stays s.map a.what (attribute_answer (over s s.store) w k) found ∙ sym (of_value s w k)),
 )
 

@@ -1,4 +1,7 @@
 //! What an evaluation is given.
+ghost use Rattle.std.specs.Prelude.{◌≡◌};
+ghost use Rattle.cedar_evaluation.specs.declared.evaluation.Resolution.TheVariants as resolutions;
+
 use cedar_data::{PartialValue, Value};
 use cedar_extensions::Extensions;
 use cedar_layers::expressions::SlotEnv;
@@ -13,6 +16,26 @@ pub enum Mapper<'g> {
     Empty,
     /// Those that the map names.
     Values(&'g HashMap<RcStr, Value>),
+}
+
+/// What an attribute, a tag, or an extended `has` before its last attribute answers where it reads a stored part that is a
+/// residual.
+#[derive(Debug, Clone, Copy, PartialEq, Eq)]
+pub enum Resolution {
+    /// The residual as it is stored; an attribute that is itself an unknown goes through the values of unknowns.
+    Shallow,
+    /// What the residual is evaluated to, with the values of unknowns, one level below what reads it. Extended `has` walks on from
+    /// a value, and a residual keeps the attributes after it.
+    Deep,
+}
+
+/// `Shallow`.
+impl Default for Resolution {
+    fn default() -> Resolution
+        ensures { result ≡ resolutions.Shallow }
+    {
+        Resolution::Shallow
+    }
 }
 
 /// What all evaluations for a request are given: what its variables stand for, a store, extensions, and values for
@@ -33,6 +56,8 @@ pub struct Given<'g, 'f> {
     pub extensions: &'g Extensions<'f>,
     /// The values of unknowns.
     pub mapper: Mapper<'g>,
+    /// What reading a stored residual answers.
+    pub resolution: Resolution,
 }
 
 /// An evaluation of an expression: what it is given, and the entities of slots.

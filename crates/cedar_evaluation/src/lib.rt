@@ -12,13 +12,14 @@ mod guards;
 mod interpreted;
 mod machine;
 mod operators;
+mod residuals;
 mod start;
 mod stopped;
 mod stored;
 mod tellers;
 mod told;
 
-pub use evaluation::{Evaluation, Given, Mapper};
+pub use evaluation::{Evaluation, Given, Mapper, Resolution};
 pub use failed::Failed;
 pub use frame::{FirstBranch, Frame, Next, Part, Pending, SecondBranch, Task};
 pub use stopped::Stopped;

@@ -1,34 +1,42 @@
 //! Operators on the answers of parts.
-ghost use Rattle.std.specs.Prelude.{◌≡◌, true, false};
-ghost use Rattle.cedar_model.specs.Terms.{unary};
-ghost use Rattle.cedar_model.specs.Operators.{unary_answer};
+ghost use Rattle.std.specs.Prelude.{◌≡◌, true, false, None, IfOk};
+ghost use Rattle.std.specs.Rc.{rc_str_bytes};
+ghost use Rattle.cedar_model.specs.Terms.{unary, extended_has};
+ghost use Rattle.cedar_model.specs.Operators.{unary_answer, path_answer};
+ghost use Rattle.cedar_model.specs.Rules as Rules;
 ghost use Rattle.cedar_model.specs.Rules.{on_part};
-ghost use Rattle.cedar_names.specs.Leaves.{unary_view};
+ghost use Rattle.cedar_model.specs.Settings.{RequestPart};
+ghost use Rattle.cedar_names.specs.Leaves.{unary_view, binary_view, texts_view};
 ghost use Rattle.cedar_model.specs.Failures.{answers};
-ghost use Rattle.cedar_expressions.specs.View.{expr_loc};
-ghost use Rattle.cedar_data.specs.Residuals.{partial_view};
-ghost use Rattle.cedar_evaluation.specs.Tasks.{IsPassed, IsWaiting};
+ghost use Rattle.cedar_expressions.specs.View.{view, expr_loc};
+ghost use Rattle.cedar_data.specs.Residuals.{partial_view, residual_term};
+ghost use Rattle.cedar_layers.specs.Stores.{store_view};
+ghost use Rattle.cedar_evaluation.specs.Reads.{resolved_in, part_residual};
+ghost use Rattle.cedar_evaluation.specs.Settings.{resolution_view, setting_of};
+ghost use Rattle.cedar_evaluation.specs.Tasks.{Gives, IsPassed, IsWaiting, IsWalkedOn};
 ghost use Rattle.cedar_evaluation.specs.Steps.{GoesOnIn, GoesOnAt};
 ghost use Rattle.cedar_evaluation.specs.Endings.{boxed_answer};
 ghost use Rattle.cedar_evaluation.specs.declared.frame.Pending.TheVariants as pendings;
 ghost use Rattle.cedar_evaluation.specs.declared.frame.Task.TheVariants as tasks;
 
-use crate::answers::{answered_in, both, known_bool, put_at, taken_out};
+use crate::answers::{answered_in, both, known_bool, or_want, put_at, taken_out};
 use crate::evaluation::Evaluation;
 use crate::frame::{Frame, Next, Part, Pending, Task};
 use crate::stopped::Stopped;
 use crate::stored::stored_in;
-use cedar_data::PartialValue;
+use cedar_data::{PartialValue, ResidualExpr};
 use cedar_expressions::Expr;
 use cedar_frames::Step;
 use cedar_names::{BinaryOp, EntityType, FirstRest, Pattern, UnaryOp};
+use cedar_operators::residuals::path;
+use cedar_operators::stored_residuals::OnPath;
 use cedar_operators::typed::bool_part;
 use cedar_partial_operators::attributes::{
     Projected, attribute_of_part, extended_has_of_part, has_of_part,
 };
 use cedar_partial_operators::binary::binary_of_parts;
 use cedar_partial_operators::unary::{is_of_part, like_of_part, unary_of_part};
-use std::alloc::Global;
+use std::alloc::{AllocError, Global};
 use std::mem;
 use std::rc::{Rc, RcStr};
 
@@ -97,8 +105,28 @@ impl<'e, 'g, 'f> Evaluation<'e, 'g, 'f> {
         self.applied(alloc, whole, op, left, Box::into_inner(right))
     }
 
-    // The same.
+    // The same. With deep resolution a stored residual that they read is evaluated.
     pub(crate) fn applied(
+        &self,
+        alloc: Global,
+        whole: &Part,
+        op: BinaryOp,
+        left: Box<PartialValue>,
+        right: PartialValue,
+    ) -> Next
+        ensures { GoesOnAt self.now whole.now (pendings.BinaryRight op left) (answers (partial_view right)) result }
+    {
+        match self.operands_residual(op, &left, &right) {
+            Some(residual) => {
+                drop((left, right));
+                read_again(alloc, whole, residual)
+            }
+            None => self.applied_as_stored(alloc, whole, op, left, right),
+        }
+    }
+
+    // What the operator answers, where a stored residual answers itself.
+    fn applied_as_stored(
         &self,
         alloc: Global,
         whole: &Part,
@@ -106,7 +134,8 @@ impl<'e, 'g, 'f> Evaluation<'e, 'g, 'f> {
         mut left: Box<PartialValue>,
         right: PartialValue,
     ) -> Next
-        ensures { GoesOnAt self.now whole.now (pendings.BinaryRight op left) (answers (partial_view right)) result }
+        ensures { (r : RequestPart) → Gives (expr_loc whole.now.value) result (Rules.binary_of_parts
+            (setting_of r self.now) (binary_view op) (partial_view left.value) (partial_view right)) }
     {
         let left_part = taken_out(&mut left);
         let entities = self.given.entities;
@@ -119,14 +148,35 @@ impl<'e, 'g, 'f> Evaluation<'e, 'g, 'f> {
         )
     }
 
-    // The attribute; that of a projectable record is evaluated again.
+    // The attribute; with deep resolution a stored residual is evaluated.
     pub(crate) fn after_container(
+        &self,
+        alloc: Global,
+        whole: &Part,
+        attr: &RcStr,
+        container: Box<PartialValue>,
+    ) -> Next
+        ensures { GoesOnAt self.now whole.now (pendings.GetAttr attr.now) (boxed_answer container) result }
+    {
+        match self.attribute_residual(&container, attr) {
+            Some(residual) => {
+                drop(container);
+                read_again(alloc, whole, residual)
+            }
+            None => self.attribute_as_stored(alloc, whole, attr, container),
+        }
+    }
+
+    // The attribute, where a stored residual answers itself; that of a projectable record is evaluated again.
+    fn attribute_as_stored(
         &self,
         alloc: Global,
         whole: &Part,
         attr: &RcStr,
         mut container: Box<PartialValue>,
     ) -> Next
+        requires { resolved_in (resolution_view self.now.given.now.resolution) (part_residual
+            (store_view self.now.given.now.entities.now) (partial_view container.value) (rc_str_bytes attr.now)) ≡ None }
         ensures { GoesOnAt self.now whole.now (pendings.GetAttr attr.now) (boxed_answer container) result }
     {
         let part = taken_out(&mut container);
@@ -157,15 +207,40 @@ impl<'e, 'g, 'f> Evaluation<'e, 'g, 'f> {
         )
     }
 
-    // Whether there are the attributes, one in the other.
+    // Whether there are the attributes, one in the other. With deep resolution a stored residual before the last of them is
+    // evaluated.
     pub(crate) fn after_walked(
         &self,
         alloc: Global,
         whole: &Part,
         attrs: &Rc<FirstRest<RcStr>>,
-        mut container: Box<PartialValue>,
+        container: Box<PartialValue>,
     ) -> Next
         ensures { GoesOnAt self.now whole.now (pendings.ExtHasAttr attrs.now) (boxed_answer container) result }
+    {
+        match self.path_residual(&container, attrs) {
+            Some(read) => {
+                let next = walk_again(alloc, whole, read);
+                drop(container);
+                or_want(next)
+            }
+            None => self.walked_as_stored(alloc, whole, attrs, container),
+        }
+    }
+
+    // Whether there are the attributes, where a stored residual answers itself.
+    fn walked_as_stored(
+        &self,
+        alloc: Global,
+        whole: &Part,
+        attrs: &FirstRest<RcStr>,
+        mut container: Box<PartialValue>,
+    ) -> Next
+        ensures { Gives (expr_loc whole.now.value) result (on_part
+            (λ v. path_answer (store_view self.now.given.now.entities.now) v (rc_str_bytes attrs.now.first)
+            (texts_view attrs.now.rest.items))
+            (λ q. extended_has q (rc_str_bytes attrs.now.first) (texts_view attrs.now.rest.items))
+            (boxed_answer container)) }
     {
         let part = taken_out(&mut container);
         answered_in(
@@ -218,11 +293,38 @@ fn right_operand(whole: &Part, op: BinaryOp, right: &Part, left: Box<PartialValu
     }
 }
 
+// A stored residual is evaluated, and is the answer.
+#[cold]
+#[inline(never)]
+fn read_again(alloc: Global, whole: &Part, residual: &ResidualExpr) -> Next
+    ensures { IsPassed (expr_loc whole.now.value) (residual_term residual.now) result }
+{
+    match residual.as_expr().clone() {
+        Ok(part) => projected(alloc, whole, part),
+        Err(_) => Step::Done(Err(Stopped::Memory)),
+    }
+}
+
+// A stored residual is evaluated, and then tested for the attributes after it.
+#[cold]
+#[inline(never)]
+fn walk_again(alloc: Global, whole: &Part, read: OnPath<'_, '_>) -> Result<Next, AllocError>
+    ensures { IfOk result (IsWalkedOn (expr_loc whole.now.value) (residual_term read.0.now) (rc_str_bytes read.1.now)
+        (texts_view read.2.now)) }
+{
+    let (residual, first, rest) = read;
+    let attrs = Rc::new(alloc, path(alloc, first, rest)?)?;
+    let part = Rc::new(alloc, residual.as_expr().clone()?)?;
+    let whole = whole.clone()?;
+    let task = Task::Other(Pending::ExtHasAttr(attrs));
+    Ok(Step::Wait(Frame { whole, task }, part))
+}
+
 // A part of a record is evaluated again, and is the answer.
 #[cold]
 #[inline(never)]
 fn projected(alloc: Global, whole: &Part, part: Expr) -> Next
-    ensures { IsPassed (expr_loc whole.now.value) part result }
+    ensures { IsPassed (expr_loc whole.now.value) (view part) result }
 {
     match whole.clone() {
         Ok(whole) => match Rc::new(alloc, part) {

@@ -4,7 +4,7 @@ use Rattle.cedar_model.specs.Terms.{Text, Term, Variable}
 use Rattle.cedar_model.specs.Values.{AbstractValue, Represented}
 use Rattle.cedar_model.specs.World.{Slots, Extensions, Functions}
 use Rattle.cedar_model.specs.Failures.{Failure, out_of_memory, PartialValue, Answer}
-use Rattle.cedar_model.specs.Settings.{RequestPart, Store, shallow, Setting}
+use Rattle.cedar_model.specs.Settings.{RequestPart, Store, Resolution, Setting}
 use Rattle.cedar_model.specs.Rules.{StoredCalls, Runs, Meets}
 use Rattle.cedar_model.specs.Agreement.{HasNothingUnknown, AgreesWithFunctions, IsKnown, own_world}
 use Rattle.cedar_model.specs.Authorizations.{IsExactDecision}
@@ -16,22 +16,22 @@ use Rattle.cedar_extensions.specs.declared.extensions.Extensions as stored
 use Rattle.cedar_extensions.specs.Extensions.{extensions_view, calls_of}
 use Rattle.cedar_restricted.specs.Evaluations.{only_values}
 use Rattle.cedar_evaluation.specs.declared.evaluation.Given.{Given}
-use Rattle.cedar_evaluation.specs.Settings.{mapper_view, given_for}
+use Rattle.cedar_evaluation.specs.Settings.{mapper_view, resolution_view, given_for}
 use Rattle.cedar_evaluation.specs.Promises.{IsKnownExactly, IsSound, IsDeepEnough, IsLimitByNeed, IsAllowed, IsPromised}
 use Rattle.cedar_evaluator.specs.declared.evaluator.Evaluator.{Evaluator}
 use Rattle.cedar_evaluator.specs.Variables.{request_of}
 
--- what an evaluator of this request is given over this store, with these extensions and these values of unknowns, for an
--- expression with these slots
-abbrev pub setting_for : RequestPart → Store → Extensions → (Text → Option Represented) → Slots → Setting
-setting_for r s x m slots =
+-- what an evaluator of this request is given over this store, with these extensions, these values of unknowns and this
+-- resolution, for an expression with these slots
+abbrev pub setting_for : RequestPart → Store → Extensions → (Text → Option Represented) → Resolution → Slots → Setting
+setting_for r s x m resolution slots =
     record {
       request = r;
       store = s;
       map = m;
       slots = slots;
       extensions = x;
-      resolution = shallow;
+      resolution = resolution;
     }
 
 -- what stands for the variables
@@ -45,7 +45,8 @@ request_in v = request_of (variables_of v.given)
 -- what the evaluator is given
 abbrev pub setting_of : {X : Type 0} {F : X → Type 0} {g : _} → Evaluator X F g → Slots → Setting
 setting_of v slots =
-    setting_for (request_in v) (store_view v.given.entities.now) (extensions_view v.given.extensions.now) (mapper_view v.given.mapper) slots
+    setting_for (request_in v) (store_view v.given.entities.now) (extensions_view v.given.extensions.now)
+    (mapper_view v.given.mapper) (resolution_view v.given.resolution) slots
 
 -- what its stored functions may answer
 abbrev pub calls_in : {X : Type 0} {F : X → Type 0} {g : _} → Evaluator X F g → StoredCalls
@@ -71,6 +72,10 @@ with_values s m =
       resolution = s.resolution;
     }
 
+-- the same setting, but with this resolution
+abbrev pub resolving : Resolution → Setting → Setting
+resolving resolution s = setting_for s.request s.store s.extensions s.map resolution s.slots
+
 -- ---- what is promised of the answer to an expression, unless memory is wanting
 
 -- it is what the rules give within the limit
@@ -93,7 +98,8 @@ MeansWhereKnown v slots t = Meets (IsKnownExactly (setting_of v slots) (calls_in
 abbrev pub StandsInCompletions : {X : Type 0} {F : X → Type 0} {g : _} → Evaluator X F g → Slots → Term → Answer → Type 0
 StandsInCompletions v slots t = Meets (IsSound (setting_of v slots) (calls_in v) t)
 
--- where the expression and what is given are together no higher than the limit, it is not the recursion limit
+-- where the expression and what is given (with deep resolution twice that) are together no higher than the limit, it is not the
+-- recursion limit
 abbrev pub StaysBelowLimit : {X : Type 0} {F : X → Type 0} {g : _} → Evaluator X F g → Slots → Term → Answer → Type 0
 StaysBelowLimit v slots t = Meets (IsDeepEnough (setting_of v slots) (calls_in v) (limit_of v) t)
 

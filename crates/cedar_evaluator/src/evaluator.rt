@@ -3,6 +3,7 @@ ghost use Rattle.std.specs.Prelude.{◌≡◌, ◌≢◌, ℕ, Option, None, tru
 ghost use Rattle.cedar_model.specs.Failures.{fails, out_of_memory};
 ghost use Rattle.cedar_model.specs.RestrictedLaws.{HoldsUnknown};
 ghost use Rattle.cedar_model.specs.Responses.{errs_with, decided, result_of};
+ghost use Rattle.cedar_model.specs.Settings.{shallow};
 ghost use Rattle.cedar_model.specs.Shapes.{has_unknown};
 ghost use Rattle.cedar_names.specs.declared.names.Loc.{Loc};
 ghost use Rattle.cedar_expressions.specs.declared.expr.Expr as expressions;
@@ -18,6 +19,7 @@ ghost use Rattle.cedar_evaluator.specs.Variables.{are_of_request};
 ghost use mathlib.Core.Bool.{Bool-set};
 
 use crate::request::Request;
+pub use cedar_evaluation::Resolution;
 use cedar_evaluation::{Evaluation, Given, Mapper};
 use cedar_extensions::Extensions;
 use cedar_layers::expressions::{Expr, PartialValue, SlotEnv, Value};
@@ -47,13 +49,16 @@ impl<'e, 'f> Evaluator<'e, 'f> {
     ghost use Rattle.cedar_extensions.specs.Extensions.{extensions_view};
     ghost use Rattle.cedar_requests.specs.Requests.{request_view};
     ghost use Rattle.cedar_requests.specs.Substitutions.{values_for};
-    ghost use Rattle.cedar_evaluator.specs.Evaluations.{setting_for, setting_of, with_values, extensions_given, limit_of};
+    ghost use Rattle.cedar_evaluation.specs.Settings.{resolution_view};
+    ghost use Rattle.cedar_evaluator.specs.Evaluations.{setting_for, setting_of, with_values, resolving};
+    ghost use Rattle.cedar_evaluator.specs.Evaluations.{extensions_given, limit_of};
     ghost use Rattle.cedar_evaluator.specs.Evaluations.{RunsByRules, MeetsLimitByNeed, IsAllowedByRules, MeansWhereKnown};
     ghost use Rattle.cedar_evaluator.specs.Evaluations.{StandsInCompletions, StaysBelowLimit, AnswersValue};
     ghost use Rattle.cedar_evaluator.specs.Evaluations.{IsPromisedOf, DecidesWhereKnown};
     ghost use Rattle.cedar_evaluator.specs.Decisions.{DecidesBy, PartlyDecidesBy};
 
-    /// The evaluator of this request over this store, with these extensions, where no unknown has a value. Evaluation goes at most
+    /// The evaluator of this request over this store, with these extensions, where no unknown has a value and stored residuals are
+    /// answered as they are stored. Evaluation goes at most
     /// `limit` levels deep: an expression is one level, its parts one more. Refuses only for want of memory.
     pub fn new(
         alloc: Global,
@@ -63,7 +68,7 @@ impl<'e, 'f> Evaluator<'e, 'f> {
         limit: usize,
     ) -> Result<Evaluator<'e, 'f>, AllocError>
         ensures setting { IfOk result (λ v. (slots : _) → setting_of v slots ≡ setting_for (request_view request)
-            (store_view entities.now) (extensions_view extensions.now) (λ n. None) slots) }
+            (store_view entities.now) (extensions_view extensions.now) (λ n. None) shallow slots) }
         ensures extensions { IfOk result (λ v. extensions_given v ≡ extensions.now) }
         ensures limit { IfOk result (λ v. limit_of v ≡ limit) }
     {
@@ -77,6 +82,7 @@ impl<'e, 'f> Evaluator<'e, 'f> {
                 entities,
                 extensions,
                 mapper: Mapper::Empty,
+                resolution: Resolution::Shallow,
             },
             limit,
         })
@@ -98,6 +104,7 @@ impl<'e, 'f> Evaluator<'e, 'f> {
             entities,
             extensions,
             mapper: _,
+            resolution,
         } = given;
         Evaluator {
             given: Given {
@@ -108,9 +115,50 @@ impl<'e, 'f> Evaluator<'e, 'f> {
                 entities,
                 extensions,
                 mapper: Mapper::Values(mapper),
+                resolution,
             },
             limit,
         }
+    }
+
+    /// The same evaluator, which answers so what reads a stored residual. It takes no memory.
+    pub fn with_resolution(self, resolution: Resolution) -> Evaluator<'e, 'f>
+        ensures setting { (slots : _) → setting_of result slots
+            ≡ resolving (resolution_view resolution) (setting_of self.entry slots) }
+        ensures extensions { extensions_given result ≡ extensions_given self.entry }
+        ensures limit { limit_of result ≡ limit_of self.entry }
+    {
+        let Evaluator { given, limit } = self;
+        let Given {
+            principal,
+            action,
+            resource,
+            context,
+            entities,
+            extensions,
+            mapper,
+            resolution: _,
+        } = given;
+        Evaluator {
+            given: Given {
+                principal,
+                action,
+                resource,
+                context,
+                entities,
+                extensions,
+                mapper,
+                resolution,
+            },
+            limit,
+        }
+    }
+
+    /// What reading a stored residual answers.
+    pub fn resolution(&self) -> Resolution
+        ensures { (slots : _) → resolution_view result ≡ (setting_of self.now slots).resolution }
+    {
+        self.given.resolution
     }
 
     /// The value of the expression under these slots, or what is left of it where its value rests on what is unknown, at the

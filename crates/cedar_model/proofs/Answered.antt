@@ -14,10 +14,10 @@ use Rattle.cedar_model.specs.Responses.{Row, RunOf, row_of, decided, error_of, w
 use Rattle.cedar_model.specs.Refusals
 use Rattle.cedar_model.specs.Refusals.{Refusal, context_fails}
 use Rattle.cedar_model.specs.Chains
-use Rattle.cedar_model.specs.Chains.{Mapping, Response}
+use Rattle.cedar_model.specs.Chains.{Mapping, Response, ChainStep}
 use Rattle.cedar_model.proofs.Total.{total}
 use Rattle.cedar_model.proofs.Wanting.{find_memory}
-use Rattle.cedar_model.proofs.Configured.{configured_by}
+use Rattle.cedar_model.proofs.Configured.{configured_by, in_step}
 
 -- what a record answers is a context, or its error
 context_of : (o : Option (List (Text × Represented))) (ps : List (Text × PartialValue))
@@ -107,28 +107,29 @@ module _ (calls : Rules.StoredCalls) (finding : FunctionsFindMemory calls) where
       pub step_answers : Answered (Chains.Steps (configured_by calls mode s n) m store old)
       step_answers = after_mode (Chains.is_same_mode mode old.mode)
 
-    abbrev Rest : List (Mapping × Store) → Result Response Refusal → Result Response Refusal → Type 0
+  module _ (mode : ErrorHandling) (s : Setting) (n : ℕ) (callable : FunctionsAnswer calls s.extensions.arity) where
+    abbrev Rest : List ChainStep → Result Response Refusal → Result Response Refusal → Type 0
     Rest steps y x = MatchResult y (λ next. Chains.ChainAnswers (configured_by calls mode s n) next steps x)
         (λ e. x ≡ Err e)
 
-    answered_rest : (steps : List (Mapping × Store)) → ((r : Response) → (x : Result Response Refusal)
+    answered_rest : (steps : List ChainStep) → ((r : Response) → (x : Result Response Refusal)
         × Chains.ChainAnswers (configured_by calls mode s n) r steps x) → (y : Result Response Refusal)
         → (x : Result Response Refusal) × Rest steps y x
     answered_rest steps go (Ok next) = go next
     answered_rest steps go (Err e) = (Err e, refl)
 
-    answered_by : (step : Mapping × Store) (steps : List (Mapping × Store)) (r : Response)
+    answered_by : (step : ChainStep) (steps : List ChainStep) (r : Response)
         → ((q : Response) → (x : Result Response Refusal) × Chains.ChainAnswers
         (configured_by calls mode s n) q steps x) → (b : Bool)
         → (x : Result Response Refusal) × MatchBool b (x ≡ Ok r) ((y : Result Response Refusal)
-        × Chains.Steps (configured_by calls mode s n) step.0 step.1 r y × Rest steps y x)
+        × Chains.Steps (configured_by calls mode (in_step s step) n) step.mapping step.store r y × Rest steps y x)
     answered_by step steps r go true = (Ok r, refl)
     answered_by step steps r go false =
-        let y = step_answers step.0 step.1 r in
+        let y = step_answers mode (in_step s step) n callable step.mapping step.store r in
         let k = answered_rest steps go y.0 in
         (k.0, (y.0, y.1, k.1))
 
-    pub chain_answers : (steps : List (Mapping × Store)) (r : Response)
+    pub chain_answers : (steps : List ChainStep) (r : Response)
         → (x : Result Response Refusal) × Chains.ChainAnswers (configured_by calls mode s n) r steps x
     chain_answers [] r = (Ok r, refl)
     chain_answers (step ∷ steps) r = answered_by step steps r (chain_answers steps) (Chains.has_limit r.errors)

@@ -5,13 +5,13 @@ use Rattle.std.proofs.Common.{sym, subst}
 use Rattle.cedar_model.specs.Values.{Represented}
 use Rattle.cedar_model.specs.World.{World, Functions}
 use Rattle.cedar_model.specs.Policies.{ErrorHandling}
-use Rattle.cedar_model.specs.Settings.{RequestPart, Setting, Store}
+use Rattle.cedar_model.specs.Settings.{RequestPart, Resolution, Setting, Store}
 use Rattle.cedar_model.specs.Rules.{StoredCalls}
 use Rattle.cedar_model.specs.Agreement
 use Rattle.cedar_model.specs.Policies.{Policy}
 use Rattle.cedar_model.specs.Responses
 use Rattle.cedar_model.specs.Chains
-use Rattle.cedar_model.specs.Chains.{Mapping, Response}
+use Rattle.cedar_model.specs.Chains.{Mapping, Response, ChainStep}
 use Rattle.cedar_model.specs.Authorizations.{HaveNoLimit}
 use Rattle.cedar_model.specs.Headline
 use Rattle.cedar_model.proofs.Recorded.{run_recordable}
@@ -22,7 +22,7 @@ use Rattle.cedar_model.proofs.Chained.{step_stands}
 use Rattle.cedar_model.proofs.Limits.{goes_on, first_has_none}
 use Rattle.cedar_model.proofs.Bounds
 use Rattle.cedar_model.proofs.Concrete.{concrete_is_defined}
-use Rattle.cedar_model.proofs.Configured.{configured_by}
+use Rattle.cedar_model.proofs.Configured.{configured_by, in_step}
 
 ok_inj : {A B : Type 0} {x y : A} → ◌≡◌ {A = Result A B} (Ok x) (Ok y) → x ≡ y
 ok_inj e = cc
@@ -39,11 +39,11 @@ module _ (mode : ErrorHandling) (calls : StoredCalls) (ans : Functions) (w : Wor
     pub context_is_faithful : Agreement.IsFaithfulContext s.extensions ans r.context_part
     pub context_fits : Agreement.FitsContext s.extensions ans w r.context_part
 
-  with_step : (r : RequestPart) (m : Mapping) (store : Store) → CompletesRequest r
+  with_step : (q : Resolution) (r : RequestPart) (m : Mapping) (store : Store) → CompletesRequest r
       → Headline.CompletesMap s.extensions ans w m
       → Headline.CompletesStore s.extensions ans w store → Agreement.IsCompletion ans w
-      (Chains.at_step s.extensions s.resolution r store m)
-  with_step r m store q a b = record {
+      (Chains.at_step s.extensions q r store m)
+  with_step resolution r m store q a b = record {
     agreement = record {
       request_agrees = q.agrees;
       store_agrees = b.store_agrees;
@@ -64,7 +64,7 @@ module _ (mode : ErrorHandling) (calls : StoredCalls) (ans : Functions) (w : Wor
     mapped_values_are_faithful = λ n v e. absurd (none_is v e);
   }
 
-  pub chain_stands : (r last : Response) (steps : List (Mapping × Store)) → CompletesRequest r.request
+  pub chain_stands : (r last : Response) (steps : List ChainStep) → CompletesRequest r.request
       → Headline.CompletesSteps s.extensions ans w steps → Responses.Stand mode s.extensions ans w ps r.rows
       → Chains.ChainOf (configured_by calls mode s levels) r steps last → HaveNoLimit last.errors
       → Responses.Stand mode s.extensions ans w ps last.rows
@@ -74,13 +74,15 @@ module _ (mode : ErrorHandling) (calls : StoredCalls) (ans : Functions) (w : Wor
       let on = goes_on mode s calls levels r last step steps g none in
       let next = on.1.0 in
       let k = first_has_none mode s calls levels next last steps on.1.2 none in
-      let before = with_step r.request step.0 step.1 q c.0 c.1 in
-      let t = taken mode s calls levels step.0 step.1 r next on.1.1 in
-      let z = step_completes mode ans calls agree w s levels step.0 step.1 r next before faithful on.1.1 in
-      let stand = step_stands mode ans calls agree w (Chains.at_step s.extensions s.resolution next.request step.1
-      step.0) z faithful levels ps
+      let before = with_step step.resolution r.request step.mapping step.store q c.0 c.1 in
+      let t = taken mode (in_step s step) calls levels step.mapping step.store r next on.1.1 in
+      let z = step_completes mode ans calls agree w (in_step s step) levels step.mapping step.store r next before faithful
+      on.1.1 in
+      let stand = step_stands mode ans calls agree w (Chains.at_step s.extensions step.resolution next.request step.store
+      step.mapping) z faithful levels ps
       r.rows next.rows next.errors conditions h
-      (run_recordable mode (Chains.at_step s.extensions s.resolution next.request step.1 step.0) calls levels
+      (run_recordable mode (Chains.at_step s.extensions step.resolution next.request step.store step.mapping) calls
+      levels
       (Chains.all_residuals r.rows) next.rows next.errors k t.runs) t.runs in
       chain_stands next last steps record {
         agrees = z.agreement.request_agrees;
@@ -89,7 +91,7 @@ module _ (mode : ErrorHandling) (calls : StoredCalls) (ans : Functions) (w : Wor
       } c.2 stand on.1.2 none
 
 pub headline : (mode : ErrorHandling) (calls : StoredCalls) (s : Setting) (levels : ℕ) (ps : List Policy)
-    (steps : List (Mapping × Store)) (first last : Response) → Responses.AreConditions ps
+    (steps : List ChainStep) (first last : Response) → Responses.AreConditions ps
     → Chains.Begins (configured_by calls mode s levels) s.request s.store ps first
     → Chains.ChainOf (configured_by calls mode s levels) first steps last → (ans : Functions) (w : World)
     → Headline.Premises (configured_by calls mode s levels) s.request s.store ps steps ans w last.errors
@@ -100,7 +102,7 @@ headline mode calls s levels ps steps first last conditions begun taken_to ans w
     let q : CompletesRequest mode calls ans w s levels agree faithful ps conditions s.request =
     record
     { agrees = c.request_agrees; context_is_faithful = c.context_is_faithful; context_fits = c.context_fits } in
-    let z = with_step mode calls ans w s levels agree faithful ps conditions s.request Chains.no_values s.store q
+    let z = with_step mode calls ans w s levels agree faithful ps conditions s.resolution s.request Chains.no_values s.store q
     (no_map_completes mode calls ans w s levels agree faithful ps conditions) c.first_store_agrees in
     let none = first_has_none mode s calls levels first last steps taken_to c.no_limit_is_recorded in
     let start = Chains.at_step s.extensions s.resolution s.request s.store Chains.no_values in

@@ -17,7 +17,7 @@ use Rattle.cedar_model.specs.Settings.{Entry, known_entry, unknown_entry, Contex
 use Rattle.cedar_model.specs.Settings.{residual_context, Setting, Store}
 use Rattle.cedar_model.specs.Rules.{StoredCalls}
 use Rattle.cedar_model.specs.Agreement
-use Rattle.cedar_model.specs.Policies.{Effect, permit, forbid, ErrorHandling}
+use Rattle.cedar_model.specs.Policies.{permit, forbid, ErrorHandling}
 use Rattle.cedar_model.specs.Reordering.{IsReordering, nothing, keeping, swapping, chaining}
 use Rattle.cedar_model.specs.Responses
 use Rattle.cedar_model.specs.Responses.{Reported, reported_true, reported_false, reported_residual, Row}

@@ -56,5 +56,6 @@ pub mod Finishing
 pub mod Exemplified
 pub mod TwoSteps
 pub mod StrictSteps
+pub mod StoredSteps
 pub mod Counted
 pub mod Configured

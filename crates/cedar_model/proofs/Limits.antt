@@ -6,14 +6,14 @@ use Rattle.cedar_model.specs.Terms.{Text}
 use Rattle.cedar_model.specs.Failures.{Failure, recursion_limit, FailureKind, of_meaning, of_residual, of_limit}
 use Rattle.cedar_model.specs.Failures.{of_memory, failure_kind}
 use Rattle.cedar_model.specs.Policies.{ErrorHandling}
-use Rattle.cedar_model.specs.Settings.{Setting, Store}
+use Rattle.cedar_model.specs.Settings.{Setting}
 use Rattle.cedar_model.specs.Rules.{StoredCalls}
 use Rattle.cedar_model.specs.Refusals.{Refusal}
 use Rattle.cedar_model.specs.Chains
-use Rattle.cedar_model.specs.Chains.{Mapping, Response}
+use Rattle.cedar_model.specs.Chains.{ChainStep, Response}
 use Rattle.cedar_model.specs.Authorizations.{HaveNoLimit}
 use Rattle.cedar_model.proofs.Determined.{kind_of_limit}
-use Rattle.cedar_model.proofs.Configured.{configured_by}
+use Rattle.cedar_model.proofs.Configured.{configured_by, in_step}
 
 -- ---- the test
 
@@ -74,32 +74,32 @@ err_is_not_ok : {A B : Type 0} {x : A} {y : B} → ◌≡◌ {A = Result A B} (O
 err_is_not_ok e = cc
 
 module _ (mode : ErrorHandling) (s : Setting) (calls : StoredCalls) (levels : ℕ) where
-  abbrev Chain : Response → List (Mapping × Store) → Response → Type 0
+  abbrev Chain : Response → List ChainStep → Response → Type 0
   Chain = Chains.ChainOf (configured_by calls mode s levels)
 
   -- it ends here with the limit, or goes on with a response without one
-  abbrev GoesOn : Bool → Response → (Mapping × Store) → List (Mapping × Store) → Response → Type 0
+  abbrev GoesOn : Bool → Response → ChainStep → List ChainStep → Response → Type 0
   GoesOn b r step steps last =
       MatchBool b (◌≡◌ {A = Result Response Refusal} (Ok last) (Ok r)) ((y : Result Response Refusal)
-      × Chains.Steps (configured_by calls mode s levels) step.0 step.1 r y
+      × Chains.Steps (configured_by calls mode (in_step s step) levels) step.mapping step.store r y
       × MatchResult y (λ next. Chain next steps last) (λ e. ◌≡◌ {A = Result Response Refusal} (Ok last) (Err e)))
 
   -- a chain whose last response holds no limit goes on by the step
-  pub goes_on : (r last : Response) (step : Mapping × Store) (steps : List (Mapping × Store))
+  pub goes_on : (r last : Response) (step : ChainStep) (steps : List ChainStep)
       → Chain r (step ∷ steps) last → HaveNoLimit last.errors → HaveNoLimit r.errors
-      × ((next : Response) × Chains.StepsTo (configured_by calls mode s levels) step.0 step.1 r next
+      × ((next : Response) × Chains.StepsTo (configured_by calls mode (in_step s step) levels) step.mapping step.store r next
       × Chain next steps last)
   goes_on r last step steps h none = by (Chains.has_limit r.errors) refl h
     where
-      on : (y : Result Response Refusal) → Chains.Steps (configured_by calls mode s levels) step.0 step.1 r y
+      on : (y : Result Response Refusal) → Chains.Steps (configured_by calls mode (in_step s step) levels) step.mapping step.store r y
           → MatchResult y (λ next. Chain next steps last) (λ e. ◌≡◌ {A = Result Response Refusal} (Ok last) (Err e))
-          → (next : Response) × Chains.StepsTo (configured_by calls mode s levels) step.0 step.1 r next
+          → (next : Response) × Chains.StepsTo (configured_by calls mode (in_step s step) levels) step.mapping step.store r next
           × Chain next steps last
       on (Ok next) g k = (next, g, k)
       on (Err e) g k = absurd (err_is_not_ok k)
 
       by : (b : Bool) → Chains.has_limit r.errors ≡ b → GoesOn b r step steps last → HaveNoLimit r.errors
-          × ((next : Response) × Chains.StepsTo (configured_by calls mode s levels) step.0 step.1 r next
+          × ((next : Response) × Chains.StepsTo (configured_by calls mode (in_step s step) levels) step.mapping step.store r next
           × Chain next steps last)
       by true e k =
           absurd (true_isn't (Chains.has_limit r.errors)
@@ -107,12 +107,12 @@ module _ (mode : ErrorHandling) (s : Setting) (calls : StoredCalls) (levels : �
       by false e (y, g, k) = (none_has r.errors e, on y g k)
 
   -- nor does the first
-  pub first_has_none : (r last : Response) (steps : List (Mapping × Store)) → Chain r steps last
+  pub first_has_none : (r last : Response) (steps : List ChainStep) → Chain r steps last
       → HaveNoLimit last.errors → HaveNoLimit r.errors
   first_has_none r last [] h none = subst (λ x. HaveNoLimit x.errors) (ok_inj h) none
   first_has_none r last (step ∷ steps) h none = (goes_on r last step steps h none).0
 
-  pub no_earlier : (first last : Response) (before after : List (Mapping × Store))
+  pub no_earlier : (first last : Response) (before after : List ChainStep)
       → Chain first (before ++ after) last → HaveNoLimit last.errors → (middle : Response) × Chain first before middle
       × HaveNoLimit middle.errors × Chain middle after last
   no_earlier first last [] after h none = (first, refl, first_has_none first last after h none, h)

@@ -1,8 +1,9 @@
 -- The examples of stored residuals, by computing.
-use Rattle.std.specs.Prelude.{◌≡◌, ◌≢◌, ℕ, ◌≤◌, zero, suc, Bool, true, false, cond, List, Option, Some, None, codes}
+use Rattle.std.specs.Prelude.{◌≡◌, ◌≢◌, ℕ, ◌≤◌, zero, suc, pos, Bool, true, false, cond, List, Option, Some, None}
+use Rattle.std.specs.Prelude.{codes}
 use Rattle.std.proofs.Common.{refl, subst, arith}
-use Rattle.cedar_model.specs.Terms.{record_of, Text, Term}
-use Rattle.cedar_model.specs.Values.{expression_of, Represented}
+use Rattle.cedar_model.specs.Terms.{record_of, Text, long_literal, entity_literal, Term}
+use Rattle.cedar_model.specs.Values.{expression_of, Represented, plain_represented}
 use Rattle.cedar_model.specs.Failures.{PartialValue, value, residual, Answer, answers, answers_bool, limit}
 use Rattle.cedar_model.specs.Outcomes.{text_eq}
 use Rattle.cedar_model.specs.Agreement.{EachStored}
@@ -13,7 +14,7 @@ use Rattle.cedar_model.specs.Depth.{substituted_height}
 use Rattle.cedar_model.specs.Chains.{substituted, substituted_at, value_for}
 use Rattle.cedar_model.specs.Agreement.{height}
 use Rattle.cedar_model.specs.LevelLaws.{FunctionsAnswer}
-use Rattle.cedar_model.specs.Examples.{some_calls, some_extensions}
+use Rattle.cedar_model.specs.Examples.{some_entity, some_calls, some_extensions}
 use Rattle.cedar_model.specs.Instances
 use Rattle.cedar_model.specs.Resolutions
 use Rattle.cedar_model.proofs.Computed.{opened, some_answer}
@@ -59,6 +60,15 @@ tag_resolves = (
   allowed deep false Resolutions.all_named 4 _ _ refl (λ e. cc),
 )
 
+pub unknown_resolves : Resolutions.UnknownResolves
+unfolding opened
+unknown_resolves = (
+  allowed shallow false Resolutions.all_named 4 _ _ refl (λ e. cc),
+  allowed deep false Resolutions.all_named 4 _ _ refl (λ e. cc),
+  allowed shallow false Resolutions.all_named 4 _ _ refl (λ e. cc),
+  allowed deep false Resolutions.all_named 4 _ _ refl (λ e. cc),
+)
+
 pub presence_reads_none : Resolutions.PresenceReadsNone
 unfolding opened
 presence_reads_none = (
@@ -92,9 +102,44 @@ last_is_presence = (
   allowed deep false Resolutions.all_named 4 _ _ refl (λ e. cc),
 )
 
+-- a walk between two entities
+module _ (r : Resolution) (m : Text → Option Represented) where
+  walk_runs : (n : ℕ) (t : Term) (a : Answer)
+      → (total (Resolutions.walking r m) some_calls (some_answer some_extensions.arity) n t).0 ≡ a
+      → Rules.Runs (Resolutions.walking r m) some_calls n t a
+  walk_runs n t a e =
+      computed_with (Resolutions.walking r m) some_calls (some_answer some_extensions.arity) n t a e
+
+  walk_allowed : (n : ℕ) (t : Term) (a : Answer)
+      → (total (Resolutions.walking r m) some_calls (some_answer some_extensions.arity) n t).0 ≡ a → a ≢ limit
+      → Rules.Allows (Resolutions.walking r m) some_calls t a
+  walk_allowed n t a e ne = (ne, n, walk_runs n t a e)
+
+pub walk_meets_long : Resolutions.WalkMeetsLong
+unfolding opened
+walk_meets_long = (
+  walk_allowed shallow (Resolutions.c_is (plain_represented (long_literal (pos 3)))) 4 _ _ refl (λ e. cc),
+  walk_allowed deep (Resolutions.c_is (plain_represented (long_literal (pos 3)))) 4 _ _ refl (λ e. cc),
+)
+
+pub walk_meets_entity : Resolutions.WalkMeetsEntity
+unfolding opened
+walk_meets_entity = (
+  walk_allowed deep (Resolutions.c_is (plain_represented (entity_literal some_entity))) 4 _ _ refl (λ e. cc),
+  walk_allowed deep (Resolutions.c_is (plain_represented (entity_literal some_entity))) 4 _ _ refl (λ e. cc),
+)
+
+pub last_needs_two : Resolutions.LastNeedsTwo
+unfolding opened
+last_needs_two = (
+  walk_runs shallow Resolutions.none_named 2 (Resolutions.walk (codes "friend") (codes "set")) (answers_bool true) refl,
+  walk_runs deep Resolutions.none_named 2 (Resolutions.walk (codes "friend") (codes "set")) (answers_bool true) refl,
+)
+
 pub missing_stays : Resolutions.MissingStays
 unfolding opened
 missing_stays = (
+  allowed deep true Resolutions.all_named 4 _ _ refl (λ e. cc),
   allowed deep true Resolutions.all_named 4 _ _ refl (λ e. cc),
   allowed deep true Resolutions.all_named 4 _ _ refl (λ e. cc),
 )
@@ -115,8 +160,13 @@ stored_need_three = (
 
 pub shallow_needs_two : Resolutions.ShallowNeedsTwo
 unfolding opened
-shallow_needs_two = runs shallow false Resolutions.all_named 2 (Resolutions.attribute (codes "set"))
-    (answers (residual Resolutions.the_set)) refl
+shallow_needs_two = (
+  runs shallow false Resolutions.all_named 1 (Resolutions.attribute (codes "set")) limit refl,
+  runs shallow false Resolutions.all_named 2 (Resolutions.attribute (codes "set"))
+      (answers (residual Resolutions.the_set)) refl,
+  runs shallow false Resolutions.all_named 3 (Resolutions.attribute (codes "set"))
+      (answers (residual Resolutions.the_set)) refl,
+)
 
 -- ---- why stored residuals are restricted
 

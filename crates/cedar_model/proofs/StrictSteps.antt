@@ -1,7 +1,7 @@
 -- A chain where an erring forbid counts, and a world that completes it.
-use Rattle.std.specs.Prelude.{◌≡◌, Bool, true, false, [], ◌∷◌, Some, None, Ok, codes}
+use Rattle.std.specs.Prelude.{◌≡◌, true, false, [], ◌∷◌, Some, None, Ok, codes}
 use Rattle.std.proofs.Common.{refl}
-use Rattle.cedar_model.specs.Terms.{Text, bool_literal}
+use Rattle.cedar_model.specs.Terms.{bool_literal}
 use Rattle.cedar_model.specs.Values.{plain_represented, abstract_value}
 use Rattle.cedar_model.specs.Failures.{PartialValue}
 use Rattle.cedar_model.specs.Policies.{forbid_on_error}
@@ -12,7 +12,7 @@ use Rattle.cedar_model.specs.Chains.{Mapping, Response}
 use Rattle.cedar_model.specs.Headline
 use Rattle.cedar_model.specs.Examples.{some_calls, some_functions, some_extensions}
 use Rattle.cedar_model.specs.ChainExamples.{no_map, empty_store, setting_of, known_request, strict_policies, x_is}
-use Rattle.cedar_model.specs.ChainExamples.{strict_world}
+use Rattle.cedar_model.specs.ChainExamples.{strict_world, step_by}
 use Rattle.cedar_model.proofs.Exemplified
 use Rattle.cedar_model.proofs.Configured.{configured_by}
 use Rattle.cedar_model.proofs.TwoSteps.{functional, faithful}
@@ -98,7 +98,7 @@ is_kept = (
   ),
 )
 
-pub chained : Chains.ChainOf (configured_by some_calls forbid_on_error s 9) first ((x_is true, empty_store) ∷ []) denied
+pub chained : Chains.ChainOf (configured_by some_calls forbid_on_error s 9) first (step_by (x_is true) ∷ []) denied
 unfolding Exemplified.chain_opened
 chained = (Ok denied, is_denied, refl)
 
@@ -128,7 +128,7 @@ map_completes = record {
 }
 
 pub completed : Headline.Premises (configured_by some_calls forbid_on_error s 9) known_request empty_store strict_policies
-    ((x_is true, empty_store) ∷ []) some_functions strict_world denied.errors
+    (step_by (x_is true) ∷ []) some_functions strict_world denied.errors
 unfolding Exemplified.chain_opened
 completed = record {
   request_agrees = record {

@@ -18,7 +18,8 @@ use Rattle.cedar_model.specs.Refusals.{mode_is_other, id_comes_again, value_is_w
 use Rattle.cedar_model.specs.Refusals.{context_fails}
 use Rattle.cedar_model.specs.Refusals.{concrete_request}
 use Rattle.cedar_model.specs.Configurations.{Configuration, configured}
-use Rattle.cedar_model.specs.Chains.{Mapping, Response, Steps, StepsTo, Begins, ChainAnswers, ChainOf, all_residuals}
+use Rattle.cedar_model.specs.Chains.{Mapping, Response, Steps, StepsTo, Begins, ChainStep, ChainAnswers, ChainOf}
+use Rattle.cedar_model.specs.Chains.{all_residuals}
 use Rattle.cedar_model.specs.Reports.{ids, given_decision, must_determine, may_determine, concrete_decision}
 use Rattle.cedar_model.specs.Reports.{concrete_reasons}
 use Rattle.cedar_model.specs.Reports.{concrete_errors, definitely_satisfied, definitely_errored}
@@ -304,8 +305,12 @@ abbrev pub context_map : Mapping
 context_map =
     map_of ((codes "c", plain_represented (bool_literal true)) ∷ (codes "d", a_number 10) ∷ [])
 
-abbrev pub two_steps : List (Mapping × Store)
-two_steps = (resource_map, empty_store) ∷ (context_map, empty_store) ∷ []
+-- a step by this map over the empty store
+abbrev pub step_by : Mapping → ChainStep
+step_by m = record { mapping = m; store = empty_store; resolution = shallow }
+
+abbrev pub two_steps : List ChainStep
+two_steps = step_by resource_map ∷ step_by context_map ∷ []
 
 -- first both are residual; the resource makes the permit true, which decides nothing beside the forbid; then the
 -- context, whose map names all that is unknown, makes the forbid true: no residual is left, and the decision is Deny
@@ -362,13 +367,13 @@ abbrev pub EndsAtTheLimit : Type 0
 EndsAtTheLimit =
     Begins (configured_in skip 0) known_request empty_store (policy (codes "1") permit truth ∷ []) limited
     × ChainAnswers (configured_in skip 0) limited
-    ((map_of ((codes "principal", a_number 3) ∷ []), empty_store) ∷ []) (Ok limited)
+    (step_by (map_of ((codes "principal", a_number 3) ∷ [])) ∷ []) (Ok limited)
 
 -- where a response holds no limit, the refusal of a step is the chain's
 abbrev pub RefusalEndsAChain : Type 0
 RefusalEndsAChain =
     ChainAnswers (configured_in skip 9) (response_to known_request [])
-    ((map_of ((codes "principal", a_number 3) ∷ []), empty_store) ∷ (no_map, empty_store) ∷ [])
+    (step_by (map_of ((codes "principal", a_number 3) ∷ [])) ∷ step_by no_map ∷ [])
     (Err (value_is_wrong (codes "principal") (codes "entity") (a_number 3)))
 
 -- ---- erring forbids
@@ -441,9 +446,9 @@ abbrev pub StrictChainIsCompleted : Type 0
 StrictChainIsCompleted =
     (first : Response) × (last : Response)
     × Begins (configured_in forbid_on_error 9) known_request empty_store strict_policies first
-    × ChainOf (configured_in forbid_on_error 9) first ((x_is true, empty_store) ∷ []) last
+    × ChainOf (configured_in forbid_on_error 9) first (step_by (x_is true) ∷ []) last
     × Premises (configured_in forbid_on_error 9) known_request empty_store strict_policies
-    ((x_is true, empty_store) ∷ []) some_functions strict_world last.errors
+    (step_by (x_is true) ∷ []) some_functions strict_world last.errors
     × (given_decision last.rows ≡ Some deny)
     × (decision (counted_each forbid_on_error some_extensions some_functions strict_world strict_policies) ≡ deny)
     × (reasons (counted_each forbid_on_error some_extensions some_functions strict_world strict_policies)

@@ -10,7 +10,8 @@ use Rattle.cedar_model.specs.Alike.{AreFunctional}
 use Rattle.cedar_model.specs.Policies.{Policy, Decision, ErrorHandling}
 use Rattle.cedar_model.specs.Configurations.{configured}
 use Rattle.cedar_model.specs.Refusals.{Refusal, context_fails}
-use Rattle.cedar_model.specs.Chains.{Mapping, Response, Begins, Steps, StepsTo, has_limit, ChainAnswers, ChainOf}
+use Rattle.cedar_model.specs.Chains.{Mapping, Response, Begins, Steps, StepsTo, has_limit}
+use Rattle.cedar_model.specs.Chains.{ChainStep, ChainAnswers, ChainOf}
 use Rattle.cedar_model.specs.Authorizations.{HaveNoLimit}
 use Rattle.cedar_model.specs.Reports.{ids, given_decision, must_determine, may_determine}
 use Rattle.cedar_model.specs.ReportLaws.{Within}
@@ -33,7 +34,7 @@ StepsAnswer calls =
 abbrev pub ChainsAnswer : StoredCalls → Type 0
 ChainsAnswer calls =
     FunctionsFindMemory calls → (mode : ErrorHandling) (resolution : Resolution) (X : Extensions) (levels : ℕ)
-    → FunctionsAnswer calls X.arity → (first : Response) (steps : List (Mapping × Store))
+    → FunctionsAnswer calls X.arity → (first : Response) (steps : List ChainStep)
     → (x : Result Response Refusal) × ChainAnswers (configured calls mode resolution X levels) first steps x
 
 -- the same refusal, or errors of one kind of the context
@@ -66,7 +67,7 @@ LimitsAreSeen = (errors : List (Text × Failure)) → HaveNoLimit errors ↔ (ha
 abbrev pub NoEarlierLimit : StoredCalls → Type 0
 NoEarlierLimit calls =
     (mode : ErrorHandling) (resolution : Resolution) (X : Extensions) (levels : ℕ) (first last : Response)
-    (before after : List (Mapping × Store))
+    (before after : List ChainStep)
     → ChainOf (configured calls mode resolution X levels) first (before ++ after) last → HaveNoLimit last.errors
     → (middle : Response) × ChainOf (configured calls mode resolution X levels) first before middle
     × HaveNoLimit middle.errors × ChainOf (configured calls mode resolution X levels) middle after last

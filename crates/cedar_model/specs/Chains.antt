@@ -11,7 +11,7 @@ use Rattle.cedar_model.specs.Settings.{ContextPart, absent_context, known_contex
 use Rattle.cedar_model.specs.Settings.{Store, Resolution, Setting}
 use Rattle.cedar_model.specs.World.{Extensions}
 use Rattle.cedar_model.specs.Rules.{StoredCalls, Runs}
-use Rattle.cedar_model.specs.Configurations.{Configuration}
+use Rattle.cedar_model.specs.Configurations.{Configuration, resolving}
 use Rattle.cedar_model.specs.Agreement.{no_slots}
 use Rattle.cedar_model.specs.Policies.{Effect, permit, forbid, Policy, ErrorHandling, skip, forbid_on_error}
 use Rattle.cedar_model.specs.Responses.{Reported, reported_true, reported_false, reported_residual, Row, RunOf, carried}
@@ -193,6 +193,12 @@ module _ (c : Configuration) (m : Mapping) (store : Store) (old : Response) wher
 
 -- ---- chains
 
+-- a step of a chain: values for unknowns, a store, and what reading a stored residual answers
+pub record ChainStep : Type 0 where
+  pub mapping : Mapping
+  pub store : Store
+  pub resolution : Resolution
+
 -- the first response, from a request without a map
 pub record Begins (c : Configuration) (request : RequestPart) (store : Store) (policies : List Policy)
     (first : Response) : Type 0 where
@@ -212,14 +218,15 @@ unfoldable pub has_limit : List (Text × Failure) → Bool
 has_limit [] = false
 has_limit (e ∷ es) = is_limit (failure_kind e.1) || has_limit es
 
--- steps taken one after another from a response answer the response of the last one, or the first whose errors hold
--- the recursion limit, or the first refusal
-abbrev pub ChainAnswers : Configuration → Response → List (Mapping × Store) → Result Response Refusal → Type 0
+-- steps taken one after another from a response, each with its own resolution, answer the response of the last one, or
+-- the first whose errors hold the recursion limit, or the first refusal
+abbrev pub ChainAnswers : Configuration → Response → List ChainStep → Result Response Refusal → Type 0
 ChainAnswers c r [] x = x ≡ Ok r
 ChainAnswers c r (step ∷ steps) x =
-    MatchBool (has_limit r.errors) (x ≡ Ok r) ((y : Result Response Refusal) × Steps c step.0 step.1 r y
+    MatchBool (has_limit r.errors) (x ≡ Ok r) ((y : Result Response Refusal)
+    × Steps (resolving step.resolution c) step.mapping step.store r y
     × MatchResult y (λ next. ChainAnswers c next steps x) (λ e. x ≡ Err e))
 
 -- a chain from a response that succeeds with this one
-abbrev pub ChainOf : Configuration → Response → List (Mapping × Store) → Response → Type 0
+abbrev pub ChainOf : Configuration → Response → List ChainStep → Response → Type 0
 ChainOf c r steps last = ChainAnswers c r steps (Ok last)

@@ -18,3 +18,7 @@ pub record Configuration : Type 1 where
 abbrev pub configured : StoredCalls → ErrorHandling → Resolution → Extensions → ℕ → Configuration
 configured calls mode resolution X levels =
     record { mode = mode; resolution = resolution; extensions = X; calls = calls; levels = levels }
+
+-- the same with this resolution
+abbrev pub resolving : Resolution → Configuration → Configuration
+resolving resolution c = configured c.calls c.mode resolution c.extensions c.levels

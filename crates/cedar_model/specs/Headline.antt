@@ -12,7 +12,7 @@ use Rattle.cedar_model.specs.Agreement.{EachStored, AnswerFaithfully}
 use Rattle.cedar_model.specs.Policies.{Policy, ErrorHandling}
 use Rattle.cedar_model.specs.Configurations.{Configuration, configured}
 use Rattle.cedar_model.specs.Responses.{Row, Stand, FitPolicies, AreConditions}
-use Rattle.cedar_model.specs.Chains.{Mapping, Response, Begins, ChainOf}
+use Rattle.cedar_model.specs.Chains.{Mapping, Response, Begins, ChainStep, ChainOf}
 use Rattle.cedar_model.specs.Authorizations.{HaveNoLimit}
 use Rattle.cedar_model.specs.Reports.{HaveNoResidual}
 use Rattle.cedar_model.specs.ReportLaws.{ReportsHold, AreDecidedAs}
@@ -30,14 +30,14 @@ module _ (X : Extensions) (ans : Functions) (w : World) where
     pub mapped_values_are_faithful : (n : Text) (v : Represented) → m n ≡ Some v → IsFaithful X ans v
 
   -- each step has such a map and such a store
-  abbrev pub CompletesSteps : List (Mapping × Store) → Type 0
+  abbrev pub CompletesSteps : List ChainStep → Type 0
   CompletesSteps [] = Unit {0}
-  CompletesSteps (step ∷ steps) = CompletesMap step.0 × CompletesStore step.1 × CompletesSteps steps
+  CompletesSteps (step ∷ steps) = CompletesMap step.mapping × CompletesStore step.store × CompletesSteps steps
 
 -- what the headline takes of functions and a world, of a chain from this request and this store by these steps, whose
 -- last response has these errors
 pub record Premises (c : Configuration) (request : RequestPart) (store : Store) (ps : List Policy)
-    (steps : List (Mapping × Store)) (ans : Functions) (w : World) (errors : List (Text × Failure)) : Type 0 where
+    (steps : List ChainStep) (ans : Functions) (w : World) (errors : List (Text × Failure)) : Type 0 where
   -- the world agrees with the request, each store and each map, and fits each condition, the context and each stored
   -- residual
   pub request_agrees : AgreesWithRequest c.extensions ans w request
@@ -67,7 +67,7 @@ pub record Headline (mode : ErrorHandling) (X : Extensions) (ans : Functions) (w
 abbrev pub ChainsStand : StoredCalls → Type 0
 ChainsStand calls =
     (mode : ErrorHandling) (resolution : Resolution) (X : Extensions) (levels : ℕ) (request : RequestPart)
-    (store : Store) (ps : List Policy) (steps : List (Mapping × Store)) (first last : Response) → AreConditions ps
+    (store : Store) (ps : List Policy) (steps : List ChainStep) (first last : Response) → AreConditions ps
     → Begins (configured calls mode resolution X levels) request store ps first
     → ChainOf (configured calls mode resolution X levels) first steps last → (ans : Functions) (w : World)
     → Premises (configured calls mode resolution X levels) request store ps steps ans w last.errors

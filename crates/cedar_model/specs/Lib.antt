@@ -42,6 +42,7 @@ pub mod ReportLaws
 pub mod ChainLaws
 pub mod Progress
 pub mod ChainExamples
+pub mod StoredChains
 pub mod Headline
 pub mod Tables
 pub mod lemmas

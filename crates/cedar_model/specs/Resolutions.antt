@@ -1,7 +1,7 @@
 -- Worked examples: what stored residuals answer with each resolution, and how many levels that takes.
 use Rattle.std.specs.Prelude.{◌≡◌, ℕ, pos, Bool, true, false, cond, [], ◌∷◌, Option, Some, None, codes}
 use Rattle.cedar_model.specs.Terms.{Text, EntityName, text_literal, long_literal, entity_literal, string_type}
-use Rattle.cedar_model.specs.Terms.{long_type}
+use Rattle.cedar_model.specs.Terms.{long_type, record_type}
 use Rattle.cedar_model.specs.Terms.{get_tag_operator, has_tag_operator, Term, literal, unknown, binary, call}
 use Rattle.cedar_model.specs.Terms.{get_attribute, has_attribute, extended_has, set_of, record_of, no_terms, terms_of}
 use Rattle.cedar_model.specs.Terms.{Fields, fields_of}
@@ -9,7 +9,7 @@ use Rattle.cedar_model.specs.Values.{Represented, plain_represented, set_represe
 use Rattle.cedar_model.specs.Values.{expression_of}
 use Rattle.cedar_model.specs.Values.{no_represented, one_represented, no_represented_at}
 use Rattle.cedar_model.specs.Outcomes.{text_eq, entity_eq}
-use Rattle.cedar_model.specs.Failures.{type_is_wrong, residual, Answer, answers_value}
+use Rattle.cedar_model.specs.Failures.{type_is_wrong, any_entity, value, residual, Answer, answers_value}
 use Rattle.cedar_model.specs.Failures.{answers_residual, answers_bool, fails}
 use Rattle.cedar_model.specs.Settings.{known_entry, ContextPart, known_context, residual_context, StoredEntity}
 use Rattle.cedar_model.specs.Settings.{Resolution, shallow, deep}
@@ -19,7 +19,7 @@ use Rattle.cedar_model.specs.Agreement.{height, no_slots}
 use Rattle.cedar_model.specs.Restricted.{IsGivenSound}
 use Rattle.cedar_model.specs.Depth.{IsNoHigher, substituted_height}
 use Rattle.cedar_model.specs.Chains.{with_context, substituted_at}
-use Rattle.cedar_model.specs.Examples.{user, long, entity, x, some_entity, some_calls, some_extensions}
+use Rattle.cedar_model.specs.Examples.{entity_of_type, user, long, entity, x, some_entity, some_calls, some_extensions}
 use Rattle.cedar_model.specs.Instances.{deeper_set, nesting_extensions}
 
 abbrev u : Term
@@ -34,7 +34,8 @@ c = unknown (codes "c") None
 abbrev pair : Term → Term
 pair t = record_of (fields_of ((codes "l", t) ∷ (codes "m", c) ∷ []))
 
--- an unknown c, u and c in a record, a record and the set of u, and u where a text is expected; and a tag
+-- an unknown c, u and c in a record, a record and the set of u, and u where a text is expected; and two tags, the set
+-- of u, and u
 abbrev pub stored_facts : StoredEntity
 stored_facts = record {
   attributes = (codes "child", residual c) ∷ (codes "pair", residual (pair u)) ∷ (
@@ -43,7 +44,7 @@ stored_facts = record {
         (record_of (fields_of ((codes "l", u) ∷ []))),
   ) ∷ (codes "set", residual (set_of (terms_of (u ∷ []))))
       ∷ (codes "text", residual (unknown (codes "u") (Some string_type))) ∷ [];
-  tags = (codes "t", residual (set_of (terms_of (u ∷ [])))) ∷ [];
+  tags = (codes "t", residual (set_of (terms_of (u ∷ [])))) ∷ (codes "u", residual u) ∷ [];
   ancestors = [];
 }
 
@@ -84,8 +85,11 @@ Answers r m t a = Allows (resolving r false m) some_calls t a
 abbrev pub attribute : Text → Term
 attribute k = get_attribute (entity some_entity) k
 
+abbrev pub tag_of : EntityName → Text → Term
+tag_of e k = binary get_tag_operator (entity e) (literal (text_literal k))
+
 abbrev pub tag : Term
-tag = binary get_tag_operator (entity some_entity) (literal (text_literal (codes "t")))
+tag = tag_of some_entity (codes "t")
 
 abbrev pub path : Text → Text → Term
 path k l = extended_has (entity some_entity) k (l ∷ [])
@@ -116,6 +120,17 @@ AttributeErrs = Answers deep all_named (attribute (codes "text")) (fails (type_i
 abbrev pub TagResolves : Type 0
 TagResolves =
     Answers shallow all_named tag (answers_residual the_set) × Answers deep all_named tag (answers_value the_value)
+
+-- a stored attribute that is itself an unknown goes through the map with either resolution, a stored tag with deep
+-- resolution alone
+abbrev pub UnknownResolves : Type 0
+UnknownResolves =
+    Answers shallow all_named (attribute (codes "child")) (answers_value (plain_represented
+    (entity_literal some_entity)))
+    × Answers deep all_named (attribute (codes "child")) (answers_value (plain_represented
+    (entity_literal some_entity)))
+    × Answers shallow all_named (tag_of some_entity (codes "u")) (answers_residual u)
+    × Answers deep all_named (tag_of some_entity (codes "u")) (answers_value one)
 
 -- whether there is an attribute or a tag reads none
 abbrev pub PresenceReadsNone : Type 0
@@ -153,14 +168,78 @@ LastIsPresence =
     Answers deep all_named (extended_has (entity some_entity) (codes "text") []) (answers_bool true)
     × Answers deep all_named (path (codes "child") (codes "text")) (answers_bool true)
 
+-- `E::"p"` stores `child` = c, and `friend` = `E::"e"`, which stores `foo` = 1 and `set` = `[u]`
+abbrev pub holder : EntityName
+holder = entity_of_type (codes "E") (codes "p")
+
+abbrev pub holder_facts : StoredEntity
+holder_facts = record {
+  attributes = (codes "child", residual c) ∷
+      (codes "friend", value (plain_represented (entity_literal some_entity))) ∷ [];
+  tags = [];
+  ancestors = [];
+}
+
+abbrev pub friend_facts : StoredEntity
+friend_facts =
+    record { attributes = (codes "foo", value one) ∷ (codes "set", residual the_set) ∷ []; tags = []; ancestors = [] }
+
+abbrev pub walking : Resolution → (Text → Option Represented) → Setting
+walking r m = record {
+  request = (resolving r false m).request;
+  store = record {
+    entity = λ e. cond (entity_eq e holder) (Some holder_facts)
+        (cond (entity_eq e some_entity) (Some friend_facts) None);
+    is_partial = false;
+  };
+  map = m;
+  slots = no_slots;
+  extensions = some_extensions;
+  resolution = r;
+}
+
+-- c alone is named
+abbrev pub c_is : Represented → Text → Option Represented
+c_is v n = cond (text_eq n (codes "c")) (Some v) None
+
+abbrev pub walk : Text → Text → Term
+walk k l = extended_has (entity holder) k (l ∷ [])
+
+-- where c is 3 the walk errs, since 3 is neither record nor entity; with shallow resolution c is kept, though the map
+-- names it
+abbrev pub WalkMeetsLong : Type 0
+WalkMeetsLong =
+    Allows (walking shallow (c_is (plain_represented (long_literal (pos 3))))) some_calls
+    (walk (codes "child") (codes "foo")) (answers_residual (extended_has c (codes "foo") []))
+    × Allows (walking deep (c_is (plain_represented (long_literal (pos 3))))) some_calls
+    (walk (codes "child") (codes "foo")) (fails (type_is_wrong record_type (any_entity ∷ []) long_type))
+
+-- where c is `E::"e"` the walk goes on to it
+abbrev pub WalkMeetsEntity : Type 0
+WalkMeetsEntity =
+    Allows (walking deep (c_is (plain_represented (entity_literal some_entity)))) some_calls
+    (walk (codes "child") (codes "foo")) (answers_bool true)
+    × Allows (walking deep (c_is (plain_represented (entity_literal some_entity)))) some_calls
+    (walk (codes "child") (codes "none")) (answers_bool false)
+
+-- the last attribute is not interpreted: a stored residual there takes no level
+abbrev pub LastNeedsTwo : Type 0
+LastNeedsTwo =
+    Runs (walking shallow none_named) some_calls 2 (walk (codes "friend") (codes "set")) (answers_bool true)
+    × Runs (walking deep none_named) some_calls 2 (walk (codes "friend") (codes "set")) (answers_bool true)
+
 -- ---- an entity that a partial store lacks: its unknown stays, though the map names it
+
+abbrev MissingAnswers : Term → Term → Type 0
+MissingAnswers t r = Allows (resolving deep true all_named) some_calls t (answers_residual r)
 
 abbrev pub MissingStays : Type 0
 MissingStays =
-    Allows (resolving deep true all_named) some_calls (get_attribute (entity missing) (codes "k"))
-    (answers_residual (get_attribute (missing_entity missing) (codes "k")))
-    × Allows (resolving deep true all_named) some_calls (extended_has (entity missing) (codes "k")
-    (codes "l" ∷ [])) (answers_residual (extended_has (missing_entity missing) (codes "k") (codes "l" ∷ [])))
+    MissingAnswers (get_attribute (entity missing) (codes "k")) (get_attribute (missing_entity missing) (codes "k"))
+    × MissingAnswers (tag_of missing (codes "t")) (binary get_tag_operator (missing_entity missing)
+    (literal (text_literal (codes "t"))))
+    × MissingAnswers (extended_has (entity missing) (codes "k") (codes "l" ∷ []))
+    (extended_has (missing_entity missing) (codes "k") (codes "l" ∷ []))
 
 -- ---- levels
 
@@ -175,10 +254,12 @@ StoredNeedThree =
     × NeedsThree tag (answers_value the_value)
     × NeedsThree (path (codes "parts") (codes "l")) (answers_bool true)
 
--- with shallow resolution two are enough
+-- with shallow resolution two are enough, and more answer the same
 abbrev pub ShallowNeedsTwo : Type 0
 ShallowNeedsTwo =
-    Runs (resolving shallow false all_named) some_calls 2 (attribute (codes "set")) (answers_residual the_set)
+    Exceeds (resolving shallow false all_named) some_calls (attribute (codes "set")) 1
+    × Runs (resolving shallow false all_named) some_calls 2 (attribute (codes "set")) (answers_residual the_set)
+    × Runs (resolving shallow false all_named) some_calls 3 (attribute (codes "set")) (answers_residual the_set)
 
 -- why stored residuals are restricted: one that reads itself has no answer, at whatever level
 abbrev pub looping : Setting

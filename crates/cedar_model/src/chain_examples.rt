@@ -10,6 +10,8 @@ ghost use Rattle.cedar_model.specs.ChainExamples.{ContextIsARecord, ContextBesid
 ghost use Rattle.cedar_model.specs.ChainExamples.{ContextErrorIsRefused, ContextLimitIsRefused};
 ghost use Rattle.cedar_model.specs.ChainExamples.{ContextIsReadUnderTheOldRequest, TwoSteps};
 ghost use Rattle.cedar_model.specs.ChainExamples.{TwoStepsAreCompleted, EndsAtTheLimit, RefusalEndsAChain};
+ghost use Rattle.cedar_model.specs.StoredChains.{StepsRead, DeepStepIsCompleted, StepsDiffer};
+ghost use Rattle.cedar_model.specs.StoredChains.{DifferingStepsAreCompleted, DeepStepFinishes};
 
 /// Examples: what responses say.
 pub fn responses_say()
@@ -53,4 +55,14 @@ pub fn chains_answer()
     ensures erring_forbid { ErringForbid }
     ensures strict { StrictChain }
     ensures strict_completed { StrictChainIsCompleted }
+{}
+
+/// Examples: a step that reads a stored residual, with each resolution, and a chain of a shallow and a deep step, each
+/// with a world that completes it; and a deep step that leaves no residual, as the law of progress says.
+pub fn steps_resolve()
+    ensures read { StepsRead }
+    ensures completed { DeepStepIsCompleted }
+    ensures differ { StepsDiffer }
+    ensures differing_completed { DifferingStepsAreCompleted }
+    ensures finishes { DeepStepFinishes }
 {}

@@ -2,7 +2,8 @@
 ghost use Rattle.cedar_model.specs.ResolutionLaws.{ResolutionsAgree};
 ghost use Rattle.cedar_model.specs.Resolutions.{AttributeResolves, AttributeStays, AttributeErrs, TagResolves};
 ghost use Rattle.cedar_model.specs.Resolutions.{PresenceReadsNone, PathWalksOn, PathKeeps, PathErrs, LastIsPresence};
-ghost use Rattle.cedar_model.specs.Resolutions.{MissingStays, StoredNeedThree, ShallowNeedsTwo};
+ghost use Rattle.cedar_model.specs.Resolutions.{MissingStays, StoredNeedThree, ShallowNeedsTwo, UnknownResolves};
+ghost use Rattle.cedar_model.specs.Resolutions.{WalkMeetsLong, WalkMeetsEntity, LastNeedsTwo};
 ghost use Rattle.cedar_model.specs.Resolutions.{SelfReadingNeverAnswers, StoredResidualsGrow, UnsoundContextsGrow};
 
 use crate::levels::AnyFunctions;
@@ -19,6 +20,7 @@ pub fn attributes_resolve()
     ensures attribute_stays { AttributeStays }
     ensures attribute_errs { AttributeErrs }
     ensures tag { TagResolves }
+    ensures unknown { UnknownResolves }
     ensures presence { PresenceReadsNone }
     ensures missing { MissingStays }
 {}
@@ -30,6 +32,8 @@ pub fn paths_resolve()
     ensures keeps { PathKeeps }
     ensures errs { PathErrs }
     ensures last { LastIsPresence }
+    ensures long { WalkMeetsLong }
+    ensures entity { WalkMeetsEntity }
 {}
 
 /// Examples: the levels that stored residuals need, why they are restricted, why the depth bound has twice the bound
@@ -37,6 +41,7 @@ pub fn paths_resolve()
 pub fn resolutions_need_levels()
     ensures three { StoredNeedThree }
     ensures two { ShallowNeedsTwo }
+    ensures last_two { LastNeedsTwo }
     ensures looping { SelfReadingNeverAnswers }
     ensures grown { StoredResidualsGrow }
     ensures unsound { UnsoundContextsGrow }

@@ -1,4 +1,5 @@
 pub mod Answers
 pub mod Operands
 pub mod Paths
+pub mod StoredResiduals
 pub mod Orders

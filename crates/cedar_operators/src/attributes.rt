@@ -51,7 +51,7 @@ pub(crate) enum PathStep<'v> {
 
 // The record or the entity that the value is.
 #[tactic(auto, unfolding(cedar_model::specs::Operators::container_of))]
-fn container_in(value: &Value) -> Container<'_>
+pub(crate) fn container_in(value: &Value) -> Container<'_>
     ensures { container_view result ≡ container_of value.now.what }
 {
     match value.value_kind() {

@@ -12,4 +12,5 @@ mod order;
 pub mod residuals;
 pub mod sets;
 pub mod store;
+pub mod stored_residuals;
 pub mod typed;

@@ -140,7 +140,7 @@ pub(crate) fn get_as_string(alloc: Global, value: &Value) -> Result<&RcStr, Eval
 
 #[tactic(auto, unfolding(cedar_model::specs::Outcomes::text_of))]
 #[inline(always)]
-fn text_in(value: &Value) -> Option<&RcStr>
+pub(crate) fn text_in(value: &Value) -> Option<&RcStr>
     ensures { option_map rc_str_bytes (option_copied result) ≡ text_of (abstract_value value.now.what) }
 {
     match value.value_kind() {

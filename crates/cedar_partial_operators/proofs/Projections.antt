@@ -1,8 +1,9 @@
 -- The attribute of a part by the rules: what a projection comes to, they allow.
-use Rattle.std.proofs.Common.{◌≡◌, Bool, true, false, Option, None, Some}
+use Rattle.std.proofs.Common.{◌≡◌, Bool, true, false, Option, None, Some, refl}
 use Rattle.cedar_model.specs.Terms.{Text, Term, Fields}
 use Rattle.cedar_model.specs.Failures.{PartialValue, value, residual, Answer, answers}
-use Rattle.cedar_model.specs.Settings.{Resolution, shallow, deep, Setting}
+use Rattle.cedar_model.specs.Values.{Represented}
+use Rattle.cedar_model.specs.Settings.{Setting}
 use Rattle.cedar_model.specs.Shapes.{is_projectable}
 use Rattle.cedar_model.specs.Operators.{term_at, attribute_answer, attribute_residual}
 use Rattle.cedar_model.specs.Rules as Rules
@@ -29,14 +30,11 @@ module _ (May : MayAnswer) where
   at_fields None r k a is = is
   at_fields (Some fs) r k a is = at_key (term_at k fs) fs r k a is
 
-  resolves : (s : Resolution) (o : Option Term) (b a : Answer) → s ≡ shallow → a ≡ b → Resolves May s o b a
-  resolves shallow o b a is same = same
-  resolves deep o b a is same = absurd (cc)
-
-  -- of a part, where stored residuals are answered as they are stored
-  pub at_attribute : (s : Setting) (p : PartialValue) (k : Text) (a : Answer) → s.resolution ≡ shallow
+  -- of a part, where what a value has is answered as it is stored
+  pub at_attribute : (s : Setting) (p : PartialValue) (k : Text) (a : Answer)
+      → ((v : Represented) → p ≡ value v → a ≡ attribute_answer s v k
+      → Resolves May s.resolution (attribute_residual s.store v k) (attribute_answer s v k) a)
       → Projects May (projection s p k) a → AtAttribute May s (answers p) k a
   unfolding projection
-  at_attribute s (value v) k a shallowly is = resolves s.resolution (attribute_residual s.store v k)
-      (attribute_answer s v k) a shallowly is
-  at_attribute s (residual r) k a shallowly is = at_fields (fields_of_record r) r k a is
+  at_attribute s (value v) k a stored is = stored v refl is
+  at_attribute s (residual r) k a stored is = at_fields (fields_of_record r) r k a is

@@ -12,7 +12,7 @@ ghost use Rattle.cedar_responses.specs.Responses.{error_view, errors_view};
 ghost use Rattle.cedar_reauthorization.specs.Concretizations.{entity_locs, concrete_locs, IsResidualNoHigher};
 ghost use Rattle.cedar_reauthorization.specs.Errors.{step_refusal, IsUnwrapped};
 ghost use Rattle.cedar_responses.specs.Rows as rows;
-ghost use Rattle.cedar_authorizer.specs.Configured.{configuration, limit_of, mode_of};
+ghost use Rattle.cedar_authorizer.specs.Configured.{configuration, limit_of, mode_of, resolution_of};
 ghost use Rattle.cedar_authorizer.specs.Headline.{steps_view, IsTakenFurther};
 ghost use Rattle.cedar_authorizer.specs.Responding.{deciding};
 ghost use Rattle.cedar_authorizer.specs.Running.{request_of, IsRun, IsNotedBy};
@@ -236,7 +236,9 @@ fn next_sheet(
         authorizer.extensions,
         authorizer.limit,
     )?;
-    let evaluator = evaluator.with_unknowns_mapper(map);
+    let evaluator = evaluator
+        .with_unknowns_mapper(map)
+        .with_resolution(authorizer.resolution);
     let sheet = run_all(alloc, authorizer.error_handling, &evaluator, policies);
     drop(evaluator);
     sheet
@@ -251,7 +253,7 @@ pub(super) fn take_steps(
 ) -> Result<PartialResponse, ReauthorizationError>
     ensures memory { IfErr result IsUnwrapped }
     ensures taken { IfSome (step_answer result)
-        (IsTakenFurther (configuration authorizer.now) (steps_view steps.now) first) }
+        (IsTakenFurther (configuration authorizer.now) (steps_view (resolution_of authorizer.now) steps.now) first) }
 {
     let mut response = first;
     'steps: for step in steps {

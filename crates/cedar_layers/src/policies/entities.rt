@@ -201,14 +201,15 @@ impl Drop for Entities {
 }
 
 impl Entities {
-    ghost use Rattle.std.specs.Prelude.{false, OnOk, option_map};
+    ghost use Rattle.std.specs.Prelude.{false, OnOk, option_map, option_copied};
     ghost use Rattle.std.specs.Rc.{rc_str_bytes};
     ghost use Rattle.cedar_model.specs.Terms.{unknown};
     ghost use Rattle.cedar_model.specs.Settings.{look_up, missing_entity};
     ghost use Rattle.cedar_names.specs.Names.{uid_name};
     ghost use Rattle.cedar_names.specs.Leaves.{type_view};
     ghost use Rattle.cedar_layers.specs.Stores.{no_entities, store_of, standing, standing_with, last_of_each_name};
-    ghost use Rattle.cedar_layers.specs.Stores.{store_view, stored_entity, found_view, answered_entity, AsksFor};
+    ghost use Rattle.cedar_layers.specs.Stores.{store_view, entity_view, stored_entity, found_view, answered_entity};
+    ghost use Rattle.cedar_layers.specs.Stores.{AsksFor};
 
     /// The concrete store without entities. It takes no memory.
     pub fn new(alloc: Global) -> Entities
@@ -265,6 +266,14 @@ impl Entities {
                 }
             }
         }
+    }
+
+    /// The entity of this uid, if the store has it.
+    pub fn get(&self, uid: &EntityUID) -> Option<&Entity>
+        ensures view { option_map entity_view (option_copied result) ≡ (store_view self.now).entity (uid_name uid.now) }
+        ensures whole { option_copied result ≡ stored_entity self.now (uid_name uid.now) }
+    {
+        self.entities.get(uid)
     }
 
     // The unknown that stands for the entity of this uid.

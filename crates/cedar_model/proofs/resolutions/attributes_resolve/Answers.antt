@@ -18,3 +18,6 @@ returns-clause-presence g = Resolved.presence_reads_none
 
 pub returns-clause-missing : goal.returns-clause-missing
 returns-clause-missing g = Resolved.missing_stays
+
+pub returns-clause-unknown : goal.returns-clause-unknown
+returns-clause-unknown g = Resolved.unknown_resolves

@@ -12,3 +12,9 @@ returns-clause-errs g = Resolved.path_errs
 
 pub returns-clause-last : goal.returns-clause-last
 returns-clause-last g = Resolved.last_is_presence
+
+pub returns-clause-long : goal.returns-clause-long
+returns-clause-long g = Resolved.walk_meets_long
+
+pub returns-clause-entity : goal.returns-clause-entity
+returns-clause-entity g = Resolved.walk_meets_entity

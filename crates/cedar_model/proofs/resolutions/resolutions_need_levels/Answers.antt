@@ -15,3 +15,6 @@ returns-clause-grown g = Resolved.residuals_grow
 
 pub returns-clause-unsound : goal.returns-clause-unsound
 returns-clause-unsound g = Resolved.unsound_grow
+
+pub returns-clause-last_two : goal.returns-clause-last_two
+returns-clause-last_two g = Resolved.last_needs_two

@@ -53,7 +53,7 @@ returns-clause-deep_enough g c =
     let levels = limit_of c.args.self.now in
     let s = asked c.args.self.now c.args.request c.args.entities.now in
     let ps = deciding c.args.policies.now in
-    if_in_mode mode c.response_of.result _ (λ r m k. run_low mode s calls levels ps r (calls_meet_no_limit (extensions_of c.args.self.now)) refl (asked_sound c.args.self.now c.args.request c.args.entities.now) (is_run mode s calls levels c.args.policies.now c.in_ok-sheet.sheet r c.in_ok-sheet.ensures.run m k)) c.response_of.ensures.mode c.response_of.ensures.kept
+    if_in_mode mode c.response_of.result _ (λ r m k. run_low mode s calls levels ps r (calls_meet_no_limit (extensions_of c.args.self.now)) (asked_sound c.args.self.now c.args.request c.args.entities.now) (is_run mode s calls levels c.args.policies.now c.in_ok-sheet.sheet r c.in_ok-sheet.ensures.run m k)) c.response_of.ensures.mode c.response_of.ensures.kept
 
 pub returns-clause-places : goal.returns-clause-places
 returns-clause-places g c =

@@ -1,4 +1,4 @@
-use Rattle.std.proofs.Common.{refl, subst}
+use Rattle.std.proofs.Common.{subst}
 use Rattle.cedar_model.specs.Rules.{Meets}
 use Rattle.cedar_expressions.specs.View.{view}
 use Rattle.cedar_values.specs.Answers.{partial_answer}
@@ -18,7 +18,7 @@ returns-in-Ok-clause-promised g c r speaks sound =
     let stored = c.args.self.now.given.now.extensions.now in
     let answer = partial_answer c.evaluated.result in
     subst (λ t. Meets (IsPromised s (calls_in c.args.self.now) c.args.limit t) answer) c.in-Ok.ensures.view
-    (meets_promised s (calls_in c.args.self.now) c.args.limit (view c.in-Ok.expr.value) (calls_functional stored) (calls_meet_no_limit stored) sound refl answer (c.evaluated.ensures.answer r speaks))
+    (meets_promised s (calls_in c.args.self.now) c.args.limit (view c.in-Ok.expr.value) (calls_functional stored) (calls_meet_no_limit stored) sound answer (c.evaluated.ensures.answer r speaks))
 
 pub returns-in-Ok-clause-elements : goal.returns-in-Ok-clause-elements
 returns-in-Ok-clause-elements g c n =

@@ -11,7 +11,7 @@ use Rattle.cedar_evaluation.proofs.tellers.TellerAbove.binary.Goals as goal
 pub returns-in-Some-tell : goal.returns-in-Some-tell
 returns-in-Some-tell g c r k speaks low =
     let s = setting_of r c.args.within.now in
-    operands_told s (calls_in c.args.within.now) k (binary_view c.args.op) (view c.args.left.now) (view c.args.right.now) c.in-Some.left.what c.in-Some-tell.right.what c.value_in.result refl
+    operands_told s (calls_in c.args.within.now) k (binary_view c.args.op) (view c.args.left.now) (view c.args.right.now) c.in-Some.left.what c.in-Some-tell.right.what c.value_in.result
     (c.in-Some.ensures r k speaks low) (c.in-Some-tell.ensures r k speaks low)
     (subst (λ b. IfSome c.value_in.result (λ v. answers_value v.what ≡ b)) (values_alike s (binary_view c.args.op) c.in-Some.left.what c.in-Some-tell.right.what)
     (value_found c.binary_app.result c.value_in.result _ c.value_in.ensures (c.binary_app.ensures s)))

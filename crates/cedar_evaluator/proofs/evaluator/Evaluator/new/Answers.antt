@@ -2,6 +2,7 @@ use Rattle.std.proofs.Common.{ap, None}
 use Rattle.cedar_layers.specs.Stores.{store_view}
 use Rattle.cedar_extensions.specs.Extensions.{extensions_view}
 use Rattle.cedar_requests.specs.Requests.{request_view}
+use Rattle.cedar_model.specs.Settings.{shallow}
 use Rattle.cedar_evaluator.specs.Evaluations.{setting_for}
 use Rattle.cedar_evaluator.proofs.Sound.{request_is_sound, context_is_restricted}
 use Rattle.cedar_evaluator.proofs.Requests.{four_of_request, four_that_request}
@@ -17,4 +18,4 @@ invariant_of-result g c =
 
 pub returns-clause-setting : goal.returns-clause-setting
 returns-clause-setting g c slots =
-    ap (λ r. setting_for r (store_view c.args.entities.now) (extensions_view c.args.extensions.now) (λ n. None) slots) (four_that_request (request_view c.args.request) _ _ _ _ c.in_ok-principal.ensures.principal c.in_ok-principal.ensures.action c.in_ok-principal.ensures.resource c.in_ok-principal.ensures.context)
+    ap (λ r. setting_for r (store_view c.args.entities.now) (extensions_view c.args.extensions.now) (λ n. None) shallow slots) (four_that_request (request_view c.args.request) _ _ _ _ c.in_ok-principal.ensures.principal c.in_ok-principal.ensures.action c.in_ok-principal.ensures.resource c.in_ok-principal.ensures.context)
