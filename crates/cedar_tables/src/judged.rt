@@ -5,7 +5,9 @@ use crate::notation::answer::Answer;
 use crate::notation::policies::{policies, policy, policy_set};
 use crate::notation::settings::Setting;
 use crate::notation::shown::{LIMIT, Place, is_equal};
-use cedar_authorizer::authorizer::{AuthorizationError, Authorizer, ErrorHandling, Response};
+use cedar_authorizer::authorizer::{
+    AuthorizationError, Authorizer, ErrorHandling, Resolution, Response,
+};
 use cedar_built_in_rows::lines::{decision_text, reasons_text};
 use cedar_evaluator::evaluator::{EvaluationError, Evaluator};
 use cedar_layers::expressions::{Expr, ExprKind};
@@ -54,9 +56,9 @@ fn response(
     limit: usize,
     policies: &PolicySet,
 ) -> Result<Response, AllocError> {
-    let authorizer = Authorizer::new(setting.extensions, limit).with_error_handling(
-        setting.error_handling,
-    );
+    let authorizer = Authorizer::new(setting.extensions, limit)
+        .with_error_handling(setting.error_handling)
+        .with_resolution(setting.resolution);
     let request = setting.request.clone()?;
     authorizer.is_authorized(alloc, request, policies, &setting.entities)
 }
@@ -101,6 +103,62 @@ fn mode_of(setting: &Setting<'_, '_>) -> ErrorHandling {
         setting.error_handling,
     );
     authorizer.error_handling()
+}
+
+/// What reading a stored residual answers by default, or by a new authorizer and a new evaluator, or by those of the setting.
+pub fn ask_resolution(answer: &mut Answer, setting: &Setting<'_, '_>, words: &str) {
+    match words {
+        "default" => answer.show_debug(&Resolution::default()),
+        "new" => put_resolutions(answer, setting, resolution_of_new(setting), None),
+        "setting" => {
+            let chosen = Some(setting.resolution);
+            put_resolutions(answer, setting, resolution_of(setting), chosen);
+        }
+        _ => answer.refuse("no such authorizer"),
+    }
+}
+
+// The resolution of a new authorizer.
+fn resolution_of_new(setting: &Setting<'_, '_>) -> Resolution {
+    let authorizer = Authorizer::new(setting.extensions, LIMIT);
+    authorizer.resolution()
+}
+
+// That of one which has the setting's.
+fn resolution_of(setting: &Setting<'_, '_>) -> Resolution {
+    let authorizer = Authorizer::new(setting.extensions, LIMIT).with_resolution(setting.resolution);
+    authorizer.resolution()
+}
+
+// That of an authorizer, and that of an evaluator that is new or has the chosen one.
+fn put_resolutions(
+    answer: &mut Answer,
+    setting: &Setting<'_, '_>,
+    of_authorizer: Resolution,
+    chosen: Option<Resolution>,
+) {
+    answer.show_debug(&of_authorizer);
+    answer.put(", of an evaluator ");
+    match resolution_of_evaluator(answer.alloc, setting, chosen) {
+        Ok(resolution) => answer.show_debug(&resolution),
+        Err(_) => answer.lack_memory(),
+    }
+}
+
+fn resolution_of_evaluator(
+    alloc: Global,
+    setting: &Setting<'_, '_>,
+    chosen: Option<Resolution>,
+) -> Result<Resolution, AllocError> {
+    let request = setting.request.clone()?;
+    let evaluator = Evaluator::new(alloc, request, &setting.entities, setting.extensions, LIMIT)?;
+    let evaluator = match chosen {
+        Some(resolution) => evaluator.with_resolution(resolution),
+        None => evaluator,
+    };
+    let resolution = evaluator.resolution();
+    drop(evaluator);
+    Ok(resolution)
 }
 
 // Whether a copy of the response is equal to it.
@@ -212,9 +270,9 @@ impl Asked for Wholly<'_> {
     fn outcome(&self, alloc: Global, limit: usize) -> Result<bool, EvaluationError> {
         let request = self.setting.request.clone()?;
         let (entities, extensions) = (&self.setting.entities, self.setting.extensions);
-        let evaluator = Evaluator::new(
-            alloc, request, entities, extensions, limit,
-        )?.with_unknowns_mapper(&self.setting.map);
+        let evaluator = Evaluator::new(alloc, request, entities, extensions, limit)?
+            .with_unknowns_mapper(&self.setting.map)
+            .with_resolution(self.setting.resolution);
         let outcome = evaluator.evaluate(alloc, self.policy);
         drop(evaluator);
         outcome
@@ -250,9 +308,9 @@ impl Asked for Partly<'_> {
     fn outcome(&self, alloc: Global, limit: usize) -> Result<Either<bool, Expr>, EvaluationError> {
         let request = self.setting.request.clone()?;
         let (entities, extensions) = (&self.setting.entities, self.setting.extensions);
-        let evaluator = Evaluator::new(
-            alloc, request, entities, extensions, limit,
-        )?.with_unknowns_mapper(&self.setting.map);
+        let evaluator = Evaluator::new(alloc, request, entities, extensions, limit)?
+            .with_unknowns_mapper(&self.setting.map)
+            .with_resolution(self.setting.resolution);
         let outcome = evaluator.partial_evaluate(alloc, self.policy);
         drop(evaluator);
         outcome

@@ -5,7 +5,8 @@
 //!   is equal), `decide-extensions LIMIT` (the extensions whose functions failed), `evaluate LIMIT`, `partly-evaluate LIMIT`,
 //!   `set`, `set-debug`, `policy` and `condition`;
 //! - of `default`, `new` and `setting`: `mode` (how errors are handled by default, by a new authorizer, and by that of the
-//!   setting);
+//!   setting), and `resolution` (what reading a stored residual answers by default, by a new authorizer and a new evaluator, and by
+//!   those of the setting);
 //! - of the ids of policies and the steps behind them: `chain LIMIT` (what is known after the last step, which is the same by
 //!   `authorize_in_steps` and by one `reauthorize` a step), `in-steps LIMIT` and `one-by-one LIMIT` (by the first, and by the
 //!   second alone), and, in the place of a limit, `get ID`, `request`, `readers` and `mode` (what these answer of it, the last of a
@@ -39,6 +40,7 @@ pub fn ask(
             judged::ask_condition(answer, facts, setting, kind, argument, words)
         }
         "mode" => judged::ask_mode(answer, setting, words),
+        "resolution" => judged::ask_resolution(answer, setting, words),
         "set" | "set-debug" => judged::ask_set(answer, facts, kind, words),
         "policy" | "condition" => judged::ask_policy(answer, facts, kind, words),
         "context-with" => stepped::ask_context(answer, setting, argument, words),

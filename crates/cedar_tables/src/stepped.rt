@@ -214,9 +214,9 @@ fn after(
     policies: &PolicySet,
     steps: &[(&HashMap<RcStr, Value>, &Entities)],
 ) -> Result<PartialResponse, ReauthorizationError> {
-    let authorizer = Authorizer::new(setting.extensions, limit).with_error_handling(
-        setting.error_handling,
-    );
+    let authorizer = Authorizer::new(setting.extensions, limit)
+        .with_error_handling(setting.error_handling)
+        .with_resolution(setting.resolution);
     let request = setting.request.clone()?;
     authorizer.authorize_in_steps(alloc, request, policies, &setting.entities, steps)
 }
@@ -239,9 +239,9 @@ fn core(
     limit: usize,
     policies: &PolicySet,
 ) -> Result<PartialResponse, AllocError> {
-    let authorizer = Authorizer::new(setting.extensions, limit).with_error_handling(
-        setting.error_handling,
-    );
+    let authorizer = Authorizer::new(setting.extensions, limit)
+        .with_error_handling(setting.error_handling)
+        .with_resolution(setting.resolution);
     let request = setting.request.clone()?;
     authorizer.is_authorized_core(alloc, request, policies, &setting.entities)
 }
@@ -282,9 +282,9 @@ fn taken(
     response: PartialResponse,
     step: &Step,
 ) -> Result<PartialResponse, ReauthorizationError> {
-    let authorizer = Authorizer::new(setting.extensions, limit).with_error_handling(
-        step.error_handling,
-    );
+    let authorizer = Authorizer::new(setting.extensions, limit)
+        .with_error_handling(step.error_handling)
+        .with_resolution(step.resolution);
     let next = response.reauthorize(alloc, &step.map, &authorizer, &step.entities);
     drop(response);
     next

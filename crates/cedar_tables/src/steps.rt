@@ -2,17 +2,17 @@
 //!
 //! - `x L:1, y B:true` is a step with these values for unknowns, and `none` one with no value. Steps have ` / ` between them.
 //! - `then x L:1` is a step over the second store, of which each fact stands behind `then` in the setting; by an authorizer that
-//!   handles errors as `then errors` says, or as the setting does.
+//!   handles errors as `then errors` says, or as the setting does, and resolves as `then resolution` says, or as the setting does.
 //! - `permit a true, permit b=note error, forbid c U:x` is what a response is made of: `a` is satisfied, `b` erred and has the
 //!   annotation `note`, and `c` has these words left.
 use crate::notation::errors::error;
 use crate::notation::expressions::expression;
 use crate::notation::leaves::text;
 use crate::notation::policies::{effect, policy_id};
-use crate::notation::settings::{error_handling, put_value, stored};
+use crate::notation::settings::{error_handling, put_value, resolution, stored};
 use crate::notation::unanswered::{Noted, Unanswered};
 use crate::notation::{Parts, fact, first_fact, headed};
-use cedar_authorizer::authorizer::ErrorHandling;
+use cedar_authorizer::authorizer::{ErrorHandling, Resolution};
 use cedar_layers::expressions::{Expr, Literal, Value};
 use cedar_layers::policies::{Annotations, Effect, Entities, Policy};
 use cedar_responses::shared::{Outcome, Sheet};
@@ -26,6 +26,7 @@ pub struct Step {
     pub map: HashMap<RcStr, Value>,
     pub entities: Entities,
     pub error_handling: ErrorHandling,
+    pub resolution: Resolution,
 }
 
 /// The steps that are written so, in the setting of these facts.
@@ -54,17 +55,19 @@ fn put_step_over(alloc: Global, facts: &str, values: &str, steps: &mut Parts<Ste
     let map = read_mapping(alloc, values, &mut noted);
     let entities = stored(alloc, facts, &mut noted);
     let error_handling = error_handling(facts, &mut noted);
+    let resolution = resolution(facts, &mut noted);
     steps.push(Step {
         map,
         entities,
         error_handling,
+        resolution,
     });
     if let Some(why) = noted.why() {
         steps.fail(why);
     }
 }
 
-// The facts of the second store, and behind them how errors are handled in the setting.
+// The facts of the second store, and behind them how errors are handled in the setting, and how it resolves.
 fn second_facts(alloc: Global, facts: &str) -> Result<String, AllocError> {
     let mut second = String::new(alloc);
     for line in facts.lines() {
@@ -73,11 +76,20 @@ fn second_facts(alloc: Global, facts: &str) -> Result<String, AllocError> {
             second.push_str("\n")?;
         }
     }
-    if let Some(handling) = first_fact(facts, "errors") {
-        second.push_str("errors ")?;
-        second.push_str(handling)?;
-    }
+    put_fact(&mut second, facts, "errors")?;
+    put_fact(&mut second, facts, "resolution")?;
     Ok(second)
+}
+
+// The first fact of this keyword, if there is one, behind the others.
+fn put_fact(second: &mut String, facts: &str, keyword: &str) -> Result<(), AllocError> {
+    if let Some(rest) = first_fact(facts, keyword) {
+        second.push_str(keyword)?;
+        second.push_str(" ")?;
+        second.push_str(rest)?;
+        second.push_str("\n")?;
+    }
+    Ok(())
 }
 
 /// The values for unknowns that a step has.

@@ -88,13 +88,9 @@ fn outcome(
     expr: &Expr,
 ) -> Result<Value, EvaluationError> {
     let request = setting.request.clone()?;
-    let evaluator = Evaluator::new(
-        alloc,
-        request,
-        &setting.entities,
-        setting.extensions,
-        limit,
-    )?.with_unknowns_mapper(&setting.map);
+    let evaluator = Evaluator::new(alloc, request, &setting.entities, setting.extensions, limit)?
+        .with_unknowns_mapper(&setting.map)
+        .with_resolution(setting.resolution);
     let outcome = value_by(alloc, &evaluator, setting, expr);
     drop(evaluator);
     outcome
@@ -242,13 +238,9 @@ fn partial_outcome(
     expr: &Expr,
 ) -> Result<PartialValue, EvaluationError> {
     let request = setting.request.clone()?;
-    let evaluator = Evaluator::new(
-        alloc,
-        request,
-        &setting.entities,
-        setting.extensions,
-        limit,
-    )?.with_unknowns_mapper(&setting.map);
+    let evaluator = Evaluator::new(alloc, request, &setting.entities, setting.extensions, limit)?
+        .with_unknowns_mapper(&setting.map)
+        .with_resolution(setting.resolution);
     let outcome = part_by(alloc, &evaluator, setting, expr);
     drop(evaluator);
     outcome

@@ -13,6 +13,8 @@
 //! - `map x L:1` is the value of an unknown.
 //! - `errors skip` and `errors forbid` say how errors are handled: a policy that errs is skipped, as where neither stands; or a
 //!   forbid that errs forbids.
+//! - `resolution shallow` and `resolution deep` say what reading a stored residual answers: what is stored, as where neither stands;
+//!   or what that is evaluated to.
 //! - `functions` and `overloads` say which functions are stored, and for which types `<` is overloaded; `policies` reads the facts
 //!   on policies.
 ghost use Rattle.std.specs.Prelude.{◌≡◌, true};
@@ -24,7 +26,7 @@ use crate::notation::leaves::{entity_type, slot, text, uid};
 use crate::notation::unanswered::{Noted, Unanswered};
 use crate::notation::values::value;
 use crate::notation::{add, both, fact, first_fact, headed, or_memory, put};
-use cedar_authorizer::authorizer::ErrorHandling;
+use cedar_authorizer::authorizer::{ErrorHandling, Resolution};
 use cedar_extensions::Extensions;
 use cedar_layers::expressions::{EntityUID, Expr, PartialValue, ResidualExpr, SlotEnv, Value};
 use cedar_layers::policies::{Entities, Entity};
@@ -87,6 +89,7 @@ pub struct Setting<'e, 'f> {
     pub entities: Entities,
     pub map: HashMap<RcStr, Value>,
     pub error_handling: ErrorHandling,
+    pub resolution: Resolution,
     pub extensions: &'e Extensions<'f>,
 }
 
@@ -103,6 +106,7 @@ pub fn setting_of<'e, 'f>(
         entities: stored(alloc, facts, noted),
         map: mapped_values(alloc, facts, noted),
         error_handling: error_handling(facts, noted),
+        resolution: resolution(facts, noted),
         extensions,
     }
 }
@@ -226,6 +230,19 @@ pub fn error_handling(facts: &str, noted: &mut Noted) -> ErrorHandling {
             ErrorHandling::default()
         }
         None => ErrorHandling::default(),
+    }
+}
+
+/// What reading a stored residual answers by these facts.
+pub fn resolution(facts: &str, noted: &mut Noted) -> Resolution {
+    match first_fact(facts, "resolution") {
+        Some("shallow") => Resolution::Shallow,
+        Some("deep") => Resolution::Deep,
+        Some(_) => {
+            noted.refuse("no such resolution");
+            Resolution::default()
+        }
+        None => Resolution::default(),
     }
 }
 
