@@ -1,12 +1,9 @@
 -- The stored residuals that look-ups read.
-use Rattle.std.specs.Prelude.{◌≡◌, Bool, true, false, List, [], ◌∷◌, length, Option, Some, None, option_map, option_copied}
-use denote.Ref.{Bor}
-use Rattle.std.proofs.Common.{refl, sym, ap, ◌∙◌, subst}
-use Rattle.std.specs.declared.alloc.Global.{Global}
-use Rattle.std.specs.declared.rc.RcStr.{RcStr}
+use Rattle.std.specs.Prelude.{◌≡◌, Bool, true, false, List, [], ◌∷◌, Some, None}
+use Rattle.std.proofs.Common.{refl, ap, ◌∙◌}
 use Rattle.cedar_model.specs.Terms.{Text, EntityName, Term}
 use Rattle.cedar_model.specs.Values.{Represented}
-use Rattle.cedar_model.specs.Settings.{StoredEntity, Store, Found, found_in, look_up, part_at}
+use Rattle.cedar_model.specs.Settings.{StoredEntity, Store, found_in, look_up, part_at}
 use Rattle.cedar_model.specs.Operators.{container_of, residual_in, attribute_residual, attribute_residual_found}
 use Rattle.cedar_model.specs.Operators.{tag_residual_found}
 use Rattle.cedar_operators.specs.StoredResiduals.{value_in, next_in, next_found, read_or, path_residual}

@@ -12,7 +12,8 @@ ghost use Rattle.cedar_names.specs.Leaves.{binary_view, texts_view};
 ghost use Rattle.cedar_data.specs.Sound.{Placed};
 ghost use Rattle.cedar_layers.specs.Parts.{found_part};
 ghost use Rattle.cedar_layers.specs.Stores.{store_view};
-ghost use Rattle.cedar_operators.specs.StoredResiduals.{residual_of, path_residual_of, path_residual, next_in, next_found};
+ghost use Rattle.cedar_operators.specs.StoredResiduals.{residual_of, path_residual_of, path_residual};
+ghost use Rattle.cedar_operators.specs.StoredResiduals.{next_in, next_found, value_in};
 
 use crate::attributes::{Container, container_in};
 use crate::typed::{entity_in, text_in};
