@@ -10,7 +10,7 @@ use Rattle.cedar_layers.proofs.Sound.{store_is_sound, mapping_is_sound}
 use Rattle.cedar_requests.specs.declared.request.Request.{Request}
 use Rattle.cedar_requests.specs.Requests.{request_view}
 use Rattle.cedar_requests.specs.Substitutions.{values_for}
-use Rattle.cedar_evaluator.proofs.Sound.{request_is_sound}
+use Rattle.cedar_requests.proofs.Soundness.{request_is_sound}
 use Rattle.cedar_authorizer.specs.declared.authorizer.Authorizer.{Authorizer}
 use Rattle.cedar_authorizer.specs.Configured.{configuration, extensions_of, asked}
 use Rattle.cedar_authorizer.specs.Steps.{ValuesByName, step_by, under}

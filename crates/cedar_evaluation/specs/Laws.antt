@@ -186,6 +186,16 @@ walked_goes_on s calls k l path p t n ns (Wait f c) some (q, task, first, rest, 
     fewer_texts : (a b m n : ℕ) → a ≡ m → n ≡ b → m < n → suc a < suc b
     fewer_texts a b m n is same fewer = omega (arith, is, same, fewer)
 
+-- where memory may be wanting
+pub or_want_walks : (s : Setting) (calls : StoredCalls) (k : ℕ) (l : Option Loc) (path : Rc (FirstRest (RcStr Global)) Global)
+    (p : model.PartialValue) (t : Term) (n : Text) (ns : List Text) (m : Result Next AllocError) (x : Next)
+    → resolved_in s.resolution (part_path s.store p (rc_str_bytes path.value.first) (texts_view path.value.rest.items)) ≡ Some (t, n, ns)
+    → IfOk m (IsWalkedOn l t n ns) → IsOrWant m x → GoesOn s calls k l (pendings.ExtHasAttr path) (answers p) x
+or_want_walks s calls k l path p t n ns (Ok m) x some walks is =
+    walked_goes_on s calls k l path p t n ns x some (subst (IsWalkedOn l t n ns) (sym is) walks)
+or_want_walks s calls k l path p t n ns (Err e) x some walks is =
+    subst (GoesOn s calls k l (pendings.ExtHasAttr path) (answers p)) (sym is) (λ ok. absurd (ok refl), tt)
+
 resolved : (May : MayAnswer) (q : Resolution) (a : Answer) → Resolves May q None a a
 resolved May shallow a = refl
 resolved May deep a = refl

@@ -6,13 +6,13 @@ use Rattle.std.specs.declared.alloc.AllocError.{AllocError}
 use Rattle.std.specs.declared.alloc.Global.{Global}
 use Rattle.std.specs.declared.rc.RcStr.{RcStr}
 use Rattle.std.specs.declared.vec.Vec.{Vec}
-use Rattle.cedar_model.specs.Terms.{Text, Term, Terms, get_attribute, no_terms, one_term, BinaryOperator, binary, set_of, record_of, bool_literal, literal, if_then_else, both, either}
+use Rattle.cedar_model.specs.Terms.{Text, Term, Terms, get_attribute, extended_has, no_terms, one_term, BinaryOperator, binary, set_of, record_of, bool_literal, literal, if_then_else, both, either}
 use Rattle.cedar_model.specs.Values.{Represented, set_represented, record_represented, plain_represented}
 use Rattle.cedar_model.specs.Sets.{canonical_set, represented_fields_of}
 use Rattle.cedar_model.specs.Failures.{Answer, value, answers_value, answers_bool}
-use Rattle.cedar_model.specs.Operators.{binary_answer}
+use Rattle.cedar_model.specs.Operators.{binary_answer, path_answer}
 use Rattle.cedar_model.specs.Settings.{RequestPart, Setting}
-use Rattle.cedar_model.specs.Rules.{StoredCalls, Parts, Runs, beside_residual, binary_beside, binary_of_parts, AfterAndLeft, AfterOrLeft}
+use Rattle.cedar_model.specs.Rules.{StoredCalls, Parts, Runs, beside_residual, binary_beside, binary_of_parts, AfterAndLeft, AfterOrLeft, on_part}
 use Rattle.cedar_expressions.specs.declared.expr.Expr.{Expr}
 use Rattle.cedar_expressions.specs.View.{view, terms_view, fields_view}
 use Rattle.cedar_data.specs.Sound.{Placed, whats}
@@ -27,7 +27,8 @@ use Rattle.cedar_evaluation.specs.Booleans.{guard_true, guard_false, and_true, a
 use Rattle.cedar_evaluation.specs.Laws.{literal_joined}
 use Rattle.cedar_evaluation.specs.declared.evaluation.Evaluation.{Evaluation}
 use Rattle.cedar_evaluation.specs.Settings.{Speaks, setting_of, calls_in}
-use Rattle.cedar_evaluation.specs.Reads.{as_stored, none_resolved, operator_value}
+use Rattle.cedar_operators.specs.StoredResiduals.{path_residual}
+use Rattle.cedar_evaluation.specs.Reads.{as_stored, none_resolved, operator_value, path_as_stored, path_value}
 use Rattle.cedar_evaluation.specs.Told.{IsTold, IsBoolTold, IsValueOf}
 
 -- the expressions of pairs
@@ -150,6 +151,20 @@ operands_told s calls j op t u v w (Some a) left right found = (
     as_stored (Runs s calls j) s.resolution (beside_residual s.store op (value v) (answers_value w)) (binary_answer s op v w) (answers_value a.what)
         (none_resolved s.resolution (beside_residual s.store op (value v) (answers_value w)) (operator_value s op v w a.what found)) found,
   ),
+)
+
+-- an extended `has` on what is told
+pub path_told : (s : Setting) (calls : StoredCalls) (j : ℕ) (t : Term) (v : Represented) (k : Text) (ks : List Text) (o : Option Placed) →
+    Runs s calls j t (answers_value v) →
+    IfSome o (λ a. answers_value a.what ≡ on_part (λ w. path_answer s.store w k ks) (λ q. extended_has q k ks) (answers_value v)) →
+    IsTold s calls (suc j) (extended_has t k ks) o
+unfolding on_part
+path_told s calls j t v k ks None runs found = tt
+path_told s calls j t v k ks (Some a) runs found = (
+  answers_value v,
+  runs,
+  path_as_stored (Runs s calls j) s.store s.resolution (value v) k ks (answers_value a.what)
+      (none_resolved s.resolution (path_residual s.store v k ks) (path_value s.store ks v k a.what found)) found,
 )
 
 module _ {X : Type 0} {F : X → Type 0} {g : _} (e : Evaluation X F g) (h : ℕ) (all : Terms) where

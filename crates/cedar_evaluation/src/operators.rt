@@ -117,9 +117,9 @@ impl<'e, 'g, 'f> Evaluation<'e, 'g, 'f> {
         ensures { GoesOnAt self.now whole.now (pendings.BinaryRight op left) (answers (partial_view right)) result }
     {
         match self.operands_residual(op, &left, &right) {
-            Some(residual) => {
+            Some(tag) => {
                 drop((left, right));
-                read_again(alloc, whole, residual)
+                read_again(alloc, whole, tag)
             }
             None => self.applied_as_stored(alloc, whole, op, left, right),
         }

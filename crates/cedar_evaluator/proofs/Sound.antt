@@ -10,18 +10,11 @@ use Rattle.cedar_model.specs.Failures.{value, residual, Answer}
 use Rattle.cedar_model.specs.Settings.{ContextPart, absent_context, known_context, residual_context, context_value, RequestPart, variable_part}
 use Rattle.cedar_model.specs.Rules.{Runs, Meets}
 use Rattle.cedar_model.specs.Restricted.{IsSound, IsSoundContext, IsGivenSound}
-use Rattle.cedar_data.specs.Sound.{AreSoundAt-whats_at}
 use Rattle.cedar_data.specs.declared.partial_value.PartialValue.{PartialValue}
 use Rattle.cedar_data.specs.declared.partial_value.PartialValue.TheVariants as partials
 use Rattle.cedar_data.specs.Residuals.{partial_view, residual_term}
 use Rattle.cedar_layers.specs.Parts.{is_restricted_part}
 use Rattle.cedar_layers.proofs.Sound.{store_is_sound, mapping_is_sound}
-use Rattle.cedar_requests.specs.declared.context.Context.{Context}
-use Rattle.cedar_requests.specs.declared.context.pairs.ContextPairs.{ContextPairs}
-use Rattle.cedar_requests.specs.declared.context.pairs.ContextPairs.TheVariants as kinds
-use Rattle.cedar_requests.specs.declared.request.Request.{Request}
-use Rattle.cedar_requests.specs.Contexts.{pairs_view}
-use Rattle.cedar_requests.specs.Requests.{context_given, request_view}
 use Rattle.cedar_extensions.specs.StoredLaws.{calls_functional, calls_meet_no_limit, calls_sound}
 use Rattle.cedar_evaluation.specs.declared.evaluation.Mapper.{Mapper}
 use Rattle.cedar_evaluation.specs.declared.evaluation.Mapper.TheVariants as mappers
@@ -30,19 +23,6 @@ use Rattle.cedar_evaluation.specs.Promises.{IsPromised, promised}
 use Rattle.cedar_evaluator.specs.declared.evaluator.Evaluator.{Evaluator}
 use Rattle.cedar_evaluator.specs.Evaluations.{setting_of, calls_in}
 use Rattle.cedar_evaluator.specs.Variables.{context_of}
-
--- ---- the context of a request
-
-pairs_are_sound : (p : ContextPairs) → IsSoundContext (pairs_view p)
-pairs_are_sound (kinds.Values m) = AreSoundAt-whats_at m.entries
-pairs_are_sound (kinds.Residual r) = r.restricted
-
-given_is_sound : (c : Option Context) → IsSoundContext (context_given c)
-given_is_sound None = tt
-given_is_sound (Some c) = pairs_are_sound c.pairs
-
-pub request_is_sound : (r : Request) → IsSoundContext (request_view r).context_part
-request_is_sound r = given_is_sound r.context
 
 -- ---- what stands for the variable `context`
 
@@ -98,7 +78,7 @@ module _ {X : Type 0} {F : X → Type 0} {g : _} (v : Evaluator X F g) (slots : 
   pub evaluator_promised : (levels : ℕ) (t : Term) (a : Answer) → Runs (setting_of v slots) (calls_in v) levels t a →
       IsPromised (setting_of v slots) (calls_in v) levels t a
   evaluator_promised =
-      promised (setting_of v slots) (calls_in v) (calls_functional v.given.extensions.now) (calls_meet_no_limit v.given.extensions.now) evaluator_is_sound refl
+      promised (setting_of v slots) (calls_in v) (calls_functional v.given.extensions.now) (calls_meet_no_limit v.given.extensions.now) evaluator_is_sound
 
   pub rules_promised : (levels : ℕ) (t : Term) (a : Answer) → Meets (Runs (setting_of v slots) (calls_in v) levels t) a →
       Meets (IsPromised (setting_of v slots) (calls_in v) levels t) a

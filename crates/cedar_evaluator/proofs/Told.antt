@@ -2,7 +2,7 @@
 use Rattle.std.specs.Prelude.{◌≡◌, ◌≢◌, ◌≤◌, ◌-◌, ℕ, suc, Bool, true, false, Option, Some, None, IfSome}
 use Rattle.std.proofs.Common.{refl, sym, ap, ◌∙◌, subst, arith}
 use Rattle.cedar_model.specs.Terms.{Term, Literal, bool_literal, literal, Variable, variable, both, binary, BinaryOperator}
-use Rattle.cedar_model.specs.Values.{Represented, abstract_value}
+use Rattle.cedar_model.specs.Values.{Represented, plain_represented, abstract_value}
 use Rattle.cedar_model.specs.World.{Slots}
 use Rattle.cedar_model.specs.Outcomes.{bool_of}
 use Rattle.cedar_model.specs.Failures.{out_of_memory, value, Answer, answers, fails, answers_bool, answers_value}
@@ -18,6 +18,7 @@ use Rattle.cedar_operators.specs.Operands.{given}
 use Rattle.cedar_evaluation.specs.Booleans.{is_bool}
 use Rattle.cedar_evaluation.specs.Operands.{parts_alike}
 use Rattle.cedar_evaluation.specs.Promises.{IsPromised}
+use Rattle.cedar_evaluation.specs.Reads.{as_stored, none_resolved, operator_value}
 use Rattle.cedar_evaluation.specs.Settings.{given_for}
 use Rattle.cedar_evaluator.specs.declared.evaluator.Evaluator.{Evaluator}
 use Rattle.cedar_evaluator.specs.Evaluations.{variables_of, setting_of, calls_in}
@@ -62,12 +63,23 @@ module _ {X : Type 0} {F : X → Type 0} {g : _} (v : Evaluator X F g) (n : ℕ)
   told_true (Some b) h g = λ slots. true_bool (setting_of v slots) (calls_in v) n t u b (h slots) (g slots)
   told_true None h g = tt
 
-  compared : (op : BinaryOperator) (x y : Represented) (a : Answer) → IsTold v (suc n) t (answers_value x) →
-      IsTold v (suc n) u (answers_value y) → ((s : Setting) → a ≡ binary_answer (over_given v s) op x y) →
-      IsTold v (suc (suc n)) (binary op t u) a
-  unfolding binary_beside binary_of_parts beside_residual
-  compared op x y a h g is slots =
-      (answers_value x, h slots, (answers_value y, g slots, is (setting_of v slots) ∙ parts_alike (setting_of v slots) op (value x) (value y)))
+  compared : (op : BinaryOperator) (x y : Represented) (b : Bool) → IsTold v (suc n) t (answers_value x) →
+      IsTold v (suc n) u (answers_value y) → ((s : Setting) → answers_bool b ≡ binary_answer (over_given v s) op x y) →
+      IsTold v (suc (suc n)) (binary op t u) (answers_bool b)
+  unfolding binary_beside binary_of_parts
+  compared op x y b h g is slots =
+      let s = setting_of v slots in
+      let stored : answers_bool b ≡ binary_answer s op x y = is s ∙ parts_alike s op (value x) (value y) in
+      let read = beside_residual s.store op (value x) (answers_value y) in (
+        answers_value x,
+        h slots,
+        (
+          answers_value y,
+          g slots,
+          as_stored (Runs s (calls_in v) (suc n)) s.resolution read (binary_answer s op x y) (answers_bool b)
+              (none_resolved s.resolution read (operator_value s op x y (plain_represented (bool_literal b)) stored)) stored,
+        ),
+      )
 
 module _ {X : Type 0} {F : X → Type 0} {g : _} (v : Evaluator X F g) (n : ℕ) (t : Term) where
   -- two values are compared, with two levels
@@ -78,7 +90,7 @@ module _ {X : Type 0} {F : X → Type 0} {g : _} (v : Evaluator X F g) (n : ℕ)
   told_compared u op x y o (Some b) two h g is that =
       let levels : suc (suc (n - 2)) ≡ n = omega (arith, two) in
       subst (λ k. IsTold v k (binary op t u) (answers_bool b)) levels
-      (compared v (n - 2) t u op x y (answers_bool b) (h (n - 2)) (g (n - 2))
+      (compared v (n - 2) t u op x y b (h (n - 2)) (g (n - 2))
       (λ s. sym that ∙ is s (λ w. no_want b (sym that ∙ w))))
   told_compared u op x y o None two h g is that = tt
 

@@ -5,3 +5,4 @@ pub mod Stored
 pub mod Elements
 pub mod Answered
 pub mod Orders
+pub mod Read

@@ -255,8 +255,8 @@ module _ (x : Extensions) (calls : StoredCalls) (n : ℕ) (m : Mapping) (old : R
       let completes = own_completes x ans w fs means fits in
       let t = record_of (substituted_at m fs) in
       let a = answers (context_part_value c) in
-      let fit = substituted_at_fit x ans empty m mapped.agrees mapped.faithful fs fits in
-      let same = substituted_at_mean x ans empty m mapped.agrees mapped.faithful no_slots fs in
+      let fit = substituted_at_fit x ans empty m mapped.map_agrees mapped.mapped_values_are_faithful fs fits in
+      let same = substituted_at_mean x ans empty m mapped.map_agrees mapped.mapped_values_are_faithful no_slots fs in
       stands x ans w c.pairs (meaning x ans empty no_slots t) (record_means x ans w _ (same ∙ means))
       (sound_stands ans calls agree empty z completes faithful t a
       (runs_sound ans calls agree empty z completes faithful n t a fit

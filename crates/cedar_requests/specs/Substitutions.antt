@@ -9,8 +9,9 @@ use Rattle.cedar_model.specs.World as world
 use Rattle.cedar_model.specs.Failures.{out_of_memory, Answer, answers, fails}
 use Rattle.cedar_model.specs.Settings.{ContextPart, absent_context, known_context, residual_context, Setting}
 use Rattle.cedar_model.specs.Rules.{StoredCalls, Meets}
-use Rattle.cedar_model.specs.Agreement.{AgreesWithContext, AgreesWithMap, IsFaithful, IsFaithfulContext, FitsContext}
+use Rattle.cedar_model.specs.Agreement.{AgreesWithContext, IsFaithfulContext, FitsContext}
 use Rattle.cedar_model.specs.Agreement.{AgreesWithFunctions, AnswerFaithfully}
+use Rattle.cedar_model.specs.Headline.{CompletesMap}
 use Rattle.cedar_model.specs.Refusals.{Refusal, context_fails}
 use Rattle.cedar_model.specs.Chains.{Mapping, substituted_at, SubstitutesTo}
 use Rattle.cedar_expressions.specs.Mappings.{mapping_of}
@@ -64,11 +65,6 @@ pub record CompletesContext (x : world.Extensions) (ans : Functions) (w : World)
   pub agrees : AgreesWithContext x ans w c
   pub fits : FitsContext x ans w c
   pub faithful : IsFaithfulContext x ans c
-
--- and so with the map's values
-pub record CompletesMap (x : world.Extensions) (ans : Functions) (w : World) (m : Mapping) : Type 0 where
-  pub agrees : AgreesWithMap w m
-  pub faithful : (n : Text) (v : Represented) → m n ≡ Some v → IsFaithful x ans v
 
 -- a world that completes the context and the map completes the context that is answered, whatever else is in it
 abbrev pub KeepsCompletions : world.Extensions → StoredCalls → Mapping → ContextPart → Result Context EvaluationError →

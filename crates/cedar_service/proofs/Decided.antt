@@ -15,7 +15,7 @@ use Rattle.cedar_model.specs.World
 use Rattle.cedar_model.specs.World.{World, Extensions}
 use Rattle.cedar_model.specs.Meaning
 use Rattle.cedar_model.specs.Meaning.{meaning, and_then_bool}
-use Rattle.cedar_model.specs.Settings.{shallow, RequestPart, Store, Setting, found_in}
+use Rattle.cedar_model.specs.Settings.{Resolution, RequestPart, Store, Setting, found_in}
 use Rattle.cedar_model.specs.Rules.{StoredCalls}
 use Rattle.cedar_model.specs.Agreement.{no_slots, AgreesWithFunctions, IsFaithful, AnswerFaithfully}
 use Rattle.cedar_model.specs.Policies as model
@@ -23,7 +23,7 @@ use Rattle.cedar_model.specs.Policies.{permit, Judged, allow, deny, decision, Er
 use Rattle.cedar_model.specs.Policies.{counted_each}
 use Rattle.cedar_model.specs.Configurations.{Configuration, configured}
 use Rattle.cedar_model.specs.Reports.{given_decision}
-use Rattle.cedar_model.specs.Chains.{Mapping, at_step, no_values}
+use Rattle.cedar_model.specs.Chains.{Mapping, ChainStep, at_step, no_values}
 use Rattle.cedar_model.specs.Headline.{Premises, CompletesMap, CompletesStore}
 use Rattle.cedar_decisions.specs.declared.decision.Decision.{Decision}
 use Rattle.cedar_decisions.specs.Decisions.{decision_view}
@@ -43,6 +43,10 @@ use Rattle.cedar_service.specs.declared.stop.Stop.{Stop}
 
 abbrev pub no_store : Store
 no_store = record { entity = no_entities; is_partial = false }
+
+-- a step by these values over this store
+abbrev pub a_step : Resolution → Mapping → Store → ChainStep
+a_step resolution values store = record { mapping = values; store = store; resolution = resolution }
 
 -- each unknown is the user, who is the principal
 abbrev pub user_asks : EntityName → EntityName → EntityName → World
@@ -83,12 +87,12 @@ completes_store X user action resource = record {
 }
 
 -- the premises of the headline are met
-premises : (mode : ErrorHandling) (X : Extensions) (calls : StoredCalls) → AgreesWithFunctions no_answers calls
+premises : (mode : ErrorHandling) (q : Resolution) (X : Extensions) (calls : StoredCalls) → AgreesWithFunctions no_answers calls
     → AnswerFaithfully X no_answers calls → (levels : ℕ) (owner user action resource : EntityName)
-    → Premises (configured calls mode shallow X levels) (from_someone action resource) no_store
-    (decides_as (owner_may owner) ∷ []) ((values_of user, no_store) ∷ []) no_answers
+    → Premises (configured calls mode q X levels) (from_someone action resource) no_store
+    (decides_as (owner_may owner) ∷ []) (a_step q (values_of user) no_store ∷ []) no_answers
     (user_asks user action resource) []
-premises mode X calls agree faithful levels owner user action resource = record {
+premises mode q X calls agree faithful levels owner user action resource = record {
   request_agrees = record {
     principal_agrees = (refl, tt);
     action_agrees = refl;
@@ -165,7 +169,7 @@ allows_owner owner user d e = (
 -- ---- what the functions of `stages` answer
 
 -- a decision without errors is that of the policies in each world
-pub decided_in : (c : Configuration) (s : Setting) (ps : List model.Policy) (steps : List (Mapping × Store))
+pub decided_in : (c : Configuration) (s : Setting) (ps : List model.Policy) (steps : List ChainStep)
     (r : PartialResponse) (o : Option Decision) → IsHeadline c s ps steps r
     → IfSome o (λ d. errors_of r ≡ []) → IfSome o (λ d. given_decision (rows_view r) ≡ Some (decision_view d))
     → IfSome o (λ d. IsDecidedIn c s ps steps (decision_view d))
@@ -175,14 +179,14 @@ decided_in c s ps steps r (Some d) h none given =
     (decision_view d) given
 
 -- of the owner's policy and the values of a user it allows exactly the owner
-module _ (mode : ErrorHandling) (X : Extensions) (calls : StoredCalls) (agree : AgreesWithFunctions no_answers calls)
+module _ (mode : ErrorHandling) (q : Resolution) (X : Extensions) (calls : StoredCalls) (agree : AgreesWithFunctions no_answers calls)
     (faithful : AnswerFaithfully X no_answers calls) (levels : ℕ) (d : model.Decision) where
   abbrev c : Configuration
-  c = configured calls mode shallow X levels
+  c = configured calls mode q X levels
 
   abbrev IsDecided : RequestPart → Store → List PolicyView → Mapping → Type 0
   IsDecided r store ps values =
-      IsDecidedIn c (at_step X shallow r store no_values) (map decides_as ps) ((values, store) ∷ []) d
+      IsDecidedIn c (at_step X q r store no_values) (map decides_as ps) (a_step q values store ∷ []) d
 
   pub decided_for_owner : (r : RequestPart) (store : Store) (ps : List PolicyView) (values : Mapping)
       (action resource : EntityName) → r ≡ from_someone action resource → store ≡ no_store
@@ -195,7 +199,7 @@ module _ (mode : ErrorHandling) (X : Extensions) (calls : StoredCalls) (agree : 
       allows_owner owner user d
       (sym (policy_decides mode X owner user action resource)
       ∙ h4 no_answers (user_asks user action resource)
-      (premises mode X calls agree faithful levels owner user action resource))
+      (premises mode q X calls agree faithful levels owner user action resource))
 
 -- what holds of each decision holds of the one that is answered
 pub each_decision : (P Q : model.Decision → Type 0) → ((d : model.Decision) → P d → Q d)

@@ -5,12 +5,12 @@ use Rattle.cedar_model.specs.Terms.{binary}
 use Rattle.cedar_model.specs.Values.{Represented, plain_represented, no_represented_at}
 use Rattle.cedar_model.specs.Outcomes.{text_eq}
 use Rattle.cedar_model.specs.World.{World, Functions}
-use Rattle.cedar_model.specs.Settings.{known_entry, unknown_entry, known_context, RequestPart, Store, Setting}
+use Rattle.cedar_model.specs.Settings.{known_entry, unknown_entry, known_context, RequestPart, Setting}
 use Rattle.cedar_model.specs.Agreement.{no_slots}
 use Rattle.cedar_model.specs.Policies.{permit, Policy, Decision, allow, decision, counted_each}
 use Rattle.cedar_model.specs.Configurations.{Configuration}
 use Rattle.cedar_model.specs.Responses.{truth}
-use Rattle.cedar_model.specs.Chains.{Mapping}
+use Rattle.cedar_model.specs.Chains.{Mapping, ChainStep}
 use Rattle.cedar_model.specs.Headline.{Premises}
 use Rattle.cedar_layers.specs.Policies.{PolicyView}
 
@@ -49,7 +49,7 @@ abbrev pub values_of : EntityName → Mapping
 values_of user = one_value (codes "principal") (plain_represented (entity_literal user))
 
 -- in each world that meets the premises of the headline, where no error is recorded, the policies decide so
-abbrev pub IsDecidedIn : Configuration → Setting → List Policy → List (Mapping × Store) → Decision → Type 0
+abbrev pub IsDecidedIn : Configuration → Setting → List Policy → List ChainStep → Decision → Type 0
 IsDecidedIn c s ps steps d =
     (ans : Functions) (w : World) → Premises c s.request s.store ps steps ans w []
     → decision (counted_each c.mode s.extensions ans w ps) ≡ d

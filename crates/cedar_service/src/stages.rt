@@ -14,7 +14,7 @@ ghost use Rattle.cedar_layers.specs.PolicySets.{policies_view};
 ghost use Rattle.cedar_requests.specs.Requests.{request_view};
 ghost use Rattle.cedar_requests.specs.Substitutions.{values_for};
 ghost use Rattle.cedar_responses.specs.Rows.{rows_view};
-ghost use Rattle.cedar_authorizer.specs.Configured.{configuration, asked};
+ghost use Rattle.cedar_authorizer.specs.Configured.{configuration, resolution_of, asked};
 ghost use Rattle.cedar_authorizer.specs.Headline.{steps_view};
 ghost use Rattle.cedar_authorizer.specs.Responding.{deciding};
 ghost use Rattle.cedar_authorizer.specs.Running.{errors_of};
@@ -190,8 +190,8 @@ fn decided_after(
     steps: &[(&HashMap<RcStr, Value>, &Entities)],
 ) -> Result<Option<Decision>, Stop>
     ensures { IfOk result (λ o. IfSome o (λ d. IsDecidedIn (configuration authorizer.now)
-        (asked authorizer.now request entities.now) (deciding policies.now) (steps_view steps.now)
-        (decision_view d))) }
+        (asked authorizer.now request entities.now) (deciding policies.now)
+        (steps_view (resolution_of authorizer.now) steps.now) (decision_view d))) }
 {
     match authorizer.authorize_in_steps(alloc, request, policies, entities, steps) {
         Ok(response) => {

@@ -7,6 +7,7 @@
 //! - of the words of values and then an operator: `operator PLACE`; of the words of an error: `built-error PLACE`;
 //! - of the setting: `request` and `entity`, and `extensions` (their names, the types that their functions make, and those that
 //!   they overload);
+//! - of a name: `function` (how many arguments the stored function takes);
 //! - of a name and values: `made-entity` (an entity that is made of values);
 //! - of a number: `negations LIMIT`, what `true` evaluates to under so many.
 //!
@@ -41,6 +42,7 @@ pub fn ask(
         "request" => stored::ask_request(answer, &setting.request, words),
         "entity" => stored::ask_entity(answer, &setting.entities, words),
         "extensions" => stored::ask_extensions(answer, setting.extensions),
+        "function" => stored::ask_function(answer, setting.extensions, words),
         "made-entity" => stored::ask_made_entity(answer, words),
         "negations" => deep::ask(answer, setting, argument, words),
         "value" | "place" | "elements" | "error" => {

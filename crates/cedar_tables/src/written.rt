@@ -4,7 +4,7 @@
 //! - of the words of an expression: `text`, `cut BOUND` (`all` for no bound), `copy`, `shape`, and `substitute x WORDS`, which is
 //!   answered by the words of an expression;
 //! - of the words of a value: `value-text`, `value-cut BOUND`, `value-expression`, `value-type`, `value-copy`, `value-elements`,
-//!   `value-kind`, `part-text`, `part-cut BOUND`, `part-copy` and `part-expression`;
+//!   `value-kind`, `value-restricted`, `part-text`, `part-cut BOUND`, `part-copy` and `part-expression`;
 //! - of two expressions with ` ~ ` between them: `equal` and `alike` (shapes and hashes); of the keys of a record: `keys`; of two
 //!   values: `order` and `hashes`; of a leaf: `leaf`;
 //! - of the words of a restricted expression: `restricted value LIMIT` and `restricted place LIMIT` (what it partly evaluates to,

@@ -1,14 +1,15 @@
 //! What a request and a store hold.
 use crate::answers::evaluated::place_of;
 use crate::notation::answer::Answer;
-use crate::notation::leaves::{text, uid};
+use crate::notation::leaves::{name, text, uid};
 use crate::notation::unanswered::Unanswered;
 use crate::notation::values::value;
 use crate::notation::{Parts, both, headed, mapped, or_memory};
 use cedar_extensions::Extensions;
-use cedar_layers::expressions::{EntityUID, PartialValue, Type, Unknown, Value, Var};
+use cedar_layers::expressions::{EntityUID, Name, PartialValue, Type, Unknown, Value, Var};
 use cedar_layers::policies::{Dereference, Entities, Entity};
 use cedar_requests::{Context, EntityUIDEntry, Request, RequestType};
+use cedar_values::extensions::ExtensionFunctionLookupError;
 use std::alloc::{AllocError, Global};
 use std::collections::{BTreeMap, HashSet};
 use std::rc::RcStr;
@@ -117,6 +118,32 @@ pub fn ask_extensions(answer: &mut Answer, extensions: &Extensions<'_>) {
     match extensions.overloaded_types(answer.alloc) {
         Ok(types) => put_overloaded(answer, &types),
         Err(_) => answer.lack_memory(),
+    }
+}
+
+/// The function of this name, with the number of its arguments, or that there is none.
+pub fn ask_function(answer: &mut Answer, extensions: &Extensions<'_>, text: &str) {
+    match name(answer.alloc, text) {
+        Ok(name) => {
+            put_function(answer, extensions, &name);
+            drop(name);
+        }
+        Err(why) => answer.fail(why),
+    }
+}
+
+fn put_function(answer: &mut Answer, extensions: &Extensions<'_>, name: &Name) {
+    match extensions.func(name) {
+        Ok(function) => {
+            answer.show(function.name());
+            answer.put(" takes ");
+            answer.show(&function.arg_types().len());
+        }
+        Err(ExtensionFunctionLookupError::Memory(_)) => answer.lack_memory(),
+        Err(error) => {
+            answer.show(&error);
+            drop(error);
+        }
     }
 }
 

@@ -30,6 +30,7 @@ fn of_value(answer: &mut Answer, kind: &str, bound: &str, value: &Value) {
         "value-copy" => put_copy(answer, value),
         "value-elements" => put_elements_of(answer, value),
         "value-kind" => put_kind(answer, value),
+        "value-restricted" => put_restricted(answer, value),
         _ => answer.refuse("no such question"),
     }
 }
@@ -58,6 +59,14 @@ fn put_kind(answer: &mut Answer, value: &Value) {
             answer,
             RestrictedExpr::try_from_value_kind(answer.alloc, kind),
         ),
+        Err(_) => answer.lack_memory(),
+    }
+}
+
+// The restricted expression of the value, and where it stands.
+fn put_restricted(answer: &mut Answer, value: &Value) {
+    match value.clone() {
+        Ok(copy) => put_expr(answer, RestrictedExpr::try_from_value(answer.alloc, copy)),
         Err(_) => answer.lack_memory(),
     }
 }

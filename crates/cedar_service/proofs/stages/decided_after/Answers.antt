@@ -1,4 +1,4 @@
-use Rattle.cedar_authorizer.specs.Configured.{configuration, asked}
+use Rattle.cedar_authorizer.specs.Configured.{configuration, resolution_of, asked}
 use Rattle.cedar_authorizer.specs.Headline.{steps_view}
 use Rattle.cedar_authorizer.specs.Responding.{deciding}
 use Rattle.cedar_service.proofs.Decided.{decided_in}
@@ -8,5 +8,5 @@ pub returns-in-Ok : goal.returns-in-Ok
 returns-in-Ok g c =
     decided_in (configuration c.args.authorizer.now)
     (asked c.args.authorizer.now c.args.request c.args.entities.now) (deciding c.args.policies.now)
-    (steps_view c.args.steps.now) c.in-Ok.response c.without_errors-decision.result c.in-Ok.ensures.headline
+    (steps_view (resolution_of c.args.authorizer.now) c.args.steps.now) c.in-Ok.response c.without_errors-decision.result c.in-Ok.ensures.headline
     c.without_errors-decision.ensures.errors c.without_errors-decision.ensures.given

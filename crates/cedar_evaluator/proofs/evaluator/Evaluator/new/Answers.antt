@@ -4,7 +4,8 @@ use Rattle.cedar_extensions.specs.Extensions.{extensions_view}
 use Rattle.cedar_requests.specs.Requests.{request_view}
 use Rattle.cedar_model.specs.Settings.{shallow}
 use Rattle.cedar_evaluator.specs.Evaluations.{setting_for}
-use Rattle.cedar_evaluator.proofs.Sound.{request_is_sound, context_is_restricted}
+use Rattle.cedar_evaluator.proofs.Sound.{context_is_restricted}
+use Rattle.cedar_requests.proofs.Soundness.{request_is_sound}
 use Rattle.cedar_evaluator.proofs.Requests.{four_of_request, four_that_request}
 use Rattle.cedar_evaluator.proofs.evaluator.Evaluator.new.Goals as goal
 
