@@ -13,8 +13,8 @@
 //! - `map x L:1` is the value of an unknown.
 //! - `errors skip` and `errors forbid` say how errors are handled: a policy that errs is skipped, as where neither stands; or a
 //!   forbid that errs forbids.
-//! - `resolution shallow` and `resolution deep` say what reading a stored residual answers: what is stored, as where neither stands;
-//!   or what that is evaluated to.
+//! - `resolution shallow` and `resolution deep` say what reading a stored residual answers: what is stored, as where neither
+//!   stands; or what that is evaluated to.
 //! - `functions` and `overloads` say which functions are stored, and for which types `<` is overloaded; `policies` reads the facts
 //!   on policies.
 ghost use Rattle.std.specs.Prelude.{◌≡◌, true};
