@@ -163,18 +163,21 @@ passed_again s calls k l p x t (Wait f d) fewer uses (task, part, place) = (
   place,
 )
 
+fewer_texts : (a b m n : ℕ) → a ≡ m → n ≡ b → m < n → suc a < suc b
+fewer_texts a b m n is same fewer = omega (arith, is, same, fewer)
+
 -- a stored residual on the way of an extended `has`, which is waited for
 pub walked_goes_on : (s : Setting) (calls : StoredCalls) (k : ℕ) (l : Option Loc) (path : Rc (FirstRest (RcStr Global)) Global)
-    (p : model.PartialValue) (t : Term) (n : Text) (ns : List Text) (x : Next)
-    → resolved_in s.resolution (part_path s.store p (rc_str_bytes path.value.first) (texts_view path.value.rest.items)) ≡ Some (t, n, ns)
-    → IsWalkedOn l t n ns x → GoesOn s calls k l (pendings.ExtHasAttr path) (answers p) x
-walked_goes_on s calls k l path p t n ns (Done r) some is =
+    (p : model.PartialValue) (read : Term × Text × List Text) (x : Next)
+    → resolved_in s.resolution (part_path s.store p (rc_str_bytes path.value.first) (texts_view path.value.rest.items)) ≡ Some read
+    → IsWalkedOn l read x → GoesOn s calls k l (pendings.ExtHasAttr path) (answers p) x
+walked_goes_on s calls k l path p read (Done r) some is =
     subst (λ o. GoesOn s calls k l (pendings.ExtHasAttr path) (answers p) (Done o)) (sym is) (λ ok. absurd (ok refl), tt)
-walked_goes_on s calls k l path p t n ns (Wait f c) some (q, task, first, rest, part, place) = (
+walked_goes_on s calls k l path p (t, n, ns) (Wait f c) some ((q, task, first, rest), part, place) = (
   subst (λ y. WaitsAgain s calls k (pendings.ExtHasAttr path) (answers p) y (view c.value)) (sym task)
       (subst (λ y. WaitsAgain s calls k (pendings.ExtHasAttr path) (answers p) (tasks.Other (pendings.ExtHasAttr q)) y) (sym part) (
         fewer_texts (length q.value.rest.items) (length path.value.rest.items) (length ns) (length (texts_view path.value.rest.items))
-            (sym (length-map {f = rc_str_bytes} {xs = q.value.rest.items}) ∙ ap length rest) (length-map {f = rc_str_bytes} {xs = path.value.rest.items})
+            (sym (length-map q.value.rest.items rc_str_bytes) ∙ ap length rest) (length-map path.value.rest.items rc_str_bytes)
             (read_shorter s.resolution s.store p (rc_str_bytes path.value.first) (texts_view path.value.rest.items) t n ns some),
         λ y a runs uses. path_as_read (Runs s calls k) s.store s.resolution p (rc_str_bytes path.value.first) (texts_view path.value.rest.items) t n ns some y a runs
             (subst (λ m. AtPath (Runs s calls k) s.resolution s.store y m ns a) first
@@ -182,19 +185,6 @@ walked_goes_on s calls k l path p t n ns (Wait f c) some (q, task, first, rest, 
       )),
   place,
 )
-  where
-    fewer_texts : (a b m n : ℕ) → a ≡ m → n ≡ b → m < n → suc a < suc b
-    fewer_texts a b m n is same fewer = omega (arith, is, same, fewer)
-
--- where memory may be wanting
-pub or_want_walks : (s : Setting) (calls : StoredCalls) (k : ℕ) (l : Option Loc) (path : Rc (FirstRest (RcStr Global)) Global)
-    (p : model.PartialValue) (t : Term) (n : Text) (ns : List Text) (m : Result Next AllocError) (x : Next)
-    → resolved_in s.resolution (part_path s.store p (rc_str_bytes path.value.first) (texts_view path.value.rest.items)) ≡ Some (t, n, ns)
-    → IfOk m (IsWalkedOn l t n ns) → IsOrWant m x → GoesOn s calls k l (pendings.ExtHasAttr path) (answers p) x
-or_want_walks s calls k l path p t n ns (Ok m) x some walks is =
-    walked_goes_on s calls k l path p t n ns x some (subst (IsWalkedOn l t n ns) (sym is) walks)
-or_want_walks s calls k l path p t n ns (Err e) x some walks is =
-    subst (GoesOn s calls k l (pendings.ExtHasAttr path) (answers p)) (sym is) (λ ok. absurd (ok refl), tt)
 
 resolved : (May : MayAnswer) (q : Resolution) (a : Answer) → Resolves May q None a a
 resolved May shallow a = refl

@@ -1,5 +1,5 @@
 -- The stored residuals that are evaluated, and what the rules make of them.
-use Rattle.std.specs.Prelude.{◌≡◌, ◌≢◌, ◌<◌, ℕ, List, [], ◌∷◌, length, Option, None, Some, suc}
+use Rattle.std.specs.Prelude.{◌≡◌, ◌<◌, List, [], ◌∷◌, length, Option, None, Some, suc}
 use Rattle.std.proofs.Common.{refl, sym, ap, ◌∙◌, subst, arith}
 use Rattle.cedar_model.specs.Terms.{Text, EntityName, Term, extended_has, BinaryOperator, bool_literal, long_literal}
 use Rattle.cedar_model.specs.Terms.{text_literal, entity_literal}
@@ -55,8 +55,14 @@ step_walks (stops b) u is = is
 step_inj : {u v : Represented} → walks_on v ≡ walks_on u → v ≡ u
 step_inj e = cc
 
-read_inj : {t r : Term} {l n : Text} {ls ns : List Text} → Some (r, l, ls) ≡ Some (t, n, ns) → (r ≡ t) × (l ≡ n) × (ls ≡ ns)
-read_inj e = cc
+read_inj : {t r : Term} {l n : Text} {ls ns : List Text}
+    → ◌≡◌ {A = Option (Term × Text × List Text)} (Some (r, l, ls)) (Some (t, n, ns)) → (r ≡ t) × (l ≡ n) × (ls ≡ ns)
+read_inj {t} {r} {l} {n} {ls} {ns} e =
+    let p : ◌≡◌ {A = Term × Text × List Text} (r, l, ls) (t, n, ns) = some_inj e in (
+      ap (λ (x : Term × Text × List Text). x.0) p,
+      ap (λ (x : Term × Text × List Text). x.1) p,
+      ap (λ (x : Term × Text × List Text). x.2) p,
+    )
 
 no_residual : (x : Represented) (t : Term) → answers_value x ≡ answers (residual t) → ⊥
 no_residual x t e = cc
@@ -160,20 +166,22 @@ module _ (May : MayAnswer) (store : Store) where
   unfolding path_answer path_residual read_or
   walk_stored [] v k none = refl
   walk_stored (l ∷ ls) v k none =
-      by (attribute_residual store v k) (next_in store (container_of v) k) refl refl none
+      by (attribute_residual store v k) (next_in store (container_of v) k) (λ u h. walk_stored ls u l h) refl refl none
     where
       z : Step
       z = step_in store (container_of v) (container_expected v) k l ls
 
-      by : (o : Option Term) (w : Option Represented) → attribute_residual store v k ≡ o
+      by : (o : Option Term) (w : Option Represented)
+          → ((u : Represented) → path_residual store u l ls ≡ None → Walks May store u l ls (path_answer store u l ls))
+          → attribute_residual store v k ≡ o
           → next_in store (container_of v) k ≡ w → read_or o w l ls (λ u. path_residual store u l ls) ≡ None
           → StepsOn May o z l ls (λ u. Walks May store u l ls) (after_step z (λ u. path_answer store u l ls))
-      by (Some t) w i j h = absurd (cc)
-      by None (Some u) i j h =
+      by (Some t) w go i j h = absurd (cc)
+      by None (Some u) go i j h =
           walks_from (Some u) z (λ x. Walks May store x l ls) (λ x. path_answer store x l ls)
           (step_is store v k l ls (Some u) i j)
-          (λ x e. subst (λ y. Walks May store y l ls (path_answer store y l ls)) (some_inj e) (walk_stored ls u l h))
-      by None None i j h =
+          (λ x e. subst (λ y. Walks May store y l ls (path_answer store y l ls)) (some_inj e) (go u h))
+      by None None go i j h =
           walks_from None z (λ x. Walks May store x l ls) (λ x. path_answer store x l ls)
           (step_is store v k l ls None i j) (λ x e. absurd (cc))
 
@@ -190,26 +198,29 @@ module _ (May : MayAnswer) (store : Store) where
   unfolding path_residual read_or
   walk_read [] v k t n ns some y a may from = absurd (cc)
   walk_read (l ∷ ls) v k t n ns some y a may from =
-      by (attribute_residual store v k) (next_in store (container_of v) k) refl refl some
+      by (attribute_residual store v k) (next_in store (container_of v) k) (λ u h. walk_read ls u l t n ns h y a may from)
+      refl refl some
     where
       z : Step
       z = step_in store (container_of v) (container_expected v) k l ls
 
-      by : (o : Option Term) (w : Option Represented) → attribute_residual store v k ≡ o
+      by : (o : Option Term) (w : Option Represented)
+          → ((u : Represented) → path_residual store u l ls ≡ Some (t, n, ns) → Walks May store u l ls a)
+          → attribute_residual store v k ≡ o
           → next_in store (container_of v) k ≡ w
           → read_or o w l ls (λ u. path_residual store u l ls) ≡ Some (t, n, ns)
           → StepsOn May o z l ls (λ u. Walks May store u l ls) a
-      by (Some r) w i j h =
+      by (Some r) w go i j h =
           let e = read_inj h in (
             y,
             subst (λ x. May x y) (sym e.0) may,
             after_read y l ls a
                 (subst (λ x. WalksFrom May store y x ls a) (sym e.1) (subst (λ x. WalksFrom May store y n x a) (sym e.2) from)),
           )
-      by None (Some u) i j h =
+      by None (Some u) go i j h =
           walks_to u z (λ x. Walks May store x l ls) a (step_is store v k l ls (Some u) i j)
-          (walk_read ls u l t n ns h y a may from)
-      by None None i j h = absurd (cc)
+          (go u h)
+      by None None go i j h = absurd (cc)
 
   -- with whatever resolution
   pub path_as_stored : (q : Resolution) (p : PartialValue) (k : Text) (ks : List Text) (a : Answer)
@@ -234,13 +245,14 @@ path_shorter : (store : Store) (ks : List Text) (v : Represented) (k : Text) (t 
 unfolding path_residual read_or
 path_shorter store [] v k t n ns some = absurd (cc)
 path_shorter store (l ∷ ls) v k t n ns some =
-    by (attribute_residual store v k) (next_in store (container_of v) k) some
+    by (attribute_residual store v k) (next_in store (container_of v) k) (λ u h. path_shorter store ls u l t n ns h) some
   where
     by : (o : Option Term) (w : Option Represented)
+        → ((u : Represented) → path_residual store u l ls ≡ Some (t, n, ns) → length ns < length ls)
         → read_or o w l ls (λ u. path_residual store u l ls) ≡ Some (t, n, ns) → length ns < suc (length ls)
-    by (Some r) w h = let e = (read_inj h).2 in subst (λ x. length x < suc (length ls)) e (omega arith)
-    by None (Some u) h = let i = path_shorter store ls u l t n ns h in omega (arith, i)
-    by None None h = absurd (cc)
+    by (Some r) w go h = let e = (read_inj h).2 in subst (λ x. length x < suc (length ls)) e (omega arith)
+    by None (Some u) go h = let i = go u h in omega (arith, i)
+    by None None go h = absurd (cc)
 
 pub read_shorter : (q : Resolution) (store : Store) (p : PartialValue) (k : Text) (ks : List Text) (t : Term) (n : Text)
     (ns : List Text) → resolved_in q (part_path store p k ks) ≡ Some (t, n, ns) → length ns < length ks
@@ -305,21 +317,23 @@ pub path_value : (store : Store) (ks : List Text) (v : Represented) (k : Text) (
 unfolding path_answer path_residual read_or after_step
 path_value store [] v k x is = refl
 path_value store (l ∷ ls) v k x is =
-    by (attribute_residual store v k) (next_in store (container_of v) k) refl refl
+    by (attribute_residual store v k) (next_in store (container_of v) k) (λ u h. path_value store ls u l x h) refl refl
   where
     z : Step
     z = step_in store (container_of v) (container_expected v) k l ls
 
-    by : (o : Option Term) (w : Option Represented) → attribute_residual store v k ≡ o
+    by : (o : Option Term) (w : Option Represented)
+        → ((u : Represented) → answers_value x ≡ path_answer store u l ls → path_residual store u l ls ≡ None)
+        → attribute_residual store v k ≡ o
         → next_in store (container_of v) k ≡ w → read_or o w l ls (λ u. path_residual store u l ls) ≡ None
-    by (Some t) w i j =
+    by (Some t) w go i j =
         let stopped : z ≡ stops (answers (residual (extended_has t l ls))) =
         container_stops store (container_of v) (container_expected v) k t l ls (sym (in_its_container store v k) ∙ i) in
         absurd (no_residual x (extended_has t l ls) (is ∙ ap (λ y. after_step y (λ u. path_answer store u l ls)) stopped))
-    by None (Some u) i j =
+    by None (Some u) go i j =
         let walked : z ≡ walks_on u = step_walks z u (step_is store v k l ls (Some u) i j) in
-        path_value store ls u l x (is ∙ ap (λ y. after_step y (λ w. path_answer store w l ls)) walked)
-    by None None i j = refl
+        go u (is ∙ ap (λ y. after_step y (λ w. path_answer store w l ls)) walked)
+    by None None go i j = refl
 
 tag_value : (o : Option PartialValue) (f : Failure) (x : Represented) → answers_value x ≡ stored_tag o f
     → residual_in o ≡ None

@@ -123,13 +123,17 @@ abbrev pub IsPassed : Option Loc → Term → Next → Type 0
 IsPassed l t (Done r) = r ≡ Err stops.Memory
 IsPassed l t (Wait f c) = (f.task ≡ tasks.Other pendings.Passed) × (view c.value ≡ t) × (expr_loc f.whole.value ≡ l)
 
--- the whole at this place waits for this stored residual, to test it for these attributes, unless memory is wanting
-abbrev pub IsWalkedOn : Option Loc → Term → Text → List Text → Next → Type 0
-IsWalkedOn l t k ks (Done r) = r ≡ Err stops.Memory
-IsWalkedOn l t k ks (Wait f c) =
-    (path : Rc (FirstRest (RcStr Global)) Global) × (f.task ≡ tasks.Other (pendings.ExtHasAttr path))
-    × (rc_str_bytes path.value.first ≡ k) × (texts_view path.value.rest.items ≡ ks) × (view c.value ≡ t)
-    × (expr_loc f.whole.value ≡ l)
+-- the task tests what is answered for these attributes
+abbrev pub TestsFor : Task → Text → List Text → Type 0
+TestsFor task k ks =
+    (path : Rc (FirstRest (RcStr Global)) Global) × (task ≡ tasks.Other (pendings.ExtHasAttr path))
+    × (rc_str_bytes path.value.first ≡ k) × (texts_view path.value.rest.items ≡ ks)
+
+-- the whole at this place waits for this stored residual, to test it for the attributes after it, unless memory is wanting
+abbrev pub IsWalkedOn : Option Loc → (Term × Text × List Text) → Next → Type 0
+IsWalkedOn l read (Done r) = r ≡ Err stops.Memory
+IsWalkedOn l read (Wait f c) =
+    TestsFor f.task read.1 read.2 × (view c.value ≡ read.0) × (expr_loc f.whole.value ≡ l)
 
 -- how often what waits can still wait, this time included
 abbrev pub pending_left : Pending → ℕ

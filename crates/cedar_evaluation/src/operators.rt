@@ -1,5 +1,5 @@
 //! Operators on the answers of parts.
-ghost use Rattle.std.specs.Prelude.{◌≡◌, true, false, None, IfOk};
+ghost use Rattle.std.specs.Prelude.{◌≡◌, true, false, None};
 ghost use Rattle.std.specs.Rc.{rc_str_bytes};
 ghost use Rattle.cedar_model.specs.Terms.{unary, extended_has};
 ghost use Rattle.cedar_model.specs.Operators.{unary_answer, path_answer};
@@ -11,6 +11,7 @@ ghost use Rattle.cedar_model.specs.Failures.{answers};
 ghost use Rattle.cedar_expressions.specs.View.{view, expr_loc};
 ghost use Rattle.cedar_data.specs.Residuals.{partial_view, residual_term};
 ghost use Rattle.cedar_layers.specs.Stores.{store_view};
+ghost use Rattle.cedar_operators.specs.StoredResiduals.{on_path_of};
 ghost use Rattle.cedar_evaluation.specs.Reads.{resolved_in, part_residual};
 ghost use Rattle.cedar_evaluation.specs.Settings.{resolution_view, setting_of};
 ghost use Rattle.cedar_evaluation.specs.Tasks.{Gives, IsPassed, IsWaiting, IsWalkedOn};
@@ -19,7 +20,7 @@ ghost use Rattle.cedar_evaluation.specs.Endings.{boxed_answer};
 ghost use Rattle.cedar_evaluation.specs.declared.frame.Pending.TheVariants as pendings;
 ghost use Rattle.cedar_evaluation.specs.declared.frame.Task.TheVariants as tasks;
 
-use crate::answers::{answered_in, both, known_bool, or_want, put_at, taken_out};
+use crate::answers::{answered_in, both, known_bool, put_at, taken_out};
 use crate::evaluation::Evaluation;
 use crate::frame::{Frame, Next, Part, Pending, Task};
 use crate::stopped::Stopped;
@@ -28,7 +29,6 @@ use cedar_data::{PartialValue, ResidualExpr};
 use cedar_expressions::Expr;
 use cedar_frames::Step;
 use cedar_names::{BinaryOp, EntityType, FirstRest, Pattern, UnaryOp};
-use cedar_operators::residuals::path;
 use cedar_operators::stored_residuals::OnPath;
 use cedar_operators::typed::bool_part;
 use cedar_partial_operators::attributes::{
@@ -36,7 +36,7 @@ use cedar_partial_operators::attributes::{
 };
 use cedar_partial_operators::binary::binary_of_parts;
 use cedar_partial_operators::unary::{is_of_part, like_of_part, unary_of_part};
-use std::alloc::{AllocError, Global};
+use std::alloc::Global;
 use std::mem;
 use std::rc::{Rc, RcStr};
 
@@ -218,13 +218,15 @@ impl<'e, 'g, 'f> Evaluation<'e, 'g, 'f> {
     ) -> Next
         ensures { GoesOnAt self.now whole.now (pendings.ExtHasAttr attrs.now) (boxed_answer container) result }
     {
-        match self.path_residual(&container, attrs) {
-            Some(read) => {
-                let next = walk_again(alloc, whole, read);
-                drop(container);
-                or_want(next)
-            }
-            None => self.walked_as_stored(alloc, whole, attrs, container),
+        match self.path_residual(alloc, &container, attrs) {
+            Ok(read) => match read {
+                Some(read) => {
+                    drop(container);
+                    walk_again(whole, read)
+                }
+                None => self.walked_as_stored(alloc, whole, attrs, container),
+            },
+            Err(_) => Step::Done(Err(Stopped::Memory)),
         }
     }
 
@@ -308,16 +310,17 @@ fn read_again(alloc: Global, whole: &Part, residual: &ResidualExpr) -> Next
 // A stored residual is evaluated, and then tested for the attributes after it.
 #[cold]
 #[inline(never)]
-fn walk_again(alloc: Global, whole: &Part, read: OnPath<'_, '_>) -> Result<Next, AllocError>
-    ensures { IfOk result (IsWalkedOn (expr_loc whole.now.value) (residual_term read.0.now) (rc_str_bytes read.1.now)
-        (texts_view read.2.now)) }
+fn walk_again(whole: &Part, read: OnPath) -> Next
+    ensures { IsWalkedOn (expr_loc whole.now.value) (on_path_of read) result }
 {
-    let (residual, first, rest) = read;
-    let attrs = Rc::new(alloc, path(alloc, first, rest)?)?;
-    let part = Rc::new(alloc, residual.as_expr().clone()?)?;
-    let whole = whole.clone()?;
-    let task = Task::Other(Pending::ExtHasAttr(attrs));
-    Ok(Step::Wait(Frame { whole, task }, part))
+    let (part, attrs) = read;
+    match whole.clone() {
+        Ok(whole) => {
+            let task = Task::Other(Pending::ExtHasAttr(attrs));
+            Step::Wait(Frame { whole, task }, part)
+        }
+        Err(_) => Step::Done(Err(Stopped::Memory)),
+    }
 }
 
 // A part of a record is evaluated again, and is the answer.

@@ -1,5 +1,5 @@
 //! The stored residuals that are evaluated: those that operators read, with deep resolution.
-ghost use Rattle.std.specs.Prelude.{◌≡◌};
+ghost use Rattle.std.specs.Prelude.{◌≡◌, IfOk};
 ghost use Rattle.std.specs.Rc.{rc_str_bytes};
 ghost use Rattle.cedar_model.specs.Failures.{answers};
 ghost use Rattle.cedar_model.specs.Rules.{beside_residual};
@@ -16,6 +16,7 @@ use cedar_names::{BinaryOp, FirstRest};
 use cedar_operators::stored_residuals::{
     OnPath, attribute_residual, binary_residual, path_residual,
 };
+use std::alloc::{AllocError, Global};
 use std::rc::RcStr;
 
 impl<'e, 'g, 'f> Evaluation<'e, 'g, 'f> {
@@ -80,20 +81,23 @@ impl<'e, 'g, 'f> Evaluation<'e, 'g, 'f> {
 
     // The first stored residual that an extended `has` on this part reads, if it is evaluated, with the attributes after it.
     #[inline(always)]
-    pub(crate) fn path_residual<'p>(
-        &'p self,
-        container: &'p PartialValue,
-        attrs: &'p FirstRest<RcStr>,
-    ) -> Option<OnPath<'p, 'p>>
-        ensures { path_residual_of result ≡ resolved_in (resolution_view self.now.given.now.resolution) (part_path
-            (store_view self.now.given.now.entities.now) (partial_view container.now) (rc_str_bytes attrs.now.first)
-            (texts_view attrs.now.rest.items)) }
+    pub(crate) fn path_residual(
+        &self,
+        alloc: Global,
+        container: &PartialValue,
+        attrs: &FirstRest<RcStr>,
+    ) -> Result<Option<OnPath>, AllocError>
+        ensures { IfOk result (λ o. path_residual_of o ≡ resolved_in (resolution_view self.now.given.now.resolution)
+            (part_path (store_view self.now.given.now.entities.now) (partial_view container.now)
+            (rc_str_bytes attrs.now.first) (texts_view attrs.now.rest.items))) }
     {
         match self.given.resolution {
-            Resolution::Shallow => None,
+            Resolution::Shallow => Ok(None),
             Resolution::Deep => match container {
-                PartialValue::Value(value) => path_residual(self.given.entities, value, attrs),
-                PartialValue::Residual(_) => None,
+                PartialValue::Value(value) => {
+                    Ok(path_residual(alloc, self.given.entities, value, attrs)?)
+                }
+                PartialValue::Residual(_) => Ok(None),
             },
         }
     }

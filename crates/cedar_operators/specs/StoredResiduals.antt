@@ -3,6 +3,7 @@ use Rattle.std.specs.Prelude.{List, [], ◌∷◌, Option, None, Some, option_ma
 use denote.Ref.{Bor}
 use Rattle.std.specs.Rc.{rc_str_bytes}
 use Rattle.std.specs.declared.alloc.Global.{Global}
+use Rattle.std.specs.declared.rc.Rc.{Rc}
 use Rattle.std.specs.declared.rc.RcStr.{RcStr}
 use Rattle.cedar_model.specs.Terms.{Text, Term}
 use Rattle.cedar_model.specs.Values.{Represented}
@@ -10,7 +11,10 @@ use Rattle.cedar_model.specs.Failures.{PartialValue, value, residual}
 use Rattle.cedar_model.specs.Settings.{Store, Found, found, not_there, not_known, look_up, part_at}
 use Rattle.cedar_model.specs.Operators.{Container, a_record, an_entity, no_container, container_of, represented_at}
 use Rattle.cedar_model.specs.Operators.{attribute_residual}
+use Rattle.cedar_names.specs.declared.types.FirstRest.{FirstRest}
 use Rattle.cedar_names.specs.Leaves.{texts_view}
+use Rattle.cedar_expressions.specs.declared.expr.Expr.{Expr}
+use Rattle.cedar_expressions.specs.View.{view}
 use Rattle.cedar_data.specs.declared.partial_value.ResidualExpr.{ResidualExpr}
 use Rattle.cedar_data.specs.Residuals.{residual_term}
 
@@ -18,12 +22,13 @@ use Rattle.cedar_data.specs.Residuals.{residual_term}
 abbrev pub residual_of : Option (Bor ResidualExpr) → Option Term
 residual_of o = option_map residual_term (option_copied o)
 
--- the same with the attributes after it
-abbrev pub path_residual_of : Option (Bor ResidualExpr × Bor (RcStr Global) × Bor (List (RcStr Global)))
+-- one with the attributes after it
+abbrev pub on_path_of : (Rc Expr Global × Rc (FirstRest (RcStr Global)) Global) → Term × Text × List Text
+on_path_of p = (view p.0.value, rc_str_bytes p.1.value.first, texts_view p.1.value.rest.items)
+
+abbrev pub path_residual_of : Option (Rc Expr Global × Rc (FirstRest (RcStr Global)) Global)
     → Option (Term × Text × List Text)
-path_residual_of o =
-    option_map (λ (p : Bor ResidualExpr × Bor (RcStr Global) × Bor (List (RcStr Global))).
-    (residual_term p.0.now, rc_str_bytes p.1.now, texts_view p.2.now)) o
+path_residual_of o = option_map on_path_of o
 
 unfoldable pub value_in : Option PartialValue → Option Represented
 value_in None = None

@@ -1,6 +1,6 @@
 //! The stored residual that an operator reads, if it reads one: an attribute, a tag, or an attribute of an extended `has` that is
 //! not its last. With deep resolution it is evaluated, and its answer goes in the place of what is stored.
-ghost use Rattle.std.specs.Prelude.{◌≡◌, option_map, option_copied};
+ghost use Rattle.std.specs.Prelude.{◌≡◌, option_map, option_copied, IfOk};
 ghost use Rattle.std.specs.Rc.{rc_str_bytes};
 ghost use Rattle.cedar_model.specs.Settings.{look_up};
 ghost use Rattle.cedar_model.specs.Values.{abstract_value};
@@ -9,22 +9,25 @@ ghost use Rattle.cedar_model.specs.Operators.{attribute_residual, attribute_resi
 ghost use Rattle.cedar_model.specs.Operators.{tag_residual_found, tag_residual_of, residual_in, container_of};
 ghost use Rattle.cedar_names.specs.Names.{uid_name};
 ghost use Rattle.cedar_names.specs.Leaves.{binary_view, texts_view};
+ghost use Rattle.cedar_data.specs.Residuals.{residual_term};
 ghost use Rattle.cedar_data.specs.Sound.{Placed};
 ghost use Rattle.cedar_layers.specs.Parts.{found_part};
 ghost use Rattle.cedar_layers.specs.Stores.{store_view};
-ghost use Rattle.cedar_operators.specs.StoredResiduals.{residual_of, path_residual_of, path_residual};
+ghost use Rattle.cedar_operators.specs.StoredResiduals.{residual_of, on_path_of, path_residual_of, path_residual};
 ghost use Rattle.cedar_operators.specs.StoredResiduals.{next_in, next_found, value_in};
 
 use crate::attributes::{Container, container_in};
+use crate::residuals::path;
 use crate::typed::{entity_in, text_in};
 use cedar_layers::expressions::{
-    BinaryOp, EntityUID, FirstRest, PartialValue, ResidualExpr, Value,
+    BinaryOp, EntityUID, Expr, FirstRest, PartialValue, ResidualExpr, Value,
 };
 use cedar_layers::policies::Entities;
-use std::rc::RcStr;
+use std::alloc::{AllocError, Global};
+use std::rc::{Rc, RcStr};
 
 /// A stored residual that an extended `has` reads, and the attributes after it.
-pub type OnPath<'s, 'a> = (&'s ResidualExpr, &'a RcStr, &'a [RcStr]);
+pub type OnPath = (Rc<Expr>, Rc<FirstRest<RcStr>>);
 
 /// The residual that `value.attr` reads: the attribute of an entity that is there, where it is stored as a residual.
 #[tactic(auto, unfolding(cedar_model::specs::Operators::attribute_residual_of))]
@@ -133,32 +136,48 @@ fn residual_in(part: Option<&PartialValue>) -> Option<&ResidualExpr>
 }
 
 /// The first residual that `value has a.b..` reads, with the attributes after it: an attribute on the way, the last aside, that is
-/// stored as a residual.
-pub fn path_residual<'s, 'a>(
-    entities: &'s Entities,
-    value: &'s Value,
-    attrs: &'a FirstRest<RcStr>,
-) -> Option<OnPath<'s, 'a>>
-    ensures { path_residual_of result ≡ path_residual (store_view entities.now) value.now.what
-        (rc_str_bytes attrs.now.first) (texts_view attrs.now.rest.items) }
+/// stored as a residual. Refuses only for want of memory.
+pub fn path_residual(
+    alloc: Global,
+    entities: &Entities,
+    value: &Value,
+    attrs: &FirstRest<RcStr>,
+) -> Result<Option<OnPath>, AllocError>
+    ensures { IfOk result (λ o. path_residual_of o ≡ path_residual (store_view entities.now) value.now.what
+        (rc_str_bytes attrs.now.first) (texts_view attrs.now.rest.items)) }
 {
     let mut here: &Value = value;
     let mut first: &RcStr = &attrs.first;
     let mut others: &[RcStr] = attrs.rest.as_slice();
     'steps: while let Some((second, rest)) = others.split_first() {
         match attribute_residual(entities, here, first) {
-            Some(residual) => return Some((residual, second, rest)),
+            Some(residual) => return Ok(Some(on_path(alloc, residual, second, rest)?)),
             None => match next_value(entities, here, first) {
                 Some(next) => {
                     here = next;
                     first = second;
                     others = rest;
                 }
-                None => return None,
+                None => return Ok(None),
             },
         }
     }
-    None
+    Ok(None)
+}
+
+// The residual, and the attributes after it.
+fn on_path(
+    alloc: Global,
+    residual: &ResidualExpr,
+    first: &RcStr,
+    others: &[RcStr],
+) -> Result<OnPath, AllocError>
+    ensures { IfOk result (λ p. on_path_of p
+        ≡ (residual_term residual.now, rc_str_bytes first.now, texts_view others.now)) }
+{
+    let part = Rc::new(alloc, residual.as_expr().clone()?)?;
+    let attrs = Rc::new(alloc, path(alloc, first, others)?)?;
+    Ok((part, attrs))
 }
 
 // The value that the attribute leads to, if it leads to one.

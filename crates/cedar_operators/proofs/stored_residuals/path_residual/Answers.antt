@@ -1,4 +1,4 @@
-use Rattle.std.proofs.Common.{◌∙◌}
+use Rattle.std.proofs.Common.{Some, ap, ◌∙◌}
 use Rattle.cedar_operators.proofs.Read.{read_here, read_later, read_nowhere, last_read}
 use Rattle.cedar_operators.proofs.Stored.{texts_of_none}
 use Rattle.cedar_operators.proofs.stored_residuals.path_residual.Goals as goal
@@ -10,7 +10,8 @@ steps-preserved c =
 
 pub returns-in-Some-attribute_residual : goal.returns-in-Some-attribute_residual
 returns-in-Some-attribute_residual c =
-    read_here _ _ _ _ _ _ c.in-Some-attribute_residual.ensures ∙ rw c.in-Some.ensures.cases.0 at c.steps.invariant
+    ap Some c.in_ok-on_path-in-Some-attribute_residual.ensures
+    ∙ read_here _ _ _ _ _ _ c.in-Some-attribute_residual.ensures ∙ rw c.in-Some.ensures.cases.0 at c.steps.invariant
 
 pub returns-in-None-next_value : goal.returns-in-None-next_value
 returns-in-None-next_value c =

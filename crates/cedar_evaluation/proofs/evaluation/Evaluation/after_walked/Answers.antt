@@ -1,4 +1,4 @@
-use Rattle.std.proofs.Common.{sym, subst}
+use Rattle.std.proofs.Common.{sym, ap, ◌∙◌}
 use Rattle.std.specs.Rc.{rc_str_bytes}
 use Rattle.cedar_model.specs.Terms.{extended_has}
 use Rattle.cedar_model.specs.Operators.{path_answer}
@@ -6,20 +6,19 @@ use Rattle.cedar_model.specs.Failures.{answers}
 use Rattle.cedar_model.specs.Rules.{Runs, on_part}
 use Rattle.cedar_names.specs.Leaves.{texts_view}
 use Rattle.cedar_expressions.specs.View.{expr_loc}
-use Rattle.cedar_data.specs.Residuals.{partial_view, residual_term}
+use Rattle.cedar_data.specs.Residuals.{partial_view}
+use Rattle.cedar_operators.specs.StoredResiduals.{on_path_of, path_residual_of}
 use Rattle.cedar_evaluation.specs.declared.frame.Pending.TheVariants as pendings
 use Rattle.cedar_evaluation.specs.Settings.{setting_of, calls_in}
 use Rattle.cedar_evaluation.specs.Reads.{path_as_stored}
-use Rattle.cedar_evaluation.specs.Laws.{gives_goes_on, or_want_walks}
+use Rattle.cedar_evaluation.specs.Laws.{gives_goes_on, walked_goes_on}
 use Rattle.cedar_evaluation.proofs.evaluation.Evaluation.after_walked.Goals as goal
 
 pub returns-in-Some : goal.returns-in-Some
 returns-in-Some g c r k =
-    let s = setting_of r c.args.self.now in
-    let read = c.in-Some.read in
-    or_want_walks s (calls_in c.args.self.now) k (expr_loc c.args.whole.now.value) c.args.attrs.now (partial_view c.args.container.value)
-    (residual_term read.0.now) (rc_str_bytes read.1.now) (texts_view read.2.now) c.walk_again-next.result c.or_want.result
-    (sym (rw c.deref.ensures at c.in-Some.ensures)) c.walk_again-next.ensures c.or_want.ensures
+    walked_goes_on (setting_of r c.args.self.now) (calls_in c.args.self.now) k (expr_loc c.args.whole.now.value) c.args.attrs.now
+    (partial_view c.args.container.value) (on_path_of c.in-Some.read) c.walk_again.result
+    (sym (rw (c.deref.ensures, c.deref-2.ensures) at c.in-Ok.ensures) ∙ ap path_residual_of c.in-Some.is) c.walk_again.ensures
 
 pub returns-in-None : goal.returns-in-None
 returns-in-None g c r k =
@@ -30,5 +29,6 @@ returns-in-None g c r k =
     let keys = texts_view c.args.attrs.now.value.rest.items in
     gives_goes_on s calls k (expr_loc c.args.whole.now.value) (pendings.ExtHasAttr c.args.attrs.now) (answers part)
     (on_part (λ v. path_answer s.store v key keys) (λ q. extended_has q key keys) (answers part)) c.walked_as_stored.result
-    (λ a ok is. path_as_stored (Runs s calls k) s.store s.resolution part key keys a (sym (rw c.deref.ensures at c.in-None.ensures)) is)
-    c.walked_as_stored.ensures
+    (λ a ok is. path_as_stored (Runs s calls k) s.store s.resolution part key keys a
+    (sym (rw (c.deref.ensures, c.deref-2.ensures) at c.in-Ok.ensures) ∙ ap path_residual_of c.in-None.is) is)
+    (rw c.deref-in-None.ensures at c.walked_as_stored.ensures)

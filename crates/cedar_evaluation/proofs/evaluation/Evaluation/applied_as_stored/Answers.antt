@@ -1,4 +1,4 @@
-use Rattle.std.proofs.Common.{sym, subst}
+use Rattle.std.proofs.Common.{subst}
 use Rattle.cedar_names.specs.Leaves.{binary_view}
 use Rattle.cedar_expressions.specs.View.{expr_loc}
 use Rattle.cedar_data.specs.Residuals.{partial_view}

@@ -1,4 +1,4 @@
-use Rattle.std.proofs.Common.{zero, suc, refl, sym, ap, ◌∙◌, arith}
+use Rattle.std.proofs.Common.{zero, suc, sym, ap, ◌∙◌, arith}
 use Rattle.std.specs.Rc.{rc_str_bytes}
 use Rattle.cedar_model.specs.Terms.{variable}
 use Rattle.cedar_model.specs.Failures.{answers}

@@ -1,4 +1,3 @@
-use Rattle.std.proofs.Common.{refl}
 use Rattle.std.specs.Rc.{rc_str_bytes}
 use Rattle.cedar_expressions.specs.View.{view}
 use Rattle.cedar_evaluation.specs.Settings.{setting_of, calls_in}

@@ -1,4 +1,4 @@
-use Rattle.std.proofs.Common.{◌≡◌, refl, subst, IfSome}
+use Rattle.std.proofs.Common.{◌≡◌, subst, IfSome}
 use Rattle.cedar_names.specs.Leaves.{binary_view}
 use Rattle.cedar_evaluation.specs.Operands.{values_alike}
 use Rattle.cedar_model.specs.Failures.{answers_value}
