@@ -11,7 +11,7 @@ use Rattle.cedar_model.specs.LevelLaws.{FunctionsMeetNoLimit}
 use Rattle.cedar_model.specs.Rules.{StoredCalls}
 use Rattle.cedar_model.specs.Agreement.{AgreesWithFunctions, HasNothingUnknown, own_world}
 use Rattle.cedar_model.specs.Restricted.{IsGivenSound}
-use Rattle.cedar_model.specs.Policies.{Policy, permit, forbid, Decision, allow, deny, ErrorHandling, skip, forbid_on_error, counted_each}
+use Rattle.cedar_model.specs.Policies.{Policy, permit, forbid, Decision, allow, deny, ErrorHandling, skip, forbid_on_error}
 use Rattle.cedar_model.specs.Reordering.{IsReordering}
 use Rattle.cedar_model.specs.Responses.{Row}
 use Rattle.cedar_model.specs.Chains.{rows_by}

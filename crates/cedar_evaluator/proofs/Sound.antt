@@ -1,5 +1,5 @@
 -- What an evaluator is given is sound: the types keep it.
-use Rattle.std.specs.Prelude.{◌≡◌, ℕ, true, Option, None, Some}
+use Rattle.std.specs.Prelude.{◌≡◌, ℕ, true, None, Some}
 use Rattle.std.proofs.Common.{refl, ap, ◌∙◌}
 use Rattle.cedar_model.specs.Terms.{Text, Term, context, record_of}
 use Rattle.cedar_model.specs.Values.{Represented, plain_represented, set_represented, record_represented, extension_represented}

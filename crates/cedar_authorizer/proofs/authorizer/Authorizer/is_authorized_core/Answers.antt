@@ -1,4 +1,3 @@
-use Rattle.std.proofs.Common.{refl}
 use Rattle.cedar_extensions.specs.Extensions.{calls_of}
 use Rattle.cedar_extensions.specs.StoredLaws.{calls_meet_no_limit}
 use Rattle.cedar_authorizer.specs.Configured.{extensions_of, limit_of, mode_of, asked}

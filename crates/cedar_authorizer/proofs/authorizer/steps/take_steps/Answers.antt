@@ -26,7 +26,7 @@ returns-then-has_recursion_limit-clause-taken g c =
 pub returns-clause-taken : goal.returns-clause-taken
 returns-clause-taken g c =
     let steps = c.args.steps.now in
-    ends_with (configuration c.args.authorizer.now) c.args.first (steps_view (resolution_of c.args.authorizer.now) steps) (steps_view (resolution_of c.args.authorizer.now) (drop c.steps.step-index steps)) c.steps.response (ap (steps_view (resolution_of c.args.authorizer.now)) (resolution_of c.args.authorizer.now) (drop_all c.steps.step-index steps c.steps-test.false)) c.steps.invariant
+    ends_with (configuration c.args.authorizer.now) c.args.first (steps_view (resolution_of c.args.authorizer.now) steps) (steps_view (resolution_of c.args.authorizer.now) (drop c.steps.step-index steps)) c.steps.response (ap (steps_view (resolution_of c.args.authorizer.now)) (drop_all c.steps.step-index steps c.steps-test.false)) c.steps.invariant
 
 pub returns-in-Err-clause-taken : goal.returns-in-Err-clause-taken
 returns-in-Err-clause-taken g c =
