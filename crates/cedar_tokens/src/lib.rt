@@ -1,0 +1,5 @@
+//! The tokens of Cedar's policy text: a text is cut into tokens, and what a token stands for is read.
+#![tactic(auto)]
+
+pub mod errors;
+pub mod tokens;
