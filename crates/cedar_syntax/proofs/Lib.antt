@@ -1,0 +1,4 @@
+pub mod Growing
+pub mod Making
+pub mod Nested
+pub mod Turns

@@ -1,0 +1,28 @@
+-- Each part stands inside what it is a part of.
+use Rattle.std.specs.Prelude.{ℕ, ◌<◌, ◌≤◌, List, length, ⊤}
+use Rattle.cedar_tokens.specs.declared.tokens.Token.{Token}
+use Rattle.cedar_syntax.specs.Tokens.{start_at, end_at}
+use Rattle.cedar_syntax.specs.Trees.{Tree, leaf, unary, binary, conditional, field, bracketed, Trees, none, also}
+
+-- no token ends before it starts, or starts before one ends that comes before it
+pub record IsInOrder (all : List Token) : Type 0 where
+  pub forward : (i : ℕ) → i < length all → start_at all i ≤ end_at all i
+  pub apart : (i j : ℕ) → i < j → j < length all → end_at all i ≤ start_at all j
+
+abbrev mutual
+  -- the tree stands between these bytes, and each of its parts inside what it is a part of
+  pub IsInside : ℕ → ℕ → Tree → Type 0
+  IsInside lo hi (leaf l s e) = (lo ≤ s) × (s ≤ e) × (e ≤ hi)
+  IsInside lo hi (unary u p s e) = (lo ≤ s) × (e ≤ hi) × IsInside s e p
+  IsInside lo hi (binary b p q s e) = (lo ≤ s) × (e ≤ hi) × IsInside s e p × IsInside s e q
+  IsInside lo hi (conditional p q r s e) = (lo ≤ s) × (e ≤ hi) × IsInside s e p × IsInside s e q × IsInside s e r
+  IsInside lo hi (field i p s e) = (lo ≤ s) × (e ≤ hi) × IsInside s e p
+  IsInside lo hi (bracketed k ps s e) = (lo ≤ s) × (e ≤ hi) × (s ≤ e) × AreInside s e ps
+
+  pub AreInside : ℕ → ℕ → Trees → Type 0
+  AreInside lo hi none = ⊤
+  AreInside lo hi (also ps p) = AreInside lo hi ps × IsInside lo hi p
+
+-- each part of the tree stands inside what it is a part of
+abbrev pub IsNested : Tree → Type 0
+IsNested p = (lo : ℕ) × (hi : ℕ) × IsInside lo hi p
