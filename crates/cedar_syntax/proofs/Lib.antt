@@ -1,4 +1,6 @@
 pub mod Growing
+pub mod Listed
 pub mod Making
+pub mod Members
 pub mod Nested
 pub mod Turns

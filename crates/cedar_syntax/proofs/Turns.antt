@@ -1,5 +1,5 @@
 -- What a token more makes of where the machine stands: operands, signs, operators, parentheses and `if`.
-use Rattle.std.proofs.Common.{◌≡◌, ℕ, ◌+◌, ◌-◌, ◌<◌, ◌≤◌, List, [], ◌∷◌, length, refl, ap, arith, lit<, Bool, true, false, suc, zero, Some, add-one}
+use Rattle.std.proofs.Common.{◌≡◌, ◌∙◌, ℕ, ◌+◌, ◌-◌, ◌<◌, ◌≤◌, List, [], ◌∷◌, length, refl, sym, ap, subst, arith, lit<, Bool, true, false, suc, zero, Some, add-one}
 use Prim.Native.Nat.{max}
 use Rattle.cedar_tokens.specs.declared.tokens.Kind.TheVariants as kind
 use Rattle.cedar_tokens.specs.declared.tokens.Token.{Token}
@@ -52,6 +52,9 @@ some_awaited (behind_key b k l) = lit< tt
 pub leaf_read : {all : List Token} {fs : List Frame} {ts : List Tree} {i s e : ℕ} {l : Leaf} {m : Look} → Waits all fs ts i → leaf_of (kind_at all i) i ≡ Some l → s ≡ start_at all i → e ≡ end_at all i → m ≡ record { frames = fs; trees = leaf l s e ∷ ts; level = 1; start = s; end = e; height = 1 } → Reads all m (i + 1)
 leaf_read w k s_is e_is m_is = rw (m_is, s_is, e_is) (part w (by_leaf k) (some_awaited w))
 
+pub variable_read : {all : List Token} {fs : List Frame} {ts : List Tree} {at i s e : ℕ} {l : Leaf} {m : Look} → Waits all fs ts at → leaf_of (kind_at all at) at ≡ Some l → i ≡ at + 1 → s ≡ start_at all at → e ≡ end_at all at → m ≡ record { frames = fs; trees = leaf l s e ∷ ts; level = 1; start = s; end = e; height = 1 } → Reads all m i
+variable_read w k i_is s_is e_is m_is = rw i_is (leaf_read w k s_is e_is m_is)
+
 pub long_read : {all : List Token} {fs : List Frame} {ts : List Tree} {at i s e : ℕ} {m : Look} → Waits all fs ts at → kind_at all at ≡ kind.Number → i ≡ at + 1 → s ≡ start_at all at → e ≡ end_at all at → m ≡ record { frames = fs; trees = leaf (leaves.Long at) s e ∷ ts; level = 0; start = s; end = e; height = 1 } → Reads all m i
 long_read w k i_is s_is e_is m_is = rw (m_is, i_is, s_is, e_is) (part w (by_number k) (omega (arith, some_awaited w)))
 
@@ -80,10 +83,16 @@ height-signed u (suc c) s e p = omega (arith, height-signed u c s e p)
 pub signs_read : {all : List Token} {fs : List Frame} {ts : List Tree} {n l s e g h c j : ℕ} {u : Sign} {m : Look} → Reads all (record { frames = record { wait = wait.Signs u c; start = s; height = h } ∷ fs; trees = ts; level = l; start = g; end = e; height = n }) j → lowest_of u ≤ l → m ≡ record { frames = fs; trees = signs_made u c s e ts; level = 2; start = s; end = e; height = n + c } → Reads all m j
 signs_read {s = s} {e = e} (part {ts = us} {p = p} (behind_signs {c = c} {u = u} w lt h le) d below) low m_is = rw (m_is, signs_made-signed u (suc c) s e p us, ← height-signed u (suc c) s e p) (part w (by_signs h le d (omega (arith, below)) low) lt)
 
-pub negative_read : {all : List Token} {fs : List Frame} {ts : List Tree} {n at i s e h c : ℕ} {m : Look} → Waits all (record { wait = wait.Signs Neg n; start = s; height = h } ∷ fs) ts at → kind_at all at ≡ kind.Number → i ≡ at + 1 → e ≡ end_at all at → c ≡ n - 1 → m ≡ record { frames = fs; trees = signs_made Neg c s e (leaf (leaves.NegativeLong at) s e ∷ ts); level = 2; start = s; end = e; height = 1 + c } → Reads all m i
-negative_read {all} {ts = ts} {at = at} {s = s} {e = e} {c = c} (behind_signs {c = d} w lt h le) k i_is e_is c_is m_is =
+negative_part : {all : List Token} {fs : List Frame} {ts : List Tree} {n at i s e h c : ℕ} → Waits all (record { wait = wait.Signs Neg n; start = s; height = h } ∷ fs) ts at → kind_at all at ≡ kind.Number → i ≡ at + 1 → e ≡ end_at all at → c ≡ n - 1 → Reads all (record { frames = fs; trees = signs_made Neg c s e (leaf (leaves.NegativeLong at) s e ∷ ts); level = 2; start = s; end = e; height = 1 + c }) i
+negative_part {all} {ts = ts} {at = at} {s = s} {e = e} {c = c} (behind_signs {c = d} w lt h le) k i_is e_is c_is =
     let c_is : c ≡ d = omega (arith, c_is) in
-    rw (m_is, i_is, c_is, e_is, signs_made-signed Neg d s (end_at all at) (leaf (leaves.NegativeLong at) s (end_at all at)) ts, ← height-signed Neg d s (end_at all at) (leaf (leaves.NegativeLong at) s (end_at all at))) (part w (by_negative h le k) lt)
+    rw (i_is, c_is, e_is, signs_made-signed Neg d s (end_at all at) (leaf (leaves.NegativeLong at) s (end_at all at)) ts, ← height-signed Neg d s (end_at all at) (leaf (leaves.NegativeLong at) s (end_at all at))) (part w (by_negative h le k) lt)
+
+-- the number is the part first, and then the signs are put before it
+pub negative_read : {all : List Token} {fs : List Frame} {ts : List Tree} {n at i s e h c : ℕ} {l m : Look} → Waits all (record { wait = wait.Signs Neg n; start = s; height = h } ∷ fs) ts at → kind_at all at ≡ kind.Number → i ≡ at + 1 → e ≡ end_at all at → c ≡ n - 1 → l ≡ record { frames = fs; trees = leaf (leaves.NegativeLong at) s e ∷ ts; level = 2; start = s; end = e; height = 1 } → m ≡ record { frames = l.frames; trees = signs_made Neg c s l.end l.trees; level = 2; start = s; end = l.end; height = l.height + c } → Reads all m i
+negative_read {all} {i = i} {s = s} {c = c} w k i_is e_is c_is l_is m_is =
+    let m_is = m_is ∙ ap (λ (x : Look). let y : Look = record { frames = x.frames; trees = signs_made Neg c s x.end x.trees; level = 2; start = s; end = x.end; height = x.height + c } in y) l_is in
+    subst (λ (x : Look). Reads all x i) (sym m_is) (negative_part w k i_is e_is c_is)
 
 -- ---- operators
 

@@ -19,8 +19,11 @@ use cedar_tokens::errors::{Expected, ReadError};
 use cedar_tokens::tokens::{Kind, Token};
 use std::alloc::Global;
 
+mod brackets;
+mod members;
 mod operands;
 mod operators;
+mod relations;
 mod work;
 
 // What may come next. A state names tokens by their numbers, and `start` and `end` are bytes.
@@ -220,7 +223,25 @@ impl Work {
         match state {
             State::Operand => self.operand(tokens, index),
             State::Operator => self.operator(tokens, index),
-            _ => Err(Refusal::Expected(Expected::End)),
+            State::Number(at) => self.number(at, tokens, index),
+            State::Name(from, start, end) => self.name(from, start, end, tokens, index),
+            State::Path(from, start) => self.path(from, start, tokens, index),
+            State::Dot => self.dot(tokens, index),
+            State::Member(at) => self.member(at, tokens, index),
+            State::Index => self.index_text(tokens, index),
+            State::IndexEnd(at) => self.index_end(at, tokens, index),
+            State::First => self.first(tokens, index),
+            State::FirstKey => self.first_key(tokens, index),
+            State::Key => self.key(tokens, index),
+            State::Colon(at) => self.colon(at, tokens, index),
+            State::Has => self.has(tokens, index),
+            State::HasMore(from, end) => self.has_more(from, end, tokens, index),
+            State::HasDot(from) => self.has_dot(from, tokens, index),
+            State::Like => self.like(tokens, index),
+            State::Is => self.is(tokens, index),
+            State::IsMore(from, start, end) => self.is_more(from, start, end, tokens, index),
+            State::IsPath(from, start) => self.is_path(from, start, tokens, index),
+            State::Finished => Err(Refusal::Expected(Expected::End)),
         }
     }
 

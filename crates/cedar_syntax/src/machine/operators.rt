@@ -24,6 +24,32 @@ impl Work {
         ensures limit { self.new.limit ≡ self.old.limit }
         ensures ok { IfOk result (λ next. Stands tokens.now next (look self.new) (index + 1)) }
     {
+        match kind_at(tokens, index) {
+            Kind::Dot => self.open_dot(tokens, index),
+            Kind::OpenBracket => self.open_index(tokens, index),
+            Kind::Has => {
+                self.relate(tokens, index)?;
+                Ok(State::Has)
+            }
+            Kind::Like => {
+                self.relate(tokens, index)?;
+                Ok(State::Like)
+            }
+            Kind::Is => {
+                self.relate(tokens, index)?;
+                Ok(State::Is)
+            }
+            _ => self.between(tokens, index),
+        }
+    }
+
+    // An operator between two parts, or the end of the part.
+    fn between(&mut self, tokens: &[Token], index: usize) -> Result<State, Refusal>
+        requires within { index < length tokens.now }
+        requires reads { Reads tokens.now (look self.old) index }
+        ensures limit { self.new.limit ≡ self.old.limit }
+        ensures ok { IfOk result (λ next. Stands tokens.now next (look self.new) (index + 1)) }
+    {
         match operator_at(tokens, index) {
             Some(operator) => self.infix(operator, tokens, index),
             None => self.close(tokens, index),
@@ -97,6 +123,10 @@ impl Work {
             Wait::Paren => self.close_paren(start, height, tokens, index),
             Wait::If => self.then(start, height, tokens, index),
             Wait::Then => self.or_else(start, height, tokens, index),
+            Wait::Item(bracketed, count) => self.close_item(
+                bracketed, count, start, height, tokens, index,
+            ),
+            Wait::Field(at, count) => self.close_field(at, count, start, height, tokens, index),
             _ => Err(Refusal::Expected(Expected::Operator)),
         }
     }

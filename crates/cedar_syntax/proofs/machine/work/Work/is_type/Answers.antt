@@ -1,0 +1,5 @@
+use Rattle.cedar_syntax.proofs.Members.{is_read}
+use Rattle.cedar_syntax.proofs.machine.work.Work.is_type.Goals as goal
+
+pub operator-requires-clause-reads : goal.operator-requires-clause-reads
+operator-requires-clause-reads c = is_read c.requires.stands.0 c.requires.stands.1 c.in_ok-make.ensures.look
