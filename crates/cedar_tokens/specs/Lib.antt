@@ -1,0 +1,5 @@
+pub mod Lexicon
+pub mod Operators
+pub mod Scanning
+pub mod Tokens
+pub mod Words

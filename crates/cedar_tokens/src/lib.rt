@@ -2,4 +2,8 @@
 #![tactic(auto)]
 
 pub mod errors;
+pub mod lexer;
+mod operators;
+mod scanning;
 pub mod tokens;
+mod words;

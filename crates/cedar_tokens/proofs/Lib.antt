@@ -1,0 +1,4 @@
+pub mod Fronts
+pub mod Lows
+pub mod Runs
+pub mod Whole
