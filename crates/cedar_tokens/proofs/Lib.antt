@@ -1,3 +1,4 @@
+pub mod Bounds
 pub mod Fronts
 pub mod Lows
 pub mod Runs

@@ -1,3 +1,4 @@
+pub mod Escapes
 pub mod Lexicon
 pub mod Operators
 pub mod Scanning

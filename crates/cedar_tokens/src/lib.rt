@@ -2,6 +2,8 @@
 #![tactic(auto)]
 
 pub mod errors;
+mod escapes;
+mod escaping;
 pub mod lexer;
 mod operators;
 mod scanning;
