@@ -1,0 +1,6 @@
+pub mod Escapes
+pub mod Lexicon
+pub mod Operators
+pub mod Scanning
+pub mod Tokens
+pub mod Words

@@ -2,4 +2,10 @@
 #![tactic(auto)]
 
 pub mod errors;
+mod escapes;
+mod escaping;
+pub mod lexer;
+mod operators;
+mod scanning;
 pub mod tokens;
+mod words;
