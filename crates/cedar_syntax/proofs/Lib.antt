@@ -1,3 +1,4 @@
+pub mod Erring
 pub mod Growing
 pub mod Listed
 pub mod Making

@@ -1,5 +1,5 @@
 -- What the grammar derives stands where its tokens do, each part inside what it is a part of.
-use Rattle.std.proofs.Common.{◌≡◌, ℕ, ◌+◌, ◌<◌, ◌≤◌, List, length, refl, arith, Bool, true, false, suc, zero, inl, inr}
+use Rattle.std.proofs.Common.{◌≡◌, ℕ, ◌+◌, ◌-◌, ◌<◌, ◌≤◌, List, length, refl, arith, Bool, true, false, suc, zero, inl, inr}
 use Rattle.std.proofs.Math.Nat.{eq-or-lt_of_le}
 use Rattle.cedar_tokens.specs.declared.tokens.Token.{Token}
 use Rattle.cedar_syntax.specs.declared.steps.Sign.{Sign}
@@ -195,8 +195,8 @@ module _ {all : List Token} (ordered : IsInOrder all) where
         let g = ends_of d in
         (starts_before b i low (omega (arith, g.before, g.order, high, lt)), rw g.ends (ends_before g.last z (omega (arith, g.before, high)) lt), fits p d refl g.ends (omega arith) (omega (arith, g.before)) (omega (arith, g.before, high, lt)) (nested d (omega (arith, high, lt))))
 
-  pub expression_nested : {p : Tree} → IsExpression all p → IsNested p
-  expression_nested (whole {s = s} {e = e} d lt k) = (s, e, nested d (omega (arith, lt)))
+  pub expression_nested : {p : Tree} → IsExpression all p → IsNested all p
+  expression_nested (whole {p = p} d lt k) = fits {b = 0} {z = length all - 1} p d refl refl (omega arith) (omega (arith, lt)) (omega (arith, lt)) (nested d (omega (arith, lt)))
 
 pub finished_read : {all : List Token} {h limit : ℕ} {ts : List Tree} → IsWhole all h ts → h ≤ limit → HasRead all limit ts
 finished_read (is_whole d) le = has_read d le (λ ordered. expression_nested ordered d)

@@ -1,7 +1,11 @@
 -- Each part stands inside what it is a part of.
-use Rattle.std.specs.Prelude.{ℕ, ◌<◌, ◌≤◌, List, length, ⊤}
+use Rattle.std.specs.Prelude.{ℕ, ◌-◌, ◌<◌, ◌≤◌, List, length, ⊤}
+use Rattle.cedar_tokens.specs.declared.errors.Expected.{Expected}
+use Rattle.cedar_tokens.specs.declared.errors.ReadError.{ReadError}
+use Rattle.cedar_tokens.specs.declared.errors.ReadError.TheVariants as error
+use Rattle.cedar_tokens.specs.declared.tokens.Kind.{Kind}
 use Rattle.cedar_tokens.specs.declared.tokens.Token.{Token}
-use Rattle.cedar_syntax.specs.Tokens.{start_at, end_at}
+use Rattle.cedar_syntax.specs.Tokens.{kind_at, start_at, end_at}
 use Rattle.cedar_syntax.specs.Trees.{Tree, leaf, unary, binary, conditional, field, bracketed, Trees, none, also}
 
 -- no token ends before it starts, or starts before one ends that comes before it
@@ -23,6 +27,19 @@ abbrev mutual
   AreInside lo hi none = ⊤
   AreInside lo hi (also ps p) = AreInside lo hi ps × IsInside lo hi p
 
--- each part of the tree stands inside what it is a part of
-abbrev pub IsNested : Tree → Type 0
-IsNested p = (lo : ℕ) × (hi : ℕ) × IsInside lo hi p
+-- the byte before which the last token ends
+abbrev pub end_of : List Token → ℕ
+end_of all = end_at all (length all - 1)
+
+-- the tree stands between the tokens' ends, and each of its parts inside what it is a part of
+abbrev pub IsNested : List Token → Tree → Type 0
+IsNested all p = IsInside (start_at all 0) (end_of all) p
+
+-- ---- errors
+
+-- an error stands at a token, or behind the last one; what is too high ends with a token
+pub data IsPlaced (all : List Token) : ReadError → Type 0 where
+  for_memory : IsPlaced all error.Memory
+  at_token : {i : ℕ} {what : Expected} → i < length all → IsPlaced all (error.Expected what (kind_at all i) (start_at all i) (end_at all i))
+  at_end : {what : Expected} {found : Kind} → IsPlaced all (error.Expected what found (end_of all) (end_of all))
+  up_to_token : {i s : ℕ} → i < length all → s ≤ end_at all i → IsPlaced all (error.TooDeep s (end_at all i))

@@ -92,7 +92,7 @@ pub data IsWhole (all : List Token) : ℕ → List Tree → Type 0 where
 -- the tokens derive a tree, which the steps make; it is no higher than the limit, and if the tokens stand in order, each part of it stands inside
 -- what it is a part of
 pub data HasRead (all : List Token) (limit : ℕ) : List Tree → Type 0 where
-  has_read : {p : Tree} → IsExpression all p → height p ≤ limit → (IsInOrder all → IsNested p) → HasRead all limit (p ∷ [])
+  has_read : {p : Tree} → IsExpression all p → height p ≤ limit → (IsInOrder all → IsNested all p) → HasRead all limit (p ∷ [])
 
 -- ---- what is made
 

@@ -2,8 +2,9 @@
 //!
 //! What waits for more tokens, a bracket or an operator whose right side is not read yet, is a frame; the innermost
 //! frame waits for the part that is read now. An operator first makes what frames of at most its own level wait to make.
-ghost use Rattle.std.specs.Prelude.{◌≡◌, ◌+◌, ◌<◌, ◌≤◌, ◌∷◌, length, IfOk};
+ghost use Rattle.std.specs.Prelude.{◌≡◌, ◌+◌, ◌<◌, ◌≤◌, ◌∷◌, length, IfOk, IfErr};
 ghost use Rattle.cedar_syntax.specs.Grammar as Grammar;
+ghost use Rattle.cedar_syntax.specs.Places.{IsPlaced, end_of};
 ghost use Rattle.cedar_syntax.specs.Reading.{Reads, HasRead};
 ghost use Rattle.cedar_syntax.specs.Standing.{look, Stands};
 ghost use Rattle.cedar_syntax.specs.Tokens as Tokens;
@@ -84,7 +85,8 @@ pub fn expression_steps(
     tokens: &[Token],
     limit: usize,
 ) -> Result<Vec<Step>, ReadError>
-    ensures { IfOk result (λ steps. HasRead tokens.now limit (trees steps.items)) }
+    ensures ok { IfOk result (λ steps. HasRead tokens.now limit (trees steps.items)) }
+    ensures err { IfErr result (λ error. IsPlaced tokens.now error) }
 {
     let mut work = Work {
         frames: Frames::new(alloc),
@@ -108,22 +110,74 @@ fn turn(work: &mut Work, state: State, tokens: &[Token], index: usize) -> Result
     requires stands { Stands tokens.now state (look work.old) index }
     ensures limit { work.new.limit ≡ work.old.limit }
     ensures ok { IfOk result (λ next. Stands tokens.now next (look work.new) (index + 1)) }
+    ensures err { IfErr result (λ error. IsPlaced tokens.now error) }
 {
     match work.take(state, tokens, index) {
         Ok(next) => Ok(next),
-        Err(refusal) => Err(placed(refusal, token_at(tokens, index), work.start)),
+        Err(refusal) => Err(placed(refusal, tokens, index, work.start)),
     }
 }
 
-fn placed(refusal: Refusal, token: Token, start: usize) -> ReadError {
+// The error at the token of this number; what is too high begins at this byte.
+fn placed(refusal: Refusal, tokens: &[Token], index: usize, start: usize) -> ReadError
+    requires { index < length tokens.now }
+    ensures { IsPlaced tokens.now result }
+{
+    let found = kind_at(tokens, index);
+    let end = end_at(tokens, index);
     match refusal {
         Refusal::Memory => ReadError::Memory,
-        Refusal::Expected(what) => ReadError::expected(what, token),
+        Refusal::Expected(what) => ReadError::Expected {
+            what: what_at(what, found),
+            found,
+            start: start_at(tokens, index),
+            end,
+        },
         Refusal::TooDeep => ReadError::TooDeep {
-            start: token.end.min(start),
-            end: token.end,
+            start: lower(start, end),
+            end,
         },
     }
+}
+
+// What was expected, or what a token that can't be read should have been.
+fn what_at(what: Expected, found: Kind) -> Expected {
+    match found {
+        Kind::UnclosedText => Expected::Quote,
+        Kind::Unreadable => Expected::Token,
+        Kind::OtherSlot => Expected::Slot,
+        _ => what,
+    }
+}
+
+// The error that no token of kind `End` stands behind the others.
+fn at_end(tokens: &[Token]) -> ReadError
+    ensures { IsPlaced tokens.now result }
+{
+    let end = end_of(tokens);
+    ReadError::Expected {
+        what: Expected::End,
+        found: Kind::End,
+        start: end,
+        end,
+    }
+}
+
+// The byte before which the last token ends.
+fn end_of(tokens: &[Token]) -> usize
+    ensures { result ≡ end_of tokens.now }
+{
+    if tokens.is_empty() {
+        0
+    } else {
+        end_at(tokens, tokens.len() - 1)
+    }
+}
+
+fn lower(one: usize, other: usize) -> usize
+    ensures { result ≤ other }
+{
+    if one < other { one } else { other }
 }
 
 // The token of this number, its kind, and its bytes.
@@ -200,16 +254,12 @@ fn higher(one: usize, other: usize) -> usize
 impl Work {
     fn finish(self, state: State, tokens: &[Token]) -> Result<Vec<Step>, ReadError>
         requires { Stands tokens.now state (look self) (length tokens.now) }
-        ensures { IfOk result (λ steps. HasRead tokens.now self.limit (trees steps.items)) }
+        ensures ok { IfOk result (λ steps. HasRead tokens.now self.limit (trees steps.items)) }
+        ensures err { IfErr result (λ error. IsPlaced tokens.now error) }
     {
         match state {
             State::Finished => Ok(self.steps),
-            _ => Err(ReadError::Expected {
-                what: Expected::End,
-                found: Kind::End,
-                start: self.end,
-                end: self.end,
-            }),
+            _ => Err(at_end(tokens)),
         }
     }
 
