@@ -7,13 +7,16 @@ use Rattle.cedar_tokens.specs.declared.tokens.Token.{Token}
 use Rattle.cedar_syntax.specs.Tokens.{token_at, kind_at, start_at, end_at}
 use Rattle.cedar_syntax.specs.Places.{IsPlaced, at_token, at_end, up_to_token, end_of}
 
-pub token_placed : {all : List Token} {i s e : ℕ} {f : Kind} {what : Expected} → i < length all → f ≡ kind_at all i → s ≡ start_at all i → e ≡ end_at all i → IsPlaced all (error.Expected what f s e)
+pub token_placed : {all : List Token} {i s e : ℕ} {f : Kind} {what : Expected} → i < length all → f ≡ kind_at all i →
+    s ≡ start_at all i → e ≡ end_at all i → IsPlaced all (error.Expected what f s e)
 token_placed lt f_is s_is e_is = rw (f_is, s_is, e_is) (at_token lt)
 
-pub deep_placed : {all : List Token} {i s e : ℕ} → i < length all → e ≡ end_at all i → s ≤ e → IsPlaced all (error.TooDeep s e)
+pub deep_placed : {all : List Token} {i s e : ℕ} → i < length all → e ≡ end_at all i → s ≤ e →
+    IsPlaced all (error.TooDeep s e)
 deep_placed {all} {i} {s} lt e_is le = rw e_is (up_to_token lt (rw e_is at le))
 
-pub end_placed : {all : List Token} {e : ℕ} {what : Expected} {f : Kind} → e ≡ end_of all → IsPlaced all (error.Expected what f e e)
+pub end_placed : {all : List Token} {e : ℕ} {what : Expected} {f : Kind} → e ≡ end_of all →
+    IsPlaced all (error.Expected what f e e)
 end_placed e_is = rw e_is at_end
 
 pub no_token : (all : List Token) → length all ≡ 0 → 0 ≡ end_of all

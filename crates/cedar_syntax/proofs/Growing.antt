@@ -4,7 +4,12 @@ use Rattle.cedar_tokens.specs.declared.tokens.Token.{Token}
 use Rattle.cedar_syntax.specs.declared.steps.Sign.{Sign}
 use Rattle.cedar_syntax.specs.declared.steps.Bracketed.{Bracketed}
 use Rattle.cedar_syntax.specs.Trees.{Tree, Trees, count}
-use Rattle.cedar_syntax.specs.Grammar.{IsPath, one_name, name_inside, IsDotted, one_attribute, attribute_inside, AreSigns, no_sign, one_more, Derives, by_leaf, by_number, by_entity, by_parens, by_brackets, by_attribute, by_index, by_signs, by_negative, by_infix, by_has, by_has_text, by_like, by_is, by_is_in, by_if, Opens, opens_set, opens_record, opens_call, opens_method, Begins, nothing, comma, Lists, empty, filled, IsItem, item, keyed}
+use Rattle.cedar_syntax.specs.Grammar.{IsPath, one_name, name_inside, IsDotted, one_attribute, attribute_inside}
+use Rattle.cedar_syntax.specs.Grammar.{AreSigns, no_sign, one_more, Derives, by_leaf, by_number, by_entity, by_parens}
+use Rattle.cedar_syntax.specs.Grammar.{by_brackets, by_attribute, by_index, by_signs, by_negative, by_infix, by_has}
+use Rattle.cedar_syntax.specs.Grammar.{by_has_text, by_like, by_is, by_is_in, by_if, Opens, opens_set, opens_record}
+use Rattle.cedar_syntax.specs.Grammar.{opens_call, opens_method, Begins, nothing, comma, Lists, empty, filled, IsItem}
+use Rattle.cedar_syntax.specs.Grammar.{item, keyed}
 
 pub path_grows : {all : List Token} {i k s e : ℕ} → IsPath all i k s e → i < k
 path_grows (one_name h) = omega arith
@@ -61,6 +66,7 @@ opens_count (opens_record k) = omega arith
 opens_count (opens_call h k) = omega arith
 opens_count (opens_method d le k l m) = omega arith
 
-pub begins_count : {all : List Token} {k : Bracketed} {i j : ℕ} {ps qs : Trees} → Begins all k i j ps qs → count qs + i ≤ count ps + j
+pub begins_count : {all : List Token} {k : Bracketed} {i j : ℕ} {ps qs : Trees} → Begins all k i j ps qs →
+    count qs + i ≤ count ps + j
 begins_count nothing = omega arith
 begins_count (comma b h k) = omega (arith, begins_count b, item_grows h)

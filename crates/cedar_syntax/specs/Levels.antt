@@ -1,5 +1,6 @@
 -- Levels: the lower a level, the closer what it makes holds together.
---   0 a number that stands alone, 1 what needs no brackets anywhere, 2 signs, 3 products, 4 sums, 5 relations, 6 `&&`, 7 `||`, 8 `if`
+--   0 a number that stands alone, 1 what needs no brackets anywhere, 2 signs, 3 products, 4 sums, 5 relations, 6 `&&`,
+--   7 `||`, 8 `if`
 use Rattle.std.specs.Prelude.{◌≡◌, ℕ, List, [], ◌∷◌}
 use Rattle.cedar_syntax.specs.declared.levels.Operator.{Operator}
 use Rattle.cedar_syntax.specs.declared.levels.Operator.TheVariants as operator

@@ -8,10 +8,19 @@ use Rattle.cedar_syntax.specs.declared.machine.State.TheVariants as state
 use Rattle.cedar_syntax.specs.Tokens.{kind_at}
 use Rattle.cedar_syntax.specs.Trees.{trees}
 use Rattle.cedar_syntax.specs.Grammar.{is_identifier, is_key, IsPath, IsDotted}
-use Rattle.cedar_syntax.specs.Reading.{Look, Waits, HasOpened, AwaitsKey, Reads, Behind, IsRelated, BehindColons, BehindDot, IsWhole}
+use Rattle.cedar_syntax.specs.Reading.{Look, Waits, HasOpened, AwaitsKey, Reads, Behind, IsRelated, BehindColons}
+use Rattle.cedar_syntax.specs.Reading.{BehindDot, IsWhole}
 
 abbrev pub look : Work → Look
-look w = record { frames = w.frames; trees = trees w.steps.items; level = w.level; start = w.start; end = w.end; height = w.height }
+look w =
+    record {
+      frames = w.frames;
+      trees = trees w.steps.items;
+      level = w.level;
+      start = w.start;
+      end = w.end;
+      height = w.height;
+    }
 
 -- the tokens before number i were taken
 abbrev pub Stands : List Token → State → Look → ℕ → Type 0
@@ -21,9 +30,11 @@ Stands all (state.Number at) l i = Waits all l.frames l.trees at × (kind_at all
 Stands all (state.Name from s e) l i = Waits all l.frames l.trees from × IsPath all from i s e
 Stands all (state.Path from s) l i = Waits all l.frames l.trees from × BehindColons all from i s
 Stands all state.Dot l i = Behind all kind.Dot l i × (l.level ≤ 1)
-Stands all (state.Member at) l i = Behind all kind.Dot l at × (l.level ≤ 1) × (is_identifier (kind_at all at) ≡ true) × (i ≡ at + 1)
+Stands all (state.Member at) l i =
+    Behind all kind.Dot l at × (l.level ≤ 1) × (is_identifier (kind_at all at) ≡ true) × (i ≡ at + 1)
 Stands all state.Index l i = Behind all kind.OpenBracket l i × (l.level ≤ 1)
-Stands all (state.IndexEnd at) l i = Behind all kind.OpenBracket l at × (l.level ≤ 1) × (kind_at all at ≡ kind.Text) × (i ≡ at + 1)
+Stands all (state.IndexEnd at) l i =
+    Behind all kind.OpenBracket l at × (l.level ≤ 1) × (kind_at all at ≡ kind.Text) × (i ≡ at + 1)
 Stands all state.First l i = HasOpened all true l.frames l.trees i
 Stands all state.FirstKey l i = HasOpened all false l.frames l.trees i
 Stands all state.Key l i = AwaitsKey all l.frames l.trees i
@@ -35,4 +46,4 @@ Stands all state.Like l i = IsRelated all kind.Like l i
 Stands all state.Is l i = IsRelated all kind.Is l i
 Stands all (state.IsMore from s e) l i = IsRelated all kind.Is l from × IsPath all from i s e
 Stands all (state.IsPath from s) l i = IsRelated all kind.Is l from × BehindColons all from i s
-Stands all state.Finished l i = IsWhole all l.height l.trees
+Stands all state.Finished l i = IsWhole all l.height l.trees i

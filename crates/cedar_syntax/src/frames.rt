@@ -123,7 +123,8 @@ impl Frames {
     /// Takes the innermost frame, where signs of this kind wait in it.
     pub fn pop_signs(&mut self, sign: Sign) -> Option<Run>
         ensures same { IfNone result (self.new ≡ self.old) }
-        ensures top { IfSome result (λ run. self.old ≡ record { wait = Wait.Signs sign run.count; start = run.start; height = run.height } ∷ self.new) }
+        ensures top { IfSome result (λ run.
+            self.old ≡ record { wait = Wait.Signs sign run.count; start = run.start; height = run.height } ∷ self.new) }
     {
         match self.top_signs(sign) {
             Some(run) => {
@@ -136,7 +137,8 @@ impl Frames {
 
     // The signs of this kind that wait in the innermost frame.
     fn top_signs(&self, sign: Sign) -> Option<Run>
-        ensures { IfSome result (λ run. HasOnTop self.now (record { wait = Wait.Signs sign run.count; start = run.start; height = run.height })) }
+        ensures { IfSome result (λ run.
+            HasOnTop self.now (record { wait = Wait.Signs sign run.count; start = run.start; height = run.height })) }
     {
         match self.frames.last() {
             Some(frame) => match count_of(frame.wait, sign) {

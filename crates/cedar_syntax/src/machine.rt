@@ -5,7 +5,7 @@
 ghost use Rattle.std.specs.Prelude.{◌≡◌, ◌+◌, ◌<◌, ◌≤◌, ◌∷◌, length, IfOk, IfErr};
 ghost use Rattle.cedar_syntax.specs.Grammar as Grammar;
 ghost use Rattle.cedar_syntax.specs.Places.{IsPlaced, end_of};
-ghost use Rattle.cedar_syntax.specs.Reading.{Reads, HasRead};
+ghost use Rattle.cedar_syntax.specs.Reading.{Reads, HasRead, under};
 ghost use Rattle.cedar_syntax.specs.Standing.{look, Stands};
 ghost use Rattle.cedar_syntax.specs.Tokens as Tokens;
 ghost use Rattle.cedar_syntax.specs.Trees.{trees, made};
@@ -333,7 +333,7 @@ impl Work {
     // Lets what waits wait in a frame.
     fn wait(&mut self, wait: Wait, start: usize, height: usize) -> Result<(), Refusal>
         ensures limit { self.new.limit ≡ self.old.limit }
-        ensures frames { IfOk result (λ _. (look self.new).frames ≡ record { wait = wait; start = start; height = height } ∷ (look self.old).frames) }
+        ensures frames { IfOk result (λ _. self.new.frames ≡ (under wait start height (look self.old)).frames) }
         ensures trees { (look self.new).trees ≡ (look self.old).trees }
     {
         match self.frames.push(Frame {

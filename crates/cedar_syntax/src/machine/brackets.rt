@@ -1,7 +1,7 @@
 //! Parts in brackets: sets, records and the arguments of calls.
 ghost use Rattle.std.specs.Prelude.{◌≡◌, ◌+◌, ◌<◌, ◌∷◌, length, IfOk, Bool, true};
 ghost use Rattle.cedar_syntax.specs.Grammar as Grammar;
-ghost use Rattle.cedar_syntax.specs.Reading.{HasOpened, AwaitsKey, HasItem, Reads};
+ghost use Rattle.cedar_syntax.specs.Reading.{IsOpened, IsAwaitingKey, IsItemRead, Reads, under};
 ghost use Rattle.cedar_syntax.specs.Standing.{look, Stands};
 ghost use Rattle.cedar_syntax.specs.Tokens as Tokens;
 ghost use Rattle.cedar_tokens.specs.declared.tokens.Kind.TheVariants as kind;
@@ -43,7 +43,7 @@ impl Work {
     // The end of brackets with no part but a method's receiver.
     fn close_empty(&mut self, tokens: &[Token], index: usize) -> Result<State, Refusal>
         requires within { index < length tokens.now }
-        requires opened { (b : Bool) × HasOpened tokens.now b (look self.old).frames (look self.old).trees index }
+        requires opened { IsOpened tokens.now (look self.old) index }
         ensures limit { self.new.limit ≡ self.old.limit }
         ensures ok { IfOk result (λ next. Stands tokens.now next (look self.new) (index + 1)) }
     {
@@ -62,7 +62,7 @@ impl Work {
         index: usize,
     ) -> Result<State, Refusal>
         requires within { index < length tokens.now }
-        requires opened { (b : Bool) × HasOpened tokens.now b (record { wait = wait; start = start; height = height } ∷ (look self.old).frames) (look self.old).trees index }
+        requires opened { IsOpened tokens.now (under wait start height (look self.old)) index }
         ensures limit { self.new.limit ≡ self.old.limit }
         ensures ok { IfOk result (λ next. Stands tokens.now next (look self.new) (index + 1)) }
     {
@@ -84,7 +84,7 @@ impl Work {
         index: usize,
     ) -> Result<State, Refusal>
         requires within { index < length tokens.now }
-        requires opened { (b : Bool) × HasOpened tokens.now b (record { wait = Wait.Item bracketed count; start = start; height = height } ∷ (look self.old).frames) (look self.old).trees index }
+        requires opened { IsOpened tokens.now (under (Wait.Item bracketed count) start height (look self.old)) index }
         ensures limit { self.new.limit ≡ self.old.limit }
         ensures ok { IfOk result (λ next. Stands tokens.now next (look self.new) (index + 1)) }
     {
@@ -101,7 +101,7 @@ impl Work {
     // The key of a record's field.
     pub(super) fn key(&mut self, tokens: &[Token], index: usize) -> Result<State, Refusal>
         requires within { index < length tokens.now }
-        requires awaits { AwaitsKey tokens.now (look self.old).frames (look self.old).trees index }
+        requires awaits { IsAwaitingKey tokens.now (look self.old) index }
         ensures limit { self.new.limit ≡ self.old.limit }
         ensures ok { IfOk result (λ next. Stands tokens.now next (look self.new) (index + 1)) }
     {
@@ -154,7 +154,7 @@ impl Work {
         requires is { Tokens.kind_at tokens.now index ≡ kind.Colon }
         requires key { Grammar.is_key (Tokens.kind_at tokens.now at) ≡ true }
         requires next { index ≡ at + 1 }
-        requires awaits { AwaitsKey tokens.now (record { wait = wait; start = start; height = height } ∷ (look self.old).frames) (look self.old).trees at }
+        requires awaits { IsAwaitingKey tokens.now (under wait start height (look self.old)) at }
         ensures limit { self.new.limit ≡ self.old.limit }
         ensures ok { IfOk result (λ next. Stands tokens.now next (look self.new) (index + 1)) }
     {
@@ -178,7 +178,7 @@ impl Work {
         index: usize,
     ) -> Result<State, Refusal>
         requires within { index < length tokens.now }
-        requires reads { Reads tokens.now (record (look self.old) { frames = record { wait = Wait.Field at count; start = start; height = height } ∷ (look self.old).frames }) index }
+        requires reads { Reads tokens.now (under (Wait.Field at count) start height (look self.old)) index }
         ensures limit { self.new.limit ≡ self.old.limit }
         ensures ok { IfOk result (λ next. Stands tokens.now next (look self.new) (index + 1)) }
     {
@@ -205,7 +205,7 @@ impl Work {
         index: usize,
     ) -> Result<State, Refusal>
         requires within { index < length tokens.now }
-        requires item { HasItem tokens.now bracketed count start height (look self.old).frames (look self.old).trees (look self.old).height index }
+        requires item { IsItemRead tokens.now bracketed count start height (look self.old) index }
         ensures limit { self.new.limit ≡ self.old.limit }
         ensures ok { IfOk result (λ next. Stands tokens.now next (look self.new) (index + 1)) }
     {
@@ -226,7 +226,7 @@ impl Work {
     ) -> Result<State, Refusal>
         requires within { index < length tokens.now }
         requires is { Tokens.kind_at tokens.now index ≡ kind.Comma }
-        requires item { HasItem tokens.now bracketed count start height (look self.old).frames (look self.old).trees (look self.old).height index }
+        requires item { IsItemRead tokens.now bracketed count start height (look self.old) index }
         ensures limit { self.new.limit ≡ self.old.limit }
         ensures ok { IfOk result (λ next. Stands tokens.now next (look self.new) (index + 1)) }
     {
@@ -250,7 +250,7 @@ impl Work {
         index: usize,
     ) -> Result<State, Refusal>
         requires within { index < length tokens.now }
-        requires item { HasItem tokens.now bracketed count start height (look self.old).frames (look self.old).trees (look self.old).height index }
+        requires item { IsItemRead tokens.now bracketed count start height (look self.old) index }
         ensures limit { self.new.limit ≡ self.old.limit }
         ensures ok { IfOk result (λ next. Stands tokens.now next (look self.new) (index + 1)) }
     {

@@ -1,7 +1,7 @@
 //! Names, attributes, indices and calls.
 ghost use Rattle.std.specs.Prelude.{◌≡◌, ◌+◌, ◌<◌, ◌≤◌, length, IfOk};
 ghost use Rattle.cedar_syntax.specs.Grammar as Grammar;
-ghost use Rattle.cedar_syntax.specs.Reading.{Waits, Reads};
+ghost use Rattle.cedar_syntax.specs.Reading.{IsAwaiting, Reads};
 ghost use Rattle.cedar_syntax.specs.Standing.{look, Stands};
 ghost use Rattle.cedar_syntax.specs.Tokens as Tokens;
 ghost use Rattle.cedar_tokens.specs.declared.tokens.Kind.TheVariants as kind;
@@ -42,7 +42,7 @@ impl Work {
     // A name that is no type and no function is a variable.
     fn variable(&mut self, from: usize, tokens: &[Token], index: usize) -> Result<State, Refusal>
         requires within { index < length tokens.now }
-        requires waits { Waits tokens.now (look self.old).frames (look self.old).trees from }
+        requires waits { IsAwaiting tokens.now (look self.old) from }
         ensures limit { self.new.limit ≡ self.old.limit }
         ensures ok { IfOk result (λ next. Stands tokens.now next (look self.new) (index + 1)) }
     {
@@ -58,7 +58,7 @@ impl Work {
 
     fn variable_part(&mut self, from: usize, tokens: &[Token], index: usize) -> Result<(), Refusal>
         requires within { index < length tokens.now }
-        requires waits { Waits tokens.now (look self.old).frames (look self.old).trees from }
+        requires waits { IsAwaiting tokens.now (look self.old) from }
         requires next { index ≡ from + 1 }
         ensures limit { self.new.limit ≡ self.old.limit }
         ensures reads { IfOk result (λ _. Reads tokens.now (look self.new) index) }

@@ -1,7 +1,7 @@
 //! What an expression begins with.
 ghost use Rattle.std.specs.Prelude.{◌≡◌, ◌+◌, ◌<◌, ◌≤◌, ◌∷◌, length, IfOk};
 ghost use Rattle.cedar_syntax.specs.Grammar as Grammar;
-ghost use Rattle.cedar_syntax.specs.Reading.{Waits, Reads};
+ghost use Rattle.cedar_syntax.specs.Reading.{IsAwaiting, Reads, under};
 ghost use Rattle.cedar_syntax.specs.Standing.{look, Stands};
 ghost use Rattle.cedar_syntax.specs.Tokens as Tokens;
 ghost use Rattle.cedar_tokens.specs.declared.tokens.Kind.TheVariants as kind;
@@ -17,7 +17,7 @@ use cedar_tokens::tokens::{Kind, Token};
 impl Work {
     pub(super) fn operand(&mut self, tokens: &[Token], index: usize) -> Result<State, Refusal>
         requires within { index < length tokens.now }
-        requires waits { Waits tokens.now (look self.old).frames (look self.old).trees index }
+        requires waits { IsAwaiting tokens.now (look self.old) index }
         ensures limit { self.new.limit ≡ self.old.limit }
         ensures ok { IfOk result (λ next. Stands tokens.now next (look self.new) (index + 1)) }
     {
@@ -46,7 +46,7 @@ impl Work {
     fn condition(&mut self, tokens: &[Token], index: usize) -> Result<State, Refusal>
         requires within { index < length tokens.now }
         requires is { Tokens.kind_at tokens.now index ≡ kind.If }
-        requires waits { Waits tokens.now (look self.old).frames (look self.old).trees index }
+        requires waits { IsAwaiting tokens.now (look self.old) index }
         ensures limit { self.new.limit ≡ self.old.limit }
         ensures ok { IfOk result (λ next. Stands tokens.now next (look self.new) (index + 1)) }
     {
@@ -59,7 +59,7 @@ impl Work {
 
     fn word(&mut self, tokens: &[Token], index: usize) -> Result<State, Refusal>
         requires within { index < length tokens.now }
-        requires waits { Waits tokens.now (look self.old).frames (look self.old).trees index }
+        requires waits { IsAwaiting tokens.now (look self.old) index }
         ensures limit { self.new.limit ≡ self.old.limit }
         ensures ok { IfOk result (λ next. Stands tokens.now next (look self.new) (index + 1)) }
     {
@@ -73,7 +73,7 @@ impl Work {
 
     fn leaf(&mut self, tokens: &[Token], index: usize) -> Result<State, Refusal>
         requires within { index < length tokens.now }
-        requires waits { Waits tokens.now (look self.old).frames (look self.old).trees index }
+        requires waits { IsAwaiting tokens.now (look self.old) index }
         ensures limit { self.new.limit ≡ self.old.limit }
         ensures ok { IfOk result (λ next. Stands tokens.now next (look self.new) (index + 1)) }
     {
@@ -92,7 +92,7 @@ impl Work {
     fn sign_before(&mut self, sign: Sign, tokens: &[Token], index: usize) -> Result<State, Refusal>
         requires within { index < length tokens.now }
         requires is { Tokens.kind_at tokens.now index ≡ Grammar.kind_of sign }
-        requires waits { Waits tokens.now (look self.old).frames (look self.old).trees index }
+        requires waits { IsAwaiting tokens.now (look self.old) index }
         ensures limit { self.new.limit ≡ self.old.limit }
         ensures ok { IfOk result (λ next. Stands tokens.now next (look self.new) (index + 1)) }
     {
@@ -105,7 +105,7 @@ impl Work {
     fn first_sign(&mut self, sign: Sign, tokens: &[Token], index: usize) -> Result<State, Refusal>
         requires within { index < length tokens.now }
         requires is { Tokens.kind_at tokens.now index ≡ Grammar.kind_of sign }
-        requires waits { Waits tokens.now (look self.old).frames (look self.old).trees index }
+        requires waits { IsAwaiting tokens.now (look self.old) index }
         ensures limit { self.new.limit ≡ self.old.limit }
         ensures ok { IfOk result (λ next. Stands tokens.now next (look self.new) (index + 1)) }
     {
@@ -127,7 +127,7 @@ impl Work {
         index: usize,
     ) -> Result<State, Refusal>
         requires is { Tokens.kind_at tokens.now index ≡ Grammar.kind_of sign }
-        requires waits { Waits tokens.now (record { wait = Wait.Signs sign count; start = start; height = height } ∷ (look self.old).frames) (look self.old).trees index }
+        requires waits { IsAwaiting tokens.now (under (Wait.Signs sign count) start height (look self.old)) index }
         ensures limit { self.new.limit ≡ self.old.limit }
         ensures ok { IfOk result (λ next. Stands tokens.now next (look self.new) (index + 1)) }
     {
@@ -202,7 +202,7 @@ impl Work {
         index: usize,
     ) -> Result<(), Refusal>
         requires within { index < length tokens.now }
-        requires waits { Waits tokens.now (record { wait = Wait.Signs Sign.Neg count; start = start; height = height } ∷ (look self.old).frames) (look self.old).trees at }
+        requires waits { IsAwaiting tokens.now (under (Wait.Signs Sign.Neg count) start height (look self.old)) at }
         requires is { Tokens.kind_at tokens.now at ≡ kind.Number }
         requires next { index ≡ at + 1 }
         ensures limit { self.new.limit ≡ self.old.limit }

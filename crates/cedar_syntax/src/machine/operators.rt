@@ -2,7 +2,7 @@
 ghost use Rattle.std.specs.Prelude.{◌≡◌, ◌+◌, ◌<◌, ◌∷◌, [], length, IfOk};
 ghost use Rattle.cedar_syntax.specs.Levels.{awaited, frame_level_of, lowest_of};
 ghost use Rattle.cedar_syntax.specs.Grammar as Grammar;
-ghost use Rattle.cedar_syntax.specs.Reading.{Reads, join_made};
+ghost use Rattle.cedar_syntax.specs.Reading.{Reads, join_made, under};
 ghost use Rattle.cedar_syntax.specs.Standing.{look, Stands};
 ghost use Rattle.cedar_syntax.specs.Tokens as Tokens;
 ghost use Rattle.cedar_syntax.specs.Trees.{trees, made, signs_made};
@@ -115,7 +115,7 @@ impl Work {
         index: usize,
     ) -> Result<State, Refusal>
         requires within { index < length tokens.now }
-        requires reads { Reads tokens.now (record (look self.old) { frames = record { wait = wait; start = start; height = height } ∷ (look self.old).frames }) index }
+        requires reads { Reads tokens.now (under wait start height (look self.old)) index }
         ensures limit { self.new.limit ≡ self.old.limit }
         ensures ok { IfOk result (λ next. Stands tokens.now next (look self.new) (index + 1)) }
     {
@@ -139,7 +139,7 @@ impl Work {
         index: usize,
     ) -> Result<State, Refusal>
         requires within { index < length tokens.now }
-        requires reads { Reads tokens.now (record (look self.old) { frames = record { wait = Wait.Paren; start = start; height = height } ∷ (look self.old).frames }) index }
+        requires reads { Reads tokens.now (under Wait.Paren start height (look self.old)) index }
         ensures limit { self.new.limit ≡ self.old.limit }
         ensures ok { IfOk result (λ next. Stands tokens.now next (look self.new) (index + 1)) }
     {
@@ -162,7 +162,7 @@ impl Work {
         index: usize,
     ) -> Result<State, Refusal>
         requires within { index < length tokens.now }
-        requires reads { Reads tokens.now (record (look self.old) { frames = record { wait = Wait.If; start = start; height = height } ∷ (look self.old).frames }) index }
+        requires reads { Reads tokens.now (under Wait.If start height (look self.old)) index }
         ensures limit { self.new.limit ≡ self.old.limit }
         ensures ok { IfOk result (λ next. Stands tokens.now next (look self.new) (index + 1)) }
     {
@@ -183,7 +183,7 @@ impl Work {
         index: usize,
     ) -> Result<State, Refusal>
         requires within { index < length tokens.now }
-        requires reads { Reads tokens.now (record (look self.old) { frames = record { wait = Wait.Then; start = start; height = height } ∷ (look self.old).frames }) index }
+        requires reads { Reads tokens.now (under Wait.Then start height (look self.old)) index }
         ensures limit { self.new.limit ≡ self.old.limit }
         ensures ok { IfOk result (λ next. Stands tokens.now next (look self.new) (index + 1)) }
     {
@@ -205,7 +205,7 @@ impl Work {
         tokens: &[Token],
         index: usize,
     ) -> Result<(), Refusal>
-        requires reads { Reads tokens.now (record (look self.old) { frames = record { wait = wait; start = start; height = height } ∷ (look self.old).frames }) index }
+        requires reads { Reads tokens.now (under wait start height (look self.old)) index }
         ensures limit { self.new.limit ≡ self.old.limit }
         ensures frames { self.new.frames ≡ self.old.frames }
         ensures level { IfOk result (λ _. self.new.level ≡ frame_level_of wait) }

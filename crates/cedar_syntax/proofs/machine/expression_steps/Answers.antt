@@ -9,4 +9,5 @@ loop-index-init c = record { limit = refl; stands = rw (c.new.ensures, c.new-2.e
 pub finish-requires : goal.finish-requires
 finish-requires c =
     let all_taken : c.loop-index.index ≡ length c.args.tokens.now = omega arith in
-    subst (λ (n : ℕ). Stands c.args.tokens.now c.loop-index.state (look c.loop-index.work) n) all_taken c.loop-index.invariant.stands
+    subst (λ (n : ℕ). Stands c.args.tokens.now c.loop-index.state (look c.loop-index.work) n) all_taken
+    c.loop-index.invariant.stands

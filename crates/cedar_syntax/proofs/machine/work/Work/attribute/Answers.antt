@@ -3,4 +3,5 @@ use Rattle.cedar_syntax.proofs.machine.work.Work.attribute.Goals as goal
 
 pub operator-requires-clause-reads : goal.operator-requires-clause-reads
 operator-requires-clause-reads c =
-    attribute_read c.requires.stands.0 c.requires.stands.1 c.requires.stands.2 c.requires.stands.3 c.end_at-end.ensures c.in_ok-make.ensures.look
+    attribute_read c.requires.stands.0 c.requires.stands.1 c.requires.stands.2 c.requires.stands.3
+    c.end_at-end.ensures c.in_ok-make.ensures.look

@@ -9,4 +9,5 @@ returns-in-Colons-clause-ok c =
 
 pub returns-in_ok-wait-in-In-clause-ok : goal.returns-in_ok-wait-in-In-clause-ok
 returns-in_ok-wait-in-In-clause-ok c =
-    in_read c.requires.stands.0 c.requires.stands.1 (sym c.kind_at.ensures ∙ c.in-In.is) c.in_ok-wait-in-In.ensures.frames c.wait.ensures.trees
+    in_read c.requires.stands.0 c.requires.stands.1 (sym c.kind_at.ensures ∙ c.in-In.is)
+    c.in_ok-wait-in-In.ensures.frames c.wait.ensures.trees

@@ -9,4 +9,5 @@ returns-in-Colons-clause-ok c =
 
 pub returns-in_ok-wait-in-OpenParen-clause-ok : goal.returns-in_ok-wait-in-OpenParen-clause-ok
 returns-in_ok-wait-in-OpenParen-clause-ok c =
-    call_opened c.requires.stands.0 c.requires.stands.1 (sym c.kind_at.ensures ∙ c.in-OpenParen.is) c.in_ok-wait-in-OpenParen.ensures.frames c.wait.ensures.trees
+    call_opened c.requires.stands.0 c.requires.stands.1 (sym c.kind_at.ensures ∙ c.in-OpenParen.is)
+    c.in_ok-wait-in-OpenParen.ensures.frames c.wait.ensures.trees

@@ -5,15 +5,20 @@ use Rattle.cedar_syntax.proofs.Turns.{join_read, signs_read, is_in_read, conditi
 use Rattle.cedar_syntax.proofs.machine.work.Work.reduce_frame.Goals as goal
 
 pub returns-in-Infix-clause-reads : goal.returns-in-Infix-clause-reads
-returns-in-Infix-clause-reads c = IfOk-weaker _ _ _ (λ _ e. join_read (rw c.in-Infix.is at c.requires.reads) e) c.join.ensures.look
+returns-in-Infix-clause-reads c =
+    IfOk-weaker _ _ _ (λ _ e. join_read (rw c.in-Infix.is at c.requires.reads) e) c.join.ensures.look
 
 pub returns-else-self-lowest-clause-reads : goal.returns-else-self-lowest-clause-reads
 returns-else-self-lowest-clause-reads c =
-    let low : lowest_of c.in-Signs.sign ≤ c.args.self.now.level = omega (arith, c.lowest.ensures, c.if-self-lowest.false) in
+    let low : lowest_of c.in-Signs.sign ≤ c.args.self.now.level =
+    omega (arith, c.lowest.ensures, c.if-self-lowest.false) in
     IfOk-weaker _ _ _ (λ _ e. signs_read (rw c.in-Signs.is at c.requires.reads) low e) c.sign.ensures.look
 
 pub returns-in-IsIn-clause-reads : goal.returns-in-IsIn-clause-reads
-returns-in-IsIn-clause-reads c = IfOk-weaker _ _ _ (λ _ e. is_in_read (rw c.in-IsIn.is at c.requires.reads) c.higher.ensures e) c.make.ensures.look
+returns-in-IsIn-clause-reads c =
+    IfOk-weaker _ _ _ (λ _ e. is_in_read (rw c.in-IsIn.is at c.requires.reads) c.higher.ensures e) c.make.ensures.look
 
 pub returns-in-Else-clause-reads : goal.returns-in-Else-clause-reads
-returns-in-Else-clause-reads c = IfOk-weaker _ _ _ (λ _ e. conditional_read (rw c.in-Else.is at c.requires.reads) c.higher-in-Else.ensures e) c.make-in-Else.ensures.look
+returns-in-Else-clause-reads c =
+    IfOk-weaker _ _ _ (λ _ e. conditional_read (rw c.in-Else.is at c.requires.reads) c.higher-in-Else.ensures e)
+    c.make-in-Else.ensures.look
