@@ -4,4 +4,5 @@ pub mod Listed
 pub mod Making
 pub mod Members
 pub mod Nested
+pub mod Parts
 pub mod Turns

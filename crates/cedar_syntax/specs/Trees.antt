@@ -1,5 +1,6 @@
 -- Expressions as trees, with the numbers of their tokens, and the bytes from which and up to which each part stands.
-use Rattle.std.specs.Prelude.{ℕ, ◌+◌, List, [], ◌∷◌}
+use Rattle.std.specs.Prelude.{ℕ, ◌+◌, ◌≤◌, List, [], ◌∷◌, length, ⊤}
+use Rattle.std.specs.Coded.{×_prop, Unit-prop, le_prop}
 use Prim.Native.Nat.{max, zero, suc}
 use Rattle.cedar_syntax.specs.declared.steps.Leaf.{Leaf}
 use Rattle.cedar_syntax.specs.declared.steps.Sign.{Sign}
@@ -86,7 +87,25 @@ made (what.Field i) s e [] = []
 made (what.Field i) s e (p ∷ ts) = field i p s e ∷ ts
 made (what.Bracketed k n) s e ts = bracketed k (gathered n ts) s e ∷ left_below n ts
 
--- the same after all steps, from these trees
+-- how many trees a step takes
+abbrev pub parts_of : What → ℕ
+parts_of (what.Leaf l) = 0
+parts_of (what.Unary u) = 1
+parts_of (what.Binary b) = 2
+parts_of what.If = 3
+parts_of (what.Field i) = 1
+parts_of (what.Bracketed k n) = n
+
+-- from these trees on, each step finds as many as it takes
+abbrev pub FindParts : List Tree → List Step → Type 0
+FindParts ts [] = ⊤
+FindParts ts (x ∷ xs) = (parts_of x.what ≤ length ts) × FindParts (made x.what x.start x.end ts) xs
+
+pub FindParts-prop : (ts : List Tree) (xs : List Step) → IsProp (FindParts ts xs)
+FindParts-prop ts [] = Unit-prop
+FindParts-prop ts (x ∷ xs) = ×_prop le_prop (FindParts-prop (made x.what x.start x.end ts) xs)
+
+-- the trees that no step has taken after all steps, from these trees on
 abbrev pub trees_from : List Tree → List Step → List Tree
 trees_from ts [] = ts
 trees_from ts (x ∷ xs) = trees_from (made x.what x.start x.end ts) xs

@@ -2,13 +2,13 @@
 //!
 //! What waits for more tokens, a bracket or an operator whose right side is not read yet, is a frame; the innermost
 //! frame waits for the part that is read now. An operator first makes what frames of at most its own level wait to make.
-ghost use Rattle.std.specs.Prelude.{◌≡◌, ◌+◌, ◌<◌, ◌≤◌, ◌∷◌, length, IfOk, IfErr};
+ghost use Rattle.std.specs.Prelude.{◌≡◌, ◌+◌, ◌<◌, ◌≤◌, [], length, IfOk, IfErr};
 ghost use Rattle.cedar_syntax.specs.Grammar as Grammar;
 ghost use Rattle.cedar_syntax.specs.Places.{IsPlaced, end_of};
 ghost use Rattle.cedar_syntax.specs.Reading.{Reads, HasRead, under};
 ghost use Rattle.cedar_syntax.specs.Standing.{look, Stands};
 ghost use Rattle.cedar_syntax.specs.Tokens as Tokens;
-ghost use Rattle.cedar_syntax.specs.Trees.{trees, made};
+ghost use Rattle.cedar_syntax.specs.Trees.{trees, made, parts_of, FindParts};
 ghost use Prim.Native.Nat.{max};
 
 use crate::frames::{Frame, Frames, Wait};
@@ -86,6 +86,7 @@ pub fn expression_steps(
     limit: usize,
 ) -> Result<Vec<Step>, ReadError>
     ensures ok { IfOk result (λ steps. HasRead tokens.now limit (trees steps.items)) }
+    ensures parts { IfOk result (λ steps. FindParts [] steps.items) }
     ensures err { IfErr result (λ error. IsPlaced tokens.now error) }
 {
     let mut work = Work {
@@ -255,6 +256,7 @@ impl Work {
     fn finish(self, state: State, tokens: &[Token]) -> Result<Vec<Step>, ReadError>
         requires { Stands tokens.now state (look self) (length tokens.now) }
         ensures ok { IfOk result (λ steps. HasRead tokens.now self.limit (trees steps.items)) }
+        ensures parts { IfOk result (λ steps. FindParts [] steps.items) }
         ensures err { IfErr result (λ error. IsPlaced tokens.now error) }
     {
         match state {
@@ -296,7 +298,7 @@ impl Work {
     }
 
     // Puts the step behind the others: the part is what it makes, so many levels above the highest of its parts.
-    #[tactic(auto, using(crate::proofs::Making::trees_push))]
+    #[tactic(auto, using(crate::proofs::Making::trees_push, crate::proofs::Parts::found))]
     fn make(
         &mut self,
         what: What,
@@ -306,6 +308,7 @@ impl Work {
         below: usize,
         levels: usize,
     ) -> Result<(), Refusal>
+        requires { parts_of what ≤ length (look self.old).trees }
         ensures limit { self.new.limit ≡ self.old.limit }
         ensures frames { self.new.frames ≡ self.old.frames }
         ensures look { IfOk result (λ _. look self.new ≡ record {

@@ -1,5 +1,5 @@
 //! What may follow an expression, and what is then made of the parts before.
-ghost use Rattle.std.specs.Prelude.{◌≡◌, ◌+◌, ◌<◌, ◌∷◌, [], length, IfOk};
+ghost use Rattle.std.specs.Prelude.{◌≡◌, ◌+◌, ◌<◌, ◌≤◌, ◌∷◌, [], length, IfOk};
 ghost use Rattle.cedar_syntax.specs.Levels.{awaited, frame_level_of, lowest_of};
 ghost use Rattle.cedar_syntax.specs.Grammar as Grammar;
 ghost use Rattle.cedar_syntax.specs.Reading.{Reads, join_made, under};
@@ -241,6 +241,7 @@ impl Work {
 
     // Joins the last two parts, the first of which has so many levels.
     fn join(&mut self, operator: Operator, start: usize, height: usize) -> Result<(), Refusal>
+        requires { 2 ≤ length (look self.old).trees }
         ensures limit { self.new.limit ≡ self.old.limit }
         ensures frames { self.new.frames ≡ self.old.frames }
         ensures look { IfOk result (λ _. look self.new ≡ join_made operator start height (look self.old)) }
@@ -257,6 +258,7 @@ impl Work {
 
     // Puts so many signs before the part.
     pub(super) fn sign(&mut self, sign: Sign, count: usize, start: usize) -> Result<(), Refusal>
+        requires { 1 ≤ length (look self.old).trees }
         ensures limit { self.new.limit ≡ self.old.limit }
         ensures frames { self.new.frames ≡ self.old.frames }
         ensures look { IfOk result (λ _. look self.new ≡ record {

@@ -1,5 +1,6 @@
 //! What a machine keeps.
-ghost use Rattle.std.specs.Prelude.{◌≤◌};
+ghost use Rattle.std.specs.Prelude.{◌≤◌, []};
+ghost use Rattle.cedar_syntax.specs.Trees.{FindParts, FindParts-prop};
 
 use crate::frames::Frames;
 use crate::steps::Step;
@@ -16,4 +17,5 @@ pub(super) struct Work {
     pub(super) end: usize,
     pub(super) height: usize,
     ghost low: { height ≤ limit },
+    ghost made: { FindParts [] steps.items } by { FindParts-prop [] steps.items },
 }

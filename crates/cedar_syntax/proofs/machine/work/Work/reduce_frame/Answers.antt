@@ -1,3 +1,4 @@
+use Rattle.cedar_syntax.proofs.Parts.{infix_two, is_in_two, else_three}
 use Rattle.std.proofs.Common.{arith, ◌≤◌}
 use Rattle.std.proofs.lemmas.Result.{IfOk-weaker}
 use Rattle.cedar_syntax.specs.Levels.{lowest_of}
@@ -22,3 +23,12 @@ pub returns-in-Else-clause-reads : goal.returns-in-Else-clause-reads
 returns-in-Else-clause-reads c =
     IfOk-weaker _ _ _ (λ _ e. conditional_read (rw c.in-Else.is at c.requires.reads) c.higher-in-Else.ensures e)
     c.make-in-Else.ensures.look
+
+pub join-requires : goal.join-requires
+join-requires c = infix_two (rw c.in-Infix.is at c.requires.reads)
+
+pub make-requires : goal.make-requires
+make-requires c = is_in_two (rw c.in-IsIn.is at c.requires.reads)
+
+pub make-requires-in-Else : goal.make-requires-in-Else
+make-requires-in-Else c = else_three (rw c.in-Else.is at c.requires.reads)
