@@ -1,7 +1,7 @@
 -- Levels: the lower a level, the closer what it makes holds together.
 --   0 a number that stands alone, 1 what needs no brackets anywhere, 2 signs, 3 products, 4 sums, 5 relations, 6 `&&`,
 --   7 `||`, 8 `if`
-use Rattle.std.specs.Prelude.{◌≡◌, ℕ, List, [], ◌∷◌}
+use Rattle.std.specs.Prelude.{◌≡◌, ℕ, ◌<◌, List, [], ◌∷◌, ⊤, Option, Some, None}
 use Rattle.cedar_syntax.specs.declared.levels.Operator.{Operator}
 use Rattle.cedar_syntax.specs.declared.levels.Operator.TheVariants as operator
 use Rattle.cedar_syntax.specs.declared.steps.Sign.{Sign}
@@ -73,6 +73,31 @@ frame_level_of wait.Else = 8
 abbrev pub awaited : List Frame → ℕ
 awaited [] = 9
 awaited (f ∷ fs) = awaited_of f.wait
+
+-- what the innermost frame waits to make is above this level
+abbrev pub IsAbove : ℕ → List Frame → Type 0
+IsAbove l [] = ⊤
+IsAbove l (f ∷ fs) = l < frame_level_of f.wait
+
+-- how many signs of this kind wait
+abbrev pub count_of : Wait → Sign → Option ℕ
+count_of (wait.Signs Not c) Not = Some c
+count_of (wait.Signs Not c) Neg = None
+count_of (wait.Signs Neg c) Not = None
+count_of (wait.Signs Neg c) Neg = Some c
+count_of (wait.Infix o) u = None
+count_of (wait.IsIn i k) u = None
+count_of wait.Paren u = None
+count_of (wait.Item k n) u = None
+count_of (wait.Field i n) u = None
+count_of wait.If u = None
+count_of wait.Then u = None
+count_of wait.Else u = None
+
+-- in the innermost frame no signs of this kind wait
+abbrev pub HasNoSigns : Sign → List Frame → Type 0
+HasNoSigns u [] = ⊤
+HasNoSigns u (f ∷ fs) = count_of f.wait u ≡ None
 
 -- this frame is the innermost
 abbrev pub HasOnTop : List Frame → Frame → Type 0

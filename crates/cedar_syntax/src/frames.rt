@@ -1,6 +1,6 @@
 //! The stack of what waits.
-ghost use Rattle.std.specs.Prelude.{◌≡◌, ◌∷◌, [], IfOk, MatchOption, IfSome, IfNone, true, ◌≤◌};
-ghost use Rattle.cedar_syntax.specs.Levels.{frame_level_of, HasOnTop};
+ghost use Rattle.std.specs.Prelude.{◌≡◌, ◌∷◌, [], IfOk, MatchOption, IfSome, IfNone, ◌≤◌};
+ghost use Rattle.cedar_syntax.specs.Levels.{frame_level_of, count_of, HasOnTop, HasNoSigns, IsAbove};
 
 use crate::levels;
 use crate::steps::{Bracketed, Sign};
@@ -61,24 +61,28 @@ impl Model for Frames {
 
 // How many signs of this kind wait.
 fn count_of(wait: Wait, sign: Sign) -> Option<usize>
-    ensures { IfSome result (λ count. wait ≡ Wait.Signs sign count) }
+    ensures count { result ≡ count_of wait sign }
+    ensures some { IfSome result (λ count. wait ≡ Wait.Signs sign count) }
 {
     match wait {
-        Wait::Signs(found, count) => if is_same(found, sign) {
-            Some(count)
-        } else {
-            None
+        Wait::Signs(found, count) => match found {
+            Sign::Not => match sign {
+                Sign::Not => Some(count),
+                Sign::Neg => None,
+            },
+            Sign::Neg => match sign {
+                Sign::Not => None,
+                Sign::Neg => Some(count),
+            },
         },
-        _ => None,
-    }
-}
-
-fn is_same(one: Sign, other: Sign) -> bool
-    ensures { result ≡ true → one ≡ other }
-{
-    match one {
-        Sign::Not => matches!(other, Sign::Not),
-        Sign::Neg => matches!(other, Sign::Neg),
+        Wait::Infix(_) => None,
+        Wait::IsIn(_, _) => None,
+        Wait::Paren => None,
+        Wait::Item(_, _) => None,
+        Wait::Field(_, _) => None,
+        Wait::If => None,
+        Wait::Then => None,
+        Wait::Else => None,
     }
 }
 
@@ -113,6 +117,7 @@ impl Frames {
         ensures same { IfNone result (self.new ≡ self.old) }
         ensures top { IfSome result (λ frame. self.old ≡ frame ∷ self.new) }
         ensures low { IfSome result (λ frame. frame_level_of frame.wait ≤ level) }
+        ensures high { IfNone result (IsAbove level self.old) }
     {
         match self.frames.last() {
             Some(frame) if levels::frame_level(frame.wait) <= level => self.frames.pop(),
@@ -122,6 +127,7 @@ impl Frames {
 
     /// Takes the innermost frame, where signs of this kind wait in it.
     pub fn pop_signs(&mut self, sign: Sign) -> Option<Run>
+        ensures none { IfNone result (HasNoSigns sign self.old) }
         ensures same { IfNone result (self.new ≡ self.old) }
         ensures top { IfSome result (λ run.
             self.old ≡ record { wait = Wait.Signs sign run.count; start = run.start; height = run.height } ∷ self.new) }
@@ -137,7 +143,8 @@ impl Frames {
 
     // The signs of this kind that wait in the innermost frame.
     fn top_signs(&self, sign: Sign) -> Option<Run>
-        ensures { IfSome result (λ run.
+        ensures none { IfNone result (HasNoSigns sign self.now) }
+        ensures some { IfSome result (λ run.
             HasOnTop self.now (record { wait = Wait.Signs sign run.count; start = run.start; height = run.height })) }
     {
         match self.frames.last() {

@@ -4,6 +4,7 @@
 //! frame waits for the part that is read now. An operator first makes what frames of at most its own level wait to make.
 ghost use Rattle.std.specs.Prelude.{◌≡◌, ◌+◌, ◌<◌, ◌≤◌, [], length, IfOk, IfErr};
 ghost use Rattle.cedar_syntax.specs.Grammar as Grammar;
+ghost use Rattle.cedar_syntax.specs.Levels.{IsAbove};
 ghost use Rattle.cedar_syntax.specs.Places.{IsPlaced, end_of};
 ghost use Rattle.cedar_syntax.specs.Reading.{Reads, HasRead, under};
 ghost use Rattle.cedar_syntax.specs.Standing.{look, Stands};
@@ -355,6 +356,7 @@ impl Work {
         requires reads { Reads tokens.now (look self.old) index }
         ensures limit { self.new.limit ≡ self.old.limit }
         ensures low { IfOk result (λ _. self.new.level ≤ level) }
+        ensures above { IfOk result (λ _. IsAbove level self.new.frames) }
         ensures reads { IfOk result (λ _. Reads tokens.now (look self.new) index) }
     {
         while let Some(frame) = self.frames.pop_below(level) {
