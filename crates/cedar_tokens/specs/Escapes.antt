@@ -57,3 +57,8 @@ escape_at (b ∷ bs) =
     if b == 120 then hex_at bs else (
     if b == 117 then unicode_at bs else
     option_map (λ c. record { char = c; len = 1 }) (simple_of b))
+
+-- the same in a pattern, where `\*` stands for `*`
+unfoldable pub escape_in : Bool → List ℕ → Option Escape
+escape_in in_pattern bs =
+    if in_pattern && begins_with (λ b. b == 42) bs then Some (record { char = 42; len = 1 }) else escape_at bs

@@ -3,4 +3,5 @@ pub mod Lexicon
 pub mod Operators
 pub mod Scanning
 pub mod Tokens
+pub mod Values
 pub mod Words

@@ -1,4 +1,7 @@
 //! Why a text can't be read.
+ghost use Rattle.std.specs.Prelude.{◌≡◌};
+ghost use Rattle.cedar_tokens.specs.declared.errors.ReadError.TheVariants.{Memory};
+
 use crate::tokens::{Kind, Token};
 use std::alloc::{AllocError, AllocFailed};
 
@@ -83,12 +86,16 @@ pub enum ReadError {
 }
 
 impl From<AllocError> for ReadError {
+    ghost from_gives = { λ _ result. result ≡ Memory };
+
     fn from(_error: AllocError) -> ReadError {
         ReadError::Memory
     }
 }
 
 impl<T: Drop> From<AllocFailed<T>> for ReadError {
+    ghost from_gives = { λ _ result. result ≡ Memory };
+
     fn from(_error: AllocFailed<T>) -> ReadError {
         ReadError::Memory
     }

@@ -6,6 +6,8 @@ mod escapes;
 mod escaping;
 pub mod lexer;
 mod operators;
+mod pieces;
 mod scanning;
 pub mod tokens;
+pub mod values;
 mod words;
