@@ -5,4 +5,5 @@ pub mod Lows
 pub mod Quotes
 pub mod Reading
 pub mod Runs
+pub mod Standing
 pub mod Whole

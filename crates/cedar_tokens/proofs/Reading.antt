@@ -6,7 +6,7 @@ use Rattle.std.specs.Int.Digits.{number_from_digits, number_from_digits_after}
 use Rattle.std.proofs.lemmas.List.{map-append}
 use Rattle.std.proofs.lemmas.Int.Digits.{digits_value_is, number_after_append, number_after_ge, digits_value_more}
 use Rattle.cedar_tokens.specs.declared.escapes.Piece.{Piece}
-use Rattle.cedar_tokens.specs.declared.escapes.PatternPart.{PatternPart}
+use Rattle.cedar_tokens.specs.declared.values.PatternPart.{PatternPart}
 use Rattle.cedar_tokens.specs.Values.{IsPiece, IsNoPiece, unknown, alone, IsTextOf, nothing, next, IsPatternOf, no_part, next_part, part_of, IsRefused, here, later, IsRefusedThere, there}
 
 -- what the rest stands for, behind this, is what the whole stands for

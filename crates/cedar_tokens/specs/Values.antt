@@ -2,8 +2,8 @@
 use Rattle.std.specs.Prelude.{◌≡◌, ◌≢◌, ℕ, ◌+◌, ◌-◌, ◌≤◌, Bool, true, false, ◌==◌, if◌then◌else◌, Some, None, List, [], ◌∷◌, ◌++◌, length, drop, slice_index, slice_range, encode_utf8, IsCharBoundary}
 use Rattle.cedar_tokens.specs.declared.escapes.Escape.{Escape}
 use Rattle.cedar_tokens.specs.declared.escapes.Piece.{Piece}
-use Rattle.cedar_tokens.specs.declared.escapes.PatternPart.{PatternPart}
-use Rattle.cedar_tokens.specs.declared.escapes.PatternPart.TheVariants.{Char, Wildcard}
+use Rattle.cedar_tokens.specs.declared.values.PatternPart.{PatternPart}
+use Rattle.cedar_tokens.specs.declared.values.PatternPart.TheVariants.{Char, Wildcard}
 use Rattle.cedar_tokens.specs.declared.errors.Expected.TheVariants as wanted
 use Rattle.cedar_tokens.specs.declared.errors.ReadError.{ReadError}
 use Rattle.cedar_tokens.specs.declared.errors.ReadError.TheVariants as error

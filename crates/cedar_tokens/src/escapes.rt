@@ -15,12 +15,3 @@ pub(crate) struct Piece {
     pub(crate) is_escaped: bool,
     pub(crate) len: usize,
 }
-
-/// A part of the pattern of `like`.
-#[derive(Clone, Copy, PartialEq, Eq)]
-pub enum PatternPart {
-    /// This character.
-    Char(char),
-    /// `*`, which stands for any characters.
-    Wildcard,
-}

@@ -4,7 +4,8 @@ ghost use Rattle.cedar_tokens.specs.Scanning.{begins_slot, begins_comment, begin
 ghost use Rattle.cedar_tokens.specs.Words.{starts_word};
 ghost use Rattle.cedar_tokens.specs.Tokens.{IsTokens, IsCut};
 ghost use Rattle.std.specs.Char.{is_ascii_digit};
-ghost use Rattle.std.specs.Prelude.{◌==◌};
+ghost use Rattle.std.specs.Prelude.{◌==◌, All};
+ghost use Rattle.cedar_tokens.specs.Values.{Stands};
 
 use crate::tokens::{Kind, Token};
 use crate::{operators, scanning, words};
@@ -17,7 +18,8 @@ use std::alloc::{AllocError, Global};
 ///
 /// Memory was wanting.
 pub fn tokens(alloc: Global, text: &str) -> Result<Vec<Token>, AllocError>
-    ensures { IfOk result (λ tokens. IsTokens 0 text.now tokens.items) }
+    ensures tokens { IfOk result (λ tokens. IsTokens 0 text.now tokens.items) }
+    ensures stand { IfOk result (λ tokens. All (Stands text.now) tokens.items) }
 {
     let mut tokens = Vec::new(alloc);
     let mut rest = text;

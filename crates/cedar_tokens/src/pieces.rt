@@ -2,8 +2,9 @@
 ghost use Rattle.std.specs.Prelude.{◌≡◌, ◌+◌, ◌<◌, ◌++◌, length, IfOk, IfErr, MatchOption, IsCharBoundary, encode_utf8};
 ghost use Rattle.cedar_tokens.specs.Values.{IsPiece, IsNoPiece, part_of};
 
-use crate::escapes::{PatternPart, Piece};
+use crate::escapes::Piece;
 use crate::escaping;
+use crate::values::PatternPart;
 
 /// The character with which the text begins, and what is behind it.
 pub(crate) fn split_first(rest: &str) -> Option<(char, &str)>

@@ -7,10 +7,18 @@ ghost use Rattle.cedar_tokens.specs.declared.errors.ReadError.TheVariants as err
 ghost use Rattle.cedar_tokens.specs.Values.{word_of, inside_of, Stands, IsTextOf, IsPatternOf, HasQuotes, IsRefusal};
 
 use crate::errors::{Expected, ReadError};
-use crate::escapes::PatternPart;
 use crate::tokens::{Kind, Token};
 use crate::{escaping, pieces};
 use std::alloc::Global;
+
+/// A part of the pattern of `like`.
+#[derive(Clone, Copy, PartialEq, Eq)]
+pub enum PatternPart {
+    /// This character.
+    Char(char),
+    /// `*`, which stands for any characters.
+    Wildcard,
+}
 
 /// The token's own bytes.
 pub fn word<'a>(text: &'a str, token: Token) -> &'a str
