@@ -1,6 +1,7 @@
 pub mod Bounds
 pub mod Ends
 pub mod Fronts
+pub mod Located
 pub mod Lows
 pub mod Quotes
 pub mod Reading

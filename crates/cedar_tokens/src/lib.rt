@@ -4,10 +4,12 @@
 pub mod errors;
 mod escapes;
 mod escaping;
+mod kinds;
 pub mod lexer;
 mod operators;
 mod pieces;
 mod scanning;
+pub mod show;
 pub mod tokens;
 pub mod values;
 mod words;

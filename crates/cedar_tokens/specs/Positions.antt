@@ -1,0 +1,19 @@
+-- Lines and columns.
+use Rattle.std.specs.Prelude.{ℕ, ◌+◌, Bool, ◌==◌, ◌&&◌, nat_le, nat_lt, if◌then◌else◌, List, take}
+use Rattle.std.specs.List.{fold}
+use Rattle.cedar_tokens.specs.declared.show.Position.{Position}
+
+-- the byte goes on with a character that another began
+abbrev pub goes_on : ℕ → Bool
+goes_on b = nat_le 128 b && nat_lt b 192
+
+-- where the byte behind this one stands: behind `\n` a line begins, and behind each other character a column
+abbrev pub behind : Position → ℕ → Position
+behind p b =
+    if b == 10 then record { at = p.at + 1; line = p.line + 1; column = 1; start = p.at + 1 } else (
+    if goes_on b then record p { at = p.at + 1 } else
+    record p { at = p.at + 1; column = p.column + 1 })
+
+-- where byte number `at` of the text stands; lines and columns are counted from 1
+unfoldable pub position_of : List ℕ → ℕ → Position
+position_of text at = fold behind (record { at = 0; line = 1; column = 1; start = 0 }) (take at text)
