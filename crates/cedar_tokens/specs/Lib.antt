@@ -1,4 +1,5 @@
 pub mod Escapes
+pub mod Kinds
 pub mod Lexicon
 pub mod Operators
 pub mod Positions

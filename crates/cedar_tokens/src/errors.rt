@@ -1,6 +1,7 @@
 //! Why a text can't be read.
 ghost use Rattle.std.specs.Prelude.{◌≡◌};
-ghost use Rattle.cedar_tokens.specs.declared.errors.ReadError.TheVariants.{Memory};
+ghost use Rattle.cedar_tokens.specs.declared.errors.ReadError.TheVariants as error;
+ghost use Rattle.cedar_tokens.specs.Kinds as Kinds;
 
 use crate::tokens::{Kind, Token};
 use std::alloc::{AllocError, AllocFailed};
@@ -87,7 +88,7 @@ pub enum ReadError {
 }
 
 impl From<AllocError> for ReadError {
-    ghost from_gives = { λ _ result. result ≡ Memory };
+    ghost from_gives = { λ _ result. result ≡ error.Memory };
 
     fn from(_error: AllocError) -> ReadError {
         ReadError::Memory
@@ -95,7 +96,7 @@ impl From<AllocError> for ReadError {
 }
 
 impl<T: Drop> From<AllocFailed<T>> for ReadError {
-    ghost from_gives = { λ _ result. result ≡ Memory };
+    ghost from_gives = { λ _ result. result ≡ error.Memory };
 
     fn from(_error: AllocFailed<T>) -> ReadError {
         ReadError::Memory
@@ -104,7 +105,9 @@ impl<T: Drop> From<AllocFailed<T>> for ReadError {
 
 impl ReadError {
     /// This was expected where the token stands; where the token can't be read, what it should have been.
-    pub fn expected(what: Expected, token: Token) -> ReadError {
+    pub fn expected(what: Expected, token: Token) -> ReadError
+        ensures { result ≡ error.Expected (Kinds.what_for what token.kind) token.kind token.start token.end }
+    {
         ReadError::Expected {
             what: what_for(what, token.kind),
             found: token.kind,
@@ -114,7 +117,9 @@ impl ReadError {
     }
 }
 
-fn what_for(what: Expected, found: Kind) -> Expected {
+fn what_for(what: Expected, found: Kind) -> Expected
+    ensures { result ≡ Kinds.what_for what found }
+{
     match found {
         Kind::UnclosedText => Expected::Quote,
         Kind::Unreadable => Expected::Token,
