@@ -88,9 +88,9 @@ between bs =
     record { long = omega arith; first = refl; last = rw before (get_or-append-add bs (34 ∷ []) 0 0) }
 
 quotes_of : {k : Kind} {w after : List ℕ} → IsToken k w after → is_text k ≡ true → HasQuotes w
-quotes_of (word {b = b} {bs = bs} x y z) e = absurd (false≢true (sym (word_no_text (b ∷ bs)) ∙ e))
-quotes_of (slot {b = b} {bs = bs} x y z) e = absurd (false≢true (sym (slot_no_text (b ∷ bs)) ∙ e))
-quotes_of (number x y z) e = absurd (false≢true e)
+quotes_of (word {b = b} {bs = bs} x) e = absurd (false≢true (sym (word_no_text (b ∷ bs)) ∙ e))
+quotes_of (slot {b = b} {bs = bs} x) e = absurd (false≢true (sym (slot_no_text (b ∷ bs)) ∙ e))
+quotes_of (number x) e = absurd (false≢true e)
 quotes_of (text {bs = bs} q) e = between bs
 quotes_of (unclosed q) e = absurd (false≢true e)
 quotes_of (double {k = k} {a = a} {b = b} h) e = absurd (false≢true (sym (no_operator (a ∷ b ∷ []) k h) ∙ e))

@@ -27,7 +27,8 @@ fn escape(bytes: &[u8]) -> Option<Escape>
     }
 }
 
-/// The escape that these bytes, which stand behind a backslash, begin with, in a pattern or else in a text: a pattern has the escape `\*` as well.
+/// The escape that these bytes, which stand behind a backslash, begin with, in a pattern or else in a text: a pattern
+/// has the escape `\*` as well.
 #[tactic(auto, unfolding(crate::specs::Escapes::escape_in))]
 pub(crate) fn escape_in(in_pattern: bool, bytes: &[u8]) -> Option<Escape>
     ensures { result ≡ Escapes.escape_in in_pattern bytes.now }

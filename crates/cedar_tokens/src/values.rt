@@ -1,5 +1,6 @@
 //! What tokens stand for: words, numbers, texts and patterns.
-ghost use Rattle.std.specs.Prelude.{◌≡◌, ◌+◌, ◌^◌, ◌<◌, ◌≤◌, true, false, length, string_bytes, IfOk, IfErr, OnErr, IfSome, IfNone};
+ghost use Rattle.std.specs.Prelude.{◌≡◌, ◌+◌, ◌^◌, ◌<◌, ◌≤◌, true, false, length, string_bytes};
+ghost use Rattle.std.specs.Prelude.{IfOk, IfErr, OnErr, IfSome, IfNone};
 ghost use Rattle.std.specs.Str.Parse.{digits_value};
 ghost use Rattle.cedar_tokens.specs.declared.tokens.Kind.TheVariants as kind;
 ghost use Rattle.cedar_tokens.specs.declared.errors.Expected.TheVariants as wanted;
