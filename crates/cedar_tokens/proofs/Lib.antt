@@ -1,4 +1,5 @@
 pub mod Bounds
+pub mod Cutting
 pub mod Ends
 pub mod Fronts
 pub mod Located
@@ -7,4 +8,5 @@ pub mod Quotes
 pub mod Reading
 pub mod Runs
 pub mod Standing
+pub mod Unique
 pub mod Whole

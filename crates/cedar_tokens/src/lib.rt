@@ -5,6 +5,7 @@ pub mod errors;
 mod escapes;
 mod escaping;
 mod kinds;
+pub mod laws;
 pub mod lexer;
 mod operators;
 mod pieces;
