@@ -5,7 +5,6 @@ ghost use Rattle.cedar_tokens.specs.Kinds as Kinds;
 
 use crate::tokens::{Kind, Token};
 use std::alloc::{AllocError, AllocFailed};
-use std::fmt;
 
 /// What a text should have had at a place.
 #[derive(Clone, Copy, Debug)]
@@ -125,46 +124,5 @@ fn what_for(what: Expected, found: Kind) -> Expected
         Kind::Unreadable => Expected::Token,
         Kind::OtherSlot => Expected::Slot,
         _ => what,
-    }
-}
-
-const TEXTS: [&str; 28] = [
-    "a token",
-    "the closing quote",
-    "an expression",
-    "an operator",
-    "no second relation",
-    "at most four signs",
-    "a variable or the rest of a name",
-    "a name or an id",
-    "an attribute",
-    "a text in quotes",
-    "`]`",
-    "`:`",
-    "`,` or the end of the list",
-    "`then`",
-    "`else`",
-    "the end",
-    "a number up to 9223372036854775807",
-    "an escape of the language",
-    "no star with a backslash",
-    "a new key",
-    "no argument",
-    "one argument",
-    "well made steps",
-    "a policy",
-    "the next token of a policy",
-    "a constraint of a scope",
-    "`when`, `unless` or `;`",
-    "`?principal` or `?resource`",
-];
-
-/// What was expected, in words.
-impl fmt::Display for Expected {
-    fn fmt<W: fmt::Write>(&self, f: &mut fmt::Formatter<W>) -> fmt::Result {
-        match TEXTS.get(*self as usize) {
-            Some(text) => f.write_str(text),
-            None => Ok(()),
-        }
     }
 }

@@ -4,6 +4,7 @@
 pub mod errors;
 mod escapes;
 mod escaping;
+mod expectations;
 mod kinds;
 pub mod laws;
 pub mod lexer;

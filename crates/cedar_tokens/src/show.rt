@@ -1,5 +1,5 @@
 //! Shows why a text can't be read, and where.
-ghost use Rattle.std.specs.Prelude.{◌≡◌, ◌+◌, ◌^◌, ◌<◌, ◌≤◌, length};
+ghost use Rattle.std.specs.Prelude.{◌≡◌, ◌+◌, ◌^◌, ◌<◌, ◌≤◌, min, length, string_bytes, IfOk};
 ghost use Rattle.cedar_tokens.specs.Positions as Positions;
 
 use crate::errors::ReadError;
@@ -68,44 +68,75 @@ fn behind(p: Position, byte: u8) -> Position
 /// # Errors
 ///
 /// Memory was wanting.
-pub fn shown(alloc: Global, text: &str, error: ReadError) -> Result<String, AllocError> {
+pub fn shown(alloc: Global, text: &str, error: ReadError) -> Result<String, AllocError>
+    ensures { IfOk result (λ told. Positions.BeginsWith (string_bytes told) (Positions.told_of text.now error)) }
+{
     match error {
-        ReadError::Memory => String::from_str(alloc, "memory was wanting"),
+        ReadError::Memory => Ok(String::from_str(alloc, "memory was wanting")?),
         ReadError::Expected {
             what,
             found,
             start,
             end,
         } => {
-            let message = format!(in alloc; "expected {what}, found {found}")?;
-            marked(alloc, text, &message, start, end)
+            let why = format!(in alloc; "expected {what}, found {found}")?;
+            Ok(marked(alloc, text, &why, start, end)?)
         }
-        ReadError::TooDeep { start, end } => {
-            let message = String::from_str(alloc, "the expression is nested too deeply")?;
-            marked(alloc, text, &message, start, end)
-        }
+        ReadError::TooDeep { start, end } => Ok(marked(
+            alloc,
+            text,
+            "the expression is nested too deeply",
+            start,
+            end,
+        )?),
     }
 }
 
 fn marked(
     alloc: Global,
     text: &str,
-    message: &str,
+    why: &str,
     start: usize,
     end: usize,
-) -> Result<String, AllocError> {
+) -> Result<String, AllocError>
+    ensures { IfOk result (λ told. Positions.BeginsWith
+        (string_bytes told)
+        (Positions.headline_of (Positions.position_of text.now (min start (length text.now))) why.now)) }
+{
     let start = start.min(text.len());
     let position = locate(text, start);
+    let mut told = headline(alloc, position, why)?;
+    let below = line_and_mark(alloc, text, position.start, start, end)?;
+    told.push_str(&below)?;
+    Ok(told)
+}
+
+fn headline(alloc: Global, position: Position, why: &str) -> Result<String, AllocError>
+    ensures { IfOk result (λ told. string_bytes told ≡ Positions.headline_of position why.now) }
+{
+    let line = position.line;
+    let column = position.column;
+    Ok(format!(in alloc; "line {line}, column {column}: {why}")?)
+}
+
+// The line that starts at byte `from`, and under it a mark for each of its characters from `start` up to `end`.
+fn line_and_mark(
+    alloc: Global,
+    text: &str,
+    from: usize,
+    start: usize,
+    end: usize,
+) -> Result<String, AllocError>
+    requires { start ≤ length text.now }
+{
     let line_end = scanning::line_end(text.as_bytes(), start);
-    let before = text.get(position.start..start).unwrap_or("");
-    let place = text.get(start..end.min(line_end)).unwrap_or("");
-    let behind = text.get(end.min(line_end)..line_end).unwrap_or("");
+    let end = end.min(line_end);
+    let before = text.get(from..start).unwrap_or("");
+    let place = text.get(start..end).unwrap_or("");
+    let behind = text.get(end..line_end).unwrap_or("");
     let blanks = marks(alloc, before, ' ')?;
     let marks = marks(alloc, if place.is_empty() { " " } else { place }, '^')?;
-    let (line, column) = (position.line, position.column);
-    format!(in alloc;
-        "line {line}, column {column}: {message}\n{before}{place}{behind}\n{blanks}{marks}"
-    )
+    format!(in alloc; "\n{before}{place}{behind}\n{blanks}{marks}")
 }
 
 // The mark for each character of the text, and each tab as it stands.
