@@ -16,11 +16,11 @@ word_cut [] n e h = absurd (false≢true h)
 word_cut (b ∷ bs) n e h =
     let m = prefix_len is_word_byte bs in
     let whole : n - 0 ≡ suc m = omega arith in
-    rw (whole, e ∙ one-add m) (word h (taken is_word_byte bs) (stopped is_word_byte bs))
+    rw (whole, e ∙ one-add m) (word (record { starts = h; all = taken is_word_byte bs; stops = stopped is_word_byte bs }))
 
 pub number_cut : (bs : List ℕ) (n : ℕ) → n ≡ 1 + prefix_len is_ascii_digit (drop 1 bs) → begins_with is_ascii_digit bs ≡ true → IsToken kind.Number (take n bs) (drop n bs)
 number_cut [] n e h = absurd (false≢true h)
-number_cut (b ∷ bs) n e h = rw (e ∙ one-add (prefix_len is_ascii_digit bs)) (number h (taken is_ascii_digit bs) (stopped is_ascii_digit bs))
+number_cut (b ∷ bs) n e h = rw (e ∙ one-add (prefix_len is_ascii_digit bs)) (number (record { starts = h; all = taken is_ascii_digit bs; stops = stopped is_ascii_digit bs }))
 
 pub slot_cut : (bs : List ℕ) (n : ℕ) → n ≡ 2 + prefix_len is_word_byte (drop 2 bs) → begins_slot bs ≡ true → IsToken (slot_kind (slice_range bs 1 n)) (take n bs) (drop n bs)
 slot_cut [] n e h = absurd (false≢true h)
@@ -30,7 +30,7 @@ slot_cut (a ∷ b ∷ bs) n e h =
     let long : n ≡ suc (suc m) = omega arith in
     let mark : a ≡ 63 = search (tests, (and_parts (a == 63) (starts_word b) h).0) in
     let less : n - 1 ≡ suc m = omega arith in
-    rw (less, long, mark) (slot (and_parts (a == 63) (starts_word b) h).1 (taken is_word_byte bs) (stopped is_word_byte bs))
+    rw (less, long, mark) (slot (record { starts = (and_parts (a == 63) (starts_word b) h).1; all = taken is_word_byte bs; stops = stopped is_word_byte bs }))
 
 pub comment_cut : (bs : List ℕ) (n : ℕ) → n ≡ 2 + prefix_len is_line_byte (drop 2 bs) → begins_comment bs ≡ true → IsSkipped (take n bs) (drop n bs)
 comment_cut [] n e h = absurd (false≢true h)

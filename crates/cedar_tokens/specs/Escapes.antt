@@ -38,10 +38,15 @@ hex_at [] = None
 hex_at (a ∷ []) = None
 hex_at (a ∷ b ∷ bs) = hex_of a b
 
--- behind `\u{`: so many hexadecimal digits, one to six of them, and `}`
+-- one to six hexadecimal digits, n of them, and `}`; they write the number of a character
+abbrev pub is_braced : List ℕ → ℕ → Bool
+is_braced bs n =
+    nat_lt 0 n && (nat_le n 6 && (begins_with (λ b. b == 125) (drop n bs) && is_scalar (digits_value 16 (take n bs))))
+
+-- behind `\u{`: these
 unfoldable pub digits_at : List ℕ → ℕ → Option Escape
 digits_at bs n =
-    if nat_lt 0 n && (nat_le n 6 && (begins_with (λ b. b == 125) (drop n bs) && is_scalar (digits_value 16 (take n bs))))
+    if is_braced bs n
     then Some (record { char = digits_value 16 (take n bs); len = n + 3 })
     else None
 
@@ -57,3 +62,8 @@ escape_at (b ∷ bs) =
     if b == 120 then hex_at bs else (
     if b == 117 then unicode_at bs else
     option_map (λ c. record { char = c; len = 1 }) (simple_of b))
+
+-- the same in a pattern, where `\*` stands for `*`
+unfoldable pub escape_in : Bool → List ℕ → Option Escape
+escape_in in_pattern bs =
+    if in_pattern && begins_with (λ b. b == 42) bs then Some (record { char = 42; len = 1 }) else escape_at bs

@@ -1,4 +1,8 @@
 //! Why a text can't be read.
+ghost use Rattle.std.specs.Prelude.{◌≡◌};
+ghost use Rattle.cedar_tokens.specs.declared.errors.ReadError.TheVariants as error;
+ghost use Rattle.cedar_tokens.specs.Kinds as Kinds;
+
 use crate::tokens::{Kind, Token};
 use std::alloc::{AllocError, AllocFailed};
 
@@ -83,12 +87,16 @@ pub enum ReadError {
 }
 
 impl From<AllocError> for ReadError {
+    ghost from_gives = { λ _ result. result ≡ error.Memory };
+
     fn from(_error: AllocError) -> ReadError {
         ReadError::Memory
     }
 }
 
 impl<T: Drop> From<AllocFailed<T>> for ReadError {
+    ghost from_gives = { λ _ result. result ≡ error.Memory };
+
     fn from(_error: AllocFailed<T>) -> ReadError {
         ReadError::Memory
     }
@@ -96,7 +104,9 @@ impl<T: Drop> From<AllocFailed<T>> for ReadError {
 
 impl ReadError {
     /// This was expected where the token stands; where the token can't be read, what it should have been.
-    pub fn expected(what: Expected, token: Token) -> ReadError {
+    pub fn expected(what: Expected, token: Token) -> ReadError
+        ensures { result ≡ error.Expected (Kinds.what_for what token.kind) token.kind token.start token.end }
+    {
         ReadError::Expected {
             what: what_for(what, token.kind),
             found: token.kind,
@@ -106,7 +116,9 @@ impl ReadError {
     }
 }
 
-fn what_for(what: Expected, found: Kind) -> Expected {
+fn what_for(what: Expected, found: Kind) -> Expected
+    ensures { result ≡ Kinds.what_for what found }
+{
     match found {
         Kind::UnclosedText => Expected::Quote,
         Kind::Unreadable => Expected::Token,

@@ -7,9 +7,9 @@ ghost use Rattle.cedar_tokens.specs.Escapes as Escapes;
 
 use crate::escapes::Escape;
 
-/// The escape that these bytes, which stand behind a backslash, begin with.
+// The escape that these bytes, which stand behind a backslash, begin with.
 #[tactic(auto, unfolding(crate::specs::Escapes::escape_at))]
-pub(crate) fn escape(bytes: &[u8]) -> Option<Escape>
+fn escape(bytes: &[u8]) -> Option<Escape>
     ensures { result ≡ Escapes.escape_at bytes.now }
 {
     if bytes.len() == 0 {
@@ -25,6 +25,18 @@ pub(crate) fn escape(bytes: &[u8]) -> Option<Escape>
         Some(char) => Some(Escape { char, len: 1 }),
         None => None,
     }
+}
+
+/// The escape that these bytes, which stand behind a backslash, begin with, in a pattern or else in a text: a pattern
+/// has the escape `\*` as well.
+#[tactic(auto, unfolding(crate::specs::Escapes::escape_in))]
+pub(crate) fn escape_in(in_pattern: bool, bytes: &[u8]) -> Option<Escape>
+    ensures { result ≡ Escapes.escape_in in_pattern bytes.now }
+{
+    if in_pattern && bytes.len() > 0 && bytes[0] == b'*' {
+        return Some(Escape { char: '*', len: 1 });
+    }
+    escape(bytes)
 }
 
 /// The value of a digit or a letter as a digit, and 36 for each other byte.

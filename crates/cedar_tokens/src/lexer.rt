@@ -1,10 +1,11 @@
 //! Cuts a text into tokens.
-ghost use Rattle.std.specs.Prelude.{◌≡◌, ◌+◌, ◌<◌, ◌≤◌, length, IfOk, IfSome, IfNone, IsFalse, IsTrue, IsCharBoundary};
-ghost use Rattle.cedar_tokens.specs.Scanning.{begins_slot, begins_comment, begins_operator, begins_token, begins_with, double_of, single_of};
-ghost use Rattle.cedar_tokens.specs.Words.{starts_word};
-ghost use Rattle.cedar_tokens.specs.Tokens.{IsTokens, IsCut};
+ghost use Rattle.std.specs.Prelude.{◌≡◌, ◌==◌, ◌<◌, length, All, IfOk, IfSome, IfNone, IsFalse, IsTrue, IsCharBoundary};
 ghost use Rattle.std.specs.Char.{is_ascii_digit};
-ghost use Rattle.std.specs.Prelude.{◌==◌};
+ghost use Rattle.cedar_tokens.specs.Scanning.{begins_slot, begins_comment, begins_operator, begins_token, begins_with};
+ghost use Rattle.cedar_tokens.specs.Scanning.{double_of, single_of};
+ghost use Rattle.cedar_tokens.specs.Tokens.{IsTokens, IsCut};
+ghost use Rattle.cedar_tokens.specs.Values.{Stands};
+ghost use Rattle.cedar_tokens.specs.Words.{starts_word};
 
 use crate::tokens::{Kind, Token};
 use crate::{operators, scanning, words};
@@ -17,7 +18,8 @@ use std::alloc::{AllocError, Global};
 ///
 /// Memory was wanting.
 pub fn tokens(alloc: Global, text: &str) -> Result<Vec<Token>, AllocError>
-    ensures { IfOk result (λ tokens. IsTokens 0 text.now tokens.items) }
+    ensures tokens { IfOk result (λ tokens. IsTokens 0 text.now tokens.items) }
+    ensures stand { IfOk result (λ tokens. All (Stands text.now) tokens.items) }
 {
     let mut tokens = Vec::new(alloc);
     let mut rest = text;

@@ -4,8 +4,14 @@
 pub mod errors;
 mod escapes;
 mod escaping;
+mod expectations;
+mod kinds;
+pub mod laws;
 pub mod lexer;
 mod operators;
+mod pieces;
 mod scanning;
+pub mod show;
 pub mod tokens;
+pub mod values;
 mod words;

@@ -1,4 +1,6 @@
 //! The tokens of Cedar's policy text.
+ghost use Rattle.std.specs.Prelude.{◌≡◌, ◌||◌};
+ghost use Rattle.cedar_tokens.specs.Kinds as Kinds;
 
 /// The kind of a token: what its bytes are.
 #[derive(Clone, Copy, PartialEq, Eq)]
@@ -116,7 +118,9 @@ pub struct Token {
 impl Kind {
     /// Whether the token may name an attribute or stand in a name: each word but the reserved ones, which are `if`,
     /// `then`, `else`, `true`, `false`, `in`, `has`, `like` and `is`.
-    pub fn is_identifier(self) -> bool {
+    pub fn is_identifier(self) -> bool
+        ensures { result ≡ Kinds.is_identifier self }
+    {
         match self {
             Kind::Identifier
             | Kind::Principal
@@ -132,7 +136,16 @@ impl Kind {
     }
 
     /// Whether the token is a word, keyword or not: each may be the key of an annotation.
-    pub fn is_word(self) -> bool {
+    pub fn is_word(self) -> bool
+        ensures { result ≡ (Kinds.is_identifier self || Kinds.is_reserved self) }
+    {
+        self.is_identifier() || self.is_reserved()
+    }
+
+    /// Whether the token is a word that stands for itself alone.
+    pub fn is_reserved(self) -> bool
+        ensures { result ≡ Kinds.is_reserved self }
+    {
         match self {
             Kind::If
             | Kind::Then
@@ -143,7 +156,7 @@ impl Kind {
             | Kind::Has
             | Kind::Like
             | Kind::Is => true,
-            _ => self.is_identifier(),
+            _ => false,
         }
     }
 }
