@@ -3,6 +3,7 @@ use Rattle.std.proofs.Common.{◌≡◌, ℕ, ◌+◌, ◌<◌, ◌≤◌, List,
 use Rattle.std.proofs.Common.{add-one}
 use Rattle.std.proofs.Math.Nat.{zero-max}
 use Prim.Native.Nat.{max}
+use Rattle.cedar_tokens.specs.Kinds.{is_identifier}
 use Rattle.cedar_tokens.specs.declared.tokens.Kind.TheVariants as kind
 use Rattle.cedar_tokens.specs.declared.tokens.Token.{Token}
 use Rattle.cedar_syntax.specs.declared.steps.Bracketed.{Bracketed}
@@ -12,7 +13,7 @@ use Rattle.cedar_syntax.specs.declared.frames.Frame.{Frame}
 use Rattle.cedar_syntax.specs.declared.frames.Wait.TheVariants as wait
 use Rattle.cedar_syntax.specs.Tokens.{kind_at, start_at, end_at}
 use Rattle.cedar_syntax.specs.Trees.{Tree, Trees, none, also, height, count, stacked, gathered, left_below, made}
-use Rattle.cedar_syntax.specs.Grammar.{is_identifier, is_key, closes, takes_expressions, IsPath, by_brackets}
+use Rattle.cedar_syntax.specs.Grammar.{is_key, closes, takes_expressions, IsPath, by_brackets}
 use Rattle.cedar_syntax.specs.Grammar.{opens_set, opens_record, opens_call, opens_method, nothing, comma, empty}
 use Rattle.cedar_syntax.specs.Grammar.{filled, item, keyed}
 use Rattle.cedar_syntax.specs.Reading.{Look, Waits, for_item, behind_key, InBrackets, brackets, HasOpened, opened}

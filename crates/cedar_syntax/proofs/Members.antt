@@ -1,5 +1,6 @@
--- What a token more makes of where the machine stands: names, attributes, and relations whose right side is no expression.
+-- What a token more makes of where the machine stands: names, attributes, `has`, `like` and `is`.
 use Rattle.std.proofs.Common.{◌≡◌, ℕ, ◌+◌, ◌<◌, ◌≤◌, List, ◌∷◌, true}
+use Rattle.cedar_tokens.specs.Kinds.{is_identifier}
 use Rattle.cedar_tokens.specs.declared.tokens.Kind.TheVariants as kind
 use Rattle.cedar_tokens.specs.declared.tokens.Token.{Token}
 use Rattle.cedar_syntax.specs.declared.steps.Leaf.TheVariants as leaves
@@ -10,7 +11,7 @@ use Rattle.cedar_syntax.specs.declared.frames.Wait.TheVariants as wait
 use Rattle.cedar_syntax.specs.Levels.{awaited}
 use Rattle.cedar_syntax.specs.Tokens.{kind_at, start_at, end_at}
 use Rattle.cedar_syntax.specs.Trees.{Tree, leaf, made}
-use Rattle.cedar_syntax.specs.Grammar.{is_identifier, IsPath, one_name, name_inside, IsDotted, one_attribute}
+use Rattle.cedar_syntax.specs.Grammar.{IsPath, one_name, name_inside, IsDotted, one_attribute}
 use Rattle.cedar_syntax.specs.Grammar.{attribute_inside, by_entity, by_attribute, by_index, by_has, by_has_text}
 use Rattle.cedar_syntax.specs.Grammar.{by_like, by_is}
 use Rattle.cedar_syntax.specs.Reading.{Look, Waits, behind_is_in, Reads, part, Behind, behind, IsRelated}

@@ -12,8 +12,10 @@ use Rattle.cedar_syntax.specs.declared.steps.What.TheVariants as what
 use Rattle.cedar_syntax.specs.declared.steps.Step.{Step}
 use Rattle.cedar_syntax.specs.declared.frames.Frame.{Frame}
 use Rattle.cedar_syntax.specs.declared.frames.Wait.TheVariants as wait
-use Rattle.cedar_syntax.specs.Trees.{Tree, Trees, none, also, count, stacked, made, parts_of, FindParts, trees, trees_from, signs_made}
-use Rattle.cedar_syntax.specs.Reading.{Look, behind_infix, behind_is_in, behind_else, brackets, HasOpened, opened, Reads, part, Behind, behind, IsRelated, HasItem, has_item}
+use Rattle.cedar_syntax.specs.Trees.{Tree, Trees, none, also, count, stacked, made, parts_of, FindParts, trees}
+use Rattle.cedar_syntax.specs.Trees.{trees_from, signs_made}
+use Rattle.cedar_syntax.specs.Reading.{Look, behind_infix, behind_is_in, behind_else, brackets, HasOpened, opened}
+use Rattle.cedar_syntax.specs.Reading.{Reads, part, Behind, behind, IsRelated, HasItem, has_item}
 
 find_from : (ts : List Tree) (xs : List Step) (x : Step) → FindParts ts xs →
     parts_of x.what ≤ length (trees_from ts xs) → FindParts ts (xs ++ x ∷ [])

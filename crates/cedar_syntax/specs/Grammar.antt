@@ -28,14 +28,15 @@
 --   LITERAL  ::= 'true' | 'false' | INT | STR
 --   VAR      ::= 'principal' | 'action' | 'resource' | 'context'
 --
--- Precedence is in numbers: `Derives all n ..` is a part of level n (Levels), and a rule says up to which level it takes
--- its parts. `!=`, `>` and `>=` are the negations of `==`, `<=` and `<`. A minus right before a number that stands alone
--- is the number's own: `-1` is a literal, `-(1)` and `-1.a` are negations of what follows. At most four signs of one kind
--- stand before a part, and no signs of two kinds. An IDENT is any word but the reserved ones, also behind a dot and as a
--- key of a record, where a reserved word stands in quotes: `a["if"]`. No comma stands behind the last part of a list.
--- Which functions and methods there are, how many parts they take, whether a number fits, whether a text is well written
--- and whether a key stands twice is not asked here.
+-- Precedence is in numbers: `Derives all n ..` is a part of level n (Levels), and a rule says up to which level it
+-- takes its parts. `!=`, `>` and `>=` are the negations of `==`, `<=` and `<`. A minus right before a number that stands
+-- alone is the number's own: `-1` is a literal, `-(1)` and `-1.a` are negations of what follows. At most four signs of
+-- one kind stand before a part, and no signs of two kinds. An IDENT is any word but the reserved ones, also behind a dot
+-- and as a key of a record, where a reserved word stands in quotes: `a["if"]`. No comma stands behind the last part of a
+-- list. Which functions and methods there are, how many parts they take, whether a number fits, whether a text is well
+-- written and whether a key stands twice is not asked here.
 use Rattle.std.specs.Prelude.{◌≡◌, ℕ, ◌+◌, ◌<◌, ◌≤◌, List, length, Option, Some, None, Bool, true, false, suc}
+use Rattle.cedar_tokens.specs.Kinds.{is_identifier}
 use Rattle.cedar_tokens.specs.declared.tokens.Kind.{Kind}
 use Rattle.cedar_tokens.specs.declared.tokens.Kind.TheVariants as kind
 use Rattle.cedar_tokens.specs.declared.tokens.Token.{Token}
@@ -56,19 +57,6 @@ use Rattle.cedar_syntax.specs.Trees.{Tree, leaf, unary, binary, conditional, fie
 use Rattle.cedar_syntax.specs.Trees.{signed}
 
 -- ---- tokens
-
--- the words that are not reserved
-abbrev pub is_identifier : Kind → Bool
-is_identifier kind.Identifier = true
-is_identifier kind.Principal = true
-is_identifier kind.Action = true
-is_identifier kind.Resource = true
-is_identifier kind.Context = true
-is_identifier kind.Permit = true
-is_identifier kind.Forbid = true
-is_identifier kind.When = true
-is_identifier kind.Unless = true
-is_identifier _ = false
 
 -- the keys of records
 abbrev pub is_key : Kind → Bool

@@ -1,5 +1,6 @@
 -- Each part stands inside what it is a part of.
 use Rattle.std.specs.Prelude.{ℕ, ◌-◌, ◌<◌, ◌≤◌, List, length, ⊤}
+use Rattle.cedar_tokens.specs.Kinds.{what_for}
 use Rattle.cedar_tokens.specs.declared.errors.Expected.{Expected}
 use Rattle.cedar_tokens.specs.declared.errors.ReadError.{ReadError}
 use Rattle.cedar_tokens.specs.declared.errors.ReadError.TheVariants as error
@@ -40,7 +41,7 @@ IsNested all p = IsInside (start_at all 0) (end_of all) p
 -- an error stands at a token, or behind the last one; what is too high ends with a token
 pub data IsPlaced (all : List Token) : ReadError → Type 0 where
   for_memory : IsPlaced all error.Memory
-  at_token : {i : ℕ} {what : Expected} → i < length all →
-      IsPlaced all (error.Expected what (kind_at all i) (start_at all i) (end_at all i))
+  at_token : {i : ℕ} (what : Expected) → i < length all →
+      IsPlaced all (error.Expected (what_for what (kind_at all i)) (kind_at all i) (start_at all i) (end_at all i))
   at_end : {what : Expected} {found : Kind} → IsPlaced all (error.Expected what found (end_of all) (end_of all))
   up_to_token : {i s : ℕ} → i < length all → s ≤ end_at all i → IsPlaced all (error.TooDeep s (end_at all i))

@@ -1,5 +1,6 @@
 -- Where a machine stands.
 use Rattle.std.specs.Prelude.{◌≡◌, ℕ, ◌+◌, ◌≤◌, List, true, false}
+use Rattle.cedar_tokens.specs.Kinds.{is_identifier}
 use Rattle.cedar_tokens.specs.declared.tokens.Kind.TheVariants as kind
 use Rattle.cedar_tokens.specs.declared.tokens.Token.{Token}
 use Rattle.cedar_syntax.specs.declared.machine.work.Work.{Work}
@@ -7,7 +8,7 @@ use Rattle.cedar_syntax.specs.declared.machine.State.{State}
 use Rattle.cedar_syntax.specs.declared.machine.State.TheVariants as state
 use Rattle.cedar_syntax.specs.Tokens.{kind_at}
 use Rattle.cedar_syntax.specs.Trees.{trees}
-use Rattle.cedar_syntax.specs.Grammar.{is_identifier, is_key, IsPath, IsDotted}
+use Rattle.cedar_syntax.specs.Grammar.{is_key, IsPath, IsDotted}
 use Rattle.cedar_syntax.specs.Reading.{Look, Waits, HasOpened, AwaitsKey, Reads, Behind, IsRelated, BehindColons}
 use Rattle.cedar_syntax.specs.Reading.{BehindDot, IsWhole}
 

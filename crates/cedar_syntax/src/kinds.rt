@@ -6,31 +6,13 @@ use crate::levels::Operator;
 use crate::steps::{Bracketed, Leaf, Sign};
 use cedar_tokens::tokens::Kind;
 
-/// Whether the token may name an attribute or stand in a name.
-pub fn is_identifier(kind: Kind) -> bool
-    ensures { result ≡ Grammar.is_identifier kind }
-{
-    match kind {
-        Kind::Identifier
-        | Kind::Principal
-        | Kind::Action
-        | Kind::Resource
-        | Kind::Context
-        | Kind::Permit
-        | Kind::Forbid
-        | Kind::When
-        | Kind::Unless => true,
-        _ => false,
-    }
-}
-
 /// Whether the token may be the key of a record.
 pub fn is_key(kind: Kind) -> bool
     ensures { result ≡ Grammar.is_key kind }
 {
     match kind {
         Kind::Text => true,
-        _ => is_identifier(kind),
+        _ => kind.is_identifier(),
     }
 }
 

@@ -9,6 +9,7 @@ ghost use Rattle.cedar_syntax.specs.Places.{IsPlaced, end_of};
 ghost use Rattle.cedar_syntax.specs.Reading.{Reads, HasRead, under};
 ghost use Rattle.cedar_syntax.specs.Standing.{look, Stands};
 ghost use Rattle.cedar_syntax.specs.Tokens as Tokens;
+ghost use Rattle.cedar_tokens.specs.Kinds as Kinds;
 ghost use Rattle.cedar_syntax.specs.Trees.{trees, made, parts_of, FindParts};
 ghost use Prim.Native.Nat.{max};
 
@@ -125,30 +126,14 @@ fn placed(refusal: Refusal, tokens: &[Token], index: usize, start: usize) -> Rea
     requires { index < length tokens.now }
     ensures { IsPlaced tokens.now result }
 {
-    let found = kind_at(tokens, index);
-    let end = end_at(tokens, index);
+    let token = token_at(tokens, index);
     match refusal {
         Refusal::Memory => ReadError::Memory,
-        Refusal::Expected(what) => ReadError::Expected {
-            what: what_at(what, found),
-            found,
-            start: start_at(tokens, index),
-            end,
-        },
+        Refusal::Expected(what) => ReadError::expected(what, token),
         Refusal::TooDeep => ReadError::TooDeep {
-            start: lower(start, end),
-            end,
+            start: lower(start, token.end),
+            end: token.end,
         },
-    }
-}
-
-// What was expected, or what a token that can't be read should have been.
-fn what_at(what: Expected, found: Kind) -> Expected {
-    match found {
-        Kind::UnclosedText => Expected::Quote,
-        Kind::Unreadable => Expected::Token,
-        Kind::OtherSlot => Expected::Slot,
-        _ => what,
     }
 }
 
@@ -228,9 +213,9 @@ fn operator_at(tokens: &[Token], index: usize) -> Option<Operator>
 
 fn is_identifier_at(tokens: &[Token], index: usize) -> bool
     requires { index < length tokens.now }
-    ensures { result ≡ Grammar.is_identifier (Tokens.kind_at tokens.now index) }
+    ensures { result ≡ Kinds.is_identifier (Tokens.kind_at tokens.now index) }
 {
-    kinds::is_identifier(kind_at(tokens, index))
+    kind_at(tokens, index).is_identifier()
 }
 
 fn is_key_at(tokens: &[Token], index: usize) -> bool

@@ -6,7 +6,7 @@ pub returns-in-Memory : goal.returns-in-Memory
 returns-in-Memory c = for_memory
 
 pub returns-in-Expected : goal.returns-in-Expected
-returns-in-Expected c = token_placed c.requires c.kind_at-found.ensures c.start_at.ensures c.end_at-end.ensures
+returns-in-Expected c = token_placed c.in-Expected.what c.requires c.token_at-token.ensures c.expected.ensures
 
 pub returns-in-TooDeep : goal.returns-in-TooDeep
-returns-in-TooDeep c = deep_placed c.requires c.end_at-end.ensures c.lower.ensures
+returns-in-TooDeep c = deep_placed c.requires c.token_at-token.ensures c.lower.ensures
