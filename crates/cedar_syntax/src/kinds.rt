@@ -3,7 +3,7 @@ ghost use Rattle.std.specs.Prelude.{◌≡◌};
 ghost use Rattle.cedar_syntax.specs.Grammar as Grammar;
 
 use crate::levels::Operator;
-use crate::steps::{Bracketed, Leaf, Sign};
+use crate::steps::{Bracketed, Leaf};
 use cedar_tokens::tokens::Kind;
 
 /// Whether the token may be the key of a record.
