@@ -4,5 +4,6 @@ pub mod Listed
 pub mod Making
 pub mod Members
 pub mod Nested
+pub mod Ordered
 pub mod Parts
 pub mod Turns
