@@ -1,0 +1,7 @@
+pub mod Grammar
+pub mod Levels
+pub mod Places
+pub mod Reading
+pub mod Standing
+pub mod Tokens
+pub mod Trees

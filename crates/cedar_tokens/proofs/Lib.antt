@@ -1,0 +1,12 @@
+pub mod Bounds
+pub mod Cutting
+pub mod Ends
+pub mod Fronts
+pub mod Located
+pub mod Lows
+pub mod Quotes
+pub mod Reading
+pub mod Runs
+pub mod Standing
+pub mod Unique
+pub mod Whole

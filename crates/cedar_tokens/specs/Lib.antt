@@ -1,0 +1,10 @@
+pub mod Escapes
+pub mod Kinds
+pub mod Lexicon
+pub mod Names
+pub mod Operators
+pub mod Positions
+pub mod Scanning
+pub mod Tokens
+pub mod Values
+pub mod Words
