@@ -1,5 +1,6 @@
 pub mod Bounds
 pub mod Cutting
+pub mod Determined
 pub mod Ends
 pub mod Fronts
 pub mod Located

@@ -1,4 +1,5 @@
--- What the escapes of texts and patterns stand for.
+-- What the escapes of texts and patterns stand for. Behind the backslash, 120 is `x` and 117 is `u`; 123 and 125 are
+-- the braces, and 42 is `*`.
 use Rattle.std.specs.Prelude.{ℕ, ◌+◌, Bool, ◌&&◌, ◌||◌, ◌==◌, if◌then◌else◌, Option, Some, None, option_map, List, [], ◌∷◌, take, drop, nat_lt, nat_le}
 use Rattle.std.specs.List.{prefix_len}
 use Rattle.std.specs.Char.{digit_value}
@@ -6,7 +7,8 @@ use Rattle.std.specs.Str.Parse.{digits_value}
 use Rattle.cedar_tokens.specs.declared.escapes.Escape.{Escape}
 use Rattle.cedar_tokens.specs.Scanning.{begins_with}
 
--- the character for which a backslash and this one stand
+-- the character for which a backslash and this one stand: `\n`, `\r`, `\t` and `\0` for those of the numbers 10, 13, 9
+-- and 0, and a backslash, a single and a double quote for themselves
 abbrev pub simple_of : ℕ → Option ℕ
 simple_of b =
     if b == 110 then Some 10 else (

@@ -25,7 +25,8 @@ position_of text at = fold behind (record { at = 0; line = 1; column = 1; start 
 
 -- the line that says where the text can't be read, and why
 abbrev pub headline_of : Position → List ℕ → List ℕ
-headline_of p why = codes "line " ++ (decimal p.line ++ (codes ", column " ++ (decimal p.column ++ (codes ": " ++ why))))
+headline_of p why =
+    codes "line " ++ (decimal p.line ++ (codes ", column " ++ (decimal p.column ++ (codes ": " ++ why))))
 
 abbrev pub expected_found : Expected → Kind → List ℕ
 expected_found what found = codes "expected " ++ (expected_text what ++ (codes ", found " ++ kind_text found))
@@ -33,7 +34,8 @@ expected_found what found = codes "expected " ++ (expected_text what ++ (codes "
 -- what is told of an error, before the line itself
 abbrev pub told_of : List ℕ → ReadError → List ℕ
 told_of text error.Memory = codes "memory was wanting"
-told_of text (error.Expected what found start end) = headline_of (position_of text (min start (length text))) (expected_found what found)
+told_of text (error.Expected what found start end) =
+    headline_of (position_of text (min start (length text))) (expected_found what found)
 told_of text (error.TooDeep start end) =
     headline_of (position_of text (min start (length text))) (codes "the expression is nested too deeply")
 
