@@ -27,6 +27,8 @@ pub enum Leaf {
     Variable(usize),
     /// The entity whose type is named from the one token up to the `::` before the other, which is its id.
     Entity(usize, usize),
+    /// The slot that this token names: in the scope of a policy alone, and in no expression.
+    Slot(usize),
 }
 
 /// What is made of one part.

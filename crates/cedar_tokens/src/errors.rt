@@ -57,10 +57,28 @@ pub enum Expected {
     Steps,
     /// `permit`, `forbid` or an annotation.
     Policy,
-    /// What stands there in a policy.
-    PolicyToken,
-    /// A constraint that may stand in a scope.
-    Constraint,
+    /// A word, the key of an annotation.
+    Word,
+    /// `(`
+    OpenParen,
+    /// `)`
+    CloseParen,
+    /// `{`
+    OpenBrace,
+    /// `,`
+    Comma,
+    /// `principal`
+    Principal,
+    /// `action`
+    Action,
+    /// `resource`
+    Resource,
+    /// An entity.
+    Entity,
+    /// An entity or a slot.
+    EntityOrSlot,
+    /// The name of a type.
+    Type,
     /// `when`, `unless` or `;`
     Clause,
     /// `?principal` or `?resource`.
