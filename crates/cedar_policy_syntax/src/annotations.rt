@@ -1,5 +1,5 @@
 //! The annotations of a policy, before its effect.
-ghost use Rattle.std.specs.Prelude.{◌≡◌, ◌<◌, length, IfOk, IfErr, ℕ};
+ghost use Rattle.std.specs.Prelude.{◌≡◌, ◌+◌, ◌<◌, true, length, IfOk, IfErr, ℕ};
 ghost use Rattle.cedar_syntax.specs.Places.{IsPlaced};
 ghost use Rattle.cedar_syntax.specs.Tokens as Tokens;
 ghost use Rattle.cedar_tokens.specs.declared.tokens.Kind.TheVariants as kind;

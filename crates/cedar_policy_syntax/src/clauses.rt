@@ -1,8 +1,10 @@
 //! The clauses of a policy, behind its scope.
-ghost use Rattle.std.specs.Prelude.{◌≡◌, ◌+◌, ◌<◌, ◌≤◌, length, IfOk, IfErr, Some};
+ghost use Rattle.std.specs.Prelude.{◌≡◌, ◌+◌, ◌<◌, ◌≤◌, ◌∷◌, ℕ, List, length, IfOk, IfErr, Some};
 ghost use Rattle.cedar_syntax.specs.Places.{IsPlaced};
 ghost use Rattle.cedar_syntax.specs.Tokens as Tokens;
-ghost use Rattle.cedar_syntax.specs.Trees.{trees, height};
+ghost use Rattle.cedar_syntax.specs.Trees as Trees;
+ghost use Rattle.cedar_syntax.specs.Trees.{Tree, trees};
+ghost use Rattle.cedar_syntax.specs.Grammar.{IsInBraces};
 ghost use Rattle.cedar_policy_syntax.specs.Grammar as Grammar;
 ghost use Rattle.cedar_policy_syntax.specs.Grammar.{IsCondition};
 ghost use Rattle.cedar_policy_syntax.specs.Reading.{Puts, PutsClause, PutsClauses};
@@ -32,7 +34,7 @@ impl Written {
         index: usize,
         limit: usize,
     ) -> Result<usize, ReadError>
-        ensures ok { IfOk result (λ last. Puts (λ p. IsCondition tokens.now index last p × (height p ≤ limit))
+        ensures ok { IfOk result (λ last. Puts (λ p. IsCondition tokens.now index last p × (Trees.height p ≤ limit))
             (trees self.old.steps.items) (trees self.new.steps.items)) }
         ensures within { IfOk result (λ last. last < length tokens.now) }
         ensures err { IfErr result (λ error. IsPlaced tokens.now error) }
@@ -52,7 +54,7 @@ impl Written {
         index: usize,
         limit: usize,
     ) -> Result<usize, ReadError>
-        ensures ok { IfOk result (λ last. Puts (λ p. IsCondition tokens.now index last p × (height p ≤ limit))
+        ensures ok { IfOk result (λ last. Puts (λ p. IsCondition tokens.now index last p × (Trees.height p ≤ limit))
             (trees self.old.steps.items) (trees self.new.steps.items)) }
         ensures within { IfOk result (λ last. last < length tokens.now) }
         ensures err { IfErr result (λ error. IsPlaced tokens.now error) }
@@ -99,12 +101,12 @@ impl Written {
         before: Clause,
         limit: usize,
     ) -> Result<Clause, ReadError>
+        requires { 1 ≤ length (trees self.old.steps.items) }
         ensures ok { (i : ℕ) (ts : List Tree) → IfOk result (λ c.
             PutsClauses tokens.now i start before.next before.end before.height ts (trees self.old.steps.items) →
             PutsClauses tokens.now i start c.next c.end c.height ts (trees self.new.steps.items)) }
         ensures low { IfOk result (λ c. c.height ≤ limit) }
         ensures err { IfErr result (λ error. IsPlaced tokens.now error) }
-        requires { 1 ≤ length (trees self.old.steps.items) }
     {
         let more = self.clause(alloc, tokens, before.next, limit)?;
         let below = if before.height < more.height {
@@ -160,7 +162,7 @@ impl Written {
         requires low { height ≤ limit }
         requires makes { 1 ≤ length (trees self.old.steps.items) }
         ensures ok { (p : Tree) (ts : List Tree) → IfOk result (λ c. IsInBraces tokens.now (index + 1) close p →
-            height ≡ height_of p → trees self.old.steps.items ≡ p ∷ ts →
+            height ≡ Trees.height p → trees self.old.steps.items ≡ p ∷ ts →
             PutsClause tokens.now index c.next c.end c.height ts (trees self.new.steps.items)) }
         ensures low { IfOk result (λ c. c.height ≤ limit) }
         ensures err { IfErr result (λ error. IsPlaced tokens.now error) }

@@ -1,8 +1,9 @@
 //! The scope of a policy: what its principal, its action and its resource must be.
-ghost use Rattle.std.specs.Prelude.{◌≡◌, ◌+◌, ◌<◌, length, IfOk, IfErr, Some, true};
+ghost use Rattle.std.specs.Prelude.{◌≡◌, ◌+◌, ◌<◌, ◌∷◌, ℕ, List, length, IfOk, IfErr, Some, true};
 ghost use Rattle.cedar_syntax.specs.Places.{IsPlaced};
 ghost use Rattle.cedar_syntax.specs.Tokens as Tokens;
-ghost use Rattle.cedar_syntax.specs.Trees.{trees, made};
+ghost use Rattle.cedar_syntax.specs.Trees.{trees, Tree};
+ghost use Rattle.cedar_syntax.specs.Grammar.{IsPath};
 ghost use Rattle.cedar_tokens.specs.declared.tokens.Kind.TheVariants as kind;
 ghost use Rattle.cedar_policy_syntax.specs.Grammar as Grammar;
 ghost use Rattle.cedar_policy_syntax.specs.Grammar.{IsEntity, IsReference, IsSet, IsConstraint};
@@ -125,7 +126,12 @@ impl Written {
         let at = expect(tokens, index + 1, kind, Expected::Comma)?;
         self.variable(tokens, index)?;
         let right = self.reference(variable, tokens, at)?;
-        self.put(tokens, What::Binary(binary), start_at(tokens, index), right.end)?;
+        self.put(
+            tokens,
+            What::Binary(binary),
+            start_at(tokens, index),
+            right.end,
+        )?;
         Ok(right.next)
     }
 
@@ -163,7 +169,12 @@ impl Written {
         self.variable(tokens, index)?;
         let close = self.set(tokens, at)?;
         let end = end_at(tokens, close);
-        self.put(tokens, What::Binary(Binary::In), start_at(tokens, index), end)?;
+        self.put(
+            tokens,
+            What::Binary(Binary::In),
+            start_at(tokens, index),
+            end,
+        )?;
         let next = expect(tokens, close, Kind::CloseBracket, Expected::CommaOrClose)?;
         Ok(next)
     }
@@ -280,12 +291,7 @@ impl Written {
         Ok(reach)
     }
 
-    fn entity(
-        &mut self,
-        tokens: &[Token],
-        index: usize,
-        what: Expected,
-    ) -> Result<Reach, ReadError>
+    fn entity(&mut self, tokens: &[Token], index: usize, what: Expected) -> Result<Reach, ReadError>
         ensures ok { IfOk result (λ r. Puts (IsEntity tokens.now index r.next r.end)
             (trees self.old.steps.items) (trees self.new.steps.items)) }
         ensures err { IfErr result (λ error. IsPlaced tokens.now error) }
