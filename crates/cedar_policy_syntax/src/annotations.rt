@@ -6,9 +6,8 @@ ghost use Rattle.cedar_tokens.specs.declared.tokens.Kind.TheVariants as kind;
 ghost use Rattle.cedar_policy_syntax.specs.Grammar.{AreAnnotations};
 ghost use Rattle.cedar_policy_syntax.specs.Grammar as Grammar;
 
-use crate::looking::{expect, is_word_at, kind_at};
+use crate::looking::{expect, kind_at, word};
 use crate::policies::Annotation;
-use cedar_syntax::expected_at;
 use cedar_tokens::errors::{Expected, ReadError};
 use cedar_tokens::tokens::{Kind, Token};
 use std::alloc::Global;
@@ -49,12 +48,10 @@ fn annotation(
     ensures err { IfErr result (λ error. IsPlaced tokens.now error) }
 {
     let key = expect(tokens, index, Kind::At, Expected::Policy)?;
-    if key >= tokens.len() || !is_word_at(tokens, key) {
-        return Err(expected_at(tokens, key, Expected::Word));
-    }
-    let behind = key + 1;
+    let behind = word(tokens, key)?;
     if kind_at(tokens, behind) == Kind::OpenParen {
-        return annotation_value(annotations, tokens, index, behind);
+        let next = annotation_value(annotations, tokens, index, key, behind)?;
+        return Ok(next);
     }
     annotations.push(Annotation { key, value: None })?;
     Ok(behind)
@@ -65,12 +62,13 @@ fn annotation_value(
     annotations: &mut Vec<Annotation>,
     tokens: &[Token],
     index: usize,
+    key: usize,
     paren: usize,
 ) -> Result<usize, ReadError>
     requires is { Tokens.kind_at tokens.now index ≡ kind.At }
-    requires within { index + 1 < length tokens.now }
-    requires word { Grammar.is_word (Tokens.kind_at tokens.now (index + 1)) ≡ true }
-    requires paren { paren ≡ index + 1 + 1 }
+    requires key { key ≡ index + 1 }
+    requires word { Grammar.is_word (Tokens.kind_at tokens.now key) ≡ true }
+    requires paren { paren ≡ key + 1 }
     ensures ok { (i : ℕ) → IfOk result (λ next. AreAnnotations tokens.now i index annotations.old.items →
         AreAnnotations tokens.now i next annotations.new.items) }
     ensures err { IfErr result (λ error. IsPlaced tokens.now error) }
@@ -79,7 +77,7 @@ fn annotation_value(
     let close = expect(tokens, text, Kind::Text, Expected::Text)?;
     let next = expect(tokens, close, Kind::CloseParen, Expected::CloseParen)?;
     annotations.push(Annotation {
-        key: index + 1,
+        key,
         value: Some(text),
     })?;
     Ok(next)

@@ -109,11 +109,7 @@ impl Written {
         ensures err { IfErr result (λ error. IsPlaced tokens.now error) }
     {
         let more = self.clause(alloc, tokens, before.next, limit)?;
-        let below = if before.height < more.height {
-            more.height
-        } else {
-            before.height
-        };
+        let below = looking::higher(before.height, more.height);
         if limit <= below {
             return Err(too_deep(tokens, start, more.next));
         }
@@ -141,7 +137,8 @@ impl Written {
             Some(negates) if index < tokens.len() => {
                 let read = clause_steps(alloc, tokens, index + 1, limit)?;
                 self.append(tokens, read.steps.as_slice())?;
-                self.negated(negates, tokens, index, read.close, read.height, limit)
+                let clause = self.negated(negates, tokens, index, read.close, read.height, limit)?;
+                Ok(clause)
             }
             _ => Err(expected_at(tokens, index, Expected::Clause)),
         }

@@ -1,5 +1,6 @@
 //! Tokens by their numbers.
-ghost use Rattle.std.specs.Prelude.{◌≡◌, ◌+◌, ◌<◌, length, IfOk, IfErr, IfSome, ℕ};
+ghost use Rattle.std.specs.Prelude.{◌≡◌, ◌+◌, ◌<◌, length, IfOk, IfErr, IfSome, ℕ, true};
+ghost use Prim.Native.Nat.{max};
 ghost use Rattle.cedar_tokens.specs.Kinds as Kinds;
 ghost use Rattle.cedar_syntax.specs.Tokens as Tokens;
 ghost use Rattle.cedar_syntax.specs.Places.{IsPlaced};
@@ -51,7 +52,7 @@ pub(crate) fn end_at(tokens: &[Token], index: usize) -> usize
     token_at(tokens, index).end
 }
 
-pub(crate) fn is_word_at(tokens: &[Token], index: usize) -> bool
+fn is_word_at(tokens: &[Token], index: usize) -> bool
     ensures { result ≡ Grammar.is_word (Tokens.kind_at tokens.now index) }
 {
     kind_at(tokens, index).is_word()
@@ -75,11 +76,42 @@ pub(crate) fn expect(
     ensures within { IfOk result (λ next. index < length tokens.now) }
     ensures err { IfErr result (λ error. IsPlaced tokens.now error) }
 {
+    match behind(tokens, index, kind) {
+        Some(next) => Ok(next),
+        None => Err(expected_at(tokens, index, what)),
+    }
+}
+
+// The same, and nothing where it is of another kind.
+fn behind(tokens: &[Token], index: usize, kind: Kind) -> Option<usize>
+    ensures is { IfSome result (λ next. Tokens.kind_at tokens.now index ≡ kind) }
+    ensures next { IfSome result (λ next. next ≡ index + 1) }
+    ensures within { IfSome result (λ next. index < length tokens.now) }
+{
     if index < tokens.len() && kind_at(tokens, index) == kind {
+        Some(index + 1)
+    } else {
+        None
+    }
+}
+
+/// The number of the token behind a word.
+pub(crate) fn word(tokens: &[Token], index: usize) -> Result<usize, ReadError>
+    ensures is { IfOk result (λ next. Grammar.is_word (Tokens.kind_at tokens.now index) ≡ true) }
+    ensures next { IfOk result (λ next. next ≡ index + 1) }
+    ensures err { IfErr result (λ error. IsPlaced tokens.now error) }
+{
+    if index < tokens.len() && is_word_at(tokens, index) {
         Ok(index + 1)
     } else {
-        Err(expected_at(tokens, index, what))
+        Err(expected_at(tokens, index, Expected::Word))
     }
+}
+
+pub(crate) fn higher(one: usize, other: usize) -> usize
+    ensures { result ≡ max one other }
+{
+    if one < other { other } else { one }
 }
 
 /// A name: identifiers with `::` between them.
@@ -115,10 +147,7 @@ fn first_name(tokens: &[Token], index: usize, what: Expected) -> Result<Reach, R
 fn another_name(tokens: &[Token], index: usize) -> Option<Reach>
     ensures { (i s e : ℕ) → IfSome result (λ r. IsPath tokens.now i index s e → IsPath tokens.now i r.next s r.end) }
 {
-    if index >= tokens.len() || kind_at(tokens, index) != Kind::Colons {
-        return None;
-    }
-    let name = index + 1;
+    let name = behind(tokens, index, Kind::Colons)?;
     if name < tokens.len() && is_identifier_at(tokens, name) {
         Some(Reach {
             next: name + 1,
