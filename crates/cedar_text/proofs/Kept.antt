@@ -1,0 +1,106 @@
+-- What each step makes.
+use Rattle.std.proofs.Common.{◌≡◌, ℕ, zero, suc, ◌+◌, ◌<◌, List, [], ◌∷◌, ◌++◌, length, take, reverse, subst, sym, ap, ◌∙◌, None, refl, arith, get_or}
+use Rattle.std.specs.Rc.{rc_str_bytes}
+use Rattle.std.specs.declared.alloc.Global.{Global}
+use Rattle.std.specs.declared.rc.RcStr.{RcStr}
+use Rattle.std.proofs.lemmas.List.{take_more, reverse-reverse, length-reverse}
+use Rattle.cedar_tokens.specs.declared.tokens.Token.{Token}
+use Rattle.cedar_expressions.specs.Nodes.{Node, node_of, entries_in_order}
+use Rattle.cedar_expressions.specs.Nodes as node
+use Rattle.cedar_expressions.specs.Records.{first_repeated, keys_view}
+use Rattle.cedar_expressions.specs.declared.expr.Expr.{Expr}
+use Rattle.cedar_syntax.specs.Trees.{Tree, made, trees, gathered, left_below}
+use Rattle.cedar_syntax.specs.declared.steps.Binary.{Binary}
+use Rattle.cedar_syntax.specs.declared.steps.Bracketed.{Bracketed}
+use Rattle.cedar_syntax.specs.declared.steps.Bracketed.TheVariants.{Record}
+use Rattle.cedar_syntax.specs.declared.steps.Leaf.{Leaf}
+use Rattle.cedar_syntax.specs.declared.steps.Step.{Step}
+use Rattle.cedar_syntax.specs.declared.steps.Unary.{Unary}
+use Rattle.cedar_syntax.specs.declared.steps.What.TheVariants as what
+use Rattle.cedar_syntax.proofs.Making.{trees_push}
+use Rattle.cedar_text.specs.Building.{IsLeaf, IsUnary, IsBinary, IsBracketed, Are, no_more, one_more, is_whole, is_field, is_leaf, is_unary, is_binary, is_conditional, is_bracketed, is_record, AreParts, no_part, part_behind, AreFields, no_field, field_behind, Keeps, Puts, puts}
+use Rattle.cedar_text.specs.Finished.{unkeyed, keyed, all_unkeyed, all_keyed}
+use Rattle.cedar_text.specs.Refusals.{keys_of}
+use Rattle.cedar_text.specs.Wording.{IsKeyAt}
+use Rattle.cedar_text.specs.declared.builder.Part.{Part}
+
+-- ---- steps that take a part or some
+
+pub leaf_kept : {text : List ℕ} {all : List Token} {n : Node} {s e : ℕ} {xs ys : List Part} (l : Leaf) →
+    IsLeaf text all l s e n → Puts n s e xs ys → Keeps text all (what.Leaf l) s e xs ys
+leaf_kept l is (puts same loc) ts h = one_more (is_whole (is_leaf (rw same is) loc)) h
+
+unary_on : {text : List ℕ} {all : List Token} {n : Node} {y : Expr} {s e : ℕ} {xs ys : List Part} (u : Unary) →
+    IsUnary text all u y n → Puts n s e xs ys → (ts : List Tree) → Are text all (unkeyed y ∷ xs) ts →
+    Are text all ys (made (what.Unary u) s e ts)
+unary_on u is (puts same loc) _ (one_more (is_whole part) rest) =
+    one_more (is_whole (is_unary part (rw same is) loc)) rest
+
+pub unary_kept : {text : List ℕ} {all : List Token} {n : Node} {y : Expr} {s e : ℕ} {xs ys zs : List Part}
+    (u : Unary) → zs ≡ unkeyed y ∷ xs → IsUnary text all u y n → Puts n s e xs ys →
+    Keeps text all (what.Unary u) s e zs ys
+unary_kept {text} {all} u popped is put ts h = unary_on u is put ts (subst (λ vs. Are text all vs ts) popped h)
+
+binary_on : {text : List ℕ} {all : List Token} {n : Node} {y z : Expr} {s e : ℕ} {xs ys : List Part} (b : Binary) →
+    IsBinary text all b y z s e n → Puts n s e xs ys → (ts : List Tree) →
+    Are text all (unkeyed z ∷ unkeyed y ∷ xs) ts → Are text all ys (made (what.Binary b) s e ts)
+binary_on b is (puts same loc) _ (one_more (is_whole right) (one_more (is_whole left) rest)) =
+    one_more (is_whole (is_binary left right (rw same is) loc)) rest
+
+pub binary_kept : {text : List ℕ} {all : List Token} {n : Node} {y z : Expr} {s e : ℕ} {xs ys zs : List Part}
+    (b : Binary) → zs ≡ unkeyed z ∷ unkeyed y ∷ xs → IsBinary text all b y z s e n → Puts n s e xs ys →
+    Keeps text all (what.Binary b) s e zs ys
+binary_kept {text} {all} b popped is put ts h = binary_on b is put ts (subst (λ vs. Are text all vs ts) popped h)
+
+conditional_on : {text : List ℕ} {all : List Token} {n : Node} {c y z : Expr} {s e : ℕ} {xs ys : List Part} →
+    n ≡ node.If c y z → Puts n s e xs ys → (ts : List Tree) →
+    Are text all (unkeyed z ∷ unkeyed y ∷ unkeyed c ∷ xs) ts → Are text all ys (made what.If s e ts)
+conditional_on is (puts same loc) _ (one_more (is_whole z) (one_more (is_whole y) (one_more (is_whole c) rest))) =
+    one_more (is_whole (is_conditional c y z (same ∙ is) loc)) rest
+
+pub conditional_kept : {text : List ℕ} {all : List Token} {n : Node} {c y z : Expr} {s e : ℕ}
+    {xs ys zs : List Part} → zs ≡ unkeyed z ∷ unkeyed y ∷ unkeyed c ∷ xs → n ≡ node.If c y z → Puts n s e xs ys →
+    Keeps text all what.If s e zs ys
+conditional_kept {text} {all} popped is put ts h =
+    conditional_on is put ts (subst (λ vs. Are text all vs ts) popped h)
+
+field_on : {text : List ℕ} {all : List Token} {i : ℕ} {key : RcStr Global} {y : Expr} {xs : List Part} (s e : ℕ) →
+    IsKeyAt text all i (rc_str_bytes key) → (ts : List Tree) → Are text all (unkeyed y ∷ xs) ts →
+    Are text all (keyed i key y ∷ xs) (made (what.Field i) s e ts)
+field_on s e named _ (one_more (is_whole part) rest) = one_more (is_field named part) rest
+
+pub field_kept : {text : List ℕ} {all : List Token} {i : ℕ} {key : RcStr Global} {y : Expr} {xs ys zs : List Part}
+    (s e : ℕ) → zs ≡ unkeyed y ∷ xs → IsKeyAt text all i (rc_str_bytes key) → ys ≡ keyed i key y ∷ xs →
+    Keeps text all (what.Field i) s e zs ys
+field_kept {text} {all} s e popped named pushed ts h =
+    rw pushed (field_on s e named ts (subst (λ vs. Are text all vs ts) popped h))
+
+-- ---- brackets
+
+gather : {text : List ℕ} {all : List Token} (ys : List Expr) (xs : List Part) (ts : List Tree) →
+    Are text all (all_unkeyed ys ++ xs) ts →
+    AreParts text all (reverse ys) (gathered (length ys) ts) × Are text all xs (left_below (length ys) ts)
+gather [] xs ts h = (no_part, h)
+gather (y ∷ ys) xs _ (one_more (is_whole part) rest) = let g = gather ys xs _ rest in (part_behind g.0 part, g.1)
+
+bracketed_on : {text : List ℕ} {all : List Token} {n : Node} {ys : List Expr} {s e m : ℕ} {xs zs : List Part}
+    (k : Bracketed) (ts : List Tree) → AreParts text all ys (gathered m ts) × Are text all xs (left_below m ts) →
+    IsBracketed text all k ys n → Puts n s e xs zs → Are text all zs (made (what.Bracketed k m) s e ts)
+bracketed_on k ts g is (puts same loc) = one_more (is_whole (is_bracketed g.0 (rw same is) loc)) g.1
+
+pub bracketed_kept : {text : List ℕ} {all : List Token} {n : Node} {ys : List Expr} {s e m : ℕ}
+    {xs zs vs : List Part} (k : Bracketed) → vs ≡ all_unkeyed (reverse ys) ++ xs → length ys ≡ m →
+    IsBracketed text all k ys n → Puts n s e xs zs → Keeps text all (what.Bracketed k m) s e vs zs
+bracketed_kept {text} {all} {ys = ys} {m = m} {xs = xs} k popped count is put ts h =
+    let g = gather (reverse ys) xs ts (subst (λ us. Are text all us ts) popped h) in
+    let long : length (reverse ys) ≡ m = length-reverse ys ∙ count in
+    bracketed_on k ts (rw long at (rw (reverse-reverse ys) at g)) is put
+
+-- ---- all steps
+
+pub step_made : {text : List ℕ} {all : List Token} {xs : List Part} (steps : List Step) (i : ℕ) (d : Step) →
+    i < length steps →
+    Are text all xs (made (get_or steps i d).what (get_or steps i d).start (get_or steps i d).end (trees (take i steps))) →
+    Are text all xs (trees (take (i + 1) steps))
+step_made {text} {all} {xs} steps i d lt h =
+    subst (Are text all xs) (sym (ap trees (take_more steps i d lt) ∙ trees_push (take i steps) (get_or steps i d))) h

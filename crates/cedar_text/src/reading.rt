@@ -1,0 +1,88 @@
+//! Reads expressions.
+ghost use Rattle.std.specs.Prelude.{All, IfOk, IfErr};
+ghost use Rattle.cedar_tokens.specs.Values.{Stands};
+ghost use Rattle.cedar_syntax.specs.Trees.{trees};
+ghost use Rattle.cedar_text.specs.Reading.{IsRead, IsUnread, IsWithin, IsOnly, AreFour};
+ghost use Rattle.cedar_text.specs.Refusals.{AreRefused};
+
+use crate::builder::built;
+use cedar_expressions::Expr;
+use cedar_syntax::expression_steps;
+use cedar_syntax::steps::Step;
+use cedar_tokens::errors::ReadError;
+use cedar_tokens::lexer;
+use cedar_tokens::tokens::Token;
+use std::alloc::Global;
+
+/// The expression that the text writes, of at most `limit` levels; brackets alone are no level. Each node has its place
+/// in the text.
+///
+/// # Errors
+///
+/// Each stands at its place in the text. Memory was wanting. Something else was expected than what stands there: a token
+/// can't stand where it does, a number is larger than each long, an escape is none of the language, a key stands in its
+/// record for the second time, or a method has too many arguments or too few. The expression has more levels.
+pub fn parse_expr(alloc: Global, text: &str, limit: usize) -> Result<Expr, ReadError>
+    ensures ok { IfOk result (IsRead text.now limit) }
+    ensures err { IfErr result (IsUnread text.now) }
+    ensures placed { IfErr result (IsWithin text.now) }
+{
+    let tokens = lexer::tokens(alloc, text)?;
+    let steps = expression_steps(alloc, &tokens, limit)?;
+    expression(alloc, text, &tokens, &steps)
+}
+
+/// The expression that the steps make, which name tokens of the text.
+///
+/// # Errors
+///
+/// Memory was wanting. What a step makes can't be: see [`parse_expr`]. The steps make no expression, or more than one:
+/// `Expected::Steps`, at the end of the text.
+pub fn expression(
+    alloc: Global,
+    text: &str,
+    tokens: &[Token],
+    steps: &[Step],
+) -> Result<Expr, ReadError>
+    requires { All (Stands text.now) tokens.now }
+    ensures ok { IfOk result (IsOnly text.now tokens.now (trees steps.now)) }
+    ensures err { IfErr result (AreRefused text.now tokens.now steps.now) }
+    ensures placed { IfErr result (IsWithin text.now) }
+{
+    let builder = built(alloc, text, tokens, steps)?;
+    builder.only(text, tokens)
+}
+
+/// The expressions of a policy: the three constraints of its scope, and its condition.
+#[derive(Drop)]
+pub struct Four {
+    /// On the principal.
+    pub principal: Expr,
+    /// On the action.
+    pub action: Expr,
+    /// On the resource.
+    pub resource: Expr,
+    /// Of the conditions behind the scope.
+    pub condition: Expr,
+}
+
+/// The four expressions that the steps make, in this order, which name tokens of the text.
+///
+/// # Errors
+///
+/// Memory was wanting. What a step makes can't be: see [`parse_expr`]. The steps make fewer or more: `Expected::Steps`, at
+/// the end of the text.
+pub fn four_expressions(
+    alloc: Global,
+    text: &str,
+    tokens: &[Token],
+    steps: &[Step],
+) -> Result<Four, ReadError>
+    requires { All (Stands text.now) tokens.now }
+    ensures ok { IfOk result (AreFour text.now tokens.now (trees steps.now)) }
+    ensures err { IfErr result (AreRefused text.now tokens.now steps.now) }
+    ensures placed { IfErr result (IsWithin text.now) }
+{
+    let builder = built(alloc, text, tokens, steps)?;
+    builder.four(text, tokens)
+}
