@@ -33,6 +33,7 @@ use Rattle.cedar_policy_syntax.specs.Grammar.{one_key, one_value, scope, policy}
 use Rattle.cedar_policy_syntax.specs.Reading.{Puts, puts, PutsEntities, puts_entities, PutsClause, puts_clause}
 use Rattle.cedar_policy_syntax.specs.Reading.{PutsClauses, puts_clauses, PutsScope, puts_scope, HasPolicy}
 use Rattle.cedar_policy_syntax.proofs.Joining.{find_appended}
+use Rattle.cedar_policy_syntax.proofs.Within.{policy_nested}
 
 -- ---- names
 
@@ -244,7 +245,7 @@ pub policy_read : {all : List Token} {i limit k l last : ℕ} {us vs : List Tree
     PutsScope all (k + 1) l [] us → Puts (λ p. IsCondition all l last p × (height p ≤ limit)) us vs →
     trees out.steps.items ≡ vs → out.start ≡ start_at all i → out.end ≡ end_at all last → out.next ≡ last + 1 →
     last < length all → HasPolicy all i limit out
-policy_read {last = last} out xs b (puts_scope {p = p} {q = q} {r = r} s) (puts {p = t} c) t_is s_is e_is n_is lt =
+policy_read {all = all} {i = i} {last = last} out xs b (puts_scope {p = p} {q = q} {r = r} s) (puts {p = t} c) t_is s_is e_is n_is lt =
     record {
       last = last;
       principal = p;
@@ -258,4 +259,5 @@ policy_read {last = last} out xs b (puts_scope {p = p} {q = q} {r = r} s) (puts 
       end = e_is;
       next = n_is;
       within = lt;
+      nested = λ ordered. policy_nested ordered (policy xs b s c.0) lt;
     }
