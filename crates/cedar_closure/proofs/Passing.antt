@@ -1,8 +1,7 @@
 -- One turn of a loop over a list.
-use Rattle.std.proofs.Common.{◌≡◌, refl, sym, ap, ◌∙◌, subst, ℕ, zero, suc, ◌+◌, ◌-◌, ◌<◌, ◌≤◌, ◌↔◌, List, [], ◌∷◌, ◌++◌, map, length, get_or, take, drop, append-nil, drop_of_length-le, take-append-drop, arith, true}
+use Rattle.std.proofs.Common.{◌≡◌, refl, sym, ap, ◌∙◌, ℕ, zero, suc, ◌+◌, ◌-◌, ◌<◌, ◌≤◌, List, [], ◌∷◌, ◌++◌, map, length, get_or, take, drop, append-nil, drop_of_length-le, take-append-drop, arith}
 use Rattle.std.proofs.lemmas.List.{take_more}
 use Rattle.cedar_model.specs.Terms.{EntityName}
-use Rattle.cedar_model.specs.Settings.{is_among}
 use Rattle.cedar_names.specs.declared.names.EntityUID.{EntityUID}
 use Rattle.cedar_names.specs.Names.{uid_name}
 use Rattle.cedar_closure.specs.Paths.{Parentage, AreLedTo}

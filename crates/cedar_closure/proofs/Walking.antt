@@ -1,12 +1,12 @@
 -- What a walk over parents has found at each step, and that it ends with all that parents lead to.
-use Rattle.std.proofs.Common.{◌≡◌, refl, sym, ap, ◌∙◌, ℕ, zero, suc, ◌+◌, ◌<◌, ◌≤◌, Bool, true, false, ◌&&◌, ◌||◌, ◌⊎◌, inl, inr, ⊎_elim, ◌↔◌, List, [], ◌∷◌, ◌++◌, length, take, drop, take-append-drop, if◌then◌else◌, append_assoc, append-nil, arith, rules}
-use Rattle.std.proofs.lemmas.Bool.{or_cases, and_from, and_parts, both_ways, true≢false, eq-eqb}
+use Rattle.std.proofs.Common.{◌≡◌, refl, sym, ap, ◌∙◌, ℕ, ◌+◌, ◌<◌, ◌≤◌, Bool, true, false, ◌||◌, ◌⊎◌, inl, inr, ⊎_elim, List, [], ◌∷◌, ◌++◌, length, take, drop, take-append-drop, if◌then◌else◌, append_assoc, append-nil, arith, rules}
+use Rattle.std.proofs.lemmas.Bool.{or_cases, and_from, and_parts, true≢false, eq-eqb}
 use Rattle.std.proofs.lemmas.List.{take-append-le}
 use Rattle.std.proofs.lemmas.Map.Keys.{IsDistinct-push}
 use Rattle.std.proofs.lemmas.Map.Made.{length-le_from_is_member}
 use Rattle.std.specs.Cmp.{IsEquivalence}
 use Rattle.std.specs.Cmp.Lexicographic.{same_text}
-use Rattle.std.specs.List.{list_any, IsDistinct}
+use Rattle.std.specs.List.{IsDistinct}
 use Rattle.std.specs.Set.{is_member}
 use Rattle.cedar_model.specs.Terms.{Text, EntityName}
 use Rattle.cedar_model.specs.Outcomes.{text_eq, entity_eq}

@@ -1,4 +1,4 @@
-use Rattle.std.proofs.Common.{◌≡◌, sym, ap, ◌∙◌, subst, length, ◌≤◌, List}
+use Rattle.std.proofs.Common.{sym, ap, ◌∙◌, subst, length, ◌≤◌, List}
 use Rattle.cedar_layers.specs.declared.policies.entities.Entity.{Entity}
 use Rattle.cedar_closure.specs.Listed.{listed_parents, parents_with_each}
 use Rattle.cedar_closure.proofs.Listing.{each_is_recorded}

@@ -1,4 +1,4 @@
-use Rattle.std.proofs.Common.{◌≡◌, sym, ap, ◌∙◌, map, [], ◌∷◌, ◌++◌, subst, List}
+use Rattle.std.proofs.Common.{sym, ap, ◌∙◌, map, subst, List}
 use Rattle.cedar_names.specs.declared.names.EntityUID.{EntityUID}
 use Rattle.cedar_names.specs.Names.{uid_name}
 use Rattle.cedar_closure.specs.Listed.{HoldsTheSame}
