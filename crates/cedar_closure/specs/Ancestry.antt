@@ -3,7 +3,8 @@ use Rattle.std.specs.Prelude.{◌≡◌, ⊤, List, [], map, Option, None, Some}
 use Rattle.cedar_model.specs.Terms.{EntityName}
 use Rattle.cedar_names.specs.Names.{uid_name}
 use Rattle.cedar_layers.specs.declared.policies.entities.Entity.{Entity}
-use Rattle.cedar_layers.specs.Stores.{entity_uid, entity_attributes, entity_tags, entity_ancestors, entity_name, last_of_each_name}
+use Rattle.cedar_layers.specs.Stores.{entity_uid, entity_attributes, entity_tags, entity_ancestors, entity_name}
+use Rattle.cedar_layers.specs.Stores.{last_of_each_name}
 use Rattle.cedar_closure.specs.Paths.{Parentage, Leads, AreLedTo}
 use Rattle.cedar_closure.specs.declared.error.ClosureError.{ClosureError}
 use Rattle.cedar_closure.specs.declared.error.ClosureError.TheVariants.{Memory, Cycle}

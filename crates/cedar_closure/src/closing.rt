@@ -3,7 +3,7 @@ ghost use Rattle.std.specs.Prelude.{◌≡◌, ◌↔◌, true, [], ◌∷◌, �
 ghost use Rattle.std.specs.List.{AllZip};
 ghost use Rattle.cedar_model.specs.Terms.{EntityName};
 ghost use Rattle.cedar_model.specs.Settings.{is_among};
-ghost use Rattle.cedar_layers.specs.Stores.{entity_name, last_of_each_name, stored_entity, store_view};
+ghost use Rattle.cedar_layers.specs.Stores.{last_of_each_name, stored_entity, store_view};
 ghost use Rattle.cedar_closure.specs.Ancestry.{recorded, parents_of, AreAlike, NamesACycle, IsClosed};
 ghost use Rattle.cedar_closure.specs.Paths.{Leads};
 ghost use Rattle.cedar_closure.specs.Listed.{listed_parents};
@@ -16,9 +16,9 @@ use std::alloc::{AllocError, Global};
 
 /// The store of these entities, whose recorded ancestors are taken to be their parents: in the store, each records all that
 /// parents lead to in one step or more. Apart from its ancestors each entity is the one that was handed in, its uid, attributes
-/// and tags whole; of those of one uid the last counts, as in `Entities::with`. The parents of an entity that is not among
-/// them are none. `partial` is as in `Entities::with`. Refuses with `Cycle`, which names an entity whose parents lead back to
-/// it, wherever there is one, and for want of memory. It takes the time and the memory of the ancestors that come out.
+/// and tags whole; of those of one uid the last counts, as in `Entities::with`. An entity that is not among them has no
+/// parents. `partial` is as in `Entities::with`. Refuses with `Cycle` where an entity's parents lead back to it, and names one
+/// such entity; else only for want of memory. For each entity the parents of each of its ancestors are looked at once.
 pub fn closed(alloc: Global, entities: Vec<Entity>, partial: bool) -> Result<Entities, ClosureError>
     ensures entities { IfOk result (λ s. (n : EntityName) →
         AreAlike (last_of_each_name entities.items n) (stored_entity s n)) }

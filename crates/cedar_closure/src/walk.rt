@@ -8,15 +8,17 @@ ghost use Rattle.cedar_closure.specs.Listed.{listed_parents, HoldsTheSame};
 use crate::parents::{ParentMap, copied};
 use cedar_layers::expressions::EntityUID;
 use std::alloc::{AllocError, Global};
-use std::collections::{HashMap, HashSet};
+use std::collections::HashSet;
 
-// All that parents lead to from the entity of this uid. Each uid is marked once, and what it has for parents is looked at once.
+// All that parents lead to from the entity of this uid: each uid is marked once, and its parents are looked at once. What was
+// marked stands in `found`, in the order in which it was found, and `reached` has the same: that is what is asked in `mark`.
 pub(crate) fn led_to(
     alloc: Global,
     parents: &ParentMap,
     uid: &EntityUID,
 ) -> Result<HashSet<EntityUID>, AllocError>
-    ensures { IfOk result (λ s. AreLedTo (listed_parents parents.now.entries) (uid_name uid.now) (map uid_name s.keys)) }
+    ensures { IfOk result (λ s.
+        AreLedTo (listed_parents parents.now.entries) (uid_name uid.now) (map uid_name s.keys)) }
 {
     let mut reached: HashSet<EntityUID> = HashSet::new(alloc);
     let mut found: Vec<EntityUID> = Vec::new(alloc);
@@ -72,7 +74,8 @@ fn mark(
     uid: &EntityUID,
 ) -> Result<(), AllocError>
     requires { HoldsTheSame reached.old.keys found.old.items }
-    ensures found { OnOk result (map uid_name found.new.items ≡ marked (uid_name uid.now) (map uid_name found.old.items)) }
+    ensures found { OnOk result (map uid_name found.new.items ≡
+        marked (uid_name uid.now) (map uid_name found.old.items)) }
     ensures reached { OnOk result (HoldsTheSame reached.new.keys found.new.items) }
 {
     if reached.insert(copied(uid)?)? {
