@@ -193,8 +193,8 @@ mutual
   -- the expressions are the fields of these trees, in order, each under its own key
   pub data AreFields (text : List ℕ) (all : List Token) : List (RcStr Global × Expr) → Trees → Type 0 where
     no_field : AreFields text all [] none
-    field_behind : {fs : List (RcStr Global × Expr)} {ps : Trees} {key : RcStr Global} {y : Expr} {p : Tree}
-        {i s e : ℕ} → AreFields text all fs ps → IsKeyAt text all i (rc_str_bytes key) → Is text all y p →
+    field_behind : {fs : List (RcStr Global × Expr)} {ps : Trees} {y : Expr} {p : Tree} {i s e : ℕ}
+        (key : RcStr Global) → AreFields text all fs ps → IsKeyAt text all i (rc_str_bytes key) → Is text all y p →
         AreFields text all (fs ++ (key, y) ∷ []) (also ps (field i p s e))
 
 -- ---- the stack
@@ -202,7 +202,7 @@ mutual
 -- a finished part is this tree: an expression, or a field under its key
 pub data IsPart (text : List ℕ) (all : List Token) : Part → Tree → Type 0 where
   is_whole : {x : Expr} {p : Tree} → Is text all x p → IsPart text all (unkeyed x) p
-  is_field : {x : Expr} {p : Tree} {key : RcStr Global} {i s e : ℕ} → IsKeyAt text all i (rc_str_bytes key) →
+  is_field : {x : Expr} {p : Tree} {i s e : ℕ} (key : RcStr Global) → IsKeyAt text all i (rc_str_bytes key) →
       Is text all x p → IsPart text all (keyed i key x) (field i p s e)
 
 -- the same of all, the latest first

@@ -55,9 +55,15 @@ keys_of (also ps (bracketed k qs s e)) = keys_of ps
 
 -- token i is one of these and names a key that one before it names as well
 pub data IsKeyAgain (text : List ℕ) (all : List Token) (keys : List ℕ) : ℕ → Type 0 where
-  key_again : {m n : ℕ} {key : List ℕ} → m < n → n < length keys → slice_index keys n < length all →
+  key_again : {m n : ℕ} {key : List ℕ} → m < n → n < length keys →
       IsKeyAt text all (slice_index keys m) key → IsKeyAt text all (slice_index keys n) key →
       IsKeyAgain text all keys (slice_index keys n)
+
+-- the key is named by token number n of these, one from number `from` on
+pub record IsNamedFrom (text : List ℕ) (all : List Token) (keys : List ℕ) (from : ℕ) (key : List ℕ) (n : ℕ) : Type 0 where
+  pub after : from ≤ n
+  pub within : n < length keys
+  pub named : IsKeyAt text all (slice_index keys n) key
 
 -- why there is no record of fields under the keys that these tokens name
 pub data IsRecordRefused (text : List ℕ) (all : List Token) (keys : List ℕ) : ReadError → Type 0 where
