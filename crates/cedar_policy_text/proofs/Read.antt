@@ -1,7 +1,7 @@
 -- What one policy more makes of what was read.
 use Rattle.std.proofs.Common.{◌≡◌, ◌∙◌, ℕ, ◌+◌, ◌<◌, ◌≤◌, List, [], ◌∷◌, ◌++◌, length, map, refl, sym, ap, subst, arith}
 use Rattle.std.proofs.Common.{Bool, true, false, Some, None, if◌then◌else◌}
-use Rattle.std.specs.Map.{insert_entry}
+use Rattle.std.specs.BTreeMap.{insert_entry}
 use Rattle.std.specs.Rc.{rc_str_bytes}
 use Rattle.std.specs.declared.alloc.Global.{Global}
 use Rattle.std.specs.declared.rc.RcStr.{RcStr}
@@ -65,7 +65,7 @@ pub policy_made : {text : List ℕ} {all : List Token} {i limit j : ℕ} {out : 
     AreAnnotated text all out.annotations.items a.0.entries → IsMadeOf out.permits id a x loc p →
     loc ≡ record { start = out.start; end = out.end } → j ≡ out.next →
     IsPolicyAt text all limit (policy_id_text id) i j p
-policy_made {text = text} {all = all} {out = out} {x = x} {a = a} {p = p} h f as m loc_is j_is =
+policy_made {text = text} {all = all} {out = out} {x = x} {a = a} {p = p} h f xs m loc_is j_is =
     let g = theirs (subst (λ ts. AreFour text all ts x) h.makes f) in
     let parts = m.parts in
     record {
@@ -78,7 +78,7 @@ policy_made {text = text} {all = all} {out = out} {x = x} {a = a} {p = p} h f as
       low = h.low;
       id = m.id;
       effect = m.effect;
-      are_annotations = as;
+      are_annotations = xs;
       annotations = m.annotations;
       principal = rw parts g.of_principal;
       action = rw parts g.of_action;
