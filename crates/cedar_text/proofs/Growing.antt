@@ -1,8 +1,7 @@
 -- What loops gather.
-use Rattle.std.proofs.Common.{◌≡◌, ℕ, zero, suc, ◌+◌, ◌<◌, ◌==◌, Bool, true, false, List, [], ◌∷◌, ◌++◌, length, reverse, refl, subst, sym, ap, ◌∙◌, arith}
+use Rattle.std.proofs.Common.{◌≡◌, ℕ, ◌+◌, ◌<◌, ◌==◌, Bool, true, false, List, [], ◌∷◌, ◌++◌, length, refl, subst, ap, ◌∙◌, arith}
 use Rattle.std.specs.declared.alloc.Global.{Global}
 use Rattle.std.specs.declared.rc.RcStr.{RcStr}
-use Rattle.std.proofs.lemmas.List.{reverse-reverse}
 use Rattle.cedar_tokens.specs.Kinds.{is_identifier}
 use Rattle.cedar_tokens.specs.Values.{word_of}
 use Rattle.cedar_tokens.specs.declared.tokens.Token.{Token}

@@ -1,5 +1,5 @@
 -- What each step makes.
-use Rattle.std.proofs.Common.{◌≡◌, ℕ, zero, suc, ◌+◌, ◌<◌, List, [], ◌∷◌, ◌++◌, length, take, reverse, subst, sym, ap, ◌∙◌, None, refl, arith, get_or}
+use Rattle.std.proofs.Common.{◌≡◌, ℕ, ◌+◌, ◌<◌, List, [], ◌∷◌, ◌++◌, length, take, reverse, subst, sym, ap, ◌∙◌, None, refl, arith, get_or}
 use Rattle.std.specs.Rc.{rc_str_bytes}
 use Rattle.std.specs.declared.alloc.Global.{Global}
 use Rattle.std.specs.declared.rc.RcStr.{RcStr}
@@ -19,9 +19,9 @@ use Rattle.cedar_syntax.specs.declared.steps.Step.{Step}
 use Rattle.cedar_syntax.specs.declared.steps.Unary.{Unary}
 use Rattle.cedar_syntax.specs.declared.steps.What.TheVariants as what
 use Rattle.cedar_syntax.proofs.Making.{trees_push}
-use Rattle.cedar_text.specs.Building.{IsLeaf, IsUnary, IsBinary, IsBracketed, Are, no_more, one_more, is_whole, is_field, is_leaf, is_unary, is_binary, is_conditional, is_bracketed, is_record, AreParts, no_part, part_behind, AreFields, no_field, field_behind, Keeps, Puts, puts}
+use Rattle.cedar_text.specs.Building.{IsLeaf, IsUnary, IsBinary, IsBracketed, Are, one_more, is_whole, is_field, is_leaf, is_unary, is_binary, is_conditional, is_bracketed, is_record, AreParts, no_part, part_behind, AreFields, no_field, field_behind, Keeps, Puts, puts}
 use Rattle.cedar_text.specs.Finished.{unkeyed, keyed, all_unkeyed, all_keyed}
-use Rattle.cedar_text.specs.Refusals.{keys_of, IsRefused, IsRefusedOn, by_tokens, by_key, IsKeyAgain, IsRecordRefused, otherwise, twice}
+use Rattle.cedar_text.specs.Refusals.{keys_of, IsRefusedOn, by_tokens, by_key, IsKeyAgain, IsRecordRefused, otherwise, twice}
 use Rattle.cedar_text.specs.Wording.{IsKeyAt}
 use Rattle.cedar_text.specs.declared.builder.Part.{Part}
 
@@ -98,8 +98,8 @@ bracketed_kept {text} {all} {xs = xs} ys m k popped count is put ts h =
     let g = gather (reverse ys) xs ts (subst (λ us. Are text all us ts) popped h) in
     let long : length (reverse ys) ≡ m = length-reverse ys ∙ count in
     let h : AreParts text all ys (gathered m ts) × Are text all xs (left_below m ts) =
-        subst (λ us. AreParts text all us (gathered m ts) × Are text all xs (left_below m ts)) (reverse-reverse ys)
-        (subst (λ l. AreParts text all (reverse (reverse ys)) (gathered l ts) × Are text all xs (left_below l ts)) long g) in
+    subst (λ us. AreParts text all us (gathered m ts) × Are text all xs (left_below m ts)) (reverse-reverse ys)
+    (subst (λ l. AreParts text all (reverse (reverse ys)) (gathered l ts) × Are text all xs (left_below l ts)) long g) in
     bracketed_on ys m k ts h is put
 
 -- ---- records

@@ -1,5 +1,5 @@
 -- Where tokens and errors stand: within the text.
-use Rattle.std.proofs.Common.{◌≡◌, ◌≢◌, ℕ, zero, suc, ◌+◌, ◌-◌, ◌<◌, ◌≤◌, ◌^◌, Bool, List, [], ◌∷◌, length, All, arith, slice_index_or, slice_range, refl, sym, subst, Result, Ok, Err, IsErrAnd, IfErr, encode_utf8, ◌++◌, drop}
+use Rattle.std.proofs.Common.{◌≡◌, ℕ, zero, suc, ◌+◌, ◌-◌, ◌<◌, ◌≤◌, Bool, List, [], ◌∷◌, length, All, arith, slice_range, refl, sym, subst, Result, Ok, Err, IsErrAnd, IfErr, encode_utf8, ◌++◌, drop}
 use Rattle.cedar_tokens.specs.Values.{Stands, IsRefusal, IsRefusedThere, there, IsRefused as IsRefusedAt, here, later, itself, escape, IsNoPiece, unknown, alone, inside_of, word_of}
 use Rattle.cedar_tokens.specs.declared.errors.Expected.{Expected}
 use Rattle.cedar_tokens.specs.declared.errors.ReadError.{ReadError}
@@ -58,8 +58,12 @@ no_piece_bound (alone h) = omega arith
 refused_bound : {b : Bool} {bs : List ℕ} {n m : ℕ} → IsRefusedAt b bs n m → n + m ≤ length bs
 refused_bound (here h) = omega (arith, no_piece_bound h)
 refused_bound (later (itself c bs ne) more) =
-    omega (arith, refused_bound more, length-drop (length (encode_utf8 c)) (encode_utf8 c ++ bs),
-    length-append (encode_utf8 c) bs)
+    omega (
+      arith,
+      refused_bound more,
+      length-drop (length (encode_utf8 c)) (encode_utf8 c ++ bs),
+      length-append (encode_utf8 c) bs,
+    )
 refused_bound {b} (later (escape {bs} {e} h) more) =
     let low = escape_in_ends b bs e h in
     omega (arith, refused_bound more, length-drop (e.len + 1) (92 ∷ bs), low.is_last, low.within)

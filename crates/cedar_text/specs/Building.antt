@@ -1,6 +1,6 @@
 -- The expression that a tree of the grammar is. The kinds of trees stand in the order of the grammar's steps; what each
 -- is stands on one line, as the node with its parts.
-use Rattle.std.specs.Prelude.{◌≡◌, ℕ, ◌+◌, ◌<◌, List, [], ◌∷◌, ◌++◌, length, Option, Some, None, option_map, map, ℤ, pos, neg_ℤ}
+use Rattle.std.specs.Prelude.{◌≡◌, ℕ, ◌+◌, ◌<◌, List, [], ◌∷◌, ◌++◌, length, Some, None, option_map, map, ℤ, pos, neg_ℤ}
 use Rattle.std.specs.Rc.{rc_str_bytes}
 use Rattle.std.specs.Str.Parse.{digits_value}
 use Rattle.std.specs.declared.alloc.Global.{Global}

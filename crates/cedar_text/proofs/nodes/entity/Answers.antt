@@ -5,7 +5,7 @@ use Rattle.cedar_text.specs.Building.{entity_node}
 use Rattle.cedar_text.proofs.nodes.entity.Goals as goal
 
 pub returns-clause-ok : goal.returns-clause-ok
-returns-clause-ok c = 
+returns-clause-ok c =
     rw c.val.ensures.kind
     (entity_node {u = c.in_ok-uid-2.uid}
     (subst
