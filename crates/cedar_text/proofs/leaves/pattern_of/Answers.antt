@@ -8,4 +8,5 @@ pattern-requires-clause-stands c =
 
 pub returns-in-Err-clause-err : goal.returns-in-Err-clause-err
 returns-in-Err-clause-err c =
-    escape_refused c.args.text.now c.args.tokens.now true c.in-Err.error c.requires.within c.requires.is (rw c.token_at.ensures at c.in-Err.ensures.refused)
+    escape_refused c.args.text.now c.args.tokens.now true c.in-Err.error c.requires.within c.requires.is
+    (rw c.token_at.ensures at c.in-Err.ensures.refused)

@@ -15,12 +15,14 @@ returns-in_err-end-clause-placed c =
 
 pub returns-in_err-stands_there-clause-err : goal.returns-in_err-stands_there-clause-err
 returns-in_err-stands_there-clause-err c =
-    passed_up c.from_residual-in_err-stands_there.result _ (IsPathRefused c.args.text.now) c.from_residual-in_err-stands_there.ensures.1
+    passed_up c.from_residual-in_err-stands_there.result _ (IsPathRefused c.args.text.now)
+    c.from_residual-in_err-stands_there.ensures.1
     (at_place c.requires.tokens c.in_err-stands_there.ensures.err)
 
 pub returns-in_err-stands_there-clause-placed : goal.returns-in_err-stands_there-clause-placed
 returns-in_err-stands_there-clause-placed c =
-    passed_up c.from_residual-in_err-stands_there.result _ (IsWithin c.args.text.now) c.from_residual-in_err-stands_there.ensures.1
+    passed_up c.from_residual-in_err-stands_there.result _ (IsWithin c.args.text.now)
+    c.from_residual-in_err-stands_there.ensures.1
     (placed_within c.args.text.now c.args.tokens.now c.requires.stand _ c.in_err-stands_there.ensures.err)
 
 pub returns-in_err-name-clause-err : goal.returns-in_err-name-clause-err

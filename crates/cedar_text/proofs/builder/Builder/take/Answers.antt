@@ -22,13 +22,15 @@ pub returns-in-Binary-clause-err : goal.returns-in-Binary-clause-err
 returns-in-Binary-clause-err c =
     IfErr-weaker c.binary.result (λ e. IsRefused c.args.text.now c.args.tokens.now e)
     (λ e. (ts : List Tree) → Are c.args.text.now c.args.tokens.now (finished c.args.self.now) ts →
-    IsRefusedOn c.args.text.now c.args.tokens.now ts c.args.step.what e) (λ e h ts are. by_tokens h) c.binary.ensures.err
+    IsRefusedOn c.args.text.now c.args.tokens.now ts c.args.step.what e)
+    (λ e h ts are. by_tokens h) c.binary.ensures.err
 
 pub returns-in-If-clause-err : goal.returns-in-If-clause-err
 returns-in-If-clause-err c =
     IfErr-weaker c.conditional.result (λ e. IsRefused c.args.text.now c.args.tokens.now e)
     (λ e. (ts : List Tree) → Are c.args.text.now c.args.tokens.now (finished c.args.self.now) ts →
-    IsRefusedOn c.args.text.now c.args.tokens.now ts c.args.step.what e) (λ e h ts are. by_tokens h) c.conditional.ensures.err
+    IsRefusedOn c.args.text.now c.args.tokens.now ts c.args.step.what e)
+    (λ e h ts are. by_tokens h) c.conditional.ensures.err
 
 pub returns-in-Field-clause-err : goal.returns-in-Field-clause-err
 returns-in-Field-clause-err c =
