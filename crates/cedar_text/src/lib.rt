@@ -12,13 +12,11 @@
 //!
 //! - Each node has its place in the text: from its first byte up to the byte behind its last.
 //! - `!=`, `>` and `>=` are the negations of `==`, `<=` and `<`. `a is T in b` is `a is T && a in b`, of three nodes,
-//!   each
-//!   of which has the place of the whole.
+//!   each of which has the place of the whole.
 //! - `has` with more than one attribute is one node with all of them, in order.
 //! - `.contains(..)`, `.containsAll(..)`, `.containsAny(..)`, `.getTag(..)` and `.hasTag(..)` on one argument and
 //!   `.isEmpty()` are operators of the language. Any other method is a call of the extension function of that name,
-//!   with
-//!   the receiver as its first argument. Which functions there are is not asked.
+//!   with the receiver as its first argument. Which functions there are is not asked.
 //! - A long is at most 9223372036854775807, and with a minus before it 9223372036854775808. A key stands once in a
 //!   record.
 #![tactic(auto)]
