@@ -1,8 +1,8 @@
 -- What loops gather.
-use Rattle.std.proofs.Common.{◌≡◌, ℕ, zero, suc, ◌+◌, ◌<◌, ◌==◌, Bool, true, false, List, [], ◌∷◌, ◌++◌, length, reverse, refl, subst, sym, ap, ◌∙◌, arith}
+use Rattle.std.proofs.Common.{◌≡◌, ℕ, ◌+◌, ◌<◌, ◌==◌, Bool, true, false, List, [], ◌∷◌, ◌++◌, length, refl, subst}
+use Rattle.std.proofs.Common.{ap, ◌∙◌, arith}
 use Rattle.std.specs.declared.alloc.Global.{Global}
 use Rattle.std.specs.declared.rc.RcStr.{RcStr}
-use Rattle.std.proofs.lemmas.List.{reverse-reverse}
 use Rattle.cedar_tokens.specs.Kinds.{is_identifier}
 use Rattle.cedar_tokens.specs.Values.{word_of}
 use Rattle.cedar_tokens.specs.declared.tokens.Token.{Token}
@@ -41,7 +41,8 @@ keyed_push (j ∷ is) (f ∷ fs) i key x zs same =
 
 -- one more field was taken
 pub keyed_more : {all xs zs : List Part} {ks : List ℕ} {gs : List (RcStr Global × Expr)} {i : ℕ}
-    {key : RcStr Global} {x : Expr} (is : List ℕ) (fs : List (RcStr Global × Expr)) → length is ≡ length fs → all ≡ all_keyed is fs ++ xs →
+    {key : RcStr Global} {x : Expr} (is : List ℕ) (fs : List (RcStr Global × Expr)) → length is ≡ length fs →
+    all ≡ all_keyed is fs ++ xs →
     xs ≡ keyed i key x ∷ zs → ks ≡ is ++ i ∷ [] → gs ≡ fs ++ (key, x) ∷ [] → all ≡ all_keyed ks gs ++ zs
 keyed_more {all} {xs} {zs} {ks} {gs} {i} {key} {x} is fs same h popped pushed also =
     rw (pushed, also) (h ∙ ap (λ us. all_keyed is fs ++ us) popped ∙ keyed_push is fs i key x zs same)

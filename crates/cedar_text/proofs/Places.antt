@@ -1,6 +1,9 @@
 -- Where tokens and errors stand: within the text.
-use Rattle.std.proofs.Common.{◌≡◌, ◌≢◌, ℕ, zero, suc, ◌+◌, ◌-◌, ◌<◌, ◌≤◌, ◌^◌, Bool, List, [], ◌∷◌, length, All, arith, slice_index_or, slice_range, refl, sym, subst, Result, Ok, Err, IsErrAnd, IfErr, encode_utf8, ◌++◌, drop}
-use Rattle.cedar_tokens.specs.Values.{Stands, IsRefusal, IsRefusedThere, there, IsRefused as IsRefusedAt, here, later, itself, escape, IsNoPiece, unknown, alone, inside_of, word_of}
+use Rattle.std.proofs.Common.{◌≡◌, ℕ, zero, suc, ◌+◌, ◌-◌, ◌<◌, ◌≤◌, Bool, List, [], ◌∷◌, length, All, arith}
+use Rattle.std.proofs.Common.{slice_range, refl, sym, subst, Result, Ok, Err, IsErrAnd, IfErr, encode_utf8, ◌++◌}
+use Rattle.std.proofs.Common.{drop}
+use Rattle.cedar_tokens.specs.Values.{Stands, IsRefusal, IsRefusedThere, there, IsRefused as IsRefusedAt, here}
+use Rattle.cedar_tokens.specs.Values.{later, itself, escape, IsNoPiece, unknown, alone, inside_of, word_of}
 use Rattle.cedar_tokens.specs.declared.errors.Expected.{Expected}
 use Rattle.cedar_tokens.specs.declared.errors.ReadError.{ReadError}
 use Rattle.cedar_tokens.specs.declared.errors.ReadError.TheVariants as error
@@ -20,7 +23,8 @@ use Rattle.cedar_syntax.proofs.Ordered.{in_order}
 use Rattle.cedar_tokens.specs.Tokens.{IsTokens}
 use Rattle.cedar_text.specs.Reading.{IsWithin, IsOnly, only, AreFour, four, IsRead, is_read, IsUnread, in_step}
 use Rattle.cedar_syntax.specs.Tokens.{token_at, kind_at, start_at, end_at}
-use Rattle.cedar_text.specs.Refusals.{AreRefused, at_step, at_last, IsRefusedOn, by_tokens, by_key, IsRefused, Expects, for_long, for_escape, for_one_argument, for_no_argument, for_steps}
+use Rattle.cedar_text.specs.Refusals.{AreRefused, at_step, at_last, IsRefusedOn, by_tokens, by_key, IsRefused}
+use Rattle.cedar_text.specs.Refusals.{Expects, for_long, for_escape, for_one_argument, for_no_argument, for_steps}
 use Rattle.cedar_text.specs.Building.{Are, no_more, one_more, is_whole}
 use Rattle.cedar_text.specs.Finished.{unkeyed}
 use Rattle.cedar_text.specs.Wording.{word_at}
@@ -58,8 +62,12 @@ no_piece_bound (alone h) = omega arith
 refused_bound : {b : Bool} {bs : List ℕ} {n m : ℕ} → IsRefusedAt b bs n m → n + m ≤ length bs
 refused_bound (here h) = omega (arith, no_piece_bound h)
 refused_bound (later (itself c bs ne) more) =
-    omega (arith, refused_bound more, length-drop (length (encode_utf8 c)) (encode_utf8 c ++ bs),
-    length-append (encode_utf8 c) bs)
+    omega (
+      arith,
+      refused_bound more,
+      length-drop (length (encode_utf8 c)) (encode_utf8 c ++ bs),
+      length-append (encode_utf8 c) bs,
+    )
 refused_bound {b} (later (escape {bs} {e} h) more) =
     let low = escape_in_ends b bs e h in
     omega (arith, refused_bound more, length-drop (e.len + 1) (92 ∷ bs), low.is_last, low.within)
@@ -126,7 +134,14 @@ pub inside_more : (a b c d : ℕ) (p : Tree) → a ≤ b → c ≤ d → IsInsid
 inside_more a b c d (leaf l s e) le me (x, y, z) = (omega (arith, le, x), y, omega (arith, me, z))
 inside_more a b c d (unary u p s e) le me (x, y, z) = (omega (arith, le, x), omega (arith, me, y), z)
 inside_more a b c d (binary o p q s e) le me (x, y, z, u) = (omega (arith, le, x), omega (arith, me, y), z, u)
-inside_more a b c d (conditional p q r s e) le me (x, y, z, u, v) = (omega (arith, le, x), omega (arith, me, y), z, u, v)
+inside_more a b c d (conditional p q r s e) le me (x, y, z, u, v) = (
+  omega (arith, le, x),
+  omega
+      (arith, me, y),
+  z,
+  u,
+  v,
+)
 inside_more a b c d (field i p s e) le me (x, y, z) = (omega (arith, le, x), omega (arith, me, y), z)
 inside_more a b c d (bracketed k ps s e) le me (x, y, z, u) = (omega (arith, le, x), omega (arith, me, y), z, u)
 

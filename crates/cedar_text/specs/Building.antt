@@ -1,6 +1,6 @@
 -- The expression that a tree of the grammar is. The kinds of trees stand in the order of the grammar's steps; what each
 -- is stands on one line, as the node with its parts.
-use Rattle.std.specs.Prelude.{◌≡◌, ℕ, ◌+◌, ◌<◌, List, [], ◌∷◌, ◌++◌, length, Option, Some, None, option_map, map, ℤ, pos, neg_ℤ}
+use Rattle.std.specs.Prelude.{◌≡◌, ℕ, ◌+◌, ◌<◌, List, [], ◌∷◌, ◌++◌, length, Some, None, option_map, map, ℤ, pos, neg_ℤ}
 use Rattle.std.specs.Rc.{rc_str_bytes}
 use Rattle.std.specs.Str.Parse.{digits_value}
 use Rattle.std.specs.declared.alloc.Global.{Global}
@@ -41,7 +41,8 @@ use Rattle.cedar_syntax.specs.declared.steps.Unary.{Unary}
 use Rattle.cedar_syntax.specs.declared.steps.Unary.TheVariants as unaries
 use Rattle.cedar_syntax.specs.declared.steps.What.{What}
 use Rattle.cedar_text.specs.Finished.{unkeyed, keyed}
-use Rattle.cedar_text.specs.Wording.{place, word_at, variable_of, slot_of, method_of, IsTextAt, IsKeyAt, AreKeysAt, IsNameAt, IsEntityAt}
+use Rattle.cedar_text.specs.Wording.{place, word_at, variable_of, slot_of, method_of, IsTextAt, IsKeyAt, AreKeysAt}
+use Rattle.cedar_text.specs.Wording.{IsNameAt, IsEntityAt}
 use Rattle.cedar_text.specs.declared.builder.Part.{Part}
 use Rattle.cedar_text.specs.declared.words.MethodKind.{MethodKind}
 use Rattle.cedar_text.specs.declared.words.MethodKind.TheVariants as methods
@@ -54,7 +55,8 @@ number_at text all i = pos (digits_value 10 (word_at text all i))
 
 -- the text of token i
 pub data IsText (text : List ℕ) (all : List Token) (i : ℕ) : Node → Type 0 where
-  text_node : {w : RcStr Global} → IsTextAt text all i (rc_str_bytes w) → IsText text all i (node.Lit (literal.String w))
+  text_node : {w : RcStr Global} → IsTextAt text all i (rc_str_bytes w) →
+      IsText text all i (node.Lit (literal.String w))
 
 -- the entity of tokens i up to k
 pub data IsEntity (text : List ℕ) (all : List Token) (i k s e : ℕ) : Node → Type 0 where

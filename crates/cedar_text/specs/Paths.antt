@@ -1,5 +1,5 @@
 -- Names and entities that stand alone.
-use Rattle.std.specs.Prelude.{◌≡◌, ℕ, ◌+◌, List, length}
+use Rattle.std.specs.Prelude.{◌≡◌, ℕ, ◌+◌, List}
 use Rattle.cedar_tokens.specs.Tokens.{IsTokens}
 use Rattle.cedar_tokens.specs.declared.errors.ReadError.{ReadError}
 use Rattle.cedar_tokens.specs.declared.errors.ReadError.TheVariants as error

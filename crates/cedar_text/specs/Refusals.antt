@@ -1,5 +1,6 @@
 -- Why an expression is not made of steps, and where that stands.
-use Rattle.std.specs.Prelude.{◌≡◌, ℕ, ◌+◌, ◌<◌, ◌≤◌, ◌^◌, Bool, List, [], ◌∷◌, ◌++◌, length, take, slice_index, slice_index_or}
+use Rattle.std.specs.Prelude.{◌≡◌, ℕ, ◌+◌, ◌<◌, ◌≤◌, ◌^◌, Bool, List, [], ◌∷◌, ◌++◌, length, take, slice_index}
+use Rattle.std.specs.Prelude.{slice_index_or}
 use Rattle.std.specs.Str.Parse.{digits_value}
 use Rattle.cedar_tokens.specs.Values.{inside_of, IsRefusedThere}
 use Rattle.cedar_tokens.specs.declared.errors.Expected.{Expected}
@@ -10,7 +11,8 @@ use Rattle.cedar_tokens.specs.declared.tokens.Kind.{Kind}
 use Rattle.cedar_tokens.specs.declared.tokens.Kind.TheVariants as kind
 use Rattle.cedar_tokens.specs.declared.tokens.Token.{Token}
 use Rattle.cedar_syntax.specs.Tokens.{kind_at, start_at, end_at}
-use Rattle.cedar_syntax.specs.Trees.{Tree, leaf, unary, binary, conditional, field, bracketed, Trees, none, also, gathered, trees}
+use Rattle.cedar_syntax.specs.Trees.{Tree, leaf, unary, binary, conditional, field, bracketed, Trees, none, also}
+use Rattle.cedar_syntax.specs.Trees.{gathered, trees}
 use Rattle.cedar_syntax.specs.declared.steps.Bracketed.TheVariants.{Record}
 use Rattle.cedar_syntax.specs.declared.steps.Step.{Step}
 use Rattle.cedar_syntax.specs.declared.steps.What.{What}
@@ -60,7 +62,8 @@ pub data IsKeyAgain (text : List ℕ) (all : List Token) (keys : List ℕ) : ℕ
       IsKeyAgain text all keys (slice_index keys n)
 
 -- the key is named by token number n of these, one from number `from` on
-pub record IsNamedFrom (text : List ℕ) (all : List Token) (keys : List ℕ) (from : ℕ) (key : List ℕ) (n : ℕ) : Type 0 where
+pub record IsNamedFrom (text : List ℕ) (all : List Token) (keys : List ℕ) (from : ℕ) (key : List ℕ)
+    (n : ℕ) : Type 0 where
   pub after : from ≤ n
   pub within : n < length keys
   pub named : IsKeyAt text all (slice_index keys n) key

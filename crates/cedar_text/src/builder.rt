@@ -8,7 +8,8 @@ ghost use Rattle.cedar_expressions.specs.Nodes.{node_of};
 ghost use Rattle.cedar_syntax.specs.Trees.{Tree, trees};
 ghost use Rattle.cedar_text.specs.Building.{Are, Keeps, Puts};
 ghost use Rattle.cedar_text.specs.Finished.{finished, unkeyed, keyed, all_unkeyed, all_keyed};
-ghost use Rattle.cedar_text.specs.Refusals.{IsRefused, IsRefusedOn, IsKeyAgain, IsNamedFrom, IsRecordRefused, AreRefused};
+ghost use Rattle.cedar_text.specs.Refusals.{IsRefused, IsRefusedOn, IsKeyAgain, IsNamedFrom, IsRecordRefused};
+ghost use Rattle.cedar_text.specs.Refusals.{AreRefused};
 
 use crate::reading::Four;
 use crate::refusals::{ill_made, wanted_at};
@@ -213,7 +214,8 @@ impl Builder {
     ) -> Result<(), ReadError>
         requires { All (Stands text.now) tokens.now }
         ensures ok { IfOk result
-            (λ _. Keeps text.now tokens.now (what.Leaf leaf) loc.start loc.end (finished self.old) (finished self.new)) }
+            (λ _. Keeps text.now tokens.now (what.Leaf leaf) loc.start loc.end (finished self.old)
+            (finished self.new)) }
         ensures err { IfErr result (IsRefused text.now tokens.now) }
     {
         let made = nodes::leaf(alloc, text, tokens, leaf, loc)?;
@@ -231,7 +233,8 @@ impl Builder {
     ) -> Result<(), ReadError>
         requires { All (Stands text.now) tokens.now }
         ensures ok { IfOk result
-            (λ _. Keeps text.now tokens.now (what.Unary unary) loc.start loc.end (finished self.old) (finished self.new)) }
+            (λ _. Keeps text.now tokens.now (what.Unary unary) loc.start loc.end (finished self.old)
+            (finished self.new)) }
         ensures err { IfErr result (IsRefused text.now tokens.now) }
     {
         match self.pop() {
@@ -391,7 +394,8 @@ impl Builder {
         loc: Loc,
     ) -> Result<(), ReadError>
         requires { All (Stands text.now) tokens.now }
-        ensures ok { IfOk result (λ _. Keeps text.now tokens.now (what.Bracketed bracketed.Record count) loc.start loc.end
+        ensures ok { IfOk result (λ _. Keeps text.now tokens.now
+            (what.Bracketed bracketed.Record count) loc.start loc.end
             (finished self.old) (finished self.new)) }
         ensures err { IfErr result (λ e. (ts : List Tree) → Are text.now tokens.now (finished self.old) ts →
             IsRefusedOn text.now tokens.now ts (what.Bracketed bracketed.Record count) e) }

@@ -20,9 +20,9 @@ use std::alloc::Global;
 ///
 /// # Errors
 ///
-/// Each stands at its place in the text. Memory was wanting. Something else was expected than what stands there: a token
-/// can't stand where it does, a number is larger than each long, an escape is none of the language, a key stands in its
-/// record for the second time, or a method has too many arguments or too few. The expression has more levels.
+/// Each stands at its place in the text. Memory was wanting. Something else was expected than what stands there: a
+/// token can't stand where it does, a number is larger than each long, an escape is none of the language, a key stands
+/// in its record for the second time, or a method has too many arguments or too few. The expression has more levels.
 pub fn parse_expr(alloc: Global, text: &str, limit: usize) -> Result<Expr, ReadError>
     ensures ok { IfOk result (IsRead text.now limit) }
     ensures err { IfErr result (IsUnread text.now) }
@@ -90,8 +90,8 @@ pub struct Four {
 ///
 /// # Errors
 ///
-/// Memory was wanting. What a step makes can't be: see [`parse_expr`]. The steps make fewer or more: `Expected::Steps`, at
-/// the end of the text.
+/// Memory was wanting. What a step makes can't be: see [`parse_expr`]. The steps make fewer or more:
+/// `Expected::Steps`, at the end of the text.
 pub fn four_expressions(
     alloc: Global,
     text: &str,
