@@ -7,7 +7,6 @@ use Rattle.std.specs.declared.alloc.Global.{Global}
 use Rattle.std.specs.declared.rc.RcStr.{RcStr}
 use Rattle.cedar_model.specs.Policies.{permit, forbid}
 use Rattle.cedar_expressions.specs.Nodes.{key_order}
-use Rattle.cedar_expressions.specs.Records.{is_among}
 use Rattle.cedar_layers.specs.Policies.{policy_view, policy_parts, policy_location, policy_id_text, annotations_view}
 use Rattle.cedar_layers.specs.declared.policies.policy.Annotations.{Annotations}
 use Rattle.cedar_layers.specs.declared.policies.policy.Policy.{Policy}
@@ -17,7 +16,7 @@ use Rattle.cedar_tokens.specs.Tokens.{IsTokens}
 use Rattle.cedar_tokens.specs.declared.tokens.Kind.TheVariants as kind
 use Rattle.cedar_tokens.specs.declared.tokens.Token.{Token}
 use Rattle.cedar_syntax.specs.Tokens.{token_at, kind_at, start_at, end_at}
-use Rattle.cedar_syntax.specs.Trees.{Tree, height}
+use Rattle.cedar_syntax.specs.Trees.{Tree, height, trees}
 use Rattle.cedar_policy_syntax.specs.Grammar.{PolicyTree, IsPolicy}
 use Rattle.cedar_policy_syntax.specs.Reading.{HasPolicy}
 use Rattle.cedar_policy_syntax.specs.declared.policies.Annotation.{Annotation}
@@ -26,20 +25,23 @@ use Rattle.cedar_text.specs.Building.{Is}
 use Rattle.cedar_text.specs.Reading.{AreFour, four}
 use Rattle.cedar_text.specs.Wording.{word_at, IsTextAt}
 use Rattle.cedar_text.specs.declared.reading.Four.{Four}
-use Rattle.cedar_policy_text.specs.Reading.{IsValueAt, Annotated, keys_there, AreAnnotated, annotated_behind}
+use Rattle.cedar_policy_text.specs.Reading.{IsValueAt, Annotated, is_there, AreAnnotated, annotated_behind}
 use Rattle.cedar_policy_text.specs.Reading.{IsMadeOf, IsPolicyAt, HasSlot, HasNoSlot, ArePolicies, policy_behind}
-use Rattle.cedar_policy_text.specs.Reading.{template_behind, id_of, AreRead, IsSoFar, IsRead}
-use Rattle.cedar_policy_text.specs.declared.policies.Reading.{Reading}
+use Rattle.cedar_policy_text.specs.Reading.{template_behind, id_of, AreRead}
+use Rattle.cedar_layers.specs.Policies.{PolicyView, policy_of, condition_parts, ConditionParts, effect_view, SlotValues}
+use Rattle.cedar_layers.specs.declared.policies.policy.Effect.{Effect}
+use Rattle.cedar_layers.proofs.Slots.{slots_view-empty}
 use Rattle.cedar_tokens.specs.Values.{word_of}
 
-pub one_annotated : {text : List ℕ} {all : List Token} {xs : List Annotation} {es fs : Annotated} {x : Annotation}
-    {t : Token} {key value : RcStr Global} → t ≡ token_at all x.key → rc_str_bytes key ≡ word_of text t →
-    is_among (rc_str_bytes key) (keys_there es) ≡ false → IsValueAt text all x.value (rc_str_bytes value) →
+pub one_annotated : {text : List ℕ} {all : List Token} {xs : List Annotation} {es fs : Annotated} {t : Token}
+    (x : Annotation) (key value : RcStr Global) → t ≡ token_at all x.key → rc_str_bytes key ≡ word_of text t →
+    is_there key es ≡ false → IsValueAt text all x.value (rc_str_bytes value) →
     fs ≡ insert_entry key_order es key value → AreAnnotated text all xs es → AreAnnotated text all (xs ++ x ∷ []) fs
-one_annotated t_is k_is fresh v f_is h = rw f_is (annotated_behind h (rw t_is at k_is) v fresh)
+one_annotated x key value t_is k_is fresh v f_is h =
+    rw f_is (annotated_behind x key value h (rw t_is at k_is) v fresh)
 
 -- the tree of a policy that was read
-tree_of : {all : List Token} {i limit : ℕ} {out : PolicySteps} → HasPolicy all i limit out → PolicyTree
+abbrev tree_of : {all : List Token} {i limit : ℕ} {out : PolicySteps} → HasPolicy all i limit out → PolicyTree
 tree_of {out = out} h =
     record {
       annotations = out.annotations.items;
@@ -65,7 +67,7 @@ pub policy_made : {text : List ℕ} {all : List Token} {i limit j : ℕ} {out : 
     AreAnnotated text all out.annotations.items a.0.entries → IsMadeOf out.permits id a x loc p →
     loc ≡ record { start = out.start; end = out.end } → j ≡ out.next →
     IsPolicyAt text all limit (policy_id_text id) i j p
-policy_made {text = text} {all = all} {out = out} {x = x} {a = a} {p = p} h f xs m loc_is j_is =
+policy_made {text = text} {all = all} {i = i} {out = out} {x = x} {a = a} {p = p} h f xs m loc_is j_is =
     let g = theirs (subst (λ ts. AreFour text all ts x) h.makes f) in
     let parts = m.parts in
     record {
@@ -80,36 +82,51 @@ policy_made {text = text} {all = all} {out = out} {x = x} {a = a} {p = p} h f xs
       effect = m.effect;
       are_annotations = xs;
       annotations = m.annotations;
-      principal = rw parts g.of_principal;
-      action = rw parts g.of_action;
-      resource = rw parts g.of_resource;
-      condition = rw parts g.of_condition;
+      principal = subst (λ (q : ConditionParts). Is text all q.principal h.principal) (sym parts) g.of_principal;
+      action = subst (λ (q : ConditionParts). Is text all q.action h.action) (sym parts) g.of_action;
+      resource = subst (λ (q : ConditionParts). Is text all q.resource h.resource) (sym parts) g.of_resource;
+      condition = subst (λ (q : ConditionParts). Is text all q.when h.condition) (sym parts) g.of_condition;
       slots = m.slots;
       loc = m.loc ∙ ap (λ l. Some l) loc_is ∙ ap (λ s. Some (record { start = s; end = out.end })) h.start
-          ∙ ap (λ e. Some (record { start = start_at all _; end = e })) h.end;
+          ∙ ap (λ e. Some (record { start = start_at all i; end = e })) h.end;
     }
 
-pub policy_put : {text : List ℕ} {all : List Token} {limit i j n : ℕ} {r s : Reading} {p : Policy} →
-    IsPolicyAt text all limit (id_of n) i j p → HasNoSlot all i j → s.policies.items ≡ r.policies.items ++ p ∷ [] →
-    s.templates.items ≡ r.templates.items → s.errors.items ≡ r.errors.items → IsSoFar text all limit i n r →
-    IsSoFar text all limit j (n + 1) s
-policy_put at none p_is t_is e_is h no = rw (p_is, t_is) (policy_behind (h (sym e_is ∙ no)) at none)
+pub policy_put : {text : List ℕ} {all : List Token} {limit i j n : ℕ} {ps qs ts : List Policy} {p : Policy} →
+    IsPolicyAt text all limit (id_of n) i j p → HasNoSlot all i j → qs ≡ ps ++ p ∷ [] →
+    ArePolicies text all limit i n ps ts → ArePolicies text all limit j (n + 1) qs ts
+policy_put there without q_is h = rw q_is (policy_behind h there without)
 
-pub template_put : {text : List ℕ} {all : List Token} {limit i j n : ℕ} {r s : Reading} {p : Policy} →
-    IsPolicyAt text all limit (id_of n) i j p → HasSlot all i j → s.templates.items ≡ r.templates.items ++ p ∷ [] →
-    s.policies.items ≡ r.policies.items → s.errors.items ≡ r.errors.items → IsSoFar text all limit i n r →
-    IsSoFar text all limit j (n + 1) s
-template_put at some t_is p_is e_is h no = rw (p_is, t_is) (template_behind (h (sym e_is ∙ no)) at some)
+pub template_put : {text : List ℕ} {all : List Token} {limit i j n : ℕ} {ps ts us : List Policy} {p : Policy} →
+    IsPolicyAt text all limit (id_of n) i j p → HasSlot all i j → us ≡ ts ++ p ∷ [] →
+    ArePolicies text all limit i n ps ts → ArePolicies text all limit j (n + 1) ps us
+template_put there slot u_is h = rw u_is (template_behind h there slot)
 
 not_empty : {A : Type 0} (xs : List A) (x : A) → xs ++ x ∷ [] ≡ [] → ⊥
 not_empty [] x e = absurd (omega (arith, ap length e))
 not_empty (y ∷ xs) x e = absurd (omega (arith, ap length e))
 
 -- where something was refused, nothing is said of what was read
-pub refused : {A B : Type 0} {xs ys : List A} {x : A} → ys ≡ xs ++ x ∷ [] → ys ≡ [] → B
-refused {xs = xs} {x = x} y_is e = absurd (not_empty xs x (sym y_is ∙ e))
+pub refused : {A B : Type 0} {ys : List A} (xs : List A) (x : A) → ys ≡ xs ++ x ∷ [] → ys ≡ [] → B
+refused xs x y_is e = absurd (not_empty xs x (sym y_is ∙ e))
 
-pub all_read : {text : List ℕ} {all : List Token} {limit i n : ℕ} {r : Reading} → kind_at all i ≡ kind.End →
-    i + 1 ≡ length all → IsTokens 0 text all → IsSoFar text all limit i n r → IsRead text limit r
-all_read {all = all} {i = i} {n = n} k last cut h no =
-    record { tokens = all; behind = i; count = n; cut = cut; policies = h no; ends = k; whole = last }
+pub all_read : {text : List ℕ} {all : List Token} {limit i n : ℕ} {ps ts : List Policy} → kind_at all i ≡ kind.End →
+    i + 1 ≡ length all → IsTokens 0 text all → ArePolicies text all limit i n ps ts → AreRead text limit ps ts
+all_read {all = all} {i = i} {n = n} k last cut h =
+    record { tokens = all; behind = i; count = n; cut = cut; policies = h; ends = k; whole = last }
+
+pub made_whole : {permits : Bool} {id : PolicyID} {a : Annotations} {x : Four} {l : Loc} {q : Policy}
+    (p : Policy) (e : Effect) (env : SlotValues) →
+    policy_view p ≡ policy_of e id a (condition_parts x.principal x.action x.resource x.condition) env →
+    policy_parts p ≡ condition_parts x.principal x.action x.resource x.condition → policy_view q ≡ policy_view p →
+    policy_parts q ≡ policy_parts p → policy_location q ≡ Some l →
+    effect_view e ≡ (if permits then permit else forbid) → env.entries ≡ [] → IsMadeOf permits id a x l q
+made_whole p e env p_is pp q_is qp l_is e_is empty =
+    let all_is = q_is ∙ p_is in
+    record {
+      effect = ap (λ (v : PolicyView). v.effect) all_is ∙ e_is;
+      id = ap (λ (v : PolicyView). v.id) all_is;
+      annotations = ap (λ (v : PolicyView). v.annotations) all_is;
+      parts = qp ∙ pp;
+      slots = ap (λ (v : PolicyView). v.slots) all_is ∙ slots_view-empty env empty;
+      loc = l_is;
+    }

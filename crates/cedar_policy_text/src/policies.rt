@@ -85,7 +85,10 @@ pub fn parse_policies(
     ensures ok { IfOk result (AreAllRead text.now limit) }
 {
     match read_all(alloc, text, limit) {
-        Ok(reading) => reading.finished(alloc),
+        Ok(reading) => {
+            let parsed = reading.finished(alloc)?;
+            Ok(parsed)
+        }
         Err(AllocError) => Err(alone(alloc, ReadError::Memory)),
     }
 }
@@ -201,7 +204,10 @@ impl Reading {
     {
         match ends_at(tokens, index) {
             Ok(()) => Ok(self),
-            Err(error) => self.refused(error),
+            Err(error) => {
+                let reading = self.refused(error)?;
+                Ok(reading)
+            }
         }
     }
 
