@@ -1,4 +1,4 @@
-use Rattle.std.proofs.Common.{◌≡◌, ◌+◌, ◌∷◌, ◌++◌, [], ℕ, sym, ◌∙◌, refl, ap, subst, arith}
+use Rattle.std.proofs.Common.{refl}
 use Rattle.cedar_policy_text.proofs.Read.{policy_made}
 use Rattle.cedar_policy_text.proofs.reading.policy_at.Goals as goal
 
