@@ -2,6 +2,7 @@
 ghost use Rattle.std.specs.Prelude.{◌≡◌};
 
 mod hashes;
+mod literals;
 mod order;
 mod sets;
 mod texts;

@@ -1,5 +1,6 @@
 -- An expression's node: its kind with its parts whole, their locations included, whether they are shared or not.
-use Rattle.std.specs.Prelude.{List, [], ◌∷◌, map}
+use Rattle.std.specs.Prelude.{List, [], ◌∷◌, map, Option, Some, None}
+use Rattle.std.specs.Option.{option_and_then}
 use Rattle.std.specs.declared.cmp.Ordering.{Ordering}
 use Rattle.std.specs.Ordering.{nat_cmp}
 use Rattle.std.specs.Cmp.Lexicographic.{slice_cmp}
@@ -11,12 +12,14 @@ use Rattle.cedar_expressions.specs.declared.expr.Expr.{Expr}
 use Rattle.cedar_expressions.specs.declared.expr.ExprKind.{ExprKind, ExprKind-F, out-ExprKind}
 use Rattle.cedar_names.specs.declared.names.Name.{Name}
 use Rattle.cedar_names.specs.declared.names.EntityType.{EntityType}
+use Rattle.cedar_names.specs.declared.names.EntityUID.{EntityUID}
 use Rattle.cedar_names.specs.declared.names.SlotId.{SlotId}
 use Rattle.cedar_names.specs.declared.names.Var as names
 use Rattle.cedar_names.specs.declared.operators.UnaryOp.{UnaryOp}
 use Rattle.cedar_names.specs.declared.operators.BinaryOp.{BinaryOp}
 use Rattle.cedar_names.specs.declared.pattern.Pattern.{Pattern}
 use Rattle.cedar_names.specs.declared.types.Literal.{Literal}
+use Rattle.cedar_names.specs.declared.types.Literal.TheVariants as literals
 use Rattle.cedar_names.specs.declared.types.FirstRest.{FirstRest}
 use Rattle.cedar_names.specs.declared.types.Unknown as unknowns
 use Rattle.cedar_expressions.specs.View.{expr_kind_of}
@@ -97,6 +100,22 @@ kind_parts k = parts_below (kind_node k)
 -- the parts of an expression, whole: their locations and what is in them included
 abbrev pub parts_of : Expr → List Expr
 parts_of e = kind_parts (expr_kind_of e)
+
+-- ---- what a literal names
+
+abbrev pub literal_at : Node → Option Literal
+literal_at (Lit l) = Some l
+literal_at n = None
+
+abbrev pub uid_of_literal : Literal → Option EntityUID
+uid_of_literal (literals.Bool b) = None
+uid_of_literal (literals.Long n) = None
+uid_of_literal (literals.String s) = None
+uid_of_literal (literals.EntityUID u) = Some u.value
+
+-- the entity that a literal names, whole: its location included
+abbrev pub uid_at : Node → Option EntityUID
+uid_at n = option_and_then uid_of_literal (literal_at n)
 
 -- ---- the entries of a record
 

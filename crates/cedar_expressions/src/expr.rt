@@ -5,6 +5,7 @@ ghost use Rattle.std.specs.Prelude.{◌≡◌, IfOk};
 mod copies;
 mod equality;
 mod hashing;
+mod literals;
 mod made;
 mod record;
 mod shape;

@@ -3,7 +3,7 @@ ghost use Rattle.std.specs.Prelude.{IfOk, IfErr, IfSome};
 ghost use Rattle.std.specs.Iterator.{IsFinite};
 ghost use Rattle.cedar_extensions.specs.Collected.{AreAll, ComesAgain, duplicate};
 
-use std::alloc::{AllocError, Global};
+use std::alloc::{AllocError, AllocFailed, Global};
 use std::collections::HashMap;
 use std::hash::Hash;
 use thiserror::Error;
@@ -17,6 +17,30 @@ pub enum CollectError<K> {
     /// Memory was wanting.
     #[error("out of memory")]
     Memory(AllocError),
+}
+
+/// Want of memory is `Memory`.
+impl<K> From<AllocError> for CollectError<K> {
+    ghost use Rattle.std.specs.Prelude.{◌≡◌};
+    ghost use Rattle.cedar_extensions.specs.declared.util.CollectError.TheVariants as errors;
+
+    ghost from_gives = { λ e r. r ≡ errors.Memory e };
+
+    fn from(e: AllocError) -> CollectError<K> {
+        CollectError::Memory(e)
+    }
+}
+
+/// Want of memory is `Memory`, and what found no room is dropped.
+impl<K, T: Drop> From<AllocFailed<T>> for CollectError<K> {
+    ghost use Rattle.std.specs.Prelude.{◌≡◌, alloc_error};
+    ghost use Rattle.cedar_extensions.specs.declared.util.CollectError.TheVariants as errors;
+
+    ghost from_gives = { λ _ r. r ≡ errors.Memory alloc_error };
+
+    fn from(_e: AllocFailed<T>) -> CollectError<K> {
+        CollectError::Memory(AllocError)
+    }
 }
 
 /// The map of these pairs. Refuses with `Duplicate` where a key comes again: it has the key as it came first. Else

@@ -117,6 +117,10 @@ policy_when effect id annotations clause = record {
 abbrev pub policy_view : Policy → PolicyView
 policy_view p = policy_of p.effect p.id p.annotations.value (policy_parts p) p.env.value
 
+-- the same policy of another id, with these values of the slots
+abbrev pub linked : PolicyView → Text → Slots → PolicyView
+linked p id slots = record p { id = id; slots = slots }
+
 -- where a policy stands
 abbrev pub policy_location : Policy → Option Loc
 policy_location p = p.loc

@@ -1,12 +1,13 @@
 //! Names: of entity types, of entities, of functions, of slots and of the request's variables.
-ghost use Rattle.std.specs.Prelude.{◌≡◌, option_copied};
+ghost use Rattle.std.specs.Prelude.{◌≡◌, None, IfOk, option_copied};
 ghost use Rattle.std.specs.Rc.{rc_str_bytes};
 ghost use Rattle.cedar_names.specs.Names.{name_text, name_loc, type_text, type_name_of};
-ghost use Rattle.cedar_names.specs.Names.{uid_name, uid_type, uid_loc};
+ghost use Rattle.cedar_names.specs.Names.{type_loc, uid_name, uid_type, uid_loc};
 
 mod parts;
 mod texts;
 
+use std::alloc::{AllocError, Global};
 use std::collections::HashMap;
 use std::marker::Model;
 use std::rc::RcStr;
@@ -120,6 +121,18 @@ impl EntityUID {
         ensures loc { uid_loc result ≡ loc }
     {
         EntityUID { ty, eid, loc }
+    }
+
+    /// The entity of the type of this name with this id, both at no location. The name is taken as it stands, unchecked: a path
+    /// is one text, as `App::User`. Refuses only for want of memory.
+    pub fn of(alloc: Global, ty: &str, id: &str) -> Result<EntityUID, AllocError>
+        ensures name { IfOk result (λ u. uid_name u ≡ record { type_name = ty.now; id = id.now }) }
+        ensures type_loc { IfOk result (λ u. type_loc (uid_type u) ≡ None) }
+        ensures loc { IfOk result (λ u. uid_loc u ≡ None) }
+    {
+        let name = Name::new(RcStr::from_str(alloc, ty)?, None);
+        let eid = RcStr::from_str(alloc, id)?;
+        Ok(EntityUID::new(EntityType::new(name), eid, None))
     }
 
     /// The type of the entity, with its location.

@@ -1,5 +1,5 @@
 //! Why a partial response was not taken further.
-ghost use Rattle.std.specs.Prelude.{◌≡◌};
+ghost use Rattle.std.specs.Prelude.{◌≡◌, alloc_error};
 ghost use Rattle.cedar_reauthorization.specs.Errors.{IsValueRefusal, IsPolicyRefusal, IsRequestRefusal};
 ghost use Rattle.cedar_reauthorization.specs.declared.err.ConcretizationError.TheVariants as concretizations;
 ghost use Rattle.cedar_reauthorization.specs.declared.err.ReauthorizationError.TheVariants as reauthorizations;
@@ -9,7 +9,7 @@ use cedar_decisions::ErrorHandling;
 use cedar_layers::policies::PolicySetError;
 use cedar_names::EntityType;
 use cedar_values::evaluator::err::EvaluationError;
-use std::alloc::AllocError;
+use std::alloc::{AllocError, AllocFailed};
 use std::rc::RcStr;
 use thiserror::Error;
 
@@ -97,6 +97,15 @@ impl From<AllocError> for ConcretizationError {
     }
 }
 
+/// `Memory`, and what found no room is dropped.
+impl<T: Drop> From<AllocFailed<T>> for ConcretizationError {
+    ghost from_gives = { λ _ result. result ≡ concretizations.Memory alloc_error };
+
+    fn from(_failed: AllocFailed<T>) -> ConcretizationError {
+        ConcretizationError::Memory(AllocError)
+    }
+}
+
 /// `PolicySetError`, or `Memory` of want of memory.
 impl From<PolicySetError> for ReauthorizationError {
     ghost from_gives = { IsPolicyRefusal };
@@ -140,5 +149,14 @@ impl From<AllocError> for ReauthorizationError {
 
     fn from(error: AllocError) -> ReauthorizationError {
         ReauthorizationError::Memory(error)
+    }
+}
+
+/// `Memory`, and what found no room is dropped.
+impl<T: Drop> From<AllocFailed<T>> for ReauthorizationError {
+    ghost from_gives = { λ _ result. result ≡ reauthorizations.Memory alloc_error };
+
+    fn from(_failed: AllocFailed<T>) -> ReauthorizationError {
+        ReauthorizationError::Memory(AllocError)
     }
 }

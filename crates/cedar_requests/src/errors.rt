@@ -1,11 +1,11 @@
 //! Why no context was made.
-ghost use Rattle.std.specs.Prelude.{◌≡◌};
+ghost use Rattle.std.specs.Prelude.{◌≡◌, alloc_error};
 ghost use Rattle.cedar_requests.specs.Errors.{IsEvaluationRefusal, construction_refusal};
 ghost use Rattle.cedar_requests.specs.declared.errors.ContextCreationError.TheVariants.{NotARecord, Memory};
 
 use cedar_expressions::ExpressionConstructionError;
 use cedar_values::evaluator::err::EvaluationError;
-use std::alloc::AllocError;
+use std::alloc::{AllocError, AllocFailed};
 use thiserror::Error;
 
 /// Why no context was made.
@@ -88,5 +88,14 @@ impl From<AllocError> for ContextCreationError {
 
     fn from(error: AllocError) -> ContextCreationError {
         ContextCreationError::Memory(error)
+    }
+}
+
+/// `Memory`, and what found no room is dropped.
+impl<T: Drop> From<AllocFailed<T>> for ContextCreationError {
+    ghost from_gives = { λ _ result. result ≡ Memory alloc_error };
+
+    fn from(_failed: AllocFailed<T>) -> ContextCreationError {
+        ContextCreationError::Memory(AllocError)
     }
 }

@@ -6,10 +6,7 @@ use Rattle.std.specs.declared.rc.RcStr.{RcStr}
 use Rattle.cedar_model.specs.Terms as model
 use Rattle.cedar_model.specs.Terms.{Text, EntityName, ValueType, Term, literal, bool_literal, long_literal}
 use Rattle.cedar_model.specs.Terms.{text_literal, entity_literal, unknown, call, set_of, record_of, Terms, Fields}
-use Rattle.cedar_names.specs.declared.names.EntityUID.{EntityUID}
 use Rattle.cedar_names.specs.declared.names.Name.{Name}
-use Rattle.cedar_names.specs.declared.types.Literal.{Literal}
-use Rattle.cedar_names.specs.declared.types.Literal.TheVariants as literals
 use Rattle.cedar_names.specs.declared.types.Unknown as unknowns
 use Rattle.cedar_expressions.specs.declared.expr.Expr.{Expr}
 use Rattle.cedar_expressions.specs.Nodes.{Node}
@@ -76,19 +73,6 @@ call_in (call f ts) = Some (f, ts)
 call_in t = None
 
 -- ---- in a node, with the locations of the part
-
-abbrev pub literal_at : Node → Option Literal
-literal_at (node.Lit l) = Some l
-literal_at n = None
-
-abbrev pub uid_of_literal : Literal → Option EntityUID
-uid_of_literal (literals.Bool b) = None
-uid_of_literal (literals.Long n) = None
-uid_of_literal (literals.String s) = None
-uid_of_literal (literals.EntityUID u) = Some u.value
-
-abbrev pub uid_at : Node → Option EntityUID
-uid_at n = option_and_then uid_of_literal (literal_at n)
 
 abbrev pub unknown_at : Node → Option unknowns.Unknown
 unknown_at (node.Unknown u) = Some u

@@ -66,6 +66,15 @@ impl From<AllocError> for RestrictedExpressionError {
     }
 }
 
+/// Want of memory is `Memory`, and what found no room is dropped.
+impl<T: Drop> From<AllocFailed<T>> for RestrictedExpressionError {
+    ghost from_gives = { λ _ result. result ≡ refusals.Memory alloc_error };
+
+    fn from(_failed: AllocFailed<T>) -> RestrictedExpressionError {
+        RestrictedExpressionError::Memory(AllocError)
+    }
+}
+
 /// Want of memory is `Memory`.
 impl From<AllocError> for PartialValueToRestrictedExprError {
     ghost from_gives = { λ error result. result ≡ kinds.Memory error };

@@ -1,13 +1,13 @@
 -- What the grammar derives stands where its tokens do, each part inside what it is a part of.
 use Rattle.std.proofs.Common.{◌≡◌, ℕ, ◌+◌, ◌-◌, ◌<◌, ◌≤◌, List, length, refl, sym, arith, Bool, true, false, suc, zero}
-use Rattle.std.proofs.Common.{inl, inr}
+use Rattle.std.proofs.Common.{inl, inr, [], ◌∷◌, subst}
 use Rattle.std.proofs.Math.Nat.{eq-or-lt_of_le}
 use Rattle.cedar_tokens.specs.declared.tokens.Token.{Token}
 use Rattle.cedar_syntax.specs.declared.steps.Sign.{Sign}
 use Rattle.cedar_syntax.specs.declared.steps.Sign.TheVariants.{Neg}
 use Rattle.cedar_syntax.specs.declared.steps.Bracketed.{Bracketed}
 use Rattle.cedar_syntax.specs.Tokens.{start_at, end_at}
-use Rattle.cedar_syntax.specs.Trees.{Tree, leaf, unary, binary, conditional, field, bracketed, Trees, signed}
+use Rattle.cedar_syntax.specs.Trees.{Tree, leaf, unary, binary, conditional, field, bracketed, Trees, signed, height}
 use Rattle.cedar_syntax.specs.Places.{IsInOrder, IsInside, AreInside, IsNested}
 use Rattle.cedar_syntax.specs.Grammar.{negated_if, is_negated, binary_of, IsPath, one_name, name_inside, IsDotted}
 use Rattle.cedar_syntax.specs.Grammar.{one_attribute, attribute_inside, Derives, by_leaf, by_number, by_entity}
@@ -15,7 +15,9 @@ use Rattle.cedar_syntax.specs.Grammar.{by_parens, by_brackets, by_attribute, by_
 use Rattle.cedar_syntax.specs.Grammar.{by_infix, by_has, by_has_text, by_like, by_is, by_is_in, by_if, Opens}
 use Rattle.cedar_syntax.specs.Grammar.{opens_set, opens_record, opens_call, opens_method, Begins, nothing, comma}
 use Rattle.cedar_syntax.specs.Grammar.{Lists, empty, filled, IsItem, item, keyed, IsExpression, whole}
-use Rattle.cedar_syntax.specs.Reading.{IsWhole, is_whole, HasRead, has_read}
+use Rattle.cedar_syntax.specs.Grammar.{IsInBraces, in_braces}
+use Rattle.cedar_syntax.specs.Reading.{IsWhole, is_whole, HasRead, has_read, IsClosed, is_closed}
+use Rattle.cedar_syntax.specs.Reading.{HasReadClause, has_read_clause}
 use Rattle.cedar_syntax.proofs.Growing.{grows, signs_grow, lists_grow, begins_grow, item_grows}
 
 -- the part starts with its first token, i, and ends with its last, before j
@@ -330,3 +332,16 @@ pub finished_read : {all : List Token} {h limit i : ℕ} {ts : List Tree} → Is
 finished_read (is_whole d k) last le =
     let e = whole d k last in
     has_read e le (λ ordered. expression_nested ordered e)
+
+pub braces_nested : {all : List Token} {i j : ℕ} {p : Tree} → IsInBraces all i j p → j < length all → IsInOrder all →
+    IsInside (start_at all i) (end_at all j) p
+braces_nested {i = i} {j = j} (in_braces {p = p} k d l) lt ordered =
+    fits ordered {b = i} {z = j} p d refl refl (omega arith) (omega arith) lt (nested ordered d (omega (arith, lt)))
+
+pub clause_read : {all : List Token} {from limit close h i : ℕ} {ts : List Tree} → IsClosed all from h ts i →
+    i ≡ close + 1 → close < length all → h ≤ limit → HasReadClause all from limit close h ts
+clause_read {all = all} {from = from} {limit = limit} {close = close} (is_closed {j = j} {p = p} b) i_is lt le =
+    let same : j ≡ close = omega (arith, i_is) in
+    let before : j < length all = omega (arith, same, lt) in
+    subst (λ (n : ℕ). HasReadClause all from limit n (height p) (p ∷ [])) same
+    (has_read_clause b le before (braces_nested b before))

@@ -20,10 +20,10 @@ use Rattle.cedar_syntax.specs.Tokens.{kind_at, start_at, end_at}
 use Rattle.cedar_syntax.specs.Trees.{Tree, leaf, height, levels_of, made, signed, signs_made}
 use Rattle.cedar_syntax.specs.Grammar.{leaf_of, operator_of, kind_of, binary_of, is_negated, negated_if, no_sign}
 use Rattle.cedar_syntax.specs.Grammar.{one_more, Derives, by_leaf, by_number, by_parens, by_signs, by_negative}
-use Rattle.cedar_syntax.specs.Grammar.{by_infix, by_is_in, by_if}
-use Rattle.cedar_syntax.specs.Reading.{Look, Waits, for_all, in_parens, behind_signs, behind_infix, behind_is_in}
+use Rattle.cedar_syntax.specs.Grammar.{by_infix, by_is_in, by_if, in_braces}
+use Rattle.cedar_syntax.specs.Reading.{Look, Waits, for_all, in_clause, in_parens, behind_signs, behind_infix, behind_is_in}
 use Rattle.cedar_syntax.specs.Reading.{behind_if, behind_then, behind_else, for_item, behind_key, Reads, part}
-use Rattle.cedar_syntax.specs.Reading.{IsWhole, is_whole, join_made, negate_made}
+use Rattle.cedar_syntax.specs.Reading.{IsWhole, is_whole, IsClosed, is_closed, join_made, negate_made}
 
 above_two : (o : Operator) → 2 < level_of o
 above_two operator.Or = lit< tt
@@ -42,6 +42,7 @@ above_two operator.Mul = lit< tt
 -- wherever an expression is waited for, a member may stand
 pub some_awaited : {all : List Token} {fs : List Frame} {ts : List Tree} {i : ℕ} → Waits all fs ts i → 1 < awaited fs
 some_awaited for_all = lit< tt
+some_awaited (in_clause k) = lit< tt
 some_awaited (in_parens w k) = lit< tt
 some_awaited (behind_signs w below h le) = lit< tt
 some_awaited (behind_infix {o = o} w d le lt k) = omega (arith, above_two o)
@@ -296,3 +297,20 @@ pub end_read : {all : List Token} {ts : List Tree} {n l s e j : ℕ} →
     Reads all (record { frames = []; trees = ts; level = l; start = s; end = e; height = n }) j →
     kind_at all j ≡ kind.End → IsWhole all n ts (j + 1)
 end_read (part w d lt) k = whole_read w d k
+
+pub braces_closed : {all : List Token} {fs : List Frame} {ts : List Tree} {i n l s e g h j : ℕ} →
+    Reads all
+    (record {
+      frames = record { wait = wait.Clause i; start = s; height = h } ∷ fs;
+      trees = ts;
+      level = l;
+      start = g;
+      end = e;
+      height = n;
+    }) j → kind_at all j ≡ kind.CloseBrace → IsClosed all i n ts (j + 1)
+braces_closed (part (in_clause k) d below) l = is_closed (in_braces k d l)
+
+pub clause_begun : {all : List Token} {fs : List Frame} {ts : List Tree} {i s : ℕ} →
+    kind_at all i ≡ kind.OpenBrace → s ≡ start_at all i →
+    fs ≡ record { wait = wait.Clause i; start = s; height = 0 } ∷ [] → ts ≡ [] → Waits all fs ts (i + 1)
+clause_begun k s_is f_is t_is = rw (f_is, t_is, s_is) (in_clause k)

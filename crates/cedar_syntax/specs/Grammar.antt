@@ -247,3 +247,8 @@ mutual
 pub data IsExpression (all : List Token) : Tree → Type 0 where
   whole : {n j s e : ℕ} {p : Tree} → Derives all n 0 j s e p → kind_at all j ≡ kind.End → j + 1 ≡ length all →
       IsExpression all p
+
+-- `{ Expr }`: token i opens the braces, token j closes them, and those between derive the tree
+pub data IsInBraces (all : List Token) : ℕ → ℕ → Tree → Type 0 where
+  in_braces : {n i j s e : ℕ} {p : Tree} → kind_at all i ≡ kind.OpenBrace → Derives all n (i + 1) j s e p →
+      kind_at all j ≡ kind.CloseBrace → IsInBraces all i j p

@@ -1,5 +1,5 @@
 -- What a machine that reads an expression keeps.
-use Rattle.std.specs.Prelude.{◌≡◌, ℕ, ◌+◌, ◌<◌, ◌≤◌, List, [], ◌∷◌, Bool, true, false, Some, suc}
+use Rattle.std.specs.Prelude.{◌≡◌, ℕ, ◌+◌, ◌<◌, ◌≤◌, List, [], ◌∷◌, length, Bool, true, false, Some, suc}
 use Prim.Native.Nat.{max}
 use Rattle.cedar_tokens.specs.declared.tokens.Kind.{Kind}
 use Rattle.cedar_tokens.specs.declared.tokens.Kind.TheVariants as kind
@@ -15,11 +15,11 @@ use Rattle.cedar_syntax.specs.declared.frames.Frame.{Frame}
 use Rattle.cedar_syntax.specs.declared.frames.Wait.{Wait}
 use Rattle.cedar_syntax.specs.declared.frames.Wait.TheVariants as wait
 use Rattle.cedar_syntax.specs.Levels.{level_of, left_level_of, awaited}
-use Rattle.cedar_syntax.specs.Tokens.{kind_at, start_at}
+use Rattle.cedar_syntax.specs.Tokens.{kind_at, start_at, end_at}
 use Rattle.cedar_syntax.specs.Trees.{Tree, Trees, height, tallest, count, stacked, made}
-use Rattle.cedar_syntax.specs.Places.{IsInOrder, IsNested}
+use Rattle.cedar_syntax.specs.Places.{IsInOrder, IsInside, IsNested}
 use Rattle.cedar_syntax.specs.Grammar.{is_key, binary_of, is_negated, takes_expressions, operator_of, IsPath}
-use Rattle.cedar_syntax.specs.Grammar.{IsDotted, AreSigns, Derives, Opens, Begins, IsItem, IsExpression}
+use Rattle.cedar_syntax.specs.Grammar.{IsDotted, AreSigns, Derives, Opens, Begins, IsItem, IsExpression, IsInBraces}
 
 -- what is seen of the work: what waits, what is made, and of the part that was read last the level, the bytes and the
 -- height
@@ -37,6 +37,8 @@ mutual
   -- the frames wait for an expression that begins at token i; the trees are those of the parts before it
   pub data Waits (all : List Token) : List Frame → List Tree → ℕ → Type 0 where
     for_all : Waits all [] [] 0
+    in_clause : {i : ℕ} → kind_at all i ≡ kind.OpenBrace →
+        Waits all (record { wait = wait.Clause i; start = start_at all i; height = 0 } ∷ []) [] (i + 1)
     in_parens : {fs : List Frame} {ts : List Tree} {i : ℕ} → Waits all fs ts i → kind_at all i ≡ kind.OpenParen →
         Waits all (record { wait = wait.Paren; start = start_at all i; height = 0 } ∷ fs) ts (i + 1)
     behind_signs : {fs : List Frame} {ts : List Tree} {c i j : ℕ} {u : Sign} → Waits all fs ts i → 2 < awaited fs →
@@ -144,6 +146,16 @@ pub data IsWhole (all : List Token) : ℕ → List Tree → ℕ → Type 0 where
 pub data HasRead (all : List Token) (limit : ℕ) : List Tree → Type 0 where
   has_read : {p : Tree} → IsExpression all p → height p ≤ limit → (IsInOrder all → IsNested all p) →
       HasRead all limit (p ∷ [])
+
+-- the whole was read that stands in the braces which token i opens, and the brace that closes them: its height is h
+pub data IsClosed (all : List Token) : ℕ → ℕ → List Tree → ℕ → Type 0 where
+  is_closed : {i j : ℕ} {p : Tree} → IsInBraces all i j p → IsClosed all i (height p) (p ∷ []) (j + 1)
+
+-- tokens i and j are the braces round what derives the tree, which has h levels and is no higher than the limit;
+-- if the tokens stand in order, the tree stands between the braces, and each part of it inside what it is a part of
+pub data HasReadClause (all : List Token) (i limit : ℕ) : ℕ → ℕ → List Tree → Type 0 where
+  has_read_clause : {j : ℕ} {p : Tree} → IsInBraces all i j p → height p ≤ limit → j < length all →
+      (IsInOrder all → IsInside (start_at all i) (end_at all j) p) → HasReadClause all i limit j (height p) (p ∷ [])
 
 -- ---- what is made
 

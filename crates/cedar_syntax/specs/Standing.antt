@@ -10,7 +10,7 @@ use Rattle.cedar_syntax.specs.Tokens.{kind_at}
 use Rattle.cedar_syntax.specs.Trees.{trees}
 use Rattle.cedar_syntax.specs.Grammar.{is_key, IsPath, IsDotted}
 use Rattle.cedar_syntax.specs.Reading.{Look, Waits, HasOpened, AwaitsKey, Reads, Behind, IsRelated, BehindColons}
-use Rattle.cedar_syntax.specs.Reading.{BehindDot, IsWhole}
+use Rattle.cedar_syntax.specs.Reading.{BehindDot, IsWhole, IsClosed}
 
 abbrev pub look : Work → Look
 look w =
@@ -48,3 +48,4 @@ Stands all state.Is l i = IsRelated all kind.Is l i
 Stands all (state.IsMore from s e) l i = IsRelated all kind.Is l from × IsPath all from i s e
 Stands all (state.IsPath from s) l i = IsRelated all kind.Is l from × BehindColons all from i s
 Stands all state.Finished l i = IsWhole all l.height l.trees i
+Stands all (state.Closed at) l i = IsClosed all at l.height l.trees i

@@ -18,6 +18,8 @@ pub enum Wait {
     IsIn(usize, usize),
     /// The part in parentheses.
     Paren,
+    /// The whole in the braces that this token opens: it waits below all else.
+    Clause(usize),
     /// A part in brackets, behind so many.
     Item(Bracketed, usize),
     /// The value of the field whose key this token names, in a record, behind so many fields.
@@ -78,6 +80,7 @@ fn count_of(wait: Wait, sign: Sign) -> Option<usize>
         Wait::Infix(_) => None,
         Wait::IsIn(_, _) => None,
         Wait::Paren => None,
+        Wait::Clause(_) => None,
         Wait::Item(_, _) => None,
         Wait::Field(_, _) => None,
         Wait::If => None,

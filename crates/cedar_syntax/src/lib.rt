@@ -8,4 +8,4 @@ mod levels;
 mod machine;
 pub mod steps;
 
-pub use machine::expression_steps;
+pub use machine::{ClauseSteps, clause_steps, expected_at, expression_steps, too_deep};

@@ -6,10 +6,11 @@ ghost use Rattle.std.specs.Prelude.{◌≡◌, ◌+◌, ◌<◌, ◌≤◌, [], 
 ghost use Rattle.cedar_syntax.specs.Grammar as Grammar;
 ghost use Rattle.cedar_syntax.specs.Levels.{IsAbove};
 ghost use Rattle.cedar_syntax.specs.Places.{IsPlaced, end_of};
-ghost use Rattle.cedar_syntax.specs.Reading.{Reads, HasRead, under};
+ghost use Rattle.cedar_syntax.specs.Reading.{Reads, HasRead, HasReadClause, under};
 ghost use Rattle.cedar_syntax.specs.Standing.{look, Stands};
 ghost use Rattle.cedar_syntax.specs.Tokens as Tokens;
 ghost use Rattle.cedar_tokens.specs.Kinds as Kinds;
+ghost use Rattle.cedar_tokens.specs.declared.tokens.Kind.TheVariants as kind;
 ghost use Rattle.cedar_syntax.specs.Trees.{trees, made, parts_of, FindParts};
 ghost use Prim.Native.Nat.{max};
 
@@ -67,6 +68,8 @@ enum State {
     IsPath(usize, usize),
     // Nothing.
     Finished,
+    // Nothing: the braces are closed that this token opens.
+    Closed(usize),
 }
 
 // Why a token can't be taken.
@@ -105,6 +108,118 @@ pub fn expression_steps(
         state = turn(&mut work, state, tokens, index)?;
     }
     work.finish(state, tokens)
+}
+
+/// The steps of the expression that stands in braces, the number of the token that closes them, and how many levels it has.
+#[derive(Drop)]
+pub struct ClauseSteps {
+    pub steps: Vec<Step>,
+    pub close: usize,
+    pub height: usize,
+}
+
+/// The steps of the expression in the braces that the token of this number opens. They make the tree that the tokens between
+/// the braces derive by the grammar, and it has at most `limit` levels.
+///
+/// Errors: `Memory`; `Expected` at that token, where it opens no braces, or at the first that can't stand where it does, or
+/// behind the last; `TooDeep` at the token behind which an expression with more levels ends, from where that begins.
+pub fn clause_steps(
+    alloc: Global,
+    tokens: &[Token],
+    brace: usize,
+    limit: usize,
+) -> Result<ClauseSteps, ReadError>
+    ensures ok { IfOk result (λ c. HasReadClause tokens.now brace limit c.close c.height (trees c.steps.items)) }
+    ensures parts { IfOk result (λ c. FindParts [] c.steps.items) }
+    ensures err { IfErr result (λ error. IsPlaced tokens.now error) }
+{
+    open_brace(tokens, brace)?;
+    let mut work = clause_work(alloc, tokens, brace, limit)?;
+    let mut state = State::Operand;
+    for index in brace + 1..tokens.len() {
+        state = turn(&mut work, state, tokens, index)?;
+        if let State::Closed(at) = state {
+            if at == brace {
+                return Ok(work.closed(index));
+            }
+        }
+    }
+    Err(at_end(tokens))
+}
+
+// The work that begins behind the brace of this number.
+fn clause_work(
+    alloc: Global,
+    tokens: &[Token],
+    brace: usize,
+    limit: usize,
+) -> Result<Work, ReadError>
+    requires within { brace < length tokens.now }
+    requires opens { Tokens.kind_at tokens.now brace ≡ kind.OpenBrace }
+    ensures limit { IfOk result (λ work. work.limit ≡ limit) }
+    ensures ok { IfOk result (λ work. Stands tokens.now State.Operand (look work) (brace + 1)) }
+    ensures err { IfErr result (λ error. IsPlaced tokens.now error) }
+{
+    let mut work = Work {
+        frames: Frames::new(alloc),
+        steps: Vec::new(alloc),
+        limit,
+        level: 0,
+        start: 0,
+        end: 0,
+        height: 0,
+    };
+    match work.wait(Wait::Clause(brace), start_at(tokens, brace), 0) {
+        Ok(()) => Ok(work),
+        Err(_) => Err(ReadError::Memory),
+    }
+}
+
+// That the token of this number opens braces.
+fn open_brace(tokens: &[Token], index: usize) -> Result<(), ReadError>
+    ensures within { IfOk result (λ _. index < length tokens.now) }
+    ensures opens { IfOk result (λ _. Tokens.kind_at tokens.now index ≡ kind.OpenBrace) }
+    ensures err { IfErr result (λ error. IsPlaced tokens.now error) }
+{
+    if index >= tokens.len() {
+        return Err(expected_at(tokens, index, Expected::OpenBrace));
+    }
+    match kind_at(tokens, index) {
+        Kind::OpenBrace => Ok(()),
+        _ => Err(expected_at(tokens, index, Expected::OpenBrace)),
+    }
+}
+
+/// The error that this was expected where the token of this number stands, or behind the last token.
+pub fn expected_at(tokens: &[Token], index: usize, what: Expected) -> ReadError
+    ensures { IsPlaced tokens.now result }
+{
+    if index < tokens.len() {
+        ReadError::expected(what, token_at(tokens, index))
+    } else {
+        let end = end_of(tokens);
+        ReadError::Expected {
+            what,
+            found: Kind::End,
+            start: end,
+            end,
+        }
+    }
+}
+
+/// The error that what stands from this byte on, and ends with the token of this number, is too high.
+pub fn too_deep(tokens: &[Token], start: usize, index: usize) -> ReadError
+    ensures { IsPlaced tokens.now result }
+{
+    if index < tokens.len() {
+        let end = end_at(tokens, index);
+        ReadError::TooDeep {
+            start: lower(start, end),
+            end,
+        }
+    } else {
+        at_end(tokens)
+    }
 }
 
 // Takes the token of this number, or says where it can't be taken.
@@ -251,6 +366,20 @@ impl Work {
         }
     }
 
+    // The steps that are made, where the token of this number closed the braces.
+    fn closed(self, close: usize) -> ClauseSteps
+        ensures steps { result.steps ≡ self.steps }
+        ensures close { result.close ≡ close }
+        ensures height { result.height ≡ self.height }
+        ensures parts { FindParts [] result.steps.items }
+    {
+        ClauseSteps {
+            steps: self.steps,
+            close,
+            height: self.height,
+        }
+    }
+
     // Takes the token of this number.
     fn take(&mut self, state: State, tokens: &[Token], index: usize) -> Result<State, Refusal>
         requires within { index < length tokens.now }
@@ -280,6 +409,7 @@ impl Work {
             State::IsMore(from, start, end) => self.is_more(from, start, end, tokens, index),
             State::IsPath(from, start) => self.is_path(from, start, tokens, index),
             State::Finished => Err(Refusal::Expected(Expected::End)),
+            State::Closed(_) => Err(Refusal::Expected(Expected::End)),
         }
     }
 

@@ -1,7 +1,7 @@
 //! Why a function that a caller stores was not found.
 use cedar_names::Loc;
 use extension_function_lookup_errors::FuncDoesNotExistError;
-use std::alloc::AllocError;
+use std::alloc::{AllocError, AllocFailed};
 use thiserror::Error;
 
 /// Why no extension function was found.
@@ -99,5 +99,17 @@ impl From<AllocError> for ExtensionFunctionLookupError {
 
     fn from(e: AllocError) -> ExtensionFunctionLookupError {
         ExtensionFunctionLookupError::Memory(e)
+    }
+}
+
+/// Want of memory is `Memory`, and what found no room is dropped.
+impl<T: Drop> From<AllocFailed<T>> for ExtensionFunctionLookupError {
+    ghost use Rattle.std.specs.Prelude.{◌≡◌, alloc_error};
+    ghost use Rattle.cedar_values.specs.declared.extensions.ExtensionFunctionLookupError.TheVariants.{Memory};
+
+    ghost from_gives = { λ _ r. r ≡ Memory alloc_error };
+
+    fn from(_e: AllocFailed<T>) -> ExtensionFunctionLookupError {
+        ExtensionFunctionLookupError::Memory(AllocError)
     }
 }

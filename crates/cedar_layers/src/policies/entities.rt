@@ -150,6 +150,35 @@ impl Entity {
         self.tags.len()
     }
 
+    /// The recorded ancestors.
+    pub fn ancestors(&self) -> &HashSet<EntityUID>
+        ensures whole { result.now.keys ≡ entity_ancestors self.now }
+    {
+        &self.ancestors
+    }
+
+    /// This entity with these ancestors in place of those that are recorded, taken as they are, as in `new`.
+    pub fn with_ancestors(self, ancestors: HashSet<EntityUID>) -> Entity
+        ensures view { entity_view result ≡ facts_of (entity_attributes self) ancestors.keys (entity_tags self) }
+        ensures uid { entity_uid result ≡ entity_uid self }
+        ensures attributes { entity_attributes result ≡ entity_attributes self }
+        ensures tags { entity_tags result ≡ entity_tags self }
+        ensures ancestors { entity_ancestors result ≡ ancestors.keys }
+    {
+        let Entity {
+            uid,
+            attrs,
+            ancestors: _,
+            tags,
+        } = self;
+        Entity {
+            uid,
+            attrs,
+            ancestors,
+            tags,
+        }
+    }
+
     /// Whether the entity of this uid is among the recorded ancestors.
     pub fn is_descendant_of(&self, uid: &EntityUID) -> bool
         ensures { result ≡ is_among (uid_name uid.now) (entity_view self.now).ancestors }

@@ -103,7 +103,7 @@ impl Policy {
     ghost use Rattle.cedar_expressions.specs.View.{view, expr_loc};
     ghost use Rattle.cedar_layers.specs.Policies.{effect_view, policy_id_text, annotations_view, slots_view, policy_view};
     ghost use Rattle.cedar_layers.specs.Policies.{condition_parts, policy_parts, policy_of, policy_when, condition_term};
-    ghost use Rattle.cedar_layers.specs.Policies.{policy_location, IsConjunction, IsCondition};
+    ghost use Rattle.cedar_layers.specs.Policies.{policy_location, IsConjunction, IsCondition, linked};
 
     /// The policy of these parts, at no known location. Refuses only for want of memory.
     pub fn new(
@@ -172,6 +172,56 @@ impl Policy {
         })
     }
 
+    /// This policy at this location, or at no known one.
+    pub fn with_maybe_source_loc(self, loc: Option<Loc>) -> Policy
+        ensures view { policy_view result ≡ policy_view self }
+        ensures parts { policy_parts result ≡ policy_parts self }
+        ensures loc { policy_location result ≡ loc }
+    {
+        let Policy {
+            effect,
+            id,
+            annotations,
+            principal,
+            action,
+            resource,
+            when,
+            env,
+            loc: _,
+        } = self;
+        Policy {
+            effect,
+            id,
+            annotations,
+            principal,
+            action,
+            resource,
+            when,
+            env,
+            loc,
+        }
+    }
+
+    /// The policy of this id that has the effect, the annotations, the parts and the location of this one, and in which these
+    /// values stand for the slots: a template's policy. Refuses only for want of memory.
+    pub fn link(&self, alloc: Global, id: PolicyID, env: SlotEnv) -> Result<Policy, AllocError>
+        ensures view { IfOk result (λ p. policy_view p ≡ linked (policy_view self.now) (policy_id_text id) (slots_view env)) }
+        ensures parts { IfOk result (λ p. policy_parts p ≡ policy_parts self.now) }
+        ensures loc { IfOk result (λ p. policy_location p ≡ policy_location self.now) }
+    {
+        Ok(Policy {
+            effect: self.effect,
+            id,
+            annotations: self.annotations.clone()?,
+            principal: self.principal.clone()?,
+            action: self.action.clone()?,
+            resource: self.resource.clone()?,
+            when: self.when.clone()?,
+            env: Rc::new(alloc, env)?,
+            loc: self.loc,
+        })
+    }
+
     /// The id.
     pub fn id(&self) -> &PolicyID
         ensures { policy_id_text result.now ≡ (policy_view self.now).id }
@@ -198,6 +248,45 @@ impl Policy {
         ensures { slots_view result.now ≡ (policy_view self.now).slots }
     {
         &self.env
+    }
+
+    /// Where the policy stands, if that is known.
+    pub fn loc(&self) -> Option<Loc>
+        ensures { result ≡ policy_location self.now }
+    {
+        self.loc
+    }
+
+    /// The constraint on the principal, as it was handed in.
+    pub fn principal_constraint(&self) -> &Expr
+        ensures whole { result.now ≡ (policy_parts self.now).principal }
+        ensures view { view result.now ≡ (policy_view self.now).principal_constraint }
+    {
+        &*self.principal
+    }
+
+    /// The constraint on the action, as it was handed in.
+    pub fn action_constraint(&self) -> &Expr
+        ensures whole { result.now ≡ (policy_parts self.now).action }
+        ensures view { view result.now ≡ (policy_view self.now).action_constraint }
+    {
+        &*self.action
+    }
+
+    /// The constraint on the resource, as it was handed in.
+    pub fn resource_constraint(&self) -> &Expr
+        ensures whole { result.now ≡ (policy_parts self.now).resource }
+        ensures view { view result.now ≡ (policy_view self.now).resource_constraint }
+    {
+        &*self.resource
+    }
+
+    /// The when clause, as it was handed in.
+    pub fn when_clause(&self) -> &Expr
+        ensures whole { result.now ≡ (policy_parts self.now).when }
+        ensures view { view result.now ≡ (policy_view self.now).when_clause }
+    {
+        &*self.when
     }
 
     /// The condition, `((principal && action) && resource) && when`, each `&&` at the policy's location and each part as it was

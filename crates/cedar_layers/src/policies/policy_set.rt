@@ -6,7 +6,7 @@ ghost use Rattle.cedar_layers.specs.Policies.{policy_view, policy_ids, first_rep
 use super::policy::{Policy, PolicyID};
 use indexmap::IndexMap;
 use indexmap::map::Values;
-use std::alloc::{AllocError, Global};
+use std::alloc::{AllocError, AllocFailed, Global};
 use thiserror::Error;
 
 /// Policies in order of insertion, no two of one id.
@@ -41,6 +41,18 @@ impl From<AllocError> for PolicySetError {
 
     fn from(error: AllocError) -> PolicySetError {
         PolicySetError::Memory(error)
+    }
+}
+
+/// Want of memory is `Memory`, and what found no room is dropped.
+impl<T: Drop> From<AllocFailed<T>> for PolicySetError {
+    ghost use Rattle.std.specs.Prelude.{alloc_error};
+    ghost use Rattle.cedar_layers.specs.declared.policies.policy_set.PolicySetError.TheVariants.{Memory};
+
+    ghost from_gives = { λ _ e. e ≡ Memory alloc_error };
+
+    fn from(_failed: AllocFailed<T>) -> PolicySetError {
+        PolicySetError::Memory(AllocError)
     }
 }
 

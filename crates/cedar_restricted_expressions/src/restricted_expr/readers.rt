@@ -4,10 +4,10 @@ ghost use Rattle.std.specs.Rc.{rc_str_bytes};
 ghost use Rattle.cedar_names.specs.Names.{uid_name};
 ghost use Rattle.cedar_names.specs.Leaves.{type_view};
 ghost use Rattle.cedar_expressions.specs.View.{terms_view, fields_view};
-ghost use Rattle.cedar_expressions.specs.Nodes.{node_of};
+ghost use Rattle.cedar_expressions.specs.Nodes.{node_of, uid_at};
 ghost use Rattle.cedar_restricted_expressions.specs.Readers.{bool_in, long_in, text_in, entity_in, unknown_in};
 ghost use Rattle.cedar_restricted_expressions.specs.Readers.{elements_in, fields_in, call_in};
-ghost use Rattle.cedar_restricted_expressions.specs.Readers.{uid_at, unknown_at, elements_at, pairs_at, call_at};
+ghost use Rattle.cedar_restricted_expressions.specs.Readers.{unknown_at, elements_at, pairs_at, call_at};
 
 use super::kinds::{RestrictedKind, kind_of};
 use super::{BorrowedRestrictedExpr, CallArguments, RecordPairs, RestrictedExpr, SetElements};
@@ -138,7 +138,8 @@ impl<'a> BorrowedRestrictedExpr<'a> {
     }
 
     ghost use Rattle.cedar_names.specs.Leaves.{literal_view};
-    ghost use Rattle.cedar_restricted_expressions.specs.Readers.{literal_in, literal_at};
+    ghost use Rattle.cedar_restricted_expressions.specs.Readers.{literal_in};
+    ghost use Rattle.cedar_expressions.specs.Nodes.{literal_at};
 
     // The literal, or `None` where the expression is none.
     fn as_literal(&self) -> Option<&'a Literal>

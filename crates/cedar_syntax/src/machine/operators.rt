@@ -121,6 +121,7 @@ impl Work {
     {
         match wait {
             Wait::Paren => self.close_paren(start, height, tokens, index),
+            Wait::Clause(brace) => self.close_clause(brace, start, height, tokens, index),
             Wait::If => self.then(start, height, tokens, index),
             Wait::Then => self.or_else(start, height, tokens, index),
             Wait::Item(bracketed, count) => self.close_item(
@@ -150,6 +151,26 @@ impl Work {
                 self.end = end_at(tokens, index);
                 Ok(State::Operator)
             }
+            _ => Err(Refusal::Expected(Expected::Operator)),
+        }
+    }
+
+    // The end of an expression in braces.
+    fn close_clause(
+        &mut self,
+        brace: usize,
+        start: usize,
+        height: usize,
+        tokens: &[Token],
+        index: usize,
+    ) -> Result<State, Refusal>
+        requires within { index < length tokens.now }
+        requires reads { Reads tokens.now (under (Wait.Clause brace) start height (look self.old)) index }
+        ensures limit { self.new.limit ≡ self.old.limit }
+        ensures ok { IfOk result (λ next. Stands tokens.now next (look self.new) (index + 1)) }
+    {
+        match kind_at(tokens, index) {
+            Kind::CloseBrace => Ok(State::Closed(brace)),
             _ => Err(Refusal::Expected(Expected::Operator)),
         }
     }

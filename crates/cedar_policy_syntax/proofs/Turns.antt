@@ -1,0 +1,260 @@
+-- What a part more makes of what was written.
+use Rattle.std.proofs.Common.{◌≡◌, ◌∙◌, ℕ, ◌+◌, ◌<◌, ◌≤◌, List, [], ◌∷◌, ◌++◌, length, refl, sym, ap, subst, arith}
+use Rattle.std.proofs.Common.{Bool, true, false, Some, None, suc, zero, add-one, if◌then◌else◌}
+use Prim.Native.Nat.{max}
+use Rattle.cedar_tokens.specs.Kinds.{is_identifier}
+use Rattle.cedar_tokens.specs.declared.tokens.Kind.{Kind}
+use Rattle.cedar_tokens.specs.declared.tokens.Kind.TheVariants as kind
+use Rattle.cedar_tokens.specs.declared.tokens.Token.{Token}
+use Rattle.cedar_syntax.specs.declared.steps.Leaf.TheVariants as leaves
+use Rattle.cedar_syntax.specs.declared.steps.Sign.TheVariants.{Not}
+use Rattle.cedar_syntax.specs.declared.steps.Unary.TheVariants as unaries
+use Rattle.cedar_syntax.specs.declared.steps.Binary.{Binary}
+use Rattle.cedar_syntax.specs.declared.steps.Binary.TheVariants as binaries
+use Rattle.cedar_syntax.specs.declared.steps.Bracketed.TheVariants.{Set}
+use Rattle.cedar_syntax.specs.declared.steps.What.TheVariants as what
+use Rattle.cedar_syntax.specs.declared.steps.Step.{Step}
+use Rattle.cedar_syntax.specs.Tokens.{kind_at, start_at, end_at}
+use Rattle.cedar_syntax.specs.Trees.{Tree, Trees, none, also, bracketed, height, count, stacked, gathered, left_below}
+use Rattle.cedar_syntax.specs.Trees.{made, trees, FindParts}
+use Rattle.cedar_syntax.specs.Grammar.{IsPath, one_name, name_inside, IsInBraces}
+use Rattle.cedar_syntax.specs.Reading.{HasReadClause, has_read_clause}
+use Rattle.cedar_policy_syntax.specs.declared.policies.Annotation.{Annotation}
+use Rattle.cedar_policy_syntax.specs.declared.policies.PolicySteps.{PolicySteps}
+use Rattle.cedar_policy_syntax.specs.declared.policies.Variable.{Variable}
+use Rattle.cedar_policy_syntax.specs.declared.policies.Variable.TheVariants as variable
+use Rattle.cedar_policy_syntax.specs.Grammar.{kind_of, is_slot_of, has_type, effect_of, relation_of, negates, is_word}
+use Rattle.cedar_policy_syntax.specs.Grammar.{variable_at, IsEntity, entity, IsReference, to_entity, to_slot}
+use Rattle.cedar_policy_syntax.specs.Grammar.{AreEntities, one_entity, one_entity_more, IsList, no_entity}
+use Rattle.cedar_policy_syntax.specs.Grammar.{some_entities, IsSet, is_set, IsConstraint, unconstrained, compared}
+use Rattle.cedar_policy_syntax.specs.Grammar.{in_list, of_type, of_type_in, IsClause, clause, AreClauses, one_clause}
+use Rattle.cedar_policy_syntax.specs.Grammar.{one_clause_more, IsCondition, no_clause, some_clauses, AreAnnotations}
+use Rattle.cedar_policy_syntax.specs.Grammar.{no_annotation, one_key, one_value, IsScope, scope, IsPolicy, policy}
+use Rattle.cedar_policy_syntax.specs.Reading.{Puts, puts, PutsEntities, puts_entities, PutsClause, puts_clause}
+use Rattle.cedar_policy_syntax.specs.Reading.{PutsClauses, puts_clauses, PutsScope, puts_scope, HasPolicy}
+use Rattle.cedar_policy_syntax.proofs.Joining.{find_appended}
+
+-- ---- names
+
+pub one_read : {all : List Token} {i e : ℕ} → is_identifier (kind_at all i) ≡ true → e ≡ end_at all i →
+    IsPath all i (i + 1) (start_at all i) e
+one_read w e_is = rw e_is (one_name w)
+
+pub name_more : {all : List Token} {i k n s e f : ℕ} → kind_at all k ≡ kind.Colons → n ≡ k + 1 →
+    is_identifier (kind_at all n) ≡ true → f ≡ end_at all n → IsPath all i k s e → IsPath all i (n + 1) s f
+name_more c n_is w f_is h = rw (f_is, n_is) (name_inside h c (rw n_is at w))
+
+-- ---- steps behind others
+
+pub kept : {xs ys zs : List Step} (ok : Bool) → zs ≡ (if ok then xs ++ ys else xs) → FindParts [] xs →
+    FindParts [] ys → FindParts [] zs
+kept {xs = xs} {ys = ys} true is h g = rw is (find_appended xs ys h g)
+kept false is h g = rw is h
+
+-- ---- scopes
+
+pub entity_made : {all : List Token} {i k id n s e t : ℕ} {ts ws : List Tree} →
+    IsPath all i k s t → s ≡ start_at all i → kind_at all k ≡ kind.Colons → id ≡ k + 1 →
+    kind_at all id ≡ kind.Text → n ≡ id + 1 → e ≡ end_at all id →
+    ws ≡ made (what.Leaf (leaves.Entity i id)) s e ts → Puts (IsEntity all i n e) ts ws
+entity_made {k = k} h s_is c id_is t n_is e_is w_is = rw (w_is, n_is, e_is, id_is) (puts (entity h c (rw id_is at t)))
+
+pub reference_made : {all : List Token} {v : Variable} {i j e : ℕ} {ts ws : List Tree} →
+    Puts (IsEntity all i j e) ts ws → Puts (IsReference all v i j e) ts ws
+reference_made (puts h) = puts (to_entity h)
+
+pub slot_made : {all : List Token} {v : Variable} {i s e : ℕ} {ts ws : List Tree} →
+    is_slot_of v (kind_at all i) ≡ true → s ≡ start_at all i → e ≡ end_at all i →
+    ws ≡ made (what.Leaf (leaves.Slot i)) s e ts → Puts (IsReference all v i (i + 1) e) ts ws
+slot_made k s_is e_is w_is = rw (w_is, s_is, e_is) (puts (to_slot k))
+
+pub first_put : {all : List Token} {i j e : ℕ} {ts ws : List Tree} → Puts (IsEntity all i j e) ts ws →
+    PutsEntities all i j 1 ts ws
+first_put (puts h) = puts_entities (one_entity h)
+
+pub another_put : {all : List Token} {i j k n at e : ℕ} {ts us ws : List Tree} → PutsEntities all i j n ts us →
+    kind_at all j ≡ kind.Comma → at ≡ j + 1 → Puts (IsEntity all at k e) us ws → PutsEntities all i k (n + 1) ts ws
+another_put {ts = ts} (puts_entities {ps = ps} hs) k at_is (puts h) =
+    rw add-one (count ps) (puts_entities (one_entity_more hs k (rw at_is at h)))
+
+gathered-stacked : (ps : Trees) (ts : List Tree) → gathered (count ps) (stacked ps ts) ≡ ps
+gathered-stacked none ts = refl
+gathered-stacked (also ps p) ts = ap (λ (qs : Trees). also qs p) (gathered-stacked ps ts)
+
+left_below-stacked : (ps : Trees) (ts : List Tree) → left_below (count ps) (stacked ps ts) ≡ ts
+left_below-stacked none ts = refl
+left_below-stacked (also ps p) ts = left_below-stacked ps ts
+
+stacked_count : (ps : Trees) (ts : List Tree) → count ps ≤ length (stacked ps ts)
+stacked_count none ts = omega arith
+stacked_count (also ps p) ts = omega (arith, stacked_count ps ts)
+
+pub entities_count : {all : List Token} {i j n : ℕ} {ts us : List Tree} → PutsEntities all i j n ts us → n ≤ length us
+entities_count {ts = ts} (puts_entities {ps = ps} hs) = stacked_count ps ts
+
+pub no_set_made : {all : List Token} {i first s e : ℕ} {ts ws : List Tree} → kind_at all i ≡ kind.OpenBracket →
+    first ≡ i + 1 → kind_at all first ≡ kind.CloseBracket → s ≡ start_at all i → e ≡ end_at all first →
+    ws ≡ made (what.Bracketed Set 0) s e ts → Puts (IsSet all i first) ts ws
+no_set_made k first_is l s_is e_is w_is =
+    rw (w_is, s_is, e_is, first_is) (puts (is_set (no_entity k (rw first_is at l))))
+
+pub set_made : {all : List Token} {i first j n s e : ℕ} {ts us ws : List Tree} → kind_at all i ≡ kind.OpenBracket →
+    first ≡ i + 1 → PutsEntities all first j n ts us → kind_at all j ≡ kind.CloseBracket → s ≡ start_at all i →
+    e ≡ end_at all j → ws ≡ made (what.Bracketed Set n) s e us → Puts (IsSet all i j) ts ws
+set_made {ts = ts} k first_is (puts_entities {ps = ps} hs) l s_is e_is w_is =
+    rw (w_is, s_is, e_is, gathered-stacked ps ts, left_below-stacked ps ts)
+    (puts (is_set (some_entities k (rw first_is at hs) l)))
+
+pub unconstrained_made : {all : List Token} {v : Variable} {i s e : ℕ} {ts ws : List Tree} →
+    kind_at all i ≡ kind_of v → s ≡ start_at all i → e ≡ end_at all i →
+    ws ≡ made (what.Leaf (leaves.Bool true)) s e ts → Puts (IsConstraint all v i (i + 1)) ts ws
+unconstrained_made k s_is e_is w_is = rw (w_is, s_is, e_is) (puts (unconstrained k))
+
+pub variable_made : {all : List Token} {i s e : ℕ} {ts ws : List Tree} → s ≡ start_at all i → e ≡ end_at all i →
+    ws ≡ made (what.Leaf (leaves.Variable i)) s e ts → ws ≡ variable_at all i ∷ ts
+variable_made s_is e_is w_is = rw (w_is, s_is, e_is) refl
+
+pub compared_made : {all : List Token} {v : Variable} {b : Binary} {o : Kind} {i at j s e : ℕ}
+    {ts us vs ws : List Tree} → kind_at all i ≡ kind_of v → kind_at all (i + 1) ≡ o → relation_of o ≡ Some b →
+    at ≡ i + 1 + 1 → us ≡ variable_at all i ∷ ts → Puts (IsReference all v at j e) us vs → s ≡ start_at all i →
+    ws ≡ made (what.Binary b) s e vs → Puts (IsConstraint all v i j) ts ws
+compared_made k o_is r at_is u_is (puts h) s_is w_is =
+    rw (w_is, s_is, u_is) (puts (compared k (rw o_is r) (rw at_is at h)))
+
+pub list_made : {all : List Token} {i at j n s e : ℕ} {ts us vs ws : List Tree} → kind_at all i ≡ kind.Action →
+    kind_at all (i + 1) ≡ kind.In → at ≡ i + 1 + 1 → us ≡ variable_at all i ∷ ts → Puts (IsSet all at j) us vs →
+    s ≡ start_at all i → e ≡ end_at all j → ws ≡ made (what.Binary binaries.In) s e vs → n ≡ j + 1 →
+    Puts (IsConstraint all variable.Action i n) ts ws
+list_made k o at_is u_is (puts h) s_is e_is w_is n_is =
+    rw (w_is, s_is, e_is, u_is, n_is) (puts (in_list refl k o (rw at_is at h)))
+
+pub type_made : {all : List Token} {v : Variable} {i at k s t e : ℕ} {ts us ws : List Tree} → has_type v ≡ true →
+    kind_at all i ≡ kind_of v → kind_at all (i + 1) ≡ kind.Is → at ≡ i + 1 + 1 → us ≡ variable_at all i ∷ ts →
+    IsPath all at k t e → s ≡ start_at all i → ws ≡ made (what.Unary (unaries.Is at k)) s e us →
+    Puts (IsConstraint all v i k) ts ws
+type_made h k o at_is u_is p s_is w_is = rw (w_is, s_is, u_is, at_is) (puts (of_type h k o (rw at_is at p)))
+
+pub type_in_made : {all : List Token} {v : Variable} {i name k at j s t e f : ℕ} {ts us vs ws : List Tree} →
+    has_type v ≡ true → kind_at all i ≡ kind_of v → kind_at all (i + 1) ≡ kind.Is → name ≡ i + 1 + 1 →
+    IsPath all (i + 1 + 1) k t f → kind_at all k ≡ kind.In → at ≡ k + 1 → us ≡ variable_at all i ∷ ts →
+    Puts (IsReference all v at j e) us vs → s ≡ start_at all i →
+    ws ≡ made (what.Binary (binaries.IsIn name k)) s e vs → Puts (IsConstraint all v i j) ts ws
+type_in_made h k o n_is p l at_is u_is (puts r) s_is w_is =
+    rw (w_is, s_is, u_is, n_is) (puts (of_type_in h k o p l (rw at_is at r)))
+
+-- how many trees there are after one more
+pub one_put : {is : Tree → Type 0} {ts us : List Tree} → Puts is ts us → 1 ≤ length us
+one_put (puts h) = omega arith
+
+pub two_put : {is : Tree → Type 0} {p : Tree} {ts us vs : List Tree} → us ≡ p ∷ ts → Puts is us vs → 2 ≤ length vs
+two_put u_is (puts h) = rw u_is (omega arith)
+
+pub one_there : {p : Tree} {ts us : List Tree} → us ≡ p ∷ ts → 1 ≤ length us
+one_there u_is = rw u_is (omega arith)
+
+pub scope_made : {all : List Token} {i a b c d e f n : ℕ} {ts us vs ws : List Tree} →
+    kind_at all i ≡ kind.OpenParen → a ≡ i + 1 → Puts (IsConstraint all variable.Principal a b) ts us →
+    kind_at all b ≡ kind.Comma → c ≡ b + 1 → Puts (IsConstraint all variable.Action c d) us vs →
+    kind_at all d ≡ kind.Comma → e ≡ d + 1 → Puts (IsConstraint all variable.Resource e f) vs ws →
+    kind_at all f ≡ kind.CloseParen → n ≡ f + 1 → PutsScope all i n ts ws
+scope_made k a_is (puts p) l c_is (puts q) m e_is (puts r) o n_is =
+    rw n_is (puts_scope (scope k (rw a_is at p) l (rw c_is at q) m (rw e_is at r) o))
+
+-- ---- clauses
+
+pub negated_made : {all : List Token} {i close h s e : ℕ} {p : Tree} {ts us ws : List Tree} →
+    negates (kind_at all i) ≡ Some true → s ≡ start_at all i → e ≡ end_at all close →
+    ws ≡ made (what.Unary (unaries.Sign Not)) s e us → IsInBraces all (i + 1) close p → h ≡ height p → us ≡ p ∷ ts →
+    PutsClause all i (close + 1) e (h + 1) ts ws
+negated_made k s_is e_is w_is b h_is u_is = rw (w_is, u_is, h_is, s_is, e_is) (puts_clause (clause k b))
+
+pub plain_made : {all : List Token} {i close h e : ℕ} {p : Tree} {ts us : List Tree} →
+    negates (kind_at all i) ≡ Some false → e ≡ end_at all close → IsInBraces all (i + 1) close p → h ≡ height p →
+    us ≡ p ∷ ts → PutsClause all i (close + 1) e h ts us
+plain_made k e_is b h_is u_is = rw (u_is, h_is, e_is) (puts_clause (clause k b))
+
+pub clause_made : {all : List Token} {i limit close h n e g : ℕ} {ts us vs ws : List Tree} →
+    HasReadClause all (i + 1) limit close h us → ((p : Tree) → us ≡ p ∷ [] → vs ≡ p ∷ ts) →
+    ((p : Tree) (ts : List Tree) → IsInBraces all (i + 1) close p → h ≡ height p → vs ≡ p ∷ ts →
+    PutsClause all i n e g ts ws) → PutsClause all i n e g ts ws
+clause_made {ts = ts} (has_read_clause {p = p} b le lt nested) app neg = neg p ts b refl (app p refl)
+
+pub clause_there : {all : List Token} {i limit close h : ℕ} {ts us vs : List Tree} →
+    HasReadClause all i limit close h us → ((p : Tree) → us ≡ p ∷ [] → vs ≡ p ∷ ts) → 1 ≤ length vs
+clause_there (has_read_clause {p = p} b le lt nested) app = one_there (app p refl)
+
+pub clause_within : {all : List Token} {i limit close h : ℕ} {us : List Tree} →
+    HasReadClause all i limit close h us → close < length all
+clause_within (has_read_clause b le lt nested) = lt
+
+pub clause_low : {all : List Token} {i limit close h : ℕ} {us : List Tree} →
+    HasReadClause all i limit close h us → h ≤ limit
+clause_low (has_read_clause b le lt nested) = le
+
+pub first_clause : {all : List Token} {i j s e h : ℕ} {ts us : List Tree} → PutsClause all i j e h ts us →
+    s ≡ start_at all i → PutsClauses all i s j e h ts us
+first_clause (puts_clause (clause k b)) s_is = rw s_is (puts_clauses (one_clause (clause k b)))
+
+pub joined_clauses : {all : List Token} {i j k s e f g h below : ℕ} {ts us vs ws : List Tree} →
+    PutsClauses all i s j e h ts us → PutsClause all j k f g us vs → below ≡ max h g →
+    ws ≡ made (what.Binary binaries.And) s f vs → PutsClauses all i s k f (below + 1) ts ws
+joined_clauses (puts_clauses hs) (puts_clause h) b_is w_is =
+    rw (w_is, b_is) (puts_clauses (one_clause_more hs h))
+
+pub clauses_one : {all : List Token} {i j s e h : ℕ} {ts us : List Tree} → PutsClauses all i s j e h ts us →
+    1 ≤ length us
+clauses_one (puts_clauses hs) = omega arith
+
+pub clause_two : {all : List Token} {i j e h : ℕ} {ts us : List Tree} → 1 ≤ length ts → PutsClause all i j e h ts us →
+    2 ≤ length us
+clause_two le (puts_clause h) = omega (arith, le)
+
+pub condition_made : {all : List Token} {i j s e h limit : ℕ} {ts us : List Tree} → PutsClauses all i s j e h ts us →
+    h ≤ limit → kind_at all j ≡ kind.Semicolon →
+    Puts (λ p. IsCondition all i j p × (height p ≤ limit)) ts us
+condition_made (puts_clauses hs) le k = puts (some_clauses hs k, le)
+
+pub no_condition_made : {all : List Token} {i s e limit : ℕ} {ts ws : List Tree} → kind_at all i ≡ kind.Semicolon →
+    1 ≤ limit → s ≡ start_at all i → e ≡ end_at all i → ws ≡ made (what.Leaf (leaves.Bool true)) s e ts →
+    Puts (λ p. IsCondition all i i p × (height p ≤ limit)) ts ws
+no_condition_made k le s_is e_is w_is = rw (w_is, s_is, e_is) (puts (no_clause k, le))
+
+-- ---- annotations
+
+pub key_read : {all : List Token} {i j key n : ℕ} {xs ys : List Annotation} → kind_at all j ≡ kind.At → key ≡ j + 1 →
+    is_word (kind_at all key) ≡ true → n ≡ key + 1 → ys ≡ xs ++ record { key = key; value = None } ∷ [] →
+    AreAnnotations all i j xs → AreAnnotations all i n ys
+key_read k key_is w n_is y_is h = rw (y_is, n_is, key_is) (one_key h k (rw key_is at w))
+
+pub value_read : {all : List Token} {i j key paren text close n : ℕ} {xs ys : List Annotation} →
+    kind_at all j ≡ kind.At → key ≡ j + 1 → is_word (kind_at all key) ≡ true → paren ≡ key + 1 →
+    kind_at all paren ≡ kind.OpenParen → text ≡ paren + 1 → kind_at all text ≡ kind.Text → close ≡ text + 1 →
+    kind_at all close ≡ kind.CloseParen → n ≡ close + 1 → ys ≡ xs ++ record { key = key; value = Some text } ∷ [] →
+    AreAnnotations all i j xs → AreAnnotations all i n ys
+value_read k key_is w paren_is l text_is m close_is o n_is y_is h =
+    rw (y_is, n_is, close_is, text_is, paren_is, key_is)
+    (one_value h k (rw key_is at w) (rw (paren_is, key_is) at l) (rw (text_is, paren_is, key_is) at m)
+    (rw (close_is, text_is, paren_is, key_is) at o))
+
+-- ---- policies
+
+pub policy_read : {all : List Token} {i limit k l last : ℕ} {us vs : List Tree} (out : PolicySteps) →
+    AreAnnotations all i k out.annotations.items → effect_of (kind_at all k) ≡ Some out.permits →
+    PutsScope all (k + 1) l [] us → Puts (λ p. IsCondition all l last p × (height p ≤ limit)) us vs →
+    trees out.steps.items ≡ vs → out.start ≡ start_at all i → out.end ≡ end_at all last → out.next ≡ last + 1 →
+    last < length all → HasPolicy all i limit out
+policy_read {last = last} out xs b (puts_scope {p = p} {q = q} {r = r} s) (puts {p = t} c) t_is s_is e_is n_is lt =
+    record {
+      last = last;
+      principal = p;
+      action = q;
+      resource = r;
+      condition = t;
+      derives = policy xs b s c.0;
+      makes = t_is;
+      low = c.1;
+      start = s_is;
+      end = e_is;
+      next = n_is;
+      within = lt;
+    }

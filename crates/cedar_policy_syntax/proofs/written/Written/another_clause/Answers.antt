@@ -1,0 +1,10 @@
+use Rattle.std.proofs.Common.{◌≡◌, ◌≤◌, ◌∷◌, [], sym, ◌∙◌, refl, arith}
+use Rattle.cedar_policy_syntax.proofs.Turns.{joined_clauses, clause_two}
+use Rattle.cedar_policy_syntax.proofs.written.Written.another_clause.Goals as goal
+
+pub put-requires : goal.put-requires
+put-requires c = clause_two c.requires c.in_ok-more.ensures.ok
+
+pub returns-clause-ok : goal.returns-clause-ok
+returns-clause-ok c =
+    λ i ts h. joined_clauses h c.in_ok-more.ensures.ok c.higher-below.ensures c.in_ok-put.ensures.ok
