@@ -50,6 +50,7 @@ pub struct Answer {
     pub alloc: Global,
     text: String,
     why: Option<Unanswered>,
+    is_behind: bool,
 }
 
 impl Answer {
@@ -59,6 +60,7 @@ impl Answer {
             alloc,
             text: String::new(alloc),
             why: None,
+            is_behind: false,
         }
     }
 
@@ -103,6 +105,21 @@ impl Answer {
     pub fn put_char(&mut self, character: char) {
         let done = self.text.push(character);
         self.note(done);
+    }
+
+    /// Writes what stands between two items of a list, if there is one before.
+    pub fn next(&mut self, between: &str) {
+        if self.is_behind {
+            self.put(between);
+        }
+        self.is_behind = true;
+    }
+
+    /// Writes this word, where the list has no item.
+    pub fn put_if_none(&mut self, word: &str) {
+        if !self.is_behind {
+            self.put(word);
+        }
     }
 
     /// Writes what it prints as.
