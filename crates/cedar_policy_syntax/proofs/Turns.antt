@@ -15,7 +15,7 @@ use Rattle.cedar_syntax.specs.declared.steps.Bracketed.TheVariants.{Set}
 use Rattle.cedar_syntax.specs.declared.steps.What.TheVariants as what
 use Rattle.cedar_syntax.specs.declared.steps.Step.{Step}
 use Rattle.cedar_syntax.specs.Tokens.{kind_at, start_at, end_at}
-use Rattle.cedar_syntax.specs.Trees.{Tree, Trees, none, also, bracketed, height, count, stacked, gathered, left_below}
+use Rattle.cedar_syntax.specs.Trees.{Tree, Trees, none, also, binary, bracketed, height, count, stacked, gathered, left_below}
 use Rattle.cedar_syntax.specs.Trees.{made, trees, FindParts}
 use Rattle.cedar_syntax.specs.Grammar.{IsPath, one_name, name_inside, IsInBraces}
 use Rattle.cedar_syntax.specs.Reading.{HasReadClause, has_read_clause}
@@ -46,10 +46,10 @@ name_more c n_is w f_is h = rw (f_is, n_is) (name_inside h c (rw n_is at w))
 
 -- ---- steps behind others
 
-pub kept : {xs ys zs : List Step} (ok : Bool) → zs ≡ (if ok then xs ++ ys else xs) → FindParts [] xs →
+pub kept : {zs : List Step} (xs ys : List Step) (ok : Bool) → zs ≡ (if ok then xs ++ ys else xs) → FindParts [] xs →
     FindParts [] ys → FindParts [] zs
-kept {xs = xs} {ys = ys} true is h g = rw is (find_appended xs ys h g)
-kept false is h g = rw is h
+kept xs ys true is h g = rw is (find_appended xs ys h g)
+kept xs ys false is h g = rw is h
 
 -- ---- scopes
 
@@ -75,7 +75,7 @@ first_put (puts h) = puts_entities (one_entity h)
 pub another_put : {all : List Token} {i j k n at e : ℕ} {ts us ws : List Tree} → PutsEntities all i j n ts us →
     kind_at all j ≡ kind.Comma → at ≡ j + 1 → Puts (IsEntity all at k e) us ws → PutsEntities all i k (n + 1) ts ws
 another_put {ts = ts} (puts_entities {ps = ps} hs) k at_is (puts h) =
-    rw add-one (count ps) (puts_entities (one_entity_more hs k (rw at_is at h)))
+    rw (add-one (count ps)) (puts_entities (one_entity_more hs k (rw at_is at h)))
 
 gathered-stacked : (ps : Trees) (ts : List Tree) → gathered (count ps) (stacked ps ts) ≡ ps
 gathered-stacked none ts = refl
@@ -110,23 +110,23 @@ pub unconstrained_made : {all : List Token} {v : Variable} {i s e : ℕ} {ts ws 
     ws ≡ made (what.Leaf (leaves.Bool true)) s e ts → Puts (IsConstraint all v i (i + 1)) ts ws
 unconstrained_made k s_is e_is w_is = rw (w_is, s_is, e_is) (puts (unconstrained k))
 
-pub variable_made : {all : List Token} {i s e : ℕ} {ts ws : List Tree} → s ≡ start_at all i → e ≡ end_at all i →
-    ws ≡ made (what.Leaf (leaves.Variable i)) s e ts → ws ≡ variable_at all i ∷ ts
-variable_made s_is e_is w_is = rw (w_is, s_is, e_is) refl
+both_made : {b : Binary} {s e : ℕ} {x p : Tree} {ts us : List Tree} → us ≡ x ∷ ts →
+    made (what.Binary b) s e (p ∷ us) ≡ binary b x p s e ∷ ts
+both_made u_is = rw u_is refl
 
 pub compared_made : {all : List Token} {v : Variable} {b : Binary} {o : Kind} {i at j s e : ℕ}
     {ts us vs ws : List Tree} → kind_at all i ≡ kind_of v → kind_at all (i + 1) ≡ o → relation_of o ≡ Some b →
     at ≡ i + 1 + 1 → us ≡ variable_at all i ∷ ts → Puts (IsReference all v at j e) us vs → s ≡ start_at all i →
     ws ≡ made (what.Binary b) s e vs → Puts (IsConstraint all v i j) ts ws
 compared_made k o_is r at_is u_is (puts h) s_is w_is =
-    rw (w_is, s_is, u_is) (puts (compared k (rw o_is r) (rw at_is at h)))
+    rw (w_is, both_made u_is, s_is) (puts (compared k (rw o_is r) (rw at_is at h)))
 
 pub list_made : {all : List Token} {i at j n s e : ℕ} {ts us vs ws : List Tree} → kind_at all i ≡ kind.Action →
     kind_at all (i + 1) ≡ kind.In → at ≡ i + 1 + 1 → us ≡ variable_at all i ∷ ts → Puts (IsSet all at j) us vs →
     s ≡ start_at all i → e ≡ end_at all j → ws ≡ made (what.Binary binaries.In) s e vs → n ≡ j + 1 →
     Puts (IsConstraint all variable.Action i n) ts ws
 list_made k o at_is u_is (puts h) s_is e_is w_is n_is =
-    rw (w_is, s_is, e_is, u_is, n_is) (puts (in_list refl k o (rw at_is at h)))
+    rw (w_is, both_made u_is, s_is, e_is, n_is) (puts (in_list refl k o (rw at_is at h)))
 
 pub type_made : {all : List Token} {v : Variable} {i at k s t e : ℕ} {ts us ws : List Tree} → has_type v ≡ true →
     kind_at all i ≡ kind_of v → kind_at all (i + 1) ≡ kind.Is → at ≡ i + 1 + 1 → us ≡ variable_at all i ∷ ts →
@@ -140,7 +140,7 @@ pub type_in_made : {all : List Token} {v : Variable} {i name k at j s t e f : �
     Puts (IsReference all v at j e) us vs → s ≡ start_at all i →
     ws ≡ made (what.Binary (binaries.IsIn name k)) s e vs → Puts (IsConstraint all v i j) ts ws
 type_in_made h k o n_is p l at_is u_is (puts r) s_is w_is =
-    rw (w_is, s_is, u_is, n_is) (puts (of_type_in h k o p l (rw at_is at r)))
+    rw (w_is, both_made u_is, s_is, n_is) (puts (of_type_in h k o p l (rw at_is at r)))
 
 -- how many trees there are after one more
 pub one_put : {is : Tree → Type 0} {ts us : List Tree} → Puts is ts us → 1 ≤ length us

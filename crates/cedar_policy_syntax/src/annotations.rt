@@ -1,5 +1,5 @@
 //! The annotations of a policy, before its effect.
-ghost use Rattle.std.specs.Prelude.{◌≡◌, ◌+◌, ◌<◌, true, length, IfOk, IfErr, ℕ};
+ghost use Rattle.std.specs.Prelude.{◌≡◌, ◌+◌, ◌<◌, ◌++◌, ◌∷◌, [], true, length, IfOk, IfErr, ℕ};
 ghost use Rattle.cedar_syntax.specs.Places.{IsPlaced};
 ghost use Rattle.cedar_syntax.specs.Tokens as Tokens;
 ghost use Rattle.cedar_tokens.specs.declared.tokens.Kind.TheVariants as kind;
@@ -53,7 +53,7 @@ fn annotation(
         let next = annotation_value(annotations, tokens, index, key, behind)?;
         return Ok(next);
     }
-    annotations.push(Annotation { key, value: None })?;
+    put(annotations, tokens, Annotation { key, value: None })?;
     Ok(behind)
 }
 
@@ -76,9 +76,21 @@ fn annotation_value(
     let text = expect(tokens, paren, Kind::OpenParen, Expected::OpenParen)?;
     let close = expect(tokens, text, Kind::Text, Expected::Text)?;
     let next = expect(tokens, close, Kind::CloseParen, Expected::CloseParen)?;
-    annotations.push(Annotation {
-        key,
-        value: Some(text),
-    })?;
+    let value = Some(text);
+    put(annotations, tokens, Annotation { key, value })?;
     Ok(next)
+}
+
+fn put(
+    annotations: &mut Vec<Annotation>,
+    tokens: &[Token],
+    annotation: Annotation,
+) -> Result<(), ReadError>
+    ensures ok { IfOk result (λ _. annotations.new.items ≡ annotations.old.items ++ annotation ∷ []) }
+    ensures err { IfErr result (λ error. IsPlaced tokens.now error) }
+{
+    match annotations.push(annotation) {
+        Ok(()) => Ok(()),
+        Err(_) => Err(ReadError::Memory),
+    }
 }

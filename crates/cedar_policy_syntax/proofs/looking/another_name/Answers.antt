@@ -5,5 +5,5 @@ use Rattle.cedar_policy_syntax.proofs.looking.another_name.Goals as goal
 pub returns-then-is_identifier_at : goal.returns-then-is_identifier_at
 returns-then-is_identifier_at c =
     λ i s e h.
-    name_more c.in_some-name.ensures.is c.in_some-name.ensures.next
+    name_more c.in_ok-name.ensures.is c.in_ok-name.ensures.next
     (sym c.is_identifier_at.ensures ∙ c.if-is_identifier_at.true) c.end_at.ensures h

@@ -7,7 +7,7 @@ use Rattle.cedar_policy_syntax.proofs.written.Written.append.Goals as goal
 
 pub invariant_of-self : goal.invariant_of-self
 invariant_of-self c = record {
-  made = kept (is_ok c.extend_from_slice.result) c.extend_from_slice.ensures.items c.args.self.now.made c.requires;
+  made = kept c.args.self.now.steps.items c.args.more.now (is_ok c.extend_from_slice.result) c.extend_from_slice.ensures.items c.args.self.now.made c.requires;
 }
 
 pub returns-in-Ok-clause-ok : goal.returns-in-Ok-clause-ok

@@ -1,4 +1,3 @@
-use Rattle.std.proofs.Common.{◌≡◌, ◌≤◌, ◌∷◌, [], sym, ◌∙◌, refl, arith}
 use Rattle.cedar_policy_syntax.proofs.Turns.{negated_made, plain_made}
 use Rattle.cedar_policy_syntax.proofs.written.Written.negated.Goals as goal
 

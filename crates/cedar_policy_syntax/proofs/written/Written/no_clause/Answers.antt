@@ -1,4 +1,4 @@
-use Rattle.std.proofs.Common.{◌≡◌, ◌≤◌, ◌∷◌, [], sym, ◌∙◌, refl, arith}
+use Rattle.std.proofs.Common.{arith}
 use Rattle.cedar_policy_syntax.proofs.Turns.{no_condition_made}
 use Rattle.cedar_policy_syntax.proofs.written.Written.no_clause.Goals as goal
 

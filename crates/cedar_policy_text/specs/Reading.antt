@@ -1,0 +1,146 @@
+-- Which policies a text is.
+use Rattle.std.specs.Prelude.{◌≡◌, ◌≢◌, ℕ, ◌+◌, ◌<◌, ◌≤◌, Bool, true, false, if◌then◌else◌, List, [], ◌∷◌, ◌++◌, length, map, Option, None, Some, codes, decimal}
+use Rattle.std.specs.Map.{insert_entry, keys_of}
+use Rattle.std.specs.Rc.{rc_str_bytes}
+use Rattle.std.specs.declared.alloc.Global.{Global}
+use Rattle.std.specs.declared.rc.RcStr.{RcStr}
+use Rattle.cedar_model.specs.Agreement.{no_slots}
+use Rattle.cedar_model.specs.Policies.{permit, forbid}
+use Rattle.cedar_expressions.specs.Nodes.{key_order}
+use Rattle.cedar_expressions.specs.Records.{is_among}
+use Rattle.cedar_layers.specs.Policies.{policy_view, policy_parts, policy_location, policy_id_text, policy_of, condition_parts}
+use Rattle.cedar_layers.specs.Policies.{effect_view, annotations_view, ConditionParts}
+use Rattle.cedar_layers.specs.PolicySets.{stored_policies}
+use Rattle.cedar_layers.specs.declared.policies.policy.Annotations.{Annotations}
+use Rattle.cedar_layers.specs.declared.policies.policy.Policy.{Policy}
+use Rattle.cedar_layers.specs.declared.policies.policy.PolicyID.{PolicyID}
+use Rattle.cedar_names.specs.declared.names.Loc.{Loc}
+use Rattle.cedar_tokens.specs.Tokens.{IsTokens}
+use Rattle.cedar_tokens.specs.declared.tokens.Kind.{Kind}
+use Rattle.cedar_tokens.specs.declared.tokens.Kind.TheVariants as kind
+use Rattle.cedar_tokens.specs.declared.tokens.Token.{Token}
+use Rattle.cedar_syntax.specs.Tokens.{kind_at, start_at, end_at}
+use Rattle.cedar_syntax.specs.Trees.{Tree, height}
+use Rattle.cedar_policy_syntax.specs.Grammar.{PolicyTree, IsPolicy}
+use Rattle.cedar_policy_syntax.specs.declared.policies.Annotation.{Annotation}
+use Rattle.cedar_text.specs.Building.{Is}
+use Rattle.cedar_text.specs.Wording.{word_at, IsTextAt, place}
+use Rattle.cedar_text.specs.declared.reading.Four.{Four}
+use Rattle.cedar_policy_text.specs.declared.policies.ParsedPolicies.{ParsedPolicies}
+use Rattle.cedar_policy_text.specs.declared.policies.Reading.{Reading}
+
+-- ---- annotations
+
+-- the value of an annotation: the text of this token, or none
+abbrev pub IsValueAt : List ℕ → List Token → Option ℕ → List ℕ → Type 0
+IsValueAt text all None v = v ≡ []
+IsValueAt text all (Some i) v = IsTextAt text all i v
+
+-- a map of annotations
+abbrev pub Annotated : Type 0
+Annotated = List (RcStr Global × RcStr Global)
+
+-- the keys of annotations
+abbrev pub keys_there : Annotated → List (List ℕ)
+keys_there es = map (λ e. rc_str_bytes e.0) es
+
+-- the map has each annotation under its key, and no key comes twice
+pub data AreAnnotated (text : List ℕ) (all : List Token) : List Annotation → Annotated → Type 0 where
+  none_annotated : AreAnnotated text all [] []
+  annotated_behind : {xs : List Annotation} {es : Annotated} {x : Annotation} {key value : RcStr Global} →
+      AreAnnotated text all xs es → rc_str_bytes key ≡ word_at text all x.key →
+      IsValueAt text all x.value (rc_str_bytes value) → is_among (rc_str_bytes key) (keys_there es) ≡ false →
+      AreAnnotated text all (xs ++ x ∷ []) (insert_entry key_order es key value)
+
+-- ---- policies
+
+-- the policy of these parts
+pub record IsMadeOf (permits : Bool) (id : PolicyID) (a : Annotations) (four : Four) (loc : Loc) (p : Policy) : Type 0 where
+  pub effect : (policy_view p).effect ≡ (if permits then permit else forbid)
+  pub id : (policy_view p).id ≡ policy_id_text id
+  pub annotations : (policy_view p).annotations ≡ annotations_view a
+  pub parts : policy_parts p ≡ condition_parts four.principal four.action four.resource four.condition
+  pub slots : (policy_view p).slots ≡ no_slots
+  pub loc : policy_location p ≡ Some loc
+
+-- tokens i up to, but not including, j are the policy of this id: each part of it is that of the tree which they derive,
+-- and its condition is no higher than the limit
+pub record IsPolicyAt (text : List ℕ) (all : List Token) (limit : ℕ) (id : List ℕ) (i j : ℕ) (p : Policy) : Type 0 where
+  pub last : ℕ
+  pub tree : PolicyTree
+  pub annotated : Annotated
+  pub derives : IsPolicy all i last tree
+  pub next : j ≡ last + 1
+  pub within : last < length all
+  pub low : height tree.condition ≤ limit
+  pub id : (policy_view p).id ≡ id
+  pub effect : (policy_view p).effect ≡ (if tree.permits then permit else forbid)
+  pub are_annotations : AreAnnotated text all tree.annotations annotated
+  pub annotations : (policy_view p).annotations ≡ map (λ e. (rc_str_bytes e.0, rc_str_bytes e.1)) annotated
+  pub principal : Is text all (policy_parts p).principal tree.principal
+  pub action : Is text all (policy_parts p).action tree.action
+  pub resource : Is text all (policy_parts p).resource tree.resource
+  pub condition : Is text all (policy_parts p).when tree.condition
+  pub slots : (policy_view p).slots ≡ no_slots
+  pub loc : policy_location p ≡ place (start_at all i) (end_at all last)
+
+-- the text is one policy of this id
+pub record IsPolicyText (text : List ℕ) (limit : ℕ) (id : List ℕ) (p : Policy) : Type 0 where
+  pub tokens : List Token
+  pub behind : ℕ
+  pub cut : IsTokens 0 text tokens
+  pub policy : IsPolicyAt text tokens limit id 0 behind p
+  pub ends : kind_at tokens behind ≡ kind.End
+  pub whole : behind + 1 ≡ length tokens
+
+-- ---- policies in order
+
+-- the id of the policy of this number
+abbrev pub id_of : ℕ → List ℕ
+id_of n = codes "policy" ++ decimal n
+
+-- a token of this kind is a slot
+abbrev pub is_slot : Kind → Bool
+is_slot kind.PrincipalSlot = true
+is_slot kind.ResourceSlot = true
+is_slot _ = false
+
+-- whether a slot stands among tokens i up to, but not including, j
+abbrev pub HasSlot : List Token → ℕ → ℕ → Type 0
+HasSlot all i j = (k : ℕ) × (i ≤ k) × (k < j) × (is_slot (kind_at all k) ≡ true)
+
+abbrev pub HasNoSlot : List Token → ℕ → ℕ → Type 0
+HasNoSlot all i j = (k : ℕ) → i ≤ k → k < j → is_slot (kind_at all k) ≡ false
+
+-- the tokens before number i are n policies: those without slots, and the templates, each in order
+pub data ArePolicies (text : List ℕ) (all : List Token) (limit : ℕ) : ℕ → ℕ → List Policy → List Policy → Type 0 where
+  no_policies : ArePolicies text all limit 0 0 [] []
+  policy_behind : {i j n : ℕ} {ps ts : List Policy} {p : Policy} → ArePolicies text all limit i n ps ts →
+      IsPolicyAt text all limit (id_of n) i j p → HasNoSlot all i j →
+      ArePolicies text all limit j (n + 1) (ps ++ p ∷ []) ts
+  template_behind : {i j n : ℕ} {ps ts : List Policy} {p : Policy} → ArePolicies text all limit i n ps ts →
+      IsPolicyAt text all limit (id_of n) i j p → HasSlot all i j →
+      ArePolicies text all limit j (n + 1) ps (ts ++ p ∷ [])
+
+-- the policies of the whole text: those without slots, and the templates
+pub record AreRead (text : List ℕ) (limit : ℕ) (ps ts : List Policy) : Type 0 where
+  pub tokens : List Token
+  pub behind : ℕ
+  pub count : ℕ
+  pub cut : IsTokens 0 text tokens
+  pub policies : ArePolicies text tokens limit behind count ps ts
+  pub ends : kind_at tokens behind ≡ kind.End
+  pub whole : behind + 1 ≡ length tokens
+
+abbrev pub AreAllRead : List ℕ → ℕ → ParsedPolicies → Type 0
+AreAllRead text limit out = AreRead text limit (stored_policies out.policies) out.templates.items
+
+-- ---- on the way
+
+-- where nothing was refused, the tokens before number i are n policies
+abbrev pub IsSoFar : List ℕ → List Token → ℕ → ℕ → ℕ → Reading → Type 0
+IsSoFar text all limit i n r = r.errors.items ≡ [] → ArePolicies text all limit i n r.policies.items r.templates.items
+
+-- where nothing was refused, all is read
+abbrev pub IsRead : List ℕ → ℕ → Reading → Type 0
+IsRead text limit r = r.errors.items ≡ [] → AreRead text limit r.policies.items r.templates.items

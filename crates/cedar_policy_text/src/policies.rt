@@ -1,0 +1,303 @@
+//! Policies of a text.
+ghost use Rattle.std.specs.Prelude.{◌≡◌, ◌+◌, ◌++◌, ◌∷◌, ℕ, List, [], length, All, IfOk, IfSome, IfNone};
+ghost use Rattle.cedar_layers.specs.Policies.{policy_id_text};
+ghost use Rattle.cedar_tokens.specs.Values.{Stands};
+ghost use Rattle.cedar_tokens.specs.declared.tokens.Kind.TheVariants as kind;
+ghost use Rattle.cedar_syntax.specs.Tokens as Tokens;
+ghost use Rattle.cedar_policy_text.specs.Reading.{IsPolicyText, IsPolicyAt, AreAllRead, HasSlot, HasNoSlot};
+ghost use Rattle.cedar_policy_text.specs.Reading.{is_slot, id_of, IsSoFar, IsRead};
+ghost use Rattle.cedar_tokens.specs.Tokens.{IsTokens};
+
+use crate::annotations::token_at;
+use crate::reading::{Read, policy_at};
+use cedar_layers::policies::{Policy, PolicyID, PolicySet, PolicySetError};
+use cedar_names::FirstRest;
+use cedar_syntax::expected_at;
+use cedar_tokens::errors::{Expected, ReadError};
+use cedar_tokens::lexer;
+use cedar_tokens::tokens::{Kind, Token};
+use std::alloc::{AllocError, Global};
+use std::rc::RcStr;
+
+/// The policies of a text: those that can be used as they are, and those with slots, which a link gives their values.
+#[derive(Drop)]
+pub struct ParsedPolicies {
+    /// The policies without slots, in the order of the text.
+    pub policies: PolicySet,
+    /// The policies with slots, in the order of the text.
+    pub templates: Vec<Policy>,
+}
+
+/// The policy of this id that the text writes. Its condition has at most `limit` levels, counted as an evaluator counts
+/// them.
+///
+/// # Errors
+///
+/// Memory was wanting. Something else was expected than what stands there, at its place in the text. The condition has
+/// more levels.
+pub fn parse_policy(
+    alloc: Global,
+    id: PolicyID,
+    text: &str,
+    limit: usize,
+) -> Result<Policy, ReadError>
+    ensures ok { IfOk result (IsPolicyText text.now limit (policy_id_text id)) }
+{
+    let tokens = lexer::tokens(alloc, text)?;
+    let read = policy_at(alloc, text, tokens.as_slice(), 0, id, limit)?;
+    ends_at(tokens.as_slice(), read.next)?;
+    Ok(read.policy)
+}
+
+// That the token of this number is the last, of kind `End`.
+fn ends_at(tokens: &[Token], index: usize) -> Result<(), ReadError>
+    ensures is { IfOk result (λ _. Tokens.kind_at tokens.now index ≡ kind.End) }
+    ensures last { IfOk result (λ _. index + 1 ≡ length tokens.now) }
+{
+    if index < tokens.len() && index + 1 == tokens.len() {
+        end_there(tokens, index)
+    } else {
+        Err(expected_at(tokens, index, Expected::End))
+    }
+}
+
+fn end_there(tokens: &[Token], index: usize) -> Result<(), ReadError>
+    ensures is { IfOk result (λ _. Tokens.kind_at tokens.now index ≡ kind.End) }
+{
+    match token_at(tokens, index).kind {
+        Kind::End => Ok(()),
+        _ => Err(expected_at(tokens, index, Expected::End)),
+    }
+}
+
+/// The policies that the text writes, with the ids `policy0`, `policy1` and so on. The condition of each has at most
+/// `limit` levels, counted as an evaluator counts them.
+///
+/// # Errors
+///
+/// All policies that can't be read, in the order of the text: reading goes on behind the next `;`. Each error stands at
+/// its place in the text. Memory was wanting: that error is alone.
+pub fn parse_policies(
+    alloc: Global,
+    text: &str,
+    limit: usize,
+) -> Result<ParsedPolicies, FirstRest<ReadError>>
+    ensures ok { IfOk result (AreAllRead text.now limit) }
+{
+    match read_all(alloc, text, limit) {
+        Ok(reading) => reading.finished(alloc),
+        Err(AllocError) => Err(alone(alloc, ReadError::Memory)),
+    }
+}
+
+fn alone(alloc: Global, error: ReadError) -> FirstRest<ReadError> {
+    FirstRest {
+        first: error,
+        rest: Vec::new(alloc),
+    }
+}
+
+// What was read so far.
+#[derive(Drop)]
+struct Reading {
+    policies: Vec<Policy>,
+    templates: Vec<Policy>,
+    errors: Vec<ReadError>,
+}
+
+// Reads all policies of the text.
+fn read_all(alloc: Global, text: &str, limit: usize) -> Result<Reading, AllocError>
+    ensures ok { IfOk result (IsRead text.now limit) }
+{
+    let tokens = lexer::tokens(alloc, text)?;
+    let mut reading = Reading::new(alloc);
+    let mut index = 0;
+    for number in 0..tokens.len() {
+        if index + 1 >= tokens.len() {
+            return reading.ended(tokens.as_slice(), index);
+        }
+        index = reading.take(alloc, text, tokens.as_slice(), index, number, limit)?;
+    }
+    reading.ended(tokens.as_slice(), index)
+}
+
+impl Reading {
+    fn new(alloc: Global) -> Reading
+        ensures policies { result.policies.items ≡ [] }
+        ensures templates { result.templates.items ≡ [] }
+    {
+        Reading {
+            policies: Vec::new(alloc),
+            templates: Vec::new(alloc),
+            errors: Vec::new(alloc),
+        }
+    }
+
+    // Takes the policy of this number that begins with the token `index`; the number of the token behind it.
+    fn take(
+        &mut self,
+        alloc: Global,
+        text: &str,
+        tokens: &[Token],
+        index: usize,
+        number: usize,
+        limit: usize,
+    ) -> Result<usize, AllocError>
+        requires { All (Stands text.now) tokens.now }
+        ensures ok { IfOk result (λ next. IsSoFar text.now tokens.now limit index number self.old →
+            IsSoFar text.now tokens.now limit next (number + 1) self.new) }
+    {
+        let id = numbered(alloc, number)?;
+        match policy_at(alloc, text, tokens, index, id, limit) {
+            Ok(read) => {
+                let next = self.put(tokens, index, read)?;
+                Ok(next)
+            }
+            Err(error) => {
+                let next = self.refuse(tokens, index, error)?;
+                Ok(next)
+            }
+        }
+    }
+
+    // Puts the policy behind the others, or behind the other templates.
+    fn put(&mut self, tokens: &[Token], index: usize, read: Read) -> Result<usize, AllocError>
+        ensures next { IfOk result (λ next. next ≡ read.next) }
+        ensures ok { (text : List ℕ) (limit number : ℕ) → IfOk result (λ next.
+            IsPolicyAt text tokens.now limit (id_of number) index read.next read.policy →
+            IsSoFar text tokens.now limit index number self.old →
+            IsSoFar text tokens.now limit next (number + 1) self.new) }
+    {
+        let Read { policy, next } = read;
+        match slot_among(tokens, index, next) {
+            Some(_) => push(&mut self.templates, policy)?,
+            None => push(&mut self.policies, policy)?,
+        }
+        Ok(next)
+    }
+
+    // Notes why the policy can't be read that begins with the token of this number, and goes on behind the next `;`.
+    fn refuse(
+        &mut self,
+        tokens: &[Token],
+        index: usize,
+        error: ReadError,
+    ) -> Result<usize, AllocError>
+        ensures ok { (text : List ℕ) (limit i n : ℕ) → IfOk result (λ _. IsSoFar text tokens.now limit i n self.new) }
+    {
+        let start = match error {
+            ReadError::Memory => return Err(AllocError),
+            ReadError::Expected { start, .. } => start,
+            ReadError::TooDeep { start, .. } => start,
+        };
+        push(&mut self.errors, error)?;
+        Ok(behind_semicolon(tokens, index, start))
+    }
+
+    // That was all: the token of this number is the last.
+    fn ended(self, tokens: &[Token], index: usize) -> Result<Reading, AllocError>
+        ensures ok { (text : List ℕ) (limit number : ℕ) → IfOk result (λ r. IsTokens 0 text tokens.now →
+            IsSoFar text tokens.now limit index number self → IsRead text limit r) }
+    {
+        match ends_at(tokens, index) {
+            Ok(()) => Ok(self),
+            Err(error) => self.refused(error),
+        }
+    }
+
+    fn refused(self, error: ReadError) -> Result<Reading, AllocError>
+        ensures ok { (text : List ℕ) (limit : ℕ) → IfOk result (IsRead text limit) }
+    {
+        let mut reading = self;
+        push(&mut reading.errors, error)?;
+        Ok(reading)
+    }
+
+    // The policies, if each could be read.
+    fn finished(self, alloc: Global) -> Result<ParsedPolicies, FirstRest<ReadError>>
+        ensures ok { (text : List ℕ) (limit : ℕ) → IfOk result (λ out. IsRead text limit self → AreAllRead text limit out) }
+    {
+        let Reading {
+            policies,
+            templates,
+            errors,
+        } = self;
+        if !errors.is_empty() {
+            return Err(first_of(alloc, errors));
+        }
+        match PolicySet::try_from_iter(alloc, policies) {
+            Ok(policies) => Ok(ParsedPolicies {
+                policies,
+                templates,
+            }),
+            Err(_) => Err(alone(alloc, ReadError::Memory)),
+        }
+    }
+}
+
+fn first_of(alloc: Global, errors: Vec<ReadError>) -> FirstRest<ReadError> {
+    let mut errors = errors;
+    if errors.is_empty() {
+        return alone(alloc, ReadError::Memory);
+    }
+    let first = errors.remove(0);
+    FirstRest {
+        first,
+        rest: errors,
+    }
+}
+
+// The id of the policy of this number.
+fn numbered(alloc: Global, number: usize) -> Result<PolicyID, AllocError>
+    ensures { IfOk result (λ id. policy_id_text id ≡ id_of number) }
+{
+    let id = format!(in alloc; "policy{number}")?;
+    Ok(PolicyID::from_string(RcStr::from_string(id)?))
+}
+
+fn push<T: Drop>(items: &mut Vec<T>, item: T) -> Result<(), AllocError>
+    ensures { IfOk result (λ _. items.new.items ≡ items.old.items ++ item ∷ []) }
+{
+    match items.push(item) {
+        Ok(()) => Ok(()),
+        Err(_) => Err(AllocError),
+    }
+}
+
+// A slot among the tokens from the one number up to, but not including, the other.
+fn slot_among(tokens: &[Token], from: usize, to: usize) -> Option<usize>
+    ensures some { IfSome result (λ k. HasSlot tokens.now from to) }
+    ensures none { IfNone result (HasNoSlot tokens.now from to) }
+{
+    for index in from..to {
+        if is_slot(token_at(tokens, index).kind) {
+            return Some(index);
+        }
+    }
+    None
+}
+
+fn is_slot(kind: Kind) -> bool
+    ensures { result ≡ is_slot kind }
+{
+    match kind {
+        Kind::PrincipalSlot => true,
+        Kind::ResourceSlot => true,
+        _ => false,
+    }
+}
+
+// The number of the token behind the first `;` that does not end before this byte; of the last token, if there is none.
+fn behind_semicolon(tokens: &[Token], from: usize, start: usize) -> usize {
+    for index in from..tokens.len() {
+        let token = tokens[index];
+        if token.kind == Kind::Semicolon && token.start >= start {
+            return index + 1;
+        }
+    }
+    if tokens.is_empty() {
+        0
+    } else {
+        tokens.len() - 1
+    }
+}

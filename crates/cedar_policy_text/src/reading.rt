@@ -1,0 +1,78 @@
+//! One policy of a text.
+ghost use Rattle.std.specs.Prelude.{◌≡◌, All, IfOk, IfErr, Some, true, false};
+ghost use Rattle.cedar_layers.specs.Policies.{policy_id_text};
+ghost use Rattle.cedar_tokens.specs.Values.{Stands};
+ghost use Rattle.cedar_policy_text.specs.Reading.{IsPolicyAt, IsMadeOf};
+
+use crate::annotations::annotations;
+use cedar_layers::policies::{Annotations, Effect, Policy, PolicyID};
+use cedar_names::{Loc, SlotEnv};
+use cedar_policy_syntax::policy_steps;
+use cedar_text::{Four, four_expressions};
+use cedar_tokens::errors::ReadError;
+use cedar_tokens::tokens::Token;
+use std::alloc::{AllocError, Global};
+
+/// A policy, and the number of the token behind it.
+#[derive(Drop)]
+pub(crate) struct Read {
+    pub(crate) policy: Policy,
+    pub(crate) next: usize,
+}
+
+/// The policy of this id that begins with the token of this number.
+pub(crate) fn policy_at(
+    alloc: Global,
+    text: &str,
+    tokens: &[Token],
+    index: usize,
+    id: PolicyID,
+    limit: usize,
+) -> Result<Read, ReadError>
+    requires { All (Stands text.now) tokens.now }
+    ensures ok { IfOk result (λ r. IsPolicyAt text.now tokens.now limit (policy_id_text id) index r.next r.policy) }
+{
+    let read = policy_steps(alloc, tokens, index, limit)?;
+    let four = four_expressions(alloc, text, tokens, read.steps.as_slice())?;
+    let annotations = annotations(alloc, text, tokens, read.annotations.as_slice())?;
+    let loc = Loc {
+        start: read.start,
+        end: read.end,
+    };
+    let policy = made(alloc, read.permits, id, annotations, four, loc)?;
+    Ok(Read {
+        policy,
+        next: read.next,
+    })
+}
+
+// The policy of these parts.
+fn made(
+    alloc: Global,
+    permits: bool,
+    id: PolicyID,
+    annotations: Annotations,
+    four: Four,
+    loc: Loc,
+) -> Result<Policy, AllocError>
+    ensures ok { IfOk result (IsMadeOf permits id annotations four loc) }
+{
+    let effect = if permits {
+        Effect::Permit
+    } else {
+        Effect::Forbid
+    };
+    let env = SlotEnv::new(alloc);
+    let policy = Policy::new(
+        alloc,
+        effect,
+        id,
+        annotations,
+        four.principal,
+        four.action,
+        four.resource,
+        four.condition,
+        env,
+    )?;
+    Ok(policy.with_maybe_source_loc(Some(loc)))
+}
