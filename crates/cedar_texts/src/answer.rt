@@ -107,10 +107,10 @@ impl Answer {
         self.note(done);
     }
 
-    /// Writes what stands between two items of a list, if there is one before.
-    pub fn next(&mut self, between: &str) {
+    /// Writes `; ` if an item of the list stands before, and notes that one stands there now.
+    pub fn next(&mut self) {
         if self.is_behind {
-            self.put(between);
+            self.put("; ");
         }
         self.is_behind = true;
     }

@@ -4,6 +4,7 @@
 
 mod answer;
 mod places;
+mod policies;
 mod questions;
 mod rows;
 mod signs;

@@ -4,15 +4,23 @@
 //! - `places`: where its nodes stand;
 //! - `within LIMIT`: the tree within so many levels, or where what has more stands: `LINE:COLUMN too deep`;
 //! - `levels`: the least limit within which it is read;
-//! - `entity`: the entity, as a tree, and `name`: the name.
+//! - `entity`: the entity, as a tree, and `name`: the name;
+//! - `policies`: the policies and templates, or why each policy that can't be read can't;
+//! - `policy-places`: where they stand, and where the nodes of their three constraints and their condition do;
+//! - `policy`: the only policy.
 use crate::answer::Answer;
 use crate::places::put_places;
+use crate::policies::{put_policies, put_policy};
 use crate::trees::{put_entity, put_tree};
 use cedar_expressions::Expr;
+use cedar_layers::policies::PolicyID;
+use cedar_names::FirstRest;
+use cedar_policy_text::{parse_policies, parse_policy};
 use cedar_text::{parse_entity_uid, parse_expr, parse_name};
 use cedar_tokens::errors::{Expected, ReadError};
 use cedar_tokens::show::locate;
 use cedar_tokens::tokens::Kind;
+use std::rc::RcStr;
 
 /// More levels than any text of a row has.
 const MANY: usize = 1000;
@@ -25,6 +33,9 @@ pub fn ask(answer: &mut Answer, question: &str, text: &str) {
         "levels" => ask_levels(answer, text),
         "entity" => ask_entity(answer, text),
         "name" => ask_name(answer, text),
+        "policies" => ask_policies(answer, Shown::Tree, text),
+        "policy-places" => ask_policies(answer, Shown::Places, text),
+        "policy" => ask_policy(answer, text),
         _ => ask_within(answer, question, text),
     }
 }
@@ -39,10 +50,12 @@ fn ask_within(answer: &mut Answer, question: &str, text: &str) {
     }
 }
 
-// What of an expression is shown.
+/// What of an expression or a policy is shown.
 #[derive(Clone, Copy)]
-enum Shown {
+pub enum Shown {
+    /// The tree.
     Tree,
+    /// Where the nodes stand.
     Places,
 }
 
@@ -56,7 +69,8 @@ fn ask_expression(answer: &mut Answer, shown: Shown, limit: usize, text: &str) {
     }
 }
 
-fn put_shown(answer: &mut Answer, shown: Shown, expr: &Expr) {
+/// Writes what of the expression is shown.
+pub fn put_shown(answer: &mut Answer, shown: Shown, expr: &Expr) {
     match shown {
         Shown::Tree => put_tree(answer, expr),
         Shown::Places => put_places(answer, expr),
@@ -86,6 +100,45 @@ fn ask_entity(answer: &mut Answer, text: &str) {
         Ok(uid) => {
             put_entity(answer, &uid);
             drop(uid);
+        }
+        Err(error) => put_error(answer, text, error),
+    }
+}
+
+fn ask_policies(answer: &mut Answer, shown: Shown, text: &str) {
+    match parse_policies(answer.alloc, text, MANY) {
+        Ok(parsed) => {
+            put_policies(answer, shown, &parsed.policies, parsed.templates.as_slice());
+            drop(parsed);
+        }
+        Err(errors) => {
+            put_errors(answer, text, &errors);
+            drop(errors);
+        }
+    }
+}
+
+fn put_errors(answer: &mut Answer, text: &str, errors: &FirstRest<ReadError>) {
+    answer.next();
+    put_error(answer, text, errors.first);
+    'errors: for error in &errors.rest {
+        answer.next();
+        put_error(answer, text, *error);
+    }
+}
+
+fn ask_policy(answer: &mut Answer, text: &str) {
+    match RcStr::from_str(answer.alloc, "policy") {
+        Ok(id) => put_policy_of(answer, PolicyID::from_string(id), text),
+        Err(_) => answer.lack_memory(),
+    }
+}
+
+fn put_policy_of(answer: &mut Answer, id: PolicyID, text: &str) {
+    match parse_policy(answer.alloc, id, text, MANY) {
+        Ok(policy) => {
+            put_policy(answer, Shown::Tree, &policy);
+            drop(policy);
         }
         Err(error) => put_error(answer, text, error),
     }
