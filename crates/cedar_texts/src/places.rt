@@ -23,10 +23,19 @@ pub fn put_places(answer: &mut Answer, expr: &Expr) {
             put_next(answer, then_expr);
             put_next(answer, else_expr);
         }
-        ExprKind::And { left, right } => put_both(answer, left, right),
-        ExprKind::Or { left, right } => put_both(answer, left, right),
+        ExprKind::And { left, right } => {
+            put_next(answer, left);
+            put_next(answer, right);
+        }
+        ExprKind::Or { left, right } => {
+            put_next(answer, left);
+            put_next(answer, right);
+        }
         ExprKind::UnaryApp { op: _, arg } => put_next(answer, arg),
-        ExprKind::BinaryApp { op: _, arg1, arg2 } => put_both(answer, arg1, arg2),
+        ExprKind::BinaryApp { op: _, arg1, arg2 } => {
+            put_next(answer, arg1);
+            put_next(answer, arg2);
+        }
         ExprKind::ExtensionFunctionApp { fn_name: _, args } => put_all(answer, args),
         ExprKind::GetAttr { expr, attr: _ } => put_next(answer, expr),
         ExprKind::HasAttr { expr, attr: _ } => put_next(answer, expr),
@@ -57,12 +66,6 @@ pub fn put_place(answer: &mut Answer, place: Option<&Loc>) {
 fn put_next(answer: &mut Answer, part: &Expr) {
     answer.put(" ");
     put_places(answer, part);
-}
-
-#[cycle(put)]
-fn put_both(answer: &mut Answer, left: &Expr, right: &Expr) {
-    put_next(answer, left);
-    put_next(answer, right);
 }
 
 #[cycle(put)]

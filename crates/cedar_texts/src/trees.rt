@@ -19,11 +19,32 @@ pub fn put_tree(answer: &mut Answer, expr: &Expr) {
             test_expr,
             then_expr,
             else_expr,
-        } => put_conditional(answer, test_expr, then_expr, else_expr),
-        ExprKind::And { left, right } => put_two(answer, "and", left, right),
-        ExprKind::Or { left, right } => put_two(answer, "or", left, right),
+        } => {
+            open(answer, "if");
+            put_part(answer, test_expr);
+            put_part(answer, then_expr);
+            put_part(answer, else_expr);
+            close(answer);
+        }
+        ExprKind::And { left, right } => {
+            open(answer, "and");
+            put_part(answer, left);
+            put_part(answer, right);
+            close(answer);
+        }
+        ExprKind::Or { left, right } => {
+            open(answer, "or");
+            put_part(answer, left);
+            put_part(answer, right);
+            close(answer);
+        }
         ExprKind::UnaryApp { op, arg } => put_unary(answer, *op, arg),
-        ExprKind::BinaryApp { op, arg1, arg2 } => put_two(answer, binary_head(*op), arg1, arg2),
+        ExprKind::BinaryApp { op, arg1, arg2 } => {
+            open(answer, binary_head(*op));
+            put_part(answer, arg1);
+            put_part(answer, arg2);
+            close(answer);
+        }
         ExprKind::ExtensionFunctionApp { fn_name, args } => put_call(answer, fn_name, args),
         ExprKind::GetAttr { expr, attr } => put_with_text(answer, "get", expr, attr),
         ExprKind::HasAttr { expr, attr } => put_with_text(answer, "has", expr, attr),
@@ -112,26 +133,9 @@ fn put_next_text(answer: &mut Answer, text: &RcStr) {
 }
 
 #[cycle(put)]
-fn put_conditional(answer: &mut Answer, test_expr: &Expr, then_expr: &Expr, else_expr: &Expr) {
-    open(answer, "if");
-    put_part(answer, test_expr);
-    put_part(answer, then_expr);
-    put_part(answer, else_expr);
-    close(answer);
-}
-
-#[cycle(put)]
 fn put_unary(answer: &mut Answer, op: UnaryOp, arg: &Expr) {
     open(answer, unary_head(op));
     put_part(answer, arg);
-    close(answer);
-}
-
-#[cycle(put)]
-fn put_two(answer: &mut Answer, head: &str, left: &Expr, right: &Expr) {
-    open(answer, head);
-    put_part(answer, left);
-    put_part(answer, right);
     close(answer);
 }
 
