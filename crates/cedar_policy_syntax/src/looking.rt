@@ -82,8 +82,8 @@ pub(crate) fn expect(
     }
 }
 
-// The same, and nothing where it is of another kind.
-fn behind(tokens: &[Token], index: usize, kind: Kind) -> Option<usize>
+/// The same, and nothing where it is of another kind.
+pub(crate) fn behind(tokens: &[Token], index: usize, kind: Kind) -> Option<usize>
     ensures is { IfSome result (λ next. Tokens.kind_at tokens.now index ≡ kind) }
     ensures next { IfSome result (λ next. next ≡ index + 1) }
     ensures within { IfSome result (λ next. index < length tokens.now) }

@@ -312,12 +312,16 @@ impl Written {
         ensures err { IfErr result (λ error. IsPlaced tokens.now error) }
     {
         let first = expect(tokens, index, Kind::OpenBracket, Expected::Entity)?;
-        if kind_at(tokens, first) == Kind::CloseBracket {
-            let what = What::Bracketed(Bracketed::Set, 0);
-            self.put(tokens, what, start_at(tokens, index), end_at(tokens, first))?;
-            Ok(first)
-        } else {
-            self.filled_set(tokens, index, first)
+        match looking::behind(tokens, first, Kind::CloseBracket) {
+            Some(_) => {
+                let what = What::Bracketed(Bracketed::Set, 0);
+                self.put(tokens, what, start_at(tokens, index), end_at(tokens, first))?;
+                Ok(first)
+            }
+            None => {
+                let close = self.filled_set(tokens, index, first)?;
+                Ok(close)
+            }
         }
     }
 
