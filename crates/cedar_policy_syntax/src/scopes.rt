@@ -213,7 +213,7 @@ impl Written {
         ensures err { IfErr result (λ error. IsPlaced tokens.now error) }
     {
         let name = expect(tokens, index + 1, Kind::Is, Expected::Comma)?;
-        let path = looking::path(tokens, name, Expected::Type)?;
+        let path = looking::type_name(tokens, name)?;
         if kind_at(tokens, path.next) == Kind::In {
             return self.of_type_in(variable, tokens, index, path);
         }

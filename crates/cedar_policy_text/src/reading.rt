@@ -35,8 +35,8 @@ pub(crate) fn policy_at(
     ensures ok { IfOk result (λ r. IsPolicyAt text.now tokens.now limit (policy_id_text id) index r.next r.policy) }
 {
     let read = policy_steps(alloc, tokens, index, limit)?;
-    let four = four_expressions(alloc, text, tokens, read.steps.as_slice())?;
     let annotations = annotations(alloc, text, tokens, read.annotations.as_slice())?;
+    let four = four_expressions(alloc, text, tokens, read.steps.as_slice())?;
     let loc = Loc {
         start: read.start,
         end: read.end,

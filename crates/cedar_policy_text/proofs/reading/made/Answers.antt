@@ -1,4 +1,3 @@
-use Rattle.std.proofs.Common.{◌≡◌, ◌+◌, ◌∷◌, ◌++◌, [], ℕ, sym, ◌∙◌, refl, ap, subst, arith}
 use Rattle.cedar_policy_text.proofs.Read.{made_whole}
 use Rattle.cedar_policy_text.proofs.reading.made.Goals as goal
 
