@@ -1,13 +1,13 @@
 -- What one policy more makes of what was read.
-use Rattle.std.proofs.Common.{◌≡◌, ◌∙◌, ℕ, ◌+◌, ◌<◌, ◌≤◌, List, [], ◌∷◌, ◌++◌, length, map, refl, sym, ap, subst, arith}
-use Rattle.std.proofs.Common.{Bool, true, false, Some, None, if◌then◌else◌}
+use Rattle.std.proofs.Common.{◌≡◌, ◌∙◌, ℕ, ◌+◌, List, [], ◌∷◌, ◌++◌, length, sym, ap, subst, arith}
+use Rattle.std.proofs.Common.{Bool, false, Some, if◌then◌else◌}
 use Rattle.std.specs.BTreeMap.{insert_entry}
 use Rattle.std.specs.Rc.{rc_str_bytes}
 use Rattle.std.specs.declared.alloc.Global.{Global}
 use Rattle.std.specs.declared.rc.RcStr.{RcStr}
 use Rattle.cedar_model.specs.Policies.{permit, forbid}
 use Rattle.cedar_expressions.specs.Nodes.{key_order}
-use Rattle.cedar_layers.specs.Policies.{policy_view, policy_parts, policy_location, policy_id_text, annotations_view}
+use Rattle.cedar_layers.specs.Policies.{policy_view, policy_parts, policy_location, policy_id_text}
 use Rattle.cedar_layers.specs.declared.policies.policy.Annotations.{Annotations}
 use Rattle.cedar_layers.specs.declared.policies.policy.Policy.{Policy}
 use Rattle.cedar_layers.specs.declared.policies.policy.PolicyID.{PolicyID}
@@ -15,19 +15,19 @@ use Rattle.cedar_names.specs.declared.names.Loc.{Loc}
 use Rattle.cedar_tokens.specs.Tokens.{IsTokens}
 use Rattle.cedar_tokens.specs.declared.tokens.Kind.TheVariants as kind
 use Rattle.cedar_tokens.specs.declared.tokens.Token.{Token}
-use Rattle.cedar_syntax.specs.Tokens.{token_at, kind_at, start_at, end_at}
-use Rattle.cedar_syntax.specs.Trees.{Tree, height, trees}
-use Rattle.cedar_policy_syntax.specs.Grammar.{PolicyTree, IsPolicy}
+use Rattle.cedar_syntax.specs.Tokens.{token_at, kind_at, start_at}
+use Rattle.cedar_syntax.specs.Trees.{Tree, trees}
+use Rattle.cedar_policy_syntax.specs.Grammar.{PolicyTree}
 use Rattle.cedar_policy_syntax.specs.Reading.{HasPolicy}
 use Rattle.cedar_policy_syntax.specs.declared.policies.Annotation.{Annotation}
 use Rattle.cedar_policy_syntax.specs.declared.policies.PolicySteps.{PolicySteps}
+use Rattle.cedar_tokens.specs.declared.errors.ReadError.{ReadError}
 use Rattle.cedar_text.specs.Building.{Is}
-use Rattle.cedar_text.specs.Reading.{AreFour, four}
-use Rattle.cedar_text.specs.Wording.{word_at, IsTextAt}
+use Rattle.cedar_text.specs.Reading.{AreFour, four, IsWithin}
 use Rattle.cedar_text.specs.declared.reading.Four.{Four}
 use Rattle.cedar_policy_text.specs.Reading.{IsValueAt, Annotated, is_there, AreAnnotated, annotated_behind}
 use Rattle.cedar_policy_text.specs.Reading.{IsMadeOf, IsPolicyAt, HasSlot, HasNoSlot, ArePolicies, policy_behind}
-use Rattle.cedar_policy_text.specs.Reading.{template_behind, id_of, AreRead}
+use Rattle.cedar_policy_text.specs.Reading.{template_behind, id_of, AreRead, AreWithin, no_error, error_behind}
 use Rattle.cedar_layers.specs.Policies.{PolicyView, policy_of, condition_parts, ConditionParts, effect_view, SlotValues}
 use Rattle.cedar_layers.specs.declared.policies.policy.Effect.{Effect}
 use Rattle.cedar_layers.proofs.Slots.{slots_view-empty}
@@ -130,3 +130,13 @@ made_whole p e env p_is pp q_is qp l_is e_is empty =
       slots = ap (λ (v : PolicyView). v.slots) all_is ∙ slots_view-empty env empty;
       loc = l_is;
     }
+
+-- ---- errors
+
+pub told_behind : {text : List ℕ} {es fs : List ReadError} (e : ReadError) → fs ≡ es ++ e ∷ [] → IsWithin text e →
+    AreWithin text es → AreWithin text fs
+told_behind e f_is h hs = rw f_is (error_behind e hs h)
+
+pub told_alone : {text : List ℕ} {es : List ReadError} {e f : ReadError} → f ≡ e → es ≡ [] → IsWithin text e →
+    AreWithin text (f ∷ es)
+told_alone {e = e} f_is e_is h = rw (f_is, e_is) (error_behind e no_error h)

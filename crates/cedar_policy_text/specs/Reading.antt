@@ -1,5 +1,5 @@
 -- Which policies a text is.
-use Rattle.std.specs.Prelude.{◌≡◌, ◌≢◌, ℕ, ◌+◌, ◌<◌, ◌≤◌, Bool, true, false, if◌then◌else◌, List, [], ◌∷◌, ◌++◌, length, map, Option, None, Some, codes, decimal}
+use Rattle.std.specs.Prelude.{◌≡◌, ℕ, ◌+◌, ◌<◌, ◌≤◌, Bool, true, false, if◌then◌else◌, List, [], ◌∷◌, ◌++◌, length, map, Option, None, Some, codes, decimal}
 use Rattle.std.specs.BTreeMap.{insert_entry, is_at}
 use Rattle.std.specs.Map.{lookup}
 use Rattle.std.specs.Option.{is_some}
@@ -9,8 +9,8 @@ use Rattle.std.specs.declared.rc.RcStr.{RcStr}
 use Rattle.cedar_model.specs.Agreement.{no_slots}
 use Rattle.cedar_model.specs.Policies.{permit, forbid}
 use Rattle.cedar_expressions.specs.Nodes.{key_order}
-use Rattle.cedar_layers.specs.Policies.{policy_view, policy_parts, policy_location, policy_id_text, policy_of, condition_parts}
-use Rattle.cedar_layers.specs.Policies.{effect_view, annotations_view, ConditionParts}
+use Rattle.cedar_layers.specs.Policies.{policy_view, policy_parts, policy_location, policy_id_text, condition_parts}
+use Rattle.cedar_layers.specs.Policies.{annotations_view}
 use Rattle.cedar_layers.specs.PolicySets.{stored_policies}
 use Rattle.cedar_layers.specs.declared.policies.policy.Annotations.{Annotations}
 use Rattle.cedar_layers.specs.declared.policies.policy.Policy.{Policy}
@@ -21,10 +21,12 @@ use Rattle.cedar_tokens.specs.declared.tokens.Kind.{Kind}
 use Rattle.cedar_tokens.specs.declared.tokens.Kind.TheVariants as kind
 use Rattle.cedar_tokens.specs.declared.tokens.Token.{Token}
 use Rattle.cedar_syntax.specs.Tokens.{kind_at, start_at, end_at}
-use Rattle.cedar_syntax.specs.Trees.{Tree, height}
+use Rattle.cedar_syntax.specs.Trees.{height}
 use Rattle.cedar_policy_syntax.specs.Grammar.{PolicyTree, IsPolicy}
 use Rattle.cedar_policy_syntax.specs.declared.policies.Annotation.{Annotation}
+use Rattle.cedar_tokens.specs.declared.errors.ReadError.{ReadError}
 use Rattle.cedar_text.specs.Building.{Is}
+use Rattle.cedar_text.specs.Reading.{IsWithin}
 use Rattle.cedar_text.specs.Wording.{word_at, IsTextAt, place}
 use Rattle.cedar_text.specs.declared.reading.Four.{Four}
 use Rattle.cedar_policy_text.specs.declared.policies.ParsedPolicies.{ParsedPolicies}
@@ -145,3 +147,9 @@ IsSoFar text all limit i n r = r.errors.items ≡ [] → ArePolicies text all li
 -- where nothing was refused, all is read
 abbrev pub IsRead : List ℕ → ℕ → Reading → Type 0
 IsRead text limit r = r.errors.items ≡ [] → AreRead text limit r.policies.items r.templates.items
+
+-- errors in order, each at a place within the text
+pub data AreWithin (text : List ℕ) : List ReadError → Type 0 where
+  no_error : AreWithin text []
+  error_behind : {es : List ReadError} (e : ReadError) → AreWithin text es → IsWithin text e →
+      AreWithin text (es ++ e ∷ [])

@@ -1,9 +1,10 @@
 //! The annotations of a policy.
-ghost use Rattle.std.specs.Prelude.{◌≡◌, ◌<◌, ◌∷◌, ◌++◌, [], List, Some, length, All, IfOk};
+ghost use Rattle.std.specs.Prelude.{◌≡◌, ◌<◌, ◌∷◌, ◌++◌, [], List, Some, length, All, IfOk, IfErr};
 ghost use Rattle.std.specs.Rc.{rc_str_bytes};
 ghost use Rattle.cedar_tokens.specs.Values.{Stands};
 ghost use Rattle.cedar_syntax.specs.Tokens as Tokens;
 ghost use Rattle.cedar_policy_syntax.specs.declared.policies.Annotation as declared;
+ghost use Rattle.cedar_text.specs.Reading.{IsWithin};
 ghost use Rattle.cedar_policy_text.specs.Reading.{AreAnnotated, IsValueAt};
 
 use cedar_layers::policies::Annotations;
@@ -25,6 +26,7 @@ pub(crate) fn annotations(
 ) -> Result<Annotations, ReadError>
     requires { All (Stands text.now) tokens.now }
     ensures ok { IfOk result (λ a. AreAnnotated text.now tokens.now written.now a.0.entries) }
+    ensures placed { IfErr result (IsWithin text.now) }
 {
     let mut map: BTreeMap<RcStr, RcStr> = BTreeMap::new(alloc);
     for index in 0..written.len() {
@@ -45,6 +47,7 @@ fn annotate(
     ensures ok { (xs : List declared.Annotation) → IfOk result (λ _.
         AreAnnotated text.now tokens.now xs map.old.entries →
         AreAnnotated text.now tokens.now (xs ++ annotation ∷ []) map.new.entries) }
+    ensures placed { IfErr result (IsWithin text.now) }
 {
     let token = token_there(text, tokens, annotation.key)?;
     let key = RcStr::from_str(alloc, values::word(text, token))?;
@@ -65,6 +68,7 @@ fn value(
 ) -> Result<RcStr, ReadError>
     requires { All (Stands text.now) tokens.now }
     ensures ok { IfOk result (λ v. IsValueAt text.now tokens.now written (rc_str_bytes v)) }
+    ensures placed { IfErr result (IsWithin text.now) }
 {
     match written {
         Some(index) => value_at(alloc, text, tokens, index),
@@ -75,6 +79,7 @@ fn value(
 fn value_at(alloc: Global, text: &str, tokens: &[Token], index: usize) -> Result<RcStr, ReadError>
     requires { All (Stands text.now) tokens.now }
     ensures ok { IfOk result (λ v. IsValueAt text.now tokens.now (Some index) (rc_str_bytes v)) }
+    ensures placed { IfErr result (IsWithin text.now) }
 {
     let token = token_there(text, tokens, index)?;
     match token.kind {
@@ -92,6 +97,7 @@ fn token_there(text: &str, tokens: &[Token], index: usize) -> Result<Token, Read
     ensures is { IfOk result (λ t. t ≡ Tokens.token_at tokens.now index) }
     ensures stands { IfOk result (λ t. Stands text.now t) }
     ensures within { IfOk result (λ t. index < length tokens.now) }
+    ensures placed { IfErr result (IsWithin text.now) }
 {
     if index < tokens.len() {
         Ok(token_at(tokens, index))

@@ -1,11 +1,13 @@
 //! Policies of a text.
-ghost use Rattle.std.specs.Prelude.{◌≡◌, ◌+◌, ◌++◌, ◌∷◌, ℕ, List, [], length, All, IfOk, IfSome, IfNone};
+ghost use Rattle.std.specs.Prelude.{◌≡◌, ◌+◌, ◌++◌, ◌∷◌, ℕ, List, [], length, All, IfOk, IfErr, IfSome, IfNone};
 ghost use Rattle.cedar_layers.specs.Policies.{policy_id_text};
 ghost use Rattle.cedar_tokens.specs.Values.{Stands};
 ghost use Rattle.cedar_tokens.specs.declared.tokens.Kind.TheVariants as kind;
 ghost use Rattle.cedar_syntax.specs.Tokens as Tokens;
 ghost use Rattle.cedar_policy_text.specs.Reading.{IsPolicyText, IsPolicyAt, AreAllRead, HasSlot, HasNoSlot};
-ghost use Rattle.cedar_policy_text.specs.Reading.{is_slot, id_of, IsSoFar, IsRead};
+ghost use Rattle.cedar_policy_text.specs.Reading.{is_slot, id_of, IsSoFar, IsRead, AreWithin};
+ghost use Rattle.cedar_syntax.specs.Places.{IsPlaced};
+ghost use Rattle.cedar_text.specs.Reading.{IsWithin};
 ghost use Rattle.cedar_tokens.specs.Tokens.{IsTokens};
 
 use crate::annotations::token_at;
@@ -42,6 +44,7 @@ pub fn parse_policy(
     limit: usize,
 ) -> Result<Policy, ReadError>
     ensures ok { IfOk result (IsPolicyText text.now limit (policy_id_text id)) }
+    ensures placed { IfErr result (IsWithin text.now) }
 {
     let tokens = lexer::tokens(alloc, text)?;
     let read = policy_at(alloc, text, tokens.as_slice(), 0, id, limit)?;
@@ -53,6 +56,7 @@ pub fn parse_policy(
 fn ends_at(tokens: &[Token], index: usize) -> Result<(), ReadError>
     ensures is { IfOk result (λ _. Tokens.kind_at tokens.now index ≡ kind.End) }
     ensures last { IfOk result (λ _. index + 1 ≡ length tokens.now) }
+    ensures err { IfErr result (IsPlaced tokens.now) }
 {
     if index < tokens.len() && index + 1 == tokens.len() {
         end_there(tokens, index)
@@ -63,6 +67,7 @@ fn ends_at(tokens: &[Token], index: usize) -> Result<(), ReadError>
 
 fn end_there(tokens: &[Token], index: usize) -> Result<(), ReadError>
     ensures is { IfOk result (λ _. Tokens.kind_at tokens.now index ≡ kind.End) }
+    ensures err { IfErr result (IsPlaced tokens.now) }
 {
     match token_at(tokens, index).kind {
         Kind::End => Ok(()),
@@ -83,6 +88,7 @@ pub fn parse_policies(
     limit: usize,
 ) -> Result<ParsedPolicies, FirstRest<ReadError>>
     ensures ok { IfOk result (AreAllRead text.now limit) }
+    ensures placed { IfErr result (λ errors. AreWithin text.now (errors.first ∷ errors.rest.items)) }
 {
     match read_all(alloc, text, limit) {
         Ok(reading) => {
@@ -93,7 +99,10 @@ pub fn parse_policies(
     }
 }
 
-fn alone(alloc: Global, error: ReadError) -> FirstRest<ReadError> {
+fn alone(alloc: Global, error: ReadError) -> FirstRest<ReadError>
+    ensures first { result.first ≡ error }
+    ensures rest { result.rest.items ≡ [] }
+{
     FirstRest {
         first: error,
         rest: Vec::new(alloc),
@@ -111,6 +120,7 @@ struct Reading {
 // Reads all policies of the text.
 fn read_all(alloc: Global, text: &str, limit: usize) -> Result<Reading, AllocError>
     ensures ok { IfOk result (IsRead text.now limit) }
+    ensures told { IfOk result (λ r. AreWithin text.now r.errors.items) }
 {
     let tokens = lexer::tokens(alloc, text)?;
     let mut reading = Reading::new(alloc);
@@ -130,6 +140,7 @@ impl Reading {
     fn new(alloc: Global) -> Reading
         ensures policies { result.policies.items ≡ [] }
         ensures templates { result.templates.items ≡ [] }
+        ensures errors { result.errors.items ≡ [] }
     {
         Reading {
             policies: Vec::new(alloc),
@@ -151,6 +162,8 @@ impl Reading {
         requires { All (Stands text.now) tokens.now }
         ensures ok { IfOk result (λ next. IsSoFar text.now tokens.now limit index number self.old →
             IsSoFar text.now tokens.now limit next (number + 1) self.new) }
+        ensures told { IfOk result (λ _.
+            AreWithin text.now self.old.errors.items → AreWithin text.now self.new.errors.items) }
     {
         let id = numbered(alloc, number)?;
         match policy_at(alloc, text, tokens, index, id, limit) {
@@ -172,6 +185,7 @@ impl Reading {
             IsPolicyAt text tokens.now limit (id_of number) index read.next read.policy →
             IsSoFar text tokens.now limit index number self.old →
             IsSoFar text tokens.now limit next (number + 1) self.new) }
+        ensures errors { self.new.errors.items ≡ self.old.errors.items }
     {
         let Read { policy, next } = read;
         match slot_among(tokens, index, next) {
@@ -189,6 +203,7 @@ impl Reading {
         error: ReadError,
     ) -> Result<usize, AllocError>
         ensures ok { (text : List ℕ) (limit i n : ℕ) → IfOk result (λ _. IsSoFar text tokens.now limit i n self.new) }
+        ensures told { IfOk result (λ _. self.new.errors.items ≡ self.old.errors.items ++ error ∷ []) }
     {
         let start = match error {
             ReadError::Memory => return Err(AllocError),
@@ -203,6 +218,8 @@ impl Reading {
     fn ended(self, tokens: &[Token], index: usize) -> Result<Reading, AllocError>
         ensures ok { (text : List ℕ) (limit number : ℕ) → IfOk result (λ r. IsTokens 0 text tokens.now →
             IsSoFar text tokens.now limit index number self → IsRead text limit r) }
+        ensures told { (text : List ℕ) → IfOk result (λ r. All (Stands text) tokens.now →
+            AreWithin text self.errors.items → AreWithin text r.errors.items) }
     {
         match ends_at(tokens, index) {
             Ok(()) => Ok(self),
@@ -215,6 +232,7 @@ impl Reading {
 
     fn refused(self, error: ReadError) -> Result<Reading, AllocError>
         ensures ok { (text : List ℕ) (limit : ℕ) → IfOk result (IsRead text limit) }
+        ensures told { IfOk result (λ r. r.errors.items ≡ self.errors.items ++ error ∷ []) }
     {
         let mut reading = self;
         push(&mut reading.errors, error)?;
@@ -224,6 +242,8 @@ impl Reading {
     // The policies, if each could be read.
     fn finished(self, alloc: Global) -> Result<ParsedPolicies, FirstRest<ReadError>>
         ensures ok { (text : List ℕ) (limit : ℕ) → IfOk result (λ out. IsRead text limit self → AreAllRead text limit out) }
+        ensures told { (text : List ℕ) → IfErr result (λ e. AreWithin text self.errors.items →
+            AreWithin text (e.first ∷ e.rest.items)) }
     {
         let Reading {
             policies,
@@ -243,7 +263,9 @@ impl Reading {
     }
 }
 
-fn first_of(alloc: Global, errors: Vec<ReadError>) -> FirstRest<ReadError> {
+fn first_of(alloc: Global, errors: Vec<ReadError>) -> FirstRest<ReadError>
+    ensures { (text : List ℕ) → AreWithin text errors.items → AreWithin text (result.first ∷ result.rest.items) }
+{
     let mut errors = errors;
     if errors.is_empty() {
         return alone(alloc, ReadError::Memory);

@@ -4,6 +4,7 @@ ghost use Rattle.std.specs.Prelude.{if◌then◌else◌};
 ghost use Rattle.cedar_model.specs.Policies.{permit, forbid};
 ghost use Rattle.cedar_layers.specs.Policies.{policy_id_text, effect_view};
 ghost use Rattle.cedar_tokens.specs.Values.{Stands};
+ghost use Rattle.cedar_text.specs.Reading.{IsWithin};
 ghost use Rattle.cedar_policy_text.specs.Reading.{IsPolicyAt, IsMadeOf};
 
 use crate::annotations::annotations;
@@ -33,6 +34,7 @@ pub(crate) fn policy_at(
 ) -> Result<Read, ReadError>
     requires { All (Stands text.now) tokens.now }
     ensures ok { IfOk result (λ r. IsPolicyAt text.now tokens.now limit (policy_id_text id) index r.next r.policy) }
+    ensures placed { IfErr result (IsWithin text.now) }
 {
     let read = policy_steps(alloc, tokens, index, limit)?;
     let annotations = annotations(alloc, text, tokens, read.annotations.as_slice())?;

@@ -1,22 +1,31 @@
-use Rattle.std.proofs.Common.{arith}
-use Rattle.cedar_policy_text.specs.Reading.{no_policies}
+use Rattle.cedar_policy_text.specs.Reading.{no_policies, no_error}
 use Rattle.cedar_policy_text.proofs.policies.read_all.Goals as goal
 
 pub loop-number-init : goal.loop-number-init
-loop-number-init c = λ e. rw (c.new-reading.ensures.policies, c.new-reading.ensures.templates) no_policies
-
-pub returns-then-index-len : goal.returns-then-index-len
-returns-then-index-len c =
+loop-number-init c =
     record {
-      ok = c.in_ok-read.ensures.ok c.args.text.now c.args.limit c.loop-number.number
-          (rw c.as_slice.ensures.value c.in_ok-tokens.ensures.tokens)
-          (rw c.as_slice.ensures.value c.loop-number.invariant);
+      read = λ e. rw (c.new-reading.ensures.policies, c.new-reading.ensures.templates) no_policies;
+      told = rw c.new-reading.ensures.errors no_error;
     }
 
-pub returns : goal.returns
-returns c =
-    record {
-      ok = c.in_ok-rest.ensures.ok c.args.text.now c.args.limit c.loop-number.number
-          (rw c.as_slice-2.ensures.value c.in_ok-tokens.ensures.tokens)
-          (rw c.as_slice-2.ensures.value c.loop-number.invariant);
-    }
+pub returns-then-index-len-clause-ok : goal.returns-then-index-len-clause-ok
+returns-then-index-len-clause-ok c =
+    c.in_ok-read.ensures.ok c.args.text.now c.args.limit c.loop-number.number
+    (rw c.as_slice.ensures.value c.in_ok-tokens.ensures.tokens)
+    (rw c.as_slice.ensures.value c.loop-number.invariant.read)
+
+pub returns-then-index-len-clause-told : goal.returns-then-index-len-clause-told
+returns-then-index-len-clause-told c =
+    c.in_ok-read.ensures.told c.args.text.now (rw c.as_slice.ensures.value c.in_ok-tokens.ensures.stand)
+    c.loop-number.invariant.told
+
+pub returns-clause-ok : goal.returns-clause-ok
+returns-clause-ok c =
+    c.in_ok-rest.ensures.ok c.args.text.now c.args.limit c.loop-number.number
+    (rw c.as_slice-2.ensures.value c.in_ok-tokens.ensures.tokens)
+    (rw c.as_slice-2.ensures.value c.loop-number.invariant.read)
+
+pub returns-clause-told : goal.returns-clause-told
+returns-clause-told c =
+    c.in_ok-rest.ensures.told c.args.text.now (rw c.as_slice-2.ensures.value c.in_ok-tokens.ensures.stand)
+    c.loop-number.invariant.told

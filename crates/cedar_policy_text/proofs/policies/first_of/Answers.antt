@@ -1,0 +1,5 @@
+use Rattle.cedar_policy_text.proofs.Read.{told_alone}
+use Rattle.cedar_policy_text.proofs.policies.first_of.Goals as goal
+
+pub returns-then-is_empty : goal.returns-then-is_empty
+returns-then-is_empty c = λ text h. told_alone c.alone.ensures.first c.alone.ensures.rest tt
