@@ -1,5 +1,6 @@
 //! Reads the texts in the rows of the tables that are named, and compares what they are read as with what is wanted. Prints each
-//! row that is read otherwise, and a line `FILE: HELD of ROWS rows hold` a file.
+//! row that is read otherwise, and a line `FILE: HELD of ROWS rows hold` a file. Behind the word `--written` each text is read,
+//! written in Cedar's own syntax, and what is written is to be read as the text was.
 #![tactic(auto)]
 
 mod answer;
@@ -9,6 +10,7 @@ mod questions;
 mod rows;
 mod signs;
 mod trees;
+mod written;
 
 use answer::Unanswered;
 use rows::file_holds;
@@ -44,8 +46,11 @@ fn files_hold<R: Env + Files + AllocGlobal + Print>(rt: &R) -> Result<bool, Unan
     let mut files = env::args(rt)?;
     drop(files.next());
     let mut all_hold = true;
+    let mut written = false;
     'files: for file in files {
-        if !file_holds(rt, file.as_str())? {
+        if file.as_str() == "--written" {
+            written = true;
+        } else if !file_holds(rt, file.as_str(), written)? {
             all_hold = false;
         }
     }

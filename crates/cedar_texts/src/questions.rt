@@ -23,7 +23,7 @@ use cedar_tokens::tokens::Kind;
 use std::rc::RcStr;
 
 /// More levels than any text of a row has.
-const MANY: usize = 1000;
+pub const MANY: usize = 1000;
 
 /// Answers the question on the text.
 pub fn ask(answer: &mut Answer, question: &str, text: &str) {

@@ -4,6 +4,7 @@
 use crate::answer::{Answer, Unanswered};
 use crate::questions::ask;
 use crate::signs::unsigned;
+use crate::written::rewritten;
 use std::alloc::Global;
 use std::fs;
 use std::rc::RcStr;
@@ -15,6 +16,7 @@ struct Row<'a> {
     file: &'a str,
     number: usize,
     line: &'a str,
+    written: bool,
 }
 
 /// How many rows there are, and how many of them hold.
@@ -39,16 +41,28 @@ impl Tally {
     }
 }
 
-/// Whether all rows of the file hold. Prints those that do not, each with its file and line, and how many do.
-pub fn file_holds<R: Files + AllocGlobal + Print>(rt: &R, file: &str) -> Result<bool, Unanswered> {
+/// Whether all rows of the file hold, as they stand or written again. Prints those that do not, each with its file and line, and
+/// how many do.
+pub fn file_holds<R: Files + AllocGlobal + Print>(
+    rt: &R,
+    file: &str,
+    written: bool,
+) -> Result<bool, Unanswered> {
     let text = fs::read_to_string(rt, file)?;
-    let tally = tally_of(rt, rt.alloc(), file, text.as_str())?;
+    let tally = tally_of(rt, rt.alloc(), file, text.as_str(), written)?;
     let (held, rows) = (tally.held, tally.rows);
-    println!(rt; "{file}: {held} of {rows} rows hold")?;
+    let how = if written { ", written" } else { "" };
+    println!(rt; "{file}{how}: {held} of {rows} rows hold")?;
     Ok(held == rows)
 }
 
-fn tally_of(rt: &impl Print, alloc: Global, file: &str, text: &str) -> Result<Tally, Unanswered> {
+fn tally_of(
+    rt: &impl Print,
+    alloc: Global,
+    file: &str,
+    text: &str,
+    written: bool,
+) -> Result<Tally, Unanswered> {
     let mut question = RcStr::from_str(alloc, "tree")?;
     let mut tally = Tally { rows: 0, held: 0 };
     let mut number: usize = 0;
@@ -57,7 +71,12 @@ fn tally_of(rt: &impl Print, alloc: Global, file: &str, text: &str) -> Result<Ta
         if let Some(asked) = line.strip_prefix("ask ") {
             question = RcStr::from_str(alloc, asked)?;
         } else if !line.is_empty() && !line.starts_with('#') {
-            let row = Row { file, number, line };
+            let row = Row {
+                file,
+                number,
+                line,
+                written,
+            };
             let holds = row_holds(rt, alloc, question.as_str(), row)?;
             tally = tally.with(holds);
         }
@@ -76,14 +95,27 @@ fn row_holds(
         .line
         .split_once(" => ")
         .ok_or("a row without an answer")?;
-    let answer = answer_to(alloc, question, text)?;
+    let answer = answer_to(alloc, question, text, row.written)?;
     is_wanted(rt, row, answer.as_str(), want)
 }
 
-fn answer_to(alloc: Global, question: &str, row: &str) -> Result<String, Unanswered> {
+fn answer_to(
+    alloc: Global,
+    question: &str,
+    row: &str,
+    written: bool,
+) -> Result<String, Unanswered> {
     let text = unsigned(alloc, row)?;
+    if written {
+        let again = rewritten(alloc, question, text.as_str())?;
+        return answer_of(alloc, question, again.as_str());
+    }
+    answer_of(alloc, question, text.as_str())
+}
+
+fn answer_of(alloc: Global, question: &str, text: &str) -> Result<String, Unanswered> {
     let mut answer = Answer::new(alloc);
-    ask(&mut answer, question, text.as_str());
+    ask(&mut answer, question, text);
     answer.finish()
 }
 
