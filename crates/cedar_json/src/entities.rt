@@ -1,6 +1,6 @@
 //! Entities.
 use crate::errors::{JsonError, RefusalReason};
-use crate::escapes::{ENTITY, uid};
+use crate::escapes::uid;
 use crate::shapes::{array, object, sole};
 use crate::values::read_members;
 use cedar_names::EntityUID;
@@ -12,7 +12,7 @@ use std::rc::RcStr;
 
 /// An entity as the JSON says it, of which nothing is evaluated.
 #[derive(Debug, Drop)]
-pub struct EntityJson {
+pub struct StatedEntity {
     /// Its name.
     pub uid: EntityUID,
     /// Its attributes under their names, in the order of the JSON.
@@ -33,13 +33,13 @@ struct EntityShape<'v, 'a> {
 }
 
 /// The entities of an array, in order.
-pub fn entities_from_json_value(
+pub fn stated_entities_from_json_value(
     alloc: Global,
     value: &Value<'_>,
-) -> Result<Vec<EntityJson>, JsonError> {
+) -> Result<Vec<StatedEntity>, JsonError> {
     match array(value) {
         Some(items) => {
-            let mut entities: Vec<EntityJson> = Vec::new(alloc);
+            let mut entities: Vec<StatedEntity> = Vec::new(alloc);
             match read_entities(alloc, items, &mut entities) {
                 Ok(()) => Ok(entities),
                 Err(error) => {
@@ -55,7 +55,7 @@ pub fn entities_from_json_value(
 fn read_entities(
     alloc: Global,
     items: &Vec<Value<'_>>,
-    entities: &mut Vec<EntityJson>,
+    entities: &mut Vec<StatedEntity>,
 ) -> Result<(), JsonError> {
     let mut seen: HashSet<EntityUID> = HashSet::new(alloc);
     let mut index: usize = 0;
@@ -72,10 +72,10 @@ fn read_entities(
 // Puts the entity behind those that are there, if it is none of them.
 fn put_entity(
     alloc: Global,
-    entity: EntityJson,
+    entity: StatedEntity,
     index: usize,
     seen: &mut HashSet<EntityUID>,
-    entities: &mut Vec<EntityJson>,
+    entities: &mut Vec<StatedEntity>,
 ) -> Result<(), JsonError> {
     match is_new(seen, &entity.uid) {
         Ok(true) => match entities.push(entity) {
@@ -103,7 +103,7 @@ fn is_new(seen: &mut HashSet<EntityUID>, uid: &EntityUID) -> Result<bool, JsonEr
     }
 }
 
-fn read_entity(alloc: Global, value: &Value<'_>) -> Result<EntityJson, JsonError> {
+fn read_entity(alloc: Global, value: &Value<'_>) -> Result<StatedEntity, JsonError> {
     let shape = entity_shape(alloc, value)?;
     let (uid, attrs, parents) = (
         present(alloc, shape.uid, "uid")?,
@@ -117,7 +117,7 @@ fn read_entity(alloc: Global, value: &Value<'_>) -> Result<EntityJson, JsonError
         Some(tags) => pairs_at(alloc, tags, "tags")?,
         None => Vec::new(alloc),
     };
-    Ok(EntityJson {
+    Ok(StatedEntity {
         uid,
         attrs,
         parents,
@@ -188,7 +188,7 @@ fn plain_uid(alloc: Global, value: &Value<'_>) -> Result<EntityUID, JsonError> {
     match escaped(value) {
         Some(inner) => match uid(alloc, inner) {
             Ok(uid) => Ok(uid),
-            Err(error) => Err(error.under_key(alloc, ENTITY)),
+            Err(error) => Err(error.under_key(alloc, "__entity")),
         },
         None => uid(alloc, value),
     }
@@ -198,7 +198,7 @@ fn plain_uid(alloc: Global, value: &Value<'_>) -> Result<EntityUID, JsonError> {
 fn escaped<'v, 'a>(value: &'v Value<'a>) -> Option<&'v Value<'a>> {
     match object(value) {
         Some(members) => match sole(members) {
-            Some((key, inner)) => if key == ENTITY { Some(inner) } else { None },
+            Some((key, inner)) => if key == "__entity" { Some(inner) } else { None },
             None => None,
         },
         None => None,

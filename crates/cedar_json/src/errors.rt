@@ -56,9 +56,16 @@ pub enum JsonError {
 }
 
 impl JsonError {
+    ghost use Rattle.std.specs.Prelude.{[]};
+    ghost use Rattle.std.specs.Rc.{rc_str_bytes};
+    ghost use Rattle.cedar_json.specs.Paths.{at_key, at_index, step_view};
+    ghost use Rattle.cedar_json.specs.Refusals.{IsUnder, IsRefusedAt, IsEvaluationAt};
+
     // The refusal of the whole value.
     #[cold]
-    pub(crate) fn refusal(alloc: Global, reason: RefusalReason) -> JsonError {
+    pub(crate) fn refusal(alloc: Global, reason: RefusalReason) -> JsonError
+        ensures { IsRefusedAt [] reason result }
+    {
         let path = JsonPath {
             steps: Vec::new(alloc),
         };
@@ -67,7 +74,9 @@ impl JsonError {
 
     // The error of evaluating the whole value.
     #[cold]
-    pub(crate) fn evaluation(alloc: Global, error: EvaluationError) -> JsonError {
+    pub(crate) fn evaluation(alloc: Global, error: EvaluationError) -> JsonError
+        ensures { IsEvaluationAt [] error result }
+    {
         let path = JsonPath {
             steps: Vec::new(alloc),
         };
@@ -76,7 +85,9 @@ impl JsonError {
 
     // The same error, of the part at this key.
     #[cold]
-    pub(crate) fn under_key(self, alloc: Global, key: &str) -> JsonError {
+    pub(crate) fn under_key(self, alloc: Global, key: &str) -> JsonError
+        ensures { IsUnder (at_key key.now) self result }
+    {
         match RcStr::from_str(alloc, key) {
             Ok(key) => self.under(PathStep::Key(key)),
             Err(error) => JsonError::Memory(error),
@@ -85,11 +96,15 @@ impl JsonError {
 
     // The same error, of the part at this index.
     #[cold]
-    pub(crate) fn under_index(self, index: usize) -> JsonError {
+    pub(crate) fn under_index(self, index: usize) -> JsonError
+        ensures { IsUnder (at_index index) self result }
+    {
         self.under(PathStep::Index(index))
     }
 
-    fn under(self, step: PathStep) -> JsonError {
+    fn under(self, step: PathStep) -> JsonError
+        ensures { IsUnder (step_view step) self result }
+    {
         match self {
             JsonError::Syntax => JsonError::Syntax,
             JsonError::DuplicateKey => JsonError::DuplicateKey,

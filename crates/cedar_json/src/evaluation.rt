@@ -3,7 +3,7 @@ ghost use Rattle.std.specs.Prelude.{◌≡◌, true};
 ghost use Rattle.cedar_layers.specs.Parts.{parts_view, are_restricted_parts};
 ghost use mathlib.Core.Bool.{Bool-set};
 
-use crate::entities::EntityJson;
+use crate::entities::StatedEntity;
 use crate::errors::JsonError;
 use cedar_data::PartialValue;
 use cedar_extensions::Extensions;
@@ -18,16 +18,16 @@ use std::rc::RcStr;
 
 // Values and residuals under their names, as an entity has them.
 #[derive(Drop)]
-struct Parts {
+struct StoredParts {
     map: BTreeMap<RcStr, PartialValue>,
     ghost restricted: { are_restricted_parts (parts_view map.entries) ≡ true } by { Bool-set _ _ },
 }
 
 /// The entities, with their attributes and tags evaluated with these extensions at most `limit` levels deep: a value,
 /// or what is left where an unknown stands in one. The ancestors of each are its parents alone.
-pub fn evaluated(
+pub fn evaluated_entities(
     alloc: Global,
-    stated: Vec<EntityJson>,
+    stated: Vec<StatedEntity>,
     extensions: &Extensions<'_>,
     limit: usize,
 ) -> Result<Vec<Entity>, JsonError> {
@@ -44,7 +44,7 @@ pub fn evaluated(
 
 fn evaluate_all(
     alloc: Global,
-    stated: Vec<EntityJson>,
+    stated: Vec<StatedEntity>,
     evaluator: &RestrictedEvaluator<'_, '_>,
     entities: &mut Vec<Entity>,
 ) -> Result<(), JsonError> {
@@ -61,10 +61,10 @@ fn evaluate_all(
 
 fn evaluate(
     alloc: Global,
-    stated: EntityJson,
+    stated: StatedEntity,
     evaluator: &RestrictedEvaluator<'_, '_>,
 ) -> Result<Entity, JsonError> {
-    let EntityJson {
+    let StatedEntity {
         uid,
         attrs,
         parents,
@@ -89,7 +89,7 @@ fn parts_at(
     pairs: Vec<(RcStr, RestrictedExpr)>,
     evaluator: &RestrictedEvaluator<'_, '_>,
     key: &str,
-) -> Result<Parts, JsonError> {
+) -> Result<StoredParts, JsonError> {
     match parts(alloc, pairs, evaluator) {
         Ok(parts) => Ok(parts),
         Err(error) => Err(error.under_key(alloc, key)),
@@ -100,14 +100,14 @@ fn parts(
     alloc: Global,
     pairs: Vec<(RcStr, RestrictedExpr)>,
     evaluator: &RestrictedEvaluator<'_, '_>,
-) -> Result<Parts, JsonError> {
+) -> Result<StoredParts, JsonError> {
     let mut map: BTreeMap<RcStr, PartialValue> = BTreeMap::new(alloc);
     'pairs: for (key, expr) in pairs {
         let part = part(alloc, &key, &expr, evaluator)?;
         drop(expr);
         drop(map.insert(key, part)?);
     }
-    Ok(Parts { map })
+    Ok(StoredParts { map })
 }
 
 fn part(

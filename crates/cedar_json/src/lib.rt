@@ -16,12 +16,12 @@ mod texts;
 mod values;
 
 pub use contexts::context_from_json_value;
-pub use entities::{EntityJson, entities_from_json_value};
+pub use entities::{StatedEntity, stated_entities_from_json_value};
 pub use errors::{JsonError, RefusalReason};
-pub use evaluation::evaluated;
+pub use evaluation::evaluated_entities;
 pub use paths::{JsonPath, PathStep};
 pub use requests::request_from_json_value;
 pub use texts::{
-    context_from_json_str, entities_from_json_str, request_from_json_str, value_from_json_str,
+    context_from_json_str, stated_entities_from_json_str, request_from_json_str, restricted_expr_from_json_str,
 };
-pub use values::value_from_json_value;
+pub use values::restricted_expr_from_json_value;

@@ -1,4 +1,6 @@
 //! Where a part stands in a JSON value.
+ghost use Rattle.std.specs.Prelude.{◌≡◌, ◌∷◌, IfOk};
+
 use crate::names::is_word;
 use cedar_names::shared::write_quoted;
 use std::alloc::AllocError;
@@ -23,8 +25,12 @@ pub struct JsonPath {
 }
 
 impl JsonPath {
+    ghost use Rattle.cedar_json.specs.Paths.{step_view, path_view};
+
     // The same way, of the part that this step leads to.
-    pub(crate) fn under(self, step: PathStep) -> Result<JsonPath, AllocError> {
+    pub(crate) fn under(self, step: PathStep) -> Result<JsonPath, AllocError>
+        ensures { IfOk result (λ p. path_view p ≡ step_view step ∷ path_view self) }
+    {
         let mut steps = self.steps;
         match steps.insert(0, step) {
             Ok(()) => Ok(JsonPath { steps }),

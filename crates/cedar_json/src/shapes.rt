@@ -1,4 +1,10 @@
+#![tactic(auto, using(crate::proofs::Views::views))]
 //! The shapes of the objects that stand for something else than a record.
+ghost use Rattle.std.specs.Prelude.{◌≡◌, option_map};
+ghost use Rattle.json.specs.Find.{as_object, as_array};
+ghost use Rattle.json.specs.Value.{value_view, items_view, members_view};
+ghost use Rattle.cedar_json.specs.Shapes as shape;
+
 use json::Value;
 
 /// What a call is made of: what stands at `fn`, and the key and the value of the other member.
@@ -10,7 +16,9 @@ pub(crate) struct CallShape<'v, 'a> {
 }
 
 /// The members, where the value is an object.
-pub(crate) fn object<'v, 'a>(value: &'v Value<'a>) -> Option<&'v Vec<(&'a str, Value<'a>)>> {
+pub(crate) fn object<'v, 'a>(value: &'v Value<'a>) -> Option<&'v Vec<(&'a str, Value<'a>)>>
+    ensures { option_map (λ ms. members_view ms.now.items) result ≡ as_object (value_view value.now) }
+{
     match value {
         Value::Object(members) => Some(members),
         Value::Null => None,
@@ -22,7 +30,9 @@ pub(crate) fn object<'v, 'a>(value: &'v Value<'a>) -> Option<&'v Vec<(&'a str, V
 }
 
 /// The items, where the value is an array.
-pub(crate) fn array<'v, 'a>(value: &'v Value<'a>) -> Option<&'v Vec<Value<'a>>> {
+pub(crate) fn array<'v, 'a>(value: &'v Value<'a>) -> Option<&'v Vec<Value<'a>>>
+    ensures { option_map (λ js. items_view js.now.items) result ≡ as_array (value_view value.now) }
+{
     match value {
         Value::Array(items) => Some(items),
         Value::Null => None,
@@ -36,7 +46,9 @@ pub(crate) fn array<'v, 'a>(value: &'v Value<'a>) -> Option<&'v Vec<Value<'a>>> 
 /// The member, where there is one alone.
 pub(crate) fn sole<'v, 'a>(
     members: &'v Vec<(&'a str, Value<'a>)>,
-) -> Option<(&'v str, &'v Value<'a>)> {
+) -> Option<(&'v str, &'v Value<'a>)>
+    ensures { option_map (λ m. (m.0.now, value_view m.1.now)) result ≡ shape.sole (members_view members.now.items) }
+{
     if members.len() == 1 {
         let member = &members[0];
         Some((member.0, &member.1))
@@ -46,14 +58,18 @@ pub(crate) fn sole<'v, 'a>(
 }
 
 /// The function and the argument of a call, in either order.
-pub(crate) fn call_shape<'v, 'a>(call: &'v Value<'a>) -> Option<CallShape<'v, 'a>> {
+pub(crate) fn call_shape<'v, 'a>(call: &'v Value<'a>) -> Option<CallShape<'v, 'a>>
+    ensures { option_map shape.parts_view result ≡ shape.call_shape (value_view call.now) }
+{
     match object(call) {
         Some(members) => call_in(members),
         None => None,
     }
 }
 
-fn call_in<'v, 'a>(members: &'v Vec<(&'a str, Value<'a>)>) -> Option<CallShape<'v, 'a>> {
+fn call_in<'v, 'a>(members: &'v Vec<(&'a str, Value<'a>)>) -> Option<CallShape<'v, 'a>>
+    ensures { option_map shape.parts_view result ≡ shape.call_in (members_view members.now.items) }
+{
     if members.len() != 2 {
         return None;
     }
@@ -77,14 +93,18 @@ fn call_in<'v, 'a>(members: &'v Vec<(&'a str, Value<'a>)>) -> Option<CallShape<'
 }
 
 /// The type and the id of an entity, in either order.
-pub(crate) fn uid_shape<'v, 'a>(value: &'v Value<'a>) -> Option<(&'v str, &'v str)> {
+pub(crate) fn uid_shape<'v, 'a>(value: &'v Value<'a>) -> Option<(&'v str, &'v str)>
+    ensures { option_map (λ p. (p.0.now, p.1.now)) result ≡ shape.uid_shape (value_view value.now) }
+{
     match object(value) {
         Some(members) => uid_in(members),
         None => None,
     }
 }
 
-fn uid_in<'v, 'a>(members: &'v Vec<(&'a str, Value<'a>)>) -> Option<(&'v str, &'v str)> {
+fn uid_in<'v, 'a>(members: &'v Vec<(&'a str, Value<'a>)>) -> Option<(&'v str, &'v str)>
+    ensures { option_map (λ p. (p.0.now, p.1.now)) result ≡ shape.uid_in (members_view members.now.items) }
+{
     if members.len() != 2 {
         return None;
     }
@@ -99,9 +119,15 @@ fn uid_in<'v, 'a>(members: &'v Vec<(&'a str, Value<'a>)>) -> Option<(&'v str, &'
     }
 }
 
-fn both_texts<'v>(ty: Option<&'v str>, id: Option<&'v str>) -> Option<(&'v str, &'v str)> {
-    match (ty, id) {
-        (Some(ty), Some(id)) => Some((ty, id)),
-        (_, _) => None,
+fn both_texts<'v>(ty: Option<&'v str>, id: Option<&'v str>) -> Option<(&'v str, &'v str)>
+    ensures { option_map (λ p. (p.0.now, p.1.now)) result ≡
+        shape.both_texts (option_map (λ t. t.now) ty) (option_map (λ t. t.now) id) }
+{
+    match ty {
+        Some(ty) => match id {
+            Some(id) => Some((ty, id)),
+            None => None,
+        },
+        None => None,
     }
 }

@@ -1,9 +1,9 @@
-use crate::{entities_from_json_str, value_from_json_str};
+use crate::{stated_entities_from_json_str, restricted_expr_from_json_str};
 use std::alloc::Global;
 use std::test::Fail;
 
 fn value_text(alloc: Global, text: &str) -> Result<String, Fail> {
-    match value_from_json_str(alloc, text) {
+    match restricted_expr_from_json_str(alloc, text) {
         Ok(value) => Ok(value.to_string(alloc)?),
         Err(error) => Ok(error.to_string(alloc)?),
     }
@@ -25,7 +25,7 @@ fn values(rt: HostRuntime) -> Result<(), Fail> {
 }
 
 fn entities_text(alloc: Global, text: &str) -> Result<String, Fail> {
-    match entities_from_json_str(alloc, text) {
+    match stated_entities_from_json_str(alloc, text) {
         Ok(entities) => {
             let count = entities.len();
             Ok(format!(in alloc; "{count} entities")?)

@@ -1,21 +1,21 @@
 //! JSON texts.
 use crate::contexts::context_from_json_value;
-use crate::entities::{EntityJson, entities_from_json_value};
+use crate::entities::{StatedEntity, stated_entities_from_json_value};
 use crate::errors::JsonError;
 use crate::requests::request_from_json_value;
-use crate::values::value_from_json_value;
+use crate::values::restricted_expr_from_json_value;
 use cedar_extensions::Extensions;
 use cedar_requests::{Context, Request};
 use cedar_restricted_expressions::RestrictedExpr;
 use json::{Error, Scratch, Value};
 use std::alloc::{AllocError, Global};
 
-/// The restricted expression that the text says, as `value_from_json_value` reads it. `Syntax` where the text is no JSON, and
+/// The restricted expression that the text says, as `restricted_expr_from_json_value` reads it. `Syntax` where the text is no JSON, and
 /// `DuplicateKey` where an object of it has a key twice.
-pub fn value_from_json_str(alloc: Global, text: &str) -> Result<RestrictedExpr, JsonError> {
+pub fn restricted_expr_from_json_str(alloc: Global, text: &str) -> Result<RestrictedExpr, JsonError> {
     let mut scratch = Scratch::new(alloc);
     match Value::parse_strict(alloc, text, &mut scratch) {
-        Ok(value) => value_from_json_value(alloc, &value),
+        Ok(value) => restricted_expr_from_json_value(alloc, &value),
         Err(error) => Err(unread(error)),
     }
 }
@@ -35,10 +35,10 @@ pub fn context_from_json_str(
 }
 
 /// The entities that the text says, before anything of them is evaluated.
-pub fn entities_from_json_str(alloc: Global, text: &str) -> Result<Vec<EntityJson>, JsonError> {
+pub fn stated_entities_from_json_str(alloc: Global, text: &str) -> Result<Vec<StatedEntity>, JsonError> {
     let mut scratch = Scratch::new(alloc);
     match Value::parse_strict(alloc, text, &mut scratch) {
-        Ok(value) => entities_from_json_value(alloc, &value),
+        Ok(value) => stated_entities_from_json_value(alloc, &value),
         Err(error) => Err(unread(error)),
     }
 }

@@ -1,6 +1,20 @@
+#![tactic(auto, using(crate::proofs::Views::views))]
 //! Values.
+ghost use Rattle.std.specs.Prelude.{◌≡◌, [], Ok, map, codes, IsSome, OnOk, IfOk, IfErr};
+ghost use Rattle.std.specs.Rc.{rc_str_bytes};
+ghost use Rattle.json.specs.Value.{value_view, items_view, members_view};
+ghost use Rattle.cedar_restricted_expressions.specs.Views.{restricted_term};
+ghost use Rattle.json.specs.Json.{object};
+ghost use Rattle.json.specs.Find.{as_number};
+ghost use Rattle.cedar_model.specs.Terms.{literal, text_literal};
+ghost use Rattle.cedar_json.specs.Refusals.{IsRefusal, IsMemory, under, made_of, and_then};
+ghost use Rattle.cedar_json.specs.Paths.{at_key, at_index};
+ghost use Rattle.cedar_json.specs.Shapes as shape;
+ghost use Rattle.cedar_json.specs.Said as says;
+ghost use Rattle.cedar_json.specs.Lists.{pair_said, pairs_said, IsOneMore, arguments_of, shape_said};
+
 use crate::errors::{JsonError, RefusalReason};
-use crate::escapes::{CALL, ENTITY, called, entity, is_reserved};
+use crate::escapes::{called, entity, is_reserved};
 use crate::shapes::{CallShape, array, call_shape, sole};
 use cedar_expressions::ExpressionConstructionError;
 use cedar_names::Literal;
@@ -12,7 +26,10 @@ use std::rc::RcStr;
 /// The restricted expression that the JSON value says: a boolean, a long, a string, a set of the elements of an array,
 /// a record of the members of an object, an entity, a call of an extension function, or an unknown.
 #[cycle(values)]
-pub fn value_from_json_value(alloc: Global, value: &Value<'_>) -> Result<RestrictedExpr, JsonError> {
+pub fn restricted_expr_from_json_value(alloc: Global, value: &Value<'_>) -> Result<RestrictedExpr, JsonError>
+    ensures said { IfOk result (λ r. says.said (value_view value.now) ≡ Ok (restricted_term r)) }
+    ensures refused { IfErr result (IsRefusal (says.said (value_view value.now))) }
+{
     match value {
         Value::Null => Err(JsonError::refusal(alloc, RefusalReason::Null)),
         Value::Bool(flag) => Ok(RestrictedExpr::val(Literal::Bool(*flag))),
@@ -23,14 +40,21 @@ pub fn value_from_json_value(alloc: Global, value: &Value<'_>) -> Result<Restric
     }
 }
 
-fn read_long(alloc: Global, number: &Value<'_>) -> Result<RestrictedExpr, JsonError> {
+fn read_long(alloc: Global, number: &Value<'_>) -> Result<RestrictedExpr, JsonError>
+    requires { IsSome (as_number (value_view number.now)) }
+    ensures said { IfOk result (λ r. says.said (value_view number.now) ≡ Ok (restricted_term r)) }
+    ensures refused { IfErr result (IsRefusal (says.said (value_view number.now))) }
+{
     match number.as_i64() {
         Some(long) => Ok(RestrictedExpr::val(Literal::Long(long))),
         None => Err(JsonError::refusal(alloc, RefusalReason::NotALong)),
     }
 }
 
-fn read_text(alloc: Global, text: &str) -> Result<RestrictedExpr, JsonError> {
+fn read_text(alloc: Global, text: &str) -> Result<RestrictedExpr, JsonError>
+    ensures said { IfOk result (λ r. restricted_term r ≡ literal (text_literal text.now)) }
+    ensures memory { IfErr result IsMemory }
+{
     match RcStr::from_str(alloc, text) {
         Ok(text) => Ok(RestrictedExpr::val(Literal::String(text))),
         Err(error) => Err(JsonError::Memory(error)),
@@ -38,7 +62,10 @@ fn read_text(alloc: Global, text: &str) -> Result<RestrictedExpr, JsonError> {
 }
 
 #[cycle(values)]
-fn read_set(alloc: Global, items: &Vec<Value<'_>>) -> Result<RestrictedExpr, JsonError> {
+fn read_set(alloc: Global, items: &Vec<Value<'_>>) -> Result<RestrictedExpr, JsonError>
+    ensures said { IfOk result (λ r. says.set_said (says.said_items 0 (items_view items.now.items)) ≡ Ok (restricted_term r)) }
+    ensures refused { IfErr result (IsRefusal (says.set_said (says.said_items 0 (items_view items.now.items)))) }
+{
     let mut elements: Vec<RestrictedExpr> = Vec::new(alloc);
     match read_items(alloc, items, &mut elements) {
         Ok(()) => match RestrictedExpr::set(alloc, elements) {
@@ -58,7 +85,11 @@ fn read_items(
     alloc: Global,
     items: &Vec<Value<'_>>,
     elements: &mut Vec<RestrictedExpr>,
-) -> Result<(), JsonError> {
+) -> Result<(), JsonError>
+    requires { elements.old.items ≡ [] }
+    ensures said { OnOk result (says.said_items 0 (items_view items.now.items) ≡ Ok (map restricted_term elements.new.items)) }
+    ensures refused { IfErr result (IsRefusal (says.said_items 0 (items_view items.now.items))) }
+{
     let mut index: usize = 0;
     'items: for item in items {
         read_item(alloc, item, index, elements)?;
@@ -73,8 +104,12 @@ fn read_item(
     item: &Value<'_>,
     index: usize,
     elements: &mut Vec<RestrictedExpr>,
-) -> Result<(), JsonError> {
-    match value_from_json_value(alloc, item) {
+) -> Result<(), JsonError>
+    ensures said { OnOk result (IsOneMore restricted_term (under (at_index index) (says.said (value_view item.now)))
+        elements.old.items elements.new.items) }
+    ensures refused { IfErr result (IsRefusal (under (at_index index) (says.said (value_view item.now)))) }
+{
+    match restricted_expr_from_json_value(alloc, item) {
         Ok(element) => match elements.push(element) {
             Ok(()) => Ok(()),
             Err(failed) => Err(JsonError::from(failed)),
@@ -87,11 +122,14 @@ fn read_item(
 fn read_object(
     alloc: Global,
     members: &Vec<(&str, Value<'_>)>,
-) -> Result<RestrictedExpr, JsonError> {
+) -> Result<RestrictedExpr, JsonError>
+    ensures said { IfOk result (λ r. says.said (object (members_view members.now.items)) ≡ Ok (restricted_term r)) }
+    ensures refused { IfErr result (IsRefusal (says.said (object (members_view members.now.items)))) }
+{
     match sole(members) {
-        Some((key, value)) => if key == ENTITY {
+        Some((key, value)) => if key == "__entity" {
             entity(alloc, value)
-        } else if key == CALL {
+        } else if key == "__extn" {
             read_call(alloc, value)
         } else {
             read_record(alloc, members)
@@ -104,7 +142,10 @@ fn read_object(
 pub(crate) fn read_record(
     alloc: Global,
     members: &Vec<(&str, Value<'_>)>,
-) -> Result<RestrictedExpr, JsonError> {
+) -> Result<RestrictedExpr, JsonError>
+    ensures said { IfOk result (λ r. says.record_said (says.said_members (members_view members.now.items)) ≡ Ok (restricted_term r)) }
+    ensures refused { IfErr result (IsRefusal (says.record_said (says.said_members (members_view members.now.items)))) }
+{
     let mut pairs: Vec<(RcStr, RestrictedExpr)> = Vec::new(alloc);
     match read_members(alloc, members, &mut pairs) {
         Ok(()) => record(alloc, pairs),
@@ -118,7 +159,10 @@ pub(crate) fn read_record(
 fn record(
     alloc: Global,
     pairs: Vec<(RcStr, RestrictedExpr)>,
-) -> Result<RestrictedExpr, JsonError> {
+) -> Result<RestrictedExpr, JsonError>
+    ensures said { IfOk result (λ r. says.record_of_pairs (pairs_said pairs.items) ≡ Ok (restricted_term r)) }
+    ensures refused { IfErr result (IsRefusal (says.record_of_pairs (pairs_said pairs.items))) }
+{
     match RestrictedExpr::record(alloc, pairs) {
         Ok(record) => Ok(record),
         Err(ExpressionConstructionError::DuplicateKey { key, context: _ }) => {
@@ -135,7 +179,11 @@ pub(crate) fn read_members(
     alloc: Global,
     members: &Vec<(&str, Value<'_>)>,
     pairs: &mut Vec<(RcStr, RestrictedExpr)>,
-) -> Result<(), JsonError> {
+) -> Result<(), JsonError>
+    requires { pairs.old.items ≡ [] }
+    ensures said { OnOk result (says.said_members (members_view members.now.items) ≡ Ok (pairs_said pairs.new.items)) }
+    ensures refused { IfErr result (IsRefusal (says.said_members (members_view members.now.items))) }
+{
     'members: for member in members {
         read_member(alloc, member.0, &member.1, pairs)?;
     }
@@ -148,12 +196,16 @@ fn read_member(
     key: &str,
     value: &Value<'_>,
     pairs: &mut Vec<(RcStr, RestrictedExpr)>,
-) -> Result<(), JsonError> {
+) -> Result<(), JsonError>
+    ensures said { OnOk result (IsOneMore pair_said (says.member_said key.now (says.said (value_view value.now)))
+        pairs.old.items pairs.new.items) }
+    ensures refused { IfErr result (IsRefusal (says.member_said key.now (says.said (value_view value.now)))) }
+{
     if is_reserved(key) {
         let error = JsonError::refusal(alloc, RefusalReason::ReservedKey);
         return Err(error.under_key(alloc, key));
     }
-    match value_from_json_value(alloc, value) {
+    match restricted_expr_from_json_value(alloc, value) {
         Ok(expr) => put_pair(alloc, key, expr, pairs),
         Err(error) => Err(error.under_key(alloc, key)),
     }
@@ -164,7 +216,10 @@ fn put_pair(
     key: &str,
     expr: RestrictedExpr,
     pairs: &mut Vec<(RcStr, RestrictedExpr)>,
-) -> Result<(), JsonError> {
+) -> Result<(), JsonError>
+    ensures said { OnOk result (IsOneMore pair_said (Ok (key.now, restricted_term expr)) pairs.old.items pairs.new.items) }
+    ensures memory { IfErr result IsMemory }
+{
     match RcStr::from_str(alloc, key) {
         Ok(key) => match pairs.push((key, expr)) {
             Ok(()) => Ok(()),
@@ -178,18 +233,24 @@ fn put_pair(
 }
 
 #[cycle(values)]
-fn read_call(alloc: Global, call: &Value<'_>) -> Result<RestrictedExpr, JsonError> {
+fn read_call(alloc: Global, call: &Value<'_>) -> Result<RestrictedExpr, JsonError>
+    ensures said { IfOk result (λ r. under (at_key (codes "__extn")) (says.said_call (value_view call.now)) ≡ Ok (restricted_term r)) }
+    ensures refused { IfErr result (IsRefusal (under (at_key (codes "__extn")) (says.said_call (value_view call.now)))) }
+{
     match call_shape(call) {
         Some(shape) => match read_shape(alloc, shape) {
             Ok(call) => Ok(call),
-            Err(error) => Err(error.under_key(alloc, CALL)),
+            Err(error) => Err(error.under_key(alloc, "__extn")),
         },
-        None => Err(JsonError::refusal(alloc, RefusalReason::NotACall).under_key(alloc, CALL)),
+        None => Err(JsonError::refusal(alloc, RefusalReason::NotACall).under_key(alloc, "__extn")),
     }
 }
 
 #[cycle(values)]
-fn read_shape(alloc: Global, shape: CallShape<'_, '_>) -> Result<RestrictedExpr, JsonError> {
+fn read_shape(alloc: Global, shape: CallShape<'_, '_>) -> Result<RestrictedExpr, JsonError>
+    ensures said { IfOk result (λ r. shape_said (shape.parts_view shape) ≡ Ok (restricted_term r)) }
+    ensures refused { IfErr result (IsRefusal (shape_said (shape.parts_view shape))) }
+{
     match shape.function.as_str() {
         Some(function) => read_called(alloc, function, shape.key, shape.argument),
         None => Err(JsonError::refusal(alloc, RefusalReason::NotACall)),
@@ -202,7 +263,10 @@ fn read_called(
     function: &str,
     key: &str,
     argument: &Value<'_>,
-) -> Result<RestrictedExpr, JsonError> {
+) -> Result<RestrictedExpr, JsonError>
+    ensures said { IfOk result (λ r. and_then (says.called function.now) (arguments_of key.now (value_view argument.now)) ≡ Ok (restricted_term r)) }
+    ensures refused { IfErr result (IsRefusal (and_then (says.called function.now) (arguments_of key.now (value_view argument.now)))) }
+{
     let mut args: Vec<RestrictedExpr> = Vec::new(alloc);
     match read_arguments(alloc, key, argument, &mut args) {
         Ok(()) => called(alloc, function, args),
@@ -220,7 +284,11 @@ fn read_arguments(
     key: &str,
     argument: &Value<'_>,
     args: &mut Vec<RestrictedExpr>,
-) -> Result<(), JsonError> {
+) -> Result<(), JsonError>
+    requires { args.old.items ≡ [] }
+    ensures said { OnOk result (arguments_of key.now (value_view argument.now) ≡ Ok (map restricted_term args.new.items)) }
+    ensures refused { IfErr result (IsRefusal (arguments_of key.now (value_view argument.now))) }
+{
     if key == "arg" {
         read_argument(alloc, argument, args)
     } else if key == "args" {
@@ -238,8 +306,12 @@ fn read_argument(
     alloc: Global,
     argument: &Value<'_>,
     args: &mut Vec<RestrictedExpr>,
-) -> Result<(), JsonError> {
-    match value_from_json_value(alloc, argument) {
+) -> Result<(), JsonError>
+    requires { args.old.items ≡ [] }
+    ensures said { OnOk result (made_of says.one (under (at_key (codes "arg")) (says.said (value_view argument.now))) ≡ Ok (map restricted_term args.new.items)) }
+    ensures refused { IfErr result (IsRefusal (made_of says.one (under (at_key (codes "arg")) (says.said (value_view argument.now))))) }
+{
+    match restricted_expr_from_json_value(alloc, argument) {
         Ok(argument) => match args.push(argument) {
             Ok(()) => Ok(()),
             Err(failed) => Err(JsonError::from(failed)),
@@ -253,7 +325,11 @@ fn read_list(
     alloc: Global,
     list: &Value<'_>,
     args: &mut Vec<RestrictedExpr>,
-) -> Result<(), JsonError> {
+) -> Result<(), JsonError>
+    requires { args.old.items ≡ [] }
+    ensures said { OnOk result (says.said_list (value_view list.now) ≡ Ok (map restricted_term args.new.items)) }
+    ensures refused { IfErr result (IsRefusal (says.said_list (value_view list.now))) }
+{
     match array(list) {
         Some(items) => read_items(alloc, items, args),
         None => Err(JsonError::refusal(alloc, RefusalReason::NotAnArray)),
