@@ -5,17 +5,17 @@ use Rattle.json.specs.Json.{Json, null, boolean, number, string, array, object}
 use Rattle.json.specs.Value.{value_view, items_view, members_view}
 use Rattle.json.specs.declared.value.Value.{Value, Null, Bool as Flag, Number, String, Array, Object, the_lemmas}
 
-pub view_null : {A : Type 0} → value_view {A} Null ≡ null
-view_null = search (rules, the_lemmas)
+pub view_null : (A : Type 0) → value_view {A = A} Null ≡ null
+view_null A = search (rules, the_lemmas)
 
-pub view_bool : {A : Type 0} → (b : Bool) → value_view {A} (Flag b) ≡ boolean b
-view_bool b = search (rules, the_lemmas)
+pub view_bool : (A : Type 0) (b : Bool) → value_view {A = A} (Flag b) ≡ boolean b
+view_bool A b = search (rules, the_lemmas)
 
-pub view_number : {A : Type 0} → (s : Bor (List ℕ)) → value_view {A} (Number s) ≡ number s.now
-view_number s = search (rules, the_lemmas)
+pub view_number : (A : Type 0) (s : Bor (List ℕ)) → value_view {A = A} (Number s) ≡ number s.now
+view_number A s = search (rules, the_lemmas)
 
-pub view_string : {A : Type 0} → (s : Bor (List ℕ)) → value_view {A} (String s) ≡ string s.now
-view_string s = search (rules, the_lemmas)
+pub view_string : (A : Type 0) (s : Bor (List ℕ)) → value_view {A = A} (String s) ≡ string s.now
+view_string A s = search (rules, the_lemmas)
 
 pub view_array : {A : Type 0} → (v : Vec (Value A) A) → value_view (Array v) ≡ array (items_view v.items)
 view_array v = search (rules, the_lemmas)

@@ -5,6 +5,7 @@ use Rattle.cedar_json.specs.declared.errors.JsonError.{JsonError}
 use Rattle.cedar_json.specs.declared.errors.JsonError.TheVariants as errors
 use Rattle.cedar_json.specs.declared.errors.RefusalReason.{RefusalReason}
 use Rattle.cedar_json.specs.Paths.{Step, path_view}
+use Rattle.cedar_json.specs.declared.paths.JsonPath.{JsonPath}
 
 pub record Refusal : Type 0 where
   pub path : List Step
@@ -63,13 +64,29 @@ IsEvaluationAt path error (errors.Refused p reason) = ⊥
 IsEvaluationAt path error (errors.Evaluation p e) = (path_view p ≡ path) × (e ≡ error)
 IsEvaluationAt path error (errors.Memory e) = ⊤
 
--- the same error, of a part that this step leads to; or want of memory
+-- the way is one step longer in front, and the reason is the same
+abbrev pub IsRefusedBelow : Step → JsonError → JsonPath → RefusalReason → Type 0
+IsRefusedBelow s errors.Syntax path reason = ⊥
+IsRefusedBelow s errors.DuplicateKey path reason = ⊥
+IsRefusedBelow s (errors.Refused p r) path reason = (path_view path ≡ s ∷ path_view p) × (reason ≡ r)
+IsRefusedBelow s (errors.Evaluation p e) path reason = ⊥
+IsRefusedBelow s (errors.Memory e) path reason = ⊥
+
+-- the way is one step longer in front, and the error is the same
+abbrev pub IsEvaluatedBelow : Step → JsonError → JsonPath → EvaluationError → Type 0
+IsEvaluatedBelow s errors.Syntax path error = ⊥
+IsEvaluatedBelow s errors.DuplicateKey path error = ⊥
+IsEvaluatedBelow s (errors.Refused p r) path error = ⊥
+IsEvaluatedBelow s (errors.Evaluation p e) path error = (path_view path ≡ s ∷ path_view p) × (error ≡ e)
+IsEvaluatedBelow s (errors.Memory e) path error = ⊥
+
+-- the second error is the first, of a part that this step leads to; or want of memory
 abbrev pub IsUnder : Step → JsonError → JsonError → Type 0
-IsUnder s errors.Syntax e = e ≡ errors.Syntax
-IsUnder s errors.DuplicateKey e = e ≡ errors.DuplicateKey
-IsUnder s (errors.Refused path reason) e = IsRefusedAt (s ∷ path_view path) reason e
-IsUnder s (errors.Evaluation path error) e = IsEvaluationAt (s ∷ path_view path) error e
-IsUnder s (errors.Memory error) e = e ≡ errors.Memory error
+IsUnder s e errors.Syntax = e ≡ errors.Syntax
+IsUnder s e errors.DuplicateKey = e ≡ errors.DuplicateKey
+IsUnder s e (errors.Refused path reason) = IsRefusedBelow s e path reason
+IsUnder s e (errors.Evaluation path error) = IsEvaluatedBelow s e path error
+IsUnder s e (errors.Memory error) = ⊤
 
 -- memory was wanting
 abbrev pub IsMemory : JsonError → Type 0

@@ -48,9 +48,15 @@ pub enum JsonError {
     /// The text is JSON, and an object of it has a key twice.
     DuplicateKey,
     /// A part of the JSON value is refused: where it stands, and why.
-    Refused { path: JsonPath, reason: RefusalReason },
+    Refused {
+        path: JsonPath,
+        reason: RefusalReason,
+    },
     /// An attribute, a tag or a context does not evaluate: where it stands, and the error.
-    Evaluation { path: JsonPath, error: EvaluationError },
+    Evaluation {
+        path: JsonPath,
+        error: EvaluationError,
+    },
     /// Memory was wanting.
     Memory(AllocError),
 }
@@ -176,7 +182,11 @@ impl fmt::Display for JsonError {
     }
 }
 
-fn write_refusal<W: fmt::Write>(path: &JsonPath, reason: RefusalReason, f: &mut fmt::Formatter<W>) -> fmt::Result {
+fn write_refusal<W: fmt::Write>(
+    path: &JsonPath,
+    reason: RefusalReason,
+    f: &mut fmt::Formatter<W>,
+) -> fmt::Result {
     path.fmt(f)?;
     f.write_str(": ")?;
     reason.fmt(f)

@@ -22,6 +22,7 @@ pub use evaluation::evaluated_entities;
 pub use paths::{JsonPath, PathStep};
 pub use requests::request_from_json_value;
 pub use texts::{
-    context_from_json_str, stated_entities_from_json_str, request_from_json_str, restricted_expr_from_json_str,
+    context_from_json_str, request_from_json_str, restricted_expr_from_json_str,
+    stated_entities_from_json_str,
 };
 pub use values::restricted_expr_from_json_value;

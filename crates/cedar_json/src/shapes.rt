@@ -7,6 +7,15 @@ ghost use Rattle.cedar_json.specs.Shapes as shape;
 
 use json::Value;
 
+/// Two members.
+#[derive(Clone, Copy)]
+pub(crate) struct Two<'v, 'a> {
+    first_key: &'v str,
+    first: &'v Value<'a>,
+    second_key: &'v str,
+    second: &'v Value<'a>,
+}
+
 /// What a call is made of: what stands at `fn`, and the key and the value of the other member.
 #[derive(Clone, Copy)]
 pub(crate) struct CallShape<'v, 'a> {
@@ -57,35 +66,57 @@ pub(crate) fn sole<'v, 'a>(
     }
 }
 
-/// The function and the argument of a call, in either order.
-pub(crate) fn call_shape<'v, 'a>(call: &'v Value<'a>) -> Option<CallShape<'v, 'a>>
-    ensures { option_map shape.parts_view result ≡ shape.call_shape (value_view call.now) }
+// The members, where there are two.
+fn two_in<'v, 'a>(members: &'v Vec<(&'a str, Value<'a>)>) -> Option<Two<'v, 'a>>
+    ensures { option_map shape.two_view result ≡ shape.two_in (members_view members.now.items) }
 {
-    match object(call) {
-        Some(members) => call_in(members),
+    if members.len() == 2 {
+        let first = &members[0];
+        let second = &members[1];
+        Some(Two {
+            first_key: first.0,
+            first: &first.1,
+            second_key: second.0,
+            second: &second.1,
+        })
+    } else {
+        None
+    }
+}
+
+fn two_of<'v, 'a>(value: &'v Value<'a>) -> Option<Two<'v, 'a>>
+    ensures { option_map shape.two_view result ≡ shape.two_of (value_view value.now) }
+{
+    match object(value) {
+        Some(members) => two_in(members),
         None => None,
     }
 }
 
-fn call_in<'v, 'a>(members: &'v Vec<(&'a str, Value<'a>)>) -> Option<CallShape<'v, 'a>>
-    ensures { option_map shape.parts_view result ≡ shape.call_in (members_view members.now.items) }
+/// The function and the argument of a call, in either order.
+pub(crate) fn call_shape<'v, 'a>(call: &'v Value<'a>) -> Option<CallShape<'v, 'a>>
+    ensures { option_map shape.parts_view result ≡ shape.call_shape (value_view call.now) }
 {
-    if members.len() != 2 {
-        return None;
+    match two_of(call) {
+        Some(two) => call_of(two),
+        None => None,
     }
-    let first = &members[0];
-    let second = &members[1];
-    if first.0 == "fn" {
+}
+
+fn call_of<'v, 'a>(two: Two<'v, 'a>) -> Option<CallShape<'v, 'a>>
+    ensures { option_map shape.parts_view result ≡ shape.call_of (shape.two_view two.entry) }
+{
+    if two.first_key == "fn" {
         Some(CallShape {
-            function: &first.1,
-            key: second.0,
-            argument: &second.1,
+            function: two.first,
+            key: two.second_key,
+            argument: two.second,
         })
-    } else if second.0 == "fn" {
+    } else if two.second_key == "fn" {
         Some(CallShape {
-            function: &second.1,
-            key: first.0,
-            argument: &first.1,
+            function: two.second,
+            key: two.first_key,
+            argument: two.first,
         })
     } else {
         None
@@ -94,34 +125,28 @@ fn call_in<'v, 'a>(members: &'v Vec<(&'a str, Value<'a>)>) -> Option<CallShape<'
 
 /// The type and the id of an entity, in either order.
 pub(crate) fn uid_shape<'v, 'a>(value: &'v Value<'a>) -> Option<(&'v str, &'v str)>
-    ensures { option_map (λ p. (p.0.now, p.1.now)) result ≡ shape.uid_shape (value_view value.now) }
+    ensures { shape.texts_in result ≡ shape.uid_shape (value_view value.now) }
 {
-    match object(value) {
-        Some(members) => uid_in(members),
+    match two_of(value) {
+        Some(two) => uid_of(two),
         None => None,
     }
 }
 
-fn uid_in<'v, 'a>(members: &'v Vec<(&'a str, Value<'a>)>) -> Option<(&'v str, &'v str)>
-    ensures { option_map (λ p. (p.0.now, p.1.now)) result ≡ shape.uid_in (members_view members.now.items) }
+fn uid_of<'v, 'a>(two: Two<'v, 'a>) -> Option<(&'v str, &'v str)>
+    ensures { shape.texts_in result ≡ shape.uid_of (shape.two_view two.entry) }
 {
-    if members.len() != 2 {
-        return None;
-    }
-    let first = &members[0];
-    let second = &members[1];
-    if first.0 == "type" && second.0 == "id" {
-        both_texts(first.1.as_str(), second.1.as_str())
-    } else if first.0 == "id" && second.0 == "type" {
-        both_texts(second.1.as_str(), first.1.as_str())
+    if two.first_key == "type" && two.second_key == "id" {
+        both_texts(two.first.as_str(), two.second.as_str())
+    } else if two.first_key == "id" && two.second_key == "type" {
+        both_texts(two.second.as_str(), two.first.as_str())
     } else {
         None
     }
 }
 
 fn both_texts<'v>(ty: Option<&'v str>, id: Option<&'v str>) -> Option<(&'v str, &'v str)>
-    ensures { option_map (λ p. (p.0.now, p.1.now)) result ≡
-        shape.both_texts (option_map (λ t. t.now) ty) (option_map (λ t. t.now) id) }
+    ensures { shape.texts_in result ≡ shape.both_texts (shape.text_in ty.entry) (shape.text_in id.entry) }
 {
     match ty {
         Some(ty) => match id {

@@ -1,4 +1,4 @@
-use crate::{stated_entities_from_json_str, restricted_expr_from_json_str};
+use crate::{restricted_expr_from_json_str, stated_entities_from_json_str};
 use std::alloc::Global;
 use std::test::Fail;
 
@@ -12,11 +12,28 @@ fn value_text(alloc: Global, text: &str) -> Result<String, Fail> {
 #[test]
 fn values(rt: HostRuntime) -> Result<(), Fail> {
     for text in [
-        "true", "1", "-9223372036854775808", "9223372036854775808", "1.0", "null", "\"a\"", "[1,2,[]]", "{}",
-        "{\"b\":1,\"a\":[null]}", "{\"__entity\":{\"type\":\"A::B\",\"id\":\"x\"}}",
-        "{\"__entity\":{\"type\":\"A::\",\"id\":\"x\"}}", "{\"__entity\":3}", "{\"__extn\":{\"fn\":\"ip\",\"arg\":\"10.0.0.1\"}}",
-        "{\"__extn\":{\"args\":[1,2],\"fn\":\"f\"}}", "{\"__extn\":{\"fn\":\"unknown\",\"arg\":\"x\"}}", "{\"__extn\":{\"fn\":\"unknown\",\"arg\":1}}",
-        "{\"__extn\":1,\"a\":2}", "{\"a\":1,\"a\":1}", "[", "{\"a b\":null}", "-0",
+        "true",
+        "1",
+        "-9223372036854775808",
+        "9223372036854775808",
+        "1.0",
+        "null",
+        "\"a\"",
+        "[1,2,[]]",
+        "{}",
+        "{\"b\":1,\"a\":[null]}",
+        "{\"__entity\":{\"type\":\"A::B\",\"id\":\"x\"}}",
+        "{\"__entity\":{\"type\":\"A::\",\"id\":\"x\"}}",
+        "{\"__entity\":3}",
+        "{\"__extn\":{\"fn\":\"ip\",\"arg\":\"10.0.0.1\"}}",
+        "{\"__extn\":{\"args\":[1,2],\"fn\":\"f\"}}",
+        "{\"__extn\":{\"fn\":\"unknown\",\"arg\":\"x\"}}",
+        "{\"__extn\":{\"fn\":\"unknown\",\"arg\":1}}",
+        "{\"__extn\":1,\"a\":2}",
+        "{\"a\":1,\"a\":1}",
+        "[",
+        "{\"a b\":null}",
+        "-0",
     ] {
         let shown = value_text(rt.alloc(), text)?;
         println!(rt; "{text} => {shown}")?;
@@ -37,7 +54,10 @@ fn entities_text(alloc: Global, text: &str) -> Result<String, Fail> {
 #[test]
 fn entities(rt: HostRuntime) -> Result<(), Fail> {
     for text in [
-        "[]", "{}", "[{}]", "[1]",
+        "[]",
+        "{}",
+        "[{}]",
+        "[1]",
         "[{\"uid\":{\"type\":\"A\",\"id\":\"x\"},\"attrs\":{},\"parents\":[]}]",
         "[{\"uid\":{\"type\":\"A\",\"id\":\"x\"},\"attrs\":{},\"parents\":[]},{\"uid\":{\"__entity\":{\"type\":\"A\",\"id\":\"x\"}},\"attrs\":{},\"parents\":[]}]",
         "[{\"uid\":{\"type\":\"A\",\"id\":\"x\"},\"attrs\":{\"age\":null},\"parents\":[]}]",

@@ -12,7 +12,10 @@ use std::alloc::{AllocError, Global};
 
 /// The restricted expression that the text says, as `restricted_expr_from_json_value` reads it. `Syntax` where the text is no JSON, and
 /// `DuplicateKey` where an object of it has a key twice.
-pub fn restricted_expr_from_json_str(alloc: Global, text: &str) -> Result<RestrictedExpr, JsonError> {
+pub fn restricted_expr_from_json_str(
+    alloc: Global,
+    text: &str,
+) -> Result<RestrictedExpr, JsonError> {
     let mut scratch = Scratch::new(alloc);
     match Value::parse_strict(alloc, text, &mut scratch) {
         Ok(value) => restricted_expr_from_json_value(alloc, &value),
@@ -35,7 +38,10 @@ pub fn context_from_json_str(
 }
 
 /// The entities that the text says, before anything of them is evaluated.
-pub fn stated_entities_from_json_str(alloc: Global, text: &str) -> Result<Vec<StatedEntity>, JsonError> {
+pub fn stated_entities_from_json_str(
+    alloc: Global,
+    text: &str,
+) -> Result<Vec<StatedEntity>, JsonError> {
     let mut scratch = Scratch::new(alloc);
     match Value::parse_strict(alloc, text, &mut scratch) {
         Ok(value) => stated_entities_from_json_value(alloc, &value),

@@ -26,7 +26,10 @@ use std::rc::RcStr;
 /// The restricted expression that the JSON value says: a boolean, a long, a string, a set of the elements of an array,
 /// a record of the members of an object, an entity, a call of an extension function, or an unknown.
 #[cycle(values)]
-pub fn restricted_expr_from_json_value(alloc: Global, value: &Value<'_>) -> Result<RestrictedExpr, JsonError>
+pub fn restricted_expr_from_json_value(
+    alloc: Global,
+    value: &Value<'_>,
+) -> Result<RestrictedExpr, JsonError>
     ensures said { IfOk result (λ r. says.said (value_view value.now) ≡ Ok (restricted_term r)) }
     ensures refused { IfErr result (IsRefusal (says.said (value_view value.now))) }
 {
@@ -119,10 +122,7 @@ fn read_item(
 }
 
 #[cycle(values)]
-fn read_object(
-    alloc: Global,
-    members: &Vec<(&str, Value<'_>)>,
-) -> Result<RestrictedExpr, JsonError>
+fn read_object(alloc: Global, members: &Vec<(&str, Value<'_>)>) -> Result<RestrictedExpr, JsonError>
     ensures said { IfOk result (λ r. says.said (object (members_view members.now.items)) ≡ Ok (restricted_term r)) }
     ensures refused { IfErr result (IsRefusal (says.said (object (members_view members.now.items)))) }
 {
@@ -156,10 +156,7 @@ pub(crate) fn read_record(
     }
 }
 
-fn record(
-    alloc: Global,
-    pairs: Vec<(RcStr, RestrictedExpr)>,
-) -> Result<RestrictedExpr, JsonError>
+fn record(alloc: Global, pairs: Vec<(RcStr, RestrictedExpr)>) -> Result<RestrictedExpr, JsonError>
     ensures said { IfOk result (λ r. says.record_of_pairs (pairs_said pairs.items) ≡ Ok (restricted_term r)) }
     ensures refused { IfErr result (IsRefusal (says.record_of_pairs (pairs_said pairs.items))) }
 {
@@ -248,8 +245,8 @@ fn read_call(alloc: Global, call: &Value<'_>) -> Result<RestrictedExpr, JsonErro
 
 #[cycle(values)]
 fn read_shape(alloc: Global, shape: CallShape<'_, '_>) -> Result<RestrictedExpr, JsonError>
-    ensures said { IfOk result (λ r. shape_said (shape.parts_view shape) ≡ Ok (restricted_term r)) }
-    ensures refused { IfErr result (IsRefusal (shape_said (shape.parts_view shape))) }
+    ensures said { IfOk result (λ r. shape_said (shape.parts_view shape.entry) ≡ Ok (restricted_term r)) }
+    ensures refused { IfErr result (IsRefusal (shape_said (shape.parts_view shape.entry))) }
 {
     match shape.function.as_str() {
         Some(function) => read_called(alloc, function, shape.key, shape.argument),
