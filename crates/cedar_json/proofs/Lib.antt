@@ -1,2 +1,5 @@
 pub mod Views
 mod Members
+mod Refused
+mod Reading
+mod Smaller

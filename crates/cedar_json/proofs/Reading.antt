@@ -1,0 +1,69 @@
+-- What objects say, and lists that are read.
+use Rattle.std.proofs.Common.{◌≡◌, ℕ, Bool, true, false, cond, List, [], ◌∷◌, ◌++◌, map, Option, Some, None, Ok, Err, refl, sym, ap, ◌∙◌}
+use Rattle.std.specs.Prelude.{bytes_eq, codes}
+use Rattle.std.specs.declared.alloc.Global.{Global}
+use Rattle.std.specs.declared.rc.RcStr.{RcStr}
+use Rattle.json.specs.Json.{Json, null, boolean, number, string, array, object, Members, no_members, member}
+use Rattle.json.specs.Find.{as_str}
+use Rattle.cedar_model.specs.Terms.{Text, Term, one_term, terms_of}
+use Rattle.cedar_expressions.specs.View.{terms_view}
+use Rattle.cedar_expressions.specs.Records.{pairs_view, keys_view}
+use Rattle.cedar_restricted_expressions.specs.declared.restricted_expr.RestrictedExpr.{RestrictedExpr}
+use Rattle.cedar_restricted_expressions.specs.Views.{restricted_term, exprs_in, pairs_in}
+use Rattle.cedar_json.specs.declared.errors.RefusalReason.TheVariants as reasons
+use Rattle.cedar_json.specs.Refusals.{Said, refused}
+use Rattle.cedar_json.specs.Shapes.{Member, Parts, sole, call_of, call_shape}
+use Rattle.cedar_json.specs.Said.{said, said_members, said_call, said_sole_call, entity_said, object_said, sole_said, record_said, keys_of_pairs}
+use Rattle.cedar_json.specs.Lists.{shape_said, pair_said, pairs_said}
+
+-- ---- objects
+
+pub sole_object : (ms : Members) (k : Text) (j : Json) → Some (k, j) ≡ sole ms
+    → said (object ms) ≡ sole_said k (entity_said j) (said_call j) (record_said (said_members ms))
+sole_object no_members k j h = absurd (cc)
+sole_object (member l i no_members) k j h =
+    let keys : k ≡ l = cc in
+    let same : j ≡ i = cc in
+    λ n. sole_said (sym keys n) (entity_said (sym same n)) (said_call (sym same n)) (record_said (said_members (member l i no_members)))
+sole_object (member l i (member m x ms)) k j h = absurd (cc)
+
+pub other_object : (ms : Members) → None ≡ sole ms → said (object ms) ≡ record_said (said_members ms)
+other_object no_members h = refl
+other_object (member l i no_members) h = absurd (cc)
+other_object (member l i (member m x ms)) h = refl
+
+-- ---- calls
+
+abbrev pub by_shape : Option Parts → Said Term
+by_shape None = refused reasons.NotACall
+by_shape (Some p) = shape_said p
+
+choice : (b c : Bool) (x y : Parts) → cond b (shape_said x) (cond c (shape_said y) (refused reasons.NotACall)) ≡ by_shape (cond b (Some x) (cond c (Some y) None))
+choice true c x y = refl
+choice false true x y = refl
+choice false false x y = refl
+
+pub call_by_shape : (j : Json) → said_call j ≡ by_shape (call_shape j)
+call_by_shape null = refl
+call_by_shape (boolean b) = refl
+call_by_shape (number t) = refl
+call_by_shape (string t) = refl
+call_by_shape (array js) = refl
+call_by_shape (object no_members) = refl
+call_by_shape (object (member k a no_members)) = refl
+call_by_shape (object (member k a (member l b no_members))) = choice (bytes_eq k (codes "fn")) (bytes_eq l (codes "fn")) _ _
+call_by_shape (object (member k a (member l b (member m c ms)))) = refl
+
+-- ---- lists
+
+pub terms_read : (rs : List RestrictedExpr) → terms_of (map restricted_term rs) ≡ terms_view (exprs_in rs)
+terms_read [] = refl
+terms_read (r ∷ rs) = ap (one_term (restricted_term r)) (terms_read rs)
+
+pub keys_read : (ps : List (RcStr Global × RestrictedExpr)) → keys_of_pairs (pairs_said ps) ≡ keys_view (pairs_in ps)
+keys_read [] = refl
+keys_read (p ∷ ps) = ap (λ (ks : List Text). (pair_said p).0 ∷ ks) (keys_read ps)
+
+pub pairs_read : (ps : List (RcStr Global × RestrictedExpr)) → pairs_said ps ≡ pairs_view (pairs_in ps)
+pairs_read [] = refl
+pairs_read (p ∷ ps) = ap (λ (qs : List (Text × Term)). pair_said p ∷ qs) (pairs_read ps)
