@@ -1,5 +1,6 @@
 pub mod Views
 mod Members
-mod Refused
-mod Reading
-mod Smaller
+pub mod Refused
+pub mod Reading
+pub mod Longs
+pub mod Smaller

@@ -1,17 +1,17 @@
 -- How refusals are passed on.
-use Rattle.std.proofs.Common.{◌≡◌, List, [], ◌∷◌, ◌++◌, Result, Ok, Err, refl, sym, ap, ◌∙◌, subst, append_assoc}
+use Rattle.std.proofs.Common.{◌≡◌, List, [], ◌∷◌, ◌++◌, Result, Ok, Err, refl, sym, ap, ◌∙◌, subst, append_assoc, append-nil}
 use Rattle.cedar_json.specs.declared.errors.JsonError.{JsonError}
 use Rattle.cedar_json.specs.declared.errors.JsonError.TheVariants as errors
 use Rattle.cedar_json.specs.declared.errors.RefusalReason.{RefusalReason}
 use Rattle.cedar_json.specs.Paths.{Step, path_view}
 use Rattle.cedar_json.specs.Refusals.{Refusal, Said, under, before, made_of, and_then, IsRefusal, IsRefusedAt, IsUnder, IsMemory}
 
-pub refused_at : {T : Type 0} (path : List Step) (r : RefusalReason) (e : JsonError) → IsRefusedAt path r e → IsRefusal {T = T} (Err (record { path = path; reason = r })) e
-refused_at path r errors.Syntax h = h
-refused_at path r errors.DuplicateKey h = h
-refused_at path r (errors.Refused p t) h = λ i. Err (record { path = sym h.0 i; reason = sym h.1 i })
-refused_at path r (errors.Evaluation p t) h = h
-refused_at path r (errors.Memory m) h = tt
+pub refused_at : (T : Type 0) (path : List Step) (r : RefusalReason) (e : JsonError) → IsRefusedAt path r e → IsRefusal {T = T} (Err (record { path = path; reason = r })) e
+refused_at T path r errors.Syntax h = h
+refused_at T path r errors.DuplicateKey h = h
+refused_at T path r (errors.Refused p t) h = λ i. Err (record { path = sym h.0 i; reason = sym h.1 i })
+refused_at T path r (errors.Evaluation p t) h = h
+refused_at T path r (errors.Memory m) h = tt
 
 pub memory_refused : {T : Type 0} (said : Said T) (e : JsonError) → IsMemory e → IsRefusal said e
 memory_refused said errors.Syntax h = h
@@ -66,8 +66,17 @@ one_done : {T : Type 0} (done : List T) (t : T) (others : Said (List T)) → mad
 one_done done t (Ok ts) = ap Ok (sym (append_assoc done (t ∷ []) ts))
 one_done done t (Err r) = refl
 
-pub one_more_done : {T : Type 0} (all : Said (List T)) (done : List T) (first : Said T) (others : Said (List T)) (t : T)
-    → all ≡ made_of (λ ts. done ++ ts) (before first others) → first ≡ Ok t → all ≡ made_of (λ ts. (done ++ t ∷ []) ++ ts) others
-one_more_done all done first others t is h = is ∙ ap (λ (x : Said _). made_of (λ ts. done ++ ts) (before x others)) h ∙ one_done done t others
+pub one_more_done : {T : Type 0} (all : Said (List T)) (done : List T) (first : Said T) (others : Said (List T)) (new : List T)
+    → all ≡ made_of (λ ts. done ++ ts) (before first others) → made_of (λ t. done ++ t ∷ []) first ≡ Ok new → all ≡ made_of (λ ts. new ++ ts) others
+one_more_done all done (Ok t) others new is h =
+    let same : done ++ t ∷ [] ≡ new = cc in
+    is ∙ one_done done t others ∙ ap (λ (ts : List _). made_of (λ us. ts ++ us) others) same
+one_more_done all done (Err r) others new is h = absurd (cc)
+
+all_done : {T : Type 0} (done : List T) → made_of (λ ts. done ++ ts) (Ok []) ≡ Ok done
+all_done done = ap Ok (append-nil done)
+
+pub none_left : {T : Type 0} (all : Said (List T)) (done : List T) → all ≡ made_of (λ ts. done ++ ts) (Ok []) → all ≡ Ok done
+none_left all done is = is ∙ all_done done
 
 pub ruleset refusals = (refused_at, memory_refused, refused_under, refused_made, refused_then)
