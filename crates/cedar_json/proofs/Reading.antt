@@ -12,7 +12,7 @@ use Rattle.cedar_expressions.specs.Records.{pairs_view, keys_view}
 use Rattle.cedar_restricted_expressions.specs.declared.restricted_expr.RestrictedExpr.{RestrictedExpr}
 use Rattle.cedar_restricted_expressions.specs.Views.{restricted_term, exprs_in, pairs_in}
 use Rattle.cedar_json.specs.declared.errors.RefusalReason.TheVariants as reasons
-use Rattle.cedar_json.specs.Refusals.{Said, refused}
+use Rattle.cedar_json.specs.Refusals.{Said, refused, made_of}
 use Rattle.cedar_json.specs.Shapes.{Member, Parts, sole, call_of, call_shape}
 use Rattle.cedar_json.specs.Said.{said, said_members, said_call, said_sole_call, entity_said, object_said, sole_said, record_said, keys_of_pairs}
 use Rattle.cedar_json.specs.Lists.{shape_said, pair_said, pairs_said, IsUnrecorded}
@@ -24,7 +24,7 @@ use Rattle.cedar_json.specs.declared.errors.JsonError.{JsonError}
 use Rattle.cedar_json.specs.Paths.{at_key}
 use Rattle.cedar_json.specs.Said.{unique_said}
 use Rattle.cedar_json.specs.Refusals.{IsRefusal}
-use Rattle.cedar_json.proofs.Refused.{refused_at, refused_same, memory_refused}
+use Rattle.cedar_json.proofs.Refused.{refused_at, refused_same, memory_refused, none_done}
 
 -- ---- objects
 
@@ -98,5 +98,9 @@ pub unrecorded : (o : Option Text) (place : Text) (ps : List (Text × Term)) (x 
 unrecorded o place ps (constructions.DuplicateKey key context) e h u =
     refused_same (unique_said o ps) (unique_said (Some (rc_str_bytes key)) ps) e (ap (λ k. unique_said k ps) h.0) (refused_at _ (at_key (rc_str_bytes key) ∷ []) reasons.RepeatedKey e u)
 unrecorded o place ps (constructions.Memory error) e h u = memory_refused (unique_said o ps) e u
+
+-- nothing is read yet
+pub none_read : (rs : List RestrictedExpr) (s : Said (List Term)) → rs ≡ [] → s ≡ made_of (λ ts. map restricted_term rs ++ ts) s
+none_read rs s h = none_done s ∙ ap (λ (ts : List RestrictedExpr). made_of (λ us. map restricted_term ts ++ us) s) (sym h)
 
 pub ruleset reading = (one_read, pair_read)

@@ -79,4 +79,8 @@ all_done done = ap Ok (append-nil done)
 pub none_left : {T : Type 0} (all : Said (List T)) (done : List T) → all ≡ made_of (λ ts. done ++ ts) (Ok []) → all ≡ Ok done
 none_left all done is = is ∙ all_done done
 
+pub none_done : {T : Type 0} (s : Said (List T)) → s ≡ made_of (λ ts. [] ++ ts) s
+none_done (Ok ts) = refl
+none_done (Err r) = refl
+
 pub ruleset refusals = (refused_at, memory_refused, refused_under, refused_made, refused_then)
