@@ -4,3 +4,5 @@ pub mod Refused
 pub mod Reading
 pub mod Longs
 pub mod Smaller
+pub mod Stored
+pub mod TextLemmas

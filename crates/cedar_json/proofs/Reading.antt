@@ -92,7 +92,6 @@ one_read old new r h = ap (map restricted_term) h ∙ map-append restricted_term
 pub pair_read : (old new : List (RcStr Global × RestrictedExpr)) (p : RcStr Global × RestrictedExpr) → new ≡ old ++ p ∷ [] → pairs_said new ≡ pairs_said old ++ pair_said p ∷ []
 pair_read old new p h = ap (map pair_said) h ∙ map-append pair_said old (p ∷ [])
 
-
 -- no record is made of pairs among which a key comes again
 pub unrecorded : (o : Option Text) (place : Text) (ps : List (Text × Term)) (x : ExpressionConstructionError) (e : JsonError) → IsRefusalOf o place x → IsUnrecorded x e → IsRefusal (unique_said o ps) e
 unrecorded o place ps (constructions.DuplicateKey key context) e h u =

@@ -1,5 +1,5 @@
 -- What a JSON value says: a restricted expression, or why there is none.
-use Rattle.std.specs.Prelude.{ℕ, suc, Bool, List, [], ◌∷◌, ◌||◌, ℤ, if◌then◌else◌, map, Option, Some, None, Result, Ok, Err, bytes_eq, codes}
+use Rattle.std.specs.Prelude.{ℕ, ◌+◌, Bool, List, [], ◌∷◌, ◌||◌, ℤ, if◌then◌else◌, map, Option, Some, None, Result, Ok, Err, bytes_eq, codes}
 use Rattle.json.specs.Json.{Json, null, boolean, number, string, array, object, Items, no_items, item, Members, no_members, member}
 use Rattle.json.specs.Find.{as_str}
 use Rattle.cedar_model.specs.Terms.{Text, EntityName, Term, literal, bool_literal, long_literal, text_literal, entity_literal, variable, slot, unknown}
@@ -121,7 +121,7 @@ abbrev mutual
   -- items in order, the first of this index
   pub said_items : ℕ → Items → Said (List Term)
   said_items n no_items = Ok []
-  said_items n (item j js) = before (under (at_index n) (said j)) (said_items (suc n) js)
+  said_items n (item j js) = before (under (at_index n) (said j)) (said_items (n + 1) js)
 
   -- members in order
   pub said_members : Members → Said (List (Text × Term))
@@ -143,9 +143,9 @@ abbrev mutual
   said_call (object no_members) = refused reasons.NotACall
   said_call (object (member k a no_members)) = refused reasons.NotACall
   said_call (object (member k a (member l b no_members))) =
-    if bytes_eq k (codes "fn") then called_said (as_str a) (arguments_said l (said b) (said_list b)) else (
-    if bytes_eq l (codes "fn") then called_said (as_str b) (arguments_said k (said a) (said_list a)) else
-    refused reasons.NotACall)
+      if bytes_eq k (codes "fn") then called_said (as_str a) (arguments_said l (said b) (said_list b)) else (
+      if bytes_eq l (codes "fn") then called_said (as_str b) (arguments_said k (said a) (said_list a)) else
+      refused reasons.NotACall)
   said_call (object (member k a (member l b (member m c ms)))) = refused reasons.NotACall
 
   -- the elements of an array

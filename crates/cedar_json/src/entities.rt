@@ -115,11 +115,7 @@ fn with_uid(alloc: Global, value: &Value<'_>) -> Result<StatedEntity, JsonError>
     }
 }
 
-fn with_attrs(
-    alloc: Global,
-    value: &Value<'_>,
-    uid: EntityUID,
-) -> Result<StatedEntity, JsonError> {
+fn with_attrs(alloc: Global, value: &Value<'_>, uid: EntityUID) -> Result<StatedEntity, JsonError> {
     match attrs_at(alloc, value) {
         Ok(attrs) => with_parents(alloc, value, uid, attrs),
         Err(error) => {
@@ -224,10 +220,7 @@ fn escaped<'v, 'a>(value: &'v Value<'a>) -> Option<&'v Value<'a>> {
     }
 }
 
-fn attrs_at(
-    alloc: Global,
-    value: &Value<'_>,
-) -> Result<Vec<(RcStr, RestrictedExpr)>, JsonError> {
+fn attrs_at(alloc: Global, value: &Value<'_>) -> Result<Vec<(RcStr, RestrictedExpr)>, JsonError> {
     match value.get("attrs") {
         Some(member) => pairs_under(alloc, member, "attrs"),
         None => Err(missing(alloc, "attrs")),
@@ -252,9 +245,7 @@ fn pairs_under(
             Ok(pairs) => Ok(pairs),
             Err(error) => Err(error.under_key(alloc, key)),
         },
-        None => {
-            Err(JsonError::refusal(alloc, RefusalReason::NotAnObject).under_key(alloc, key))
-        }
+        None => { Err(JsonError::refusal(alloc, RefusalReason::NotAnObject).under_key(alloc, key)) }
     }
 }
 

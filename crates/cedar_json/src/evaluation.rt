@@ -1,6 +1,7 @@
 //! Entities whose attributes and tags are evaluated.
-ghost use Rattle.std.specs.Prelude.{◌≡◌, true};
-ghost use Rattle.cedar_layers.specs.Parts.{parts_view, are_restricted_parts};
+ghost use Rattle.std.specs.Prelude.{◌≡◌, true, IfOk};
+ghost use Rattle.cedar_data.specs.Residuals.{partial_view};
+ghost use Rattle.cedar_layers.specs.Parts.{parts_view, are_restricted_parts, is_restricted_part};
 ghost use mathlib.Core.Bool.{Bool-set};
 
 use crate::entities::StatedEntity;
@@ -12,7 +13,7 @@ use cedar_names::EntityUID;
 use cedar_restricted::RestrictedEvaluator;
 use cedar_restricted_expressions::RestrictedExpr;
 use cedar_values::evaluator::err::EvaluationError;
-use std::alloc::Global;
+use std::alloc::{AllocError, Global};
 use std::collections::{BTreeMap, HashSet};
 use std::rc::RcStr;
 
@@ -21,6 +22,25 @@ use std::rc::RcStr;
 struct StoredParts {
     map: BTreeMap<RcStr, PartialValue>,
     ghost restricted: { are_restricted_parts (parts_view map.entries) ≡ true } by { Bool-set _ _ },
+}
+
+impl StoredParts {
+    fn new(alloc: Global) -> StoredParts {
+        StoredParts {
+            map: BTreeMap::new(alloc),
+        }
+    }
+
+    // The parts, and this one under its name.
+    #[tactic(auto, using(crate::proofs::Stored::restricted_insert))]
+    fn with(self, name: RcStr, part: PartialValue) -> Result<StoredParts, AllocError>
+        requires { is_restricted_part (partial_view part) ≡ true }
+    {
+        let mut map = self.map;
+        let replaced = map.insert(name, part)?;
+        drop(replaced);
+        Ok(StoredParts { map })
+    }
 }
 
 /// The entities, with their attributes and tags evaluated with these extensions at most `limit` levels deep: a value,
@@ -101,24 +121,56 @@ fn parts(
     pairs: Vec<(RcStr, RestrictedExpr)>,
     evaluator: &RestrictedEvaluator<'_, '_>,
 ) -> Result<StoredParts, JsonError> {
-    let mut map: BTreeMap<RcStr, PartialValue> = BTreeMap::new(alloc);
+    let mut parts = StoredParts::new(alloc);
     'pairs: for (key, expr) in pairs {
-        let part = part(alloc, &key, &expr, evaluator)?;
-        drop(expr);
-        drop(map.insert(key, part)?);
+        parts = with_part(alloc, parts, key, expr, evaluator)?;
     }
-    Ok(StoredParts { map })
+    Ok(parts)
 }
 
+// The parts, and what the expression is evaluated to under this key.
+fn with_part(
+    alloc: Global,
+    parts: StoredParts,
+    key: RcStr,
+    expr: RestrictedExpr,
+    evaluator: &RestrictedEvaluator<'_, '_>,
+) -> Result<StoredParts, JsonError> {
+    let part = part(alloc, &key, &expr, evaluator);
+    drop(expr);
+    match part {
+        Ok(part) => match parts.with(key, part) {
+            Ok(parts) => Ok(parts),
+            Err(error) => Err(JsonError::Memory(error)),
+        },
+        Err(error) => {
+            drop((parts, key));
+            Err(error)
+        }
+    }
+}
+
+// What the expression is evaluated to, at this key.
+#[tactic(auto, using(crate::proofs::Stored::sound_part))]
 fn part(
     alloc: Global,
     key: &RcStr,
     expr: &RestrictedExpr,
     evaluator: &RestrictedEvaluator<'_, '_>,
-) -> Result<PartialValue, JsonError> {
+) -> Result<PartialValue, JsonError>
+    ensures restricted { IfOk result (λ p. is_restricted_part (partial_view p) ≡ true) }
+{
     match evaluator.partial_interpret(alloc, expr.as_borrowed()) {
         Ok(part) => Ok(part),
-        Err(EvaluationError::Memory(error)) => Err(JsonError::Memory(error)),
-        Err(error) => Err(JsonError::evaluation(alloc, error).under_key(alloc, key.as_str())),
+        Err(error) => Err(unevaluated(alloc, error, key.as_str())),
+    }
+}
+
+// The error of an evaluation, of the part at this key.
+#[cold]
+fn unevaluated(alloc: Global, error: EvaluationError, key: &str) -> JsonError {
+    match error {
+        EvaluationError::Memory(error) => JsonError::Memory(error),
+        other => JsonError::evaluation(alloc, other).under_key(alloc, key),
     }
 }

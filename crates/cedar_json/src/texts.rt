@@ -1,4 +1,13 @@
+#![tactic(auto, using(crate::proofs::TextLemmas::text_lemmas))]
 //! JSON texts.
+ghost use Rattle.std.specs.Prelude.{◌≡◌, Some, IfOk, IfErr};
+ghost use Rattle.json.specs.Json.{document};
+ghost use Rattle.json.specs.Strict.{HasUniqueKeys};
+ghost use Rattle.json.specs.Value.{value_view};
+ghost use Rattle.cedar_restricted_expressions.specs.Views.{restricted_term};
+ghost use Rattle.cedar_json.specs.Said.{said};
+ghost use Rattle.cedar_json.specs.JsonTexts.{IsUnread, Says, IsTextRefusal};
+
 use crate::contexts::context_from_json_value;
 use crate::entities::{StatedEntity, stated_entities_from_json_value};
 use crate::errors::JsonError;
@@ -14,14 +23,14 @@ use std::alloc::{AllocError, Global};
 
 /// The restricted expression that the text says, as `restricted_expr_from_json_value` reads it. `Syntax` where the text is
 /// no JSON, and `DuplicateKey` where an object of it has a key twice.
-pub fn restricted_expr_from_json_str(
-    alloc: Global,
-    text: &str,
-) -> Result<RestrictedExpr, JsonError> {
+pub fn restricted_expr_from_json_str(alloc: Global, text: &str) -> Result<RestrictedExpr, JsonError>
+    ensures said { IfOk result (λ r. Says text.now said (restricted_term r)) }
+    ensures refused { IfErr result (IsTextRefusal text.now said) }
+{
     let mut scratch = Scratch::new(alloc);
-    match Value::parse_strict(alloc, text, &mut scratch) {
+    match parsed(alloc, text, &mut scratch) {
         Ok(value) => restricted_expr_from_json_value(alloc, &value),
-        Err(error) => Err(unread(error)),
+        Err(error) => Err(error),
     }
 }
 
@@ -34,9 +43,9 @@ pub fn context_from_json_str(
     limit: usize,
 ) -> Result<Context, JsonError> {
     let mut scratch = Scratch::new(alloc);
-    match Value::parse_strict(alloc, text, &mut scratch) {
+    match parsed(alloc, text, &mut scratch) {
         Ok(value) => context_from_json_value(alloc, &value, extensions, limit),
-        Err(error) => Err(unread(error)),
+        Err(error) => Err(error),
     }
 }
 
@@ -61,9 +70,9 @@ pub fn stated_entities_from_json_str(
     text: &str,
 ) -> Result<Vec<StatedEntity>, JsonError> {
     let mut scratch = Scratch::new(alloc);
-    match Value::parse_strict(alloc, text, &mut scratch) {
+    match parsed(alloc, text, &mut scratch) {
         Ok(value) => stated_entities_from_json_value(alloc, &value),
-        Err(error) => Err(unread(error)),
+        Err(error) => Err(error),
     }
 }
 
@@ -76,19 +85,27 @@ pub fn request_from_json_str(
     limit: usize,
 ) -> Result<Request, JsonError> {
     let mut scratch = Scratch::new(alloc);
-    match Value::parse_strict(alloc, text, &mut scratch) {
+    match parsed(alloc, text, &mut scratch) {
         Ok(value) => request_from_json_value(alloc, &value, extensions, limit),
-        Err(error) => Err(unread(error)),
+        Err(error) => Err(error),
     }
 }
 
-// Why no JSON value was read.
-#[cold]
-fn unread(error: Error) -> JsonError {
-    match error {
-        Error::Invalid => JsonError::Syntax,
-        Error::TooLong => JsonError::Syntax,
-        Error::DuplicateKey => JsonError::DuplicateKey,
-        Error::OutOfMemory => JsonError::Memory(AllocError),
+// The JSON value that the text is.
+fn parsed<'a>(
+    alloc: Global,
+    text: &'a str,
+    scratch: &'a mut Scratch,
+) -> Result<Value<'a>, JsonError>
+    ensures said { IfOk result (λ v. document text.now ≡ Some (value_view v)) }
+    ensures unique { IfOk result (λ v. HasUniqueKeys (value_view v)) }
+    ensures unread { IfErr result (IsUnread text.now) }
+{
+    match Value::parse_strict(alloc, text, scratch) {
+        Ok(value) => Ok(value),
+        Err(Error::Invalid) => Err(JsonError::Syntax),
+        Err(Error::TooLong) => Err(JsonError::Syntax),
+        Err(Error::DuplicateKey) => Err(JsonError::DuplicateKey),
+        Err(Error::OutOfMemory) => Err(JsonError::Memory(AllocError)),
     }
 }

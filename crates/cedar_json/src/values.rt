@@ -128,7 +128,10 @@ fn read_item(
 }
 
 #[cycle(values)]
-fn read_object<'a>(alloc: Global, members: &Vec<(&'a str, Value<'a>)>) -> Result<RestrictedExpr, JsonError>
+fn read_object<'a>(
+    alloc: Global,
+    members: &Vec<(&'a str, Value<'a>)>,
+) -> Result<RestrictedExpr, JsonError>
     ensures said { IfOk result (λ r. says.said (object (members_view members.now.items)) ≡ Ok (restricted_term r)) }
     ensures refused { IfErr result (IsRefusal (says.said (object (members_view members.now.items)))) }
 {

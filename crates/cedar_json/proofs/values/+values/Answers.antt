@@ -55,7 +55,7 @@ read_items-items-preserved t c =
     let done = map restricted_term l.elements.items in (
       ap (λ (n : ℕ). n + 1) l.invariant.0,
       one_more_done _ done (under (at_index l.index) (said (value_view x))) (said_items (l.index + 1) (items_view (drop (l.item-index + 1) xs))) _
-      (l.invariant.1 ∙ ap (λ (ys : List (Value Global)). made_of (λ ts. done ++ ts) (said_items l.index (items_view ys))) here) c.in_ok-read_item.ensures.said,
+          (l.invariant.1 ∙ ap (λ (ys : List (Value Global)). made_of (λ ts. done ++ ts) (said_items l.index (items_view ys))) here) c.in_ok-read_item.ensures.said,
     )
 
 pub read_members-read_member-requires : goal.read_members-read_member-requires

@@ -1,0 +1,5 @@
+use Rattle.std.proofs.Common.{◌≡◌}
+use Rattle.cedar_json.proofs.entities.put_entities.Given as goal
+
+abbrev pub invariant-items : goal.invariant-items
+invariant-items l = l.index ≡ l.item-index
