@@ -6,3 +6,5 @@ pub mod Longs
 pub mod Smaller
 pub mod Stored
 pub mod TextLemmas
+pub mod ContextLemmas
+pub mod EntityLemmas

@@ -1,4 +1,16 @@
+#![tactic(auto, using(crate::proofs::Refused::refusals, crate::proofs::EntityLemmas::entities))]
 //! Entities.
+ghost use Rattle.std.specs.Prelude.{◌≡◌, [], ◌∷◌, ◌++◌, Ok, option_map, OnOk, IfOk, IfErr};
+ghost use Rattle.json.specs.Value.{value_view, items_view, members_view};
+ghost use Rattle.cedar_names.specs.Names.{uid_name};
+ghost use Rattle.cedar_json.specs.Paths.{at_key, at_index};
+ghost use Rattle.cedar_json.specs.Refusals.{IsRefusal, IsRefusedAt, IsMemory, under};
+ghost use Rattle.cedar_json.specs.Said as says;
+ghost use Rattle.cedar_json.specs.Lists.{pairs_said, IsOneMore};
+ghost use Rattle.cedar_json.specs.StatedEntities.{names_of, stated_view};
+ghost use Rattle.cedar_json.specs.SaidEntities as stated;
+ghost use Rattle.cedar_json.specs.declared.errors.RefusalReason.TheVariants as reasons;
+
 use crate::errors::{JsonError, RefusalReason};
 use crate::escapes::uid;
 use crate::shapes::{array, object, sole};
@@ -98,7 +110,10 @@ fn is_new(seen: &mut HashSet<EntityUID>, uid: &EntityUID) -> Result<bool, JsonEr
     }
 }
 
-fn read_entity(alloc: Global, value: &Value<'_>) -> Result<StatedEntity, JsonError> {
+fn read_entity(alloc: Global, value: &Value<'_>) -> Result<StatedEntity, JsonError>
+    ensures said { IfOk result (λ r. stated.entity_said (value_view value.now) ≡ Ok (stated_view r)) }
+    ensures refused { IfErr result (IsRefusal (stated.entity_said (value_view value.now))) }
+{
     match object(value) {
         Some(members) => match unexpected(members) {
             Some(key) => Err(no_member(alloc, key)),
@@ -108,14 +123,20 @@ fn read_entity(alloc: Global, value: &Value<'_>) -> Result<StatedEntity, JsonErr
     }
 }
 
-fn with_uid(alloc: Global, value: &Value<'_>) -> Result<StatedEntity, JsonError> {
+fn with_uid(alloc: Global, value: &Value<'_>) -> Result<StatedEntity, JsonError>
+    ensures said { IfOk result (λ r. stated.whole_entity (value_view value.now) ≡ Ok (stated_view r)) }
+    ensures refused { IfErr result (IsRefusal (stated.whole_entity (value_view value.now))) }
+{
     match uid_at(alloc, value, "uid") {
         Ok(uid) => with_attrs(alloc, value, uid),
         Err(error) => Err(error),
     }
 }
 
-fn with_attrs(alloc: Global, value: &Value<'_>, uid: EntityUID) -> Result<StatedEntity, JsonError> {
+fn with_attrs(alloc: Global, value: &Value<'_>, uid: EntityUID) -> Result<StatedEntity, JsonError>
+    ensures said { IfOk result (λ r. stated.with_attributes (uid_name uid) (value_view value.now) ≡ Ok (stated_view r)) }
+    ensures refused { IfErr result (IsRefusal (stated.with_attributes (uid_name uid) (value_view value.now))) }
+{
     match attrs_at(alloc, value) {
         Ok(attrs) => with_parents(alloc, value, uid, attrs),
         Err(error) => {
@@ -130,7 +151,10 @@ fn with_parents(
     value: &Value<'_>,
     uid: EntityUID,
     attrs: Vec<(RcStr, RestrictedExpr)>,
-) -> Result<StatedEntity, JsonError> {
+) -> Result<StatedEntity, JsonError>
+    ensures said { IfOk result (λ r. stated.with_parents (uid_name uid) (pairs_said attrs.items) (value_view value.now) ≡ Ok (stated_view r)) }
+    ensures refused { IfErr result (IsRefusal (stated.with_parents (uid_name uid) (pairs_said attrs.items) (value_view value.now))) }
+{
     match parents_at(alloc, value) {
         Ok(parents) => with_tags(alloc, value, uid, attrs, parents),
         Err(error) => {
@@ -146,7 +170,10 @@ fn with_tags(
     uid: EntityUID,
     attrs: Vec<(RcStr, RestrictedExpr)>,
     parents: Vec<EntityUID>,
-) -> Result<StatedEntity, JsonError> {
+) -> Result<StatedEntity, JsonError>
+    ensures said { IfOk result (λ r. stated.with_tags (uid_name uid) (pairs_said attrs.items) (names_of parents.items) (value_view value.now) ≡ Ok (stated_view r)) }
+    ensures refused { IfErr result (IsRefusal (stated.with_tags (uid_name uid) (pairs_said attrs.items) (names_of parents.items) (value_view value.now))) }
+{
     match tags_at(alloc, value) {
         Ok(tags) => Ok(StatedEntity {
             uid,
@@ -162,7 +189,9 @@ fn with_tags(
 }
 
 // The first key that is none of an entity's.
-fn unexpected<'v, 'a>(members: &'v Vec<(&'a str, Value<'a>)>) -> Option<&'v str> {
+fn unexpected<'v, 'a>(members: &'v Vec<(&'a str, Value<'a>)>) -> Option<&'v str>
+    ensures { option_map (λ k. k.now) result ≡ stated.first_other stated.is_entity_key (members_view members.now.items) }
+{
     'members: for member in members {
         if !is_entity_key(member.0) {
             return Some(member.0);
@@ -171,24 +200,33 @@ fn unexpected<'v, 'a>(members: &'v Vec<(&'a str, Value<'a>)>) -> Option<&'v str>
     None
 }
 
-fn is_entity_key(key: &str) -> bool {
+fn is_entity_key(key: &str) -> bool
+    ensures { result ≡ stated.is_entity_key key.now }
+{
     key == "uid" || key == "attrs" || key == "parents" || key == "tags"
 }
 
 /// The refusal of a member that is unexpected.
 #[cold]
-pub(crate) fn no_member(alloc: Global, key: &str) -> JsonError {
+pub(crate) fn no_member(alloc: Global, key: &str) -> JsonError
+    ensures { IsRefusedAt (at_key key.now ∷ []) reasons.UnexpectedMember result }
+{
     JsonError::refusal(alloc, RefusalReason::UnexpectedMember).under_key(alloc, key)
 }
 
 /// The refusal of an object that lacks the member of this key.
 #[cold]
-pub(crate) fn missing(alloc: Global, key: &str) -> JsonError {
+pub(crate) fn missing(alloc: Global, key: &str) -> JsonError
+    ensures { IsRefusedAt (at_key key.now ∷ []) reasons.MissingMember result }
+{
     JsonError::refusal(alloc, RefusalReason::MissingMember).under_key(alloc, key)
 }
 
 /// The entity that stands at this key of the object.
-pub(crate) fn uid_at(alloc: Global, value: &Value<'_>, key: &str) -> Result<EntityUID, JsonError> {
+pub(crate) fn uid_at(alloc: Global, value: &Value<'_>, key: &str) -> Result<EntityUID, JsonError>
+    ensures said { IfOk result (λ r. stated.uid_at key.now (value_view value.now) ≡ Ok (uid_name r)) }
+    ensures refused { IfErr result (IsRefusal (stated.uid_at key.now (value_view value.now))) }
+{
     match value.get(key) {
         Some(member) => match plain_uid(alloc, member) {
             Ok(uid) => Ok(uid),
@@ -199,7 +237,10 @@ pub(crate) fn uid_at(alloc: Global, value: &Value<'_>, key: &str) -> Result<Enti
 }
 
 // The entity, with or without `__entity` round its type and its id.
-fn plain_uid(alloc: Global, value: &Value<'_>) -> Result<EntityUID, JsonError> {
+fn plain_uid(alloc: Global, value: &Value<'_>) -> Result<EntityUID, JsonError>
+    ensures said { IfOk result (λ r. stated.plain_uid_said (value_view value.now) ≡ Ok (uid_name r)) }
+    ensures refused { IfErr result (IsRefusal (stated.plain_uid_said (value_view value.now))) }
+{
     match escaped(value) {
         Some(inner) => match uid(alloc, inner) {
             Ok(uid) => Ok(uid),
@@ -210,7 +251,9 @@ fn plain_uid(alloc: Global, value: &Value<'_>) -> Result<EntityUID, JsonError> {
 }
 
 // What stands at `__entity`, where it stands alone.
-fn escaped<'v, 'a>(value: &'v Value<'a>) -> Option<&'v Value<'a>> {
+fn escaped<'v, 'a>(value: &'v Value<'a>) -> Option<&'v Value<'a>>
+    ensures { option_map (λ v. value_view v.now) result ≡ stated.escaped (value_view value.now) }
+{
     match object(value) {
         Some(members) => match sole(members) {
             Some((key, inner)) => if key == "__entity" { Some(inner) } else { None },
@@ -220,14 +263,20 @@ fn escaped<'v, 'a>(value: &'v Value<'a>) -> Option<&'v Value<'a>> {
     }
 }
 
-fn attrs_at(alloc: Global, value: &Value<'_>) -> Result<Vec<(RcStr, RestrictedExpr)>, JsonError> {
+fn attrs_at(alloc: Global, value: &Value<'_>) -> Result<Vec<(RcStr, RestrictedExpr)>, JsonError>
+    ensures said { IfOk result (λ r. stated.attributes_of (value_view value.now) ≡ Ok (pairs_said r.items)) }
+    ensures refused { IfErr result (IsRefusal (stated.attributes_of (value_view value.now))) }
+{
     match value.get("attrs") {
         Some(member) => pairs_under(alloc, member, "attrs"),
         None => Err(missing(alloc, "attrs")),
     }
 }
 
-fn tags_at(alloc: Global, value: &Value<'_>) -> Result<Vec<(RcStr, RestrictedExpr)>, JsonError> {
+fn tags_at(alloc: Global, value: &Value<'_>) -> Result<Vec<(RcStr, RestrictedExpr)>, JsonError>
+    ensures said { IfOk result (λ r. stated.tags_of (value_view value.now) ≡ Ok (pairs_said r.items)) }
+    ensures refused { IfErr result (IsRefusal (stated.tags_of (value_view value.now))) }
+{
     match value.get("tags") {
         Some(member) => pairs_under(alloc, member, "tags"),
         None => Ok(Vec::new(alloc)),
@@ -239,7 +288,10 @@ fn pairs_under(
     alloc: Global,
     value: &Value<'_>,
     key: &str,
-) -> Result<Vec<(RcStr, RestrictedExpr)>, JsonError> {
+) -> Result<Vec<(RcStr, RestrictedExpr)>, JsonError>
+    ensures said { IfOk result (λ r. under (at_key key.now) (stated.pairs_of (value_view value.now)) ≡ Ok (pairs_said r.items)) }
+    ensures refused { IfErr result (IsRefusal (under (at_key key.now) (stated.pairs_of (value_view value.now)))) }
+{
     match object(value) {
         Some(members) => match pairs(alloc, members) {
             Ok(pairs) => Ok(pairs),
@@ -252,7 +304,10 @@ fn pairs_under(
 fn pairs<'a>(
     alloc: Global,
     members: &Vec<(&'a str, Value<'a>)>,
-) -> Result<Vec<(RcStr, RestrictedExpr)>, JsonError> {
+) -> Result<Vec<(RcStr, RestrictedExpr)>, JsonError>
+    ensures said { IfOk result (λ r. says.said_members (members_view members.now.items) ≡ Ok (pairs_said r.items)) }
+    ensures refused { IfErr result (IsRefusal (says.said_members (members_view members.now.items))) }
+{
     let mut pairs: Vec<(RcStr, RestrictedExpr)> = Vec::new(alloc);
     match read_members(alloc, members, &mut pairs) {
         Ok(()) => Ok(pairs),
@@ -263,7 +318,10 @@ fn pairs<'a>(
     }
 }
 
-fn parents_at(alloc: Global, value: &Value<'_>) -> Result<Vec<EntityUID>, JsonError> {
+fn parents_at(alloc: Global, value: &Value<'_>) -> Result<Vec<EntityUID>, JsonError>
+    ensures said { IfOk result (λ r. stated.parents_of (value_view value.now) ≡ Ok (names_of r.items)) }
+    ensures refused { IfErr result (IsRefusal (stated.parents_of (value_view value.now))) }
+{
     match value.get("parents") {
         Some(member) => match uids(alloc, member) {
             Ok(uids) => Ok(uids),
@@ -273,14 +331,20 @@ fn parents_at(alloc: Global, value: &Value<'_>) -> Result<Vec<EntityUID>, JsonEr
     }
 }
 
-fn uids(alloc: Global, value: &Value<'_>) -> Result<Vec<EntityUID>, JsonError> {
+fn uids(alloc: Global, value: &Value<'_>) -> Result<Vec<EntityUID>, JsonError>
+    ensures said { IfOk result (λ r. stated.uids_of (value_view value.now) ≡ Ok (names_of r.items)) }
+    ensures refused { IfErr result (IsRefusal (stated.uids_of (value_view value.now))) }
+{
     match array(value) {
         Some(items) => read_uids(alloc, items),
         None => Err(JsonError::refusal(alloc, RefusalReason::NotAnArray)),
     }
 }
 
-fn read_uids(alloc: Global, items: &Vec<Value<'_>>) -> Result<Vec<EntityUID>, JsonError> {
+fn read_uids(alloc: Global, items: &Vec<Value<'_>>) -> Result<Vec<EntityUID>, JsonError>
+    ensures said { IfOk result (λ r. stated.uids_from 0 (items_view items.now.items) ≡ Ok (names_of r.items)) }
+    ensures refused { IfErr result (IsRefusal (stated.uids_from 0 (items_view items.now.items))) }
+{
     let mut uids: Vec<EntityUID> = Vec::new(alloc);
     match put_uids(alloc, items, &mut uids) {
         Ok(()) => Ok(uids),
@@ -295,14 +359,43 @@ fn put_uids(
     alloc: Global,
     items: &Vec<Value<'_>>,
     uids: &mut Vec<EntityUID>,
-) -> Result<(), JsonError> {
+) -> Result<(), JsonError>
+    requires { uids.old.items ≡ [] }
+    ensures said { OnOk result (stated.uids_from 0 (items_view items.now.items) ≡ Ok (names_of uids.new.items)) }
+    ensures refused { IfErr result (IsRefusal (stated.uids_from 0 (items_view items.now.items))) }
+{
     let mut index: usize = 0;
     'items: for item in items {
-        match plain_uid(alloc, item) {
-            Ok(uid) => uids.push(uid)?,
-            Err(error) => return Err(error.under_index(index)),
-        }
+        put_uid(alloc, item, index, uids)?;
         index += 1;
     }
     Ok(())
+}
+
+// Puts the entity, which has this index, behind those that are there.
+fn put_uid(
+    alloc: Global,
+    item: &Value<'_>,
+    index: usize,
+    uids: &mut Vec<EntityUID>,
+) -> Result<(), JsonError>
+    ensures said { OnOk result (IsOneMore (names_of uids.old.items)
+        (under (at_index index) (stated.plain_uid_said (value_view item.now))) (names_of uids.new.items)) }
+    ensures refused { IfErr result
+        (IsRefusal (under (at_index index) (stated.plain_uid_said (value_view item.now)))) }
+{
+    match plain_uid(alloc, item) {
+        Ok(uid) => push_uid(uid, uids),
+        Err(error) => Err(error.under_index(index)),
+    }
+}
+
+fn push_uid(uid: EntityUID, uids: &mut Vec<EntityUID>) -> Result<(), JsonError>
+    ensures said { OnOk result (names_of uids.new.items ≡ names_of uids.old.items ++ uid_name uid ∷ []) }
+    ensures memory { IfErr result IsMemory }
+{
+    match uids.push(uid) {
+        Ok(()) => Ok(()),
+        Err(failed) => Err(JsonError::from(failed)),
+    }
 }
