@@ -8,3 +8,5 @@ pub mod Stored
 pub mod TextLemmas
 pub mod ContextLemmas
 pub mod EntityLemmas
+pub mod Among
+pub mod Answered

@@ -1,5 +1,16 @@
 //! Entities whose attributes and tags are evaluated.
-ghost use Rattle.std.specs.Prelude.{◌≡◌, true, IfOk};
+ghost use Rattle.std.specs.Prelude.{◌≡◌, true, [], OnOk, IfOk};
+ghost use Rattle.std.specs.BTreeMap.{insert_entry};
+ghost use Rattle.std.specs.Rc.{rc_str_bytes};
+ghost use Rattle.cedar_expressions.specs.Records.{fields_in_order};
+ghost use Rattle.cedar_names.specs.Names.{uid_name};
+ghost use Rattle.cedar_extensions.specs.Extensions.{extensions_view, calls_of};
+ghost use Rattle.cedar_restricted.specs.Evaluators.{extensions_in, calls_in, limit_of};
+ghost use Rattle.cedar_restricted_expressions.specs.Views.{restricted_term};
+ghost use Rattle.cedar_json.specs.Lists.{pairs_said};
+ghost use Rattle.cedar_json.specs.StatedEntities.{names_of, stated_view, stated_views};
+ghost use Rattle.cedar_json.specs.Evaluated.{IsAnswerOf, AreAnswered, AreAmong, IsEvaluated, AreEvaluated};
+ghost use Rattle.cedar_json.specs.Evaluated.{key_cmp, AddsPart, AddsEntity, PutsName};
 ghost use Rattle.cedar_data.specs.Residuals.{partial_view};
 ghost use Rattle.cedar_layers.specs.Parts.{parts_view, are_restricted_parts, is_restricted_part};
 ghost use mathlib.Core.Bool.{Bool-set};
@@ -35,6 +46,7 @@ impl StoredParts {
     #[tactic(auto, using(crate::proofs::Stored::restricted_insert))]
     fn with(self, name: RcStr, part: PartialValue) -> Result<StoredParts, AllocError>
         requires { is_restricted_part (partial_view part) ≡ true }
+        ensures { IfOk result (λ r. r.map.entries ≡ insert_entry key_cmp self.map.entries name part) }
     {
         let mut map = self.map;
         let replaced = map.insert(name, part)?;
@@ -50,7 +62,10 @@ pub fn evaluated_entities(
     stated: Vec<StatedEntity>,
     extensions: &Extensions<'_>,
     limit: usize,
-) -> Result<Vec<Entity>, JsonError> {
+) -> Result<Vec<Entity>, JsonError>
+    ensures evaluated { IfOk result (λ r. AreEvaluated (extensions_view extensions.now) (calls_of extensions.now) limit
+        (stated_views stated.items) r.items) }
+{
     let evaluator = RestrictedEvaluator::new(extensions, limit);
     let mut entities: Vec<Entity> = Vec::new(alloc);
     match evaluate_all(alloc, stated, &evaluator, &mut entities) {
@@ -67,23 +82,47 @@ fn evaluate_all(
     stated: Vec<StatedEntity>,
     evaluator: &RestrictedEvaluator<'_, '_>,
     entities: &mut Vec<Entity>,
-) -> Result<(), JsonError> {
+) -> Result<(), JsonError>
+    requires { entities.old.items ≡ [] }
+    ensures { OnOk result (AreEvaluated (extensions_in evaluator.now) (calls_in evaluator.now)
+        (limit_of evaluator.now) (stated_views stated.items) entities.new.items) }
+{
     let mut index: usize = 0;
     'stated: for entity in stated {
-        match evaluate(alloc, entity, evaluator) {
-            Ok(entity) => entities.push(entity)?,
-            Err(error) => return Err(error.under_index(index)),
-        }
+        put_evaluated(alloc, entity, evaluator, index, entities)?;
         index = index.saturating_add(1);
     }
     Ok(())
+}
+
+// Puts the entity, which has this index, behind those that are there.
+fn put_evaluated(
+    alloc: Global,
+    stated: StatedEntity,
+    evaluator: &RestrictedEvaluator<'_, '_>,
+    index: usize,
+    entities: &mut Vec<Entity>,
+) -> Result<(), JsonError>
+    ensures { OnOk result (AddsEntity (extensions_in evaluator.now) (calls_in evaluator.now)
+        (limit_of evaluator.now) (stated_view stated) entities.old.items entities.new.items) }
+{
+    match evaluate(alloc, stated, evaluator) {
+        Ok(entity) => match entities.push(entity) {
+            Ok(()) => Ok(()),
+            Err(failed) => Err(JsonError::from(failed)),
+        },
+        Err(error) => Err(error.under_index(index)),
+    }
 }
 
 fn evaluate(
     alloc: Global,
     stated: StatedEntity,
     evaluator: &RestrictedEvaluator<'_, '_>,
-) -> Result<Entity, JsonError> {
+) -> Result<Entity, JsonError>
+    ensures { IfOk result (IsEvaluated (extensions_in evaluator.now) (calls_in evaluator.now)
+        (limit_of evaluator.now) (stated_view stated)) }
+{
     let StatedEntity {
         uid,
         attrs,
@@ -96,12 +135,24 @@ fn evaluate(
     Ok(Entity::new(uid, attrs.map, parents, tags.map))
 }
 
-fn set_of(alloc: Global, uids: Vec<EntityUID>) -> Result<HashSet<EntityUID>, JsonError> {
+// The set of these.
+fn set_of(alloc: Global, uids: Vec<EntityUID>) -> Result<HashSet<EntityUID>, JsonError>
+    ensures { IfOk result (λ s. AreAmong (names_of s.keys) (names_of uids.items)) }
+{
     let mut set: HashSet<EntityUID> = HashSet::new(alloc);
     'uids: for uid in uids {
-        set.insert(uid)?;
+        put_uid(uid, &mut set)?;
     }
     Ok(set)
+}
+
+fn put_uid(uid: EntityUID, set: &mut HashSet<EntityUID>) -> Result<(), JsonError>
+    ensures { OnOk result (PutsName (names_of set.old.keys) (uid_name uid) (names_of set.new.keys)) }
+{
+    match set.insert(uid) {
+        Ok(_) => Ok(()),
+        Err(failed) => Err(JsonError::from(failed)),
+    }
 }
 
 fn parts_at(
@@ -109,7 +160,10 @@ fn parts_at(
     pairs: Vec<(RcStr, RestrictedExpr)>,
     evaluator: &RestrictedEvaluator<'_, '_>,
     key: &str,
-) -> Result<StoredParts, JsonError> {
+) -> Result<StoredParts, JsonError>
+    ensures { IfOk result (λ r. AreAnswered (extensions_in evaluator.now) (calls_in evaluator.now)
+        (limit_of evaluator.now) (fields_in_order (pairs_said pairs.items)) (parts_view r.map.entries)) }
+{
     match parts(alloc, pairs, evaluator) {
         Ok(parts) => Ok(parts),
         Err(error) => Err(error.under_key(alloc, key)),
@@ -120,7 +174,10 @@ fn parts(
     alloc: Global,
     pairs: Vec<(RcStr, RestrictedExpr)>,
     evaluator: &RestrictedEvaluator<'_, '_>,
-) -> Result<StoredParts, JsonError> {
+) -> Result<StoredParts, JsonError>
+    ensures { IfOk result (λ r. AreAnswered (extensions_in evaluator.now) (calls_in evaluator.now)
+        (limit_of evaluator.now) (fields_in_order (pairs_said pairs.items)) (parts_view r.map.entries)) }
+{
     let mut parts = StoredParts::new(alloc);
     'pairs: for (key, expr) in pairs {
         parts = with_part(alloc, parts, key, expr, evaluator)?;
@@ -135,7 +192,10 @@ fn with_part(
     key: RcStr,
     expr: RestrictedExpr,
     evaluator: &RestrictedEvaluator<'_, '_>,
-) -> Result<StoredParts, JsonError> {
+) -> Result<StoredParts, JsonError>
+    ensures { IfOk result (λ r. AddsPart (extensions_in evaluator.now) (calls_in evaluator.now)
+        (limit_of evaluator.now) (rc_str_bytes key) (restricted_term expr) parts.map.entries r.map.entries) }
+{
     let part = part(alloc, &key, &expr, evaluator);
     drop(expr);
     match part {
@@ -158,6 +218,8 @@ fn part(
     expr: &RestrictedExpr,
     evaluator: &RestrictedEvaluator<'_, '_>,
 ) -> Result<PartialValue, JsonError>
+    ensures answer { IfOk result (λ p. IsAnswerOf (extensions_in evaluator.now) (calls_in evaluator.now)
+        (limit_of evaluator.now) (restricted_term expr.now) (partial_view p)) }
     ensures restricted { IfOk result (λ p. is_restricted_part (partial_view p) ≡ true) }
 {
     match evaluator.partial_interpret(alloc, expr.as_borrowed()) {
