@@ -73,13 +73,11 @@ last_among n e [] = refl
 last_among n e (d ∷ es) = swapped (entity_eq n e) (entity_eq n d) (is_among n es) ∙ ap (λ b. entity_eq n d || b) (last_among n e es)
 
 -- what is put into the set goes to the end of the list
-pub one_more_among : (old new : List EntityUID) (done : List EntityName) (k : EntityUID)
-    → PutsName (names_of old) (uid_name k) (names_of new) → AreAmong (names_of old) done → AreAmong (names_of new) (done ++ uid_name k ∷ [])
-one_more_among old new done k put among n =
-    put n ∙ ap (λ b. entity_eq n (uid_name k) || b) (among n) ∙ last_among n (uid_name k) done
+pub one_more_among : (old new done : List EntityName) (e : EntityName) → PutsName old e new → AreAmong old done → AreAmong new (done ++ e ∷ [])
+one_more_among old new done e put among n =
+    put n ∙ ap (λ b. entity_eq n e || b) (among n) ∙ last_among n e done
 
 -- or to its front
-pub first_among : (old new : List EntityUID) (seen : List EntityName) (k : EntityUID)
-    → PutsName (names_of old) (uid_name k) (names_of new) → AreAmong (names_of old) seen → AreAmong (names_of new) (uid_name k ∷ seen)
+pub first_among : (old new seen : List EntityName) (e : EntityName) → PutsName old e new → AreAmong old seen → AreAmong new (e ∷ seen)
 unfolding is_among
-first_among old new seen k put among n = put n ∙ ap (λ b. entity_eq n (uid_name k) || b) (among n)
+first_among old new seen e put among n = put n ∙ ap (λ b. entity_eq n e || b) (among n)

@@ -28,14 +28,14 @@ module _ (x : Extensions) (calls : StoredCalls) (n : ℕ) where
   answered_insert (one_field l u fs) [] k t p h a = absurd h
   answered_insert (one_field l u fs) (e ∷ es) k t p h a =
       subst (λ (m : Text). AreAnswered x calls n (put_field (one_field m u fs) (rc_str_bytes k) t) (parts_view (insert_entry key_cmp (e ∷ es) k p))) h.0
-      (at_order (slice_cmp nat_cmp (rc_str_bytes k) (rc_str_bytes e.0)) (answered_insert fs es k t p h.1.1 a))
+      (at_order (slice_cmp nat_cmp (rc_str_bytes k) (rc_str_bytes e.0)) (answered_insert fs es k t p h.2 a))
     where
       at_order : (o : Ordering) → AreAnswered x calls n (put_field fs (rc_str_bytes k) t) (parts_view (insert_entry key_cmp es k p))
           → AreAnswered x calls n (match_ordering o (one_field (rc_str_bytes k) t (one_field (rc_str_bytes e.0) u fs)) (one_field (rc_str_bytes e.0) t fs) (one_field (rc_str_bytes e.0) u (put_field fs (rc_str_bytes k) t)))
           (parts_view (match_ordering o ((k, p) ∷ e ∷ es) ((e.0, p) ∷ es) (e ∷ insert_entry key_cmp es k p)))
-      at_order Less rest = (refl, a, (refl, h.1.0, h.1.1))
-      at_order Equal rest = (refl, a, h.1.1)
-      at_order Greater rest = (refl, h.1.0, rest)
+      at_order Less rest = (refl, a, (refl, h.1, h.2))
+      at_order Equal rest = (refl, a, h.2)
+      at_order Greater rest = (refl, h.1, rest)
 
   -- an entity more at the end
   pub one_more_evaluated : (es : List SaidEntity) (ds : List Entity) (e : SaidEntity) (d : Entity) → AreEvaluated x calls n es ds → IsEvaluated x calls n e d → AreEvaluated x calls n (es ++ e ∷ []) (ds ++ d ∷ [])

@@ -2,7 +2,7 @@
 use Rattle.std.proofs.Common.{◌≡◌, true, false, ℕ, List, [], Option, Some, None, Ok, Err, refl, sym, ap, subst}
 use Rattle.cedar_model.specs.Terms.{Text, Term, record_of}
 use Rattle.cedar_model.specs.World as world
-use Rattle.cedar_model.specs.Rules.{StoredCalls}
+use Rattle.cedar_model.specs.Rules.{StoredCalls, fields_of_record}
 use Rattle.cedar_expressions.specs.Records.{first_repeated}
 use Rattle.cedar_restricted.specs.Evaluations.{bare}
 use Rattle.cedar_requests.specs.declared.context.Context.{Context}
@@ -25,6 +25,7 @@ IsSaidRecord (Ok t) = is_record t ≡ true
 IsSaidRecord (Err r) = Unit {0}
 
 unique_record : (o : Option Text) (ps : List (Text × Term)) (t : Term) → unique_said o ps ≡ Ok t → is_record t ≡ true
+unfolding fields_of_record
 unique_record None ps t h = subst IsSaidRecord h refl
 unique_record (Some k) ps t h = absurd (cc)
 

@@ -10,3 +10,4 @@ pub mod ContextLemmas
 pub mod EntityLemmas
 pub mod Among
 pub mod Answered
+pub mod SeenEntities

@@ -1,5 +1,5 @@
 -- What entities are evaluated to.
-use Rattle.std.specs.Prelude.{◌≡◌, ⊤, ℕ, List, [], ◌∷◌, ◌++◌, ◌||◌}
+use Rattle.std.specs.Prelude.{◌≡◌, ⊤, ℕ, List, [], ◌∷◌, ◌++◌, ◌||◌, Ok, Err}
 use Rattle.cedar_model.specs.Terms.{Text, EntityName, Term, Fields, no_fields, one_field}
 use Rattle.cedar_model.specs.World.{Extensions}
 use Rattle.cedar_model.specs.Rules.{StoredCalls}
@@ -18,6 +18,7 @@ use Rattle.cedar_layers.specs.Parts.{parts_view}
 use Rattle.cedar_layers.specs.declared.policies.entities.Entity.{Entity}
 use Rattle.cedar_layers.specs.Stores.{entity_name, entity_view}
 use Rattle.cedar_restricted.specs.Evaluations.{IsBare, IsAnswerWithin}
+use Rattle.cedar_json.specs.Refusals.{Said}
 use Rattle.cedar_json.specs.SaidEntities.{SaidEntity}
 
 -- with these extensions and so many levels the expression answers this
@@ -69,3 +70,8 @@ AddsEntity x calls n e old new = (es : List SaidEntity) → AreEvaluated x calls
 -- the new names have this one too
 abbrev pub PutsName : List EntityName → EntityName → List EntityName → Type 0
 PutsName old e new = (d : EntityName) → is_among d new ≡ (entity_eq d e || is_among d old)
+
+-- and the name of the entity that is said
+abbrev pub SeesEntity : List EntityName → Said SaidEntity → List EntityName → Type 0
+SeesEntity old (Ok e) new = PutsName old e.uid new
+SeesEntity old (Err r) new = ⊤

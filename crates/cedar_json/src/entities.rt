@@ -1,13 +1,15 @@
 #![tactic(auto, using(crate::proofs::Refused::refusals, crate::proofs::EntityLemmas::entities))]
 //! Entities.
-ghost use Rattle.std.specs.Prelude.{◌≡◌, [], ◌∷◌, ◌++◌, Ok, option_map, OnOk, IfOk, IfErr};
+ghost use Rattle.std.specs.Prelude.{◌≡◌, [], ◌∷◌, ◌++◌, Ok, option_map, codes, not, OnOk, IfOk, IfErr};
 ghost use Rattle.json.specs.Value.{value_view, items_view, members_view};
 ghost use Rattle.cedar_names.specs.Names.{uid_name};
 ghost use Rattle.cedar_json.specs.Paths.{at_key, at_index};
 ghost use Rattle.cedar_json.specs.Refusals.{IsRefusal, IsRefusedAt, IsMemory, under};
 ghost use Rattle.cedar_json.specs.Said as says;
 ghost use Rattle.cedar_json.specs.Lists.{pairs_said, IsOneMore};
-ghost use Rattle.cedar_json.specs.StatedEntities.{names_of, stated_view};
+ghost use Rattle.cedar_json.specs.StatedEntities.{names_of, stated_view, stated_views};
+ghost use Rattle.cedar_json.specs.Evaluated.{PutsName, SeesEntity};
+ghost use Rattle.cedar_model.specs.Settings.{is_among};
 ghost use Rattle.cedar_json.specs.SaidEntities as stated;
 ghost use Rattle.cedar_json.specs.declared.errors.RefusalReason.TheVariants as reasons;
 
@@ -39,17 +41,23 @@ pub struct StatedEntity {
 pub(crate) fn stated_entities_from_json_value(
     alloc: Global,
     value: &Value<'_>,
-) -> Result<Vec<StatedEntity>, JsonError> {
+) -> Result<Vec<StatedEntity>, JsonError>
+    ensures said { IfOk result (λ r. stated.entities_said (value_view value.now) ≡ Ok (stated_views r.items)) }
+    ensures refused { IfErr result (IsRefusal (stated.entities_said (value_view value.now))) }
+{
     match array(value) {
         Some(items) => read_entities(alloc, items),
         None => Err(JsonError::refusal(alloc, RefusalReason::NotAnArray)),
     }
 }
 
-fn read_entities(alloc: Global, items: &Vec<Value<'_>>) -> Result<Vec<StatedEntity>, JsonError> {
+fn read_entities(alloc: Global, items: &Vec<Value<'_>>) -> Result<Vec<StatedEntity>, JsonError>
+    ensures said { IfOk result
+        (λ r. stated.entities_from [] 0 (items_view items.now.items) ≡ Ok (stated_views r.items)) }
+    ensures refused { IfErr result (IsRefusal (stated.entities_from [] 0 (items_view items.now.items))) }
+{
     let mut entities: Vec<StatedEntity> = Vec::new(alloc);
-    let mut seen: HashSet<EntityUID> = HashSet::new(alloc);
-    match put_entities(alloc, items, &mut seen, &mut entities) {
+    match put_entities(alloc, items, &mut entities) {
         Ok(()) => Ok(entities),
         Err(error) => {
             drop(entities);
@@ -62,38 +70,65 @@ fn read_entities(alloc: Global, items: &Vec<Value<'_>>) -> Result<Vec<StatedEnti
 fn put_entities(
     alloc: Global,
     items: &Vec<Value<'_>>,
-    seen: &mut HashSet<EntityUID>,
     entities: &mut Vec<StatedEntity>,
-) -> Result<(), JsonError> {
+) -> Result<(), JsonError>
+    requires { entities.old.items ≡ [] }
+    ensures said { OnOk result
+        (stated.entities_from [] 0 (items_view items.now.items) ≡ Ok (stated_views entities.new.items)) }
+    ensures refused { IfErr result (IsRefusal (stated.entities_from [] 0 (items_view items.now.items))) }
+{
+    let mut seen: HashSet<EntityUID> = HashSet::new(alloc);
     let mut index: usize = 0;
     'items: for item in items {
-        match read_entity(alloc, item) {
-            Ok(entity) => put_entity(alloc, entity, index, seen, entities)?,
-            Err(error) => return Err(error.under_index(index)),
-        }
+        put_item(alloc, item, index, &mut seen, entities)?;
         index += 1;
     }
     Ok(())
 }
 
-// Puts the entity behind those that are there, if it is none of them.
-fn put_entity(
+// Puts the entity, which has this index, behind those that are there, if it is none of those that were seen. Then it was.
+fn put_item(
     alloc: Global,
-    entity: StatedEntity,
+    item: &Value<'_>,
     index: usize,
     seen: &mut HashSet<EntityUID>,
     entities: &mut Vec<StatedEntity>,
-) -> Result<(), JsonError> {
-    match is_new(seen, &entity.uid) {
-        Ok(true) => match entities.push(entity) {
+) -> Result<(), JsonError>
+    ensures said { OnOk result (IsOneMore (stated_views entities.old.items)
+        (under (at_index index) (stated.new_entity (names_of seen.old.keys) (value_view item.now)))
+        (stated_views entities.new.items)) }
+    ensures seen { OnOk result (SeesEntity (names_of seen.old.keys) (stated.entity_said (value_view item.now))
+        (names_of seen.new.keys)) }
+    ensures refused { IfErr result
+        (IsRefusal (under (at_index index) (stated.new_entity (names_of seen.old.keys) (value_view item.now)))) }
+{
+    match read_entity(alloc, item) {
+        Ok(entity) => match put_entity(alloc, entity, seen, entities) {
             Ok(()) => Ok(()),
-            Err(failed) => Err(JsonError::from(failed)),
+            Err(error) => Err(error.under_index(index)),
         },
-        Ok(false) => {
+        Err(error) => Err(error.under_index(index)),
+    }
+}
+
+fn put_entity(
+    alloc: Global,
+    entity: StatedEntity,
+    seen: &mut HashSet<EntityUID>,
+    entities: &mut Vec<StatedEntity>,
+) -> Result<(), JsonError>
+    ensures said { OnOk result (IsOneMore (stated_views entities.old.items)
+        (stated.if_new (names_of seen.old.keys) (stated_view entity)) (stated_views entities.new.items)) }
+    ensures seen { OnOk result (PutsName (names_of seen.old.keys) (uid_name entity.uid) (names_of seen.new.keys)) }
+    ensures refused { IfErr result (IsRefusal (stated.if_new (names_of seen.old.keys) (stated_view entity))) }
+{
+    match is_new(seen, &entity.uid) {
+        Ok(added) => if added {
+            push_entity(entity, entities)
+        } else {
             drop(entity);
-            let error = JsonError::refusal(alloc, RefusalReason::RepeatedEntity);
-            Err(error.under_key(alloc, "uid").under_index(index))
-        }
+            Err(repeated(alloc))
+        },
         Err(error) => {
             drop(entity);
             Err(error)
@@ -101,10 +136,42 @@ fn put_entity(
     }
 }
 
+#[cold]
+fn repeated(alloc: Global) -> JsonError
+    ensures { IsRefusedAt (at_key (codes "uid") ∷ []) reasons.RepeatedEntity result }
+{
+    JsonError::refusal(alloc, RefusalReason::RepeatedEntity).under_key(alloc, "uid")
+}
+
+fn push_entity(entity: StatedEntity, entities: &mut Vec<StatedEntity>) -> Result<(), JsonError>
+    ensures said { OnOk result
+        (stated_views entities.new.items ≡ stated_views entities.old.items ++ stated_view entity ∷ []) }
+    ensures memory { IfErr result IsMemory }
+{
+    match entities.push(entity) {
+        Ok(()) => Ok(()),
+        Err(failed) => Err(JsonError::from(failed)),
+    }
+}
+
 // Whether the entity was not seen before. Now it was.
-fn is_new(seen: &mut HashSet<EntityUID>, uid: &EntityUID) -> Result<bool, JsonError> {
-    let name: EntityUID = uid.clone()?;
-    match seen.insert(name) {
+fn is_new(seen: &mut HashSet<EntityUID>, uid: &EntityUID) -> Result<bool, JsonError>
+    ensures new { IfOk result (λ b. b ≡ not (is_among (uid_name uid.now) (names_of seen.old.keys))) }
+    ensures seen { OnOk result (PutsName (names_of seen.old.keys) (uid_name uid.now) (names_of seen.new.keys)) }
+    ensures memory { IfErr result IsMemory }
+{
+    match uid.clone() {
+        Ok(name) => insert(seen, name),
+        Err(error) => Err(JsonError::Memory(error)),
+    }
+}
+
+fn insert(seen: &mut HashSet<EntityUID>, uid: EntityUID) -> Result<bool, JsonError>
+    ensures new { IfOk result (λ b. b ≡ not (is_among (uid_name uid) (names_of seen.old.keys))) }
+    ensures seen { OnOk result (PutsName (names_of seen.old.keys) (uid_name uid) (names_of seen.new.keys)) }
+    ensures memory { IfErr result IsMemory }
+{
+    match seen.insert(uid) {
         Ok(added) => Ok(added),
         Err(failed) => Err(JsonError::from(failed)),
     }

@@ -36,7 +36,9 @@ struct StoredParts {
 }
 
 impl StoredParts {
-    fn new(alloc: Global) -> StoredParts {
+    fn new(alloc: Global) -> StoredParts
+        ensures { result.map.entries ≡ [] }
+    {
         StoredParts {
             map: BTreeMap::new(alloc),
         }

@@ -6,6 +6,8 @@ ghost use Rattle.json.specs.Strict.{HasUniqueKeys};
 ghost use Rattle.json.specs.Value.{value_view};
 ghost use Rattle.cedar_restricted_expressions.specs.Views.{restricted_term};
 ghost use Rattle.cedar_json.specs.Said.{said};
+ghost use Rattle.cedar_json.specs.SaidEntities.{entities_said};
+ghost use Rattle.cedar_json.specs.StatedEntities.{stated_views};
 ghost use Rattle.cedar_json.specs.JsonTexts.{IsUnread, Says, IsTextRefusal};
 
 use crate::contexts::context_from_json_value;
@@ -68,7 +70,10 @@ pub fn entities_from_json_str(
 pub fn stated_entities_from_json_str(
     alloc: Global,
     text: &str,
-) -> Result<Vec<StatedEntity>, JsonError> {
+) -> Result<Vec<StatedEntity>, JsonError>
+    ensures said { IfOk result (λ r. Says text.now entities_said (stated_views r.items)) }
+    ensures refused { IfErr result (IsTextRefusal text.now entities_said) }
+{
     let mut scratch = Scratch::new(alloc);
     match parsed(alloc, text, &mut scratch) {
         Ok(value) => stated_entities_from_json_value(alloc, &value),

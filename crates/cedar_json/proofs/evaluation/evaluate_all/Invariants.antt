@@ -10,4 +10,4 @@ use Rattle.cedar_json.proofs.evaluation.evaluate_all.Given as goal
 abbrev pub invariant-stated : goal.invariant-stated
 invariant-stated g l =
     (done : List SaidEntity) × (stated_views l.fn.stated.items ≡ done ++ stated_views (into_iter_items l.entity-iterator))
-    × AreEvaluated (extensions_in l.evaluator.now) (calls_in l.evaluator.now) (limit_of l.evaluator.now) done l.entities.items
+    × AreEvaluated (extensions_in l.evaluator) (calls_in l.evaluator) (limit_of l.evaluator) done l.entities.items

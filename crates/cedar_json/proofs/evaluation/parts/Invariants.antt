@@ -12,4 +12,4 @@ use Rattle.cedar_json.proofs.evaluation.parts.Given as goal
 abbrev pub invariant-pairs : goal.invariant-pairs
 invariant-pairs g l =
     (fs : Fields) × (fields_in_order (pairs_said l.fn.pairs.items) ≡ put_fields fs (pairs_said (into_iter_items l.key-iterator)))
-    × AreAnswered (extensions_in l.evaluator.now) (calls_in l.evaluator.now) (limit_of l.evaluator.now) fs (parts_view l.parts.map.entries)
+    × AreAnswered (extensions_in l.evaluator) (calls_in l.evaluator) (limit_of l.evaluator) fs (parts_view l.parts.map.entries)
