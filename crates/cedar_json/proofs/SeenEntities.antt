@@ -52,8 +52,8 @@ step all done new keys after names index js (Ok e) among is more sees = by_new (
           names = e.uid ∷ names;
           among = first_among keys after names e.uid sees among;
           left =
-            is ∙ ap (λ (x : Said SaidEntity). made_of (λ es. done ++ es) (and_then (λ d. made_of (λ es. d ∷ es) (entities_from (d.uid ∷ names) (index + 1) js)) (under (at_index index) x))) fresh
-            ∙ joined done e rest ∙ ap (λ (ds : List SaidEntity). made_of (λ es. ds ++ es) rest) same;
+              is ∙ ap (λ (x : Said SaidEntity). made_of (λ es. done ++ es) (and_then (λ d. made_of (λ es. d ∷ es) (entities_from (d.uid ∷ names) (index + 1) js)) (under (at_index index) x))) fresh
+              ∙ joined done e rest ∙ ap (λ (ds : List SaidEntity). made_of (λ es. ds ++ es) rest) same;
         }
 step all done new keys after names index js (Err r) among is more sees = absurd (cc)
 

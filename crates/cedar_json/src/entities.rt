@@ -80,8 +80,10 @@ fn put_entities(
     let mut seen: HashSet<EntityUID> = HashSet::new(alloc);
     let mut index: usize = 0;
     'items: for item in items {
-        put_item(alloc, item, index, &mut seen, entities)?;
-        index += 1;
+        match put_item(alloc, item, index, &mut seen, entities) {
+            Ok(()) => index += 1,
+            Err(error) => return Err(error),
+        }
     }
     Ok(())
 }

@@ -146,6 +146,11 @@ impl<T: Drop> From<AllocFailed<T>> for JsonError {
 }
 
 impl fmt::Display for RefusalReason {
+    ghost use Rattle.std.specs.Prelude.{Some};
+    ghost use Rattle.cedar_json.specs.ErrorTexts.{reason_text};
+
+    ghost output = { λ r. Some (reason_text r) };
+
     fn fmt<W: fmt::Write>(&self, f: &mut fmt::Formatter<W>) -> fmt::Result {
         match self {
             RefusalReason::Null => f.write_str("null is no value"),
@@ -167,6 +172,10 @@ impl fmt::Display for RefusalReason {
 
 /// Where the part stands and why it is refused, as `$[3].attrs.age: null is no value`.
 impl fmt::Display for JsonError {
+    ghost use Rattle.cedar_json.specs.ErrorTexts.{error_text};
+
+    ghost output = { error_text };
+
     fn fmt<W: fmt::Write>(&self, f: &mut fmt::Formatter<W>) -> fmt::Result {
         match self {
             JsonError::Syntax => f.write_str("not JSON"),
@@ -182,11 +191,17 @@ impl fmt::Display for JsonError {
     }
 }
 
+ghost use Rattle.std.specs.Fmt.{WritesOnOk};
+ghost use Rattle.cedar_json.specs.ErrorTexts.{refusal_text};
+ghost use Rattle.cedar_json.specs.Paths.{path_view};
+
 fn write_refusal<W: fmt::Write>(
     path: &JsonPath,
     reason: RefusalReason,
     f: &mut fmt::Formatter<W>,
-) -> fmt::Result {
+) -> fmt::Result
+    ensures { WritesOnOk W.write_str_gives f.old result (refusal_text (path_view path.now) reason) f.new }
+{
     path.fmt(f)?;
     f.write_str(": ")?;
     reason.fmt(f)

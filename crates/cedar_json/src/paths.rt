@@ -25,7 +25,7 @@ pub struct JsonPath {
 }
 
 impl JsonPath {
-    ghost use Rattle.cedar_json.specs.Paths.{step_view, path_view};
+    ghost use Rattle.cedar_json.specs.Paths.{path_view};
 
     // The same way, of the part that this step leads to.
     pub(crate) fn under(self, step: PathStep) -> Result<JsonPath, AllocError>
@@ -44,23 +44,44 @@ impl JsonPath {
 
 /// `$` for the whole value, and for each step behind it `.key`, `["a key"]` where the key is no word, or `[0]`.
 impl fmt::Display for JsonPath {
+    ghost use Rattle.std.specs.Prelude.{Some};
+    ghost use Rattle.cedar_json.specs.Paths.{path_view};
+
+    ghost output = { λ p. Some (text.path_text (path_view p)) };
+
     fn fmt<W: fmt::Write>(&self, f: &mut fmt::Formatter<W>) -> fmt::Result {
         f.write_str("$")?;
-        for step in self.steps.iter() {
-            write_step(step, f)?;
-        }
-        Ok(())
+        write_steps(self.steps.as_slice(), f)
     }
 }
 
-fn write_step<W: fmt::Write>(step: &PathStep, f: &mut fmt::Formatter<W>) -> fmt::Result {
+ghost use Rattle.std.specs.Prelude.{flat_map, map};
+ghost use Rattle.std.specs.Fmt.{WritesOnOk};
+ghost use Rattle.std.specs.Rc.{rc_str_bytes};
+ghost use Rattle.cedar_json.specs.ErrorTexts as text;
+ghost use Rattle.cedar_json.specs.Paths.{step_view};
+
+fn write_steps<W: fmt::Write>(steps: &[PathStep], f: &mut fmt::Formatter<W>) -> fmt::Result
+    ensures { WritesOnOk W.write_str_gives f.old result (flat_map text.step_text (map step_view steps.now)) f.new }
+{
+    'steps: for step in steps {
+        write_step(step, f)?;
+    }
+    Ok(())
+}
+
+fn write_step<W: fmt::Write>(step: &PathStep, f: &mut fmt::Formatter<W>) -> fmt::Result
+    ensures { WritesOnOk W.write_str_gives f.old result (text.step_text (step_view step.now)) f.new }
+{
     match step {
         PathStep::Key(key) => write_key(key.as_str(), f),
         PathStep::Index(index) => write_index(*index, f),
     }
 }
 
-fn write_key<W: fmt::Write>(key: &str, f: &mut fmt::Formatter<W>) -> fmt::Result {
+fn write_key<W: fmt::Write>(key: &str, f: &mut fmt::Formatter<W>) -> fmt::Result
+    ensures { WritesOnOk W.write_str_gives f.old result (text.key_text key.now) f.new }
+{
     if is_word(key) {
         f.write_str(".")?;
         f.write_str(key)
@@ -71,7 +92,9 @@ fn write_key<W: fmt::Write>(key: &str, f: &mut fmt::Formatter<W>) -> fmt::Result
     }
 }
 
-fn write_index<W: fmt::Write>(index: usize, f: &mut fmt::Formatter<W>) -> fmt::Result {
+fn write_index<W: fmt::Write>(index: usize, f: &mut fmt::Formatter<W>) -> fmt::Result
+    ensures { WritesOnOk W.write_str_gives f.old result (text.index_text index) f.new }
+{
     f.write_str("[")?;
     index.fmt(f)?;
     f.write_str("]")

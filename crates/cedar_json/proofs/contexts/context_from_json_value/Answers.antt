@@ -25,6 +25,6 @@ returns-in-Ok-clause-refused g c =
     let calls = calls_of c.args.extensions.now in
     let t = restricted_term c.in-Ok.record in
     let same : borrowed_term c.as_borrowed.result ≡ t = ap view c.as_borrowed.ensures in
-    context_uncreated x calls c.args.limit (context_said (value_view c.args.value.now)) t c.in-Err.error c.uncreated.result c.in-Ok.ensures.said
+    context_uncreated x calls c.args.limit (context_said (value_view c.args.value.now)) t c.in-Err-from_expr.error c.uncreated.result c.in-Ok.ensures.said
     (in_record (as_object (value_view c.args.value.now)) t c.in-Ok.ensures.said)
-    (subst (λ (u : Term). IsCreated x calls c.args.limit u (Err c.in-Err.error)) same c.in-Err.ensures.created) c.uncreated.ensures
+    (subst (λ (u : Term). IsCreated x calls c.args.limit u (Err c.in-Err-from_expr.error)) same c.in-Err-from_expr.ensures.created) c.uncreated.ensures

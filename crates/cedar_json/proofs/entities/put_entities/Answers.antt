@@ -7,6 +7,7 @@ use Rattle.cedar_names.specs.declared.names.EntityUID.{EntityUID}
 use Rattle.cedar_json.specs.Refusals.{made_of}
 use Rattle.cedar_json.specs.SaidEntities.{entity_said, entities_from}
 use Rattle.cedar_json.specs.StatedEntities.{names_of, stated_views}
+use Rattle.cedar_json.proofs.Refused.{refused_same}
 use Rattle.cedar_json.proofs.SeenEntities.{no_entities, step, item_refused}
 use Rattle.cedar_json.proofs.entities.put_entities.Goals as goal
 
@@ -24,15 +25,17 @@ items-preserved c =
     let done = stated_views l.entities.items in
     let is = l.invariant.3 ∙ ap (λ (ys : List (Value Global)). made_of (λ es. done ++ es) (entities_from l.invariant.1 l.index (items_view ys))) here in
     let next = step _ done (stated_views c.put_item.new.entities.items) (names_of l.seen.keys) (names_of c.put_item.new.seen.keys) l.invariant.1 l.index (items_view (drop (l.item-index + 1) xs))
-    (entity_said (value_view x)) l.invariant.2 is c.in_ok-put_item.ensures.said c.in_ok-put_item.ensures.seen in
+    (entity_said (value_view x)) l.invariant.2 is c.in-Ok.ensures.said c.in-Ok.ensures.seen in
     (ap (λ (n : ℕ). n + 1) l.invariant.0, next.names, next.among, next.left)
 
-pub returns-in_err-put_item-clause-refused : goal.returns-in_err-put_item-clause-refused
-returns-in_err-put_item-clause-refused c =
+pub returns-in-Err-clause-refused : goal.returns-in-Err-clause-refused
+returns-in-Err-clause-refused c =
     let l = c.items in
     let xs = c.deref-item-items.result.now in
     let x = c.item-item.result in
     let here : drop l.item-index xs ≡ x ∷ drop (l.item-index + 1) xs = drop_more xs l.item-index x (omega arith) ∙ ap (λ y. y ∷ drop (l.item-index + 1) xs) (sym c.item-item.is) in
     let done = stated_views l.entities.items in
     let is = l.invariant.3 ∙ ap (λ (ys : List (Value Global)). made_of (λ es. done ++ es) (entities_from l.invariant.1 l.index (items_view ys))) here in
-    item_refused _ done (names_of l.seen.keys) l.invariant.1 l.index (items_view (drop (l.item-index + 1) xs)) (entity_said (value_view x)) _ l.invariant.2 is c.in_err-put_item.ensures.refused
+    refused_same (entities_from [] 0 (items_view c.args.items.now.items)) (entities_from [] 0 (items_view xs)) c.in-Err.error
+    (ap (λ (ys : List (Value Global)). entities_from [] 0 (items_view ys)) (sym c.deref-item-items.ensures.value))
+    (item_refused _ done (names_of l.seen.keys) l.invariant.1 l.index (items_view (drop (l.item-index + 1) xs)) (entity_said (value_view x)) _ l.invariant.2 is c.in-Err.ensures.refused)

@@ -22,5 +22,5 @@ items-preserved c =
     let done = names_of l.uids.items in (
       ap (λ (n : ℕ). n + 1) l.invariant.0,
       one_more_done _ done (under (at_index l.index) (plain_uid_said (value_view x))) (uids_from (l.index + 1) (items_view (drop (l.item-index + 1) xs))) _
-      (l.invariant.1 ∙ ap (λ (ys : List (Value Global)). made_of (λ ts. done ++ ts) (uids_from l.index (items_view ys))) here) c.in_ok-put_uid.ensures.said,
+          (l.invariant.1 ∙ ap (λ (ys : List (Value Global)). made_of (λ ts. done ++ ts) (uids_from l.index (items_view ys))) here) c.in_ok-put_uid.ensures.said,
     )

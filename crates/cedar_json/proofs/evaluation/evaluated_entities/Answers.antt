@@ -11,6 +11,6 @@ returns-in-Ok g c =
     let ds = c.evaluate_all.new.entities.items in
     record {
       evaluated =
-        subst (λ (m : ℕ). AreEvaluated (extensions_view c.args.extensions.now) (calls_of c.args.extensions.now) m es ds) c.new-evaluator.ensures.limit
-        (subst (λ y. AreEvaluated (extensions_view y) (calls_of y) (limit_of c.new-evaluator.result) es ds) c.new-evaluator.ensures.extensions c.in-Ok.ensures);
+          subst (λ (m : ℕ). AreEvaluated (extensions_view c.args.extensions.now) (calls_of c.args.extensions.now) m es ds) c.new-evaluator.ensures.limit
+          (subst (λ y. AreEvaluated (extensions_view y) (calls_of y) (limit_of c.new-evaluator.result) es ds) c.new-evaluator.ensures.extensions c.in-Ok.ensures);
     }

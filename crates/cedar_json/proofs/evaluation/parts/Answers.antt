@@ -1,4 +1,4 @@
-use Rattle.std.proofs.Common.{◌≡◌, [], List, sym, ap, ◌∙◌, subst, rules, Global}
+use Rattle.std.proofs.Common.{◌≡◌, [], List, sym, ap, ◌∙◌, subst, rules, arith, common_steps, Global}
 use Rattle.std.specs.Rc.{rc_str_bytes}
 use Rattle.std.specs.Vec.Iter.{into_iter_items}
 use Rattle.std.specs.declared.rc.RcStr.{RcStr}
@@ -30,7 +30,7 @@ pairs-preserved g c =
     let fs = l.invariant.0 in (
       put_field fs (rc_str_bytes c.in-Some.key) (restricted_term c.in-Some.expr),
       l.invariant.1 ∙ ap (λ (ps : List (RcStr Global × RestrictedExpr)). put_fields fs (pairs_said ps)) c.in-Some.ensures.steps.0,
-      c.in_ok-with_part.ensures fs l.invariant.2,
+      c.in_ok-parts.ensures fs l.invariant.2,
     )
 
 pub returns : goal.returns
@@ -39,5 +39,5 @@ returns g c =
     let x = extensions_in c.args.evaluator.now in
     let calls = calls_in c.args.evaluator.now in
     let n = limit_of c.args.evaluator.now in
-    let none : into_iter_items l.key-iterator ≡ [] = search rules in
+    let none : into_iter_items l.key-iterator ≡ [] = grind (arith, common_steps) in
     subst (λ (gs : Fields). AreAnswered x calls n gs (parts_view l.parts.map.entries)) (sym (l.invariant.1 ∙ ap (λ (ps : List (RcStr Global × RestrictedExpr)). put_fields l.invariant.0 (pairs_said ps)) none)) l.invariant.2
