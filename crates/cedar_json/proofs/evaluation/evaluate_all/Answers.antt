@@ -1,4 +1,5 @@
-use Rattle.std.proofs.Common.{◌≡◌, [], ◌∷◌, ◌++◌, List, sym, ap, ◌∙◌, subst, append_assoc, append-nil, rules, arith, common_steps}
+use Rattle.std.proofs.Common.{◌≡◌, [], ◌∷◌, ◌++◌, List, sym, ap, ◌∙◌, subst, append_assoc, append-nil, rules, arith}
+use Rattle.std.proofs.lemmas.Grind.{common_steps}
 use Rattle.std.specs.Vec.Iter.{into_iter_items}
 use Rattle.cedar_layers.specs.declared.policies.entities.Entity.{Entity}
 use Rattle.cedar_restricted.specs.Evaluators.{extensions_in, calls_in, limit_of}
@@ -35,6 +36,6 @@ returns g c =
     let x = extensions_in c.args.evaluator.now in
     let calls = calls_in c.args.evaluator.now in
     let n = limit_of c.args.evaluator.now in
-    let none : into_iter_items l.entity-iterator ≡ [] = grind (arith, common_steps) in
+    let none : into_iter_items l.entity-iterator ≡ [] = grind (arith) in
     let whole = l.invariant.1 ∙ ap (λ (es : List StatedEntity). l.invariant.0 ++ stated_views es) none ∙ append-nil l.invariant.0 in
     subst (λ (es : List SaidEntity). AreEvaluated x calls n es l.entities.items) (sym whole) l.invariant.2

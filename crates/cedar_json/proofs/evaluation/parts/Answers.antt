@@ -1,4 +1,5 @@
-use Rattle.std.proofs.Common.{◌≡◌, [], List, sym, ap, ◌∙◌, subst, rules, arith, common_steps, Global}
+use Rattle.std.proofs.Common.{◌≡◌, [], List, sym, ap, ◌∙◌, subst, rules, arith, Global}
+use Rattle.std.proofs.lemmas.Grind.{common_steps}
 use Rattle.std.specs.Rc.{rc_str_bytes}
 use Rattle.std.specs.Vec.Iter.{into_iter_items}
 use Rattle.std.specs.declared.rc.RcStr.{RcStr}
@@ -39,5 +40,5 @@ returns g c =
     let x = extensions_in c.args.evaluator.now in
     let calls = calls_in c.args.evaluator.now in
     let n = limit_of c.args.evaluator.now in
-    let none : into_iter_items l.key-iterator ≡ [] = grind (arith, common_steps) in
+    let none : into_iter_items l.key-iterator ≡ [] = grind (arith) in
     subst (λ (gs : Fields). AreAnswered x calls n gs (parts_view l.parts.map.entries)) (sym (l.invariant.1 ∙ ap (λ (ps : List (RcStr Global × RestrictedExpr)). put_fields l.invariant.0 (pairs_said ps)) none)) l.invariant.2
