@@ -1,5 +1,5 @@
 -- Parts that answer expressions.
-use Rattle.std.proofs.Common.{◌≡◌, refl, sym, ap, ◌∙◌, subst, ℕ, List, [], ◌∷◌, ◌++◌}
+use Rattle.std.proofs.Common.{◌≡◌, refl, sym, ap, ◌∙◌, subst, ℕ, List, [], ◌∷◌, ◌++◌, length, arith}
 use Rattle.std.specs.BTreeMap.{insert_entry}
 use Rattle.std.specs.Cmp.Lexicographic.{slice_cmp}
 use Rattle.std.specs.Ordering.{nat_cmp, match_ordering}
@@ -18,6 +18,11 @@ use Rattle.cedar_layers.specs.Parts.{parts_view}
 use Rattle.cedar_layers.specs.declared.policies.entities.Entity.{Entity}
 use Rattle.cedar_json.specs.SaidEntities.{SaidEntity}
 use Rattle.cedar_json.specs.Evaluated.{IsAnswerOf, AreAnswered, IsEvaluated, AreEvaluated, key_cmp}
+
+-- a list of length 0
+pub empty_list : {X : Type 0} (xs : List X) → length xs ≡ 0 → xs ≡ []
+empty_list [] h = refl
+empty_list (y ∷ xs) h = absurd (omega (arith, h))
 
 module _ (x : Extensions) (calls : StoredCalls) (n : ℕ) where
   -- a part that is put in its place
