@@ -1,0 +1,41 @@
+use Rattle.std.proofs.Common.{◌≡◌, [], ◌∷◌, ◌++◌, List, sym, ap, ◌∙◌, subst, append_assoc, append-nil, rules}
+use Rattle.std.specs.Vec.Iter.{into_iter_items}
+use Rattle.cedar_layers.specs.declared.policies.entities.Entity.{Entity}
+use Rattle.cedar_restricted.specs.Evaluators.{extensions_in, calls_in, limit_of}
+use Rattle.cedar_json.specs.declared.entities.StatedEntity.{StatedEntity}
+use Rattle.cedar_json.specs.SaidEntities.{SaidEntity}
+use Rattle.cedar_json.specs.StatedEntities.{stated_view, stated_views}
+use Rattle.cedar_json.specs.Evaluated.{AreEvaluated}
+use Rattle.cedar_json.proofs.Answered.{empty_list}
+use Rattle.cedar_json.proofs.evaluation.evaluate_all.Goals as goal
+
+pub stated-init : goal.stated-init
+stated-init g c =
+    let x = extensions_in c.args.evaluator.now in
+    let calls = calls_in c.args.evaluator.now in
+    let n = limit_of c.args.evaluator.now in
+    let all : into_iter_items c.into_iter-entity-iterator.result ≡ c.args.stated.items = search rules in (
+      [],
+      ap stated_views (sym all),
+      subst (λ (ds : List Entity). AreEvaluated x calls n [] ds) (sym c.requires) tt,
+    )
+
+pub stated-preserved : goal.stated-preserved
+stated-preserved g c =
+    let l = c.stated in
+    let done = l.invariant.0 in
+    let e = stated_view c.in-Some.entity in (
+      done ++ e ∷ [],
+      l.invariant.1 ∙ ap (λ (es : List StatedEntity). done ++ stated_views es) c.in-Some.ensures.steps.0 ∙ sym (append_assoc done (e ∷ []) (stated_views (into_iter_items c.next.new.self))),
+      c.in_ok-put_evaluated.ensures done l.invariant.2,
+    )
+
+pub returns : goal.returns
+returns g c =
+    let l = c.stated in
+    let x = extensions_in c.args.evaluator.now in
+    let calls = calls_in c.args.evaluator.now in
+    let n = limit_of c.args.evaluator.now in
+    let none : into_iter_items l.entity-iterator ≡ [] = empty_list (into_iter_items l.entity-iterator) (sym l.entity-iterator.rest.ok.0 ∙ c.in-None.ensures.steps.0) in
+    let whole = l.invariant.1 ∙ ap (λ (es : List StatedEntity). l.invariant.0 ++ stated_views es) none ∙ append-nil l.invariant.0 in
+    subst (λ (es : List SaidEntity). AreEvaluated x calls n es l.entities.items) (sym whole) l.invariant.2

@@ -1,0 +1,240 @@
+//! Entities whose attributes and tags are evaluated.
+ghost use Rattle.std.specs.Prelude.{◌≡◌, true, [], OnOk, IfOk};
+ghost use Rattle.std.specs.BTreeMap.{insert_entry};
+ghost use Rattle.std.specs.Rc.{rc_str_bytes};
+ghost use Rattle.cedar_expressions.specs.Records.{fields_in_order};
+ghost use Rattle.cedar_names.specs.Names.{uid_name};
+ghost use Rattle.cedar_extensions.specs.Extensions.{extensions_view, calls_of};
+ghost use Rattle.cedar_restricted.specs.Evaluators.{extensions_in, calls_in, limit_of};
+ghost use Rattle.cedar_restricted_expressions.specs.Views.{restricted_term};
+ghost use Rattle.cedar_json.specs.Lists.{pairs_said};
+ghost use Rattle.cedar_json.specs.StatedEntities.{names_of, stated_view, stated_views};
+ghost use Rattle.cedar_json.specs.Evaluated.{IsAnswerOf, AreAnswered, AreAmong, IsEvaluated, AreEvaluated};
+ghost use Rattle.cedar_json.specs.Evaluated.{key_cmp, AddsPart, AddsEntity, PutsName};
+ghost use Rattle.cedar_data.specs.Residuals.{partial_view};
+ghost use Rattle.cedar_layers.specs.Parts.{parts_view, are_restricted_parts, is_restricted_part};
+ghost use mathlib.Core.Bool.{Bool-set};
+
+use crate::entities::StatedEntity;
+use crate::errors::JsonError;
+use cedar_data::PartialValue;
+use cedar_extensions::Extensions;
+use cedar_layers::policies::Entity;
+use cedar_names::EntityUID;
+use cedar_restricted::RestrictedEvaluator;
+use cedar_restricted_expressions::RestrictedExpr;
+use cedar_values::evaluator::err::EvaluationError;
+use std::alloc::{AllocError, Global};
+use std::collections::{BTreeMap, HashSet};
+use std::rc::RcStr;
+
+// Values and residuals under their names, as an entity has them.
+#[derive(Drop)]
+struct StoredParts {
+    map: BTreeMap<RcStr, PartialValue>,
+    ghost restricted: { are_restricted_parts (parts_view map.entries) ≡ true } by { Bool-set _ _ },
+}
+
+impl StoredParts {
+    fn new(alloc: Global) -> StoredParts
+        ensures { result.map.entries ≡ [] }
+    {
+        StoredParts {
+            map: BTreeMap::new(alloc),
+        }
+    }
+
+    // The parts, and this one under its name.
+    #[tactic(auto, using(crate::proofs::Stored::restricted_insert))]
+    fn with(self, name: RcStr, part: PartialValue) -> Result<StoredParts, AllocError>
+        requires { is_restricted_part (partial_view part) ≡ true }
+        ensures { IfOk result (λ r. r.map.entries ≡ insert_entry key_cmp self.map.entries name part) }
+    {
+        let mut map = self.map;
+        let replaced = map.insert(name, part)?;
+        drop(replaced);
+        Ok(StoredParts { map })
+    }
+}
+
+/// The entities, with their attributes and tags evaluated with these extensions at most `limit` levels deep: a value,
+/// or what is left where an unknown stands in one. The ancestors of each are its parents alone.
+pub fn evaluated_entities(
+    alloc: Global,
+    stated: Vec<StatedEntity>,
+    extensions: &Extensions<'_>,
+    limit: usize,
+) -> Result<Vec<Entity>, JsonError>
+    ensures evaluated { IfOk result (λ r. AreEvaluated (extensions_view extensions.now) (calls_of extensions.now) limit
+        (stated_views stated.items) r.items) }
+{
+    let evaluator = RestrictedEvaluator::new(extensions, limit);
+    let mut entities: Vec<Entity> = Vec::new(alloc);
+    match evaluate_all(alloc, stated, &evaluator, &mut entities) {
+        Ok(()) => Ok(entities),
+        Err(error) => {
+            drop(entities);
+            Err(error)
+        }
+    }
+}
+
+fn evaluate_all(
+    alloc: Global,
+    stated: Vec<StatedEntity>,
+    evaluator: &RestrictedEvaluator<'_, '_>,
+    entities: &mut Vec<Entity>,
+) -> Result<(), JsonError>
+    requires { entities.old.items ≡ [] }
+    ensures { OnOk result (AreEvaluated (extensions_in evaluator.now) (calls_in evaluator.now)
+        (limit_of evaluator.now) (stated_views stated.items) entities.new.items) }
+{
+    let mut index: usize = 0;
+    'stated: for entity in stated {
+        put_evaluated(alloc, entity, evaluator, index, entities)?;
+        index = index.saturating_add(1);
+    }
+    Ok(())
+}
+
+// Puts the entity, which has this index, behind those that are there.
+fn put_evaluated(
+    alloc: Global,
+    stated: StatedEntity,
+    evaluator: &RestrictedEvaluator<'_, '_>,
+    index: usize,
+    entities: &mut Vec<Entity>,
+) -> Result<(), JsonError>
+    ensures { OnOk result (AddsEntity (extensions_in evaluator.now) (calls_in evaluator.now)
+        (limit_of evaluator.now) (stated_view stated) entities.old.items entities.new.items) }
+{
+    match evaluate(alloc, stated, evaluator) {
+        Ok(entity) => match entities.push(entity) {
+            Ok(()) => Ok(()),
+            Err(failed) => Err(JsonError::from(failed)),
+        },
+        Err(error) => Err(error.under_index(index)),
+    }
+}
+
+fn evaluate(
+    alloc: Global,
+    stated: StatedEntity,
+    evaluator: &RestrictedEvaluator<'_, '_>,
+) -> Result<Entity, JsonError>
+    ensures { IfOk result (IsEvaluated (extensions_in evaluator.now) (calls_in evaluator.now)
+        (limit_of evaluator.now) (stated_view stated)) }
+{
+    let StatedEntity {
+        uid,
+        attrs,
+        parents,
+        tags,
+    } = stated;
+    let attrs = parts_at(alloc, attrs, evaluator, "attrs")?;
+    let tags = parts_at(alloc, tags, evaluator, "tags")?;
+    let parents = set_of(alloc, parents)?;
+    Ok(Entity::new(uid, attrs.map, parents, tags.map))
+}
+
+// The set of these.
+fn set_of(alloc: Global, uids: Vec<EntityUID>) -> Result<HashSet<EntityUID>, JsonError>
+    ensures { IfOk result (λ s. AreAmong (names_of s.keys) (names_of uids.items)) }
+{
+    let mut set: HashSet<EntityUID> = HashSet::new(alloc);
+    'uids: for uid in uids {
+        put_uid(uid, &mut set)?;
+    }
+    Ok(set)
+}
+
+fn put_uid(uid: EntityUID, set: &mut HashSet<EntityUID>) -> Result<(), JsonError>
+    ensures { OnOk result (PutsName (names_of set.old.keys) (uid_name uid) (names_of set.new.keys)) }
+{
+    match set.insert(uid) {
+        Ok(_) => Ok(()),
+        Err(failed) => Err(JsonError::from(failed)),
+    }
+}
+
+fn parts_at(
+    alloc: Global,
+    pairs: Vec<(RcStr, RestrictedExpr)>,
+    evaluator: &RestrictedEvaluator<'_, '_>,
+    key: &str,
+) -> Result<StoredParts, JsonError>
+    ensures { IfOk result (λ r. AreAnswered (extensions_in evaluator.now) (calls_in evaluator.now)
+        (limit_of evaluator.now) (fields_in_order (pairs_said pairs.items)) (parts_view r.map.entries)) }
+{
+    match parts(alloc, pairs, evaluator) {
+        Ok(parts) => Ok(parts),
+        Err(error) => Err(error.under_key(alloc, key)),
+    }
+}
+
+fn parts(
+    alloc: Global,
+    pairs: Vec<(RcStr, RestrictedExpr)>,
+    evaluator: &RestrictedEvaluator<'_, '_>,
+) -> Result<StoredParts, JsonError>
+    ensures { IfOk result (λ r. AreAnswered (extensions_in evaluator.now) (calls_in evaluator.now)
+        (limit_of evaluator.now) (fields_in_order (pairs_said pairs.items)) (parts_view r.map.entries)) }
+{
+    let mut parts = StoredParts::new(alloc);
+    'pairs: for (key, expr) in pairs {
+        parts = with_part(alloc, parts, key, expr, evaluator)?;
+    }
+    Ok(parts)
+}
+
+// The parts, and what the expression is evaluated to under this key.
+fn with_part(
+    alloc: Global,
+    parts: StoredParts,
+    key: RcStr,
+    expr: RestrictedExpr,
+    evaluator: &RestrictedEvaluator<'_, '_>,
+) -> Result<StoredParts, JsonError>
+    ensures { IfOk result (λ r. AddsPart (extensions_in evaluator.now) (calls_in evaluator.now)
+        (limit_of evaluator.now) (rc_str_bytes key) (restricted_term expr) parts.map.entries r.map.entries) }
+{
+    let part = part(alloc, &key, &expr, evaluator);
+    drop(expr);
+    match part {
+        Ok(part) => match parts.with(key, part) {
+            Ok(parts) => Ok(parts),
+            Err(error) => Err(JsonError::Memory(error)),
+        },
+        Err(error) => {
+            drop((parts, key));
+            Err(error)
+        }
+    }
+}
+
+// What the expression is evaluated to, at this key.
+#[tactic(auto, using(crate::proofs::Stored::sound_part))]
+fn part(
+    alloc: Global,
+    key: &RcStr,
+    expr: &RestrictedExpr,
+    evaluator: &RestrictedEvaluator<'_, '_>,
+) -> Result<PartialValue, JsonError>
+    ensures answer { IfOk result (λ p. IsAnswerOf (extensions_in evaluator.now) (calls_in evaluator.now)
+        (limit_of evaluator.now) (restricted_term expr.now) (partial_view p)) }
+    ensures restricted { IfOk result (λ p. is_restricted_part (partial_view p) ≡ true) }
+{
+    match evaluator.partial_interpret(alloc, expr.as_borrowed()) {
+        Ok(part) => Ok(part),
+        Err(error) => Err(unevaluated(alloc, error, key.as_str())),
+    }
+}
+
+// The error of an evaluation, of the part at this key.
+#[cold]
+fn unevaluated(alloc: Global, error: EvaluationError, key: &str) -> JsonError {
+    match error {
+        EvaluationError::Memory(error) => JsonError::Memory(error),
+        other => JsonError::evaluation(alloc, other).under_key(alloc, key),
+    }
+}

@@ -1,0 +1,116 @@
+#![tactic(auto, using(crate::proofs::TextLemmas::text_lemmas))]
+//! JSON texts.
+ghost use Rattle.std.specs.Prelude.{◌≡◌, Some, IfOk, IfErr};
+ghost use Rattle.json.specs.Json.{document};
+ghost use Rattle.json.specs.Strict.{HasUniqueKeys};
+ghost use Rattle.json.specs.Value.{value_view};
+ghost use Rattle.cedar_restricted_expressions.specs.Views.{restricted_term};
+ghost use Rattle.cedar_json.specs.Said.{said};
+ghost use Rattle.cedar_json.specs.SaidEntities.{entities_said};
+ghost use Rattle.cedar_json.specs.StatedEntities.{stated_views};
+ghost use Rattle.cedar_json.specs.JsonTexts.{IsUnread, Says, IsTextRefusal};
+
+use crate::contexts::context_from_json_value;
+use crate::entities::{StatedEntity, stated_entities_from_json_value};
+use crate::errors::JsonError;
+use crate::evaluation::evaluated_entities;
+use crate::requests::request_from_json_value;
+use crate::values::restricted_expr_from_json_value;
+use cedar_extensions::Extensions;
+use cedar_layers::policies::Entity;
+use cedar_requests::{Context, Request};
+use cedar_restricted_expressions::RestrictedExpr;
+use json::{Error, Scratch, Value};
+use std::alloc::{AllocError, Global};
+
+/// The restricted expression that the text says, as `restricted_expr_from_json_value` reads it. `Syntax` where the text is
+/// no JSON, and `DuplicateKey` where an object of it has a key twice.
+pub fn restricted_expr_from_json_str(alloc: Global, text: &str) -> Result<RestrictedExpr, JsonError>
+    ensures said { IfOk result (λ r. Says text.now said (restricted_term r)) }
+    ensures refused { IfErr result (IsTextRefusal text.now said) }
+{
+    let mut scratch = Scratch::new(alloc);
+    match parsed(alloc, text, &mut scratch) {
+        Ok(value) => restricted_expr_from_json_value(alloc, &value),
+        Err(error) => Err(error),
+    }
+}
+
+/// The context that the text says, evaluated with these extensions at most `limit` levels deep: the members of an object,
+/// each a value as `restricted_expr_from_json_value` reads it. `Evaluation` holds the error of the evaluation.
+pub fn context_from_json_str(
+    alloc: Global,
+    text: &str,
+    extensions: &Extensions<'_>,
+    limit: usize,
+) -> Result<Context, JsonError> {
+    let mut scratch = Scratch::new(alloc);
+    match parsed(alloc, text, &mut scratch) {
+        Ok(value) => context_from_json_value(alloc, &value, extensions, limit),
+        Err(error) => Err(error),
+    }
+}
+
+/// The entities that the text says, with their attributes and tags evaluated with these extensions at most `limit` levels
+/// deep. The ancestors of each are its parents alone, as the text has them.
+pub fn entities_from_json_str(
+    alloc: Global,
+    text: &str,
+    extensions: &Extensions<'_>,
+    limit: usize,
+) -> Result<Vec<Entity>, JsonError> {
+    match stated_entities_from_json_str(alloc, text) {
+        Ok(stated) => evaluated_entities(alloc, stated, extensions, limit),
+        Err(error) => Err(error),
+    }
+}
+
+/// The entities that the text says, before anything of them is evaluated: an array of objects, each with a `uid`, `attrs`,
+/// `parents` and, where there are any, `tags`. An entity that comes again is refused.
+pub fn stated_entities_from_json_str(
+    alloc: Global,
+    text: &str,
+) -> Result<Vec<StatedEntity>, JsonError>
+    ensures said { IfOk result (λ r. Says text.now entities_said (stated_views r.items)) }
+    ensures refused { IfErr result (IsTextRefusal text.now entities_said) }
+{
+    let mut scratch = Scratch::new(alloc);
+    match parsed(alloc, text, &mut scratch) {
+        Ok(value) => stated_entities_from_json_value(alloc, &value),
+        Err(error) => Err(error),
+    }
+}
+
+/// The request that the text says, its context evaluated with these extensions at most `limit` levels deep: an object of a
+/// `principal`, an `action`, a `resource`, each a type and an id, and a `context`.
+pub fn request_from_json_str(
+    alloc: Global,
+    text: &str,
+    extensions: &Extensions<'_>,
+    limit: usize,
+) -> Result<Request, JsonError> {
+    let mut scratch = Scratch::new(alloc);
+    match parsed(alloc, text, &mut scratch) {
+        Ok(value) => request_from_json_value(alloc, &value, extensions, limit),
+        Err(error) => Err(error),
+    }
+}
+
+// The JSON value that the text is.
+fn parsed<'a>(
+    alloc: Global,
+    text: &'a str,
+    scratch: &'a mut Scratch,
+) -> Result<Value<'a>, JsonError>
+    ensures said { IfOk result (λ v. document text.now ≡ Some (value_view v)) }
+    ensures unique { IfOk result (λ v. HasUniqueKeys (value_view v)) }
+    ensures unread { IfErr result (IsUnread text.now) }
+{
+    match Value::parse_strict(alloc, text, scratch) {
+        Ok(value) => Ok(value),
+        Err(Error::Invalid) => Err(JsonError::Syntax),
+        Err(Error::TooLong) => Err(JsonError::Syntax),
+        Err(Error::DuplicateKey) => Err(JsonError::DuplicateKey),
+        Err(Error::OutOfMemory) => Err(JsonError::Memory(AllocError)),
+    }
+}
