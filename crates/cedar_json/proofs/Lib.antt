@@ -1,0 +1,2 @@
+pub mod Views
+mod Members

@@ -1,0 +1,30 @@
+-- What is read into lists, and what calls say by their shapes; for private clauses.
+use Rattle.std.specs.Prelude.{◌≡◌, List, [], ◌∷◌, ◌++◌, map, Ok}
+use Rattle.std.specs.Rc.{rc_str_bytes}
+use Rattle.std.specs.declared.alloc.Global.{Global}
+use Rattle.std.specs.declared.rc.RcStr.{RcStr}
+use Rattle.json.specs.Json.{Json}
+use Rattle.json.specs.Find.{as_str}
+use Rattle.cedar_model.specs.Terms.{Text, Term}
+use Rattle.cedar_restricted_expressions.specs.declared.restricted_expr.RestrictedExpr.{RestrictedExpr}
+use Rattle.cedar_restricted_expressions.specs.Views.{restricted_term}
+use Rattle.cedar_json.specs.Refusals.{Said}
+use Rattle.cedar_json.specs.Said.{said, said_list, arguments_said, called_said}
+use Rattle.cedar_json.specs.Shapes.{Parts}
+
+-- a pair of a key and an expression, as a text and a term
+abbrev pub pair_said : RcStr Global × RestrictedExpr → Text × Term
+pair_said p = (rc_str_bytes p.0, restricted_term p.1)
+
+abbrev pub pairs_said : List (RcStr Global × RestrictedExpr) → List (Text × Term)
+pairs_said = map pair_said
+
+-- the new list has one more at its end, which is what was said
+abbrev pub IsOneMore : {R T : Type 0} → (R → T) → Said T → List R → List R → Type 0
+IsOneMore view s old new = (last : _) × (new ≡ old ++ last ∷ []) × (s ≡ Ok (view last))
+
+abbrev pub arguments_of : Text → Json → Said (List Term)
+arguments_of k j = arguments_said k (said j) (said_list j)
+
+abbrev pub shape_said : Parts → Said Term
+shape_said p = called_said (as_str p.function) (arguments_of p.key p.argument)

@@ -1,0 +1,334 @@
+#![tactic(auto, using(crate::proofs::Views::views))]
+//! Values.
+ghost use Rattle.std.specs.Prelude.{◌≡◌, [], Ok, map, codes, IsSome, OnOk, IfOk, IfErr};
+ghost use Rattle.std.specs.Rc.{rc_str_bytes};
+ghost use Rattle.json.specs.Value.{value_view, items_view, members_view};
+ghost use Rattle.cedar_restricted_expressions.specs.Views.{restricted_term};
+ghost use Rattle.json.specs.Json.{object};
+ghost use Rattle.json.specs.Find.{as_number};
+ghost use Rattle.cedar_model.specs.Terms.{literal, text_literal};
+ghost use Rattle.cedar_json.specs.Refusals.{IsRefusal, IsMemory, under, made_of, and_then};
+ghost use Rattle.cedar_json.specs.Paths.{at_key, at_index};
+ghost use Rattle.cedar_json.specs.Shapes as shape;
+ghost use Rattle.cedar_json.specs.Said as says;
+ghost use Rattle.cedar_json.specs.Lists.{pair_said, pairs_said, IsOneMore, arguments_of, shape_said};
+
+use crate::errors::{JsonError, RefusalReason};
+use crate::escapes::{called, entity, is_reserved};
+use crate::shapes::{CallShape, array, call_shape, sole};
+use cedar_expressions::ExpressionConstructionError;
+use cedar_names::Literal;
+use cedar_restricted_expressions::RestrictedExpr;
+use json::Value;
+use std::alloc::Global;
+use std::rc::RcStr;
+
+/// The restricted expression that the JSON value says: a boolean, a long, a string, a set of the elements of an array,
+/// a record of the members of an object, an entity, a call of an extension function, or an unknown.
+#[cycle(values)]
+pub fn restricted_expr_from_json_value(
+    alloc: Global,
+    value: &Value<'_>,
+) -> Result<RestrictedExpr, JsonError>
+    ensures said { IfOk result (λ r. says.said (value_view value.now) ≡ Ok (restricted_term r)) }
+    ensures refused { IfErr result (IsRefusal (says.said (value_view value.now))) }
+{
+    match value {
+        Value::Null => Err(JsonError::refusal(alloc, RefusalReason::Null)),
+        Value::Bool(flag) => Ok(RestrictedExpr::val(Literal::Bool(*flag))),
+        Value::Number(_) => read_long(alloc, value),
+        Value::String(text) => read_text(alloc, text),
+        Value::Array(items) => read_set(alloc, items),
+        Value::Object(members) => read_object(alloc, members),
+    }
+}
+
+fn read_long(alloc: Global, number: &Value<'_>) -> Result<RestrictedExpr, JsonError>
+    requires { IsSome (as_number (value_view number.now)) }
+    ensures said { IfOk result (λ r. says.said (value_view number.now) ≡ Ok (restricted_term r)) }
+    ensures refused { IfErr result (IsRefusal (says.said (value_view number.now))) }
+{
+    match number.as_i64() {
+        Some(long) => Ok(RestrictedExpr::val(Literal::Long(long))),
+        None => Err(JsonError::refusal(alloc, RefusalReason::NotALong)),
+    }
+}
+
+fn read_text(alloc: Global, text: &str) -> Result<RestrictedExpr, JsonError>
+    ensures said { IfOk result (λ r. restricted_term r ≡ literal (text_literal text.now)) }
+    ensures memory { IfErr result IsMemory }
+{
+    match RcStr::from_str(alloc, text) {
+        Ok(text) => Ok(RestrictedExpr::val(Literal::String(text))),
+        Err(error) => Err(JsonError::Memory(error)),
+    }
+}
+
+#[cycle(values)]
+fn read_set(alloc: Global, items: &Vec<Value<'_>>) -> Result<RestrictedExpr, JsonError>
+    ensures said { IfOk result (λ r. says.set_said (says.said_items 0 (items_view items.now.items)) ≡ Ok (restricted_term r)) }
+    ensures refused { IfErr result (IsRefusal (says.set_said (says.said_items 0 (items_view items.now.items)))) }
+{
+    let mut elements: Vec<RestrictedExpr> = Vec::new(alloc);
+    match read_items(alloc, items, &mut elements) {
+        Ok(()) => match RestrictedExpr::set(alloc, elements) {
+            Ok(set) => Ok(set),
+            Err(error) => Err(JsonError::Memory(error)),
+        },
+        Err(error) => {
+            drop(elements);
+            Err(error)
+        }
+    }
+}
+
+// Puts the expressions of the items behind those that are there.
+#[cycle(values)]
+fn read_items(
+    alloc: Global,
+    items: &Vec<Value<'_>>,
+    elements: &mut Vec<RestrictedExpr>,
+) -> Result<(), JsonError>
+    requires { elements.old.items ≡ [] }
+    ensures said { OnOk result (says.said_items 0 (items_view items.now.items) ≡ Ok (map restricted_term elements.new.items)) }
+    ensures refused { IfErr result (IsRefusal (says.said_items 0 (items_view items.now.items))) }
+{
+    let mut index: usize = 0;
+    'items: for item in items {
+        read_item(alloc, item, index, elements)?;
+        index += 1;
+    }
+    Ok(())
+}
+
+#[cycle(values)]
+fn read_item(
+    alloc: Global,
+    item: &Value<'_>,
+    index: usize,
+    elements: &mut Vec<RestrictedExpr>,
+) -> Result<(), JsonError>
+    ensures said { OnOk result (IsOneMore restricted_term (under (at_index index) (says.said (value_view item.now)))
+        elements.old.items elements.new.items) }
+    ensures refused { IfErr result (IsRefusal (under (at_index index) (says.said (value_view item.now)))) }
+{
+    match restricted_expr_from_json_value(alloc, item) {
+        Ok(element) => match elements.push(element) {
+            Ok(()) => Ok(()),
+            Err(failed) => Err(JsonError::from(failed)),
+        },
+        Err(error) => Err(error.under_index(index)),
+    }
+}
+
+#[cycle(values)]
+fn read_object(alloc: Global, members: &Vec<(&str, Value<'_>)>) -> Result<RestrictedExpr, JsonError>
+    ensures said { IfOk result (λ r. says.said (object (members_view members.now.items)) ≡ Ok (restricted_term r)) }
+    ensures refused { IfErr result (IsRefusal (says.said (object (members_view members.now.items)))) }
+{
+    match sole(members) {
+        Some((key, value)) => if key == "__entity" {
+            entity(alloc, value)
+        } else if key == "__extn" {
+            read_call(alloc, value)
+        } else {
+            read_record(alloc, members)
+        },
+        None => read_record(alloc, members),
+    }
+}
+
+#[cycle(values)]
+pub(crate) fn read_record(
+    alloc: Global,
+    members: &Vec<(&str, Value<'_>)>,
+) -> Result<RestrictedExpr, JsonError>
+    ensures said { IfOk result (λ r. says.record_said (says.said_members (members_view members.now.items)) ≡ Ok (restricted_term r)) }
+    ensures refused { IfErr result (IsRefusal (says.record_said (says.said_members (members_view members.now.items)))) }
+{
+    let mut pairs: Vec<(RcStr, RestrictedExpr)> = Vec::new(alloc);
+    match read_members(alloc, members, &mut pairs) {
+        Ok(()) => record(alloc, pairs),
+        Err(error) => {
+            drop(pairs);
+            Err(error)
+        }
+    }
+}
+
+fn record(alloc: Global, pairs: Vec<(RcStr, RestrictedExpr)>) -> Result<RestrictedExpr, JsonError>
+    ensures said { IfOk result (λ r. says.record_of_pairs (pairs_said pairs.items) ≡ Ok (restricted_term r)) }
+    ensures refused { IfErr result (IsRefusal (says.record_of_pairs (pairs_said pairs.items))) }
+{
+    match RestrictedExpr::record(alloc, pairs) {
+        Ok(record) => Ok(record),
+        Err(ExpressionConstructionError::DuplicateKey { key, context: _ }) => {
+            let error = JsonError::refusal(alloc, RefusalReason::RepeatedKey);
+            Err(error.under_key(alloc, key.as_str()))
+        }
+        Err(ExpressionConstructionError::Memory(error)) => Err(JsonError::Memory(error)),
+    }
+}
+
+// Puts the expressions of the members behind those that are there, under their keys.
+#[cycle(values)]
+pub(crate) fn read_members(
+    alloc: Global,
+    members: &Vec<(&str, Value<'_>)>,
+    pairs: &mut Vec<(RcStr, RestrictedExpr)>,
+) -> Result<(), JsonError>
+    requires { pairs.old.items ≡ [] }
+    ensures said { OnOk result (says.said_members (members_view members.now.items) ≡ Ok (pairs_said pairs.new.items)) }
+    ensures refused { IfErr result (IsRefusal (says.said_members (members_view members.now.items))) }
+{
+    'members: for member in members {
+        read_member(alloc, member.0, &member.1, pairs)?;
+    }
+    Ok(())
+}
+
+#[cycle(values)]
+fn read_member(
+    alloc: Global,
+    key: &str,
+    value: &Value<'_>,
+    pairs: &mut Vec<(RcStr, RestrictedExpr)>,
+) -> Result<(), JsonError>
+    ensures said { OnOk result (IsOneMore pair_said (says.member_said key.now (says.said (value_view value.now)))
+        pairs.old.items pairs.new.items) }
+    ensures refused { IfErr result (IsRefusal (says.member_said key.now (says.said (value_view value.now)))) }
+{
+    if is_reserved(key) {
+        let error = JsonError::refusal(alloc, RefusalReason::ReservedKey);
+        return Err(error.under_key(alloc, key));
+    }
+    match restricted_expr_from_json_value(alloc, value) {
+        Ok(expr) => put_pair(alloc, key, expr, pairs),
+        Err(error) => Err(error.under_key(alloc, key)),
+    }
+}
+
+fn put_pair(
+    alloc: Global,
+    key: &str,
+    expr: RestrictedExpr,
+    pairs: &mut Vec<(RcStr, RestrictedExpr)>,
+) -> Result<(), JsonError>
+    ensures said { OnOk result (IsOneMore pair_said (Ok (key.now, restricted_term expr)) pairs.old.items pairs.new.items) }
+    ensures memory { IfErr result IsMemory }
+{
+    match RcStr::from_str(alloc, key) {
+        Ok(key) => match pairs.push((key, expr)) {
+            Ok(()) => Ok(()),
+            Err(failed) => Err(JsonError::from(failed)),
+        },
+        Err(error) => {
+            drop(expr);
+            Err(JsonError::Memory(error))
+        }
+    }
+}
+
+#[cycle(values)]
+fn read_call(alloc: Global, call: &Value<'_>) -> Result<RestrictedExpr, JsonError>
+    ensures said { IfOk result (λ r. under (at_key (codes "__extn")) (says.said_call (value_view call.now)) ≡ Ok (restricted_term r)) }
+    ensures refused { IfErr result (IsRefusal (under (at_key (codes "__extn")) (says.said_call (value_view call.now)))) }
+{
+    match call_shape(call) {
+        Some(shape) => match read_shape(alloc, shape) {
+            Ok(call) => Ok(call),
+            Err(error) => Err(error.under_key(alloc, "__extn")),
+        },
+        None => Err(JsonError::refusal(alloc, RefusalReason::NotACall).under_key(alloc, "__extn")),
+    }
+}
+
+#[cycle(values)]
+fn read_shape(alloc: Global, shape: CallShape<'_, '_>) -> Result<RestrictedExpr, JsonError>
+    ensures said { IfOk result (λ r. shape_said (shape.parts_view shape.entry) ≡ Ok (restricted_term r)) }
+    ensures refused { IfErr result (IsRefusal (shape_said (shape.parts_view shape.entry))) }
+{
+    match shape.function.as_str() {
+        Some(function) => read_called(alloc, function, shape.key, shape.argument),
+        None => Err(JsonError::refusal(alloc, RefusalReason::NotACall)),
+    }
+}
+
+#[cycle(values)]
+fn read_called(
+    alloc: Global,
+    function: &str,
+    key: &str,
+    argument: &Value<'_>,
+) -> Result<RestrictedExpr, JsonError>
+    ensures said { IfOk result (λ r. and_then (says.called function.now) (arguments_of key.now (value_view argument.now)) ≡ Ok (restricted_term r)) }
+    ensures refused { IfErr result (IsRefusal (and_then (says.called function.now) (arguments_of key.now (value_view argument.now)))) }
+{
+    let mut args: Vec<RestrictedExpr> = Vec::new(alloc);
+    match read_arguments(alloc, key, argument, &mut args) {
+        Ok(()) => called(alloc, function, args),
+        Err(error) => {
+            drop(args);
+            Err(error)
+        }
+    }
+}
+
+// Puts the arguments at `arg` or `args` behind those that are there.
+#[cycle(values)]
+fn read_arguments(
+    alloc: Global,
+    key: &str,
+    argument: &Value<'_>,
+    args: &mut Vec<RestrictedExpr>,
+) -> Result<(), JsonError>
+    requires { args.old.items ≡ [] }
+    ensures said { OnOk result (arguments_of key.now (value_view argument.now) ≡ Ok (map restricted_term args.new.items)) }
+    ensures refused { IfErr result (IsRefusal (arguments_of key.now (value_view argument.now))) }
+{
+    if key == "arg" {
+        read_argument(alloc, argument, args)
+    } else if key == "args" {
+        match read_list(alloc, argument, args) {
+            Ok(()) => Ok(()),
+            Err(error) => Err(error.under_key(alloc, key)),
+        }
+    } else {
+        Err(JsonError::refusal(alloc, RefusalReason::NotACall))
+    }
+}
+
+#[cycle(values)]
+fn read_argument(
+    alloc: Global,
+    argument: &Value<'_>,
+    args: &mut Vec<RestrictedExpr>,
+) -> Result<(), JsonError>
+    requires { args.old.items ≡ [] }
+    ensures said { OnOk result (made_of says.one (under (at_key (codes "arg")) (says.said (value_view argument.now))) ≡ Ok (map restricted_term args.new.items)) }
+    ensures refused { IfErr result (IsRefusal (made_of says.one (under (at_key (codes "arg")) (says.said (value_view argument.now))))) }
+{
+    match restricted_expr_from_json_value(alloc, argument) {
+        Ok(argument) => match args.push(argument) {
+            Ok(()) => Ok(()),
+            Err(failed) => Err(JsonError::from(failed)),
+        },
+        Err(error) => Err(error.under_key(alloc, "arg")),
+    }
+}
+
+#[cycle(values)]
+fn read_list(
+    alloc: Global,
+    list: &Value<'_>,
+    args: &mut Vec<RestrictedExpr>,
+) -> Result<(), JsonError>
+    requires { args.old.items ≡ [] }
+    ensures said { OnOk result (says.said_list (value_view list.now) ≡ Ok (map restricted_term args.new.items)) }
+    ensures refused { IfErr result (IsRefusal (says.said_list (value_view list.now))) }
+{
+    match array(list) {
+        Some(items) => read_items(alloc, items, args),
+        None => Err(JsonError::refusal(alloc, RefusalReason::NotAnArray)),
+    }
+}
