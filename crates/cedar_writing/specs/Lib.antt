@@ -1,0 +1,7 @@
+pub mod Escapes
+pub mod Names
+pub mod Levels
+pub mod Methods
+pub mod Texts
+pub mod Scopes
+pub mod Policies

@@ -1,0 +1,63 @@
+-- Names of attributes, and what stands behind a part: bare where they are identifiers, else as texts in double quotes.
+use Rattle.std.specs.Prelude.{Bool, ◌&&◌, ◌||◌, not, bytes_eq, List, ◌∷◌, ◌++◌, if◌then◌else◌, codes, flat_map}
+use Rattle.std.specs.List.{list_all}
+use Rattle.cedar_model.specs.Terms.{Text, EntityName, Literal, bool_literal, long_literal, text_literal, entity_literal, PatternPart}
+use Rattle.cedar_tokens.specs.Kinds.{is_identifier}
+use Rattle.cedar_tokens.specs.Scanning.{begins_with}
+use Rattle.cedar_tokens.specs.Words.{starts_word, is_word_byte, word_kind}
+use Rattle.cedar_names.specs.Texts as names
+use Rattle.cedar_writing.specs.Escapes.{quoted, pattern_text}
+
+-- the words that stand for themselves alone
+unfoldable pub is_reserved : Text → Bool
+is_reserved t =
+    bytes_eq t (codes "true") || (bytes_eq t (codes "false") || (bytes_eq t (codes "if")
+    || (bytes_eq t (codes "then") || (bytes_eq t (codes "else") || (bytes_eq t (codes "in")
+    || (bytes_eq t (codes "has") || (bytes_eq t (codes "like") || bytes_eq t (codes "is"))))))))
+
+-- a letter or `_`, and then letters, digits and `_`
+unfoldable pub is_word : Text → Bool
+is_word t = begins_with starts_word t && list_all is_word_byte t
+
+-- whether the text is one word, and none that is reserved
+unfoldable pub is_name : Text → Bool
+is_name t = is_word t && is_identifier (word_kind t)
+
+-- the key of a field, or an attribute behind `has`
+abbrev pub key_text : Text → Text
+key_text k = if is_name k then k else quoted k
+
+-- `["a b"]`
+abbrev pub index_text : Text → Text
+index_text a = codes "[" ++ (quoted a ++ codes "]")
+
+-- `.a`, or `["a b"]`
+abbrev pub attribute_text : Text → Text
+attribute_text a = if is_name a then 46 ∷ a else index_text a
+
+-- a further attribute of an extended has
+abbrev pub further_text : Text → Text
+further_text a = 46 ∷ key_text a
+
+abbrev pub has_text : Text → Text
+has_text a = codes " has " ++ key_text a
+
+abbrev pub path_text : Text → List Text → Text
+path_text a more = codes " has " ++ (key_text a ++ flat_map further_text more)
+
+abbrev pub like_text : List PatternPart → Text
+like_text ps = codes " like " ++ pattern_text ps
+
+-- an entity: its type, `::` and its id in double quotes
+abbrev pub entity_text : EntityName → Text
+entity_text e = e.type_name ++ (codes "::" ++ quoted e.id)
+
+abbrev pub literal_text : Literal → Text
+literal_text (bool_literal b) = names.literal_text (bool_literal b)
+literal_text (long_literal z) = names.literal_text (long_literal z)
+literal_text (text_literal t) = quoted t
+literal_text (entity_literal e) = entity_text e
+
+-- an unknown: its name, and no annotation
+abbrev pub unknown_text : Text → Text
+unknown_text n = codes "unknown(" ++ (quoted n ++ codes ")")
