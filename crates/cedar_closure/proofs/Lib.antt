@@ -1,0 +1,5 @@
+pub mod Walking
+pub mod Marking
+pub mod Listing
+pub mod Passing
+pub mod Closures

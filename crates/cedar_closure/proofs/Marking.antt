@@ -1,0 +1,84 @@
+-- A set of uids after one more is put in, name by name.
+use Rattle.std.proofs.Common.{◌≡◌, refl, sym, ap, ◌∙◌, Bool, true, false, not, ◌||◌, List, [], ◌∷◌, ◌++◌, map, if◌then◌else◌}
+use Rattle.std.specs.List.{list_any}
+use Rattle.std.specs.Set.{KeepsOthers}
+use Rattle.cedar_model.specs.Terms.{EntityName}
+use Rattle.cedar_model.specs.Outcomes.{entity_eq}
+use Rattle.cedar_model.specs.Settings.{is_among}
+use Rattle.cedar_names.specs.declared.names.EntityUID.{EntityUID}
+use Rattle.cedar_names.specs.contracts.names.EntityUIDPartialEq.TheImpl.{eq-value}
+use Rattle.cedar_names.specs.Names.{uid_name}
+use Rattle.cedar_closure.specs.Walks.{marked}
+use Rattle.cedar_closure.specs.Listed.{HoldsTheSame}
+use Rattle.cedar_closure.proofs.Walking.{entity_eq-true, is_among-append}
+
+-- a uid passes the test for a name where the name is among the uids' names
+pub any_of_name : (n : EntityName) (us : List EntityUID) → list_any (λ (u : EntityUID). entity_eq n (uid_name u)) us ≡ is_among n (map uid_name us)
+unfolding is_among
+any_of_name n [] = refl
+any_of_name n (u ∷ us) = ap (λ (b : Bool). entity_eq n (uid_name u) || b) (any_of_name n us)
+
+-- an entity is in a set where its name is
+pub any_of_uid : (u : EntityUID) (us : List EntityUID) → list_any (eq-value.it u) us ≡ is_among (uid_name u) (map uid_name us)
+any_of_uid u us = any_of_name (uid_name u) us
+
+or_true : (b : Bool) → true ≡ (b || true)
+or_true true = refl
+or_true false = refl
+
+or_false : (b : Bool) → b ≡ (b || false)
+or_false true = refl
+or_false false = refl
+
+pub map-behind : (us : List EntityUID) (u : EntityUID) → map uid_name (us ++ u ∷ []) ≡ map uid_name us ++ uid_name u ∷ []
+map-behind [] u = refl
+map-behind (v ∷ us) u = ap (λ (ns : List EntityName). uid_name v ∷ ns) (map-behind us u)
+
+module _ (old new found : List EntityUID) (key last : EntityUID) (there : list_any (eq-value.it key) new ≡ true) (others : KeepsOthers eq-value.it (eq-value.it key) old new) where
+  among_at : (n : EntityName) (b : Bool) → entity_eq n (uid_name key) ≡ b → is_among n (map uid_name new) ≡ (is_among n (map uid_name old) || b)
+  unfolding KeepsOthers
+  among_at n true h =
+      let same : n ≡ uid_name key = entity_eq-true n (uid_name key) h in
+      ap (λ (m : EntityName). is_among m (map uid_name new)) same ∙ sym (any_of_uid key new) ∙ there ∙ or_true (is_among n (map uid_name old))
+  among_at n false h =
+      let own : (x y : EntityUID) → entity_eq n (uid_name x) ≡ true → entity_eq n (uid_name y) ≡ eq-value.it x y = λ x y e. ap (λ (m : EntityName). entity_eq m (uid_name y)) (entity_eq-true n (uid_name x) e) in
+      let apart : (u : EntityUID) → eq-value.it key u ≡ true → entity_eq n (uid_name u) ≡ false = λ u e. ap (λ (m : EntityName). entity_eq n m) (sym (entity_eq-true (uid_name key) (uid_name u) e)) ∙ h in
+      sym (any_of_name n new) ∙ others (λ (u : EntityUID). entity_eq n (uid_name u)) own apart ∙ any_of_name n old ∙ or_false (is_among n (map uid_name old))
+
+  one_name : (n m : EntityName) → is_among n (m ∷ []) ≡ entity_eq n m
+  unfolding is_among
+  one_name n m = sym (or_false (entity_eq n m))
+
+  -- the list has the uid behind the others
+  pub same_behind : uid_name last ≡ uid_name key → HoldsTheSame old found → HoldsTheSame new (found ++ last ∷ [])
+  same_behind e before = λ n.
+      among_at n (entity_eq n (uid_name key)) refl
+      ∙ ap (λ (b : Bool). b || entity_eq n (uid_name key)) (before n)
+      ∙ ap (λ (m : EntityName). is_among n (map uid_name found) || entity_eq n m) (sym e)
+      ∙ ap (λ (b : Bool). is_among n (map uid_name found) || b) (sym (one_name n (uid_name last)))
+      ∙ sym (is_among-append n (map uid_name found) (uid_name last ∷ []))
+      ∙ ap (is_among n) (sym (map-behind found last))
+
+was_false : (b : Bool) → not b ≡ true → b ≡ false
+was_false true h = sym h
+was_false false h = refl
+
+was_true : (b : Bool) → not b ≡ false → b ≡ true
+was_true true h = refl
+was_true false h = sym h
+
+-- what was put into the set as new was not found before, and the other way round
+pub not_found : (key uid : EntityUID) (old found : List EntityUID) (added : Bool) → uid_name key ≡ uid_name uid → added ≡ not (list_any (eq-value.it key) old) → added ≡ true → HoldsTheSame old found → is_among (uid_name uid) (map uid_name found) ≡ false
+not_found key uid old found added e is h before =
+    ap (λ (n : EntityName). is_among n (map uid_name found)) (sym e) ∙ sym (before (uid_name key)) ∙ sym (any_of_uid key old) ∙ was_false (list_any (eq-value.it key) old) (sym is ∙ h)
+
+pub found_already : (key uid : EntityUID) (old found : List EntityUID) (added : Bool) → uid_name key ≡ uid_name uid → added ≡ not (list_any (eq-value.it key) old) → added ≡ false → HoldsTheSame old found → is_among (uid_name uid) (map uid_name found) ≡ true
+found_already key uid old found added e is h before =
+    ap (λ (n : EntityName). is_among n (map uid_name found)) (sym e) ∙ sym (before (uid_name key)) ∙ sym (any_of_uid key old) ∙ was_true (list_any (eq-value.it key) old) (sym is ∙ h)
+
+-- marking a name
+pub marked-new : (n m : EntityName) (ns : List EntityName) → m ≡ n → is_among n ns ≡ false → ns ++ m ∷ [] ≡ marked n ns
+marked-new n m ns same e = ap (λ (k : EntityName). ns ++ k ∷ []) same ∙ sym (ap (λ (b : Bool). if b then ns else ns ++ n ∷ []) e)
+
+pub marked-again : (n : EntityName) (ns : List EntityName) → is_among n ns ≡ true → ns ≡ marked n ns
+marked-again n ns e = sym (ap (λ (b : Bool). if b then ns else ns ++ n ∷ []) e)

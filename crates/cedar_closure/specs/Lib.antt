@@ -1,0 +1,5 @@
+pub mod Texts
+pub mod Paths
+pub mod Ancestry
+pub mod Walks
+pub mod Listed

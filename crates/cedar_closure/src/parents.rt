@@ -1,0 +1,56 @@
+//! The parents that entities record, under the uids of those entities.
+ghost use Rattle.std.specs.Prelude.{◌≡◌, IfOk, OnOk, map};
+ghost use Rattle.cedar_names.specs.Names.{uid_name};
+ghost use Rattle.cedar_closure.specs.Ancestry.{parents_of};
+ghost use Rattle.cedar_closure.specs.Listed.{listed_parents, parents_with};
+
+use cedar_layers::expressions::EntityUID;
+use cedar_layers::policies::Entity;
+use std::alloc::{AllocError, Global};
+use std::collections::{HashMap, HashSet};
+
+/// The parents of each entity, under its uid.
+pub(crate) type ParentMap = HashMap<EntityUID, Vec<EntityUID>>;
+
+// The parents that these entities record, of those of one uid the last.
+pub(crate) fn recorded_parents(
+    alloc: Global,
+    entities: &Vec<Entity>,
+) -> Result<ParentMap, AllocError>
+    ensures { IfOk result (λ m. listed_parents m.entries ≡ parents_of entities.now.items) }
+{
+    let mut parents: ParentMap = HashMap::new(alloc);
+    'entities: for entity in entities {
+        put(alloc, &mut parents, entity)?;
+    }
+    Ok(parents)
+}
+
+// Puts what this entity records into the map, in the place of what one of its uid recorded.
+fn put(alloc: Global, parents: &mut ParentMap, entity: &Entity) -> Result<(), AllocError>
+    ensures { OnOk result (listed_parents parents.new.entries ≡
+        parents_with (listed_parents parents.old.entries) entity.now) }
+{
+    let uid = copied(entity.uid())?;
+    let own = listed(alloc, entity.ancestors())?;
+    parents.insert(uid, own)?;
+    Ok(())
+}
+
+// The uids of a set, in a list.
+fn listed(alloc: Global, uids: &HashSet<EntityUID>) -> Result<Vec<EntityUID>, AllocError>
+    ensures { IfOk result (λ v. map uid_name v.items ≡ map uid_name uids.now.keys) }
+{
+    let mut list: Vec<EntityUID> = Vec::new(alloc);
+    'uids: for uid in uids {
+        list.push(copied(uid)?)?;
+    }
+    Ok(list)
+}
+
+// The same uid, whose texts are shared.
+pub(crate) fn copied(uid: &EntityUID) -> Result<EntityUID, AllocError>
+    ensures { IfOk result (λ u. uid_name u ≡ uid_name uid.now) }
+{
+    Ok(uid.clone()?)
+}
