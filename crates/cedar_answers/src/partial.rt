@@ -1,0 +1,169 @@
+//! What is known of a decision where parts of the request or of the entities are unknown.
+use crate::asked::{Asked, Source, Way};
+use crate::decisions::{Printed, push_errors, status_of, word_of};
+use crate::policies::{push_id, read};
+use crate::reading::partial_request;
+use crate::refusal::Refusal;
+use crate::stores::store;
+use cedar_authorizer::authorizer::{Authorizer, Decision, PartialResponse, ReportedPolicies};
+use cedar_evaluator::request::Request;
+use cedar_extensions::{Extension, ExtensionFunction, Extensions};
+use cedar_layers::expressions::Name;
+use cedar_layers::policies::{Entities, Policy, PolicySet};
+use cedar_writing::policy_to_cedar;
+use std::alloc::{AllocError, Global};
+use std::rc::RcStr;
+
+/// What is known of what the policies decide: the decision, if it is given, the policies that must and that may determine
+/// it, what is left of each policy, and the errors.
+pub fn partially_authorized(
+    alloc: Global,
+    policies: Source<'_>,
+    asked: &Asked<'_>,
+    way: Way,
+) -> Result<Printed, Refusal> {
+    let name = Name::new(RcStr::from_str(alloc, "partial_evaluation")?, None);
+    let functions = vec![in alloc; ExtensionFunction::unknown(alloc)?]?;
+    let all = vec![in alloc; Extension::new(name, functions, Vec::new(alloc))]?;
+    match Extensions::specific_extensions(alloc, all.as_slice()) {
+        Ok(extensions) => partly(alloc, policies, asked, way, &extensions),
+        Err(_) => Err(Refusal::Memory),
+    }
+}
+
+fn partly(
+    alloc: Global,
+    source: Source<'_>,
+    asked: &Asked<'_>,
+    way: Way,
+    extensions: &Extensions<'_>,
+) -> Result<Printed, Refusal> {
+    let parsed = read(alloc, source)?;
+    let printed = partly_by(alloc, source, &parsed.policies, asked, way, extensions);
+    drop(parsed);
+    printed
+}
+
+fn partly_by(
+    alloc: Global,
+    source: Source<'_>,
+    policies: &PolicySet,
+    asked: &Asked<'_>,
+    way: Way,
+    extensions: &Extensions<'_>,
+) -> Result<Printed, Refusal> {
+    let entities = store(alloc, asked, extensions)?;
+    let printed = partly_over(alloc, source, policies, &entities, asked, way, extensions);
+    drop(entities);
+    printed
+}
+
+fn partly_over(
+    alloc: Global,
+    source: Source<'_>,
+    policies: &PolicySet,
+    entities: &Entities,
+    asked: &Asked<'_>,
+    way: Way,
+    extensions: &Extensions<'_>,
+) -> Result<Printed, Refusal> {
+    let request = partial_request(alloc, asked, extensions)?;
+    let response = partly_decided(alloc, request, policies, entities, way, extensions)?;
+    let printed = print_response(alloc, source, policies, &response);
+    drop(response);
+    Ok(printed?)
+}
+
+fn partly_decided(
+    alloc: Global,
+    request: Request,
+    policies: &PolicySet,
+    entities: &Entities,
+    way: Way,
+    extensions: &Extensions<'_>,
+) -> Result<PartialResponse, AllocError> {
+    let authorizer = Authorizer::new(extensions, way.limit).with_error_handling(way.error_handling);
+    authorizer.is_authorized_core(alloc, request, policies, entities)
+}
+
+fn print_response(
+    alloc: Global,
+    source: Source<'_>,
+    policies: &PolicySet,
+    response: &PartialResponse,
+) -> Result<Printed, AllocError> {
+    let decision = response.decision();
+    let mut output = String::new(alloc);
+    output.push_str(partial_word(decision))?;
+    output.push_str("\n\nmust be determining: ")?;
+    push_ids(alloc, response.must_be_determining(), &mut output)?;
+    output.push_str("\nmay be determining: ")?;
+    push_ids(alloc, response.may_be_determining(), &mut output)?;
+    output.push_str("\n")?;
+    push_residuals(alloc, response.nontrivial_residuals(), &mut output)?;
+    push_errors(alloc, source, policies, &response.errors, &mut output)?;
+    Ok(Printed {
+        output,
+        status: partial_status(decision),
+    })
+}
+
+// The decision in capitals, or `UNKNOWN`.
+fn partial_word(decision: Option<Decision>) -> &'static str {
+    match decision {
+        Some(decision) => word_of(decision),
+        None => "UNKNOWN",
+    }
+}
+
+// The exit status: 0 where the decision is not known.
+fn partial_status(decision: Option<Decision>) -> u8 {
+    match decision {
+        Some(decision) => status_of(decision),
+        None => 0,
+    }
+}
+
+// The ids of the policies, with commas between them; `none` of no policies.
+fn push_ids(
+    alloc: Global,
+    policies: ReportedPolicies<'_>,
+    output: &mut String,
+) -> Result<(), AllocError> {
+    let mut ids = String::new(alloc);
+    for policy in policies {
+        push_one_id(alloc, &mut ids, &policy?)?;
+    }
+    if ids.is_empty() {
+        ids.push_str("none")?;
+    }
+    output.push_str(ids.as_str())
+}
+
+fn push_one_id(alloc: Global, ids: &mut String, policy: &Policy) -> Result<(), AllocError> {
+    if !ids.is_empty() {
+        ids.push_str(", ")?;
+    }
+    push_id(alloc, policy.id(), ids)
+}
+
+// What is left of each policy, as Cedar's text behind its id.
+fn push_residuals(
+    alloc: Global,
+    policies: ReportedPolicies<'_>,
+    output: &mut String,
+) -> Result<(), AllocError> {
+    for policy in policies {
+        push_residual(alloc, &policy?, output)?;
+    }
+    Ok(())
+}
+
+fn push_residual(alloc: Global, policy: &Policy, output: &mut String) -> Result<(), AllocError> {
+    output.push_str("\nleft of ")?;
+    push_id(alloc, policy.id(), output)?;
+    output.push_str(":\n")?;
+    let text = policy_to_cedar(alloc, policy)?;
+    output.push_str(text.as_str())?;
+    output.push_str("\n")
+}
