@@ -1,7 +1,7 @@
 //! Cedar's command line. `cedar --help` says which commands there are.
 #![tactic(auto)]
 
-use cedar_cli::{Answer, answer};
+use cedar_cli::{Answer, answered};
 use std::env::Env;
 use std::process::ExitCode;
 use std::rt::Files;
@@ -19,7 +19,7 @@ fn main(rt: HostRuntime) -> ExitCode {
 // Runs the command that the arguments write, prints what it comes to, and answers the exit status.
 fn run<R: Env + Files + AllocGlobal + Print + Eprint>(rt: &R) -> u8 {
     match words(rt) {
-        Ok(words) => shown(rt, answer(rt, words.as_slice())),
+        Ok(words) => shown(rt, answered(rt, words.as_slice())),
         Err(error) => failed(rt, &error),
     }
 }

@@ -10,19 +10,19 @@ pub struct Source<'a> {
 
 /// What is said of a request and of the entities: each entity in Cedar's text, the rest in Cedar's JSON.
 #[derive(Clone, Copy)]
-pub struct Asked<'a> {
-    pub principal: Option<&'a str>,
+pub struct Asked<'m, 't> {
+    pub principal: Option<&'m str>,
     /// The name of the principal's type, where the principal is not known.
-    pub principal_type: Option<&'a str>,
-    pub action: Option<&'a str>,
-    pub resource: Option<&'a str>,
+    pub principal_type: Option<&'m str>,
+    pub action: Option<&'m str>,
+    pub resource: Option<&'m str>,
     /// The name of the resource's type, where the resource is not known.
-    pub resource_type: Option<&'a str>,
-    pub context: Option<Source<'a>>,
+    pub resource_type: Option<&'m str>,
+    pub context: Option<Source<'t>>,
     /// The whole request, in the place of its parts.
-    pub request: Option<Source<'a>>,
+    pub request: Option<Source<'t>>,
     /// The entities. Their parents are closed to all ancestors.
-    pub entities: Option<Source<'a>>,
+    pub entities: Option<Source<'t>>,
     /// Whether there may be more entities than those.
     pub is_partial: bool,
 }

@@ -44,7 +44,7 @@ pub(crate) fn word_of(decision: Decision) -> &'static str {
 pub fn authorized(
     alloc: Global,
     policies: Source<'_>,
-    asked: &Asked<'_>,
+    asked: &Asked<'_, '_>,
     way: Way,
 ) -> Result<Printed, Refusal> {
     let extensions = Extensions::none();
@@ -58,7 +58,7 @@ fn authorized_by(
     alloc: Global,
     source: Source<'_>,
     policies: &PolicySet,
-    asked: &Asked<'_>,
+    asked: &Asked<'_, '_>,
     way: Way,
     extensions: &Extensions<'_>,
 ) -> Result<Printed, Refusal> {
@@ -73,7 +73,7 @@ fn authorized_over(
     source: Source<'_>,
     policies: &PolicySet,
     entities: &Entities,
-    asked: &Asked<'_>,
+    asked: &Asked<'_, '_>,
     way: Way,
     extensions: &Extensions<'_>,
 ) -> Result<Printed, Refusal> {

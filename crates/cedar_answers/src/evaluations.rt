@@ -20,7 +20,7 @@ use std::alloc::{AllocError, Global};
 pub fn evaluated(
     alloc: Global,
     source: Source<'_>,
-    asked: &Asked<'_>,
+    asked: &Asked<'_, '_>,
     limit: usize,
 ) -> Result<Printed, Refusal> {
     let extensions = Extensions::none();
@@ -41,7 +41,7 @@ fn evaluated_with(
     alloc: Global,
     source: Source<'_>,
     expr: &Expr,
-    asked: &Asked<'_>,
+    asked: &Asked<'_, '_>,
     limit: usize,
     extensions: &Extensions<'_>,
 ) -> Result<Printed, Refusal> {
@@ -56,7 +56,7 @@ fn evaluated_over(
     source: Source<'_>,
     expr: &Expr,
     entities: &Entities,
-    asked: &Asked<'_>,
+    asked: &Asked<'_, '_>,
     limit: usize,
     extensions: &Extensions<'_>,
 ) -> Result<Printed, Refusal> {
@@ -69,7 +69,7 @@ fn evaluated_over(
 
 fn request_asked(
     alloc: Global,
-    asked: &Asked<'_>,
+    asked: &Asked<'_, '_>,
     extensions: &Extensions<'_>,
 ) -> Result<Request, Refusal> {
     match asked.request {

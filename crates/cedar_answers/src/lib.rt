@@ -20,6 +20,7 @@ mod refusal;
 mod stores;
 
 pub use asked::{Asked, Source, Way};
+pub use cedar_authorizer::authorizer::{Decision, ErrorHandling};
 pub use decisions::{Printed, authorized, status_of};
 pub use evaluations::evaluated;
 pub use partial::partially_authorized;

@@ -1,7 +1,7 @@
 //! What is known of a decision where parts of the request or of the entities are unknown.
 use crate::asked::{Asked, Source, Way};
 use crate::decisions::{Printed, push_errors, status_of, word_of};
-use crate::policies::{push_id, read};
+use crate::policies::{push_name, read};
 use crate::reading::partial_request;
 use crate::refusal::Refusal;
 use crate::stores::store;
@@ -19,7 +19,7 @@ use std::rc::RcStr;
 pub fn partially_authorized(
     alloc: Global,
     policies: Source<'_>,
-    asked: &Asked<'_>,
+    asked: &Asked<'_, '_>,
     way: Way,
 ) -> Result<Printed, Refusal> {
     let name = Name::new(RcStr::from_str(alloc, "partial_evaluation")?, None);
@@ -34,7 +34,7 @@ pub fn partially_authorized(
 fn partly(
     alloc: Global,
     source: Source<'_>,
-    asked: &Asked<'_>,
+    asked: &Asked<'_, '_>,
     way: Way,
     extensions: &Extensions<'_>,
 ) -> Result<Printed, Refusal> {
@@ -48,7 +48,7 @@ fn partly_by(
     alloc: Global,
     source: Source<'_>,
     policies: &PolicySet,
-    asked: &Asked<'_>,
+    asked: &Asked<'_, '_>,
     way: Way,
     extensions: &Extensions<'_>,
 ) -> Result<Printed, Refusal> {
@@ -63,7 +63,7 @@ fn partly_over(
     source: Source<'_>,
     policies: &PolicySet,
     entities: &Entities,
-    asked: &Asked<'_>,
+    asked: &Asked<'_, '_>,
     way: Way,
     extensions: &Extensions<'_>,
 ) -> Result<Printed, Refusal> {
@@ -96,9 +96,9 @@ fn print_response(
     let mut output = String::new(alloc);
     output.push_str(partial_word(decision))?;
     output.push_str("\n\nmust be determining: ")?;
-    push_ids(alloc, response.must_be_determining(), &mut output)?;
+    push_names(alloc, response.must_be_determining(), &mut output)?;
     output.push_str("\nmay be determining: ")?;
-    push_ids(alloc, response.may_be_determining(), &mut output)?;
+    push_names(alloc, response.may_be_determining(), &mut output)?;
     output.push_str("\n")?;
     push_residuals(alloc, response.nontrivial_residuals(), &mut output)?;
     push_errors(alloc, source, policies, &response.errors, &mut output)?;
@@ -124,30 +124,30 @@ fn partial_status(decision: Option<Decision>) -> u8 {
     }
 }
 
-// The ids of the policies, with commas between them; `none` of no policies.
-fn push_ids(
+// The names of the policies, with commas between them; `none` of no policies.
+fn push_names(
     alloc: Global,
     policies: ReportedPolicies<'_>,
     output: &mut String,
 ) -> Result<(), AllocError> {
-    let mut ids = String::new(alloc);
+    let mut names = String::new(alloc);
     for policy in policies {
-        push_one_id(alloc, &mut ids, &policy?)?;
+        push_one(alloc, &mut names, &policy?)?;
     }
-    if ids.is_empty() {
-        ids.push_str("none")?;
+    if names.is_empty() {
+        names.push_str("none")?;
     }
-    output.push_str(ids.as_str())
+    output.push_str(names.as_str())
 }
 
-fn push_one_id(alloc: Global, ids: &mut String, policy: &Policy) -> Result<(), AllocError> {
-    if !ids.is_empty() {
-        ids.push_str(", ")?;
+fn push_one(alloc: Global, names: &mut String, policy: &Policy) -> Result<(), AllocError> {
+    if !names.is_empty() {
+        names.push_str(", ")?;
     }
-    push_id(alloc, policy.id(), ids)
+    push_name(alloc, policy, names)
 }
 
-// What is left of each policy, as Cedar's text behind its id.
+// What is left of each policy, as Cedar's text behind its name.
 fn push_residuals(
     alloc: Global,
     policies: ReportedPolicies<'_>,
@@ -161,7 +161,7 @@ fn push_residuals(
 
 fn push_residual(alloc: Global, policy: &Policy, output: &mut String) -> Result<(), AllocError> {
     output.push_str("\nleft of ")?;
-    push_id(alloc, policy.id(), output)?;
+    push_name(alloc, policy, output)?;
     output.push_str(":\n")?;
     let text = policy_to_cedar(alloc, policy)?;
     output.push_str(text.as_str())?;

@@ -11,7 +11,7 @@ use std::alloc::Global;
 
 // The entities of a request.
 #[derive(Drop)]
-struct Three {
+struct Entries {
     principal: EntityUIDEntry,
     action: EntityUIDEntry,
     resource: EntityUIDEntry,
@@ -20,7 +20,7 @@ struct Three {
 /// The request that is asked, each part of which is to be given, but for the context, which is else empty.
 pub(crate) fn whole_request(
     alloc: Global,
-    asked: &Asked<'_>,
+    asked: &Asked<'_, '_>,
     extensions: &Extensions<'_>,
 ) -> Result<Request, Refusal> {
     match asked.request {
@@ -44,21 +44,21 @@ fn given(alloc: Global, part: Option<&str>, option: &str) -> Result<(), Refusal>
 /// The request that is asked, where an entity that is not given is unknown, and a context that is not given empty.
 pub(crate) fn request_with_context(
     alloc: Global,
-    asked: &Asked<'_>,
+    asked: &Asked<'_, '_>,
     extensions: &Extensions<'_>,
 ) -> Result<Request, Refusal> {
     let context = match asked.context {
         Some(source) => context_of(alloc, source, extensions)?,
         None => Context::empty(alloc),
     };
-    let three = three(alloc, asked)?;
-    Ok(request_of_parts(three, Some(context)))
+    let entries = entries_of(alloc, asked)?;
+    Ok(request_of_parts(entries, Some(context)))
 }
 
 /// The request that is asked, where what is not given is unknown.
 pub(crate) fn partial_request(
     alloc: Global,
-    asked: &Asked<'_>,
+    asked: &Asked<'_, '_>,
     extensions: &Extensions<'_>,
 ) -> Result<Request, Refusal> {
     match asked.request {
@@ -68,22 +68,22 @@ pub(crate) fn partial_request(
                 Some(source) => Some(context_of(alloc, source, extensions)?),
                 None => None,
             };
-            let three = three(alloc, asked)?;
-            Ok(request_of_parts(three, context))
+            let entries = entries_of(alloc, asked)?;
+            Ok(request_of_parts(entries, context))
         }
     }
 }
 
-fn request_of_parts(three: Three, context: Option<Context>) -> Request {
-    let Three {
+fn request_of_parts(entries: Entries, context: Option<Context>) -> Request {
+    let Entries {
         principal,
         action,
         resource,
-    } = three;
+    } = entries;
     Request::new_with_unknowns(principal, action, resource, context)
 }
 
-fn three(alloc: Global, asked: &Asked<'_>) -> Result<Three, Refusal> {
+fn entries_of(alloc: Global, asked: &Asked<'_, '_>) -> Result<Entries, Refusal> {
     let principal = entry(
         alloc,
         asked.principal,
@@ -99,7 +99,7 @@ fn three(alloc: Global, asked: &Asked<'_>) -> Result<Three, Refusal> {
         asked.resource_type,
         "--resource-type",
     )?;
-    Ok(Three {
+    Ok(Entries {
         principal,
         action,
         resource,
@@ -107,12 +107,12 @@ fn three(alloc: Global, asked: &Asked<'_>) -> Result<Three, Refusal> {
 }
 
 // The entity that is given or, where none is, one of this type or of any.
-fn entry(
+fn entry<'x>(
     alloc: Global,
-    entity: Option<&str>,
-    option: &str,
-    type_name: Option<&str>,
-    type_option: &str,
+    entity: Option<&'x str>,
+    option: &'x str,
+    type_name: Option<&'x str>,
+    type_option: &'x str,
 ) -> Result<EntityUIDEntry, Refusal> {
     match entity {
         Some(text) => {

@@ -11,7 +11,7 @@ use std::alloc::Global;
 /// The store of the entities that are given, each with all its ancestors.
 pub(crate) fn store(
     alloc: Global,
-    asked: &Asked<'_>,
+    asked: &Asked<'_, '_>,
     extensions: &Extensions<'_>,
 ) -> Result<Entities, Refusal> {
     match asked.entities {

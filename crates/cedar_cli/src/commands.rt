@@ -9,6 +9,7 @@ pub(crate) const HANDLINGS: [&str; 2] = ["skip", "forbid"];
 /// All commands.
 pub(crate) fn cedar<'a>(alloc: Global) -> Result<Command<'a>, AllocError> {
     Command::new(alloc, "cedar")
+        .bin_name("cedar")?
         .about("Answers questions about Cedar's policies")
         .subcommand_required(true)
         .arg_required_else_help(true)

@@ -5,13 +5,20 @@ use std::alloc::Global;
 use std::rt::Files;
 use std::{fs, io};
 
+/// A file's name, and its text.
+#[derive(Drop)]
+struct File {
+    name: String,
+    text: String,
+}
+
 /// The texts of the files that the arguments of these names name.
 #[derive(Drop)]
 pub(crate) struct Texts {
-    policies: Option<String>,
-    context: Option<String>,
-    request: Option<String>,
-    entities: Option<String>,
+    policies: Option<File>,
+    context: Option<File>,
+    request: Option<File>,
+    entities: Option<File>,
 }
 
 impl Texts {
@@ -33,8 +40,8 @@ impl Texts {
     }
 
     /// The policies: of no file, if none is named.
-    pub(crate) fn policies<'a>(&'a self, matches: &ArgMatches<'a>) -> Source<'a> {
-        match source(matches.get_str("policies"), &self.policies) {
+    pub(crate) fn policies(&self) -> Source<'_> {
+        match source(&self.policies) {
             Some(source) => source,
             None => Source {
                 name: "--policies",
@@ -43,35 +50,44 @@ impl Texts {
         }
     }
 
-    pub(crate) fn context<'a>(&'a self, matches: &ArgMatches<'a>) -> Option<Source<'a>> {
-        source(matches.get_str("context"), &self.context)
+    /// The context, if its file is named.
+    pub(crate) fn context(&self) -> Option<Source<'_>> {
+        source(&self.context)
     }
 
-    pub(crate) fn request<'a>(&'a self, matches: &ArgMatches<'a>) -> Option<Source<'a>> {
-        source(matches.get_str("request-json"), &self.request)
+    /// The whole request, if its file is named.
+    pub(crate) fn request(&self) -> Option<Source<'_>> {
+        source(&self.request)
     }
 
-    pub(crate) fn entities<'a>(&'a self, matches: &ArgMatches<'a>) -> Option<Source<'a>> {
-        source(matches.get_str("entities"), &self.entities)
+    /// The entities, if their file is named.
+    pub(crate) fn entities(&self) -> Option<Source<'_>> {
+        source(&self.entities)
     }
 }
 
-fn source<'a>(name: Option<&'a str>, text: &'a Option<String>) -> Option<Source<'a>> {
-    match text {
-        Some(text) => Some(Source {
-            name: name.unwrap_or(""),
-            text: text.as_str(),
+fn source(file: &Option<File>) -> Option<Source<'_>> {
+    match file {
+        Some(file) => Some(Source {
+            name: file.name.as_str(),
+            text: file.text.as_str(),
         }),
         None => None,
     }
 }
 
-// The text of the file, if one is named.
-fn text_of<R: Files + AllocGlobal>(rt: &R, name: Option<&str>) -> Result<Option<String>, Refusal> {
+// The file of this name and its text, if one is named.
+fn text_of<R: Files + AllocGlobal>(rt: &R, name: Option<&str>) -> Result<Option<File>, Refusal> {
     match name {
-        Some(name) => Ok(Some(file_text(rt, name)?)),
+        Some(name) => Ok(Some(named(rt, name)?)),
         None => Ok(None),
     }
+}
+
+fn named<R: Files + AllocGlobal>(rt: &R, name: &str) -> Result<File, Refusal> {
+    let text = file_text(rt, name)?;
+    let name = String::from_str(rt.alloc(), name)?;
+    Ok(File { name, text })
 }
 
 fn file_text<R: Files + AllocGlobal>(rt: &R, name: &str) -> Result<String, Refusal> {

@@ -5,4 +5,4 @@ mod commands;
 mod files;
 mod run;
 
-pub use run::{Answer, answer};
+pub use run::{Answer, answered};

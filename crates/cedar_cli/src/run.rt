@@ -2,10 +2,9 @@
 use crate::commands::cedar;
 use crate::files::Texts;
 use cedar_answers::{
-    Asked, Printed, Refusal, Source, Way, authorized, checked, evaluated, formatted,
+    Asked, ErrorHandling, Printed, Refusal, Source, Way, authorized, checked, evaluated, formatted,
     partially_authorized,
 };
-use cedar_authorizer::authorizer::ErrorHandling;
 use clap::error::ErrorKind;
 use clap::{ArgMatches, Error};
 use std::alloc::Global;
@@ -23,7 +22,7 @@ pub enum Answer {
 }
 
 /// What the command comes to that these words write, the first of which is the program's name.
-pub fn answer<R: Files + AllocGlobal>(rt: &R, words: &[String]) -> Answer {
+pub fn answered<R: Files + AllocGlobal>(rt: &R, words: &[String]) -> Answer {
     match printed(rt, words) {
         Ok(printed) => Answer::Printed(printed),
         Err(Refusal::Told(lines)) => Answer::Refused(lines),
@@ -91,7 +90,7 @@ fn run_with(
     matches: &ArgMatches<'_>,
     texts: &Texts,
 ) -> Result<Printed, Refusal> {
-    let policies = texts.policies(matches);
+    let policies = texts.policies();
     let asked = asked(matches, texts);
     match name {
         "authorize" => authorized(alloc, policies, &asked, way(matches)),
@@ -109,16 +108,16 @@ fn run_with(
 }
 
 // What the arguments say of the request and of the entities.
-fn asked<'a>(matches: &ArgMatches<'a>, texts: &'a Texts) -> Asked<'a> {
+fn asked<'m, 't>(matches: &ArgMatches<'m>, texts: &'t Texts) -> Asked<'m, 't> {
     Asked {
         principal: matches.get_str("principal"),
         principal_type: matches.get_str("principal-type"),
         action: matches.get_str("action"),
         resource: matches.get_str("resource"),
         resource_type: matches.get_str("resource-type"),
-        context: texts.context(matches),
-        request: texts.request(matches),
-        entities: texts.entities(matches),
+        context: texts.context(),
+        request: texts.request(),
+        entities: texts.entities(),
         is_partial: matches.get_flag("partial"),
     }
 }
