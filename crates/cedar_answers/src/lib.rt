@@ -18,6 +18,7 @@ mod policies;
 mod reading;
 mod refusal;
 mod stores;
+mod unknowns;
 
 pub use asked::{Asked, Source, Way};
 pub use cedar_authorizer::authorizer::{Decision, ErrorHandling};

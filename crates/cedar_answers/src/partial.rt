@@ -5,6 +5,7 @@ use crate::policies::{push_name, read};
 use crate::reading::partial_request;
 use crate::refusal::Refusal;
 use crate::stores::store;
+use crate::unknowns::note_unknowns;
 use cedar_authorizer::authorizer::{Authorizer, Decision, PartialResponse, ReportedPolicies};
 use cedar_evaluator::request::Request;
 use cedar_extensions::{Extension, ExtensionFunction, Extensions};
@@ -12,6 +13,7 @@ use cedar_layers::expressions::Name;
 use cedar_layers::policies::{Entities, Policy, PolicySet};
 use cedar_writing::policy_to_cedar;
 use std::alloc::{AllocError, Global};
+use std::collections::BTreeSet;
 use std::rc::RcStr;
 
 /// What is known of what the policies decide: the decision, if it is given, the policies that must and that may determine
@@ -101,6 +103,7 @@ fn print_response(
     push_names(alloc, response.may_be_determining(), &mut output)?;
     output.push_str("\n")?;
     push_residuals(alloc, response.nontrivial_residuals(), &mut output)?;
+    push_unknowns(alloc, response.nontrivial_residuals(), &mut output)?;
     push_errors(alloc, source, policies, &response.errors, &mut output)?;
     Ok(Printed {
         output,
@@ -165,5 +168,30 @@ fn push_residual(alloc: Global, policy: &Policy, output: &mut String) -> Result<
     output.push_str(":\n")?;
     let text = policy_to_cedar(alloc, policy)?;
     output.push_str(text.as_str())?;
+    output.push_str("\n")
+}
+
+fn note_left(policy: &Policy, names: &mut BTreeSet<RcStr>) -> Result<(), AllocError> {
+    note_unknowns(policy.when_clause(), names)
+}
+
+// The names of the unknowns that stand in what is left, in the order of their bytes.
+fn push_unknowns(
+    alloc: Global,
+    policies: ReportedPolicies<'_>,
+    output: &mut String,
+) -> Result<(), AllocError> {
+    let mut names: BTreeSet<RcStr> = BTreeSet::new(alloc);
+    for policy in policies {
+        note_left(&policy?, &mut names)?;
+    }
+    if names.is_empty() {
+        return Ok(());
+    }
+    output.push_str("\nunknown:")?;
+    for name in names.iter() {
+        output.push_str(" ")?;
+        output.push_str(name.as_str())?;
+    }
     output.push_str("\n")
 }
