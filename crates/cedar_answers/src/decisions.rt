@@ -1,5 +1,7 @@
 //! What policies decide.
-ghost use Rattle.std.specs.Prelude.{◌≡◌};
+ghost use Rattle.std.specs.Prelude.{◌≡◌, ◌++◌, IfOk, codes, string_bytes, option_map};
+ghost use Rattle.cedar_decisions.specs.Decisions.{decision_view};
+ghost use Rattle.cedar_answers.specs.Printing.{status, word, partial_status, partial_word};
 
 use crate::asked::{Asked, Source, Way};
 use crate::places::placed;
@@ -24,19 +26,60 @@ pub struct Printed {
 }
 
 /// The exit status of a decision: 0 where the request is allowed, 2 where it is denied.
-pub fn status_of(decision: Decision) -> u8 {
+pub fn status_of(decision: Decision) -> u8
+    ensures { result ≡ status (decision_view decision) }
+{
     match decision {
         Decision::Allow => 0,
         Decision::Deny => 2,
     }
 }
 
-/// The decision in capitals.
-pub(crate) fn word_of(decision: Decision) -> &'static str {
+// The decision in capitals.
+fn word_of(decision: Decision) -> &'static str
+    ensures { result.now ≡ word (decision_view decision) }
+{
     match decision {
         Decision::Allow => "ALLOW",
         Decision::Deny => "DENY",
     }
+}
+
+// The exit status: 0 where the decision is not known.
+fn partial_status_of(decision: Option<Decision>) -> u8
+    ensures { result ≡ partial_status (option_map decision_view decision) }
+{
+    match decision {
+        Some(decision) => status_of(decision),
+        None => 0,
+    }
+}
+
+// The decision in capitals, or `UNKNOWN`.
+fn partial_word_of(decision: Option<Decision>) -> &'static str
+    ensures { result.now ≡ partial_word (option_map decision_view decision) }
+{
+    match decision {
+        Some(decision) => word_of(decision),
+        None => "UNKNOWN",
+    }
+}
+
+/// The decision in capitals, or `UNKNOWN`, with these lines below it, and the exit status: 0 where the request is allowed
+/// or the decision is not known, 2 where it is denied.
+pub(crate) fn print_decision(
+    alloc: Global,
+    decision: Option<Decision>,
+    lines: &str,
+) -> Result<Printed, AllocError>
+    ensures status { IfOk result (λ p. p.status ≡ partial_status (option_map decision_view decision)) }
+    ensures output { IfOk result (λ p. string_bytes p.output
+        ≡ partial_word (option_map decision_view decision) ++ (codes "\n" ++ lines.now)) }
+{
+    let word = partial_word_of(decision);
+    let status = partial_status_of(decision);
+    let output = format!(in alloc; "{word}\n{lines}")?;
+    Ok(Printed { output, status })
 }
 
 /// What the policies decide for the request: `ALLOW` or `DENY` and, where that is asked for, the policies that determined it
@@ -103,23 +146,24 @@ fn print_response(
     response: &Response,
     is_verbose: bool,
 ) -> Result<Printed, AllocError> {
-    let mut output = String::new(alloc);
-    output.push_str(word_of(response.decision))?;
-    output.push_str("\n")?;
+    let mut lines = String::new(alloc);
     if is_verbose {
-        push_reasons(alloc, policies, &response.diagnostics, &mut output)?;
-        push_errors(
-            alloc,
-            source,
-            policies,
-            &response.diagnostics.errors,
-            &mut output,
-        )?;
+        push_diagnostics(alloc, source, policies, &response.diagnostics, &mut lines)?;
     }
-    Ok(Printed {
-        output,
-        status: status_of(response.decision),
-    })
+    let printed = print_decision(alloc, Some(response.decision), lines.as_str());
+    drop(lines);
+    printed
+}
+
+fn push_diagnostics(
+    alloc: Global,
+    source: Source<'_>,
+    policies: &PolicySet,
+    diagnostics: &Diagnostics,
+    lines: &mut String,
+) -> Result<(), AllocError> {
+    push_reasons(alloc, policies, diagnostics, lines)?;
+    push_errors(alloc, source, policies, &diagnostics.errors, lines)
 }
 
 // The policies that determined the decision, in the order of the text.

@@ -1,12 +1,12 @@
 //! What is known of a decision where parts of the request or of the entities are unknown.
 use crate::asked::{Asked, Source, Way};
-use crate::decisions::{Printed, push_errors, status_of, word_of};
+use crate::decisions::{Printed, print_decision, push_errors};
 use crate::policies::{push_name, read};
 use crate::reading::partial_request;
 use crate::refusal::Refusal;
 use crate::stores::store;
 use crate::unknowns::note_unknowns;
-use cedar_authorizer::authorizer::{Authorizer, Decision, PartialResponse, ReportedPolicies};
+use cedar_authorizer::authorizer::{Authorizer, PartialResponse, ReportedPolicies};
 use cedar_evaluator::request::Request;
 use cedar_extensions::{Extension, ExtensionFunction, Extensions};
 use cedar_layers::expressions::Name;
@@ -94,37 +94,27 @@ fn print_response(
     policies: &PolicySet,
     response: &PartialResponse,
 ) -> Result<Printed, AllocError> {
-    let decision = response.decision();
-    let mut output = String::new(alloc);
-    output.push_str(partial_word(decision))?;
-    output.push_str("\n\nmust be determining: ")?;
-    push_names(alloc, response.must_be_determining(), &mut output)?;
-    output.push_str("\nmay be determining: ")?;
-    push_names(alloc, response.may_be_determining(), &mut output)?;
-    output.push_str("\n")?;
-    push_residuals(alloc, response.nontrivial_residuals(), &mut output)?;
-    push_unknowns(alloc, response.nontrivial_residuals(), &mut output)?;
-    push_errors(alloc, source, policies, &response.errors, &mut output)?;
-    Ok(Printed {
-        output,
-        status: partial_status(decision),
-    })
+    let mut lines = String::new(alloc);
+    push_bounds(alloc, response, &mut lines)?;
+    push_residuals(alloc, response.nontrivial_residuals(), &mut lines)?;
+    push_unknowns(alloc, response.nontrivial_residuals(), &mut lines)?;
+    push_errors(alloc, source, policies, &response.errors, &mut lines)?;
+    let printed = print_decision(alloc, response.decision(), lines.as_str());
+    drop(lines);
+    printed
 }
 
-// The decision in capitals, or `UNKNOWN`.
-fn partial_word(decision: Option<Decision>) -> &'static str {
-    match decision {
-        Some(decision) => word_of(decision),
-        None => "UNKNOWN",
-    }
-}
-
-// The exit status: 0 where the decision is not known.
-fn partial_status(decision: Option<Decision>) -> u8 {
-    match decision {
-        Some(decision) => status_of(decision),
-        None => 0,
-    }
+// The policies that must and that may determine the decision.
+fn push_bounds(
+    alloc: Global,
+    response: &PartialResponse,
+    lines: &mut String,
+) -> Result<(), AllocError> {
+    lines.push_str("\nmust be determining: ")?;
+    push_names(alloc, response.must_be_determining(), lines)?;
+    lines.push_str("\nmay be determining: ")?;
+    push_names(alloc, response.may_be_determining(), lines)?;
+    lines.push_str("\n")
 }
 
 // The names of the policies, with commas between them; `none` of no policies.
