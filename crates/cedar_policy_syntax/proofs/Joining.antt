@@ -3,7 +3,7 @@ use Rattle.std.proofs.Common.{◌≡◌, ◌∙◌, ℕ, ◌+◌, ◌≤◌, Lis
 use Rattle.cedar_syntax.specs.declared.steps.What.{What}
 use Rattle.cedar_syntax.specs.declared.steps.What.TheVariants as what
 use Rattle.cedar_syntax.specs.declared.steps.Step.{Step}
-use Rattle.cedar_syntax.specs.Trees.{Tree, Trees, none, also, bracketed, gathered, left_below, made, parts_of, FindParts}
+use Rattle.cedar_syntax.specs.Trees.{Tree, Trees, also, bracketed, gathered, left_below, made, parts_of, FindParts}
 use Rattle.cedar_syntax.specs.Trees.{trees_from, trees}
 
 gathered_more : (n : ℕ) (us ts : List Tree) → n ≤ length us → gathered n (us ++ ts) ≡ gathered n us

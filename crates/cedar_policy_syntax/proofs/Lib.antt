@@ -1,2 +1,3 @@
 mod Joining
 mod Turns
+mod Within

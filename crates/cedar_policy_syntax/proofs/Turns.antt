@@ -1,6 +1,6 @@
 -- What a part more makes of what was written.
-use Rattle.std.proofs.Common.{◌≡◌, ◌∙◌, ℕ, ◌+◌, ◌<◌, ◌≤◌, List, [], ◌∷◌, ◌++◌, length, refl, sym, ap, subst, arith}
-use Rattle.std.proofs.Common.{Bool, true, false, Some, None, suc, zero, add-one, if◌then◌else◌}
+use Rattle.std.proofs.Common.{◌≡◌, ℕ, ◌+◌, ◌<◌, ◌≤◌, List, [], ◌∷◌, ◌++◌, length, refl, ap, arith}
+use Rattle.std.proofs.Common.{Bool, true, false, Some, None, add-one, if◌then◌else◌}
 use Prim.Native.Nat.{max}
 use Rattle.cedar_tokens.specs.Kinds.{is_identifier}
 use Rattle.cedar_tokens.specs.declared.tokens.Kind.{Kind}
@@ -15,7 +15,7 @@ use Rattle.cedar_syntax.specs.declared.steps.Bracketed.TheVariants.{Set}
 use Rattle.cedar_syntax.specs.declared.steps.What.TheVariants as what
 use Rattle.cedar_syntax.specs.declared.steps.Step.{Step}
 use Rattle.cedar_syntax.specs.Tokens.{kind_at, start_at, end_at}
-use Rattle.cedar_syntax.specs.Trees.{Tree, Trees, none, also, binary, bracketed, height, count, stacked, gathered, left_below}
+use Rattle.cedar_syntax.specs.Trees.{Tree, Trees, none, also, binary, height, count, stacked, gathered, left_below}
 use Rattle.cedar_syntax.specs.Trees.{made, trees, FindParts}
 use Rattle.cedar_syntax.specs.Grammar.{IsPath, one_name, name_inside, IsInBraces}
 use Rattle.cedar_syntax.specs.Reading.{HasReadClause, has_read_clause}
@@ -25,14 +25,15 @@ use Rattle.cedar_policy_syntax.specs.declared.policies.Variable.{Variable}
 use Rattle.cedar_policy_syntax.specs.declared.policies.Variable.TheVariants as variable
 use Rattle.cedar_policy_syntax.specs.Grammar.{kind_of, is_slot_of, has_type, effect_of, relation_of, negates, is_word}
 use Rattle.cedar_policy_syntax.specs.Grammar.{variable_at, IsEntity, entity, IsReference, to_entity, to_slot}
-use Rattle.cedar_policy_syntax.specs.Grammar.{AreEntities, one_entity, one_entity_more, IsList, no_entity}
+use Rattle.cedar_policy_syntax.specs.Grammar.{one_entity, one_entity_more, no_entity}
 use Rattle.cedar_policy_syntax.specs.Grammar.{some_entities, IsSet, is_set, IsConstraint, unconstrained, compared}
-use Rattle.cedar_policy_syntax.specs.Grammar.{in_list, of_type, of_type_in, IsClause, clause, AreClauses, one_clause}
+use Rattle.cedar_policy_syntax.specs.Grammar.{in_list, of_type, of_type_in, clause, one_clause}
 use Rattle.cedar_policy_syntax.specs.Grammar.{one_clause_more, IsCondition, no_clause, some_clauses, AreAnnotations}
-use Rattle.cedar_policy_syntax.specs.Grammar.{no_annotation, one_key, one_value, IsScope, scope, IsPolicy, policy}
+use Rattle.cedar_policy_syntax.specs.Grammar.{one_key, one_value, scope, policy}
 use Rattle.cedar_policy_syntax.specs.Reading.{Puts, puts, PutsEntities, puts_entities, PutsClause, puts_clause}
 use Rattle.cedar_policy_syntax.specs.Reading.{PutsClauses, puts_clauses, PutsScope, puts_scope, HasPolicy}
 use Rattle.cedar_policy_syntax.proofs.Joining.{find_appended}
+use Rattle.cedar_policy_syntax.proofs.Within.{policy_nested}
 
 -- ---- names
 
@@ -54,10 +55,11 @@ kept xs ys false is h g = rw is h
 -- ---- scopes
 
 pub entity_made : {all : List Token} {i k id n s e t : ℕ} {ts ws : List Tree} →
-    IsPath all i k s t → s ≡ start_at all i → kind_at all k ≡ kind.Colons → id ≡ k + 1 →
+    IsPath all i k (start_at all i) t → s ≡ start_at all i → kind_at all k ≡ kind.Colons → id ≡ k + 1 →
     kind_at all id ≡ kind.Text → n ≡ id + 1 → e ≡ end_at all id →
     ws ≡ made (what.Leaf (leaves.Entity i id)) s e ts → Puts (IsEntity all i n e) ts ws
-entity_made {k = k} h s_is c id_is t n_is e_is w_is = rw (w_is, n_is, e_is, id_is) (puts (entity h c (rw id_is at t)))
+entity_made {k = k} h s_is c id_is t n_is e_is w_is =
+    rw (w_is, s_is, n_is, e_is, id_is) (puts (entity h c (rw id_is at t)))
 
 pub reference_made : {all : List Token} {v : Variable} {i j e : ℕ} {ts ws : List Tree} →
     Puts (IsEntity all i j e) ts ws → Puts (IsReference all v i j e) ts ws
@@ -118,8 +120,8 @@ pub compared_made : {all : List Token} {v : Variable} {b : Binary} {o : Kind} {i
     {ts us vs ws : List Tree} → kind_at all i ≡ kind_of v → kind_at all (i + 1) ≡ o → relation_of o ≡ Some b →
     at ≡ i + 1 + 1 → us ≡ variable_at all i ∷ ts → Puts (IsReference all v at j e) us vs → s ≡ start_at all i →
     ws ≡ made (what.Binary b) s e vs → Puts (IsConstraint all v i j) ts ws
-compared_made k o_is r at_is u_is (puts h) s_is w_is =
-    rw (w_is, both_made u_is, s_is) (puts (compared k (rw o_is r) (rw at_is at h)))
+compared_made {b = b} k o_is r at_is u_is (puts h) s_is w_is =
+    rw (w_is, both_made u_is, s_is) (puts (compared {b = b} k (rw o_is r) (rw at_is at h)))
 
 pub list_made : {all : List Token} {i at j n s e : ℕ} {ts us vs ws : List Tree} → kind_at all i ≡ kind.Action →
     kind_at all (i + 1) ≡ kind.In → at ≡ i + 1 + 1 → us ≡ variable_at all i ∷ ts → Puts (IsSet all at j) us vs →
@@ -243,7 +245,7 @@ pub policy_read : {all : List Token} {i limit k l last : ℕ} {us vs : List Tree
     PutsScope all (k + 1) l [] us → Puts (λ p. IsCondition all l last p × (height p ≤ limit)) us vs →
     trees out.steps.items ≡ vs → out.start ≡ start_at all i → out.end ≡ end_at all last → out.next ≡ last + 1 →
     last < length all → HasPolicy all i limit out
-policy_read {last = last} out xs b (puts_scope {p = p} {q = q} {r = r} s) (puts {p = t} c) t_is s_is e_is n_is lt =
+policy_read {all = all} {i = i} {last = last} out xs b (puts_scope {p = p} {q = q} {r = r} s) (puts {p = t} c) t_is s_is e_is n_is lt =
     record {
       last = last;
       principal = p;
@@ -257,4 +259,5 @@ policy_read {last = last} out xs b (puts_scope {p = p} {q = q} {r = r} s) (puts 
       end = e_is;
       next = n_is;
       within = lt;
+      nested = λ ordered. policy_nested ordered (policy xs b s c.0) lt;
     }

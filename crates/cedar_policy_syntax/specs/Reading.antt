@@ -1,6 +1,7 @@
 -- What was read of a policy.
 use Rattle.std.specs.Prelude.{◌≡◌, ℕ, ◌+◌, ◌<◌, ◌≤◌, List, [], ◌∷◌, length}
 use Rattle.cedar_tokens.specs.declared.tokens.Token.{Token}
+use Rattle.cedar_syntax.specs.Places.{IsInOrder, IsInside}
 use Rattle.cedar_syntax.specs.Tokens.{start_at, end_at}
 use Rattle.cedar_syntax.specs.Trees.{Tree, Trees, height, stacked, count, trees}
 use Rattle.cedar_policy_syntax.specs.declared.policies.PolicySteps.{PolicySteps}
@@ -30,6 +31,10 @@ pub data PutsScope (all : List Token) (i : ℕ) : ℕ → List Tree → List Tre
   puts_scope : {j : ℕ} {p q r : Tree} {ts : List Tree} → IsScope all i j p q r →
       PutsScope all i j ts (r ∷ q ∷ p ∷ ts)
 
+-- the trees stand between these bytes, and each of their parts inside what it is a part of
+abbrev pub AreBetween : ℕ → ℕ → Tree → Tree → Tree → Tree → Type 0
+AreBetween lo hi p q r t = IsInside lo hi p × IsInside lo hi q × IsInside lo hi r × IsInside lo hi t
+
 -- tokens from number i on derive the policy that the steps make; its condition is no higher than the limit
 pub record HasPolicy (all : List Token) (i limit : ℕ) (out : PolicySteps) : Type 0 where
   pub last : ℕ
@@ -51,3 +56,4 @@ pub record HasPolicy (all : List Token) (i limit : ℕ) (out : PolicySteps) : Ty
   pub end : out.end ≡ end_at all last
   pub next : out.next ≡ last + 1
   pub within : last < length all
+  pub nested : IsInOrder all → AreBetween (start_at all i) (end_at all last) principal action resource condition

@@ -82,8 +82,8 @@ pub(crate) fn expect(
     }
 }
 
-// The same, and nothing where it is of another kind.
-fn behind(tokens: &[Token], index: usize, kind: Kind) -> Option<usize>
+/// The same, and nothing where it is of another kind.
+pub(crate) fn behind(tokens: &[Token], index: usize, kind: Kind) -> Option<usize>
     ensures is { IfSome result (λ next. Tokens.kind_at tokens.now index ≡ kind) }
     ensures next { IfSome result (λ next. next ≡ index + 1) }
     ensures within { IfSome result (λ next. index < length tokens.now) }
@@ -127,6 +127,18 @@ pub(crate) fn path(tokens: &[Token], index: usize, what: Expected) -> Result<Rea
         }
     }
     Ok(reach)
+}
+
+/// The name of a type, behind which no `::` stands.
+pub(crate) fn type_name(tokens: &[Token], index: usize) -> Result<Reach, ReadError>
+    ensures ok { IfOk result (λ r. IsPath tokens.now index r.next (Tokens.start_at tokens.now index) r.end) }
+    ensures err { IfErr result (λ error. IsPlaced tokens.now error) }
+{
+    let name = path(tokens, index, Expected::Type)?;
+    match behind(tokens, name.next, Kind::Colons) {
+        Some(next) => Err(expected_at(tokens, next, Expected::Type)),
+        None => Ok(name),
+    }
 }
 
 fn first_name(tokens: &[Token], index: usize, what: Expected) -> Result<Reach, ReadError>

@@ -213,7 +213,7 @@ impl Written {
         ensures err { IfErr result (λ error. IsPlaced tokens.now error) }
     {
         let name = expect(tokens, index + 1, Kind::Is, Expected::Comma)?;
-        let path = looking::path(tokens, name, Expected::Type)?;
+        let path = looking::type_name(tokens, name)?;
         if kind_at(tokens, path.next) == Kind::In {
             return self.of_type_in(variable, tokens, index, path);
         }
@@ -312,12 +312,16 @@ impl Written {
         ensures err { IfErr result (λ error. IsPlaced tokens.now error) }
     {
         let first = expect(tokens, index, Kind::OpenBracket, Expected::Entity)?;
-        if kind_at(tokens, first) == Kind::CloseBracket {
-            let what = What::Bracketed(Bracketed::Set, 0);
-            self.put(tokens, what, start_at(tokens, index), end_at(tokens, first))?;
-            Ok(first)
-        } else {
-            self.filled_set(tokens, index, first)
+        match looking::behind(tokens, first, Kind::CloseBracket) {
+            Some(_) => {
+                let what = What::Bracketed(Bracketed::Set, 0);
+                self.put(tokens, what, start_at(tokens, index), end_at(tokens, first))?;
+                Ok(first)
+            }
+            None => {
+                let close = self.filled_set(tokens, index, first)?;
+                Ok(close)
+            }
         }
     }
 

@@ -1,13 +1,14 @@
 -- Which policies a text is.
 use Rattle.std.specs.Prelude.{◌≡◌, ◌≢◌, ℕ, ◌+◌, ◌<◌, ◌≤◌, Bool, true, false, if◌then◌else◌, List, [], ◌∷◌, ◌++◌, length, map, Option, None, Some, codes, decimal}
-use Rattle.std.specs.Map.{insert_entry, keys_of}
+use Rattle.std.specs.BTreeMap.{insert_entry, is_at}
+use Rattle.std.specs.Map.{lookup}
+use Rattle.std.specs.Option.{is_some}
 use Rattle.std.specs.Rc.{rc_str_bytes}
 use Rattle.std.specs.declared.alloc.Global.{Global}
 use Rattle.std.specs.declared.rc.RcStr.{RcStr}
 use Rattle.cedar_model.specs.Agreement.{no_slots}
 use Rattle.cedar_model.specs.Policies.{permit, forbid}
 use Rattle.cedar_expressions.specs.Nodes.{key_order}
-use Rattle.cedar_expressions.specs.Records.{is_among}
 use Rattle.cedar_layers.specs.Policies.{policy_view, policy_parts, policy_location, policy_id_text, policy_of, condition_parts}
 use Rattle.cedar_layers.specs.Policies.{effect_view, annotations_view, ConditionParts}
 use Rattle.cedar_layers.specs.PolicySets.{stored_policies}
@@ -40,32 +41,32 @@ IsValueAt text all (Some i) v = IsTextAt text all i v
 abbrev pub Annotated : Type 0
 Annotated = List (RcStr Global × RcStr Global)
 
--- the keys of annotations
-abbrev pub keys_there : Annotated → List (List ℕ)
-keys_there es = map (λ e. rc_str_bytes e.0) es
+-- whether an annotation stands under this key
+abbrev pub is_there : RcStr Global → Annotated → Bool
+is_there key es = is_some (lookup (is_at (key_order key)) es)
 
 -- the map has each annotation under its key, and no key comes twice
 pub data AreAnnotated (text : List ℕ) (all : List Token) : List Annotation → Annotated → Type 0 where
   none_annotated : AreAnnotated text all [] []
-  annotated_behind : {xs : List Annotation} {es : Annotated} {x : Annotation} {key value : RcStr Global} →
+  annotated_behind : {xs : List Annotation} {es : Annotated} (x : Annotation) (key value : RcStr Global) →
       AreAnnotated text all xs es → rc_str_bytes key ≡ word_at text all x.key →
-      IsValueAt text all x.value (rc_str_bytes value) → is_among (rc_str_bytes key) (keys_there es) ≡ false →
+      IsValueAt text all x.value (rc_str_bytes value) → is_there key es ≡ false →
       AreAnnotated text all (xs ++ x ∷ []) (insert_entry key_order es key value)
 
 -- ---- policies
 
 -- the policy of these parts
-pub record IsMadeOf (permits : Bool) (id : PolicyID) (a : Annotations) (four : Four) (loc : Loc) (p : Policy) : Type 0 where
+pub record IsMadeOf (permits : Bool) (i : PolicyID) (a : Annotations) (four : Four) (l : Loc) (p : Policy) : Type 0 where
   pub effect : (policy_view p).effect ≡ (if permits then permit else forbid)
-  pub id : (policy_view p).id ≡ policy_id_text id
+  pub id : (policy_view p).id ≡ policy_id_text i
   pub annotations : (policy_view p).annotations ≡ annotations_view a
   pub parts : policy_parts p ≡ condition_parts four.principal four.action four.resource four.condition
   pub slots : (policy_view p).slots ≡ no_slots
-  pub loc : policy_location p ≡ Some loc
+  pub loc : policy_location p ≡ Some l
 
 -- tokens i up to, but not including, j are the policy of this id: each part of it is that of the tree which they derive,
 -- and its condition is no higher than the limit
-pub record IsPolicyAt (text : List ℕ) (all : List Token) (limit : ℕ) (id : List ℕ) (i j : ℕ) (p : Policy) : Type 0 where
+pub record IsPolicyAt (text : List ℕ) (all : List Token) (limit : ℕ) (name : List ℕ) (i j : ℕ) (p : Policy) : Type 0 where
   pub last : ℕ
   pub tree : PolicyTree
   pub annotated : Annotated
@@ -73,7 +74,7 @@ pub record IsPolicyAt (text : List ℕ) (all : List Token) (limit : ℕ) (id : L
   pub next : j ≡ last + 1
   pub within : last < length all
   pub low : height tree.condition ≤ limit
-  pub id : (policy_view p).id ≡ id
+  pub id : (policy_view p).id ≡ name
   pub effect : (policy_view p).effect ≡ (if tree.permits then permit else forbid)
   pub are_annotations : AreAnnotated text all tree.annotations annotated
   pub annotations : (policy_view p).annotations ≡ map (λ e. (rc_str_bytes e.0, rc_str_bytes e.1)) annotated

@@ -1,5 +1,5 @@
 //! The annotations of a policy.
-ghost use Rattle.std.specs.Prelude.{◌≡◌, ◌∷◌, ◌++◌, [], List, All, IfOk, IfErr};
+ghost use Rattle.std.specs.Prelude.{◌≡◌, ◌<◌, ◌∷◌, ◌++◌, [], List, Some, length, All, IfOk};
 ghost use Rattle.std.specs.Rc.{rc_str_bytes};
 ghost use Rattle.cedar_tokens.specs.Values.{Stands};
 ghost use Rattle.cedar_syntax.specs.Tokens as Tokens;
@@ -8,6 +8,7 @@ ghost use Rattle.cedar_policy_text.specs.Reading.{AreAnnotated, IsValueAt};
 
 use cedar_layers::policies::Annotations;
 use cedar_policy_syntax::policies::Annotation;
+use cedar_syntax::expected_at;
 use cedar_tokens::errors::{Expected, ReadError};
 use cedar_tokens::tokens::{Kind, Token};
 use cedar_tokens::values;
@@ -45,7 +46,7 @@ fn annotate(
         AreAnnotated text.now tokens.now xs map.old.entries →
         AreAnnotated text.now tokens.now (xs ++ annotation ∷ []) map.new.entries) }
 {
-    let token = token_at(tokens, annotation.key);
+    let token = token_there(text, tokens, annotation.key)?;
     let key = RcStr::from_str(alloc, values::word(text, token))?;
     if map.contains_key(&key) {
         return Err(ReadError::expected(Expected::NewKey, token));
@@ -75,13 +76,27 @@ fn value_at(alloc: Global, text: &str, tokens: &[Token], index: usize) -> Result
     requires { All (Stands text.now) tokens.now }
     ensures ok { IfOk result (λ v. IsValueAt text.now tokens.now (Some index) (rc_str_bytes v)) }
 {
-    let token = token_at(tokens, index);
+    let token = token_there(text, tokens, index)?;
     match token.kind {
         Kind::Text => {
             let value = values::text_value(alloc, text, token)?;
             Ok(RcStr::from_string(value)?)
         }
         _ => Err(ReadError::expected(Expected::Text, token)),
+    }
+}
+
+// The token of this number.
+fn token_there(text: &str, tokens: &[Token], index: usize) -> Result<Token, ReadError>
+    requires { All (Stands text.now) tokens.now }
+    ensures is { IfOk result (λ t. t ≡ Tokens.token_at tokens.now index) }
+    ensures stands { IfOk result (λ t. Stands text.now t) }
+    ensures within { IfOk result (λ t. index < length tokens.now) }
+{
+    if index < tokens.len() {
+        Ok(token_at(tokens, index))
+    } else {
+        Err(expected_at(tokens, index, Expected::Steps))
     }
 }
 

@@ -85,7 +85,10 @@ pub fn parse_policies(
     ensures ok { IfOk result (AreAllRead text.now limit) }
 {
     match read_all(alloc, text, limit) {
-        Ok(reading) => reading.finished(alloc),
+        Ok(reading) => {
+            let parsed = reading.finished(alloc)?;
+            Ok(parsed)
+        }
         Err(AllocError) => Err(alone(alloc, ReadError::Memory)),
     }
 }
@@ -113,12 +116,14 @@ fn read_all(alloc: Global, text: &str, limit: usize) -> Result<Reading, AllocErr
     let mut reading = Reading::new(alloc);
     let mut index = 0;
     for number in 0..tokens.len() {
-        if index + 1 >= tokens.len() {
-            return reading.ended(tokens.as_slice(), index);
+        if index >= tokens.len() || index + 1 == tokens.len() {
+            let read = reading.ended(tokens.as_slice(), index)?;
+            return Ok(read);
         }
         index = reading.take(alloc, text, tokens.as_slice(), index, number, limit)?;
     }
-    reading.ended(tokens.as_slice(), index)
+    let rest = reading.ended(tokens.as_slice(), index)?;
+    Ok(rest)
 }
 
 impl Reading {
@@ -201,7 +206,10 @@ impl Reading {
     {
         match ends_at(tokens, index) {
             Ok(()) => Ok(self),
-            Err(error) => self.refused(error),
+            Err(error) => {
+                let reading = self.refused(error)?;
+                Ok(reading)
+            }
         }
     }
 

@@ -1,6 +1,8 @@
 //! One policy of a text.
 ghost use Rattle.std.specs.Prelude.{◌≡◌, All, IfOk, IfErr, Some, true, false};
-ghost use Rattle.cedar_layers.specs.Policies.{policy_id_text};
+ghost use Rattle.std.specs.Prelude.{if◌then◌else◌};
+ghost use Rattle.cedar_model.specs.Policies.{permit, forbid};
+ghost use Rattle.cedar_layers.specs.Policies.{policy_id_text, effect_view};
 ghost use Rattle.cedar_tokens.specs.Values.{Stands};
 ghost use Rattle.cedar_policy_text.specs.Reading.{IsPolicyAt, IsMadeOf};
 
@@ -33,8 +35,8 @@ pub(crate) fn policy_at(
     ensures ok { IfOk result (λ r. IsPolicyAt text.now tokens.now limit (policy_id_text id) index r.next r.policy) }
 {
     let read = policy_steps(alloc, tokens, index, limit)?;
-    let four = four_expressions(alloc, text, tokens, read.steps.as_slice())?;
     let annotations = annotations(alloc, text, tokens, read.annotations.as_slice())?;
+    let four = four_expressions(alloc, text, tokens, read.steps.as_slice())?;
     let loc = Loc {
         start: read.start,
         end: read.end,
@@ -57,11 +59,7 @@ fn made(
 ) -> Result<Policy, AllocError>
     ensures ok { IfOk result (IsMadeOf permits id annotations four loc) }
 {
-    let effect = if permits {
-        Effect::Permit
-    } else {
-        Effect::Forbid
-    };
+    let effect = effect(permits);
     let env = SlotEnv::new(alloc);
     let policy = Policy::new(
         alloc,
@@ -75,4 +73,14 @@ fn made(
         env,
     )?;
     Ok(policy.with_maybe_source_loc(Some(loc)))
+}
+
+fn effect(permits: bool) -> Effect
+    ensures { effect_view result ≡ (if permits then permit else forbid) }
+{
+    if permits {
+        Effect::Permit
+    } else {
+        Effect::Forbid
+    }
 }

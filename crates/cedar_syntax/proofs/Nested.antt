@@ -21,14 +21,14 @@ use Rattle.cedar_syntax.specs.Reading.{HasReadClause, has_read_clause}
 use Rattle.cedar_syntax.proofs.Growing.{grows, signs_grow, lists_grow, begins_grow, item_grows}
 
 -- the part starts with its first token, i, and ends with its last, before j
-record Ends (all : List Token) (i j s e : ℕ) : Type 0 where
-  last : ℕ
-  before : j ≡ last + 1
-  order : i ≤ last
-  starts : s ≡ start_at all i
-  ends : e ≡ end_at all last
+pub record Ends (all : List Token) (i j s e : ℕ) : Type 0 where
+  pub last : ℕ
+  pub before : j ≡ last + 1
+  pub order : i ≤ last
+  pub starts : s ≡ start_at all i
+  pub ends : e ≡ end_at all last
 
-path_ends : {all : List Token} {i j s e : ℕ} → IsPath all i j s e → Ends all i j s e
+pub path_ends : {all : List Token} {i j s e : ℕ} → IsPath all i j s e → Ends all i j s e
 path_ends (one_name {i} h) = record { last = i; before = refl; order = omega arith; starts = refl; ends = refl }
 path_ends (name_inside {k = k} h c l) =
     let g = path_ends h in
@@ -134,7 +134,7 @@ mutual
       let g = ends_of d in
       (omega (arith, g.before, g.order), g.starts)
 
-wider : {lo hi from to : ℕ} (t : Tree) → lo ≤ from → to ≤ hi → IsInside from to t → IsInside lo hi t
+pub wider : {lo hi from to : ℕ} (t : Tree) → lo ≤ from → to ≤ hi → IsInside from to t → IsInside lo hi t
 wider (leaf l s e) p q h = (omega (arith, h.0), h.1, omega (arith, h.2))
 wider (unary u t s e) p q h = (omega (arith, h.0), omega (arith, h.1), h.2)
 wider (binary b t u s e) p q h = (omega (arith, h.0), omega (arith, h.1), h.2, h.3)
@@ -152,7 +152,7 @@ negated_inside false s e p h = h
 
 module _ {all : List Token} (ordered : IsInOrder all) where
   -- from the start of a token to the end of one that does not come before it
-  starts_before : (i k : ℕ) → i ≤ k → k < length all → start_at all i ≤ start_at all k
+  pub starts_before : (i k : ℕ) → i ≤ k → k < length all → start_at all i ≤ start_at all k
   starts_before i k h lt =
       elim (eq-or-lt_of_le h) [
         | inl e ↦ rw e (omega arith)
@@ -160,12 +160,12 @@ module _ {all : List Token} (ordered : IsInOrder all) where
             (arith, ordered.forward i (omega (arith, l, lt)), ordered.apart i k l lt)
       ]
 
-  ends_before : (i k : ℕ) → i ≤ k → k < length all → end_at all i ≤ end_at all k
+  pub ends_before : (i k : ℕ) → i ≤ k → k < length all → end_at all i ≤ end_at all k
   ends_before i k h lt =
       elim (eq-or-lt_of_le h)
       [ inl e ↦ rw e (omega arith) | inr l ↦ omega (arith, ordered.forward k lt, ordered.apart i k l lt) ]
 
-  across : (i k : ℕ) → i ≤ k → k < length all → start_at all i ≤ end_at all k
+  pub across : (i k : ℕ) → i ≤ k → k < length all → start_at all i ≤ end_at all k
   across i k h lt = omega (arith, starts_before i k h lt, ordered.forward k lt)
 
   -- a part stands inside what begins with no later token and ends with no earlier one

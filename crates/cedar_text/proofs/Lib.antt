@@ -1,2 +1,4 @@
+pub mod Again
+pub mod Growing
 pub mod Kept
 pub mod Places

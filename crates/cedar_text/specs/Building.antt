@@ -1,6 +1,6 @@
 -- The expression that a tree of the grammar is. The kinds of trees stand in the order of the grammar's steps; what each
 -- is stands on one line, as the node with its parts.
-use Rattle.std.specs.Prelude.{◌≡◌, ℕ, ◌+◌, ◌<◌, List, [], ◌∷◌, ◌++◌, length, Option, Some, None, option_map, map, ℤ, pos, neg_ℤ}
+use Rattle.std.specs.Prelude.{◌≡◌, ℕ, ◌+◌, ◌<◌, List, [], ◌∷◌, ◌++◌, length, Some, None, option_map, map, ℤ, pos, neg_ℤ}
 use Rattle.std.specs.Rc.{rc_str_bytes}
 use Rattle.std.specs.Str.Parse.{digits_value}
 use Rattle.std.specs.declared.alloc.Global.{Global}
@@ -41,7 +41,8 @@ use Rattle.cedar_syntax.specs.declared.steps.Unary.{Unary}
 use Rattle.cedar_syntax.specs.declared.steps.Unary.TheVariants as unaries
 use Rattle.cedar_syntax.specs.declared.steps.What.{What}
 use Rattle.cedar_text.specs.Finished.{unkeyed, keyed}
-use Rattle.cedar_text.specs.Wording.{place, word_at, variable_of, slot_of, method_of, IsTextAt, IsKeyAt, AreKeysAt, IsNameAt, IsEntityAt}
+use Rattle.cedar_text.specs.Wording.{place, word_at, variable_of, slot_of, method_of, IsTextAt, IsKeyAt, AreKeysAt}
+use Rattle.cedar_text.specs.Wording.{IsNameAt, IsEntityAt}
 use Rattle.cedar_text.specs.declared.builder.Part.{Part}
 use Rattle.cedar_text.specs.declared.words.MethodKind.{MethodKind}
 use Rattle.cedar_text.specs.declared.words.MethodKind.TheVariants as methods
@@ -54,7 +55,8 @@ number_at text all i = pos (digits_value 10 (word_at text all i))
 
 -- the text of token i
 pub data IsText (text : List ℕ) (all : List Token) (i : ℕ) : Node → Type 0 where
-  text_node : {w : RcStr Global} → IsTextAt text all i (rc_str_bytes w) → IsText text all i (node.Lit (literal.String w))
+  text_node : {w : RcStr Global} → IsTextAt text all i (rc_str_bytes w) →
+      IsText text all i (node.Lit (literal.String w))
 
 -- the entity of tokens i up to k
 pub data IsEntity (text : List ℕ) (all : List Token) (i k s e : ℕ) : Node → Type 0 where
@@ -193,8 +195,8 @@ mutual
   -- the expressions are the fields of these trees, in order, each under its own key
   pub data AreFields (text : List ℕ) (all : List Token) : List (RcStr Global × Expr) → Trees → Type 0 where
     no_field : AreFields text all [] none
-    field_behind : {fs : List (RcStr Global × Expr)} {ps : Trees} {key : RcStr Global} {y : Expr} {p : Tree}
-        {i s e : ℕ} → AreFields text all fs ps → IsKeyAt text all i (rc_str_bytes key) → Is text all y p →
+    field_behind : {fs : List (RcStr Global × Expr)} {ps : Trees} {y : Expr} {p : Tree} {i s e : ℕ}
+        (key : RcStr Global) → AreFields text all fs ps → IsKeyAt text all i (rc_str_bytes key) → Is text all y p →
         AreFields text all (fs ++ (key, y) ∷ []) (also ps (field i p s e))
 
 -- ---- the stack
@@ -202,7 +204,7 @@ mutual
 -- a finished part is this tree: an expression, or a field under its key
 pub data IsPart (text : List ℕ) (all : List Token) : Part → Tree → Type 0 where
   is_whole : {x : Expr} {p : Tree} → Is text all x p → IsPart text all (unkeyed x) p
-  is_field : {x : Expr} {p : Tree} {key : RcStr Global} {i s e : ℕ} → IsKeyAt text all i (rc_str_bytes key) →
+  is_field : {x : Expr} {p : Tree} {i s e : ℕ} (key : RcStr Global) → IsKeyAt text all i (rc_str_bytes key) →
       Is text all x p → IsPart text all (keyed i key x) (field i p s e)
 
 -- the same of all, the latest first

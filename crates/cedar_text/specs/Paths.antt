@@ -1,5 +1,5 @@
 -- Names and entities that stand alone.
-use Rattle.std.specs.Prelude.{◌≡◌, ℕ, ◌+◌, List, length}
+use Rattle.std.specs.Prelude.{◌≡◌, ℕ, ◌+◌, List}
 use Rattle.cedar_tokens.specs.Tokens.{IsTokens}
 use Rattle.cedar_tokens.specs.declared.errors.ReadError.{ReadError}
 use Rattle.cedar_tokens.specs.declared.errors.ReadError.TheVariants as error
@@ -25,7 +25,7 @@ pub data IsNameRead (text : List ℕ) (f : Name) : Type 0 where
 -- the text's tokens are this entity alone: a name, `::` and a text in quotes
 pub data IsEntityRead (text : List ℕ) (u : EntityUID) : Type 0 where
   entity_read : {all : List Token} {k : ℕ} → IsTokens 0 text all → StartsWithPath all k →
-      kind_at all k ≡ kind.Colons → kind_at all (k + 1) ≡ kind.Text → kind_at all (k + 1 + 1) ≡ kind.End →
+      kind_at all k ≡ kind.Colons → kind_at all (k + 1) ≡ kind.Text → kind_at all (k + 2) ≡ kind.End →
       IsEntityAt text all 0 (k + 1) (start_at all 0) (end_at all (k + 1)) u → IsEntityRead text u
 
 -- want of memory; or the error stands at a token of the text; or an escape is refused

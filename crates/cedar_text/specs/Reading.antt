@@ -1,5 +1,5 @@
 -- What is read of a text.
-use Rattle.std.specs.Prelude.{◌≡◌, ℕ, ◌≤◌, List, [], ◌∷◌, length, ⊤}
+use Rattle.std.specs.Prelude.{◌≡◌, ℕ, ◌≤◌, List, [], ◌∷◌, length}
 use Rattle.cedar_tokens.specs.Tokens.{IsTokens}
 use Rattle.cedar_tokens.specs.declared.errors.ReadError.{ReadError}
 use Rattle.cedar_tokens.specs.declared.errors.ReadError.TheVariants as error
@@ -22,14 +22,14 @@ pub data AreFour (text : List ℕ) (all : List Token) : List Tree → Four → T
   four : {p a r c : Tree} {w x y z : Expr} → Is text all w p → Is text all x a → Is text all y r → Is text all z c →
       AreFour text all (c ∷ r ∷ a ∷ p ∷ []) (record { principal = w; action = x; resource = y; condition = z })
 
--- the text's tokens derive a tree, which the expression is; it is no higher than the limit, and each of its parts stands
--- in the text, inside what it is a part of
+-- the text's tokens derive a tree, which the expression is; it is no higher than the limit, and each of its parts
+-- stands in the text, inside what it is a part of
 pub data IsRead (text : List ℕ) (limit : ℕ) (x : Expr) : Type 0 where
   is_read : {all : List Token} {p : Tree} → IsTokens 0 text all → IsExpression all p → height p ≤ limit →
       IsInside 0 (length text) p → Is text all x p → IsRead text limit x
 
--- want of memory; or the error stands at a token of the text or behind the last; or the tokens derive a tree, and one of
--- the steps that make it is refused
+-- want of memory; or the error stands at a token of the text or behind the last; or the tokens derive a tree, and one
+-- of the steps that make it is refused
 pub data IsUnread (text : List ℕ) : ReadError → Type 0 where
   for_memory : IsUnread text error.Memory
   in_syntax : {all : List Token} {r : ReadError} → IsTokens 0 text all → IsPlaced all r → IsUnread text r

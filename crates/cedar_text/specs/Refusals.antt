@@ -1,5 +1,6 @@
 -- Why an expression is not made of steps, and where that stands.
-use Rattle.std.specs.Prelude.{◌≡◌, ℕ, ◌+◌, ◌<◌, ◌≤◌, ◌^◌, Bool, List, [], ◌∷◌, ◌++◌, length, take, slice_index, slice_index_or}
+use Rattle.std.specs.Prelude.{◌≡◌, ℕ, ◌+◌, ◌<◌, ◌≤◌, ◌^◌, Bool, List, [], ◌∷◌, ◌++◌, length, take, slice_index}
+use Rattle.std.specs.Prelude.{slice_index_or}
 use Rattle.std.specs.Str.Parse.{digits_value}
 use Rattle.cedar_tokens.specs.Values.{inside_of, IsRefusedThere}
 use Rattle.cedar_tokens.specs.declared.errors.Expected.{Expected}
@@ -10,7 +11,8 @@ use Rattle.cedar_tokens.specs.declared.tokens.Kind.{Kind}
 use Rattle.cedar_tokens.specs.declared.tokens.Kind.TheVariants as kind
 use Rattle.cedar_tokens.specs.declared.tokens.Token.{Token}
 use Rattle.cedar_syntax.specs.Tokens.{kind_at, start_at, end_at}
-use Rattle.cedar_syntax.specs.Trees.{Tree, leaf, unary, binary, conditional, field, bracketed, Trees, none, also, gathered, trees}
+use Rattle.cedar_syntax.specs.Trees.{Tree, leaf, unary, binary, conditional, field, bracketed, Trees, none, also}
+use Rattle.cedar_syntax.specs.Trees.{gathered, trees}
 use Rattle.cedar_syntax.specs.declared.steps.Bracketed.TheVariants.{Record}
 use Rattle.cedar_syntax.specs.declared.steps.Step.{Step}
 use Rattle.cedar_syntax.specs.declared.steps.What.{What}
@@ -55,9 +57,16 @@ keys_of (also ps (bracketed k qs s e)) = keys_of ps
 
 -- token i is one of these and names a key that one before it names as well
 pub data IsKeyAgain (text : List ℕ) (all : List Token) (keys : List ℕ) : ℕ → Type 0 where
-  key_again : {m n : ℕ} {key : List ℕ} → m < n → n < length keys → slice_index keys n < length all →
+  key_again : {m n : ℕ} {key : List ℕ} → m < n → n < length keys →
       IsKeyAt text all (slice_index keys m) key → IsKeyAt text all (slice_index keys n) key →
       IsKeyAgain text all keys (slice_index keys n)
+
+-- the key is named by token number n of these, one from number `from` on
+pub record IsNamedFrom (text : List ℕ) (all : List Token) (keys : List ℕ) (from : ℕ) (key : List ℕ)
+    (n : ℕ) : Type 0 where
+  pub after : from ≤ n
+  pub within : n < length keys
+  pub named : IsKeyAt text all (slice_index keys n) key
 
 -- why there is no record of fields under the keys that these tokens name
 pub data IsRecordRefused (text : List ℕ) (all : List Token) (keys : List ℕ) : ReadError → Type 0 where

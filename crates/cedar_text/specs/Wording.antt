@@ -1,5 +1,6 @@
 -- What tokens stand for, by their numbers: words, texts, numbers and names.
-use Rattle.std.specs.Prelude.{◌≡◌, ℕ, zero, suc, ◌+◌, ◌-◌, ◌<◌, ◌≤◌, true, List, [], ◌∷◌, ◌++◌, length, Option, Some, None, codes, bytes_eq, if◌then◌else◌}
+use Rattle.std.specs.Prelude.{◌≡◌, ℕ, zero, suc, ◌+◌, ◌-◌, ◌<◌, ◌≤◌, true, List, [], ◌∷◌, ◌++◌, length, Option, Some}
+use Rattle.std.specs.Prelude.{None, codes, bytes_eq, if◌then◌else◌}
 use Rattle.std.specs.Rc.{rc_str_bytes}
 use Rattle.std.specs.declared.alloc.Global.{Global}
 use Rattle.std.specs.declared.rc.RcStr.{RcStr}
@@ -75,13 +76,13 @@ pub record IsTextAt (text : List ℕ) (all : List Token) (i : ℕ) (value : List
 
 -- token i names the attribute or the key of these bytes: an identifier its own, a text in quotes those it stands for
 pub data IsKeyAt (text : List ℕ) (all : List Token) (i : ℕ) : List ℕ → Type 0 where
-  bare : is_identifier (kind_at all i) ≡ true → IsKeyAt text all i (word_at text all i)
+  bare : i < length all → is_identifier (kind_at all i) ≡ true → IsKeyAt text all i (word_at text all i)
   quoted : {value : List ℕ} → IsTextAt text all i value → IsKeyAt text all i value
 
 -- tokens i up to k name these attributes, each second token one
 pub data AreKeysAt (text : List ℕ) (all : List Token) (i : ℕ) : ℕ → List (RcStr Global) → Type 0 where
-  one_key : {w : RcStr Global} → IsKeyAt text all i (rc_str_bytes w) → AreKeysAt text all i (i + 1) (w ∷ [])
-  key_behind : {k : ℕ} {ws : List (RcStr Global)} {w : RcStr Global} → AreKeysAt text all i k ws →
+  one_key : (w : RcStr Global) → IsKeyAt text all i (rc_str_bytes w) → AreKeysAt text all i (i + 1) (w ∷ [])
+  key_behind : {k : ℕ} {ws : List (RcStr Global)} (w : RcStr Global) → AreKeysAt text all i k ws →
       IsKeyAt text all (k + 1) (rc_str_bytes w) → AreKeysAt text all i (k + 1 + 1) (ws ++ w ∷ [])
 
 -- ---- names

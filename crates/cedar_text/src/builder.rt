@@ -1,14 +1,15 @@
 //! Makes expressions of steps, on a stack of finished ones.
-ghost use Rattle.std.specs.Prelude.{◌≡◌, ◌∷◌, ◌++◌, [], ℕ, List, length, reverse, All, IfOk, IfErr, IfSome};
-ghost use Rattle.cedar_tokens.specs.declared.errors.ReadError.TheVariants as error;
+ghost use Rattle.std.specs.Prelude.{◌≡◌, ◌∷◌, ◌++◌, [], true, ℕ, List, length, reverse, All, IfOk, IfErr, IfSome, OnOk};
 ghost use Rattle.cedar_syntax.specs.declared.steps.Bracketed.TheVariants as bracketed;
 ghost use Rattle.cedar_syntax.specs.declared.steps.What.TheVariants as what;
+ghost use Rattle.std.specs.Rc.{rc_str_bytes};
 ghost use Rattle.cedar_tokens.specs.Values.{Stands};
 ghost use Rattle.cedar_expressions.specs.Nodes.{node_of};
 ghost use Rattle.cedar_syntax.specs.Trees.{Tree, trees};
 ghost use Rattle.cedar_text.specs.Building.{Are, Keeps, Puts};
 ghost use Rattle.cedar_text.specs.Finished.{finished, unkeyed, keyed, all_unkeyed, all_keyed};
-ghost use Rattle.cedar_text.specs.Refusals.{IsRefused, IsRefusedOn, IsKeyAgain, IsRecordRefused, AreRefused};
+ghost use Rattle.cedar_text.specs.Refusals.{IsRefused, IsRefusedOn, IsKeyAgain, IsNamedFrom, IsRecordRefused};
+ghost use Rattle.cedar_text.specs.Refusals.{AreRefused};
 
 use crate::reading::Four;
 use crate::refusals::{ill_made, wanted_at};
@@ -18,7 +19,7 @@ use cedar_names::Loc;
 use cedar_syntax::steps::{Binary, Bracketed, Leaf, Step, Unary, What};
 use cedar_tokens::errors::{Expected, ReadError};
 use cedar_tokens::tokens::Token;
-use std::alloc::Global;
+use std::alloc::{AllocError, Global};
 use std::rc::RcStr;
 
 /// The key of a field, and the token that names it.
@@ -116,13 +117,12 @@ impl Builder {
         }
     }
 
-    fn push(&mut self, part: Part) -> Result<(), ReadError>
-        ensures ok { IfOk result (λ _. finished self.new ≡ part ∷ finished self.old) }
-        ensures err { IfErr result (λ e. e ≡ error.Memory) }
+    fn push(&mut self, part: Part) -> Result<(), AllocError>
+        ensures { OnOk result (finished self.new ≡ part ∷ finished self.old) }
     {
         match self.parts.push(part) {
             Ok(()) => Ok(()),
-            Err(_) => Err(ReadError::Memory),
+            Err(_) => Err(AllocError),
         }
     }
 
@@ -166,9 +166,8 @@ impl Builder {
     }
 
     // Puts the part before the others, where it stands.
-    fn put(&mut self, part: Expr, loc: Loc) -> Result<(), ReadError>
-        ensures ok { IfOk result (λ _. Puts (node_of part) loc.start loc.end (finished self.old) (finished self.new)) }
-        ensures err { IfErr result (λ e. e ≡ error.Memory) }
+    fn put(&mut self, part: Expr, loc: Loc) -> Result<(), AllocError>
+        ensures { OnOk result (Puts (node_of part) loc.start loc.end (finished self.old) (finished self.new)) }
     {
         let expr = part.with_maybe_source_loc(Some(loc));
         self.push(Part { key: None, expr })?;
@@ -215,7 +214,8 @@ impl Builder {
     ) -> Result<(), ReadError>
         requires { All (Stands text.now) tokens.now }
         ensures ok { IfOk result
-            (λ _. Keeps text.now tokens.now (what.Leaf leaf) loc.start loc.end (finished self.old) (finished self.new)) }
+            (λ _. Keeps text.now tokens.now (what.Leaf leaf) loc.start loc.end (finished self.old)
+            (finished self.new)) }
         ensures err { IfErr result (IsRefused text.now tokens.now) }
     {
         let made = nodes::leaf(alloc, text, tokens, leaf, loc)?;
@@ -233,7 +233,8 @@ impl Builder {
     ) -> Result<(), ReadError>
         requires { All (Stands text.now) tokens.now }
         ensures ok { IfOk result
-            (λ _. Keeps text.now tokens.now (what.Unary unary) loc.start loc.end (finished self.old) (finished self.new)) }
+            (λ _. Keeps text.now tokens.now (what.Unary unary) loc.start loc.end (finished self.old)
+            (finished self.new)) }
         ensures err { IfErr result (IsRefused text.now tokens.now) }
     {
         match self.pop() {
@@ -393,7 +394,8 @@ impl Builder {
         loc: Loc,
     ) -> Result<(), ReadError>
         requires { All (Stands text.now) tokens.now }
-        ensures ok { IfOk result (λ _. Keeps text.now tokens.now (what.Bracketed bracketed.Record count) loc.start loc.end
+        ensures ok { IfOk result (λ _. Keeps text.now tokens.now
+            (what.Bracketed bracketed.Record count) loc.start loc.end
             (finished self.old) (finished self.new)) }
         ensures err { IfErr result (λ e. (ts : List Tree) → Are text.now tokens.now (finished self.old) ts →
             IsRefusedOn text.now tokens.now ts (what.Bracketed bracketed.Record count) e) }
@@ -500,15 +502,58 @@ fn key_again(
     ensures ok { IfOk result (λ found. IfSome found (IsKeyAgain text.now tokens.now keys.now)) }
     ensures err { IfErr result (IsRefused text.now tokens.now) }
 {
-    let mut is_before = false;
-    for n in 0..keys.len() {
+    match named_from(alloc, text, tokens, keys, 0, key)? {
+        Some(first) => key_behind(alloc, text, tokens, keys, first, key),
+        None => Ok(None),
+    }
+}
+
+// The token behind number `first`, which names the key, that names it again.
+fn key_behind(
+    alloc: Global,
+    text: &str,
+    tokens: &[Token],
+    keys: &[usize],
+    first: usize,
+    key: &str,
+) -> Result<Option<usize>, ReadError>
+    requires stand { All (Stands text.now) tokens.now }
+    requires first { IsNamedFrom text.now tokens.now keys.now 0 key.now first }
+    ensures ok { IfOk result (λ found. IfSome found (IsKeyAgain text.now tokens.now keys.now)) }
+    ensures err { IfErr result (IsRefused text.now tokens.now) }
+{
+    let found = named_from(alloc, text, tokens, keys, first + 1, key)?;
+    match found {
+        Some(second) => Ok(Some(keys[second])),
+        None => Ok(None),
+    }
+}
+
+// Which of the tokens, from number `from` on, is the first to name the key.
+fn named_from(
+    alloc: Global,
+    text: &str,
+    tokens: &[Token],
+    keys: &[usize],
+    from: usize,
+    key: &str,
+) -> Result<Option<usize>, ReadError>
+    requires { All (Stands text.now) tokens.now }
+    ensures ok { IfOk result
+        (λ found. IfSome found (IsNamedFrom text.now tokens.now keys.now from key.now)) }
+    ensures err { IfErr result (IsRefused text.now tokens.now) }
+{
+    for n in from..keys.len() {
         let named = leaves::key(alloc, text, tokens, keys[n])?;
-        if named.as_str() == key {
-            if is_before {
-                return Ok(Some(keys[n]));
-            }
-            is_before = true;
+        if is_same(&named, key) {
+            return Ok(Some(n));
         }
     }
     Ok(None)
+}
+
+fn is_same(named: &RcStr, key: &str) -> bool
+    ensures { result ≡ true → rc_str_bytes named.now ≡ key.now }
+{
+    named.as_str() == key
 }

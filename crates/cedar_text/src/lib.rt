@@ -5,18 +5,20 @@
 //!
 //! An expression is read in three turns: `cedar_tokens` cuts the text into tokens, `cedar_syntax` writes down what they
 //! derive as steps, each behind those of its parts, and here each step is taken on a stack of finished expressions.
-//! [`expression`] and [`four_expressions`] are this last turn alone, for who reads more than an expression, as a policy.
+//! [`expression`] and [`four_expressions`] are this last turn alone, for who reads more than an expression, as a
+//! policy.
 //!
 //! What is promised stands in `specs/Building.antt`: which expression a tree of the grammar is, part by part.
 //!
 //! - Each node has its place in the text: from its first byte up to the byte behind its last.
-//! - `!=`, `>` and `>=` are the negations of `==`, `<=` and `<`. `a is T in b` is `a is T && a in b`, of three nodes, each
-//!   of which has the place of the whole.
+//! - `!=`, `>` and `>=` are the negations of `==`, `<=` and `<`. `a is T in b` is `a is T && a in b`, of three nodes,
+//!   each of which has the place of the whole.
 //! - `has` with more than one attribute is one node with all of them, in order.
 //! - `.contains(..)`, `.containsAll(..)`, `.containsAny(..)`, `.getTag(..)` and `.hasTag(..)` on one argument and
-//!   `.isEmpty()` are operators of the language. Any other method is a call of the extension function of that name, with
-//!   the receiver as its first argument. Which functions there are is not asked.
-//! - A long is at most 9223372036854775807, and with a minus before it 9223372036854775808. A key stands once in a record.
+//!   `.isEmpty()` are operators of the language. Any other method is a call of the extension function of that name,
+//!   with the receiver as its first argument. Which functions there are is not asked.
+//! - A long is at most 9223372036854775807, and with a minus before it 9223372036854775808. A key stands once in a
+//!   record.
 #![tactic(auto)]
 
 mod builder;

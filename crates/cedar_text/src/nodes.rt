@@ -1,10 +1,11 @@
 //! The nodes that steps make, each of its parts.
-ghost use Rattle.std.specs.Prelude.{◌≡◌, ◌<◌, ◌∷◌, [], length, All, IfOk, IfErr, IfSome};
+ghost use Rattle.std.specs.Prelude.{◌≡◌, ◌==◌, ◌<◌, ◌∷◌, [], length, All, IfOk, IfErr, IfSome};
 ghost use Rattle.cedar_syntax.specs.declared.steps.Leaf.TheVariants as leaves;
 ghost use Rattle.cedar_syntax.specs.declared.steps.Unary.TheVariants as unaries;
 ghost use Rattle.cedar_tokens.specs.Values.{Stands};
 ghost use Rattle.cedar_expressions.specs.Nodes.{node_of};
-ghost use Rattle.cedar_text.specs.Building.{IsLeaf, IsUnary, IsBinary, IsBracketed, IsText, IsEntity, IsAttribute, IsHas};
+ghost use Rattle.cedar_text.specs.Building.{IsLeaf, IsUnary, IsBinary, IsBracketed, IsText, IsEntity, IsAttribute};
+ghost use Rattle.cedar_text.specs.Building.{IsHas};
 ghost use Rattle.cedar_text.specs.Building.{IsLike, IsOfType, IsOfTypeIn, IsCall, IsMethod, IsOperation, IsEmptiness};
 ghost use Rattle.cedar_text.specs.Refusals.{IsRefused};
 ghost use Rattle.cedar_text.specs.Wording.{word_at, method_of, IsEmptyAt, IsOperatorAt};
@@ -18,7 +19,7 @@ use cedar_syntax::steps::{Binary, Bracketed, Leaf, Sign, Unary};
 use cedar_tokens::errors::ReadError;
 use cedar_tokens::tokens::Token;
 use std::alloc::{AllocError, Global};
-use std::rc::Rc;
+use std::rc::{Rc, RcStr};
 
 /// What this leaf is, at this place.
 pub(crate) fn leaf(
@@ -160,12 +161,19 @@ fn has(
     ensures err { IfErr result (IsRefused text.now tokens.now) }
 {
     let keys = leaves::keys(alloc, text, tokens, from, to)?;
-    if keys.rest.is_empty() {
+    if is_alone(&keys.rest) {
         let FirstRest { first, rest: _ } = keys;
         Ok(Expr::has_attr(alloc, part, first)?)
     } else {
         Ok(Expr::extended_has_attr(alloc, part, keys)?)
     }
+}
+
+// Whether no attribute stands behind the first.
+fn is_alone(rest: &[RcStr]) -> bool
+    ensures { result ≡ (length rest.now == 0) }
+{
+    rest.is_empty()
 }
 
 fn like(

@@ -1,5 +1,6 @@
 //! Reads expressions.
 ghost use Rattle.std.specs.Prelude.{All, IfOk, IfErr};
+ghost use Rattle.cedar_tokens.specs.Tokens.{IsTokens};
 ghost use Rattle.cedar_tokens.specs.Values.{Stands};
 ghost use Rattle.cedar_syntax.specs.Trees.{trees};
 ghost use Rattle.cedar_text.specs.Reading.{IsRead, IsUnread, IsWithin, IsOnly, AreFour};
@@ -19,17 +20,35 @@ use std::alloc::Global;
 ///
 /// # Errors
 ///
-/// Each stands at its place in the text. Memory was wanting. Something else was expected than what stands there: a token
-/// can't stand where it does, a number is larger than each long, an escape is none of the language, a key stands in its
-/// record for the second time, or a method has too many arguments or too few. The expression has more levels.
+/// Each stands at its place in the text. Memory was wanting. Something else was expected than what stands there: a
+/// token can't stand where it does, a number is larger than each long, an escape is none of the language, a key stands
+/// in its record for the second time, or a method has too many arguments or too few. The expression has more levels.
 pub fn parse_expr(alloc: Global, text: &str, limit: usize) -> Result<Expr, ReadError>
     ensures ok { IfOk result (IsRead text.now limit) }
     ensures err { IfErr result (IsUnread text.now) }
     ensures placed { IfErr result (IsWithin text.now) }
 {
     let tokens = lexer::tokens(alloc, text)?;
-    let steps = expression_steps(alloc, &tokens, limit)?;
-    expression(alloc, text, &tokens, &steps)
+    let made = expression_of(alloc, text, &tokens, limit)?;
+    Ok(made)
+}
+
+// The expression that the text's tokens write.
+fn expression_of(
+    alloc: Global,
+    text: &str,
+    tokens: &[Token],
+    limit: usize,
+) -> Result<Expr, ReadError>
+    requires tokens { IsTokens 0 text.now tokens.now }
+    requires stand { All (Stands text.now) tokens.now }
+    ensures ok { IfOk result (IsRead text.now limit) }
+    ensures err { IfErr result (IsUnread text.now) }
+    ensures placed { IfErr result (IsWithin text.now) }
+{
+    let steps = expression_steps(alloc, tokens, limit)?;
+    let made = expression(alloc, text, tokens, &steps)?;
+    Ok(made)
 }
 
 /// The expression that the steps make, which name tokens of the text.
@@ -50,7 +69,8 @@ pub fn expression(
     ensures placed { IfErr result (IsWithin text.now) }
 {
     let builder = built(alloc, text, tokens, steps)?;
-    builder.only(text, tokens)
+    let made = builder.only(text, tokens)?;
+    Ok(made)
 }
 
 /// The expressions of a policy: the three constraints of its scope, and its condition.
@@ -70,8 +90,8 @@ pub struct Four {
 ///
 /// # Errors
 ///
-/// Memory was wanting. What a step makes can't be: see [`parse_expr`]. The steps make fewer or more: `Expected::Steps`, at
-/// the end of the text.
+/// Memory was wanting. What a step makes can't be: see [`parse_expr`]. The steps make fewer or more:
+/// `Expected::Steps`, at the end of the text.
 pub fn four_expressions(
     alloc: Global,
     text: &str,
@@ -84,5 +104,6 @@ pub fn four_expressions(
     ensures placed { IfErr result (IsWithin text.now) }
 {
     let builder = built(alloc, text, tokens, steps)?;
-    builder.four(text, tokens)
+    let made = builder.four(text, tokens)?;
+    Ok(made)
 }

@@ -35,7 +35,8 @@ pub(crate) fn token_at(tokens: &[Token], at: usize) -> Token
 pub(crate) fn wanted_at(tokens: &[Token], at: usize, what: Expected) -> ReadError
     requires { at < length tokens.now }
     ensures { result
-        ≡ error.Expected what (Tokens.kind_at tokens.now at) (Tokens.start_at tokens.now at) (Tokens.end_at tokens.now at) }
+        ≡ error.Expected what (Tokens.kind_at tokens.now at) (Tokens.start_at tokens.now at)
+        (Tokens.end_at tokens.now at) }
 {
     let token = token_at(tokens, at);
     ReadError::Expected {

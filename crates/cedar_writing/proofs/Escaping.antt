@@ -1,5 +1,5 @@
 -- Characters in double quotes.
-use Rattle.std.proofs.Common.{◌≡◌, ℕ, ◌<◌, ◌≤◌, ◌/◌, ◌%◌, ◌+◌, Bool, true, false, List, [], ◌∷◌, ◌++◌, refl, inl, inr, arith, ne_eqb, lt-ltb, le-ltb, codes, append-nil}
+use Rattle.std.proofs.Common.{◌≡◌, ℕ, ◌<◌, ◌≤◌, ◌/◌, ◌%◌, ◌+◌, true, false, List, [], ◌∷◌, ◌++◌, refl, inl, inr, arith, ne_eqb, lt-ltb, le-ltb, codes, append-nil}
 use Rattle.std.proofs.lemmas.Bool.{cases_lt}
 use Rattle.std.proofs.lemmas.Str.{encode_ascii}
 use Rattle.std.proofs.lemmas.List.Concat.{flat_map-append}

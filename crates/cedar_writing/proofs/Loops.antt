@@ -1,5 +1,5 @@
 -- What is left to write, one part after another.
-use Rattle.std.proofs.Common.{◌≡◌, ℕ, ◌+◌, ◌<◌, Bool, true, false, List, [], ◌∷◌, ◌++◌, length, get_or, drop, map, flat_map, codes, append_assoc, append-nil}
+use Rattle.std.proofs.Common.{◌≡◌, ℕ, ◌+◌, ◌<◌, Bool, false, List, [], ◌∷◌, ◌++◌, length, get_or, drop, map, flat_map, codes, append_assoc, append-nil}
 use Rattle.std.proofs.lemmas.List.{drop_more}
 use Rattle.cedar_model.specs.Terms.{Text, Term, Terms, one_term, Fields, one_field}
 use Rattle.cedar_model.specs.World.{Slots}

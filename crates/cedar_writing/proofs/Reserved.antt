@@ -1,5 +1,5 @@
 -- A word is an identifier where it is not reserved.
-use Rattle.std.proofs.Common.{◌≡◌, Bool, true, false, not, List, ℕ, if◌then◌else◌, codes, bytes_eq, refl, inl, inr, sym, ◌∙◌, ap, subst}
+use Rattle.std.proofs.Common.{◌≡◌, Bool, true, false, not, if◌then◌else◌, codes, bytes_eq, refl, sym, ◌∙◌, ap}
 use Rattle.std.proofs.lemmas.Slice.Eq.{bytes_eq-Decides}
 use Rattle.cedar_model.specs.Terms.{Text}
 use Rattle.cedar_tokens.specs.declared.tokens.Kind.{Kind}

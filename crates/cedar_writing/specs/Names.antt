@@ -1,5 +1,5 @@
 -- Names of attributes, and what stands behind a part: bare where they are identifiers, else as texts in double quotes.
-use Rattle.std.specs.Prelude.{Bool, ◌&&◌, ◌||◌, not, bytes_eq, List, ◌∷◌, ◌++◌, if◌then◌else◌, codes, flat_map}
+use Rattle.std.specs.Prelude.{Bool, ◌&&◌, ◌||◌, bytes_eq, List, ◌∷◌, ◌++◌, if◌then◌else◌, codes, flat_map}
 use Rattle.std.specs.List.{list_all}
 use Rattle.cedar_model.specs.Terms.{Text, EntityName, Literal, bool_literal, long_literal, text_literal, entity_literal, PatternPart}
 use Rattle.cedar_tokens.specs.Kinds.{is_identifier}

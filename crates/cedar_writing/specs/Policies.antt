@@ -1,5 +1,5 @@
 -- Policies in Cedar's syntax, in bytes of UTF-8.
-use Rattle.std.specs.Prelude.{Bool, true, false, ◌&&◌, List, [], ◌∷◌, ◌++◌, if◌then◌else◌, codes, flat_map}
+use Rattle.std.specs.Prelude.{Bool, false, ◌&&◌, List, [], ◌∷◌, ◌++◌, if◌then◌else◌, codes, flat_map}
 use Rattle.cedar_model.specs.Terms.{Text, Variable, principal, action, resource, Term}
 use Rattle.cedar_model.specs.World.{Slots}
 use Rattle.cedar_model.specs.Policies.{Effect, permit, forbid}

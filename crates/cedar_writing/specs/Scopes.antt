@@ -1,6 +1,6 @@
 -- Which constraints stand in the scope of a policy, and how they are written there.
-use Rattle.std.specs.Prelude.{Bool, true, false, ◌&&◌, ◌||◌, List, [], ◌∷◌, ◌++◌, is_some, if◌then◌else◌, codes}
-use Rattle.cedar_model.specs.Terms.{Text, Literal, bool_literal, long_literal, text_literal, entity_literal, Variable, principal, action, resource, context, Slot, principal_slot, resource_slot, BinaryOperator, eq_operator, in_operator, Term, literal, variable, slot, both, binary, is_of_type, set_of, Terms, no_terms, one_term}
+use Rattle.std.specs.Prelude.{Bool, true, false, ◌&&◌, ◌||◌, [], ◌++◌, is_some, if◌then◌else◌, codes}
+use Rattle.cedar_model.specs.Terms.{Text, Literal, bool_literal, entity_literal, Variable, principal, action, resource, context, Slot, principal_slot, resource_slot, BinaryOperator, eq_operator, in_operator, Term, literal, variable, slot, both, binary, is_of_type, set_of, Terms, no_terms, one_term}
 use Rattle.cedar_model.specs.World.{Slots}
 use Rattle.cedar_names.specs.Equality.{variable_eq}
 use Rattle.cedar_names.specs.Texts.{variable_text}

@@ -1,6 +1,6 @@
 -- Expressions in Cedar's syntax, in bytes of UTF-8. A part stands in brackets where its level is none that its place takes.
-use Rattle.std.specs.Prelude.{ℕ, Bool, true, false, List, [], ◌∷◌, ◌++◌, Option, Some, None, if◌then◌else◌, codes}
-use Rattle.cedar_model.specs.Terms.{Text, EntityName, Slot, BinaryOperator, UnaryOperator, Term, literal, variable, slot, unknown, if_then_else, both, either, unary, binary, call, get_attribute, has_attribute, extended_has, like, is_of_type, set_of, record_of, Terms, no_terms, one_term, Fields, no_fields, one_field}
+use Rattle.std.specs.Prelude.{ℕ, Bool, true, false, [], ◌∷◌, ◌++◌, Option, Some, None, if◌then◌else◌, codes}
+use Rattle.cedar_model.specs.Terms.{Text, EntityName, Slot, BinaryOperator, Term, literal, variable, slot, unknown, if_then_else, both, either, unary, binary, call, get_attribute, has_attribute, extended_has, like, is_of_type, set_of, record_of, Terms, no_terms, one_term, Fields, no_fields, one_field}
 use Rattle.cedar_model.specs.World.{Slots}
 use Rattle.cedar_names.specs.Texts.{slot_text, variable_text, before_part, after_part, between_parts, is_infix, separator, is_text}
 use Rattle.cedar_writing.specs.Levels.{fits, lowest_level, left_level, right_level}

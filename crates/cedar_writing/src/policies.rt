@@ -19,8 +19,8 @@ use std::fmt;
 use std::fmt::Display;
 use std::rc::RcStr;
 
-/// The policy in Cedar's syntax: each annotation on a line of its own, the effect, the scope, and each clause on a line of
-/// its own. A slot that is linked to an entity is written as that entity. Refuses only for want of memory.
+/// The policy in Cedar's syntax: each annotation on a line of its own, the effect, the scope, and each clause on a line
+/// of its own. A slot that is linked to an entity is written as that entity. Refuses only for want of memory.
 pub fn policy_to_cedar(alloc: Global, policy: &Policy) -> Result<String, AllocError>
     ensures { IfOk result (λ t. string_bytes t ≡ texts.policy_text (policy_view policy.now)) }
 {

@@ -287,7 +287,8 @@ fn is_type_test(var: Var, expr: &Expr) -> bool
 
 /// Whether the operator is `in` and its parts are this variable and an entity.
 fn are_in(slots: &SlotEnv, var: Var, op: BinaryOp, left: &Expr, right: &Expr) -> bool
-    ensures { result ≡ texts.are_in (slots_view slots.now) (variable_view var) (binary_view op) (view left.now) (view right.now) }
+    ensures { result ≡ texts.are_in (slots_view slots.now) (variable_view var) (binary_view op)
+        (view left.now) (view right.now) }
 {
     is_in(op) && is_variable(var, left) && is_entity(slots, var, right)
 }
@@ -319,7 +320,8 @@ fn is_in_test(slots: &SlotEnv, var: Var, expr: &Expr) -> bool
 
 /// Whether the parts are this variable and what may stand behind the operator.
 fn are_plain(slots: &SlotEnv, var: Var, op: BinaryOp, left: &Expr, right: &Expr) -> bool
-    ensures { result ≡ texts.are_plain (slots_view slots.now) (variable_view var) (binary_view op) (view left.now) (view right.now) }
+    ensures { result ≡ texts.are_plain (slots_view slots.now) (variable_view var) (binary_view op)
+        (view left.now) (view right.now) }
 {
     is_variable(var, left) && is_operand(slots, var, op, right)
 }

@@ -118,7 +118,8 @@ fn write_if<W: fmt::Write>(
     f: &mut fmt::Formatter<W>,
 ) -> fmt::Result
     ensures { WritesOnOk W.write_str_gives f.old result
-        (texts.written (slots_view slots.now) (if_then_else (view test_expr.now) (view then_expr.now) (view else_expr.now))) f.new }
+        (texts.written (slots_view slots.now)
+        (if_then_else (view test_expr.now) (view then_expr.now) (view else_expr.now))) f.new }
 {
     f.write_str("if ")?;
     write_expr(test_expr, slots, f)?;
@@ -407,7 +408,8 @@ fn write_next_field<W: fmt::Write>(
 ) -> fmt::Result
     ensures { WritesOnOk W.write_str_gives f.old result
         (separator is_first
-        ++ (key_text (rc_str_bytes key.now) ++ (codes ": " ++ texts.written (slots_view slots.now) (view part.now)))) f.new }
+        ++ (key_text (rc_str_bytes key.now)
+        ++ (codes ": " ++ texts.written (slots_view slots.now) (view part.now)))) f.new }
 {
     f.write_str(separator(is_first))?;
     write_key(key, f)?;

@@ -1,4 +1,3 @@
-use Rattle.std.proofs.Common.{◌≡◌, ◌≤◌, ◌∷◌, [], sym, ◌∙◌, refl, arith}
 use Rattle.cedar_policy_syntax.proofs.Turns.{value_read}
 use Rattle.cedar_policy_syntax.proofs.annotations.annotation_value.Goals as goal
 

@@ -1,4 +1,3 @@
-use Rattle.std.proofs.Common.{◌≡◌, ◌≤◌, ◌∷◌, [], sym, ◌∙◌, refl, arith}
 use Rattle.cedar_policy_syntax.specs.Grammar.{no_annotation}
 use Rattle.cedar_policy_syntax.proofs.annotations.annotations.Goals as goal
 

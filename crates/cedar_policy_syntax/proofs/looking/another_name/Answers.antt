@@ -1,4 +1,4 @@
-use Rattle.std.proofs.Common.{◌≡◌, ◌≤◌, ◌∷◌, [], sym, ◌∙◌, refl, arith}
+use Rattle.std.proofs.Common.{sym, ◌∙◌}
 use Rattle.cedar_policy_syntax.proofs.Turns.{name_more}
 use Rattle.cedar_policy_syntax.proofs.looking.another_name.Goals as goal
 

@@ -5,12 +5,12 @@ use Rattle.std.specs.declared.rc.RcStr.{RcStr}
 use Rattle.cedar_text.specs.Wording.{IsKeyAt, AreKeysAt}
 use Rattle.cedar_text.proofs.leaves.further_keys.Given as goal
 
-abbrev pub invariant-loop : goal.invariant-loop
-invariant-loop l = record {
+abbrev pub invariant-loop-at : goal.invariant-loop-at
+invariant-loop-at l = record {
   bound : l.at ≤ l.to + 1;
   named : (w : RcStr Global) → IsKeyAt l.text l.tokens l.from (rc_str_bytes w) →
       AreKeysAt l.text l.tokens l.from l.at (w ∷ l.rest.items);
 }
 
-abbrev pub decreases-loop : goal.decreases-loop
-decreases-loop l = l.to - l.at
+abbrev pub decreases-loop-at : goal.decreases-loop-at
+decreases-loop-at l = l.to - l.at

@@ -1,6 +1,5 @@
-use Rattle.std.proofs.Common.{◌≡◌, ℕ, List, ◌++◌, map, flat_map}
+use Rattle.std.proofs.Common.{◌≡◌, ℕ, List, ◌++◌}
 use Rattle.std.specs.Fmt.{HasWritten, IsPlainFormatter}
-use Rattle.cedar_writing.specs.Policies.{annotation_text}
 use Rattle.cedar_writing.proofs.Loops.{annotations_text}
 use Rattle.cedar_writing.proofs.policies.write_annotations.Given as goal
 

@@ -1,4 +1,3 @@
-use Rattle.std.proofs.Common.{◌≡◌, ◌≤◌, ◌∷◌, [], sym, ◌∙◌, refl, arith}
 use Rattle.cedar_policy_syntax.proofs.Turns.{joined_clauses, clause_two}
 use Rattle.cedar_policy_syntax.proofs.written.Written.another_clause.Goals as goal
 

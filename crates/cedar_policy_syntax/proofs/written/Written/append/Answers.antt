@@ -1,4 +1,3 @@
-use Rattle.std.proofs.Common.{◌≡◌, ◌≤◌, ◌∷◌, [], sym, ◌∙◌, refl, arith}
 use Rattle.std.proofs.Common.{is_ok}
 use Rattle.cedar_syntax.specs.Places.{for_memory}
 use Rattle.cedar_policy_syntax.proofs.Joining.{trees_appended}

@@ -1,4 +1,3 @@
-use Rattle.std.proofs.Common.{◌≡◌, ◌≤◌, ◌∷◌, [], sym, ◌∙◌, refl, arith}
 use Rattle.cedar_policy_syntax.proofs.Turns.{first_clause, clauses_one}
 use Rattle.cedar_policy_syntax.proofs.written.Written.clauses.Goals as goal
 

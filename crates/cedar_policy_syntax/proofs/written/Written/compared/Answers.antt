@@ -1,4 +1,3 @@
-use Rattle.std.proofs.Common.{◌≡◌, ◌≤◌, ◌∷◌, [], sym, ◌∙◌, refl, arith}
 use Rattle.cedar_policy_syntax.proofs.Turns.{compared_made, two_put}
 use Rattle.cedar_policy_syntax.proofs.written.Written.compared.Goals as goal
 

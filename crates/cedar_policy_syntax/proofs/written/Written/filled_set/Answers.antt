@@ -1,4 +1,3 @@
-use Rattle.std.proofs.Common.{◌≡◌, ◌≤◌, ◌∷◌, [], sym, ◌∙◌, refl, arith}
 use Rattle.cedar_policy_syntax.proofs.Turns.{set_made, entities_count}
 use Rattle.cedar_policy_syntax.proofs.written.Written.filled_set.Goals as goal
 

@@ -1,4 +1,3 @@
-use Rattle.std.proofs.Common.{◌≡◌, ◌≤◌, ◌∷◌, [], sym, ◌∙◌, refl, arith}
 use Rattle.cedar_policy_syntax.proofs.Turns.{type_made, one_there}
 use Rattle.cedar_policy_syntax.proofs.written.Written.of_type.Goals as goal
 

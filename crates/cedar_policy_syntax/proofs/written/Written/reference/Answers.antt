@@ -1,4 +1,4 @@
-use Rattle.std.proofs.Common.{◌≡◌, ◌≤◌, ◌∷◌, [], sym, ◌∙◌, refl, arith}
+use Rattle.std.proofs.Common.{sym, ◌∙◌}
 use Rattle.cedar_policy_syntax.proofs.Turns.{slot_made}
 use Rattle.cedar_policy_syntax.proofs.written.Written.reference.Goals as goal
 

@@ -1,4 +1,3 @@
-use Rattle.std.proofs.Common.{◌≡◌, ◌≤◌, ◌∷◌, [], sym, ◌∙◌, refl, arith}
 use Rattle.cedar_policy_syntax.proofs.Turns.{scope_made}
 use Rattle.cedar_policy_syntax.proofs.written.Written.scope.Goals as goal
 

@@ -1,12 +1,11 @@
-use Rattle.std.proofs.Common.{◌≡◌, true, false, [], ◌∷◌, ◌++◌, refl, ap, sym, ◌∙◌, codes, rules, arith}
+use Rattle.std.proofs.Common.{◌≡◌, [], ◌∷◌, refl, ap, ◌∙◌, codes, rules, arith}
 use Rattle.std.proofs.lemmas.Grind.{common_steps}
 use Rattle.std.proofs.Output.{has_written_append, has_written_of_eq, writes_in_calls_nil}
 use Rattle.std.specs.Rc.{rc_str_bytes}
 use Rattle.cedar_expressions.specs.View.{view, fields_view}
-use Rattle.cedar_names.specs.Leaves.{unary_view, binary_view}
 use Rattle.cedar_layers.specs.Policies.{slots_view}
 use Rattle.cedar_writing.specs.Names.{key_text}
-use Rattle.cedar_writing.specs.Texts.{written, written_part}
+use Rattle.cedar_writing.specs.Texts.{written_part}
 use Rattle.cedar_expressions.proofs.Levels.{kind_view-Lit, kind_view-Var, kind_view-Slot, kind_view-Unknown, kind_view-And, kind_view-Or, kind_view-UnaryApp, kind_view-ExtensionFunctionApp, kind_view-GetAttr, kind_view-HasAttr, kind_view-ExtHasAttr, kind_view-Like, kind_view-Is, kind_view-Set, kind_view-Record}
 use Rattle.cedar_expressions.proofs.Loops.{terms_view-drop}
 use Rattle.cedar_writing.proofs.Loops.{parts_left, fields_left}

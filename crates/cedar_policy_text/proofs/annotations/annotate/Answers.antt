@@ -1,0 +1,12 @@
+use Rattle.std.proofs.Common.{sym, ◌∙◌}
+use Rattle.cedar_policy_text.proofs.Read.{one_annotated}
+use Rattle.cedar_policy_text.proofs.annotations.annotate.Goals as goal
+
+pub returns : goal.returns
+returns c =
+    record {
+      ok = λ xs h.
+          one_annotated c.args.annotation c.in_ok-key.key c.in_ok-value.value c.in_ok-token.ensures.is
+          (c.in_ok-key.ensures.ok ∙ c.word.ensures) (sym c.contains_key.ensures ∙ c.if-contains_key.false)
+          c.in_ok-value.ensures.ok c.in_ok-insert.ensures.entries h;
+    }

@@ -1,0 +1,40 @@
+use Rattle.cedar_text.specs.Paths.{IsPathRefused, at_place, at_escape, name_read}
+use Rattle.cedar_text.specs.Reading.{IsWithin}
+use Rattle.cedar_text.proofs.Places.{passed_up, placed_within, refused_within}
+use Rattle.cedar_text.proofs.paths.name_of.Goals as goal
+
+pub returns-in_err-end-clause-err : goal.returns-in_err-end-clause-err
+returns-in_err-end-clause-err c =
+    passed_up c.from_residual.result _ (IsPathRefused c.args.text.now) c.from_residual.ensures.1
+    (at_place c.requires.tokens c.in_err-end.ensures.err)
+
+pub returns-in_err-end-clause-placed : goal.returns-in_err-end-clause-placed
+returns-in_err-end-clause-placed c =
+    passed_up c.from_residual.result _ (IsWithin c.args.text.now) c.from_residual.ensures.1
+    (placed_within c.args.text.now c.args.tokens.now c.requires.stand _ c.in_err-end.ensures.err)
+
+pub returns-in_err-stands_there-clause-err : goal.returns-in_err-stands_there-clause-err
+returns-in_err-stands_there-clause-err c =
+    passed_up c.from_residual-in_err-stands_there.result _ (IsPathRefused c.args.text.now)
+    c.from_residual-in_err-stands_there.ensures.1
+    (at_place c.requires.tokens c.in_err-stands_there.ensures.err)
+
+pub returns-in_err-stands_there-clause-placed : goal.returns-in_err-stands_there-clause-placed
+returns-in_err-stands_there-clause-placed c =
+    passed_up c.from_residual-in_err-stands_there.result _ (IsWithin c.args.text.now)
+    c.from_residual-in_err-stands_there.ensures.1
+    (placed_within c.args.text.now c.args.tokens.now c.requires.stand _ c.in_err-stands_there.ensures.err)
+
+pub returns-in_err-name-clause-err : goal.returns-in_err-name-clause-err
+returns-in_err-name-clause-err c =
+    passed_up c.from_residual-in_err-name.result _ (IsPathRefused c.args.text.now) c.from_residual-in_err-name.ensures.1
+    (at_escape c.requires.tokens c.in_err-name.ensures.err)
+
+pub returns-in_err-name-clause-placed : goal.returns-in_err-name-clause-placed
+returns-in_err-name-clause-placed c =
+    passed_up c.from_residual-in_err-name.result _ (IsWithin c.args.text.now) c.from_residual-in_err-name.ensures.1
+    (refused_within c.args.text.now c.args.tokens.now c.requires.stand _ c.in_err-name.ensures.err)
+
+pub returns-clause-ok : goal.returns-clause-ok
+returns-clause-ok c =
+    name_read c.requires.tokens c.in_ok-end.ensures.ok c.in_ok-stands_there.ensures.ok c.in_ok-name.ensures.ok

@@ -1,0 +1,196 @@
+//! What is asked of texts.
+//!
+//! - `tree`: the expression as a tree, or why there is none: `LINE:COLUMN expected .., found ..`;
+//! - `places`: where its nodes stand;
+//! - `within LIMIT`: the tree within so many levels, or where what has more stands: `LINE:COLUMN too deep`;
+//! - `levels`: the least limit within which it is read;
+//! - `entity`: the entity, as a tree, and `name`: the name;
+//! - `policies`: the policies and templates, or why each policy that can't be read can't;
+//! - `policy-places`: where they stand, and where the nodes of their three constraints and their condition do;
+//! - `policy`: the only policy.
+use crate::answer::Answer;
+use crate::places::put_places;
+use crate::policies::{put_policies, put_policy};
+use crate::trees::{put_entity, put_tree};
+use cedar_expressions::Expr;
+use cedar_layers::policies::PolicyID;
+use cedar_names::FirstRest;
+use cedar_policy_text::{parse_policies, parse_policy};
+use cedar_text::{parse_entity_uid, parse_expr, parse_name};
+use cedar_tokens::errors::{Expected, ReadError};
+use cedar_tokens::show::locate;
+use cedar_tokens::tokens::Kind;
+use std::rc::RcStr;
+
+/// More levels than any text of a row has.
+const MANY: usize = 1000;
+
+/// Answers the question on the text.
+pub fn ask(answer: &mut Answer, question: &str, text: &str) {
+    match question {
+        "tree" => ask_expression(answer, Shown::Tree, MANY, text),
+        "places" => ask_expression(answer, Shown::Places, MANY, text),
+        "levels" => ask_levels(answer, text),
+        "entity" => ask_entity(answer, text),
+        "name" => ask_name(answer, text),
+        "policies" => ask_policies(answer, Shown::Tree, text),
+        "policy-places" => ask_policies(answer, Shown::Places, text),
+        "policy" => ask_policy(answer, text),
+        _ => ask_within(answer, question, text),
+    }
+}
+
+fn ask_within(answer: &mut Answer, question: &str, text: &str) {
+    match question.strip_prefix("within ") {
+        Some(limit) => match limit.parse::<usize>() {
+            Ok(limit) => ask_expression(answer, Shown::Tree, limit, text),
+            Err(_) => answer.refuse("a limit is a number"),
+        },
+        None => answer.refuse("no such question"),
+    }
+}
+
+/// What of an expression or a policy is shown.
+#[derive(Clone, Copy)]
+pub enum Shown {
+    /// The tree.
+    Tree,
+    /// Where the nodes stand.
+    Places,
+}
+
+fn ask_expression(answer: &mut Answer, shown: Shown, limit: usize, text: &str) {
+    match parse_expr(answer.alloc, text, limit) {
+        Ok(expr) => {
+            put_shown(answer, shown, &expr);
+            drop(expr);
+        }
+        Err(error) => put_error(answer, text, error),
+    }
+}
+
+/// Writes what of the expression is shown.
+pub fn put_shown(answer: &mut Answer, shown: Shown, expr: &Expr) {
+    match shown {
+        Shown::Tree => put_tree(answer, expr),
+        Shown::Places => put_places(answer, expr),
+    }
+}
+
+// The least limit within which the text is read.
+fn ask_levels(answer: &mut Answer, text: &str) {
+    for limit in 0..MANY {
+        match parse_expr(answer.alloc, text, limit) {
+            Ok(expr) => {
+                drop(expr);
+                answer.show(&limit);
+                return;
+            }
+            Err(error) => if !is_too_deep(error) {
+                put_error(answer, text, error);
+                return;
+            },
+        }
+    }
+    answer.refuse("it has too many levels");
+}
+
+fn ask_entity(answer: &mut Answer, text: &str) {
+    match parse_entity_uid(answer.alloc, text) {
+        Ok(uid) => {
+            put_entity(answer, &uid);
+            drop(uid);
+        }
+        Err(error) => put_error(answer, text, error),
+    }
+}
+
+fn ask_policies(answer: &mut Answer, shown: Shown, text: &str) {
+    match parse_policies(answer.alloc, text, MANY) {
+        Ok(parsed) => {
+            put_policies(answer, shown, &parsed.policies, parsed.templates.as_slice());
+            drop(parsed);
+        }
+        Err(errors) => {
+            put_errors(answer, text, &errors);
+            drop(errors);
+        }
+    }
+}
+
+fn put_errors(answer: &mut Answer, text: &str, errors: &FirstRest<ReadError>) {
+    answer.next();
+    put_error(answer, text, errors.first);
+    'errors: for error in &errors.rest {
+        answer.next();
+        put_error(answer, text, *error);
+    }
+}
+
+fn ask_policy(answer: &mut Answer, text: &str) {
+    match RcStr::from_str(answer.alloc, "policy") {
+        Ok(id) => put_policy_of(answer, PolicyID::from_string(id), text),
+        Err(_) => answer.lack_memory(),
+    }
+}
+
+fn put_policy_of(answer: &mut Answer, id: PolicyID, text: &str) {
+    match parse_policy(answer.alloc, id, text, MANY) {
+        Ok(policy) => {
+            put_policy(answer, Shown::Tree, &policy);
+            drop(policy);
+        }
+        Err(error) => put_error(answer, text, error),
+    }
+}
+
+fn ask_name(answer: &mut Answer, text: &str) {
+    match parse_name(answer.alloc, text) {
+        Ok(name) => {
+            answer.show(&name);
+            drop(name);
+        }
+        Err(error) => put_error(answer, text, error),
+    }
+}
+
+fn is_too_deep(error: ReadError) -> bool {
+    match error {
+        ReadError::Memory => false,
+        ReadError::Expected { .. } => false,
+        ReadError::TooDeep { .. } => true,
+    }
+}
+
+/// Writes why the text can't be read, and where: `LINE:COLUMN expected .., found ..`. Want of memory is no answer.
+pub fn put_error(answer: &mut Answer, text: &str, error: ReadError) {
+    match error {
+        ReadError::Memory => answer.lack_memory(),
+        ReadError::Expected {
+            what,
+            found,
+            start,
+            end: _,
+        } => put_expected(answer, text, what, found, start),
+        ReadError::TooDeep { start, end: _ } => {
+            put_position(answer, text, start);
+            answer.put(" too deep");
+        }
+    }
+}
+
+fn put_expected(answer: &mut Answer, text: &str, what: Expected, found: Kind, start: usize) {
+    put_position(answer, text, start);
+    answer.put(" expected ");
+    answer.show(&what);
+    answer.put(", found ");
+    answer.show(&found);
+}
+
+// `LINE:COLUMN`, both counted from 1.
+fn put_position(answer: &mut Answer, text: &str, start: usize) {
+    let position = locate(text, start.min(text.len()));
+    answer.show(&position.line);
+    answer.put(":");
+    answer.show(&position.column);
+}
