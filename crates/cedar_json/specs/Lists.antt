@@ -8,7 +8,12 @@ use Rattle.json.specs.Find.{as_str}
 use Rattle.cedar_model.specs.Terms.{Text, Term}
 use Rattle.cedar_restricted_expressions.specs.declared.restricted_expr.RestrictedExpr.{RestrictedExpr}
 use Rattle.cedar_restricted_expressions.specs.Views.{restricted_term}
-use Rattle.cedar_json.specs.Refusals.{Said}
+use Rattle.cedar_expressions.specs.declared.errors.ExpressionConstructionError.{ExpressionConstructionError}
+use Rattle.cedar_expressions.specs.declared.errors.ExpressionConstructionError.TheVariants as constructions
+use Rattle.cedar_json.specs.declared.errors.JsonError.{JsonError}
+use Rattle.cedar_json.specs.declared.errors.RefusalReason.TheVariants as reasons
+use Rattle.cedar_json.specs.Paths.{at_key}
+use Rattle.cedar_json.specs.Refusals.{Said, made_of, IsRefusedAt, IsMemory}
 use Rattle.cedar_json.specs.Said.{said, said_list, arguments_said, called_said}
 use Rattle.cedar_json.specs.Shapes.{Parts}
 
@@ -20,11 +25,16 @@ abbrev pub pairs_said : List (RcStr Global × RestrictedExpr) → List (Text × 
 pairs_said = map pair_said
 
 -- the new list has one more at its end, which is what was said
-abbrev pub IsOneMore : {R T : Type 0} → (R → T) → Said T → List R → List R → Type 0
-IsOneMore view s old new = (last : _) × (new ≡ old ++ last ∷ []) × (s ≡ Ok (view last))
+abbrev pub IsOneMore : {T : Type 0} → List T → Said T → List T → Type 0
+IsOneMore old s new = made_of (λ t. old ++ t ∷ []) s ≡ Ok new
 
 abbrev pub arguments_of : Text → Json → Said (List Term)
 arguments_of k j = arguments_said k (said j) (said_list j)
 
 abbrev pub shape_said : Parts → Said Term
 shape_said p = called_said (as_str p.function) (arguments_of p.key p.argument)
+
+-- the key comes again, or memory was wanting
+abbrev pub IsUnrecorded : ExpressionConstructionError → JsonError → Type 0
+IsUnrecorded (constructions.DuplicateKey key context) e = IsRefusedAt (at_key (rc_str_bytes key) ∷ []) reasons.RepeatedKey e
+IsUnrecorded (constructions.Memory error) e = IsMemory e

@@ -3,6 +3,9 @@ use Rattle.std.specs.Prelude.{ℕ, ℤ, Bool, List, ◌&&◌, if◌then◌else�
 use Rattle.std.specs.List.{list_all}
 use Rattle.std.specs.Char.{digit_value}
 use Rattle.std.specs.Str.Parse.{without_leading_sign, signed_digits_value}
+use Rattle.std.specs.Option.{option_and_then}
+use Rattle.json.specs.Json.{Json}
+use Rattle.json.specs.Find.{as_number}
 use Rattle.cedar_model.specs.Terms.{Text}
 use Rattle.cedar_model.specs.Outcomes.{is_long}
 
@@ -20,3 +23,7 @@ is_long_text t = are_digits (without_leading_sign t) && is_long (signed_digits_v
 -- the long that the text writes
 abbrev pub long_of_text : Text → Option ℤ
 long_of_text t = if is_long_text t then Some (signed_digits_value 10 t) else None
+
+-- the long that a number writes
+abbrev pub long_in : Json → Option ℤ
+long_in j = option_and_then long_of_text (as_number j)

@@ -97,15 +97,15 @@ record_said ps = and_then record_of_pairs ps
 
 -- what a key that stands alone makes of its value: an entity, a call, or a record like any other
 abbrev pub sole_said : Text → Said Term → Said Term → Said Term → Said Term
-sole_said k entity called record =
-    if bytes_eq k (codes "__entity") then entity else (
-    if bytes_eq k (codes "__extn") then under (at_key (codes "__extn")) called else
-    record)
+sole_said k of_entity of_call of_record =
+    if bytes_eq k (codes "__entity") then of_entity else (
+    if bytes_eq k (codes "__extn") then under (at_key (codes "__extn")) of_call else
+    of_record)
 
 abbrev pub object_said : Members → Said Term → Said Term → Said Term
-object_said no_members called record = record
-object_said (member k j no_members) called record = sole_said k (entity_said j) called record
-object_said (member k j (member l i ms)) called record = record
+object_said no_members of_call of_record = of_record
+object_said (member k j no_members) of_call of_record = sole_said k (entity_said j) of_call of_record
+object_said (member k j (member l i ms)) of_call of_record = of_record
 
 -- ---- all values
 

@@ -9,7 +9,7 @@ use json::Value;
 use std::alloc::Global;
 
 /// The context of the members of an object, evaluated with these extensions at most `limit` levels deep.
-pub fn context_from_json_value(
+pub(crate) fn context_from_json_value(
     alloc: Global,
     value: &Value<'_>,
     extensions: &Extensions<'_>,

@@ -23,45 +23,40 @@ pub struct StatedEntity {
     pub tags: Vec<(RcStr, RestrictedExpr)>,
 }
 
-// Which members an entity has.
-#[derive(Clone, Copy)]
-struct EntityShape<'v, 'a> {
-    uid: Option<&'v Value<'a>>,
-    attrs: Option<&'v Value<'a>>,
-    parents: Option<&'v Value<'a>>,
-    tags: Option<&'v Value<'a>>,
-}
-
 /// The entities of an array, in order.
-pub fn stated_entities_from_json_value(
+pub(crate) fn stated_entities_from_json_value(
     alloc: Global,
     value: &Value<'_>,
 ) -> Result<Vec<StatedEntity>, JsonError> {
     match array(value) {
-        Some(items) => {
-            let mut entities: Vec<StatedEntity> = Vec::new(alloc);
-            match read_entities(alloc, items, &mut entities) {
-                Ok(()) => Ok(entities),
-                Err(error) => {
-                    drop(entities);
-                    Err(error)
-                }
-            }
-        }
+        Some(items) => read_entities(alloc, items),
         None => Err(JsonError::refusal(alloc, RefusalReason::NotAnArray)),
     }
 }
 
-fn read_entities(
+fn read_entities(alloc: Global, items: &Vec<Value<'_>>) -> Result<Vec<StatedEntity>, JsonError> {
+    let mut entities: Vec<StatedEntity> = Vec::new(alloc);
+    let mut seen: HashSet<EntityUID> = HashSet::new(alloc);
+    match put_entities(alloc, items, &mut seen, &mut entities) {
+        Ok(()) => Ok(entities),
+        Err(error) => {
+            drop(entities);
+            Err(error)
+        }
+    }
+}
+
+// Puts the entities behind those that are there.
+fn put_entities(
     alloc: Global,
     items: &Vec<Value<'_>>,
+    seen: &mut HashSet<EntityUID>,
     entities: &mut Vec<StatedEntity>,
 ) -> Result<(), JsonError> {
-    let mut seen: HashSet<EntityUID> = HashSet::new(alloc);
     let mut index: usize = 0;
     'items: for item in items {
         match read_entity(alloc, item) {
-            Ok(entity) => put_entity(alloc, entity, index, &mut seen, entities)?,
+            Ok(entity) => put_entity(alloc, entity, index, seen, entities)?,
             Err(error) => return Err(error.under_index(index)),
         }
         index += 1;
@@ -104,82 +99,106 @@ fn is_new(seen: &mut HashSet<EntityUID>, uid: &EntityUID) -> Result<bool, JsonEr
 }
 
 fn read_entity(alloc: Global, value: &Value<'_>) -> Result<StatedEntity, JsonError> {
-    let shape = entity_shape(alloc, value)?;
-    let (uid, attrs, parents) = (
-        present(alloc, shape.uid, "uid")?,
-        present(alloc, shape.attrs, "attrs")?,
-        present(alloc, shape.parents, "parents")?,
-    );
-    let uid = uid_at(alloc, uid, "uid")?;
-    let attrs = pairs_at(alloc, attrs, "attrs")?;
-    let parents = uids_at(alloc, parents, "parents")?;
-    let tags = match shape.tags {
-        Some(tags) => pairs_at(alloc, tags, "tags")?,
-        None => Vec::new(alloc),
-    };
-    Ok(StatedEntity {
-        uid,
-        attrs,
-        parents,
-        tags,
-    })
-}
-
-fn entity_shape<'v, 'a>(
-    alloc: Global,
-    value: &'v Value<'a>,
-) -> Result<EntityShape<'v, 'a>, JsonError> {
     match object(value) {
-        Some(members) => shape_of(alloc, members),
+        Some(members) => match unexpected(members) {
+            Some(key) => Err(no_member(alloc, key)),
+            None => with_uid(alloc, value),
+        },
         None => Err(JsonError::refusal(alloc, RefusalReason::NotAnObject)),
     }
 }
 
-fn shape_of<'v, 'a>(
-    alloc: Global,
-    members: &'v Vec<(&'a str, Value<'a>)>,
-) -> Result<EntityShape<'v, 'a>, JsonError> {
-    let mut shape = EntityShape {
-        uid: None,
-        attrs: None,
-        parents: None,
-        tags: None,
-    };
-    'members: for member in members {
-        let value = Some(&member.1);
-        match member.0 {
-            "uid" => shape.uid = value,
-            "attrs" => shape.attrs = value,
-            "parents" => shape.parents = value,
-            "tags" => shape.tags = value,
-            _ => return Err(unexpected(alloc, member.0)),
-        }
+fn with_uid(alloc: Global, value: &Value<'_>) -> Result<StatedEntity, JsonError> {
+    match uid_at(alloc, value, "uid") {
+        Ok(uid) => with_attrs(alloc, value, uid),
+        Err(error) => Err(error),
     }
-    Ok(shape)
 }
 
+fn with_attrs(
+    alloc: Global,
+    value: &Value<'_>,
+    uid: EntityUID,
+) -> Result<StatedEntity, JsonError> {
+    match attrs_at(alloc, value) {
+        Ok(attrs) => with_parents(alloc, value, uid, attrs),
+        Err(error) => {
+            drop(uid);
+            Err(error)
+        }
+    }
+}
+
+fn with_parents(
+    alloc: Global,
+    value: &Value<'_>,
+    uid: EntityUID,
+    attrs: Vec<(RcStr, RestrictedExpr)>,
+) -> Result<StatedEntity, JsonError> {
+    match parents_at(alloc, value) {
+        Ok(parents) => with_tags(alloc, value, uid, attrs, parents),
+        Err(error) => {
+            drop((uid, attrs));
+            Err(error)
+        }
+    }
+}
+
+fn with_tags(
+    alloc: Global,
+    value: &Value<'_>,
+    uid: EntityUID,
+    attrs: Vec<(RcStr, RestrictedExpr)>,
+    parents: Vec<EntityUID>,
+) -> Result<StatedEntity, JsonError> {
+    match tags_at(alloc, value) {
+        Ok(tags) => Ok(StatedEntity {
+            uid,
+            attrs,
+            parents,
+            tags,
+        }),
+        Err(error) => {
+            drop((uid, attrs, parents));
+            Err(error)
+        }
+    }
+}
+
+// The first key that is none of an entity's.
+fn unexpected<'v, 'a>(members: &'v Vec<(&'a str, Value<'a>)>) -> Option<&'v str> {
+    'members: for member in members {
+        if !is_entity_key(member.0) {
+            return Some(member.0);
+        }
+    }
+    None
+}
+
+fn is_entity_key(key: &str) -> bool {
+    key == "uid" || key == "attrs" || key == "parents" || key == "tags"
+}
+
+/// The refusal of a member that is unexpected.
 #[cold]
-pub(crate) fn unexpected(alloc: Global, key: &str) -> JsonError {
+pub(crate) fn no_member(alloc: Global, key: &str) -> JsonError {
     JsonError::refusal(alloc, RefusalReason::UnexpectedMember).under_key(alloc, key)
 }
 
-/// The member at this key, which must be there.
-pub(crate) fn present<'v, 'a>(
-    alloc: Global,
-    member: Option<&'v Value<'a>>,
-    key: &str,
-) -> Result<&'v Value<'a>, JsonError> {
-    match member {
-        Some(value) => Ok(value),
-        None => Err(JsonError::refusal(alloc, RefusalReason::MissingMember).under_key(alloc, key)),
-    }
+/// The refusal of an object that lacks the member of this key.
+#[cold]
+pub(crate) fn missing(alloc: Global, key: &str) -> JsonError {
+    JsonError::refusal(alloc, RefusalReason::MissingMember).under_key(alloc, key)
 }
 
-/// The entity that stands at this key.
+/// The entity that stands at this key of the object.
 pub(crate) fn uid_at(alloc: Global, value: &Value<'_>, key: &str) -> Result<EntityUID, JsonError> {
-    match plain_uid(alloc, value) {
-        Ok(uid) => Ok(uid),
-        Err(error) => Err(error.under_key(alloc, key)),
+    match value.get(key) {
+        Some(member) => match plain_uid(alloc, member) {
+            Ok(uid) => Ok(uid),
+            Err(error) => Err(error.under_key(alloc, key)),
+        },
+        None => Err(missing(alloc, key)),
     }
 }
 
@@ -205,10 +224,61 @@ fn escaped<'v, 'a>(value: &'v Value<'a>) -> Option<&'v Value<'a>> {
     }
 }
 
-fn uids_at(alloc: Global, value: &Value<'_>, key: &str) -> Result<Vec<EntityUID>, JsonError> {
-    match uids(alloc, value) {
-        Ok(uids) => Ok(uids),
-        Err(error) => Err(error.under_key(alloc, key)),
+fn attrs_at(
+    alloc: Global,
+    value: &Value<'_>,
+) -> Result<Vec<(RcStr, RestrictedExpr)>, JsonError> {
+    match value.get("attrs") {
+        Some(member) => pairs_under(alloc, member, "attrs"),
+        None => Err(missing(alloc, "attrs")),
+    }
+}
+
+fn tags_at(alloc: Global, value: &Value<'_>) -> Result<Vec<(RcStr, RestrictedExpr)>, JsonError> {
+    match value.get("tags") {
+        Some(member) => pairs_under(alloc, member, "tags"),
+        None => Ok(Vec::new(alloc)),
+    }
+}
+
+// The attributes or tags of the object, which stands at this key.
+fn pairs_under(
+    alloc: Global,
+    value: &Value<'_>,
+    key: &str,
+) -> Result<Vec<(RcStr, RestrictedExpr)>, JsonError> {
+    match object(value) {
+        Some(members) => match pairs(alloc, members) {
+            Ok(pairs) => Ok(pairs),
+            Err(error) => Err(error.under_key(alloc, key)),
+        },
+        None => {
+            Err(JsonError::refusal(alloc, RefusalReason::NotAnObject).under_key(alloc, key))
+        }
+    }
+}
+
+fn pairs<'a>(
+    alloc: Global,
+    members: &Vec<(&'a str, Value<'a>)>,
+) -> Result<Vec<(RcStr, RestrictedExpr)>, JsonError> {
+    let mut pairs: Vec<(RcStr, RestrictedExpr)> = Vec::new(alloc);
+    match read_members(alloc, members, &mut pairs) {
+        Ok(()) => Ok(pairs),
+        Err(error) => {
+            drop(pairs);
+            Err(error)
+        }
+    }
+}
+
+fn parents_at(alloc: Global, value: &Value<'_>) -> Result<Vec<EntityUID>, JsonError> {
+    match value.get("parents") {
+        Some(member) => match uids(alloc, member) {
+            Ok(uids) => Ok(uids),
+            Err(error) => Err(error.under_key(alloc, "parents")),
+        },
+        None => Err(missing(alloc, "parents")),
     }
 }
 
@@ -221,6 +291,20 @@ fn uids(alloc: Global, value: &Value<'_>) -> Result<Vec<EntityUID>, JsonError> {
 
 fn read_uids(alloc: Global, items: &Vec<Value<'_>>) -> Result<Vec<EntityUID>, JsonError> {
     let mut uids: Vec<EntityUID> = Vec::new(alloc);
+    match put_uids(alloc, items, &mut uids) {
+        Ok(()) => Ok(uids),
+        Err(error) => {
+            drop(uids);
+            Err(error)
+        }
+    }
+}
+
+fn put_uids(
+    alloc: Global,
+    items: &Vec<Value<'_>>,
+    uids: &mut Vec<EntityUID>,
+) -> Result<(), JsonError> {
     let mut index: usize = 0;
     'items: for item in items {
         match plain_uid(alloc, item) {
@@ -229,32 +313,5 @@ fn read_uids(alloc: Global, items: &Vec<Value<'_>>) -> Result<Vec<EntityUID>, Js
         }
         index += 1;
     }
-    Ok(uids)
-}
-
-fn pairs_at(
-    alloc: Global,
-    value: &Value<'_>,
-    key: &str,
-) -> Result<Vec<(RcStr, RestrictedExpr)>, JsonError> {
-    match pairs(alloc, value) {
-        Ok(pairs) => Ok(pairs),
-        Err(error) => Err(error.under_key(alloc, key)),
-    }
-}
-
-fn pairs(alloc: Global, value: &Value<'_>) -> Result<Vec<(RcStr, RestrictedExpr)>, JsonError> {
-    match object(value) {
-        Some(members) => {
-            let mut pairs: Vec<(RcStr, RestrictedExpr)> = Vec::new(alloc);
-            match read_members(alloc, members, &mut pairs) {
-                Ok(()) => Ok(pairs),
-                Err(error) => {
-                    drop(pairs);
-                    Err(error)
-                }
-            }
-        }
-        None => Err(JsonError::refusal(alloc, RefusalReason::NotAnObject)),
-    }
+    Ok(())
 }

@@ -1,4 +1,16 @@
 //! Cedar's JSON: values, contexts, entities and requests.
+//!
+//! - A value: `true`, `false`, an integer of 64 bits, a string; an array is a set, an object a record;
+//!   `{"__entity": {"type": "A::B", "id": "x"}}` is an entity, `{"__extn": {"fn": "ip", "arg": "10.0.0.1"}}` a call of an
+//!   extension function, with `"args": [..]` for more or fewer arguments than one, and
+//!   `{"__extn": {"fn": "unknown", "arg": "x"}}` the unknown of that name.
+//! - A context: an object of values.
+//! - Entities: an array of objects, each with a `uid`, `attrs`, `parents` and, if need be, `tags`. A uid is
+//!   `{"type": .., "id": ..}` or that at `__entity`.
+//! - A request: an object with a `principal`, an `action`, a `resource` and a `context`.
+//!
+//! What is no such thing is refused, with the path of the part that is at fault. A text may nest at most 128 levels deep, and no
+//! object of it may have a key twice.
 #![tactic(auto)]
 
 mod contexts;
@@ -10,19 +22,15 @@ mod names;
 mod paths;
 mod requests;
 mod shapes;
-#[cfg(test)]
-mod tests;
 mod texts;
 mod values;
 
-pub use contexts::context_from_json_value;
-pub use entities::{StatedEntity, stated_entities_from_json_value};
+pub use entities::StatedEntity;
 pub use errors::{JsonError, RefusalReason};
 pub use evaluation::evaluated_entities;
 pub use paths::{JsonPath, PathStep};
-pub use requests::request_from_json_value;
 pub use texts::{
-    context_from_json_str, request_from_json_str, restricted_expr_from_json_str,
-    stated_entities_from_json_str,
+    context_from_json_str, entities_from_json_str, request_from_json_str,
+    restricted_expr_from_json_str, stated_entities_from_json_str,
 };
 pub use values::restricted_expr_from_json_value;

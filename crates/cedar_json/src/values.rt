@@ -1,17 +1,18 @@
-#![tactic(auto, using(crate::proofs::Views::views))]
+#![tactic(auto, using(crate::proofs::Views::views, crate::proofs::Refused::refusals, crate::proofs::Reading::reading))]
 //! Values.
-ghost use Rattle.std.specs.Prelude.{◌≡◌, [], Ok, map, codes, IsSome, OnOk, IfOk, IfErr};
+ghost use Rattle.std.specs.Prelude.{◌≡◌, [], ◌∷◌, ◌++◌, Ok, map, codes, OnOk, IfOk, IfErr};
 ghost use Rattle.std.specs.Rc.{rc_str_bytes};
 ghost use Rattle.json.specs.Value.{value_view, items_view, members_view};
 ghost use Rattle.cedar_restricted_expressions.specs.Views.{restricted_term};
 ghost use Rattle.json.specs.Json.{object};
-ghost use Rattle.json.specs.Find.{as_number};
+ghost use Rattle.cedar_json.specs.Numbers.{long_in};
 ghost use Rattle.cedar_model.specs.Terms.{literal, text_literal};
-ghost use Rattle.cedar_json.specs.Refusals.{IsRefusal, IsMemory, under, made_of, and_then};
+ghost use Rattle.cedar_json.specs.Refusals.{IsRefusal, IsRefusedAt, IsMemory, under, made_of, and_then};
 ghost use Rattle.cedar_json.specs.Paths.{at_key, at_index};
-ghost use Rattle.cedar_json.specs.Shapes as shape;
+ghost use Rattle.cedar_json.specs.Shapes as shapes;
 ghost use Rattle.cedar_json.specs.Said as says;
-ghost use Rattle.cedar_json.specs.Lists.{pair_said, pairs_said, IsOneMore, arguments_of, shape_said};
+ghost use Rattle.cedar_json.specs.declared.errors.RefusalReason.TheVariants as reasons;
+ghost use Rattle.cedar_json.specs.Lists.{pairs_said, IsOneMore, IsUnrecorded, arguments_of, shape_said};
 
 use crate::errors::{JsonError, RefusalReason};
 use crate::escapes::{called, entity, is_reserved};
@@ -44,14 +45,22 @@ pub fn restricted_expr_from_json_value(
 }
 
 fn read_long(alloc: Global, number: &Value<'_>) -> Result<RestrictedExpr, JsonError>
-    requires { IsSome (as_number (value_view number.now)) }
-    ensures said { IfOk result (λ r. says.said (value_view number.now) ≡ Ok (restricted_term r)) }
-    ensures refused { IfErr result (IsRefusal (says.said (value_view number.now))) }
+    ensures said { IfOk result
+        (λ r. says.long_said (long_in (value_view number.now)) ≡ Ok (restricted_term r)) }
+    ensures refused { IfErr result (IsRefusal (says.long_said (long_in (value_view number.now)))) }
 {
-    match number.as_i64() {
+    match long_in(number) {
         Some(long) => Ok(RestrictedExpr::val(Literal::Long(long))),
         None => Err(JsonError::refusal(alloc, RefusalReason::NotALong)),
     }
+}
+
+// The long that a number writes.
+#[tactic(auto, using(crate::proofs::Longs::long_parsed))]
+fn long_in(number: &Value<'_>) -> Option<i64>
+    ensures { result ≡ long_in (value_view number.now) }
+{
+    number.as_i64()
 }
 
 fn read_text(alloc: Global, text: &str) -> Result<RestrictedExpr, JsonError>
@@ -108,21 +117,18 @@ fn read_item(
     index: usize,
     elements: &mut Vec<RestrictedExpr>,
 ) -> Result<(), JsonError>
-    ensures said { OnOk result (IsOneMore restricted_term (under (at_index index) (says.said (value_view item.now)))
-        elements.old.items elements.new.items) }
+    ensures said { OnOk result (IsOneMore (map restricted_term elements.old.items)
+        (under (at_index index) (says.said (value_view item.now))) (map restricted_term elements.new.items)) }
     ensures refused { IfErr result (IsRefusal (under (at_index index) (says.said (value_view item.now)))) }
 {
     match restricted_expr_from_json_value(alloc, item) {
-        Ok(element) => match elements.push(element) {
-            Ok(()) => Ok(()),
-            Err(failed) => Err(JsonError::from(failed)),
-        },
+        Ok(element) => put(element, elements),
         Err(error) => Err(error.under_index(index)),
     }
 }
 
 #[cycle(values)]
-fn read_object(alloc: Global, members: &Vec<(&str, Value<'_>)>) -> Result<RestrictedExpr, JsonError>
+fn read_object<'a>(alloc: Global, members: &Vec<(&'a str, Value<'a>)>) -> Result<RestrictedExpr, JsonError>
     ensures said { IfOk result (λ r. says.said (object (members_view members.now.items)) ≡ Ok (restricted_term r)) }
     ensures refused { IfErr result (IsRefusal (says.said (object (members_view members.now.items)))) }
 {
@@ -139,9 +145,9 @@ fn read_object(alloc: Global, members: &Vec<(&str, Value<'_>)>) -> Result<Restri
 }
 
 #[cycle(values)]
-pub(crate) fn read_record(
+pub(crate) fn read_record<'a>(
     alloc: Global,
-    members: &Vec<(&str, Value<'_>)>,
+    members: &Vec<(&'a str, Value<'a>)>,
 ) -> Result<RestrictedExpr, JsonError>
     ensures said { IfOk result (λ r. says.record_said (says.said_members (members_view members.now.items)) ≡ Ok (restricted_term r)) }
     ensures refused { IfErr result (IsRefusal (says.record_said (says.said_members (members_view members.now.items)))) }
@@ -162,19 +168,46 @@ fn record(alloc: Global, pairs: Vec<(RcStr, RestrictedExpr)>) -> Result<Restrict
 {
     match RestrictedExpr::record(alloc, pairs) {
         Ok(record) => Ok(record),
-        Err(ExpressionConstructionError::DuplicateKey { key, context: _ }) => {
-            let error = JsonError::refusal(alloc, RefusalReason::RepeatedKey);
-            Err(error.under_key(alloc, key.as_str()))
+        Err(error) => Err(unrecorded(alloc, error)),
+    }
+}
+
+// Why there is no record of these pairs.
+#[cold]
+fn unrecorded(alloc: Global, error: ExpressionConstructionError) -> JsonError
+    ensures { IsUnrecorded error result }
+{
+    match error {
+        ExpressionConstructionError::DuplicateKey { key, context: _ } => {
+            repeated(alloc, key.as_str())
         }
-        Err(ExpressionConstructionError::Memory(error)) => Err(JsonError::Memory(error)),
+        ExpressionConstructionError::Memory(error) => JsonError::Memory(error),
+    }
+}
+
+fn repeated(alloc: Global, key: &str) -> JsonError
+    ensures { IsRefusedAt (at_key key.now ∷ []) reasons.RepeatedKey result }
+{
+    JsonError::refusal(alloc, RefusalReason::RepeatedKey).under_key(alloc, key)
+}
+
+// Puts the expression behind those that are there.
+fn put(expr: RestrictedExpr, elements: &mut Vec<RestrictedExpr>) -> Result<(), JsonError>
+    ensures said { OnOk result (map restricted_term elements.new.items ≡
+        map restricted_term elements.old.items ++ restricted_term expr ∷ []) }
+    ensures memory { IfErr result IsMemory }
+{
+    match elements.push(expr) {
+        Ok(()) => Ok(()),
+        Err(failed) => Err(JsonError::from(failed)),
     }
 }
 
 // Puts the expressions of the members behind those that are there, under their keys.
 #[cycle(values)]
-pub(crate) fn read_members(
+pub(crate) fn read_members<'a>(
     alloc: Global,
-    members: &Vec<(&str, Value<'_>)>,
+    members: &Vec<(&'a str, Value<'a>)>,
     pairs: &mut Vec<(RcStr, RestrictedExpr)>,
 ) -> Result<(), JsonError>
     requires { pairs.old.items ≡ [] }
@@ -194,8 +227,8 @@ fn read_member(
     value: &Value<'_>,
     pairs: &mut Vec<(RcStr, RestrictedExpr)>,
 ) -> Result<(), JsonError>
-    ensures said { OnOk result (IsOneMore pair_said (says.member_said key.now (says.said (value_view value.now)))
-        pairs.old.items pairs.new.items) }
+    ensures said { OnOk result (IsOneMore (pairs_said pairs.old.items)
+        (says.member_said key.now (says.said (value_view value.now))) (pairs_said pairs.new.items)) }
     ensures refused { IfErr result (IsRefusal (says.member_said key.now (says.said (value_view value.now)))) }
 {
     if is_reserved(key) {
@@ -214,7 +247,8 @@ fn put_pair(
     expr: RestrictedExpr,
     pairs: &mut Vec<(RcStr, RestrictedExpr)>,
 ) -> Result<(), JsonError>
-    ensures said { OnOk result (IsOneMore pair_said (Ok (key.now, restricted_term expr)) pairs.old.items pairs.new.items) }
+    ensures said { OnOk result
+        (pairs_said pairs.new.items ≡ pairs_said pairs.old.items ++ (key.now, restricted_term expr) ∷ []) }
     ensures memory { IfErr result IsMemory }
 {
     match RcStr::from_str(alloc, key) {
@@ -245,8 +279,8 @@ fn read_call(alloc: Global, call: &Value<'_>) -> Result<RestrictedExpr, JsonErro
 
 #[cycle(values)]
 fn read_shape(alloc: Global, shape: CallShape<'_, '_>) -> Result<RestrictedExpr, JsonError>
-    ensures said { IfOk result (λ r. shape_said (shape.parts_view shape.entry) ≡ Ok (restricted_term r)) }
-    ensures refused { IfErr result (IsRefusal (shape_said (shape.parts_view shape.entry))) }
+    ensures said { IfOk result (λ r. shape_said (shapes.parts_view shape.entry) ≡ Ok (restricted_term r)) }
+    ensures refused { IfErr result (IsRefusal (shape_said (shapes.parts_view shape.entry))) }
 {
     match shape.function.as_str() {
         Some(function) => read_called(alloc, function, shape.key, shape.argument),
@@ -309,10 +343,7 @@ fn read_argument(
     ensures refused { IfErr result (IsRefusal (made_of says.one (under (at_key (codes "arg")) (says.said (value_view argument.now))))) }
 {
     match restricted_expr_from_json_value(alloc, argument) {
-        Ok(argument) => match args.push(argument) {
-            Ok(()) => Ok(()),
-            Err(failed) => Err(JsonError::from(failed)),
-        },
+        Ok(argument) => put(argument, args),
         Err(error) => Err(error.under_key(alloc, "arg")),
     }
 }
