@@ -4,7 +4,7 @@ use crate::policies::LEVELS;
 use crate::refusal::{Refusal, told, unread_json};
 use cedar_closure::{ClosureError, closed};
 use cedar_extensions::Extensions;
-use cedar_json::{JsonError, evaluated_entities, stated_entities_from_json_str};
+use cedar_json::entities_from_json_str;
 use cedar_layers::policies::{Entities, Entity};
 use std::alloc::Global;
 
@@ -26,19 +26,10 @@ fn store_of(
     is_partial: bool,
     extensions: &Extensions<'_>,
 ) -> Result<Entities, Refusal> {
-    match entities_of(alloc, source, extensions) {
+    match entities_from_json_str(alloc, source.text, extensions, LEVELS) {
         Ok(entities) => closed_store(alloc, source, entities, is_partial),
         Err(error) => Err(unread_json(alloc, source, error)),
     }
-}
-
-fn entities_of(
-    alloc: Global,
-    source: Source<'_>,
-    extensions: &Extensions<'_>,
-) -> Result<Vec<Entity>, JsonError> {
-    let stated = stated_entities_from_json_str(alloc, source.text)?;
-    evaluated_entities(alloc, stated, extensions, LEVELS)
 }
 
 fn closed_store(
