@@ -31,7 +31,7 @@ impl Tally {
 /// Whether all runs of the table hold. Prints those that do not, and how many do.
 pub fn file_holds<R: Files + AllocGlobal + Print>(rt: &R, file: &str) -> io::Result<bool> {
     let text = fs::read_to_string(rt, file)?;
-    let tally = tally(rt, text.as_str())?;
+    let tally = tally_of_runs(rt, text.as_str())?;
     drop(text);
     let (held, runs) = (tally.held, tally.runs);
     println!(rt; "{file}: {held} of {runs} runs hold")?;
@@ -39,7 +39,7 @@ pub fn file_holds<R: Files + AllocGlobal + Print>(rt: &R, file: &str) -> io::Res
 }
 
 // What stands before the first run is no run.
-fn tally<R: Files + AllocGlobal + Print>(rt: &R, text: &str) -> io::Result<Tally> {
+fn tally_of_runs<R: Files + AllocGlobal + Print>(rt: &R, text: &str) -> io::Result<Tally> {
     let mut runs = text.split("\n$ ");
     drop(runs.next());
     let mut tally = Tally { runs: 0, held: 0 };
