@@ -1,8 +1,8 @@
 //! Unknowns that stand in expressions.
 use cedar_layers::expressions::{Expr, ExprKind, Unknown};
 use std::alloc::AllocError;
-use std::collections::BTreeSet;
-use std::rc::{Rc, RcStr};
+use std::collections::{BTreeMap, BTreeSet};
+use std::rc::RcStr;
 
 /// Puts the names of the unknowns that stand in the expression among these.
 #[cycle(note)]
@@ -31,30 +31,21 @@ pub(crate) fn note_unknowns(expr: &Expr, names: &mut BTreeSet<RcStr>) -> Result<
             entity_type: _,
         } => note_unknowns(expr, names),
         ExprKind::Set(parts) => note_all(parts, names),
-        ExprKind::Record(parts) => {
-            'parts: for part in parts.values() {
-                note_unknowns(part, names)?;
-            }
-            Ok(())
-        }
+        ExprKind::Record(parts) => note_fields(parts, names),
     }
 }
 
 #[cycle(note)]
-fn note_two(
-    first: &Rc<Expr>,
-    second: &Rc<Expr>,
-    names: &mut BTreeSet<RcStr>,
-) -> Result<(), AllocError> {
+fn note_two(first: &Expr, second: &Expr, names: &mut BTreeSet<RcStr>) -> Result<(), AllocError> {
     note_unknowns(first, names)?;
     note_unknowns(second, names)
 }
 
 #[cycle(note)]
 fn note_three(
-    first: &Rc<Expr>,
-    second: &Rc<Expr>,
-    third: &Rc<Expr>,
+    first: &Expr,
+    second: &Expr,
+    third: &Expr,
     names: &mut BTreeSet<RcStr>,
 ) -> Result<(), AllocError> {
     note_unknowns(first, names)?;
@@ -63,8 +54,19 @@ fn note_three(
 }
 
 #[cycle(note)]
-fn note_all(parts: &Rc<Vec<Expr>>, names: &mut BTreeSet<RcStr>) -> Result<(), AllocError> {
-    'parts: for part in parts.iter() {
+fn note_all(parts: &[Expr], names: &mut BTreeSet<RcStr>) -> Result<(), AllocError> {
+    'parts: for part in parts {
+        note_unknowns(part, names)?;
+    }
+    Ok(())
+}
+
+#[cycle(note)]
+fn note_fields(
+    parts: &BTreeMap<RcStr, Expr>,
+    names: &mut BTreeSet<RcStr>,
+) -> Result<(), AllocError> {
+    'parts: for part in parts.values() {
         note_unknowns(part, names)?;
     }
     Ok(())
