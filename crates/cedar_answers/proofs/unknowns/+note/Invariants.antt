@@ -1,4 +1,4 @@
-use Rattle.std.proofs.Common.{ℕ, ◌+◌, ◌*◌, max}
+use Rattle.std.proofs.Common.{◌+◌, ◌*◌, max}
 use Rattle.cedar_expressions.specs.declared.expr.Expr.{size-Expr}
 use Rattle.cedar_answers.proofs.unknowns.+note.Given as goal
 
