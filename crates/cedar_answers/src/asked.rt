@@ -1,0 +1,39 @@
+//! What is asked.
+use cedar_authorizer::authorizer::ErrorHandling;
+
+/// A text, and the name of what it stands in.
+#[derive(Clone, Copy)]
+pub struct Source<'a> {
+    pub name: &'a str,
+    pub text: &'a str,
+}
+
+/// What is said of a request and of the entities: each entity in Cedar's text, the rest in Cedar's JSON.
+#[derive(Clone, Copy)]
+pub struct Asked<'m, 't> {
+    pub principal: Option<&'m str>,
+    /// The name of the principal's type, where the principal is not known.
+    pub principal_type: Option<&'m str>,
+    pub action: Option<&'m str>,
+    pub resource: Option<&'m str>,
+    /// The name of the resource's type, where the resource is not known.
+    pub resource_type: Option<&'m str>,
+    pub context: Option<Source<'t>>,
+    /// The whole request, in the place of its parts.
+    pub request: Option<Source<'t>>,
+    /// The entities. Their parents are closed to all ancestors.
+    pub entities: Option<Source<'t>>,
+    /// Whether there may be more entities than those.
+    pub is_partial: bool,
+}
+
+/// In which way it is answered.
+#[derive(Clone, Copy)]
+pub struct Way {
+    /// How policies that err are handled.
+    pub error_handling: ErrorHandling,
+    /// How many levels deep is evaluated.
+    pub limit: usize,
+    /// Whether the reasons and the errors are printed too.
+    pub is_verbose: bool,
+}

@@ -1,0 +1,117 @@
+//! What an expression evaluates to.
+use crate::asked::{Asked, Source};
+use crate::decisions::Printed;
+use crate::places::placed;
+use crate::policies::LEVELS;
+use crate::reading::{request_with_context, whole_request};
+use crate::refusal::{Refusal, told, unread};
+use crate::stores::store;
+use cedar_evaluator::evaluator::Evaluator;
+use cedar_evaluator::request::Request;
+use cedar_extensions::Extensions;
+use cedar_layers::expressions::{Expr, SlotEnv, Value};
+use cedar_layers::policies::Entities;
+use cedar_text::parse_expr;
+use cedar_values::evaluator::err::EvaluationError;
+use std::alloc::{AllocError, Global};
+
+/// The value of the expression, in Cedar's syntax. What is not said of the request is unknown, but for a context, which is
+/// empty: an expression that needs what is unknown is refused.
+pub fn evaluated(
+    alloc: Global,
+    source: Source<'_>,
+    asked: &Asked<'_, '_>,
+    limit: usize,
+) -> Result<Printed, Refusal> {
+    let extensions = Extensions::none();
+    let expr = expression(alloc, source)?;
+    let printed = evaluated_with(alloc, source, &expr, asked, limit, &extensions);
+    drop(expr);
+    printed
+}
+
+fn expression(alloc: Global, source: Source<'_>) -> Result<Expr, Refusal> {
+    match parse_expr(alloc, source.text, LEVELS) {
+        Ok(expr) => Ok(expr),
+        Err(error) => Err(unread(alloc, source, error)),
+    }
+}
+
+fn evaluated_with(
+    alloc: Global,
+    source: Source<'_>,
+    expr: &Expr,
+    asked: &Asked<'_, '_>,
+    limit: usize,
+    extensions: &Extensions<'_>,
+) -> Result<Printed, Refusal> {
+    let entities = store(alloc, asked, extensions)?;
+    let printed = evaluated_over(alloc, source, expr, &entities, asked, limit, extensions);
+    drop(entities);
+    printed
+}
+
+fn evaluated_over(
+    alloc: Global,
+    source: Source<'_>,
+    expr: &Expr,
+    entities: &Entities,
+    asked: &Asked<'_, '_>,
+    limit: usize,
+    extensions: &Extensions<'_>,
+) -> Result<Printed, Refusal> {
+    let request = request_asked(alloc, asked, extensions)?;
+    match value_of(alloc, expr, request, entities, limit, extensions) {
+        Ok(value) => Ok(print_value(alloc, &value)?),
+        Err(error) => Err(failed(alloc, source, &error)),
+    }
+}
+
+fn request_asked(
+    alloc: Global,
+    asked: &Asked<'_, '_>,
+    extensions: &Extensions<'_>,
+) -> Result<Request, Refusal> {
+    match asked.request {
+        Some(_) => whole_request(alloc, asked, extensions),
+        None => request_with_context(alloc, asked, extensions),
+    }
+}
+
+fn value_of(
+    alloc: Global,
+    expr: &Expr,
+    request: Request,
+    entities: &Entities,
+    limit: usize,
+    extensions: &Extensions<'_>,
+) -> Result<Value, EvaluationError> {
+    let evaluator = Evaluator::new(alloc, request, entities, extensions, limit)?;
+    let slots = SlotEnv::new(alloc);
+    let value = evaluator.interpret(alloc, expr, &slots);
+    drop(slots);
+    drop(evaluator);
+    value
+}
+
+fn print_value(alloc: Global, value: &Value) -> Result<Printed, AllocError> {
+    let output = format!(in alloc; "{value}\n")?;
+    Ok(Printed { output, status: 0 })
+}
+
+#[cold]
+fn failed(alloc: Global, source: Source<'_>, error: &EvaluationError) -> Refusal {
+    match error {
+        EvaluationError::Memory(_) => Refusal::Memory,
+        _ => told(failed_lines(alloc, source, error)),
+    }
+}
+
+fn failed_lines(
+    alloc: Global,
+    source: Source<'_>,
+    error: &EvaluationError,
+) -> Result<String, AllocError> {
+    let why = format!(in alloc; "{error}")?;
+    placed(alloc, source, error.source_loc().copied(), why.as_str())
+}

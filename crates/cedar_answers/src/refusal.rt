@@ -1,0 +1,83 @@
+//! Why a question is not answered.
+use crate::asked::Source;
+use cedar_json::JsonError;
+use cedar_tokens::errors::ReadError;
+use cedar_tokens::show::shown;
+use std::alloc::{AllocError, AllocFailed, Global};
+
+/// Why a question is not answered.
+#[derive(Debug, Drop)]
+pub enum Refusal {
+    /// Memory was wanting.
+    Memory,
+    /// For a reason that is told in these lines, each of which is ended.
+    Told(String),
+}
+
+impl From<AllocError> for Refusal {
+    fn from(_error: AllocError) -> Refusal {
+        Refusal::Memory
+    }
+}
+
+impl<T: Drop> From<AllocFailed<T>> for Refusal {
+    fn from(_error: AllocFailed<T>) -> Refusal {
+        Refusal::Memory
+    }
+}
+
+/// The refusal for which these lines are the reason.
+#[cold]
+pub(crate) fn told(lines: Result<String, AllocError>) -> Refusal {
+    match lines {
+        Ok(lines) => Refusal::Told(lines),
+        Err(AllocError) => Refusal::Memory,
+    }
+}
+
+/// The refusal of what can't be read as Cedar's text.
+#[cold]
+pub(crate) fn unread(alloc: Global, source: Source<'_>, error: ReadError) -> Refusal {
+    match unread_lines(alloc, source, error) {
+        Ok(lines) => Refusal::Told(lines),
+        Err(refusal) => refusal,
+    }
+}
+
+/// `NAME: line L, column C: why`, and below it the line with the place marked.
+pub(crate) fn unread_lines(
+    alloc: Global,
+    source: Source<'_>,
+    error: ReadError,
+) -> Result<String, Refusal> {
+    match error {
+        ReadError::Memory => Err(Refusal::Memory),
+        ReadError::Expected { .. } => lines_of(alloc, source, error),
+        ReadError::TooDeep { .. } => lines_of(alloc, source, error),
+    }
+}
+
+fn lines_of(alloc: Global, source: Source<'_>, error: ReadError) -> Result<String, Refusal> {
+    let name = source.name;
+    let shown = shown(alloc, source.text, error)?;
+    Ok(format!(in alloc; "{name}: {shown}\n")?)
+}
+
+/// The refusal of what can't be read as Cedar's JSON: `NAME: $.path: why`.
+#[cold]
+pub(crate) fn unread_json(alloc: Global, source: Source<'_>, error: JsonError) -> Refusal {
+    let name = source.name;
+    match error {
+        JsonError::Memory(_) => Refusal::Memory,
+        JsonError::Syntax => told(format!(in alloc; "{name}: not JSON\n")),
+        JsonError::DuplicateKey => told(format!(in alloc;
+            "{name}: a key comes twice in an object\n"
+        )),
+        JsonError::Refused { path, reason } => told(format!(in alloc;
+            "{name}: {path}: {reason}\n"
+        )),
+        JsonError::Evaluation { path, error } => told(format!(in alloc;
+            "{name}: {path}: {error}\n"
+        )),
+    }
+}

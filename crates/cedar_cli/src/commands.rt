@@ -1,0 +1,141 @@
+//! The commands and their arguments.
+use clap::builder::ValueParser;
+use clap::{Arg, ArgAction, Command};
+use std::alloc::{AllocError, Global};
+
+/// How policies that err are handled.
+pub(crate) const HANDLINGS: [&str; 2] = ["skip", "forbid"];
+
+/// All commands.
+pub(crate) fn cedar<'a>(alloc: Global) -> Result<Command<'a>, AllocError> {
+    Command::new(alloc, "cedar")
+        .bin_name("cedar")?
+        .about("Answers questions about Cedar's policies")
+        .subcommand_required(true)
+        .arg_required_else_help(true)
+        .subcommand(authorize(alloc)?)?
+        .subcommand(partially_authorize(alloc)?)?
+        .subcommand(evaluate(alloc)?)?
+        .subcommand(check_parse(alloc)?)?
+        .subcommand(format(alloc)?)
+}
+
+// An option with a value.
+fn option<'a>(alloc: Global, name: &'a str, value: &'a str, help: &'a str) -> Arg<'a> {
+    Arg::new(alloc, name)
+        .long(name)
+        .action(ArgAction::Set)
+        .value_name(value)
+        .help(help)
+}
+
+// A flag.
+fn flag<'a>(alloc: Global, name: &'a str, help: &'a str) -> Arg<'a> {
+    Arg::new(alloc, name)
+        .long(name)
+        .action(ArgAction::SetTrue)
+        .help(help)
+}
+
+fn policies<'a>(alloc: Global) -> Arg<'a> {
+    option(alloc, "policies", "FILE", "The policies, in Cedar's text")
+        .short('p')
+        .required(true)
+}
+
+fn limit<'a>(alloc: Global) -> Arg<'a> {
+    option(alloc, "limit", "N", "How many levels deep is evaluated")
+        .value_parser(ValueParser::Unsigned(1, 1000))
+        .default_value("100")
+}
+
+fn error_handling<'a>(alloc: Global) -> Arg<'a> {
+    let help = "Whether a policy that errs is skipped, or a forbid that errs forbids";
+    option(alloc, "error-handling", "WAY", help)
+        .value_parser(ValueParser::Names(&HANDLINGS))
+        .default_value("skip")
+}
+
+// The command with the arguments that say what is asked.
+fn with_request<'a>(alloc: Global, command: Command<'a>) -> Result<Command<'a>, AllocError> {
+    let principal = option(alloc, "principal", "ENTITY", "Who asks, as User::\"alice\"");
+    let action = option(alloc, "action", "ENTITY", "What to do, as Action::\"view\"");
+    let resource = option(alloc, "resource", "ENTITY", "With what, as Photo::\"trip\"");
+    let context = option(alloc, "context", "FILE", "The context, a record in JSON");
+    let entities = option(
+        alloc,
+        "entities",
+        "FILE",
+        "The entities, in JSON, with their parents",
+    );
+    command
+        .arg(principal.short('l'))?
+        .arg(action.short('a'))?
+        .arg(resource.short('r'))?
+        .arg(context.short('c'))?
+        .arg(request_json(alloc)?)?
+        .arg(entities)
+}
+
+fn request_json<'a>(alloc: Global) -> Result<Arg<'a>, AllocError> {
+    option(alloc, "request-json", "FILE", "The whole request, in JSON")
+        .conflicts_with("principal")?
+        .conflicts_with("action")?
+        .conflicts_with("resource")?
+        .conflicts_with("context")
+}
+
+fn authorize<'a>(alloc: Global) -> Result<Command<'a>, AllocError> {
+    let verbose = flag(alloc, "verbose", "Prints the reasons and the errors too").short('v');
+    let command = Command::new(alloc, "authorize")
+        .about("What the policies decide: ALLOW (status 0) or DENY (status 2)")
+        .arg(policies(alloc))?
+        .arg(error_handling(alloc))?
+        .arg(limit(alloc))?
+        .arg(verbose)?;
+    with_request(alloc, command)
+}
+
+fn partially_authorize<'a>(alloc: Global) -> Result<Command<'a>, AllocError> {
+    let partial = flag(
+        alloc,
+        "partial",
+        "There may be more entities than those of the file",
+    );
+    let principal_type = option(alloc, "principal-type", "TYPE", "The type of who asks");
+    let resource_type = option(alloc, "resource-type", "TYPE", "The type of the resource");
+    let command = Command::new(alloc, "partially-authorize")
+        .about("What is known of the decision where parts are unknown: those that are not given")
+        .arg(policies(alloc))?
+        .arg(error_handling(alloc))?
+        .arg(limit(alloc))?
+        .arg(partial)?
+        .arg(principal_type.conflicts_with("principal")?)?
+        .arg(resource_type.conflicts_with("resource")?)?;
+    with_request(alloc, command)
+}
+
+fn evaluate<'a>(alloc: Global) -> Result<Command<'a>, AllocError> {
+    let expression = Arg::new(alloc, "expression")
+        .required(true)
+        .action(ArgAction::Set)
+        .value_name("EXPRESSION")
+        .help("An expression, in Cedar's text");
+    let command = Command::new(alloc, "evaluate")
+        .about("The value of an expression")
+        .arg(expression)?
+        .arg(limit(alloc))?;
+    with_request(alloc, command)
+}
+
+fn check_parse<'a>(alloc: Global) -> Result<Command<'a>, AllocError> {
+    Command::new(alloc, "check-parse")
+        .about("Whether the policies can be read")
+        .arg(policies(alloc))
+}
+
+fn format<'a>(alloc: Global) -> Result<Command<'a>, AllocError> {
+    Command::new(alloc, "format")
+        .about("The policies in Cedar's own layout, without their comments")
+        .arg(policies(alloc))
+}

@@ -1,0 +1,149 @@
+//! Runs a command.
+use crate::commands::cedar;
+use crate::files::Texts;
+use cedar_answers::{
+    Asked, ErrorHandling, Printed, Refusal, Source, Way, authorized, checked, evaluated, formatted,
+    partially_authorized,
+};
+use clap::error::ErrorKind;
+use clap::{ArgMatches, Error};
+use std::alloc::Global;
+use std::rt::Files;
+
+/// What a command comes to.
+#[derive(Debug, Drop)]
+pub enum Answer {
+    /// This is to be printed, and the exit status is this.
+    Printed(Printed),
+    /// Nothing is to be printed but these lines, on standard error. The exit status is 1.
+    Refused(String),
+    /// Memory was wanting. The exit status is 3.
+    OutOfMemory,
+}
+
+/// What the command comes to that these words write, the first of which is the program's name.
+pub fn answered<R: Files + AllocGlobal>(rt: &R, words: &[String]) -> Answer {
+    match printed(rt, words) {
+        Ok(printed) => Answer::Printed(printed),
+        Err(Refusal::Told(lines)) => Answer::Refused(lines),
+        Err(Refusal::Memory) => Answer::OutOfMemory,
+    }
+}
+
+fn printed<R: Files + AllocGlobal>(rt: &R, words: &[String]) -> Result<Printed, Refusal> {
+    let command = cedar(rt.alloc())?;
+    match command.try_get_matches_from(words) {
+        Ok(matches) => dispatched(rt, &matches),
+        Err(error) => help_or_refusal(rt.alloc(), &error),
+    }
+}
+
+// Help is printed; a mistake in the words is refused.
+#[cold]
+fn help_or_refusal(alloc: Global, error: &Error) -> Result<Printed, Refusal> {
+    if error.kind() == ErrorKind::OutOfMemory {
+        return Err(Refusal::Memory);
+    }
+    let text = format!(in alloc; "{error}")?;
+    if error.use_stderr() {
+        Err(Refusal::Told(text))
+    } else {
+        Ok(Printed {
+            output: text,
+            status: 0,
+        })
+    }
+}
+
+fn dispatched<R: Files + AllocGlobal>(
+    rt: &R,
+    matches: &ArgMatches<'_>,
+) -> Result<Printed, Refusal> {
+    match matches.subcommand() {
+        Some((name, matches)) => run(rt, name, matches),
+        None => Ok(nothing(rt.alloc())),
+    }
+}
+
+// Nothing is printed.
+fn nothing(alloc: Global) -> Printed {
+    Printed {
+        output: String::new(alloc),
+        status: 0,
+    }
+}
+
+fn run<R: Files + AllocGlobal>(
+    rt: &R,
+    name: &str,
+    matches: &ArgMatches<'_>,
+) -> Result<Printed, Refusal> {
+    let texts = Texts::read(rt, matches)?;
+    let printed = run_with(rt.alloc(), name, matches, &texts);
+    drop(texts);
+    printed
+}
+
+fn run_with(
+    alloc: Global,
+    name: &str,
+    matches: &ArgMatches<'_>,
+    texts: &Texts,
+) -> Result<Printed, Refusal> {
+    let policies = texts.policies();
+    let asked = asked(matches, texts);
+    match name {
+        "authorize" => authorized(alloc, policies, &asked, way(matches)),
+        "partially-authorize" => partially_authorized(alloc, policies, &asked, way(matches)),
+        "evaluate" => evaluated(alloc, expression(matches), &asked, limit(matches)),
+        "check-parse" => {
+            checked(alloc, policies)?;
+            Ok(nothing(alloc))
+        }
+        _ => Ok(Printed {
+            output: formatted(alloc, policies)?,
+            status: 0,
+        }),
+    }
+}
+
+// What the arguments say of the request and of the entities.
+fn asked<'m, 't>(matches: &ArgMatches<'m>, texts: &'t Texts) -> Asked<'m, 't> {
+    Asked {
+        principal: matches.get_str("principal"),
+        principal_type: matches.get_str("principal-type"),
+        action: matches.get_str("action"),
+        resource: matches.get_str("resource"),
+        resource_type: matches.get_str("resource-type"),
+        context: texts.context(),
+        request: texts.request(),
+        entities: texts.entities(),
+        is_partial: matches.get_flag("partial"),
+    }
+}
+
+fn way(matches: &ArgMatches<'_>) -> Way {
+    Way {
+        error_handling: error_handling(matches.get_str("error-handling")),
+        limit: limit(matches),
+        is_verbose: matches.get_flag("verbose"),
+    }
+}
+
+fn error_handling(word: Option<&str>) -> ErrorHandling {
+    match word {
+        Some("forbid") => ErrorHandling::ForbidOnError,
+        _ => ErrorHandling::Skip,
+    }
+}
+
+fn limit(matches: &ArgMatches<'_>) -> usize {
+    matches.get_one::<usize>("limit").unwrap_or(100)
+}
+
+fn expression<'a>(matches: &ArgMatches<'a>) -> Source<'a> {
+    Source {
+        name: "the expression",
+        text: matches.get_str("expression").unwrap_or(""),
+    }
+}
