@@ -11,3 +11,4 @@ pub mod EntityLemmas
 pub mod Among
 pub mod Answered
 pub mod SeenEntities
+pub mod RequestLemmas

@@ -1,5 +1,5 @@
 -- What the JSON of a context says, and what becomes of it.
-use Rattle.std.specs.Prelude.{◌≡◌, ⊤, ℕ, [], Option, Some, None, Ok, Err}
+use Rattle.std.specs.Prelude.{◌≡◌, ⊤, ℕ, List, [], Option, Some, None, Ok, Err}
 use Rattle.json.specs.Json.{Json, Members}
 use Rattle.json.specs.Find.{as_object}
 use Rattle.cedar_model.specs.Terms.{Term}
@@ -14,7 +14,7 @@ use Rattle.cedar_json.specs.declared.errors.JsonError.{JsonError}
 use Rattle.cedar_json.specs.declared.errors.JsonError.TheVariants as errors
 use Rattle.cedar_json.specs.declared.errors.RefusalReason.TheVariants as reasons
 use Rattle.cedar_json.specs.declared.paths.JsonPath.{JsonPath}
-use Rattle.cedar_json.specs.Paths.{path_view}
+use Rattle.cedar_json.specs.Paths.{Step, path_view}
 use Rattle.cedar_json.specs.Refusals.{Said, refused, IsEvaluationAt, IsMemory}
 use Rattle.cedar_json.specs.Said.{record_said, said_members}
 
@@ -31,18 +31,18 @@ abbrev pub IsContextOf : world.Extensions → StoredCalls → ℕ → Said Term 
 IsContextOf x calls n (Ok t) c = IsCreated x calls n t (Ok c)
 IsContextOf x calls n (Err r) c = ⊥
 
--- and this is the error of its evaluation, at the whole value
-abbrev pub IsFailedContext : world.Extensions → StoredCalls → ℕ → Said Term → JsonPath → EvaluationError → Type 0
-IsFailedContext x calls n (Ok t) path e = (path_view path ≡ []) × IsCreated x calls n t (Err (creations.Evaluation e))
-IsFailedContext x calls n (Err r) path e = ⊥
+-- and this is the error of its evaluation, there
+abbrev pub IsFailedContext : world.Extensions → StoredCalls → ℕ → Said Term → List Step → JsonPath → EvaluationError → Type 0
+IsFailedContext x calls n (Ok t) there path e = (path_view path ≡ there) × IsCreated x calls n t (Err (creations.Evaluation e))
+IsFailedContext x calls n (Err r) there path e = ⊥
 
--- why there is no context: nothing is said, its evaluation fails, or memory was wanting
-abbrev pub IsContextRefusal : world.Extensions → StoredCalls → ℕ → Said Term → JsonError → Type 0
-IsContextRefusal x calls n s errors.Syntax = ⊥
-IsContextRefusal x calls n s errors.DuplicateKey = ⊥
-IsContextRefusal x calls n s (errors.Refused path reason) = s ≡ Err (record { path = path_view path; reason = reason })
-IsContextRefusal x calls n s (errors.Evaluation path e) = IsFailedContext x calls n s path e
-IsContextRefusal x calls n s (errors.Memory e) = ⊤
+-- why there is no context there: nothing is said, its evaluation fails, or memory was wanting
+abbrev pub IsContextRefusal : world.Extensions → StoredCalls → ℕ → Said Term → List Step → JsonError → Type 0
+IsContextRefusal x calls n s there errors.Syntax = ⊥
+IsContextRefusal x calls n s there errors.DuplicateKey = ⊥
+IsContextRefusal x calls n s there (errors.Refused path reason) = s ≡ Err (record { path = path_view path; reason = reason })
+IsContextRefusal x calls n s there (errors.Evaluation path e) = IsFailedContext x calls n s there path e
+IsContextRefusal x calls n s there (errors.Memory e) = ⊤
 
 -- what is told of an error of a creation; for private clauses
 abbrev pub IsUncreated : ContextCreationError → JsonError → Type 0

@@ -1,6 +1,6 @@
 #![tactic(auto, using(crate::proofs::Refused::refusals, crate::proofs::ContextLemmas::contexts))]
 //! Contexts.
-ghost use Rattle.std.specs.Prelude.{◌≡◌, Ok, IfOk, IfErr};
+ghost use Rattle.std.specs.Prelude.{◌≡◌, [], Ok, IfOk, IfErr};
 ghost use Rattle.json.specs.Value.{value_view};
 ghost use Rattle.cedar_extensions.specs.Extensions.{extensions_view, calls_of};
 ghost use Rattle.cedar_restricted_expressions.specs.Views.{restricted_term};
@@ -26,7 +26,7 @@ pub(crate) fn context_from_json_value(
     ensures made { IfOk result (IsContextOf (extensions_view extensions.now) (calls_of extensions.now) limit
         (context_said (value_view value.now))) }
     ensures refused { IfErr result (IsContextRefusal (extensions_view extensions.now) (calls_of extensions.now) limit
-        (context_said (value_view value.now))) }
+        (context_said (value_view value.now)) []) }
 {
     match record_of(alloc, value) {
         Ok(record) => match Context::from_expr(alloc, record.as_borrowed(), extensions, limit) {

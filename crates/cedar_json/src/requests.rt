@@ -1,4 +1,15 @@
+#![tactic(auto, using(crate::proofs::Refused::refusals, crate::proofs::ContextLemmas::contexts, crate::proofs::RequestLemmas::requests))]
 //! Requests.
+ghost use Rattle.std.specs.Prelude.{◌≡◌, [], ◌∷◌, codes, option_map, IfOk, IfErr};
+ghost use Rattle.json.specs.Value.{value_view, members_view};
+ghost use Rattle.cedar_extensions.specs.Extensions.{extensions_view, calls_of};
+ghost use Rattle.cedar_names.specs.Names.{uid_name};
+ghost use Rattle.cedar_json.specs.Paths.{at_key};
+ghost use Rattle.cedar_json.specs.SaidContexts.{IsContextOf, IsContextRefusal};
+ghost use Rattle.cedar_json.specs.SaidEntities.{first_other};
+ghost use Rattle.cedar_json.specs.SaidRequests as asked;
+ghost use Rattle.cedar_json.specs.SaidRequests.{IsRequestOf, IsRequestRefusal};
+
 use crate::contexts::context_from_json_value;
 use crate::entities::{missing, no_member, uid_at};
 use crate::errors::{JsonError, RefusalReason};
@@ -16,7 +27,12 @@ pub(crate) fn request_from_json_value(
     value: &Value<'_>,
     extensions: &Extensions<'_>,
     limit: usize,
-) -> Result<Request, JsonError> {
+) -> Result<Request, JsonError>
+    ensures made { IfOk result (IsRequestOf (extensions_view extensions.now) (calls_of extensions.now) limit
+        (asked.request_said (value_view value.now))) }
+    ensures refused { IfErr result (IsRequestRefusal (extensions_view extensions.now) (calls_of extensions.now) limit
+        (asked.request_said (value_view value.now))) }
+{
     match object(value) {
         Some(members) => match unexpected(members) {
             Some(key) => Err(no_member(alloc, key)),
@@ -27,7 +43,9 @@ pub(crate) fn request_from_json_value(
 }
 
 // The first key that is none of a request's.
-fn unexpected<'v, 'a>(members: &'v Vec<(&'a str, Value<'a>)>) -> Option<&'v str> {
+fn unexpected<'v, 'a>(members: &'v Vec<(&'a str, Value<'a>)>) -> Option<&'v str>
+    ensures { option_map (λ k. k.now) result ≡ first_other asked.is_request_key (members_view members.now.items) }
+{
     'members: for member in members {
         if !is_request_key(member.0) {
             return Some(member.0);
@@ -36,7 +54,9 @@ fn unexpected<'v, 'a>(members: &'v Vec<(&'a str, Value<'a>)>) -> Option<&'v str>
     None
 }
 
-fn is_request_key(key: &str) -> bool {
+fn is_request_key(key: &str) -> bool
+    ensures { result ≡ asked.is_request_key key.now }
+{
     key == "principal" || key == "action" || key == "resource" || key == "context"
 }
 
@@ -45,7 +65,12 @@ fn with_principal(
     value: &Value<'_>,
     extensions: &Extensions<'_>,
     limit: usize,
-) -> Result<Request, JsonError> {
+) -> Result<Request, JsonError>
+    ensures made { IfOk result (IsRequestOf (extensions_view extensions.now) (calls_of extensions.now) limit
+        (asked.whole_request (value_view value.now))) }
+    ensures refused { IfErr result (IsRequestRefusal (extensions_view extensions.now) (calls_of extensions.now) limit
+        (asked.whole_request (value_view value.now))) }
+{
     match uid_at(alloc, value, "principal") {
         Ok(principal) => with_action(alloc, value, extensions, limit, principal),
         Err(error) => Err(error),
@@ -58,7 +83,12 @@ fn with_action(
     extensions: &Extensions<'_>,
     limit: usize,
     principal: EntityUID,
-) -> Result<Request, JsonError> {
+) -> Result<Request, JsonError>
+    ensures made { IfOk result (IsRequestOf (extensions_view extensions.now) (calls_of extensions.now) limit
+        (asked.with_action (uid_name principal) (value_view value.now))) }
+    ensures refused { IfErr result (IsRequestRefusal (extensions_view extensions.now) (calls_of extensions.now) limit
+        (asked.with_action (uid_name principal) (value_view value.now))) }
+{
     match uid_at(alloc, value, "action") {
         Ok(action) => with_resource(alloc, value, extensions, limit, principal, action),
         Err(error) => {
@@ -75,7 +105,12 @@ fn with_resource(
     limit: usize,
     principal: EntityUID,
     action: EntityUID,
-) -> Result<Request, JsonError> {
+) -> Result<Request, JsonError>
+    ensures made { IfOk result (IsRequestOf (extensions_view extensions.now) (calls_of extensions.now) limit
+        (asked.with_resource (uid_name principal) (uid_name action) (value_view value.now))) }
+    ensures refused { IfErr result (IsRequestRefusal (extensions_view extensions.now) (calls_of extensions.now) limit
+        (asked.with_resource (uid_name principal) (uid_name action) (value_view value.now))) }
+{
     match uid_at(alloc, value, "resource") {
         Ok(resource) => {
             with_context(alloc, value, extensions, limit, principal, action, resource)
@@ -95,7 +130,12 @@ fn with_context(
     principal: EntityUID,
     action: EntityUID,
     resource: EntityUID,
-) -> Result<Request, JsonError> {
+) -> Result<Request, JsonError>
+    ensures made { IfOk result (IsRequestOf (extensions_view extensions.now) (calls_of extensions.now) limit
+        (asked.with_context (uid_name principal) (uid_name action) (uid_name resource) (value_view value.now))) }
+    ensures refused { IfErr result (IsRequestRefusal (extensions_view extensions.now) (calls_of extensions.now) limit
+        (asked.with_context (uid_name principal) (uid_name action) (uid_name resource) (value_view value.now))) }
+{
     match context_at(alloc, value, extensions, limit) {
         Ok(context) => Ok(Request::new_with_unknowns(
             EntityUIDEntry::known(principal, None),
@@ -115,7 +155,11 @@ fn context_at(
     value: &Value<'_>,
     extensions: &Extensions<'_>,
     limit: usize,
-) -> Result<Context, JsonError> {
+) -> Result<Context, JsonError>
+    ensures made { IfOk result (IsContextOf (extensions_view extensions.now) (calls_of extensions.now) limit (asked.context_at (value_view value.now))) }
+    ensures refused { IfErr result (IsContextRefusal (extensions_view extensions.now) (calls_of extensions.now) limit
+        (asked.context_at (value_view value.now)) (at_key (codes "context") ∷ [])) }
+{
     match value.get("context") {
         Some(member) => match context_from_json_value(alloc, member, extensions, limit) {
             Ok(context) => Ok(context),
