@@ -12,3 +12,4 @@ pub mod Among
 pub mod Answered
 pub mod SeenEntities
 pub mod RequestLemmas
+pub mod Failed

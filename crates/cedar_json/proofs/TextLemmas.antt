@@ -1,14 +1,23 @@
 -- What a text says is what its JSON value says.
-use Rattle.std.proofs.Common.{◌≡◌, Some, Ok, Err, sym, subst, Option}
+use Rattle.std.proofs.Common.{◌≡◌, ℕ, List, Some, None, Ok, Err, IsOk, refl, sym, subst, Option}
 use Rattle.cedar_json.specs.Paths.{path_view}
-use Rattle.std.specs.Prelude.{IsSomeAnd}
+use Rattle.std.specs.Prelude.{⊤, IsSomeAnd}
 use Rattle.json.specs.Json.{Json, document}
 use Rattle.json.specs.Strict.{HasUniqueKeys}
 use Rattle.cedar_model.specs.Terms.{Text}
 use Rattle.cedar_json.specs.declared.errors.JsonError.{JsonError}
 use Rattle.cedar_json.specs.declared.errors.JsonError.TheVariants as errors
 use Rattle.cedar_json.specs.Refusals.{Said, IsRefusal}
-use Rattle.cedar_json.specs.JsonTexts.{Says, IsUnread, IsTextRefusal}
+use Rattle.cedar_json.specs.JsonTexts.{Says, SaysSo, IsUnread, IsTextRefusal, IsTextError}
+use Rattle.cedar_model.specs.Terms.{Term}
+use Rattle.cedar_model.specs.World as world
+use Rattle.cedar_model.specs.Rules.{StoredCalls}
+use Rattle.cedar_layers.specs.declared.policies.entities.Entity.{Entity}
+use Rattle.cedar_json.specs.Paths.{Step}
+use Rattle.cedar_json.specs.SaidContexts.{IsContextRefusal}
+use Rattle.cedar_json.specs.SaidEntities.{SaidEntity, entities_said}
+use Rattle.cedar_json.specs.SaidRequests.{SaidRequest, IsRequestRefusal}
+use Rattle.cedar_json.specs.Evaluated.{AreEvaluated, AreEntitiesOf, IsEvaluationError, IsEntitiesError}
 
 pub text_says : {T : Type 0} (text : Text) (said : Json → Said T) (j : Json) (t : T) → document text ≡ Some j → HasUniqueKeys j → said j ≡ Ok t → Says text said t
 text_says text said j t is unique h = subst (λ (o : Option Json). IsSomeAnd o (λ i. HasUniqueKeys i × (said i ≡ Ok t))) (sym is) (unique, h)
@@ -26,5 +35,70 @@ text_refused text said j errors.DuplicateKey is h = absurd h
 text_refused text said j (errors.Refused p r) is h = subst (λ (o : Option Json). IsSomeAnd o (λ i. said i ≡ Err (record { path = path_view p; reason = r }))) (sym is) h
 text_refused text said j (errors.Evaluation p x) is h = h
 text_refused text said j (errors.Memory m) is h = tt
+
+pub text_says_so : (text : Text) (P : Json → Type 0) (j : Json) → document text ≡ Some j → HasUniqueKeys j → P j → SaysSo text P
+text_says_so text P j is unique h = subst (λ (o : Option Json). IsSomeAnd o (λ i. HasUniqueKeys i × P i)) (sym is) (unique, h)
+
+pub error_unread : (text : Text) (R : Json → JsonError → Type 0) (e : JsonError) → IsUnread text e → IsTextError text R e
+error_unread text R errors.Syntax h = h
+error_unread text R errors.DuplicateKey h = h
+error_unread text R (errors.Refused p r) h = absurd h
+error_unread text R (errors.Evaluation p x) h = absurd h
+error_unread text R (errors.Memory m) h = tt
+
+-- the error is none of reading the text
+abbrev pub IsOfValue : JsonError → Type 0
+IsOfValue errors.Syntax = ⊥
+IsOfValue errors.DuplicateKey = ⊥
+IsOfValue (errors.Refused p r) = ⊤
+IsOfValue (errors.Evaluation p x) = ⊤
+IsOfValue (errors.Memory m) = ⊤
+
+pub error_of_value : (text : Text) (R : Json → JsonError → Type 0) (j : Json) (e : JsonError) → IsOfValue e → document text ≡ Some j → R j e → IsTextError text R e
+error_of_value text R j errors.Syntax v is h = absurd v
+error_of_value text R j errors.DuplicateKey v is h = absurd v
+error_of_value text R j (errors.Refused p r) v is h = subst (λ (o : Option Json). IsSomeAnd o (λ i. R i (errors.Refused p r))) (sym is) h
+error_of_value text R j (errors.Evaluation p x) v is h = subst (λ (o : Option Json). IsSomeAnd o (λ i. R i (errors.Evaluation p x))) (sym is) h
+error_of_value text R j (errors.Memory m) v is h = tt
+
+pub context_of_value : (x : world.Extensions) (calls : StoredCalls) (n : ℕ) (s : Said Term) (there : List Step) (e : JsonError) → IsContextRefusal x calls n s there e → IsOfValue e
+context_of_value x calls n s there errors.Syntax h = h
+context_of_value x calls n s there errors.DuplicateKey h = h
+context_of_value x calls n s there (errors.Refused p r) h = tt
+context_of_value x calls n s there (errors.Evaluation p y) h = tt
+context_of_value x calls n s there (errors.Memory m) h = tt
+
+pub request_of_value : (x : world.Extensions) (calls : StoredCalls) (n : ℕ) (s : Said SaidRequest) (e : JsonError) → IsRequestRefusal x calls n s e → IsOfValue e
+request_of_value x calls n s errors.Syntax h = h
+request_of_value x calls n s errors.DuplicateKey h = h
+request_of_value x calls n s (errors.Refused p r) h = tt
+request_of_value x calls n s (errors.Evaluation p y) h = tt
+request_of_value x calls n s (errors.Memory m) h = tt
+
+-- entities that the text says, and that are evaluated
+pub text_entities : (x : world.Extensions) (calls : StoredCalls) (n : ℕ) (text : Text) (o : Option Json) (es : List SaidEntity) (ds : List Entity)
+    → IsSomeAnd o (λ j. HasUniqueKeys j × (entities_said j ≡ Ok es)) → AreEvaluated x calls n es ds → IsSomeAnd o (λ j. HasUniqueKeys j × AreEntitiesOf x calls n (entities_said j) ds)
+text_entities x calls n text None es ds h g = h
+text_entities x calls n text (Some j) es ds h g = (h.0, subst (λ (s : Said (List SaidEntity)). AreEntitiesOf x calls n s ds) (sym h.1) g)
+
+-- nothing of them was refused
+text_evaluated : (o : Option Json) (es : List SaidEntity) → IsSomeAnd o (λ j. HasUniqueKeys j × (entities_said j ≡ Ok es)) → IsSomeAnd o (λ j. IsOk (entities_said j))
+text_evaluated None es h = h
+text_evaluated (Some j) es h = subst (λ (s : Said (List SaidEntity)). IsOk s) (sym h.1) refl
+
+pub entities_failed : (text : Text) (es : List SaidEntity) (e : JsonError) → IsSomeAnd (document text) (λ j. HasUniqueKeys j × (entities_said j ≡ Ok es)) → IsEvaluationError e
+    → IsTextError text (λ j d. IsEntitiesError (entities_said j) d) e
+entities_failed text es errors.Syntax h v = absurd v
+entities_failed text es errors.DuplicateKey h v = absurd v
+entities_failed text es (errors.Refused p r) h v = absurd v
+entities_failed text es (errors.Evaluation p y) h v = text_evaluated (document text) es h
+entities_failed text es (errors.Memory m) h v = tt
+
+pub entities_refused : (text : Text) (e : JsonError) → IsTextRefusal text entities_said e → IsTextError text (λ j d. IsEntitiesError (entities_said j) d) e
+entities_refused text errors.Syntax h = h
+entities_refused text errors.DuplicateKey h = h
+entities_refused text (errors.Refused p r) h = h
+entities_refused text (errors.Evaluation p y) h = absurd h
+entities_refused text (errors.Memory m) h = tt
 
 pub ruleset text_lemmas = (text_says, text_unread, text_refused)

@@ -28,3 +28,15 @@ IsTextRefusal text said (errors.Refused path reason) =
     IsSomeAnd (document text) (λ j. said j ≡ Err (record { path = path_view path; reason = reason }))
 IsTextRefusal text said (errors.Evaluation path error) = ⊥
 IsTextRefusal text said (errors.Memory error) = ⊤
+
+-- the text is JSON in which no object has a key twice, and this is so of its value
+abbrev pub SaysSo : Text → (Json → Type 0) → Type 0
+SaysSo text P = IsSomeAnd (document text) (λ j. HasUniqueKeys j × P j)
+
+-- the text is no JSON, or an object in it has a key twice; or the error is so of its value; or memory was wanting
+abbrev pub IsTextError : Text → (Json → JsonError → Type 0) → JsonError → Type 0
+IsTextError text R errors.Syntax = document text ≡ None
+IsTextError text R errors.DuplicateKey = IsSomeAnd (document text) (λ j. ¬ HasUniqueKeys j)
+IsTextError text R (errors.Refused path reason) = IsSomeAnd (document text) (λ j. R j (errors.Refused path reason))
+IsTextError text R (errors.Evaluation path error) = IsSomeAnd (document text) (λ j. R j (errors.Evaluation path error))
+IsTextError text R (errors.Memory error) = ⊤

@@ -1,5 +1,6 @@
+#![tactic(auto, using(crate::proofs::Failed::failed))]
 //! Entities whose attributes and tags are evaluated.
-ghost use Rattle.std.specs.Prelude.{◌≡◌, true, [], OnOk, IfOk};
+ghost use Rattle.std.specs.Prelude.{◌≡◌, true, [], OnOk, IfOk, IfErr};
 ghost use Rattle.std.specs.BTreeMap.{insert_entry};
 ghost use Rattle.std.specs.Rc.{rc_str_bytes};
 ghost use Rattle.cedar_expressions.specs.Records.{fields_in_order};
@@ -10,7 +11,7 @@ ghost use Rattle.cedar_restricted_expressions.specs.Views.{restricted_term};
 ghost use Rattle.cedar_json.specs.Lists.{pairs_said};
 ghost use Rattle.cedar_json.specs.StatedEntities.{names_of, stated_view, stated_views};
 ghost use Rattle.cedar_json.specs.Evaluated.{IsAnswerOf, AreAnswered, AreAmong, IsEvaluated, AreEvaluated};
-ghost use Rattle.cedar_json.specs.Evaluated.{key_cmp, AddsPart, AddsEntity, PutsName};
+ghost use Rattle.cedar_json.specs.Evaluated.{IsEvaluationError, key_cmp, AddsPart, AddsEntity, PutsName};
 ghost use Rattle.cedar_data.specs.Residuals.{partial_view};
 ghost use Rattle.cedar_layers.specs.Parts.{parts_view, are_restricted_parts, is_restricted_part};
 ghost use mathlib.Core.Bool.{Bool-set};
@@ -67,6 +68,7 @@ pub fn evaluated_entities(
 ) -> Result<Vec<Entity>, JsonError>
     ensures evaluated { IfOk result (λ r. AreEvaluated (extensions_view extensions.now) (calls_of extensions.now) limit
         (stated_views stated.items) r.items) }
+    ensures failed { IfErr result IsEvaluationError }
 {
     let evaluator = RestrictedEvaluator::new(extensions, limit);
     let mut entities: Vec<Entity> = Vec::new(alloc);
@@ -86,8 +88,9 @@ fn evaluate_all(
     entities: &mut Vec<Entity>,
 ) -> Result<(), JsonError>
     requires { entities.old.items ≡ [] }
-    ensures { OnOk result (AreEvaluated (extensions_in evaluator.now) (calls_in evaluator.now)
+    ensures evaluated { OnOk result (AreEvaluated (extensions_in evaluator.now) (calls_in evaluator.now)
         (limit_of evaluator.now) (stated_views stated.items) entities.new.items) }
+    ensures failed { IfErr result IsEvaluationError }
 {
     let mut index: usize = 0;
     'stated: for entity in stated {
@@ -105,8 +108,9 @@ fn put_evaluated(
     index: usize,
     entities: &mut Vec<Entity>,
 ) -> Result<(), JsonError>
-    ensures { OnOk result (AddsEntity (extensions_in evaluator.now) (calls_in evaluator.now)
+    ensures adds { OnOk result (AddsEntity (extensions_in evaluator.now) (calls_in evaluator.now)
         (limit_of evaluator.now) (stated_view stated) entities.old.items entities.new.items) }
+    ensures failed { IfErr result IsEvaluationError }
 {
     match evaluate(alloc, stated, evaluator) {
         Ok(entity) => match entities.push(entity) {
@@ -122,8 +126,9 @@ fn evaluate(
     stated: StatedEntity,
     evaluator: &RestrictedEvaluator<'_, '_>,
 ) -> Result<Entity, JsonError>
-    ensures { IfOk result (IsEvaluated (extensions_in evaluator.now) (calls_in evaluator.now)
+    ensures evaluated { IfOk result (IsEvaluated (extensions_in evaluator.now) (calls_in evaluator.now)
         (limit_of evaluator.now) (stated_view stated)) }
+    ensures failed { IfErr result IsEvaluationError }
 {
     let StatedEntity {
         uid,
@@ -139,7 +144,8 @@ fn evaluate(
 
 // The set of these.
 fn set_of(alloc: Global, uids: Vec<EntityUID>) -> Result<HashSet<EntityUID>, JsonError>
-    ensures { IfOk result (λ s. AreAmong (names_of s.keys) (names_of uids.items)) }
+    ensures among { IfOk result (λ s. AreAmong (names_of s.keys) (names_of uids.items)) }
+    ensures failed { IfErr result IsEvaluationError }
 {
     let mut set: HashSet<EntityUID> = HashSet::new(alloc);
     'uids: for uid in uids {
@@ -149,7 +155,8 @@ fn set_of(alloc: Global, uids: Vec<EntityUID>) -> Result<HashSet<EntityUID>, Jso
 }
 
 fn put_uid(uid: EntityUID, set: &mut HashSet<EntityUID>) -> Result<(), JsonError>
-    ensures { OnOk result (PutsName (names_of set.old.keys) (uid_name uid) (names_of set.new.keys)) }
+    ensures puts { OnOk result (PutsName (names_of set.old.keys) (uid_name uid) (names_of set.new.keys)) }
+    ensures failed { IfErr result IsEvaluationError }
 {
     match set.insert(uid) {
         Ok(_) => Ok(()),
@@ -163,8 +170,9 @@ fn parts_at(
     evaluator: &RestrictedEvaluator<'_, '_>,
     key: &str,
 ) -> Result<StoredParts, JsonError>
-    ensures { IfOk result (λ r. AreAnswered (extensions_in evaluator.now) (calls_in evaluator.now)
+    ensures answered { IfOk result (λ r. AreAnswered (extensions_in evaluator.now) (calls_in evaluator.now)
         (limit_of evaluator.now) (fields_in_order (pairs_said pairs.items)) (parts_view r.map.entries)) }
+    ensures failed { IfErr result IsEvaluationError }
 {
     match parts(alloc, pairs, evaluator) {
         Ok(parts) => Ok(parts),
@@ -177,8 +185,9 @@ fn parts(
     pairs: Vec<(RcStr, RestrictedExpr)>,
     evaluator: &RestrictedEvaluator<'_, '_>,
 ) -> Result<StoredParts, JsonError>
-    ensures { IfOk result (λ r. AreAnswered (extensions_in evaluator.now) (calls_in evaluator.now)
+    ensures answered { IfOk result (λ r. AreAnswered (extensions_in evaluator.now) (calls_in evaluator.now)
         (limit_of evaluator.now) (fields_in_order (pairs_said pairs.items)) (parts_view r.map.entries)) }
+    ensures failed { IfErr result IsEvaluationError }
 {
     let mut parts = StoredParts::new(alloc);
     'pairs: for (key, expr) in pairs {
@@ -195,8 +204,9 @@ fn with_part(
     expr: RestrictedExpr,
     evaluator: &RestrictedEvaluator<'_, '_>,
 ) -> Result<StoredParts, JsonError>
-    ensures { IfOk result (λ r. AddsPart (extensions_in evaluator.now) (calls_in evaluator.now)
+    ensures adds { IfOk result (λ r. AddsPart (extensions_in evaluator.now) (calls_in evaluator.now)
         (limit_of evaluator.now) (rc_str_bytes key) (restricted_term expr) parts.map.entries r.map.entries) }
+    ensures failed { IfErr result IsEvaluationError }
 {
     let part = part(alloc, &key, &expr, evaluator);
     drop(expr);
@@ -213,7 +223,7 @@ fn with_part(
 }
 
 // What the expression is evaluated to, at this key.
-#[tactic(auto, using(crate::proofs::Stored::sound_part))]
+#[tactic(auto, using(crate::proofs::Stored::sound_part, crate::proofs::Failed::failed))]
 fn part(
     alloc: Global,
     key: &RcStr,
@@ -223,6 +233,7 @@ fn part(
     ensures answer { IfOk result (λ p. IsAnswerOf (extensions_in evaluator.now) (calls_in evaluator.now)
         (limit_of evaluator.now) (restricted_term expr.now) (partial_view p)) }
     ensures restricted { IfOk result (λ p. is_restricted_part (partial_view p) ≡ true) }
+    ensures failed { IfErr result IsEvaluationError }
 {
     match evaluator.partial_interpret(alloc, expr.as_borrowed()) {
         Ok(part) => Ok(part),
@@ -232,7 +243,9 @@ fn part(
 
 // The error of an evaluation, of the part at this key.
 #[cold]
-fn unevaluated(alloc: Global, error: EvaluationError, key: &str) -> JsonError {
+fn unevaluated(alloc: Global, error: EvaluationError, key: &str) -> JsonError
+    ensures { IsEvaluationError result }
+{
     match error {
         EvaluationError::Memory(error) => JsonError::Memory(error),
         other => JsonError::evaluation(alloc, other).under_key(alloc, key),

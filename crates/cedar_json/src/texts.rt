@@ -1,6 +1,6 @@
 #![tactic(auto, using(crate::proofs::TextLemmas::text_lemmas))]
 //! JSON texts.
-ghost use Rattle.std.specs.Prelude.{◌≡◌, Some, IfOk, IfErr};
+ghost use Rattle.std.specs.Prelude.{◌≡◌, [], Some, IfOk, IfErr};
 ghost use Rattle.json.specs.Json.{document};
 ghost use Rattle.json.specs.Strict.{HasUniqueKeys};
 ghost use Rattle.json.specs.Value.{value_view};
@@ -8,7 +8,11 @@ ghost use Rattle.cedar_restricted_expressions.specs.Views.{restricted_term};
 ghost use Rattle.cedar_json.specs.Said.{said};
 ghost use Rattle.cedar_json.specs.SaidEntities.{entities_said};
 ghost use Rattle.cedar_json.specs.StatedEntities.{stated_views};
-ghost use Rattle.cedar_json.specs.JsonTexts.{IsUnread, Says, IsTextRefusal};
+ghost use Rattle.cedar_json.specs.JsonTexts.{IsUnread, Says, IsTextRefusal, SaysSo, IsTextError};
+ghost use Rattle.cedar_json.specs.SaidContexts.{context_said, IsContextOf, IsContextRefusal};
+ghost use Rattle.cedar_json.specs.SaidRequests.{request_said, IsRequestOf, IsRequestRefusal};
+ghost use Rattle.cedar_json.specs.Evaluated.{AreEntitiesOf, IsEntitiesError};
+ghost use Rattle.cedar_extensions.specs.Extensions.{extensions_view, calls_of};
 
 use crate::contexts::context_from_json_value;
 use crate::entities::{StatedEntity, stated_entities_from_json_value};
@@ -43,7 +47,12 @@ pub fn context_from_json_str(
     text: &str,
     extensions: &Extensions<'_>,
     limit: usize,
-) -> Result<Context, JsonError> {
+) -> Result<Context, JsonError>
+    ensures made { IfOk result (λ c. SaysSo text.now (λ j. IsContextOf (extensions_view extensions.now) (calls_of extensions.now) limit
+        (context_said j) c)) }
+    ensures refused { IfErr result (IsTextError text.now (λ j e. IsContextRefusal (extensions_view extensions.now) (calls_of extensions.now) limit
+        (context_said j) [] e)) }
+{
     let mut scratch = Scratch::new(alloc);
     match parsed(alloc, text, &mut scratch) {
         Ok(value) => context_from_json_value(alloc, &value, extensions, limit),
@@ -58,7 +67,11 @@ pub fn entities_from_json_str(
     text: &str,
     extensions: &Extensions<'_>,
     limit: usize,
-) -> Result<Vec<Entity>, JsonError> {
+) -> Result<Vec<Entity>, JsonError>
+    ensures made { IfOk result (λ r. SaysSo text.now (λ j. AreEntitiesOf (extensions_view extensions.now) (calls_of extensions.now) limit
+        (entities_said j) r.items)) }
+    ensures refused { IfErr result (IsTextError text.now (λ j e. IsEntitiesError (entities_said j) e)) }
+{
     match stated_entities_from_json_str(alloc, text) {
         Ok(stated) => evaluated_entities(alloc, stated, extensions, limit),
         Err(error) => Err(error),
@@ -88,7 +101,12 @@ pub fn request_from_json_str(
     text: &str,
     extensions: &Extensions<'_>,
     limit: usize,
-) -> Result<Request, JsonError> {
+) -> Result<Request, JsonError>
+    ensures made { IfOk result (λ r. SaysSo text.now (λ j. IsRequestOf (extensions_view extensions.now) (calls_of extensions.now) limit
+        (request_said j) r)) }
+    ensures refused { IfErr result (IsTextError text.now (λ j e. IsRequestRefusal (extensions_view extensions.now) (calls_of extensions.now) limit
+        (request_said j) e)) }
+{
     let mut scratch = Scratch::new(alloc);
     match parsed(alloc, text, &mut scratch) {
         Ok(value) => request_from_json_value(alloc, &value, extensions, limit),

@@ -5,9 +5,9 @@ use Rattle.cedar_json.specs.StatedEntities.{stated_view}
 use Rattle.cedar_json.specs.Evaluated.{IsFacts}
 use Rattle.cedar_json.proofs.evaluation.evaluate.Goals as goal
 
-pub returns : goal.returns
-returns g c = (
+pub returns-clause-evaluated : goal.returns-clause-evaluated
+returns-clause-evaluated g c = (
   c.new.ensures.name,
   subst (λ (f : StoredEntity). IsFacts (extensions_in c.args.evaluator.now) (calls_in c.args.evaluator.now) (limit_of c.args.evaluator.now) (stated_view c.args.stated) f) (sym c.new.ensures.view)
-      (record { attributes = c.in_ok-attrs.ensures; tags = c.in_ok-tags.ensures; parents = c.in_ok-parents.ensures }),
+      (record { attributes = c.in_ok-attrs.ensures.answered; tags = c.in_ok-tags.ensures.answered; parents = c.in_ok-parents.ensures.among }),
 )

@@ -27,11 +27,11 @@ stated-preserved g c =
     let e = stated_view c.in-Some.entity in (
       done ++ e ∷ [],
       l.invariant.1 ∙ ap (λ (es : List StatedEntity). done ++ stated_views es) c.in-Some.ensures.steps.0 ∙ sym (append_assoc done (e ∷ []) (stated_views (into_iter_items c.next.new.self))),
-      c.in_ok-put_evaluated.ensures done l.invariant.2,
+      c.in_ok-put_evaluated.ensures.adds done l.invariant.2,
     )
 
-pub returns : goal.returns
-returns g c =
+pub returns-clause-evaluated : goal.returns-clause-evaluated
+returns-clause-evaluated g c =
     let l = c.stated in
     let x = extensions_in c.args.evaluator.now in
     let calls = calls_in c.args.evaluator.now in

@@ -5,12 +5,9 @@ use Rattle.cedar_json.specs.StatedEntities.{stated_views}
 use Rattle.cedar_json.specs.Evaluated.{AreEvaluated}
 use Rattle.cedar_json.proofs.evaluation.evaluated_entities.Goals as goal
 
-pub returns-in-Ok : goal.returns-in-Ok
-returns-in-Ok g c =
+pub returns-in-Ok-clause-evaluated : goal.returns-in-Ok-clause-evaluated
+returns-in-Ok-clause-evaluated g c =
     let es = stated_views c.args.stated.items in
     let ds = c.evaluate_all.new.entities.items in
-    record {
-      evaluated =
-          subst (λ (m : ℕ). AreEvaluated (extensions_view c.args.extensions.now) (calls_of c.args.extensions.now) m es ds) c.new-evaluator.ensures.limit
-          (subst (λ y. AreEvaluated (extensions_view y) (calls_of y) (limit_of c.new-evaluator.result) es ds) c.new-evaluator.ensures.extensions c.in-Ok.ensures);
-    }
+    subst (λ (m : ℕ). AreEvaluated (extensions_view c.args.extensions.now) (calls_of c.args.extensions.now) m es ds) c.new-evaluator.ensures.limit
+          (subst (λ y. AreEvaluated (extensions_view y) (calls_of y) (limit_of c.new-evaluator.result) es ds) c.new-evaluator.ensures.extensions c.in-Ok.ensures.evaluated)

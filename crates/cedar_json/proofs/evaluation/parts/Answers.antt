@@ -31,11 +31,11 @@ pairs-preserved g c =
     let fs = l.invariant.0 in (
       put_field fs (rc_str_bytes c.in-Some.key) (restricted_term c.in-Some.expr),
       l.invariant.1 ∙ ap (λ (ps : List (RcStr Global × RestrictedExpr)). put_fields fs (pairs_said ps)) c.in-Some.ensures.steps.0,
-      c.in_ok-parts.ensures fs l.invariant.2,
+      c.in_ok-parts.ensures.adds fs l.invariant.2,
     )
 
-pub returns : goal.returns
-returns g c =
+pub returns-clause-answered : goal.returns-clause-answered
+returns-clause-answered g c =
     let l = c.pairs in
     let x = extensions_in c.args.evaluator.now in
     let calls = calls_in c.args.evaluator.now in

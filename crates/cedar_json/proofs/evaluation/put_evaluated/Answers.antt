@@ -6,11 +6,11 @@ use Rattle.cedar_json.specs.Evaluated.{AreEvaluated}
 use Rattle.cedar_json.proofs.Answered.{one_more_evaluated}
 use Rattle.cedar_json.proofs.evaluation.put_evaluated.Goals as goal
 
-pub returns-in-Ok-push : goal.returns-in-Ok-push
-returns-in-Ok-push g c =
+pub returns-in-Ok-push-clause-adds : goal.returns-in-Ok-push-clause-adds
+returns-in-Ok-push-clause-adds g c =
     let x = extensions_in c.args.evaluator.now in
     let calls = calls_in c.args.evaluator.now in
     let n = limit_of c.args.evaluator.now in
     let e = stated_view c.args.stated in
     let pushed : c.push.new.self.items ≡ c.args.entities.now.items ++ c.in-Ok.entity ∷ [] = search rules in
-    λ es h. subst (λ (ds : List Entity). AreEvaluated x calls n (es ++ e ∷ []) ds) (sym pushed) (one_more_evaluated x calls n es c.args.entities.now.items e c.in-Ok.entity h c.in-Ok.ensures)
+    λ es h. subst (λ (ds : List Entity). AreEvaluated x calls n (es ++ e ∷ []) ds) (sym pushed) (one_more_evaluated x calls n es c.args.entities.now.items e c.in-Ok.entity h c.in-Ok.ensures.evaluated)

@@ -1,5 +1,5 @@
 use Rattle.cedar_json.proofs.Among.{put_among}
 use Rattle.cedar_json.proofs.evaluation.put_uid.Goals as goal
 
-pub returns-in-Ok : goal.returns-in-Ok
-returns-in-Ok c = put_among c.args.set.now.keys c.insert.new.self.keys c.args.uid c.in-Ok.field-0 c.in-Ok.ensures.added c.in-Ok.ensures.keys
+pub returns-in-Ok-clause-puts : goal.returns-in-Ok-clause-puts
+returns-in-Ok-clause-puts c = put_among c.args.set.now.keys c.insert.new.self.keys c.args.uid c.in-Ok.field-0 c.in-Ok.ensures.added c.in-Ok.ensures.keys

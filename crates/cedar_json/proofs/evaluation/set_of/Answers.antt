@@ -15,5 +15,5 @@ uids-preserved c =
     let u = c.in-Some.uid in (
       done ++ u ∷ [],
       l.invariant.1 ∙ ap (λ (us : List EntityUID). done ++ us) c.in-Some.ensures.steps.0 ∙ sym (append_assoc done (u ∷ []) (into_iter_items c.next.new.self)),
-      λ e. one_more_among (names_of l.set.keys) (names_of c.put_uid.new.set.keys) (names_of done) (uid_name u) c.in_ok-put_uid.ensures l.invariant.2 e ∙ ap (is_among e) (sym (map-append uid_name done (u ∷ []))),
+      λ e. one_more_among (names_of l.set.keys) (names_of c.put_uid.new.set.keys) (names_of done) (uid_name u) c.in_ok-put_uid.ensures.puts l.invariant.2 e ∙ ap (is_among e) (sym (map-append uid_name done (u ∷ []))),
     )

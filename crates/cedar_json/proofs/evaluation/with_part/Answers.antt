@@ -10,8 +10,8 @@ use Rattle.cedar_json.specs.Evaluated.{AreAnswered}
 use Rattle.cedar_json.proofs.Answered.{answered_insert}
 use Rattle.cedar_json.proofs.evaluation.with_part.Goals as goal
 
-pub returns-in-Ok-with : goal.returns-in-Ok-with
-returns-in-Ok-with g c =
+pub returns-in-Ok-with-clause-adds : goal.returns-in-Ok-with-clause-adds
+returns-in-Ok-with-clause-adds g c =
     let x = extensions_in c.args.evaluator.now in
     let calls = calls_in c.args.evaluator.now in
     let n = limit_of c.args.evaluator.now in
