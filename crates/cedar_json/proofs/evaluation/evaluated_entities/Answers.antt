@@ -1,4 +1,4 @@
-use Rattle.std.proofs.Common.{◌≡◌, ℕ, subst}
+use Rattle.std.proofs.Common.{ℕ, subst}
 use Rattle.cedar_extensions.specs.Extensions.{extensions_view, calls_of}
 use Rattle.cedar_restricted.specs.Evaluators.{limit_of}
 use Rattle.cedar_json.specs.StatedEntities.{stated_views}
@@ -10,4 +10,4 @@ returns-in-Ok-clause-evaluated g c =
     let es = stated_views c.args.stated.items in
     let ds = c.evaluate_all.new.entities.items in
     subst (λ (m : ℕ). AreEvaluated (extensions_view c.args.extensions.now) (calls_of c.args.extensions.now) m es ds) c.new-evaluator.ensures.limit
-          (subst (λ y. AreEvaluated (extensions_view y) (calls_of y) (limit_of c.new-evaluator.result) es ds) c.new-evaluator.ensures.extensions c.in-Ok.ensures.evaluated)
+    (subst (λ y. AreEvaluated (extensions_view y) (calls_of y) (limit_of c.new-evaluator.result) es ds) c.new-evaluator.ensures.extensions c.in-Ok.ensures.evaluated)
