@@ -27,7 +27,8 @@ use cedar_restricted_expressions::RestrictedExpr;
 use json::{Error, Scratch, Value};
 use std::alloc::{AllocError, Global};
 
-/// The restricted expression that the text says, as `restricted_expr_from_json_value` reads it. `Syntax` where the text is
+/// The restricted expression that the text says, as `restricted_expr_from_json_value` reads it. `Syntax` where the
+/// text is
 /// no JSON, and `DuplicateKey` where an object of it has a key twice.
 pub fn restricted_expr_from_json_str(alloc: Global, text: &str) -> Result<RestrictedExpr, JsonError>
     ensures said { IfOk result (λ r. Says text.now said (restricted_term r)) }
@@ -40,7 +41,8 @@ pub fn restricted_expr_from_json_str(alloc: Global, text: &str) -> Result<Restri
     }
 }
 
-/// The context that the text says, evaluated with these extensions at most `limit` levels deep: the members of an object,
+/// The context that the text says, evaluated with these extensions at most `limit` levels deep: the members of an
+/// object,
 /// each a value as `restricted_expr_from_json_value` reads it. `Evaluation` holds the error of the evaluation.
 pub fn context_from_json_str(
     alloc: Global,
@@ -48,9 +50,11 @@ pub fn context_from_json_str(
     extensions: &Extensions<'_>,
     limit: usize,
 ) -> Result<Context, JsonError>
-    ensures made { IfOk result (λ c. SaysSo text.now (λ j. IsContextOf (extensions_view extensions.now) (calls_of extensions.now) limit
+    ensures made { IfOk result
+        (λ c. SaysSo text.now (λ j. IsContextOf (extensions_view extensions.now) (calls_of extensions.now) limit
         (context_said j) c)) }
-    ensures refused { IfErr result (IsTextError text.now (λ j e. IsContextRefusal (extensions_view extensions.now) (calls_of extensions.now) limit
+    ensures refused { IfErr result
+        (IsTextError text.now (λ j e. IsContextRefusal (extensions_view extensions.now) (calls_of extensions.now) limit
         (context_said j) [] e)) }
 {
     let mut scratch = Scratch::new(alloc);
@@ -60,7 +64,8 @@ pub fn context_from_json_str(
     }
 }
 
-/// The entities that the text says, with their attributes and tags evaluated with these extensions at most `limit` levels
+/// The entities that the text says, with their attributes and tags evaluated with these extensions at most `limit`
+/// levels
 /// deep. The ancestors of each are its parents alone, as the text has them.
 pub fn entities_from_json_str(
     alloc: Global,
@@ -68,7 +73,8 @@ pub fn entities_from_json_str(
     extensions: &Extensions<'_>,
     limit: usize,
 ) -> Result<Vec<Entity>, JsonError>
-    ensures made { IfOk result (λ r. SaysSo text.now (λ j. AreEntitiesOf (extensions_view extensions.now) (calls_of extensions.now) limit
+    ensures made { IfOk result
+        (λ r. SaysSo text.now (λ j. AreEntitiesOf (extensions_view extensions.now) (calls_of extensions.now) limit
         (entities_said j) r.items)) }
     ensures refused { IfErr result (IsTextError text.now (λ j e. IsEntitiesError (entities_said j) e)) }
 {
@@ -78,7 +84,8 @@ pub fn entities_from_json_str(
     }
 }
 
-/// The entities that the text says, before anything of them is evaluated: an array of objects, each with a `uid`, `attrs`,
+/// The entities that the text says, before anything of them is evaluated: an array of objects, each with a `uid`,
+/// `attrs`,
 /// `parents` and, where there are any, `tags`. An entity that comes again is refused.
 pub fn stated_entities_from_json_str(
     alloc: Global,
@@ -94,7 +101,8 @@ pub fn stated_entities_from_json_str(
     }
 }
 
-/// The request that the text says, its context evaluated with these extensions at most `limit` levels deep: an object of a
+/// The request that the text says, its context evaluated with these extensions at most `limit` levels deep: an object
+/// of a
 /// `principal`, an `action`, a `resource`, each a type and an id, and a `context`.
 pub fn request_from_json_str(
     alloc: Global,
@@ -102,9 +110,11 @@ pub fn request_from_json_str(
     extensions: &Extensions<'_>,
     limit: usize,
 ) -> Result<Request, JsonError>
-    ensures made { IfOk result (λ r. SaysSo text.now (λ j. IsRequestOf (extensions_view extensions.now) (calls_of extensions.now) limit
+    ensures made { IfOk result
+        (λ r. SaysSo text.now (λ j. IsRequestOf (extensions_view extensions.now) (calls_of extensions.now) limit
         (request_said j) r)) }
-    ensures refused { IfErr result (IsTextError text.now (λ j e. IsRequestRefusal (extensions_view extensions.now) (calls_of extensions.now) limit
+    ensures refused { IfErr result
+        (IsTextError text.now (λ j e. IsRequestRefusal (extensions_view extensions.now) (calls_of extensions.now) limit
         (request_said j) e)) }
 {
     let mut scratch = Scratch::new(alloc);
