@@ -88,8 +88,7 @@ fn put_entities(
     Ok(())
 }
 
-// Puts the entity, which has this index, behind those that are there, if it is none of those that were seen. Then it
-// was.
+// Puts the entity, which has this index, behind those that are there, if it was not seen before. Now it was.
 fn put_item(
     alloc: Global,
     item: &Value<'_>,

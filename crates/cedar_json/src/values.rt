@@ -25,7 +25,9 @@ use std::alloc::Global;
 use std::rc::RcStr;
 
 /// The restricted expression that the JSON value says: a boolean, a long, a string, a set of the elements of an array,
-/// a record of the members of an object, an entity, a call of an extension function, or an unknown.
+/// a record of the members of an object, an entity, a call of an extension function, or an unknown. Refuses with
+/// `Refused`, which holds the path of the first part that says none of these, in the order of the text, and the reason;
+/// in a call the other members come before what stands at `fn`, if that is no name. `Memory` is want of memory.
 #[cycle(values)]
 pub fn restricted_expr_from_json_value(
     alloc: Global,
