@@ -1,6 +1,6 @@
 -- Why there is no context of a record.
 use Rattle.std.proofs.Common.{◌≡◌, true, false, ℕ, List, [], ◌∷◌, Option, Some, None, Ok, Err, refl, sym, ap, ◌∙◌, subst}
-use Rattle.cedar_model.specs.Terms.{Text, Term, record_of}
+use Rattle.cedar_model.specs.Terms.{Text, Term}
 use Rattle.cedar_model.specs.World as world
 use Rattle.cedar_model.specs.Rules.{StoredCalls, fields_of_record}
 use Rattle.cedar_expressions.specs.Records.{first_repeated}
@@ -9,16 +9,15 @@ use Rattle.cedar_requests.specs.declared.context.Context.{Context}
 use Rattle.cedar_requests.specs.declared.errors.ContextCreationError.{ContextCreationError}
 use Rattle.cedar_requests.specs.declared.errors.ContextCreationError.TheVariants as creations
 use Rattle.cedar_requests.specs.Creations.{IsCreated, is_record}
-use Rattle.json.specs.Json.{Json, Members}
-use Rattle.json.specs.Find.{as_object}
+use Rattle.json.specs.Json.{Members}
 use Rattle.cedar_values.specs.declared.evaluator.err.EvaluationError.{EvaluationError}
 use Rattle.cedar_json.specs.declared.errors.JsonError.{JsonError}
 use Rattle.cedar_json.specs.declared.errors.JsonError.TheVariants as errors
-use Rattle.cedar_json.specs.Paths.{Step, at_key, path_view}
+use Rattle.cedar_json.specs.Paths.{Step, path_view}
 use Rattle.cedar_json.specs.declared.paths.JsonPath.{JsonPath}
-use Rattle.cedar_json.specs.Refusals.{Said, under, refused, IsRefusal, IsUnder}
-use Rattle.cedar_json.specs.Said.{said_members, record_said, record_of_pairs, unique_said, keys_of_pairs}
-use Rattle.cedar_json.specs.SaidContexts.{record_in, context_said, IsContextOf, IsFailedContext, IsContextRefusal, IsUncreated}
+use Rattle.cedar_json.specs.Refusals.{Said, under, IsRefusal, IsUnder}
+use Rattle.cedar_json.specs.Said.{said_members, record_said, unique_said, keys_of_pairs}
+use Rattle.cedar_json.specs.SaidContexts.{record_in, IsContextOf, IsFailedContext, IsContextRefusal, IsUncreated}
 
 -- what was said is a record
 abbrev IsSaidRecord : Said Term → Type 0

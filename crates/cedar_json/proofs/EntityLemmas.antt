@@ -1,5 +1,5 @@
 -- What the members of an entity say.
-use Rattle.std.proofs.Common.{◌≡◌, List, [], ◌∷◌, ◌++◌, map, sym, ap, ◌∙◌}
+use Rattle.std.proofs.Common.{◌≡◌, List, [], ◌∷◌, ◌++◌, sym, ap, ◌∙◌}
 use Rattle.std.proofs.lemmas.List.{map-append}
 use Rattle.cedar_model.specs.Terms.{EntityName}
 use Rattle.cedar_names.specs.declared.names.EntityUID.{EntityUID}

@@ -1,5 +1,5 @@
 -- Texts that write longs.
-use Rattle.std.proofs.Common.{◌≡◌, ◌<◌, ◌≤◌, ℕ, ℤ, pos, negsuc, Bool, true, false, cond, ◌&&◌, List, [], ◌∷◌, length, Option, Some, None, MatchOption, refl, sym, ap, ◌∙◌, FitsSigned, w64, leb, le-leb, leb-true, ltb, lt-ltb, ltb-true, nat_lt, arith, ok_or}
+use Rattle.std.proofs.Common.{◌≡◌, ◌≤◌, ℕ, ℤ, pos, negsuc, Bool, true, false, cond, ◌&&◌, [], ◌∷◌, length, Option, Some, None, MatchOption, refl, sym, ap, ◌∙◌, FitsSigned, w64, leb, le-leb, leb-true, lt-ltb, ltb-true, nat_lt, arith, ok_or}
 use Rattle.std.specs.List.{list_all}
 use Rattle.std.specs.Option.{option_and_then}
 use Rattle.std.specs.Str.Parse.{AllDigits, IsNumeral, without_leading_sign, signed_digits_value, ParsesSigned}

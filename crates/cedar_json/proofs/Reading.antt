@@ -1,11 +1,10 @@
 -- What objects say, and lists that are read.
-use Rattle.std.proofs.Common.{◌≡◌, ℕ, Bool, true, false, cond, List, [], ◌∷◌, ◌++◌, map, Option, Some, None, Ok, Err, refl, sym, ap, ◌∙◌}
+use Rattle.std.proofs.Common.{◌≡◌, Bool, true, false, cond, List, [], ◌∷◌, ◌++◌, map, Option, Some, None, refl, sym, ap, ◌∙◌}
 use Rattle.std.proofs.lemmas.List.{map-append}
 use Rattle.std.specs.Prelude.{bytes_eq, codes}
 use Rattle.std.specs.declared.alloc.Global.{Global}
 use Rattle.std.specs.declared.rc.RcStr.{RcStr}
 use Rattle.json.specs.Json.{Json, null, boolean, number, string, array, object, Members, no_members, member}
-use Rattle.json.specs.Find.{as_str}
 use Rattle.cedar_model.specs.Terms.{Text, Term, one_term, terms_of}
 use Rattle.cedar_expressions.specs.View.{terms_view}
 use Rattle.cedar_expressions.specs.Records.{pairs_view, keys_view}
@@ -13,8 +12,8 @@ use Rattle.cedar_restricted_expressions.specs.declared.restricted_expr.Restricte
 use Rattle.cedar_restricted_expressions.specs.Views.{restricted_term, exprs_in, pairs_in}
 use Rattle.cedar_json.specs.declared.errors.RefusalReason.TheVariants as reasons
 use Rattle.cedar_json.specs.Refusals.{Said, refused, made_of}
-use Rattle.cedar_json.specs.Shapes.{Member, Parts, sole, call_of, call_shape}
-use Rattle.cedar_json.specs.Said.{said, said_members, said_call, said_sole_call, entity_said, object_said, sole_said, record_said, keys_of_pairs}
+use Rattle.cedar_json.specs.Shapes.{Member, Parts, sole, call_shape}
+use Rattle.cedar_json.specs.Said.{said, said_members, said_call, entity_said, sole_said, record_said, keys_of_pairs}
 use Rattle.cedar_json.specs.Lists.{shape_said, pair_said, pairs_said, IsUnrecorded}
 use Rattle.std.specs.Rc.{rc_str_bytes}
 use Rattle.cedar_expressions.specs.declared.errors.ExpressionConstructionError.{ExpressionConstructionError}

@@ -1,10 +1,10 @@
 -- How refusals are passed on.
-use Rattle.std.proofs.Common.{◌≡◌, List, [], ◌∷◌, ◌++◌, Result, Ok, Err, refl, sym, ap, ◌∙◌, subst, append_assoc, append-nil}
+use Rattle.std.proofs.Common.{◌≡◌, List, [], ◌∷◌, ◌++◌, Ok, Err, refl, sym, ap, ◌∙◌, subst, append_assoc, append-nil}
 use Rattle.cedar_json.specs.declared.errors.JsonError.{JsonError}
 use Rattle.cedar_json.specs.declared.errors.JsonError.TheVariants as errors
 use Rattle.cedar_json.specs.declared.errors.RefusalReason.{RefusalReason}
-use Rattle.cedar_json.specs.Paths.{Step, path_view}
-use Rattle.cedar_json.specs.Refusals.{Refusal, Said, under, before, made_of, and_then, IsRefusal, IsRefusedAt, IsUnder, IsMemory}
+use Rattle.cedar_json.specs.Paths.{Step}
+use Rattle.cedar_json.specs.Refusals.{Said, under, before, made_of, and_then, IsRefusal, IsRefusedAt, IsUnder, IsMemory}
 
 pub refused_at : (T : Type 0) (path : List Step) (r : RefusalReason) (e : JsonError) → IsRefusedAt path r e → IsRefusal {T = T} (Err (record { path = path; reason = r })) e
 refused_at T path r errors.Syntax h = h

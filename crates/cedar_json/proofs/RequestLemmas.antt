@@ -1,5 +1,5 @@
 -- What becomes of a request by its parts.
-use Rattle.std.proofs.Common.{◌≡◌, ℕ, List, [], ◌∷◌, Option, Some, Ok, Err, refl, sym, ap, ◌∙◌, subst, codes}
+use Rattle.std.proofs.Common.{◌≡◌, ℕ, [], ◌∷◌, Option, Some, Ok, Err, sym, ap, subst, codes}
 use Rattle.cedar_model.specs.Terms.{EntityName, Term}
 use Rattle.cedar_model.specs.World as world
 use Rattle.cedar_model.specs.Rules.{StoredCalls}
@@ -11,8 +11,8 @@ use Rattle.cedar_requests.specs.declared.request.Request.{Request}
 use Rattle.cedar_requests.specs.Requests.{request_parts}
 use Rattle.cedar_json.specs.declared.errors.JsonError.{JsonError}
 use Rattle.cedar_json.specs.declared.errors.JsonError.TheVariants as errors
-use Rattle.cedar_json.specs.Paths.{Step, at_key}
-use Rattle.cedar_json.specs.Refusals.{Said, made_of, and_then, IsRefusal}
+use Rattle.cedar_json.specs.Paths.{at_key}
+use Rattle.cedar_json.specs.Refusals.{Said, made_of, IsRefusal}
 use Rattle.cedar_json.specs.SaidContexts.{IsContextOf, IsContextRefusal}
 use Rattle.cedar_json.specs.SaidRequests.{SaidRequest, IsKnownAs, IsGivenContext, IsRequestOf, IsRequestRefusal}
 

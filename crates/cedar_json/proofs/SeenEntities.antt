@@ -1,19 +1,18 @@
 -- Entities that are read one by one.
-use Rattle.std.proofs.Common.{◌≡◌, ℕ, ◌+◌, Bool, true, false, cond, List, [], ◌∷◌, ◌++◌, map, Ok, Err, refl, sym, ap, ◌∙◌, subst, append_assoc, codes}
+use Rattle.std.proofs.Common.{◌≡◌, ℕ, ◌+◌, Bool, true, false, cond, List, [], ◌∷◌, ◌++◌, Ok, Err, refl, sym, ap, ◌∙◌, append_assoc, codes}
 use Rattle.std.proofs.lemmas.List.{map-append}
-use Rattle.json.specs.Json.{Json, Items, item}
+use Rattle.json.specs.Json.{Items}
 use Rattle.cedar_model.specs.Terms.{EntityName}
 use Rattle.cedar_model.specs.Settings.{is_among}
 use Rattle.cedar_json.specs.declared.entities.StatedEntity.{StatedEntity}
 use Rattle.cedar_json.specs.declared.errors.JsonError.{JsonError}
-use Rattle.cedar_json.specs.declared.errors.JsonError.TheVariants as errors
 use Rattle.cedar_json.specs.declared.errors.RefusalReason.TheVariants as reasons
 use Rattle.cedar_json.specs.Paths.{at_key, at_index}
 use Rattle.cedar_json.specs.Refusals.{Said, refused, under, made_of, and_then, IsRefusal}
-use Rattle.cedar_json.specs.SaidEntities.{SaidEntity, entity_said, if_new, new_entity, entities_from}
+use Rattle.cedar_json.specs.SaidEntities.{SaidEntity, if_new, entities_from}
 use Rattle.cedar_json.specs.StatedEntities.{stated_view, stated_views}
 use Rattle.cedar_json.specs.Lists.{IsOneMore}
-use Rattle.cedar_json.specs.Evaluated.{AreAmong, PutsName, SeesEntity}
+use Rattle.cedar_json.specs.Evaluated.{AreAmong, SeesEntity}
 use Rattle.cedar_json.proofs.Refused.{none_done, refused_same, refused_made, refused_then}
 use Rattle.cedar_json.proofs.Among.{first_among}
 

@@ -1,7 +1,7 @@
 -- JSON values, kind by kind.
 use Rattle.std.proofs.Common.{◌≡◌, List, ℕ, Bool, rules, Vec}
 use Rattle.std.specs.Borrow.{Bor}
-use Rattle.json.specs.Json.{Json, null, boolean, number, string, array, object}
+use Rattle.json.specs.Json.{null, boolean, number, string, array, object}
 use Rattle.json.specs.Value.{value_view, items_view, members_view}
 use Rattle.json.specs.declared.value.Value.{Value, Null, Bool as Flag, Number, String, Array, Object, the_lemmas}
 

@@ -1,5 +1,5 @@
 -- What JSON texts say.
-use Rattle.std.specs.Prelude.{◌≡◌, ⊤, ℕ, List, None, Ok, Err, IsSomeAnd}
+use Rattle.std.specs.Prelude.{◌≡◌, ⊤, None, Ok, Err, IsSomeAnd}
 use Rattle.json.specs.Json.{Json, document}
 use Rattle.json.specs.Strict.{HasUniqueKeys}
 use Rattle.cedar_model.specs.Terms.{Text}

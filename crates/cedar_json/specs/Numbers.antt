@@ -1,5 +1,5 @@
 -- The numbers that are longs.
-use Rattle.std.specs.Prelude.{ℕ, ℤ, Bool, List, ◌&&◌, if◌then◌else◌, length, nat_lt, Option, Some, None}
+use Rattle.std.specs.Prelude.{ℕ, ℤ, Bool, ◌&&◌, if◌then◌else◌, length, nat_lt, Option, Some, None}
 use Rattle.std.specs.List.{list_all}
 use Rattle.std.specs.Char.{digit_value}
 use Rattle.std.specs.Str.Parse.{without_leading_sign, signed_digits_value}

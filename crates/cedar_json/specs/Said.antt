@@ -1,10 +1,10 @@
 -- What a JSON value says: a restricted expression, or why there is none.
-use Rattle.std.specs.Prelude.{ℕ, ◌+◌, Bool, List, [], ◌∷◌, ◌||◌, ℤ, if◌then◌else◌, map, Option, Some, None, Result, Ok, Err, bytes_eq, codes}
+use Rattle.std.specs.Prelude.{ℕ, ◌+◌, Bool, List, [], ◌∷◌, ◌||◌, ℤ, if◌then◌else◌, map, Option, Some, None, Ok, bytes_eq, codes}
 use Rattle.json.specs.Json.{Json, null, boolean, number, string, array, object, Items, no_items, item, Members, no_members, member}
 use Rattle.json.specs.Find.{as_str}
-use Rattle.cedar_model.specs.Terms.{Text, EntityName, Term, literal, bool_literal, long_literal, text_literal, entity_literal, variable, slot, unknown}
-use Rattle.cedar_model.specs.Terms.{if_then_else, both, either, unary, binary, call, get_attribute, has_attribute, extended_has, like}
-use Rattle.cedar_model.specs.Terms.{is_of_type, set_of, record_of, terms_of}
+use Rattle.cedar_model.specs.Terms.{Text, EntityName, Term, literal, bool_literal, long_literal, text_literal, entity_literal, unknown}
+use Rattle.cedar_model.specs.Terms.{call}
+use Rattle.cedar_model.specs.Terms.{set_of, record_of, terms_of}
 use Rattle.cedar_expressions.specs.Records.{first_repeated, fields_in_order}
 use Rattle.cedar_restricted_expressions.specs.Readers.{text_in}
 use Rattle.cedar_json.specs.declared.errors.RefusalReason.TheVariants as reasons

@@ -1,5 +1,5 @@
 -- What the JSON of a request says, and what becomes of it.
-use Rattle.std.specs.Prelude.{◌≡◌, ⊤, ℕ, List, [], ◌∷◌, Bool, ◌||◌, Option, Some, None, Ok, Err, bytes_eq, codes}
+use Rattle.std.specs.Prelude.{◌≡◌, ⊤, ℕ, [], ◌∷◌, Bool, ◌||◌, Option, Some, None, Ok, Err, bytes_eq, codes}
 use Rattle.json.specs.Json.{Json}
 use Rattle.json.specs.Find.{as_object, get}
 use Rattle.cedar_model.specs.Terms.{Text, EntityName, Term}

@@ -88,7 +88,7 @@ fn put_entities(
     Ok(())
 }
 
-// Puts the entity, which has this index, behind those that are there, if it is none of those that were seen. Then it was.
+// Puts the entity, which has this index, behind those that are there, if it was not seen before. Now it was.
 fn put_item(
     alloc: Global,
     item: &Value<'_>,
@@ -203,7 +203,8 @@ fn with_uid(alloc: Global, value: &Value<'_>) -> Result<StatedEntity, JsonError>
 }
 
 fn with_attrs(alloc: Global, value: &Value<'_>, uid: EntityUID) -> Result<StatedEntity, JsonError>
-    ensures said { IfOk result (λ r. stated.with_attributes (uid_name uid) (value_view value.now) ≡ Ok (stated_view r)) }
+    ensures said { IfOk result
+        (λ r. stated.with_attributes (uid_name uid) (value_view value.now) ≡ Ok (stated_view r)) }
     ensures refused { IfErr result (IsRefusal (stated.with_attributes (uid_name uid) (value_view value.now))) }
 {
     match attrs_at(alloc, value) {
@@ -221,8 +222,11 @@ fn with_parents(
     uid: EntityUID,
     attrs: Vec<(RcStr, RestrictedExpr)>,
 ) -> Result<StatedEntity, JsonError>
-    ensures said { IfOk result (λ r. stated.with_parents (uid_name uid) (pairs_said attrs.items) (value_view value.now) ≡ Ok (stated_view r)) }
-    ensures refused { IfErr result (IsRefusal (stated.with_parents (uid_name uid) (pairs_said attrs.items) (value_view value.now))) }
+    ensures said { IfOk result
+        (λ r. stated.with_parents (uid_name uid) (pairs_said attrs.items) (value_view value.now) ≡
+        Ok (stated_view r)) }
+    ensures refused { IfErr result
+        (IsRefusal (stated.with_parents (uid_name uid) (pairs_said attrs.items) (value_view value.now))) }
 {
     match parents_at(alloc, value) {
         Ok(parents) => with_tags(alloc, value, uid, attrs, parents),
@@ -240,8 +244,10 @@ fn with_tags(
     attrs: Vec<(RcStr, RestrictedExpr)>,
     parents: Vec<EntityUID>,
 ) -> Result<StatedEntity, JsonError>
-    ensures said { IfOk result (λ r. stated.with_tags (uid_name uid) (pairs_said attrs.items) (names_of parents.items) (value_view value.now) ≡ Ok (stated_view r)) }
-    ensures refused { IfErr result (IsRefusal (stated.with_tags (uid_name uid) (pairs_said attrs.items) (names_of parents.items) (value_view value.now))) }
+    ensures said { IfOk result
+        (λ r. stated.with_tags (uid_name uid) (pairs_said attrs.items) (names_of parents.items) (value_view value.now) ≡ Ok (stated_view r)) }
+    ensures refused { IfErr result
+        (IsRefusal (stated.with_tags (uid_name uid) (pairs_said attrs.items) (names_of parents.items) (value_view value.now))) }
 {
     match tags_at(alloc, value) {
         Ok(tags) => Ok(StatedEntity {
@@ -259,7 +265,8 @@ fn with_tags(
 
 // The first key that is none of an entity's.
 fn unexpected<'v, 'a>(members: &'v Vec<(&'a str, Value<'a>)>) -> Option<&'v str>
-    ensures { option_map (λ k. k.now) result ≡ stated.first_other stated.is_entity_key (members_view members.now.items) }
+    ensures { option_map (λ k. k.now) result ≡
+        stated.first_other stated.is_entity_key (members_view members.now.items) }
 {
     'members: for member in members {
         if !is_entity_key(member.0) {
@@ -358,7 +365,8 @@ fn pairs_under(
     value: &Value<'_>,
     key: &str,
 ) -> Result<Vec<(RcStr, RestrictedExpr)>, JsonError>
-    ensures said { IfOk result (λ r. under (at_key key.now) (stated.pairs_of (value_view value.now)) ≡ Ok (pairs_said r.items)) }
+    ensures said { IfOk result
+        (λ r. under (at_key key.now) (stated.pairs_of (value_view value.now)) ≡ Ok (pairs_said r.items)) }
     ensures refused { IfErr result (IsRefusal (under (at_key key.now) (stated.pairs_of (value_view value.now)))) }
 {
     match object(value) {

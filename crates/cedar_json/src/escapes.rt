@@ -78,7 +78,8 @@ pub(crate) fn called(
     function: &str,
     args: Vec<RestrictedExpr>,
 ) -> Result<RestrictedExpr, JsonError>
-    ensures said { IfOk result (λ r. says.called function.now (map restricted_term args.items) ≡ Ok (restricted_term r)) }
+    ensures said { IfOk result
+        (λ r. says.called function.now (map restricted_term args.items) ≡ Ok (restricted_term r)) }
     ensures refused { IfErr result (IsRefusal (says.called function.now (map restricted_term args.items))) }
 {
     if function == "unknown" {
@@ -98,7 +99,8 @@ fn extension_call(
     function: &str,
     args: Vec<RestrictedExpr>,
 ) -> Result<RestrictedExpr, JsonError>
-    ensures said { IfOk result (λ r. restricted_term r ≡ call function.now (terms_of (map restricted_term args.items))) }
+    ensures said { IfOk result
+        (λ r. restricted_term r ≡ call function.now (terms_of (map restricted_term args.items))) }
     ensures memory { IfErr result IsMemory }
 {
     match RcStr::from_str(alloc, function) {

@@ -66,7 +66,8 @@ pub fn evaluated_entities(
     extensions: &Extensions<'_>,
     limit: usize,
 ) -> Result<Vec<Entity>, JsonError>
-    ensures evaluated { IfOk result (λ r. AreEvaluated (extensions_view extensions.now) (calls_of extensions.now) limit
+    ensures evaluated { IfOk result
+        (λ r. AreEvaluated (extensions_view extensions.now) (calls_of extensions.now) limit
         (stated_views stated.items) r.items) }
     ensures failed { IfErr result IsEvaluationError }
 {

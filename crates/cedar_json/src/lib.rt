@@ -1,16 +1,16 @@
 //! Cedar's JSON: values, contexts, entities and requests.
 //!
 //! - A value: `true`, `false`, an integer of 64 bits, a string; an array is a set, an object a record;
-//!   `{"__entity": {"type": "A::B", "id": "x"}}` is an entity, `{"__extn": {"fn": "ip", "arg": "10.0.0.1"}}` a call of an
-//!   extension function, with `"args": [..]` for more or fewer arguments than one, and
-//!   `{"__extn": {"fn": "unknown", "arg": "x"}}` the unknown of that name.
+//!   `{"__entity": {"type": "A::B", "id": "x"}}` is an entity, and `{"__extn": {"fn": "ip", "arg": "10.0.0.1"}}` a call
+//!   of an extension function, with `"args": [..]` for more or fewer arguments than one; and
+//!   `{"__extn": {"fn": "unknown", "arg": "x"}}` is the unknown of that name.
 //! - A context: an object of values.
-//! - Entities: an array of objects, each with a `uid`, `attrs`, `parents` and, if need be, `tags`. A uid is
-//!   `{"type": .., "id": ..}` or that at `__entity`.
-//! - A request: an object with a `principal`, an `action`, a `resource` and a `context`.
+//! - Entities: an array of objects, each with a `uid`, `attrs`, `parents` and, where there are any, `tags`. A uid is
+//!   `{"type": .., "id": ..}`, or that at `__entity`.
+//! - A request: an object of a `principal`, an `action`, a `resource` and a `context`.
 //!
-//! What is no such thing is refused, with the path of the part that is at fault. A text may nest at most 128 levels deep, and no
-//! object of it may have a key twice.
+//! What is no such thing is refused, with the path of the part that is at fault. A text may nest at most 128 levels
+//! deep, and no object of it may have a key twice. A key `__entity`, `__extn` or `__expr` is no attribute's.
 #![tactic(auto)]
 
 mod contexts;

@@ -156,7 +156,8 @@ fn context_at(
     extensions: &Extensions<'_>,
     limit: usize,
 ) -> Result<Context, JsonError>
-    ensures made { IfOk result (IsContextOf (extensions_view extensions.now) (calls_of extensions.now) limit (asked.context_at (value_view value.now))) }
+    ensures made { IfOk result
+        (IsContextOf (extensions_view extensions.now) (calls_of extensions.now) limit (asked.context_at (value_view value.now))) }
     ensures refused { IfErr result (IsContextRefusal (extensions_view extensions.now) (calls_of extensions.now) limit
         (asked.context_at (value_view value.now)) (at_key (codes "context") ∷ [])) }
 {

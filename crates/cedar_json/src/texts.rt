@@ -27,8 +27,9 @@ use cedar_restricted_expressions::RestrictedExpr;
 use json::{Error, Scratch, Value};
 use std::alloc::{AllocError, Global};
 
-/// The restricted expression that the text says, as `restricted_expr_from_json_value` reads it. `Syntax` where the text is
-/// no JSON, and `DuplicateKey` where an object of it has a key twice.
+/// The restricted expression that the text says, as `restricted_expr_from_json_value` reads it. `Syntax` where the
+/// text is no JSON or nests deeper than 128 levels, `DuplicateKey` where an object of it has a key twice, and
+/// `Refused` as `restricted_expr_from_json_value` answers.
 pub fn restricted_expr_from_json_str(alloc: Global, text: &str) -> Result<RestrictedExpr, JsonError>
     ensures said { IfOk result (λ r. Says text.now said (restricted_term r)) }
     ensures refused { IfErr result (IsTextRefusal text.now said) }
@@ -40,17 +41,20 @@ pub fn restricted_expr_from_json_str(alloc: Global, text: &str) -> Result<Restri
     }
 }
 
-/// The context that the text says, evaluated with these extensions at most `limit` levels deep: the members of an object,
-/// each a value as `restricted_expr_from_json_value` reads it. `Evaluation` holds the error of the evaluation.
+/// The context that the text says: the members of an object, evaluated with these extensions at most `limit` levels
+/// deep. Refuses as `restricted_expr_from_json_str` does; what is no object, with `NotAnObject`. `Evaluation` holds the
+/// error of the evaluation, at the path `$`.
 pub fn context_from_json_str(
     alloc: Global,
     text: &str,
     extensions: &Extensions<'_>,
     limit: usize,
 ) -> Result<Context, JsonError>
-    ensures made { IfOk result (λ c. SaysSo text.now (λ j. IsContextOf (extensions_view extensions.now) (calls_of extensions.now) limit
+    ensures made { IfOk result
+        (λ c. SaysSo text.now (λ j. IsContextOf (extensions_view extensions.now) (calls_of extensions.now) limit
         (context_said j) c)) }
-    ensures refused { IfErr result (IsTextError text.now (λ j e. IsContextRefusal (extensions_view extensions.now) (calls_of extensions.now) limit
+    ensures refused { IfErr result
+        (IsTextError text.now (λ j e. IsContextRefusal (extensions_view extensions.now) (calls_of extensions.now) limit
         (context_said j) [] e)) }
 {
     let mut scratch = Scratch::new(alloc);
@@ -60,15 +64,18 @@ pub fn context_from_json_str(
     }
 }
 
-/// The entities that the text says, with their attributes and tags evaluated with these extensions at most `limit` levels
-/// deep. The ancestors of each are its parents alone, as the text has them.
+/// The entities that the text says, in order, with their attributes and tags evaluated with these extensions at most
+/// `limit` levels deep. The recorded ancestors of each are its parents alone, as the text has them. Refuses as
+/// `stated_entities_from_json_str` does, before anything is evaluated. `Evaluation` holds the error of an attribute or
+/// a tag, and where that stands.
 pub fn entities_from_json_str(
     alloc: Global,
     text: &str,
     extensions: &Extensions<'_>,
     limit: usize,
 ) -> Result<Vec<Entity>, JsonError>
-    ensures made { IfOk result (λ r. SaysSo text.now (λ j. AreEntitiesOf (extensions_view extensions.now) (calls_of extensions.now) limit
+    ensures made { IfOk result
+        (λ r. SaysSo text.now (λ j. AreEntitiesOf (extensions_view extensions.now) (calls_of extensions.now) limit
         (entities_said j) r.items)) }
     ensures refused { IfErr result (IsTextError text.now (λ j e. IsEntitiesError (entities_said j) e)) }
 {
@@ -78,8 +85,10 @@ pub fn entities_from_json_str(
     }
 }
 
-/// The entities that the text says, before anything of them is evaluated: an array of objects, each with a `uid`, `attrs`,
-/// `parents` and, where there are any, `tags`. An entity that comes again is refused.
+/// The entities that the text says, of which nothing is evaluated: an array of objects, each with a `uid`, `attrs`,
+/// `parents` and, where there are any, `tags`. A uid is a type and an id, with or without `__entity` around. `Syntax`
+/// and `DuplicateKey` as for a value; else the first refusal, in the order of the text, and in an entity in the order
+/// unexpected members, `uid`, `attrs`, `parents`, `tags`. An entity that comes again is refused at its `uid`.
 pub fn stated_entities_from_json_str(
     alloc: Global,
     text: &str,
@@ -94,17 +103,21 @@ pub fn stated_entities_from_json_str(
     }
 }
 
-/// The request that the text says, its context evaluated with these extensions at most `limit` levels deep: an object of a
-/// `principal`, an `action`, a `resource`, each a type and an id, and a `context`.
+/// The request that the text says: an object of a `principal`, an `action` and a `resource`, each a type and an id, and
+/// of a `context`, evaluated with these extensions at most `limit` levels deep. `Syntax` and `DuplicateKey` as for a
+/// value; else the first refusal, in the order unexpected members, `principal`, `action`, `resource`, `context`.
+/// `Evaluation` holds the error of the evaluation of the context, at the path `$.context`.
 pub fn request_from_json_str(
     alloc: Global,
     text: &str,
     extensions: &Extensions<'_>,
     limit: usize,
 ) -> Result<Request, JsonError>
-    ensures made { IfOk result (λ r. SaysSo text.now (λ j. IsRequestOf (extensions_view extensions.now) (calls_of extensions.now) limit
+    ensures made { IfOk result
+        (λ r. SaysSo text.now (λ j. IsRequestOf (extensions_view extensions.now) (calls_of extensions.now) limit
         (request_said j) r)) }
-    ensures refused { IfErr result (IsTextError text.now (λ j e. IsRequestRefusal (extensions_view extensions.now) (calls_of extensions.now) limit
+    ensures refused { IfErr result
+        (IsTextError text.now (λ j e. IsRequestRefusal (extensions_view extensions.now) (calls_of extensions.now) limit
         (request_said j) e)) }
 {
     let mut scratch = Scratch::new(alloc);

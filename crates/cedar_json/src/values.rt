@@ -25,7 +25,9 @@ use std::alloc::Global;
 use std::rc::RcStr;
 
 /// The restricted expression that the JSON value says: a boolean, a long, a string, a set of the elements of an array,
-/// a record of the members of an object, an entity, a call of an extension function, or an unknown.
+/// a record of the members of an object, an entity, a call of an extension function, or an unknown. Refuses with
+/// `Refused`, which holds the path of the first part that says none of these, in the order of the text, and the reason;
+/// in a call the other members come before what stands at `fn`, if that is no name. `Memory` is want of memory.
 #[cycle(values)]
 pub fn restricted_expr_from_json_value(
     alloc: Global,
@@ -75,7 +77,8 @@ fn read_text(alloc: Global, text: &str) -> Result<RestrictedExpr, JsonError>
 
 #[cycle(values)]
 fn read_set(alloc: Global, items: &Vec<Value<'_>>) -> Result<RestrictedExpr, JsonError>
-    ensures said { IfOk result (λ r. says.set_said (says.said_items 0 (items_view items.now.items)) ≡ Ok (restricted_term r)) }
+    ensures said { IfOk result
+        (λ r. says.set_said (says.said_items 0 (items_view items.now.items)) ≡ Ok (restricted_term r)) }
     ensures refused { IfErr result (IsRefusal (says.set_said (says.said_items 0 (items_view items.now.items)))) }
 {
     let mut elements: Vec<RestrictedExpr> = Vec::new(alloc);
@@ -99,7 +102,8 @@ fn read_items(
     elements: &mut Vec<RestrictedExpr>,
 ) -> Result<(), JsonError>
     requires { elements.old.items ≡ [] }
-    ensures said { OnOk result (says.said_items 0 (items_view items.now.items) ≡ Ok (map restricted_term elements.new.items)) }
+    ensures said { OnOk result
+        (says.said_items 0 (items_view items.now.items) ≡ Ok (map restricted_term elements.new.items)) }
     ensures refused { IfErr result (IsRefusal (says.said_items 0 (items_view items.now.items))) }
 {
     let mut index: usize = 0;
@@ -152,8 +156,10 @@ pub(crate) fn read_record<'a>(
     alloc: Global,
     members: &Vec<(&'a str, Value<'a>)>,
 ) -> Result<RestrictedExpr, JsonError>
-    ensures said { IfOk result (λ r. says.record_said (says.said_members (members_view members.now.items)) ≡ Ok (restricted_term r)) }
-    ensures refused { IfErr result (IsRefusal (says.record_said (says.said_members (members_view members.now.items)))) }
+    ensures said { IfOk result
+        (λ r. says.record_said (says.said_members (members_view members.now.items)) ≡ Ok (restricted_term r)) }
+    ensures refused { IfErr result
+        (IsRefusal (says.record_said (says.said_members (members_view members.now.items)))) }
 {
     let mut pairs: Vec<(RcStr, RestrictedExpr)> = Vec::new(alloc);
     match read_members(alloc, members, &mut pairs) {
@@ -214,7 +220,8 @@ pub(crate) fn read_members<'a>(
     pairs: &mut Vec<(RcStr, RestrictedExpr)>,
 ) -> Result<(), JsonError>
     requires { pairs.old.items ≡ [] }
-    ensures said { OnOk result (says.said_members (members_view members.now.items) ≡ Ok (pairs_said pairs.new.items)) }
+    ensures said { OnOk result
+        (says.said_members (members_view members.now.items) ≡ Ok (pairs_said pairs.new.items)) }
     ensures refused { IfErr result (IsRefusal (says.said_members (members_view members.now.items))) }
 {
     'members: for member in members {
@@ -268,8 +275,10 @@ fn put_pair(
 
 #[cycle(values)]
 fn read_call(alloc: Global, call: &Value<'_>) -> Result<RestrictedExpr, JsonError>
-    ensures said { IfOk result (λ r. under (at_key (codes "__extn")) (says.said_call (value_view call.now)) ≡ Ok (restricted_term r)) }
-    ensures refused { IfErr result (IsRefusal (under (at_key (codes "__extn")) (says.said_call (value_view call.now)))) }
+    ensures said { IfOk result
+        (λ r. under (at_key (codes "__extn")) (says.said_call (value_view call.now)) ≡ Ok (restricted_term r)) }
+    ensures refused { IfErr result
+        (IsRefusal (under (at_key (codes "__extn")) (says.said_call (value_view call.now)))) }
 {
     match call_shape(call) {
         Some(shape) => match read_shape(alloc, shape) {
@@ -298,8 +307,11 @@ fn read_called(
     key: &str,
     argument: &Value<'_>,
 ) -> Result<RestrictedExpr, JsonError>
-    ensures said { IfOk result (λ r. and_then (says.called function.now) (arguments_of key.now (value_view argument.now)) ≡ Ok (restricted_term r)) }
-    ensures refused { IfErr result (IsRefusal (and_then (says.called function.now) (arguments_of key.now (value_view argument.now)))) }
+    ensures said { IfOk result
+        (λ r. and_then (says.called function.now) (arguments_of key.now (value_view argument.now)) ≡
+        Ok (restricted_term r)) }
+    ensures refused { IfErr result
+        (IsRefusal (and_then (says.called function.now) (arguments_of key.now (value_view argument.now)))) }
 {
     let mut args: Vec<RestrictedExpr> = Vec::new(alloc);
     match read_arguments(alloc, key, argument, &mut args) {
@@ -320,7 +332,8 @@ fn read_arguments(
     args: &mut Vec<RestrictedExpr>,
 ) -> Result<(), JsonError>
     requires { args.old.items ≡ [] }
-    ensures said { OnOk result (arguments_of key.now (value_view argument.now) ≡ Ok (map restricted_term args.new.items)) }
+    ensures said { OnOk result
+        (arguments_of key.now (value_view argument.now) ≡ Ok (map restricted_term args.new.items)) }
     ensures refused { IfErr result (IsRefusal (arguments_of key.now (value_view argument.now))) }
 {
     if key == "arg" {
@@ -342,8 +355,11 @@ fn read_argument(
     args: &mut Vec<RestrictedExpr>,
 ) -> Result<(), JsonError>
     requires { args.old.items ≡ [] }
-    ensures said { OnOk result (made_of says.one (under (at_key (codes "arg")) (says.said (value_view argument.now))) ≡ Ok (map restricted_term args.new.items)) }
-    ensures refused { IfErr result (IsRefusal (made_of says.one (under (at_key (codes "arg")) (says.said (value_view argument.now))))) }
+    ensures said { OnOk result
+        (made_of says.one (under (at_key (codes "arg")) (says.said (value_view argument.now))) ≡
+        Ok (map restricted_term args.new.items)) }
+    ensures refused { IfErr result
+        (IsRefusal (made_of says.one (under (at_key (codes "arg")) (says.said (value_view argument.now))))) }
 {
     match restricted_expr_from_json_value(alloc, argument) {
         Ok(argument) => put(argument, args),

@@ -1,7 +1,6 @@
 use Rattle.std.proofs.Common.{◌≡◌, Ok, Err, ap, subst}
 use Rattle.json.specs.Find.{as_object}
 use Rattle.json.specs.Value.{value_view}
-use Rattle.cedar_expressions.specs.declared.expr.Expr.{Expr}
 use Rattle.cedar_expressions.specs.View.{view}
 use Rattle.cedar_model.specs.Terms.{Term}
 use Rattle.cedar_extensions.specs.Extensions.{extensions_view, calls_of}

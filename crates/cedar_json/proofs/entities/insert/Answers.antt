@@ -1,4 +1,4 @@
-use Rattle.std.proofs.Common.{◌≡◌, ◌∙◌, ap, not}
+use Rattle.std.proofs.Common.{◌∙◌, ap, not}
 use Rattle.cedar_json.proofs.Among.{put_among, has_name}
 use Rattle.cedar_json.proofs.entities.insert.Goals as goal
 

@@ -1,6 +1,5 @@
-use Rattle.std.proofs.Common.{◌≡◌, sym, ap, ◌∙◌, rules}
-use Rattle.std.specs.Rc.{rc_str_bytes}
-use Rattle.cedar_model.specs.Terms.{Text, call, terms_of}
+use Rattle.std.proofs.Common.{◌≡◌, sym, ap, ◌∙◌}
+use Rattle.cedar_model.specs.Terms.{Text, call}
 use Rattle.cedar_names.specs.Names.{name_text}
 use Rattle.cedar_expressions.specs.View.{terms_view}
 use Rattle.cedar_restricted_expressions.specs.Views.{exprs_in}

@@ -1,4 +1,4 @@
-use Rattle.std.proofs.Common.{◌≡◌, sym, subst}
+use Rattle.std.proofs.Common.{sym, subst}
 use Rattle.cedar_model.specs.Settings.{StoredEntity}
 use Rattle.cedar_restricted.specs.Evaluators.{extensions_in, calls_in, limit_of}
 use Rattle.cedar_json.specs.StatedEntities.{stated_view}

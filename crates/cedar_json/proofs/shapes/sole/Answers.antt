@@ -1,4 +1,4 @@
-use Rattle.std.proofs.Common.{◌≡◌, Some, ap, ◌∙◌, arith, length}
+use Rattle.std.proofs.Common.{Some, ap, ◌∙◌, arith}
 use Rattle.json.specs.Value.{value_view}
 use Rattle.cedar_json.proofs.Members.{sole_one, sole_other}
 use Rattle.cedar_json.proofs.shapes.sole.Goals as goal

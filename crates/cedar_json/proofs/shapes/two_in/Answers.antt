@@ -1,4 +1,4 @@
-use Rattle.std.proofs.Common.{◌≡◌, Some, ap, ap₂, ◌∙◌, arith, length}
+use Rattle.std.proofs.Common.{Some, ap₂, ◌∙◌, arith}
 use Rattle.json.specs.Value.{value_view}
 use Rattle.cedar_json.proofs.Members.{two_both, two_other}
 use Rattle.cedar_json.proofs.shapes.two_in.Goals as goal

@@ -11,7 +11,7 @@ use Rattle.cedar_restricted_expressions.specs.Views.{restricted_term}
 use Rattle.cedar_json.specs.Paths.{at_key, at_index}
 use Rattle.cedar_json.specs.Refusals.{Said, under, made_of, IsRefusal}
 use Rattle.cedar_json.specs.Shapes.{sole, call_shape, parts_view}
-use Rattle.cedar_json.specs.Said.{said, said_items, said_members, said_call, entity_said, member_said, sole_said, set_said, record_said}
+use Rattle.cedar_json.specs.Said.{said, said_items, said_members, said_call, entity_said, member_said, set_said, record_said}
 use Rattle.cedar_json.specs.Lists.{pairs_said, shape_said}
 use Rattle.cedar_json.proofs.Smaller.{size, items_size, members_size}
 use Rattle.cedar_json.proofs.Refused.{refused_under, refused_same, one_more_done}

@@ -1,6 +1,5 @@
-use Rattle.std.proofs.Common.{◌≡◌, ℕ, ◌+◌, ◌*◌, ◌++◌, List, drop, map}
+use Rattle.std.proofs.Common.{◌≡◌, ◌+◌, ◌*◌, ◌++◌, drop, map}
 use Rattle.json.specs.Value.{value_view, items_view, members_view}
-use Rattle.json.specs.Tree.{items_tokens}
 use Rattle.cedar_restricted_expressions.specs.Views.{restricted_term}
 use Rattle.cedar_json.specs.Refusals.{made_of}
 use Rattle.cedar_json.specs.Said.{said_items, said_members}

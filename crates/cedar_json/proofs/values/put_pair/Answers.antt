@@ -1,5 +1,5 @@
-use Rattle.std.proofs.Common.{◌≡◌, ◌∙◌, ◌∷◌, [], ◌++◌, List, ap, rules}
-use Rattle.cedar_model.specs.Terms.{Text, Term}
+use Rattle.std.proofs.Common.{◌∙◌, ◌∷◌, [], ◌++◌, ap, rules}
+use Rattle.cedar_model.specs.Terms.{Text}
 use Rattle.cedar_restricted_expressions.specs.Views.{restricted_term}
 use Rattle.cedar_json.specs.Lists.{pairs_said}
 use Rattle.cedar_json.proofs.Reading.{pair_read}

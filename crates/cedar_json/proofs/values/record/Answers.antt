@@ -1,11 +1,7 @@
-use Rattle.std.proofs.Common.{◌≡◌, Some, None, Ok, sym, ap, ◌∙◌, List}
-use Rattle.std.specs.Rc.{rc_str_bytes}
+use Rattle.std.proofs.Common.{◌≡◌, None, Ok, sym, ap, ◌∙◌, List}
 use Rattle.cedar_model.specs.Terms.{Text, Term, record_of}
 use Rattle.cedar_expressions.specs.Records.{first_repeated, fields_in_order, keys_view}
 use Rattle.cedar_restricted_expressions.specs.Views.{pairs_in}
-use Rattle.cedar_json.specs.declared.errors.RefusalReason.TheVariants as reasons
-use Rattle.cedar_json.specs.Paths.{at_key}
-use Rattle.cedar_json.specs.Refusals.{refused, under}
 use Rattle.cedar_json.specs.Said.{unique_said, keys_of_pairs}
 use Rattle.cedar_json.specs.Lists.{pairs_said}
 use Rattle.cedar_json.proofs.Refused.{refused_same}
