@@ -27,6 +27,15 @@ pub struct Asked<'m, 't> {
     pub is_partial: bool,
 }
 
+/// A step that a partial answer is taken further by.
+#[derive(Clone, Copy)]
+pub struct Step<'t> {
+    /// Values for unknowns: an object in JSON.
+    pub values: Source<'t>,
+    /// The entities that there are then, in the place of those before.
+    pub entities: Option<Source<'t>>,
+}
+
 /// In which way it is answered.
 #[derive(Clone, Copy)]
 pub struct Way {
@@ -36,4 +45,6 @@ pub struct Way {
     pub limit: usize,
     /// Whether the reasons and the errors are printed too.
     pub is_verbose: bool,
+    /// Whether the whole answer is printed as one JSON value.
+    pub is_json: bool,
 }

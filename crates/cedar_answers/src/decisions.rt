@@ -1,9 +1,13 @@
 //! What policies decide.
 ghost use Rattle.std.specs.Prelude.{◌≡◌, ◌++◌, IfOk, codes, string_bytes, option_map};
 ghost use Rattle.cedar_decisions.specs.Decisions.{decision_view};
+ghost use Rattle.json.specs.Print.{print};
+ghost use Rattle.json.specs.Tree.{json_tokens};
+ghost use Rattle.cedar_json_writing.specs.Trees.{json_view};
 ghost use Rattle.cedar_answers.specs.Printing.{status, word, partial_status, partial_word};
 
 use crate::asked::{Asked, Source, Way};
+use crate::documents::response_document;
 use crate::places::placed;
 use crate::policies::{push_id, push_name, read, with_id};
 use crate::reading::whole_request;
@@ -12,10 +16,11 @@ use crate::stores::store;
 use cedar_authorizer::authorizer::{
     AuthorizationError, Authorizer, Decision, Diagnostics, Response,
 };
+use cedar_errors::evaluator::err::EvaluationError;
 use cedar_evaluator::request::Request;
 use cedar_extensions::Extensions;
+use cedar_json_writing::JsonValue;
 use cedar_layers::policies::{Entities, PolicyID, PolicySet};
-use cedar_values::evaluator::err::EvaluationError;
 use std::alloc::{AllocError, Global};
 
 /// What is printed, and the exit status.
@@ -55,8 +60,8 @@ fn partial_status_of(decision: Option<Decision>) -> u8
     }
 }
 
-// The decision in capitals, or `UNKNOWN`.
-fn partial_word_of(decision: Option<Decision>) -> &'static str
+/// The decision in capitals, or `UNKNOWN`.
+pub(crate) fn partial_word_of(decision: Option<Decision>) -> &'static str
     ensures { result.now ≡ partial_word (option_map decision_view decision) }
 {
     match decision {
@@ -65,25 +70,51 @@ fn partial_word_of(decision: Option<Decision>) -> &'static str
     }
 }
 
-/// The decision in capitals, or `UNKNOWN`, with these lines below it, and the exit status: 0 where the request is allowed
-/// or the decision is not known, 2 where it is denied.
+/// The decision in capitals, or `UNKNOWN`, between the lines above it and those below it, and the exit status: 0 where the
+/// request is allowed or the decision is not known, 2 where it is denied.
 pub(crate) fn print_decision(
     alloc: Global,
+    above: &str,
     decision: Option<Decision>,
     lines: &str,
 ) -> Result<Printed, AllocError>
     ensures status { IfOk result (λ p. p.status ≡ partial_status (option_map decision_view decision)) }
     ensures output { IfOk result (λ p. string_bytes p.output
-        ≡ partial_word (option_map decision_view decision) ++ (codes "\n" ++ lines.now)) }
+        ≡ above.now ++ (partial_word (option_map decision_view decision) ++ (codes "\n" ++ lines.now))) }
 {
     let word = partial_word_of(decision);
     let status = partial_status_of(decision);
-    let output = format!(in alloc; "{word}\n{lines}")?;
+    let output = format!(in alloc; "{above}{word}\n{lines}")?;
     Ok(Printed { output, status })
 }
 
+/// The JSON value as text, on a line of its own, and the exit status: 0 where the request is allowed or the decision is not
+/// known, 2 where it is denied.
+pub(crate) fn print_document(
+    alloc: Global,
+    decision: Option<Decision>,
+    document: &JsonValue,
+) -> Result<Printed, AllocError>
+    ensures status { IfOk result (λ p. p.status ≡ partial_status (option_map decision_view decision)) }
+    ensures output { IfOk result (λ p. string_bytes p.output
+        ≡ print (json_tokens (json_view document.now)) ++ codes "\n") }
+{
+    let status = partial_status_of(decision);
+    let output = line_of(alloc, document)?;
+    Ok(Printed { output, status })
+}
+
+/// The JSON value as text, on a line of its own.
+pub(crate) fn line_of(alloc: Global, document: &JsonValue) -> Result<String, AllocError>
+    ensures { IfOk result (λ s. string_bytes s ≡ print (json_tokens (json_view document.now)) ++ codes "\n") }
+{
+    let mut line = document.to_text(alloc)?;
+    line.push_str("\n")?;
+    Ok(line)
+}
+
 /// What the policies decide for the request: `ALLOW` or `DENY` and, where that is asked for, the policies that determined it
-/// and the errors of those that erred.
+/// and the errors of those that erred; or all this as one JSON value.
 pub fn authorized(
     alloc: Global,
     policies: Source<'_>,
@@ -122,7 +153,7 @@ fn authorized_over(
 ) -> Result<Printed, Refusal> {
     let request = whole_request(alloc, asked, extensions)?;
     let response = decided(alloc, request, policies, entities, way, extensions)?;
-    let printed = print_response(alloc, source, policies, &response, way.is_verbose);
+    let printed = print_response(alloc, source, policies, &response, way);
     drop(response);
     Ok(printed?)
 }
@@ -144,13 +175,19 @@ fn print_response(
     source: Source<'_>,
     policies: &PolicySet,
     response: &Response,
-    is_verbose: bool,
+    way: Way,
 ) -> Result<Printed, AllocError> {
+    if way.is_json {
+        let document = response_document(alloc, source, policies, response)?;
+        let printed = print_document(alloc, Some(response.decision), &document);
+        drop(document);
+        return printed;
+    }
     let mut lines = String::new(alloc);
-    if is_verbose {
+    if way.is_verbose {
         push_diagnostics(alloc, source, policies, &response.diagnostics, &mut lines)?;
     }
-    let printed = print_decision(alloc, Some(response.decision), lines.as_str());
+    let printed = print_decision(alloc, "", Some(response.decision), lines.as_str());
     drop(lines);
     printed
 }

@@ -1,33 +1,38 @@
 //! What an expression evaluates to.
 use crate::asked::{Asked, Source};
-use crate::decisions::Printed;
+use crate::decisions::{Printed, line_of};
 use crate::places::placed;
 use crate::policies::LEVELS;
 use crate::reading::{request_with_context, whole_request};
 use crate::refusal::{Refusal, told, unread};
 use crate::stores::store;
+use cedar_errors::evaluator::err::EvaluationError;
 use cedar_evaluator::evaluator::Evaluator;
 use cedar_evaluator::request::Request;
 use cedar_extensions::Extensions;
+use cedar_json_writing::value_to_json;
 use cedar_layers::expressions::{Expr, SlotEnv, Value};
 use cedar_layers::policies::Entities;
 use cedar_text::parse_expr;
-use cedar_values::evaluator::err::EvaluationError;
 use std::alloc::{AllocError, Global};
 
-/// The value of the expression, in Cedar's syntax. What is not said of the request is unknown, but for a context, which is
+/// The value of the expression, in Cedar's syntax or in Cedar's JSON. What is not said of the request is unknown, but for a context, which is
 /// empty: an expression that needs what is unknown is refused.
 pub fn evaluated(
     alloc: Global,
     source: Source<'_>,
     asked: &Asked<'_, '_>,
     limit: usize,
+    is_json: bool,
 ) -> Result<Printed, Refusal> {
     let extensions = Extensions::none();
     let expr = expression(alloc, source)?;
-    let printed = evaluated_with(alloc, source, &expr, asked, limit, &extensions);
+    let value = evaluated_with(alloc, source, &expr, asked, limit, &extensions);
     drop(expr);
-    printed
+    let value = value?;
+    let printed = print_value(alloc, &value, is_json);
+    drop(value);
+    Ok(printed?)
 }
 
 fn expression(alloc: Global, source: Source<'_>) -> Result<Expr, Refusal> {
@@ -44,11 +49,11 @@ fn evaluated_with(
     asked: &Asked<'_, '_>,
     limit: usize,
     extensions: &Extensions<'_>,
-) -> Result<Printed, Refusal> {
+) -> Result<Value, Refusal> {
     let entities = store(alloc, asked, extensions)?;
-    let printed = evaluated_over(alloc, source, expr, &entities, asked, limit, extensions);
+    let value = evaluated_over(alloc, source, expr, &entities, asked, limit, extensions);
     drop(entities);
-    printed
+    value
 }
 
 fn evaluated_over(
@@ -59,10 +64,10 @@ fn evaluated_over(
     asked: &Asked<'_, '_>,
     limit: usize,
     extensions: &Extensions<'_>,
-) -> Result<Printed, Refusal> {
+) -> Result<Value, Refusal> {
     let request = request_asked(alloc, asked, extensions)?;
     match value_of(alloc, expr, request, entities, limit, extensions) {
-        Ok(value) => Ok(print_value(alloc, &value)?),
+        Ok(value) => Ok(value),
         Err(error) => Err(failed(alloc, source, &error)),
     }
 }
@@ -94,9 +99,20 @@ fn value_of(
     value
 }
 
-fn print_value(alloc: Global, value: &Value) -> Result<Printed, AllocError> {
-    let output = format!(in alloc; "{value}\n")?;
+fn print_value(alloc: Global, value: &Value, is_json: bool) -> Result<Printed, AllocError> {
+    let output = if is_json {
+        json_line(alloc, value)?
+    } else {
+        format!(in alloc; "{value}\n")?
+    };
     Ok(Printed { output, status: 0 })
+}
+
+fn json_line(alloc: Global, value: &Value) -> Result<String, AllocError> {
+    let document = value_to_json(alloc, value)?;
+    let line = line_of(alloc, &document);
+    drop(document);
+    line
 }
 
 #[cold]

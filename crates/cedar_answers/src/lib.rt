@@ -11,16 +11,19 @@
 
 mod asked;
 mod decisions;
+mod documents;
 mod evaluations;
+mod left;
 mod partial;
 mod places;
 mod policies;
 mod reading;
 mod refusal;
+mod stages;
+mod steps;
 mod stores;
-mod unknowns;
 
-pub use asked::{Asked, Source, Way};
+pub use asked::{Asked, Source, Step, Way};
 pub use cedar_authorizer::authorizer::{Decision, ErrorHandling};
 pub use decisions::{Printed, authorized, status_of};
 pub use evaluations::evaluated;

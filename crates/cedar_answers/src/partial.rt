@@ -1,34 +1,36 @@
 //! What is known of a decision where parts of the request or of the entities are unknown.
-use crate::asked::{Asked, Source, Way};
-use crate::decisions::{Printed, print_decision, push_errors};
+use crate::asked::{Asked, Source, Step, Way};
+use crate::decisions::{Printed, partial_word_of, print_decision, print_document, push_errors};
+use crate::documents::stages_document;
+use crate::left::{missing_entities, unknown_names};
 use crate::policies::{push_name, read};
-use crate::reading::partial_request;
 use crate::refusal::Refusal;
+use crate::stages::{Stages, all_stages};
 use crate::stores::store;
-use crate::unknowns::note_unknowns;
-use cedar_authorizer::authorizer::{Authorizer, PartialResponse, ReportedPolicies};
-use cedar_evaluator::request::Request;
+use cedar_authorizer::authorizer::{PartialResponse, ReportedPolicies};
 use cedar_extensions::{Extension, ExtensionFunction, Extensions};
-use cedar_layers::expressions::Name;
-use cedar_layers::policies::{Entities, Policy, PolicySet};
+use cedar_layers::expressions::{EntityUID, Name};
+use cedar_layers::policies::{Policy, PolicySet};
 use cedar_writing::policy_to_cedar;
 use std::alloc::{AllocError, Global};
-use std::collections::BTreeSet;
 use std::rc::RcStr;
 
 /// What is known of what the policies decide: the decision, if it is given, the policies that must and that may determine
-/// it, what is left of each policy, and the errors.
+/// it, what is left of each policy, and the errors; and the same behind each step, below a line that says which step it is,
+/// or all this as one JSON value. A step takes values for unknowns, and perhaps another store. The status is that of the last
+/// decision.
 pub fn partially_authorized(
     alloc: Global,
     policies: Source<'_>,
     asked: &Asked<'_, '_>,
+    steps: &[Step<'_>],
     way: Way,
 ) -> Result<Printed, Refusal> {
     let name = Name::new(RcStr::from_str(alloc, "partial_evaluation")?, None);
     let functions = vec![in alloc; ExtensionFunction::unknown(alloc)?]?;
     let all = vec![in alloc; Extension::new(name, functions, Vec::new(alloc))]?;
     match Extensions::specific_extensions(alloc, all.as_slice()) {
-        Ok(extensions) => partly(alloc, policies, asked, way, &extensions),
+        Ok(extensions) => partly(alloc, policies, asked, steps, way, &extensions),
         Err(_) => Err(Refusal::Memory),
     }
 }
@@ -37,11 +39,20 @@ fn partly(
     alloc: Global,
     source: Source<'_>,
     asked: &Asked<'_, '_>,
+    steps: &[Step<'_>],
     way: Way,
     extensions: &Extensions<'_>,
 ) -> Result<Printed, Refusal> {
     let parsed = read(alloc, source)?;
-    let printed = partly_by(alloc, source, &parsed.policies, asked, way, extensions);
+    let printed = partly_by(
+        alloc,
+        source,
+        &parsed.policies,
+        asked,
+        steps,
+        way,
+        extensions,
+    );
     drop(parsed);
     printed
 }
@@ -51,57 +62,98 @@ fn partly_by(
     source: Source<'_>,
     policies: &PolicySet,
     asked: &Asked<'_, '_>,
+    steps: &[Step<'_>],
     way: Way,
     extensions: &Extensions<'_>,
 ) -> Result<Printed, Refusal> {
     let entities = store(alloc, asked, extensions)?;
-    let printed = partly_over(alloc, source, policies, &entities, asked, way, extensions);
+    let stages = all_stages(alloc, policies, &entities, asked, steps, way, extensions);
     drop(entities);
-    printed
-}
-
-fn partly_over(
-    alloc: Global,
-    source: Source<'_>,
-    policies: &PolicySet,
-    entities: &Entities,
-    asked: &Asked<'_, '_>,
-    way: Way,
-    extensions: &Extensions<'_>,
-) -> Result<Printed, Refusal> {
-    let request = partial_request(alloc, asked, extensions)?;
-    let response = partly_decided(alloc, request, policies, entities, way, extensions)?;
-    let printed = print_response(alloc, source, policies, &response);
-    drop(response);
+    let stages = stages?;
+    let printed = print_stages(alloc, source, policies, &stages, way);
+    drop(stages);
     Ok(printed?)
 }
 
-fn partly_decided(
+fn print_stages(
     alloc: Global,
-    request: Request,
+    source: Source<'_>,
     policies: &PolicySet,
-    entities: &Entities,
+    stages: &Stages<'_>,
     way: Way,
-    extensions: &Extensions<'_>,
-) -> Result<PartialResponse, AllocError> {
-    let authorizer = Authorizer::new(extensions, way.limit).with_error_handling(way.error_handling);
-    authorizer.is_authorized_core(alloc, request, policies, entities)
+) -> Result<Printed, AllocError> {
+    if way.is_json {
+        let document = stages_document(alloc, source, stages)?;
+        let printed = print_document(alloc, stages.last().decision(), &document);
+        drop(document);
+        return printed;
+    }
+    let mut above = String::new(alloc);
+    let mut response = &stages.first;
+    let mut number: usize = 0;
+    'steps: for (input, next) in stages.inputs.iter().zip(stages.later.iter()) {
+        number = number.saturating_add(1);
+        push_stage(alloc, source, policies, response, &mut above)?;
+        push_step(alloc, number, &input.step, &mut above)?;
+        response = next;
+    }
+    print_response(alloc, above.as_str(), source, policies, response)
+}
+
+// The decision of an earlier stage, and what is known of it.
+fn push_stage(
+    alloc: Global,
+    source: Source<'_>,
+    policies: &PolicySet,
+    response: &PartialResponse,
+    output: &mut String,
+) -> Result<(), AllocError> {
+    output.push_str(partial_word_of(response.decision()))?;
+    output.push_str("\n")?;
+    push_response(alloc, source, policies, response, output)
+}
+
+// `step 1: VALUES over ENTITIES`, between empty lines.
+fn push_step(
+    alloc: Global,
+    number: usize,
+    step: &Step<'_>,
+    output: &mut String,
+) -> Result<(), AllocError> {
+    let values = step.values.name;
+    output.push_str(format!(in alloc; "\nstep {number}: {values}")?.as_str())?;
+    if let Some(entities) = step.entities {
+        output.push_str(" over ")?;
+        output.push_str(entities.name)?;
+    }
+    output.push_str("\n\n")
 }
 
 fn print_response(
     alloc: Global,
+    above: &str,
     source: Source<'_>,
     policies: &PolicySet,
     response: &PartialResponse,
 ) -> Result<Printed, AllocError> {
     let mut lines = String::new(alloc);
-    push_bounds(alloc, response, &mut lines)?;
-    push_residuals(alloc, response.nontrivial_residuals(), &mut lines)?;
-    push_unknowns(alloc, response.nontrivial_residuals(), &mut lines)?;
-    push_errors(alloc, source, policies, &response.errors, &mut lines)?;
-    let printed = print_decision(alloc, response.decision(), lines.as_str());
+    push_response(alloc, source, policies, response, &mut lines)?;
+    let printed = print_decision(alloc, above, response.decision(), lines.as_str());
     drop(lines);
     printed
+}
+
+fn push_response(
+    alloc: Global,
+    source: Source<'_>,
+    policies: &PolicySet,
+    response: &PartialResponse,
+    lines: &mut String,
+) -> Result<(), AllocError> {
+    push_bounds(alloc, response, lines)?;
+    push_residuals(alloc, response.nontrivial_residuals(), lines)?;
+    push_unknowns(alloc, response, lines)?;
+    push_errors(alloc, source, policies, &response.errors, lines)
 }
 
 // The policies that must and that may determine the decision.
@@ -161,27 +213,45 @@ fn push_residual(alloc: Global, policy: &Policy, output: &mut String) -> Result<
     output.push_str("\n")
 }
 
-fn note_left(policy: &Policy, names: &mut BTreeSet<RcStr>) -> Result<(), AllocError> {
-    note_unknowns(policy.when_clause(), names)
-}
-
-// The names of the unknowns that stand in what is left, in the order of their bytes.
+// The names of the unknowns that are left, and the entities that a store lacked, a line each if there are any.
 fn push_unknowns(
     alloc: Global,
-    policies: ReportedPolicies<'_>,
+    response: &PartialResponse,
     output: &mut String,
 ) -> Result<(), AllocError> {
-    let mut names: BTreeSet<RcStr> = BTreeSet::new(alloc);
-    for policy in policies {
-        note_left(&policy?, &mut names)?;
-    }
+    let names = unknown_names(alloc, response)?;
+    let pushed = push_unknown_names(&names, output);
+    drop(names);
+    pushed?;
+    let entities = missing_entities(alloc, response)?;
+    let pushed = push_entities(alloc, &entities, output);
+    drop(entities);
+    pushed
+}
+
+fn push_unknown_names(names: &[RcStr], output: &mut String) -> Result<(), AllocError> {
     if names.is_empty() {
         return Ok(());
     }
     output.push_str("\nunknown:")?;
-    for name in names.iter() {
+    'names: for name in names {
         output.push_str(" ")?;
         output.push_str(name.as_str())?;
+    }
+    output.push_str("\n")
+}
+
+fn push_entities(
+    alloc: Global,
+    entities: &[EntityUID],
+    output: &mut String,
+) -> Result<(), AllocError> {
+    if entities.is_empty() {
+        return Ok(());
+    }
+    output.push_str("\nmissing entities:")?;
+    'entities: for entity in entities {
+        output.push_str(format!(in alloc; " {entity}")?.as_str())?;
     }
     output.push_str("\n")
 }

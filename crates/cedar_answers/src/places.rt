@@ -21,6 +21,12 @@ pub(crate) fn placed(
     }
 }
 
+/// The line and the column where the place begins.
+pub(crate) fn place_of(source: Source<'_>, loc: Loc) -> (usize, usize) {
+    let position = locate(source.text, loc.start.min(source.text.len()));
+    (position.line, position.column)
+}
+
 fn marked(alloc: Global, source: Source<'_>, loc: Loc, why: &str) -> Result<String, AllocError> {
     let name = source.name;
     let start = loc.start.min(source.text.len());

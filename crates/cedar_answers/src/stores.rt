@@ -20,7 +20,8 @@ pub(crate) fn store(
     }
 }
 
-fn store_of(
+/// The store of the entities that this text writes, each with all its ancestors.
+pub(crate) fn store_of(
     alloc: Global,
     source: Source<'_>,
     is_partial: bool,

@@ -32,6 +32,30 @@ use Rattle.cedar_authorizer.specs.Running.{errors_of, HoldsRows, IsRun, StandsIn
 use Rattle.cedar_authorizer.proofs.Low.{run_is_deep}
 use Rattle.cedar_authorizer.proofs.Runs.{run_known}
 
+-- ---- rows of which the same are true, and the same are residual
+
+abbrev decision_by : ErrorHandling → List Row → List Row → List Row → Decision
+decision_by skip tp tf rf = cond (some_row tp && not (some_row tf)) allow deny
+decision_by forbid_on_error tp tf rf = cond (some_row tp && not (some_row tf || some_row rf)) allow deny
+
+abbrev reasons_by : ErrorHandling → List Row → List Row → List Row → List Row
+reasons_by skip tp tf rf = cond (some_row tf || some_row rf) tf tp
+reasons_by forbid_on_error tp tf rf = cond (some_row tf || some_row rf) (tf ++ rf) tp
+
+abbrev concrete_by : ErrorHandling → List Row → List Row → List Row → List Row → List (Text × Failure) → Authorized
+concrete_by mode tp rp tf rf errors = record {
+  decided_as = decision_by mode tp tf rf;
+  is_reason = λ t. has_text t (ids (reasons_by mode tp tf rf));
+  errors = map residual_error rf ++ (map residual_error rp ++ errors);
+}
+
+-- they are made concrete alike
+pub concretized_alike : (all rows : List Row) → trues permit all ≡ trues permit rows → residuals permit all ≡ residuals permit rows → trues forbid all ≡ trues forbid rows → residuals forbid all ≡ residuals forbid rows
+    → (mode : ErrorHandling) (errors : List (Text × Failure)) → concretized mode all errors ≡ concretized mode rows errors
+concretized_alike all rows tp rp tf rf skip errors = λ i. concrete_by skip (tp i) (rp i) (tf i) (rf i) errors
+concretized_alike all rows tp rp tf rf forbid_on_error errors =
+    λ i. concrete_by forbid_on_error (tp i) (rp i) (tf i) (rf i) errors
+
 -- ---- the rows of a response
 
 module _ (rows : List Row) (r : PartialResponse) (h : HoldsRows rows r) where
@@ -57,26 +81,9 @@ module _ (rows : List Row) (r : PartialResponse) (h : HoldsRows rows r) where
       ∙ sym (append_assoc (trues permit rows) (falses permit rows ++ residuals permit rows) (rows_by forbid rows)
       ∙ ap (λ (xs : List Row). trues permit rows ++ xs) (append_assoc (falses permit rows) (residuals permit rows) (rows_by forbid rows)))
 
-  abbrev decision_by : ErrorHandling → List Row → List Row → List Row → Decision
-  decision_by skip tp tf rf = cond (some_row tp && not (some_row tf)) allow deny
-  decision_by forbid_on_error tp tf rf = cond (some_row tp && not (some_row tf || some_row rf)) allow deny
-
-  abbrev reasons_by : ErrorHandling → List Row → List Row → List Row → List Row
-  reasons_by skip tp tf rf = cond (some_row tf || some_row rf) tf tp
-  reasons_by forbid_on_error tp tf rf = cond (some_row tf || some_row rf) (tf ++ rf) tp
-
-  abbrev concrete_by : ErrorHandling → List Row → List Row → List Row → List Row → List (Text × Failure) → Authorized
-  concrete_by mode tp rp tf rf errors = record {
-    decided_as = decision_by mode tp tf rf;
-    is_reason = λ t. has_text t (ids (reasons_by mode tp tf rf));
-    errors = map residual_error rf ++ (map residual_error rp ++ errors);
-  }
-
   pub concrete_alike : (mode : ErrorHandling) (errors : List (Text × Failure)) → concretized mode (rows_view r) errors ≡ concretized mode rows errors
-  concrete_alike skip errors =
-      λ i. concrete_by skip (true_permits i) (residual_permits i) (true_forbids i) (residual_forbids i) errors
-  concrete_alike forbid_on_error errors =
-      λ i. concrete_by forbid_on_error (true_permits i) (residual_permits i) (true_forbids i) (residual_forbids i) errors
+  concrete_alike mode errors =
+      concretized_alike (rows_view r) rows true_permits residual_permits true_forbids residual_forbids mode errors
 
 -- ---- a run
 

@@ -21,11 +21,11 @@ use Rattle.cedar_responses.specs.Rows.{Located, located_of}
 abbrev pub is_seen : Text → List Text → Bool
 is_seen t ts = list_any (text_eq t) ts
 
-seen_first : (b : Bool) (t : Text) (o : Option Text) → (if b then Some t else o) ≡ None → b ≡ false
+pub seen_first : (b : Bool) (t : Text) (o : Option Text) → (if b then Some t else o) ≡ None → b ≡ false
 seen_first true t o h = absurd (cc)
 seen_first false t o h = refl
 
-seen_later : (b : Bool) (t : Text) (o : Option Text) → (if b then Some t else o) ≡ None → o ≡ None
+pub seen_later : (b : Bool) (t : Text) (o : Option Text) → (if b then Some t else o) ≡ None → o ≡ None
 seen_later true t o h = absurd (cc)
 seen_later false t o h = h
 
@@ -42,7 +42,7 @@ or_none true c h g = h
 or_none false c h g = g
 
 -- each text that is not among the first is not among the second
-abbrev Weaker : List Text → List Text → Type 0
+abbrev pub Weaker : List Text → List Text → Type 0
 Weaker seen less = (t : Text) → is_seen t seen ≡ false → is_seen t less ≡ false
 
 weaker_more : (seen less : List Text) (u : Text) → Weaker seen less → Weaker (seen ++ u ∷ []) (less ++ u ∷ [])
@@ -51,14 +51,14 @@ weaker_more seen less u w t h =
     list_any-append (text_eq t) less (u ∷ [])
     ∙ or_none (is_seen t less) (is_seen t (u ∷ [])) (w t (or_first (is_seen t seen) (is_seen t (u ∷ [])) g)) (or_second (is_seen t seen) (is_seen t (u ∷ [])) g)
 
-weaker_front : (seen : List Text) (u : Text) → Weaker (seen ++ u ∷ []) seen
+pub weaker_front : (seen : List Text) (u : Text) → Weaker (seen ++ u ∷ []) seen
 weaker_front seen u t h =
     or_first (is_seen t seen) (is_seen t (u ∷ [])) (sym (list_any-append (text_eq t) seen (u ∷ [])) ∙ h)
 
-repeated_step : (seen ts : List Text) (t : Text) → is_seen t seen ≡ false → first_repeated_after (seen ++ t ∷ []) ts ≡ None → first_repeated_after seen (t ∷ ts) ≡ None
+pub repeated_step : (seen ts : List Text) (t : Text) → is_seen t seen ≡ false → first_repeated_after (seen ++ t ∷ []) ts ≡ None → first_repeated_after seen (t ∷ ts) ≡ None
 repeated_step seen ts t h g = ap (λ (b : Bool). if b then Some t else first_repeated_after (seen ++ t ∷ []) ts) h ∙ g
 
-repeated_weaker : (seen less ts : List Text) → Weaker seen less → first_repeated_after seen ts ≡ None → first_repeated_after less ts ≡ None
+pub repeated_weaker : (seen less ts : List Text) → Weaker seen less → first_repeated_after seen ts ≡ None → first_repeated_after less ts ≡ None
 repeated_weaker seen less [] w h = refl
 repeated_weaker seen less (t ∷ ts) w h =
     repeated_step less ts t (w t (seen_first (is_seen t seen) t _ h))

@@ -1,14 +1,13 @@
 -- A step, joined of its parts: the policies that are carried on, the request that the map makes, and the run.
-use Rattle.std.specs.Prelude.{◌≡◌, ◌≢◌, ℕ, true, false, List, map, Option, Some, None, option_map, IfSome, Result, Ok, Err}
-use Rattle.std.proofs.Common.{refl, sym, ap, ◌∙◌, subst}
+use Rattle.std.specs.Prelude.{◌≡◌, ℕ, true, List, map, Option, Some, None, option_map, IfSome, Result, Ok, Err}
+use Rattle.std.proofs.Common.{refl, sym, ap, subst}
 use Rattle.cedar_model.specs.Terms.{Text}
-use Rattle.cedar_model.specs.Failures.{Failure, recursion_limit}
+use Rattle.cedar_model.specs.Failures.{Failure}
 use Rattle.cedar_model.specs.Settings.{RequestPart, Store, Setting}
 use Rattle.cedar_model.specs.Rules.{StoredCalls}
 use Rattle.cedar_model.specs.Policies.{Policy, ErrorHandling}
-use Rattle.cedar_model.specs.Configurations.{Configuration}
 use Rattle.cedar_model.specs.Responses.{Row, RunOf}
-use Rattle.cedar_model.specs.Refusals.{Refusal, mode_is_other, id_comes_again, context_fails, first_repeated, concrete_request}
+use Rattle.cedar_model.specs.Refusals.{Refusal, id_comes_again, first_repeated, concrete_request}
 use Rattle.cedar_model.specs.Chains.{Mapping, Response, all_residuals, at_step, with_context, is_same_mode, AfterRequest, AfterIds, AfterMode, Steps}
 use Rattle.cedar_requests.specs.declared.request.Request.{Request}
 use Rattle.cedar_requests.specs.Requests.{request_view}
@@ -44,16 +43,6 @@ once (Some id) ps qs e = absurd (err_is_not_ok (sym e))
 twice : (o : Option Text) (ps : List Policy) (x : Refusal) → Err x ≡ unless_repeated o ps → (id : Text) × (o ≡ Some id) × (x ≡ id_comes_again id)
 twice None ps x e = absurd (err_is_not_ok e)
 twice (Some id) ps x e = (id, refl, err_inj e)
-
-again_is_no_limit : (id : Text) → id_comes_again id ≢ context_fails recursion_limit
-again_is_no_limit id e = absurd (cc)
-
-pub policies_low : (ps : List Policy) (o : Option Refusal) → IfSome (option_map {U = Result (List Policy) Refusal} Err o) (λ a. a ≡ all_once ps) → o ≢ Some (context_fails recursion_limit)
-policies_low ps None h w = absurd (cc)
-policies_low ps (Some x) h w =
-    let t = twice (first_repeated (map (λ p. p.id) ps)) ps x h in
-    let e : x ≡ context_fails recursion_limit = cc in
-    again_is_no_limit t.0 (sym t.2 ∙ e)
 
 -- ---- the steps of the model
 
@@ -136,23 +125,6 @@ refused_request {A} {B} P Q k e (reauthorizations.ConcretizationError f) is h =
     by (Some x) h = k x h
 refused_request {A} {B} P Q k e (reauthorizations.Memory p) is h = tt
 
-pub request_low : (e : ConcretizationError) (r : ReauthorizationError) → IsRequestRefusal e r → refusal_of e ≢ Some (context_fails recursion_limit) → step_refusal r ≢ Some (context_fails recursion_limit)
-request_low e (reauthorizations.ErrorHandlingConflict o a) is h w = is
-request_low e (reauthorizations.PolicySetError p) is h w = is
-request_low e (reauthorizations.ConcretizationError f) is h w = h (ap refusal_of (sym is.0) ∙ w)
-request_low e (reauthorizations.Memory p) is h w = absurd (cc)
-
 -- want of memory stands alone
 pub memory_unwrapped : (x : AllocError) (r : ReauthorizationError) → r ≡ reauthorizations.Memory x → IsUnwrapped r
 memory_unwrapped x r e = subst IsUnwrapped (sym e) tt
-
--- ---- another mode
-
--- a step in another mode is refused
-pub refused_mode : (c : Configuration) (step : Mapping × Store) (r : PartialResponse) → is_same_mode c.mode (mode_of r) ≡ false
-    → IsStep c step (response_said r) (Err (mode_is_other (mode_of r) c.mode))
-refused_mode c step r other =
-    subst (λ b. AfterMode c step.0 step.1 (response_said r) b (Err (mode_is_other (mode_of r) c.mode))) (sym other) refl
-
-pub mode_is_no_limit : (one other : ErrorHandling) → Some (mode_is_other one other) ≢ Some (context_fails recursion_limit)
-mode_is_no_limit one other e = absurd (cc)

@@ -6,6 +6,8 @@ pub mod Placed
 pub mod Made
 pub mod Outcomes
 pub mod Deciding
+pub mod Telling
+pub mod Reaching
 pub mod Same
 pub mod Left
 pub mod Low

@@ -117,19 +117,28 @@ ids_deciding : (ps : List PolicyView) → map (λ (p : Policy). p.id) (map decid
 ids_deciding [] = refl
 ids_deciding (p ∷ ps) = ap (λ (ts : List Text). p.id ∷ ts) (ids_deciding ps)
 
--- what a response keeps of the run of a set on a sheet is that run
-pub is_run : (mode : ErrorHandling) (s : Setting) (calls : StoredCalls) (levels : ℕ) (policies : PolicySet) (sheet : Sheet) (r : PartialResponse) → IsNotedRun mode s calls levels (deciding policies) sheet → mode_of r ≡ mode → KeepsSheet sheet r → IsRun (configured_by calls mode s levels) s (deciding policies) r
-is_run mode s calls levels policies sheet r on is_in k =
+-- no two policies of a set have one id
+pub set_ids_apart : (policies : PolicySet) → first_repeated (map (λ (p : Policy). p.id) (deciding policies)) ≡ None
+set_ids_apart policies = ap first_repeated (ids_deciding (policies_view policies)) ∙ policies.distinct
+
+-- what a response keeps of a run on a sheet is that run, where no two policies have one id
+pub is_run_of : (mode : ErrorHandling) (s : Setting) (calls : StoredCalls) (levels : ℕ) (ps : List Policy) (sheet : Sheet) (r : PartialResponse) → first_repeated (map (λ (p : Policy). p.id) ps) ≡ None → IsNotedRun mode s calls levels ps sheet → mode_of r ≡ mode → KeepsSheet sheet r → IsRun (configured_by calls mode s levels) s ps r
+is_run_of mode s calls levels ps sheet r distinct on is_in k =
     let ls = on.located in
     let apart : first_repeated (located_ids ls) ≡ None =
-    ap first_repeated (rows_located ls ∙ run_ids mode s calls levels (deciding policies) (rows_in ls) on.errors on.run ∙ ids_deciding (policies_view policies)) ∙ policies.distinct in
+    ap first_repeated (rows_located ls ∙ run_ids mode s calls levels ps (rows_in ls) on.errors on.run) ∙ distinct in
     let same : errors_view r.errors.items ≡ on.errors = ap errors_view k.errors ∙ ap (λ (n : Noted). n.errors) on.noted in
     record {
       mode_is = is_in;
       rows = rows_in ls;
-      run = subst (RunOf mode s calls levels (deciding policies) (rows_in ls)) (sym same) on.run;
+      run = subst (RunOf mode s calls levels ps (rows_in ls)) (sym same) on.run;
       held = holds_rows ls apart sheet r on.errors k on.noted;
     }
+
+-- of the policies of a set it is
+pub is_run : (mode : ErrorHandling) (s : Setting) (calls : StoredCalls) (levels : ℕ) (policies : PolicySet) (sheet : Sheet) (r : PartialResponse) → IsNotedRun mode s calls levels (deciding policies) sheet → mode_of r ≡ mode → KeepsSheet sheet r → IsRun (configured_by calls mode s levels) s (deciding policies) r
+is_run mode s calls levels policies sheet r on is_in k =
+    is_run_of mode s calls levels (deciding policies) sheet r (set_ids_apart policies) on is_in k
 
 -- the residual policies of the run of a set are those that are on the sheet
 module _ (mode : ErrorHandling) (s : Setting) (calls : StoredCalls) (levels : ℕ) (policies : PolicySet) (sheet : Sheet) (r : PartialResponse) (on : IsNotedRun mode s calls levels (deciding policies) sheet) (k : KeepsSheet sheet r) where

@@ -5,7 +5,7 @@ use Rattle.cedar_model.specs.Policies.{ErrorHandling}
 use Rattle.cedar_model.specs.Configurations.{Configuration, configured}
 use Rattle.cedar_model.specs.Chains.{at_step, no_values}
 use Rattle.cedar_decisions.specs.Decisions.{mode_view}
-use Rattle.cedar_evaluation.specs.Settings.{resolution_view}
+use Rattle.cedar_interpreter.specs.Settings.{resolution_view}
 use Rattle.cedar_extensions.specs.declared.extensions.Extensions.{Extensions}
 use Rattle.cedar_extensions.specs.Extensions.{extensions_view, calls_of}
 use Rattle.cedar_layers.specs.declared.policies.entities.Entities.{Entities}
@@ -16,7 +16,7 @@ use Rattle.cedar_authorizer.specs.declared.authorizer.Authorizer.{Authorizer}
 
 -- the extensions that it uses
 abbrev pub extensions_of : {X : Type 0} {F : X → Type 0} {g : _} → Authorizer X F g → Extensions X F g
-extensions_of a = a.extensions.now
+extensions_of a = a.extensions
 
 -- how many levels deep it evaluates
 abbrev pub limit_of : {X : Type 0} {F : X → Type 0} {g : _} → Authorizer X F g → ℕ

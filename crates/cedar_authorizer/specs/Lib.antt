@@ -1,6 +1,8 @@
 pub mod Configured
 pub mod Responding
 pub mod Running
+pub mod Telling
+pub mod Reaching
 pub mod Stability
 pub mod Steps
 pub mod Headline

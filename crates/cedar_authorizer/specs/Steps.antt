@@ -20,7 +20,7 @@ use Rattle.cedar_model.specs.Authorizations.{HaveNoLimit, AreNoHigher}
 use Rattle.cedar_model.specs.Reports.{HaveNoResidual}
 use Rattle.cedar_model.specs.ReportLaws.{AreDecidedAs}
 use Rattle.cedar_model.specs.Progress.{NamesAll, LeavesNoResidual}
-use Rattle.cedar_data.specs.Sound.{Placed}
+use Rattle.cedar_values.specs.Sound.{Placed}
 use Rattle.cedar_layers.specs.declared.policies.entities.Entities.{Entities}
 use Rattle.cedar_layers.specs.Policies.{PolicyView, decides_as}
 use Rattle.cedar_layers.specs.Stores.{store_view}

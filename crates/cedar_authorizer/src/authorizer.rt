@@ -4,13 +4,13 @@ ghost use Rattle.cedar_model.specs.Agreement.{no_slots};
 ghost use Rattle.cedar_model.specs.Failures.{out_of_memory, failure_kind};
 ghost use Rattle.cedar_model.specs.Policies.{skip};
 ghost use Rattle.cedar_model.specs.Settings.{shallow};
-ghost use Rattle.cedar_evaluation.specs.Settings.{resolution_view};
+ghost use Rattle.cedar_interpreter.specs.Settings.{resolution_view};
 ghost use Rattle.cedar_decisions.specs.Decisions.{mode_view};
 ghost use Rattle.cedar_model.specs.Responses.{errs_with};
 ghost use Rattle.cedar_names.specs.declared.names.Loc.{Loc};
 ghost use Rattle.cedar_layers.specs.Policies.{policy_location};
 ghost use Rattle.cedar_layers.specs.PolicySets.{stored_policies};
-ghost use Rattle.cedar_values.specs.Failures.{failure_of};
+ghost use Rattle.cedar_errors.specs.Failures.{failure_of};
 ghost use Rattle.cedar_evaluator.specs.Evaluations.{setting_of, calls_in, IsPromisedOf};
 ghost use Rattle.cedar_evaluator.specs.Evaluations as evaluations;
 ghost use Rattle.cedar_responses.specs.Responses.{response_view};
@@ -25,7 +25,7 @@ ghost use Rattle.cedar_authorizer.specs.Running.{IsDeepEnough, IsConcreteRun};
 ghost use Rattle.cedar_authorizer.specs.Running.{ComesOutBy, IsNotedRun, IsNotedBy, KeepsSheet};
 ghost use Rattle.cedar_authorizer.specs.Running.{ResidualsStand, ResidualsAreNoted, IsLeftAt};
 
-use cedar_data::Value;
+use cedar_errors::extensions::ExtensionFunctionLookupError;
 pub use cedar_evaluator::evaluator::Resolution;
 use cedar_evaluator::evaluator::{EvaluationError, Evaluator};
 use cedar_evaluator::request::Request;
@@ -37,16 +37,19 @@ pub use cedar_responses::{
     AuthorizationError, Decision, Diagnostics, ErrorHandling, ErrorState, PartialResponse,
     ReportedIds, ReportedPolicies, Response,
 };
-use cedar_values::extensions::ExtensionFunctionLookupError;
+use cedar_values::Value;
 use either::{Left, Right};
 use std::alloc::{AllocError, Global};
 use std::collections::{HashMap, HashSet};
 use std::rc::{Rc, RcStr};
 pub use steps::Reauthorize;
 use steps::take_steps;
+use telling::told_sheet;
 
 pub mod laws;
+mod reaching;
 mod steps;
+mod telling;
 
 /// Why a policy was skipped, and why a response could not be taken further.
 pub mod err {
@@ -72,14 +75,14 @@ pub struct EvaluationResponse {
 /// Decides requests, with these extensions, within so many levels of evaluation, in one of two ways to handle errors and in one of
 /// two to answer what reads a stored residual.
 #[derive(Clone, Copy)]
-pub struct Authorizer<'x, 'f> {
-    extensions: &'x Extensions<'f>,
+pub struct Authorizer<'f> {
+    extensions: Extensions<'f>,
     limit: usize,
     error_handling: ErrorHandling,
     resolution: Resolution,
 }
 
-impl<'x, 'f> Authorizer<'x, 'f> {
+impl<'f> Authorizer<'f> {
     ghost use Rattle.std.specs.Prelude.{IfErr};
     ghost use Rattle.cedar_reauthorization.specs.Errors.{IsUnwrapped};
     ghost use Rattle.cedar_authorizer.specs.Steps.{step_answer};
@@ -91,14 +94,14 @@ impl<'x, 'f> Authorizer<'x, 'f> {
     /// The authorizer that uses these extensions, skips errors, and answers stored residuals as they are stored. A condition whose evaluation goes more than `limit` levels deep
     /// counts as erring, with `RecursionLimit`: an expression is one level and its parts one more, and a part that is not read
     /// takes none.
-    pub fn new(extensions: &'x Extensions<'f>, limit: usize) -> Authorizer<'x, 'f>
+    pub fn new(extensions: &Extensions<'f>, limit: usize) -> Authorizer<'f>
         ensures extensions { extensions_of result ≡ extensions.now }
         ensures limit { limit_of result ≡ limit }
         ensures mode { mode_of result ≡ skip }
         ensures resolution { resolution_of result ≡ shallow }
     {
         Authorizer {
-            extensions,
+            extensions: *extensions,
             limit,
             error_handling: ErrorHandling::Skip,
             resolution: Resolution::Shallow,
@@ -106,7 +109,7 @@ impl<'x, 'f> Authorizer<'x, 'f> {
     }
 
     /// The same authorizer, which handles errors so.
-    pub fn with_error_handling(self, error_handling: ErrorHandling) -> Authorizer<'x, 'f>
+    pub fn with_error_handling(self, error_handling: ErrorHandling) -> Authorizer<'f>
         ensures extensions { extensions_of result ≡ extensions_of self.entry }
         ensures limit { limit_of result ≡ limit_of self.entry }
         ensures mode { mode_of result ≡ mode_view error_handling }
@@ -121,7 +124,7 @@ impl<'x, 'f> Authorizer<'x, 'f> {
     }
 
     /// The same authorizer, which answers so what reads a stored residual.
-    pub fn with_resolution(self, resolution: Resolution) -> Authorizer<'x, 'f>
+    pub fn with_resolution(self, resolution: Resolution) -> Authorizer<'f>
         ensures extensions { extensions_of result ≡ extensions_of self.entry }
         ensures limit { limit_of result ≡ limit_of self.entry }
         ensures mode { mode_of result ≡ mode_of self.entry }
@@ -171,7 +174,9 @@ impl<'x, 'f> Authorizer<'x, 'f> {
             (response_view r).errors) }
         ensures own_world { OwnWorldCompletesCall (asked self.now request entities.now) (deciding policies.now) }
     {
-        let response = self.is_authorized_core(alloc, request, policies, entities)?;
+        let sheet = told_sheet(alloc, self, &request, policies, entities)?;
+        let shared = Rc::new(alloc, request)?;
+        let response = response_of(alloc, self.error_handling, sheet, shared)?;
         response.concretize(alloc)
     }
 
@@ -234,7 +239,7 @@ impl<'x, 'f> Authorizer<'x, 'f> {
 // How each policy comes out, in their order, where no unknown has a value.
 fn first_sheet(
     alloc: Global,
-    authorizer: &Authorizer<'_, '_>,
+    authorizer: &Authorizer<'_>,
     request: &Request,
     policies: &PolicySet,
     entities: &Entities,
@@ -247,7 +252,7 @@ fn first_sheet(
         alloc,
         request.clone()?,
         entities,
-        authorizer.extensions,
+        &authorizer.extensions,
         authorizer.limit,
     )?;
     let evaluator = evaluator.with_resolution(authorizer.resolution);

@@ -4,16 +4,16 @@ ghost use Rattle.cedar_model.specs.Values.{abstract_value, extension_value};
 ghost use Rattle.cedar_model.specs.Outcomes.{type_error};
 ghost use Rattle.cedar_model.specs.World.{function_errs};
 ghost use Rattle.cedar_names.specs.Names.{name_text};
-ghost use Rattle.cedar_data.specs.Representations.{extension_what};
+ghost use Rattle.cedar_values.specs.Representations.{extension_what};
 ghost use Rattle.cedar_extensions.specs.Outcomes.{ComesTo, is_lawful, abstracts};
 ghost use Rattle.cedar_built_in_rows.specs.Stored.{even_of, fail_of, ask_of, ask_long_of, ask_any_of, made_of};
 
+use cedar_errors::evaluator::err::EvaluationError;
+use cedar_errors::evaluator::err::evaluation_errors::{ExtensionFunctionExecutionError, TypeError};
 use cedar_extensions::ExtensionOutputValue;
 use cedar_layers::expressions::{
     ExtensionValue, FirstRest, Literal, Name, Representation, Type, Unknown, Value, ValueKind,
 };
-use cedar_values::evaluator::err::EvaluationError;
-use cedar_values::evaluator::err::evaluation_errors::{ExtensionFunctionExecutionError, TypeError};
 use std::alloc::{AllocError, Global};
 use std::rc::{Rc, RcStr};
 

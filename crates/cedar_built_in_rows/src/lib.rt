@@ -17,11 +17,11 @@ pub mod steps;
 pub mod stop;
 mod stores;
 
+use cedar_errors::evaluator::err::EvaluationError;
 use cedar_extensions::{
     Extension, ExtensionFunction, ExtensionFunctionObject, ExtensionOutputValue, Extensions,
 };
 use cedar_layers::expressions::{CallStyle, Type, Value};
-use cedar_values::evaluator::err::EvaluationError;
 use entities::name;
 use functions::even;
 use lines::print_line;

@@ -68,7 +68,7 @@ fn decide(alloc: Global, row: Row, extensions: &Extensions<'_>) -> Result<Respon
 fn decide_by(
     alloc: Global,
     row: Row,
-    authorizer: &Authorizer<'_, '_>,
+    authorizer: &Authorizer<'_>,
     policies: &PolicySet,
 ) -> Result<Response, Stop> {
     match row {
@@ -109,7 +109,7 @@ fn decide_by(
 fn after(
     alloc: Global,
     row: Row,
-    authorizer: &Authorizer<'_, '_>,
+    authorizer: &Authorizer<'_>,
     policies: &PolicySet,
     step: HashMap<RcStr, Value>,
 ) -> Result<Response, Stop> {
@@ -121,7 +121,7 @@ fn after(
 fn at_once(
     alloc: Global,
     row: Row,
-    authorizer: &Authorizer<'_, '_>,
+    authorizer: &Authorizer<'_>,
     policies: &PolicySet,
 ) -> Result<Response, Stop> {
     match request_of(alloc, row) {
@@ -139,7 +139,7 @@ fn at_once(
 fn without_steps(
     alloc: Global,
     row: Row,
-    authorizer: &Authorizer<'_, '_>,
+    authorizer: &Authorizer<'_>,
     policies: &PolicySet,
 ) -> Result<Response, Stop> {
     match request_of(alloc, row) {
@@ -157,7 +157,7 @@ fn without_steps(
 pub fn in_one_step(
     alloc: Global,
     row: Row,
-    authorizer: &Authorizer<'_, '_>,
+    authorizer: &Authorizer<'_>,
     policies: &PolicySet,
     step: &HashMap<RcStr, Value>,
 ) -> Result<Response, Stop> {
@@ -171,7 +171,7 @@ pub fn in_one_step(
 fn in_one_step_over(
     alloc: Global,
     row: Row,
-    authorizer: &Authorizer<'_, '_>,
+    authorizer: &Authorizer<'_>,
     policies: &PolicySet,
     step: &HashMap<RcStr, Value>,
     store: &Entities,
@@ -190,7 +190,7 @@ fn in_one_step_over(
 fn over_store(
     alloc: Global,
     row: Row,
-    authorizer: &Authorizer<'_, '_>,
+    authorizer: &Authorizer<'_>,
     policies: &PolicySet,
 ) -> Result<Response, Stop> {
     let store = store_of_e(alloc)?;
@@ -202,7 +202,7 @@ fn over_store(
 fn after_over(
     alloc: Global,
     row: Row,
-    authorizer: &Authorizer<'_, '_>,
+    authorizer: &Authorizer<'_>,
     policies: &PolicySet,
     store: &Entities,
 ) -> Result<Response, Stop> {
@@ -216,7 +216,7 @@ fn after_over(
 fn in_two_steps(
     alloc: Global,
     row: Row,
-    authorizer: &Authorizer<'_, '_>,
+    authorizer: &Authorizer<'_>,
     policies: &PolicySet,
 ) -> Result<Response, Stop> {
     let first = resource_is_b(alloc)?;
@@ -228,7 +228,7 @@ fn in_two_steps(
 fn behind(
     alloc: Global,
     row: Row,
-    authorizer: &Authorizer<'_, '_>,
+    authorizer: &Authorizer<'_>,
     policies: &PolicySet,
     first: &HashMap<RcStr, Value>,
 ) -> Result<Response, Stop> {
@@ -241,7 +241,7 @@ fn behind(
 fn after_both(
     alloc: Global,
     row: Row,
-    authorizer: &Authorizer<'_, '_>,
+    authorizer: &Authorizer<'_>,
     policies: &PolicySet,
     first: &HashMap<RcStr, Value>,
     second: &HashMap<RcStr, Value>,

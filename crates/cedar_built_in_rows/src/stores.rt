@@ -1,22 +1,22 @@
 //! The store of the row whose policy reads a stored residual.
 ghost use Rattle.std.specs.Prelude.{◌≡◌, true, IfOk};
-ghost use Rattle.cedar_data.specs.Residuals.{partial_view};
+ghost use Rattle.cedar_values.specs.Residuals.{partial_view};
 ghost use Rattle.cedar_layers.specs.Parts.{parts_view, is_restricted_part, are_restricted_parts};
 
 use crate::entities::entity;
-use cedar_data::{PartialValue, ResidualExpr};
 use cedar_layers::expressions::{Expr, Unknown};
 use cedar_layers::policies::{Entities, Entity};
 use cedar_restricted_expressions::RestrictedExpr;
+use cedar_values::{PartialValue, ResidualExpr};
 use std::alloc::{AllocError, Global};
-use std::collections::{BTreeMap, HashSet};
+use std::collections::{BTreeMap, BTreeSet};
 use std::rc::RcStr;
 
 /// The store with `E::"e"` alone, of which `g` is `[unknown("u")]`.
 pub fn store_of_e(alloc: Global) -> Result<Entities, AllocError> {
     let attributes = one_part(alloc, "g", unknown_set(alloc, "u")?)?;
     let uid = entity(alloc, "E", "e")?;
-    let e = Entity::new(uid, attributes, HashSet::new(alloc), BTreeMap::new(alloc));
+    let e = Entity::new(uid, attributes, BTreeSet::new(alloc), BTreeMap::new(alloc));
     Entities::with(alloc, vec![in alloc; e]?, false)
 }
 

@@ -6,6 +6,9 @@ use std::alloc::{AllocError, Global};
 /// How policies that err are handled.
 pub(crate) const HANDLINGS: [&str; 2] = ["skip", "forbid"];
 
+// What a step takes.
+const STEP_FILES: [&str; 2] = ["VALUES", "ENTITIES"];
+
 /// All commands.
 pub(crate) fn cedar<'a>(alloc: Global) -> Result<Command<'a>, AllocError> {
     Command::new(alloc, "cedar")
@@ -77,6 +80,10 @@ fn with_request<'a>(alloc: Global, command: Command<'a>) -> Result<Command<'a>, 
         .arg(entities)
 }
 
+fn json<'a>(alloc: Global) -> Arg<'a> {
+    flag(alloc, "json", "Prints the whole answer as one JSON value")
+}
+
 fn request_json<'a>(alloc: Global) -> Result<Arg<'a>, AllocError> {
     option(alloc, "request-json", "FILE", "The whole request, in JSON")
         .conflicts_with("principal")?
@@ -92,7 +99,8 @@ fn authorize<'a>(alloc: Global) -> Result<Command<'a>, AllocError> {
         .arg(policies(alloc))?
         .arg(error_handling(alloc))?
         .arg(limit(alloc))?
-        .arg(verbose)?;
+        .arg(verbose)?
+        .arg(json(alloc))?;
     with_request(alloc, command)
 }
 
@@ -110,9 +118,21 @@ fn partially_authorize<'a>(alloc: Global) -> Result<Command<'a>, AllocError> {
         .arg(error_handling(alloc))?
         .arg(limit(alloc))?
         .arg(partial)?
+        .arg(step(alloc))?
+        .arg(json(alloc))?
         .arg(principal_type.conflicts_with("principal")?)?
         .arg(resource_type.conflicts_with("resource")?)?;
     with_request(alloc, command)
+}
+
+// Each use has one value or two.
+fn step<'a>(alloc: Global) -> Arg<'a> {
+    Arg::new(alloc, "step")
+        .long("step")
+        .action(ArgAction::Append)
+        .num_args(1..=2)
+        .value_names(&STEP_FILES)
+        .help("Values for unknowns, in JSON, and perhaps the entities that there are then")
 }
 
 fn evaluate<'a>(alloc: Global) -> Result<Command<'a>, AllocError> {
@@ -124,7 +144,8 @@ fn evaluate<'a>(alloc: Global) -> Result<Command<'a>, AllocError> {
     let command = Command::new(alloc, "evaluate")
         .about("The value of an expression")
         .arg(expression)?
-        .arg(limit(alloc))?;
+        .arg(limit(alloc))?
+        .arg(json(alloc))?;
     with_request(alloc, command)
 }
 

@@ -1,5 +1,5 @@
 //! The files that arguments name.
-use cedar_answers::{Refusal, Source};
+use cedar_answers::{Refusal, Source, Step};
 use clap::ArgMatches;
 use std::alloc::Global;
 use std::rt::Files;
@@ -12,6 +12,13 @@ struct File {
     text: String,
 }
 
+/// The files of a step.
+#[derive(Drop)]
+struct StepFiles {
+    values: File,
+    entities: Option<File>,
+}
+
 /// The texts of the files that the arguments of these names name.
 #[derive(Drop)]
 pub(crate) struct Texts {
@@ -19,6 +26,7 @@ pub(crate) struct Texts {
     context: Option<File>,
     request: Option<File>,
     entities: Option<File>,
+    steps: Vec<StepFiles>,
 }
 
 impl Texts {
@@ -31,11 +39,13 @@ impl Texts {
         let context = text_of(rt, matches.get_str("context"))?;
         let request = text_of(rt, matches.get_str("request-json"))?;
         let entities = text_of(rt, matches.get_str("entities"))?;
+        let steps = step_files(rt, matches)?;
         Ok(Texts {
             policies,
             context,
             request,
             entities,
+            steps,
         })
     }
 
@@ -64,15 +74,76 @@ impl Texts {
     pub(crate) fn entities(&self) -> Option<Source<'_>> {
         source(&self.entities)
     }
+
+    /// The steps, in their order.
+    pub(crate) fn steps(&self, alloc: Global) -> Result<Vec<Step<'_>>, Refusal> {
+        let mut steps: Vec<Step<'_>> = Vec::new(alloc);
+        'files: for files in self.steps.iter() {
+            steps.push(step_of(files))?;
+        }
+        Ok(steps)
+    }
+}
+
+fn step_of(files: &StepFiles) -> Step<'_> {
+    Step {
+        values: source_of(&files.values),
+        entities: source(&files.entities),
+    }
 }
 
 fn source(file: &Option<File>) -> Option<Source<'_>> {
     match file {
-        Some(file) => Some(Source {
-            name: file.name.as_str(),
-            text: file.text.as_str(),
-        }),
+        Some(file) => Some(source_of(file)),
         None => None,
+    }
+}
+
+fn source_of(file: &File) -> Source<'_> {
+    Source {
+        name: file.name.as_str(),
+        text: file.text.as_str(),
+    }
+}
+
+// The files that each use of `--step` names.
+fn step_files<R: Files + AllocGlobal>(
+    rt: &R,
+    matches: &ArgMatches<'_>,
+) -> Result<Vec<StepFiles>, Refusal> {
+    let mut steps: Vec<StepFiles> = Vec::new(rt.alloc());
+    if let Some(uses) = matches.get_raw_occurrences("step") {
+        'uses: for names in uses {
+            put_step(rt, names, &mut steps)?;
+        }
+    }
+    Ok(steps)
+}
+
+fn put_step<R: Files + AllocGlobal>(
+    rt: &R,
+    names: &[&str],
+    steps: &mut Vec<StepFiles>,
+) -> Result<(), Refusal> {
+    if let Some(values) = names.first() {
+        let values = named(rt, values)?;
+        let step = with_entities(rt, values, names.get(1).copied())?;
+        steps.push(step)?;
+    }
+    Ok(())
+}
+
+fn with_entities<R: Files + AllocGlobal>(
+    rt: &R,
+    values: File,
+    entities: Option<&str>,
+) -> Result<StepFiles, Refusal> {
+    match text_of(rt, entities) {
+        Ok(entities) => Ok(StepFiles { values, entities }),
+        Err(refusal) => {
+            drop(values);
+            Err(refusal)
+        }
     }
 }
 

@@ -94,8 +94,11 @@ fn run_with(
     let asked = asked(matches, texts);
     match name {
         "authorize" => authorized(alloc, policies, &asked, way(matches)),
-        "partially-authorize" => partially_authorized(alloc, policies, &asked, way(matches)),
-        "evaluate" => evaluated(alloc, expression(matches), &asked, limit(matches)),
+        "partially-authorize" => partial(alloc, &asked, matches, texts),
+        "evaluate" => {
+            let is_json = matches.get_flag("json");
+            evaluated(alloc, expression(matches), &asked, limit(matches), is_json)
+        }
         "check-parse" => {
             checked(alloc, policies)?;
             Ok(nothing(alloc))
@@ -105,6 +108,18 @@ fn run_with(
             status: 0,
         }),
     }
+}
+
+fn partial(
+    alloc: Global,
+    asked: &Asked<'_, '_>,
+    matches: &ArgMatches<'_>,
+    texts: &Texts,
+) -> Result<Printed, Refusal> {
+    let steps = texts.steps(alloc)?;
+    let printed = partially_authorized(alloc, texts.policies(), asked, &steps, way(matches));
+    drop(steps);
+    printed
 }
 
 // What the arguments say of the request and of the entities.
@@ -127,6 +142,7 @@ fn way(matches: &ArgMatches<'_>) -> Way {
         error_handling: error_handling(matches.get_str("error-handling")),
         limit: limit(matches),
         is_verbose: matches.get_flag("verbose"),
+        is_json: matches.get_flag("json"),
     }
 }
 

@@ -6,8 +6,8 @@ use Rattle.cedar_model.specs.Terms.{EntityName}
 use Rattle.cedar_model.specs.Outcomes.{entity_eq}
 use Rattle.cedar_model.specs.Settings.{is_among}
 use Rattle.cedar_names.specs.declared.names.EntityUID.{EntityUID}
-use Rattle.cedar_names.specs.contracts.names.EntityUIDPartialEq.TheImpl.{eq-value}
 use Rattle.cedar_names.specs.Names.{uid_name}
+use Rattle.cedar_names.specs.Order.{is_tied, is_tied-by_name}
 use Rattle.cedar_closure.specs.Walks.{marked}
 use Rattle.cedar_closure.specs.Listed.{HoldsTheSame}
 use Rattle.cedar_closure.proofs.Walking.{entity_eq-true, is_among-append}
@@ -19,8 +19,8 @@ any_of_name n [] = refl
 any_of_name n (u ∷ us) = ap (λ (b : Bool). entity_eq n (uid_name u) || b) (any_of_name n us)
 
 -- an entity is in a set where its name is
-pub any_of_uid : (u : EntityUID) (us : List EntityUID) → list_any (eq-value.it u) us ≡ is_among (uid_name u) (map uid_name us)
-any_of_uid u us = any_of_name (uid_name u) us
+pub any_of_uid : (u : EntityUID) (us : List EntityUID) → list_any (is_tied u) us ≡ is_among (uid_name u) (map uid_name us)
+any_of_uid u us = (λ i. list_any (λ (v : EntityUID). is_tied-by_name u v i) us) ∙ any_of_name (uid_name u) us
 
 or_true : (b : Bool) → true ≡ (b || true)
 or_true true = refl
@@ -34,15 +34,15 @@ pub map-behind : (us : List EntityUID) (u : EntityUID) → map uid_name (us ++ u
 map-behind [] u = refl
 map-behind (v ∷ us) u = ap (λ (ns : List EntityName). uid_name v ∷ ns) (map-behind us u)
 
-module _ (old new found : List EntityUID) (key last : EntityUID) (there : list_any (eq-value.it key) new ≡ true) (others : KeepsOthers eq-value.it (eq-value.it key) old new) where
+module _ (old new found : List EntityUID) (key last : EntityUID) (there : list_any (is_tied key) new ≡ true) (others : KeepsOthers is_tied (is_tied key) old new) where
   among_at : (n : EntityName) (b : Bool) → entity_eq n (uid_name key) ≡ b → is_among n (map uid_name new) ≡ (is_among n (map uid_name old) || b)
   unfolding KeepsOthers
   among_at n true h =
       let same : n ≡ uid_name key = entity_eq-true n (uid_name key) h in
       ap (λ (m : EntityName). is_among m (map uid_name new)) same ∙ sym (any_of_uid key new) ∙ there ∙ or_true (is_among n (map uid_name old))
   among_at n false h =
-      let own : (x y : EntityUID) → entity_eq n (uid_name x) ≡ true → entity_eq n (uid_name y) ≡ eq-value.it x y = λ x y e. ap (λ (m : EntityName). entity_eq m (uid_name y)) (entity_eq-true n (uid_name x) e) in
-      let apart : (u : EntityUID) → eq-value.it key u ≡ true → entity_eq n (uid_name u) ≡ false = λ u e. ap (λ (m : EntityName). entity_eq n m) (sym (entity_eq-true (uid_name key) (uid_name u) e)) ∙ h in
+      let own : (x y : EntityUID) → entity_eq n (uid_name x) ≡ true → entity_eq n (uid_name y) ≡ is_tied x y = λ x y e. ap (λ (m : EntityName). entity_eq m (uid_name y)) (entity_eq-true n (uid_name x) e) ∙ sym (is_tied-by_name x y) in
+      let apart : (u : EntityUID) → is_tied key u ≡ true → entity_eq n (uid_name u) ≡ false = λ u e. ap (λ (m : EntityName). entity_eq n m) (sym (entity_eq-true (uid_name key) (uid_name u) (sym (is_tied-by_name key u) ∙ e))) ∙ h in
       sym (any_of_name n new) ∙ others (λ (u : EntityUID). entity_eq n (uid_name u)) own apart ∙ any_of_name n old ∙ or_false (is_among n (map uid_name old))
 
   one_name : (n m : EntityName) → is_among n (m ∷ []) ≡ entity_eq n m
@@ -68,13 +68,13 @@ was_true true h = refl
 was_true false h = sym h
 
 -- what was put into the set as new was not found before, and the other way round
-pub not_found : (key uid : EntityUID) (old found : List EntityUID) (added : Bool) → uid_name key ≡ uid_name uid → added ≡ not (list_any (eq-value.it key) old) → added ≡ true → HoldsTheSame old found → is_among (uid_name uid) (map uid_name found) ≡ false
+pub not_found : (key uid : EntityUID) (old found : List EntityUID) (added : Bool) → uid_name key ≡ uid_name uid → added ≡ not (list_any (is_tied key) old) → added ≡ true → HoldsTheSame old found → is_among (uid_name uid) (map uid_name found) ≡ false
 not_found key uid old found added e is h before =
-    ap (λ (n : EntityName). is_among n (map uid_name found)) (sym e) ∙ sym (before (uid_name key)) ∙ sym (any_of_uid key old) ∙ was_false (list_any (eq-value.it key) old) (sym is ∙ h)
+    ap (λ (n : EntityName). is_among n (map uid_name found)) (sym e) ∙ sym (before (uid_name key)) ∙ sym (any_of_uid key old) ∙ was_false (list_any (is_tied key) old) (sym is ∙ h)
 
-pub found_already : (key uid : EntityUID) (old found : List EntityUID) (added : Bool) → uid_name key ≡ uid_name uid → added ≡ not (list_any (eq-value.it key) old) → added ≡ false → HoldsTheSame old found → is_among (uid_name uid) (map uid_name found) ≡ true
+pub found_already : (key uid : EntityUID) (old found : List EntityUID) (added : Bool) → uid_name key ≡ uid_name uid → added ≡ not (list_any (is_tied key) old) → added ≡ false → HoldsTheSame old found → is_among (uid_name uid) (map uid_name found) ≡ true
 found_already key uid old found added e is h before =
-    ap (λ (n : EntityName). is_among n (map uid_name found)) (sym e) ∙ sym (before (uid_name key)) ∙ sym (any_of_uid key old) ∙ was_true (list_any (eq-value.it key) old) (sym is ∙ h)
+    ap (λ (n : EntityName). is_among n (map uid_name found)) (sym e) ∙ sym (before (uid_name key)) ∙ sym (any_of_uid key old) ∙ was_true (list_any (is_tied key) old) (sym is ∙ h)
 
 -- marking a name
 pub marked-new : (n m : EntityName) (ns : List EntityName) → m ≡ n → is_among n ns ≡ false → ns ++ m ∷ [] ≡ marked n ns

@@ -1,16 +1,16 @@
 //! The parents that entities record, under the uids of those entities.
-ghost use Rattle.std.specs.Prelude.{◌≡◌, IfOk, OnOk, map};
+ghost use Rattle.std.specs.Prelude.{◌≡◌, IfOk, OnOk, map, option_copied};
 ghost use Rattle.cedar_names.specs.Names.{uid_name};
 ghost use Rattle.cedar_closure.specs.Ancestry.{parents_of};
-ghost use Rattle.cedar_closure.specs.Listed.{listed_parents, parents_with};
+ghost use Rattle.cedar_closure.specs.Listed.{listed_parents, names_or_none, parents_with};
 
 use cedar_layers::expressions::EntityUID;
 use cedar_layers::policies::Entity;
 use std::alloc::{AllocError, Global};
-use std::collections::{HashMap, HashSet};
+use std::collections::{BTreeMap, BTreeSet};
 
 /// The parents of each entity, under its uid.
-pub(crate) type ParentMap = HashMap<EntityUID, Vec<EntityUID>>;
+pub(crate) type ParentMap = BTreeMap<EntityUID, Vec<EntityUID>>;
 
 // The parents that these entities record, of those of one uid the last.
 pub(crate) fn recorded_parents(
@@ -19,7 +19,7 @@ pub(crate) fn recorded_parents(
 ) -> Result<ParentMap, AllocError>
     ensures { IfOk result (λ m. listed_parents m.entries ≡ parents_of entities.now.items) }
 {
-    let mut parents: ParentMap = HashMap::new(alloc);
+    let mut parents: ParentMap = BTreeMap::new(alloc);
     'entities: for entity in entities {
         put(alloc, &mut parents, entity)?;
     }
@@ -37,8 +37,15 @@ fn put(alloc: Global, parents: &mut ParentMap, entity: &Entity) -> Result<(), Al
     Ok(())
 }
 
+// The parents that the map lists of this uid, if it has the uid.
+pub(crate) fn parents_in<'p>(parents: &'p ParentMap, uid: &EntityUID) -> Option<&'p Vec<EntityUID>>
+    ensures { names_or_none (option_copied result) ≡ listed_parents parents.now.entries (uid_name uid.now) }
+{
+    parents.get(uid)
+}
+
 // The uids of a set, in a list.
-fn listed(alloc: Global, uids: &HashSet<EntityUID>) -> Result<Vec<EntityUID>, AllocError>
+fn listed(alloc: Global, uids: &BTreeSet<EntityUID>) -> Result<Vec<EntityUID>, AllocError>
     ensures { IfOk result (λ v. map uid_name v.items ≡ map uid_name uids.now.keys) }
 {
     let mut list: Vec<EntityUID> = Vec::new(alloc);

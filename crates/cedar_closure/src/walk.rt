@@ -5,10 +5,10 @@ ghost use Rattle.cedar_closure.specs.Paths.{AreLedTo};
 ghost use Rattle.cedar_closure.specs.Walks.{marked, marked_each};
 ghost use Rattle.cedar_closure.specs.Listed.{listed_parents, HoldsTheSame};
 
-use crate::parents::{ParentMap, copied};
+use crate::parents::{ParentMap, copied, parents_in};
 use cedar_layers::expressions::EntityUID;
 use std::alloc::{AllocError, Global};
-use std::collections::HashSet;
+use std::collections::BTreeSet;
 
 // All that parents lead to from the entity of this uid: each uid is marked once, and its parents are looked at once. What was
 // marked stands in `found`, in the order in which it was found, and `reached` has the same: that is what is asked in `mark`.
@@ -16,11 +16,11 @@ pub(crate) fn led_to(
     alloc: Global,
     parents: &ParentMap,
     uid: &EntityUID,
-) -> Result<HashSet<EntityUID>, AllocError>
+) -> Result<BTreeSet<EntityUID>, AllocError>
     ensures { IfOk result (λ s.
         AreLedTo (listed_parents parents.now.entries) (uid_name uid.now) (map uid_name s.keys)) }
 {
-    let mut reached: HashSet<EntityUID> = HashSet::new(alloc);
+    let mut reached: BTreeSet<EntityUID> = BTreeSet::new(alloc);
     let mut found: Vec<EntityUID> = Vec::new(alloc);
     mark_parents(&mut reached, &mut found, parents, uid)?;
     let mut done: usize = 0;
@@ -34,7 +34,7 @@ pub(crate) fn led_to(
 
 // Marks the parents of this uid.
 fn mark_parents(
-    reached: &mut HashSet<EntityUID>,
+    reached: &mut BTreeSet<EntityUID>,
     found: &mut Vec<EntityUID>,
     parents: &ParentMap,
     uid: &EntityUID,
@@ -44,7 +44,7 @@ fn mark_parents(
         marked_each (listed_parents parents.now.entries (uid_name uid.now)) (map uid_name found.old.items)) }
     ensures reached { OnOk result (HoldsTheSame reached.new.keys found.new.items) }
 {
-    match parents.get(uid) {
+    match parents_in(parents, uid) {
         Some(own) => mark_each(reached, found, own),
         None => Ok(()),
     }
@@ -52,7 +52,7 @@ fn mark_parents(
 
 // Marks each of these uids.
 fn mark_each(
-    reached: &mut HashSet<EntityUID>,
+    reached: &mut BTreeSet<EntityUID>,
     found: &mut Vec<EntityUID>,
     uids: &Vec<EntityUID>,
 ) -> Result<(), AllocError>
@@ -69,7 +69,7 @@ fn mark_each(
 
 // Puts the uid behind those that were found, unless it is one of them.
 fn mark(
-    reached: &mut HashSet<EntityUID>,
+    reached: &mut BTreeSet<EntityUID>,
     found: &mut Vec<EntityUID>,
     uid: &EntityUID,
 ) -> Result<(), AllocError>

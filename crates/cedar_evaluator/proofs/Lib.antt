@@ -1,4 +1,6 @@
 pub mod Requests
 pub mod Sound
 pub mod Knowing
+pub mod Looked
 pub mod Told
+pub mod Joined

@@ -10,16 +10,16 @@ use Rattle.cedar_model.specs.Failures.{value, residual, Answer}
 use Rattle.cedar_model.specs.Settings.{ContextPart, absent_context, known_context, residual_context, context_value, RequestPart, variable_part}
 use Rattle.cedar_model.specs.Rules.{Runs, Meets}
 use Rattle.cedar_model.specs.Restricted.{IsSound, IsSoundContext, IsGivenSound}
-use Rattle.cedar_data.specs.declared.partial_value.PartialValue.{PartialValue}
-use Rattle.cedar_data.specs.declared.partial_value.PartialValue.TheVariants as partials
-use Rattle.cedar_data.specs.Residuals.{partial_view, residual_term}
+use Rattle.cedar_values.specs.declared.partial_value.PartialValue.{PartialValue}
+use Rattle.cedar_values.specs.declared.partial_value.PartialValue.TheVariants as partials
+use Rattle.cedar_values.specs.Residuals.{partial_view, residual_term}
 use Rattle.cedar_layers.specs.Parts.{is_restricted_part}
 use Rattle.cedar_layers.proofs.Sound.{store_is_sound, mapping_is_sound}
 use Rattle.cedar_extensions.specs.StoredLaws.{calls_functional, calls_meet_no_limit, calls_sound}
-use Rattle.cedar_evaluation.specs.declared.evaluation.Mapper.{Mapper}
-use Rattle.cedar_evaluation.specs.declared.evaluation.Mapper.TheVariants as mappers
-use Rattle.cedar_evaluation.specs.Settings.{mapper_view}
-use Rattle.cedar_evaluation.specs.Promises.{IsPromised, promised}
+use Rattle.cedar_interpreter.specs.declared.evaluation.Mapper.{Mapper}
+use Rattle.cedar_interpreter.specs.declared.evaluation.Mapper.TheVariants as mappers
+use Rattle.cedar_interpreter.specs.Settings.{mapper_view}
+use Rattle.cedar_interpreter.specs.Promises.{IsPromised, promised}
 use Rattle.cedar_evaluator.specs.declared.evaluator.Evaluator.{Evaluator}
 use Rattle.cedar_evaluator.specs.Evaluations.{setting_of, calls_in}
 use Rattle.cedar_evaluator.specs.Variables.{context_of}

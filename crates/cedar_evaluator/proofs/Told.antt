@@ -1,34 +1,94 @@
 -- What follows of a scope that is told.
-use Rattle.std.specs.Prelude.{◌≡◌, ◌≢◌, ◌≤◌, ◌-◌, ℕ, suc, Bool, true, false, Option, Some, None, IfSome}
+use Rattle.std.specs.Prelude.{◌≡◌, ◌≢◌, ◌≤◌, ◌-◌, ℕ, suc, Bool, true, false, ◌||◌, ◌&&◌, Option, Some, None, IfSome}
 use Rattle.std.proofs.Common.{refl, sym, ap, ◌∙◌, subst, arith}
-use Rattle.cedar_model.specs.Terms.{Term, Literal, bool_literal, literal, Variable, variable, both, binary, BinaryOperator}
-use Rattle.cedar_model.specs.Values.{Represented, plain_represented, abstract_value}
+use Rattle.std.proofs.lemmas.Slice.Eq.{bytes_eq-Decides}
+use Rattle.cedar_model.specs.Terms.{Text, Term, EntityName, Literal, bool_literal, entity_literal, literal, Variable, variable, both, binary, is_of_type, BinaryOperator, eq_operator, in_operator}
+use Rattle.cedar_model.specs.Values.{Represented, plain_represented, abstract_value, plain}
 use Rattle.cedar_model.specs.World.{Slots}
-use Rattle.cedar_model.specs.Outcomes.{bool_of}
+use Rattle.cedar_model.specs.Keys.{value_eq}
+use Rattle.cedar_model.specs.lemmas.Keys.{value_eq-true, value_eq-self}
+use Rattle.cedar_model.specs.Outcomes.{bool_of, entity_of, text_eq, entity_eq}
+use Rattle.cedar_model.specs.Meaning.{entities_of, some_entity}
 use Rattle.cedar_model.specs.Failures.{out_of_memory, value, Answer, answers, fails, answers_bool, answers_value}
-use Rattle.cedar_model.specs.Settings.{Setting}
-use Rattle.cedar_model.specs.Operators.{binary_answer}
+use Rattle.cedar_model.specs.Settings.{Setting, Found, found, not_there, not_known, look_up}
+use Rattle.cedar_model.specs.Operators.{binary_answer, in_found, expecting}
 use Rattle.cedar_model.specs.Responses.{Decided, decides, errs_with, decided, decided_bool}
-use Rattle.cedar_model.specs.Rules.{StoredCalls, Runs, Meets, joined, bool_or_failure, binary_of_parts, binary_beside, beside_residual}
-use Rattle.cedar_data.specs.Residuals.{partial_view}
-use Rattle.cedar_data.specs.Sound.{Placed}
-use Rattle.cedar_layers.specs.Stores.{store_view}
-use Rattle.cedar_extensions.specs.Extensions.{extensions_view}
-use Rattle.cedar_operators.specs.Operands.{given}
-use Rattle.cedar_evaluation.specs.Booleans.{is_bool}
-use Rattle.cedar_evaluation.specs.Operands.{parts_alike}
-use Rattle.cedar_evaluation.specs.Promises.{IsPromised}
-use Rattle.cedar_evaluation.specs.Reads.{as_stored, none_resolved, operator_value}
-use Rattle.cedar_evaluation.specs.Settings.{given_for}
+use Rattle.cedar_model.specs.Rules.{StoredCalls, Runs, Meets, joined, bool_or_failure, binary_of_parts, binary_beside, beside_residual, is_part}
+use Rattle.cedar_values.specs.Residuals.{partial_view}
+use Rattle.cedar_interpreter.specs.Promises.{IsPromised}
+use Rattle.cedar_interpreter.specs.Reads.{as_stored, none_resolved, operator_value}
+use Rattle.cedar_interpreter.specs.Settings.{given_for}
 use Rattle.cedar_evaluator.specs.declared.evaluator.Evaluator.{Evaluator}
 use Rattle.cedar_evaluator.specs.Evaluations.{variables_of, setting_of, calls_in}
+use Rattle.cedar_evaluator.specs.Known.{within, known_view, known_for}
+use Rattle.cedar_evaluator.specs.Told.{IsTold, IsToldFrom}
 use Rattle.cedar_evaluator.proofs.Requests.{says}
 use Rattle.cedar_evaluator.proofs.Sound.{evaluator_promised}
-use Rattle.cedar_evaluator.specs.Told.{IsTold}
 
 -- what holds of what is there
 pub of_some : {A : Type 0} (P : A → Type 0) (r : Option A) (x : A) → r ≡ Some x → IfSome r P → P x
 of_some P r x is h = subst (λ z. IfSome z P) is h
+
+-- ---- entities that are compared
+
+both_true : (a b : Bool) → (a && b) ≡ true → (a ≡ true) × (b ≡ true)
+both_true true b h = (refl, h)
+both_true false b h = absurd (cc)
+
+alike : (a b : Bool) → (a ≡ true → b ≡ true) → (b ≡ true → a ≡ true) → a ≡ b
+alike true b h g = sym (h refl)
+alike false true h g = g refl
+alike false false h g = refl
+
+or_false : (b : Bool) → b ≡ (b || false)
+or_false true = refl
+or_false false = refl
+
+name_is : (d e : EntityName) → entity_eq d e ≡ true → d ≡ e
+name_is d e h =
+    let parts : (text_eq d.type_name e.type_name ≡ true) × (text_eq d.id e.id ≡ true) = both_true _ _ h in
+    let of_type : d.type_name ≡ e.type_name = (bytes_eq-Decides d.type_name e.type_name).0 parts.0 in
+    let of_id : d.id ≡ e.id = (bytes_eq-Decides d.id e.id).0 parts.1 in
+    λ i. record { type_name = of_type i; id = of_id i }
+
+name_itself : (d : EntityName) → entity_eq d d ≡ true
+name_itself d =
+    let of_type : text_eq d.type_name d.type_name ≡ true = (bytes_eq-Decides d.type_name d.type_name).1 refl in
+    let of_id : text_eq d.id d.id ≡ true = (bytes_eq-Decides d.id d.id).1 refl in
+    ap (λ b. b && text_eq d.id d.id) of_type ∙ of_id
+
+named : (d e : EntityName) → plain (entity_literal d) ≡ plain (entity_literal e) → d ≡ e
+named d e h = cc
+
+equal_by_name : (d e : EntityName) → entity_eq d e ≡ value_eq (plain (entity_literal d)) (plain (entity_literal e))
+equal_by_name d e =
+    alike (entity_eq d e) (value_eq (plain (entity_literal d)) (plain (entity_literal e)))
+    (λ h. ap (λ x. value_eq (plain (entity_literal d)) (plain (entity_literal x))) (sym (name_is d e h)) ∙ value_eq-self (plain (entity_literal d)))
+    (λ h. ap (λ x. entity_eq d x) (sym (named d e (value_eq-true _ _ h))) ∙ name_itself d)
+
+-- `==` of two entities
+pub equal_answered : (s : Setting) (d e : EntityName) →
+    answers_bool (entity_eq d e) ≡ binary_answer s eq_operator (plain_represented (entity_literal d)) (plain_represented (entity_literal e))
+unfolding binary_answer
+equal_answered s d e = ap answers_bool (equal_by_name d e)
+
+is_some : {a b : Bool} → Some a ≡ Some b → b ≡ a
+is_some h = cc
+
+in_answered_of : (f : Found) (d e : EntityName) (b : Bool) → within f d e ≡ Some b →
+    answers_bool b ≡ in_found f d (plain_represented (entity_literal e))
+unfolding within in_found expecting entities_of some_entity
+in_answered_of (found x) d e b h = ap answers_bool (is_some h ∙ or_false _)
+in_answered_of not_there d e b h = ap answers_bool (is_some h ∙ or_false _)
+in_answered_of not_known d e b h = absurd (cc)
+
+-- `in` of two entities
+pub in_answered : (s : Setting) (d e : EntityName) (b : Bool) → within (look_up s.store d) d e ≡ Some b →
+    answers_bool b ≡ binary_answer s in_operator (plain_represented (entity_literal d)) (plain_represented (entity_literal e))
+unfolding binary_answer expecting entity_of
+in_answered s d e b h = in_answered_of (look_up s.store d) d e b h
+
+-- ---- what runs
 
 module _ (s : Setting) (calls : StoredCalls) (n : ℕ) (t u : Term) where
   -- a false left side decides
@@ -42,83 +102,149 @@ module _ (s : Setting) (calls : StoredCalls) (n : ℕ) (t u : Term) where
   unfolding bool_of
   true_left x h g = (answers_bool true, h, (x, g, refl))
 
-  pub true_bool : (b : Bool) → Runs s calls n t (answers_bool true) → Runs s calls n u (answers_bool b) →
+  true_bool : (b : Bool) → Runs s calls n t (answers_bool true) → Runs s calls n u (answers_bool b) →
       Runs s calls (suc n) (both t u) (answers_bool b)
   unfolding bool_of joined bool_or_failure
   true_bool b h g = (answers_bool true, h, (answers_bool b, g, refl))
 
-no_want : (b : Bool) → answers_bool b ≢ fails out_of_memory
-no_want b h = cc
-
--- the setting, but over the store and with the extensions that the evaluator is given
-abbrev over_given : {X : Type 0} {F : X → Type 0} {g : _} → Evaluator X F g → Setting → Setting
-over_given v s = given s (store_view v.given.entities.now) (extensions_view v.given.extensions.now)
-
-module _ {X : Type 0} {F : X → Type 0} {g : _} (v : Evaluator X F g) (n : ℕ) (t u : Term) where
-  pub told_false : IsTold v n t (answers_bool false) → IsTold v (suc n) (both t u) (answers_bool false)
-  told_false h slots = false_left (setting_of v slots) (calls_in v) n t u (h slots)
-
-  told_true : (r : Option Bool) → IsTold v n t (answers_bool true) → IfSome r (λ b. IsTold v n u (answers_bool b)) →
-      IfSome r (λ b. IsTold v (suc n) (both t u) (answers_bool b))
-  told_true (Some b) h g = λ slots. true_bool (setting_of v slots) (calls_in v) n t u b (h slots) (g slots)
-  told_true None h g = tt
-
-  compared : (op : BinaryOperator) (x y : Represented) (b : Bool) → IsTold v (suc n) t (answers_value x) →
-      IsTold v (suc n) u (answers_value y) → ((s : Setting) → answers_bool b ≡ binary_answer (over_given v s) op x y) →
-      IsTold v (suc (suc n)) (binary op t u) (answers_bool b)
+  -- two values are compared
+  compared : (op : BinaryOperator) (x y : Represented) (b : Bool) → Runs s calls (suc n) t (answers_value x) →
+      Runs s calls (suc n) u (answers_value y) → answers_bool b ≡ binary_answer s op x y →
+      Runs s calls (suc (suc n)) (binary op t u) (answers_bool b)
   unfolding binary_beside binary_of_parts
-  compared op x y b h g is slots =
-      let s = setting_of v slots in
-      let stored : answers_bool b ≡ binary_answer s op x y = is s ∙ parts_alike s op (value x) (value y) in
+  compared op x y b h g is =
       let read = beside_residual s.store op (value x) (answers_value y) in (
         answers_value x,
-        h slots,
+        h,
         (
           answers_value y,
-          g slots,
-          as_stored (Runs s (calls_in v) (suc n)) s.resolution read (binary_answer s op x y) (answers_bool b)
-              (none_resolved s.resolution read (operator_value s op x y (plain_represented (bool_literal b)) stored)) stored,
+          g,
+          as_stored (Runs s calls (suc n)) s.resolution read (binary_answer s op x y) (answers_bool b)
+              (none_resolved s.resolution read (operator_value s op x y (plain_represented (bool_literal b)) is)) is,
         ),
       )
 
-module _ {X : Type 0} {F : X → Type 0} {g : _} (v : Evaluator X F g) (n : ℕ) (t : Term) where
-  -- two values are compared, with two levels
-  pub told_compared : (u : Term) (op : BinaryOperator) (x y : Represented) (o : Answer) (r : Option Bool) → 2 ≤ n →
-      ((k : ℕ) → IsTold v (suc k) t (answers_value x)) → ((k : ℕ) → IsTold v (suc k) u (answers_value y)) →
-      ((s : Setting) → o ≢ fails out_of_memory → o ≡ binary_answer (over_given v s) op x y) →
-      IfSome r (λ b. o ≡ answers_bool b) → IfSome r (λ b. IsTold v n (binary op t u) (answers_bool b))
-  told_compared u op x y o (Some b) two h g is that =
-      let levels : suc (suc (n - 2)) ≡ n = omega (arith, two) in
-      subst (λ k. IsTold v k (binary op t u) (answers_bool b)) levels
-      (compared v (n - 2) t u op x y b (h (n - 2)) (g (n - 2))
-      (λ s. sym that ∙ is s (λ w. no_want b (sym that ∙ w))))
-  told_compared u op x y o None two h g is that = tt
+-- an entity's type is tested
+type_tested : (s : Setting) (calls : StoredCalls) (n : ℕ) (t : Term) (d : EntityName) (k : Text) →
+    Runs s calls n t (answers_value (plain_represented (entity_literal d))) →
+    Runs s calls (suc n) (is_of_type t k) (answers_bool (text_eq d.type_name k))
+unfolding is_part expecting entity_of
+type_tested s calls n t d k h = (answers_value (plain_represented (entity_literal d)), h, refl)
+
+-- ---- what is told, with so many levels or more
+
+above_one : (P : ℕ → Type 0) → ((n : ℕ) → P (suc n)) → (n : ℕ) → 1 ≤ n → P n
+above_one P h n one =
+    let levels : suc (n - 1) ≡ n = omega (arith, one) in
+    subst P levels (h (n - 1))
+
+above_two : (P : ℕ → Type 0) → ((n : ℕ) → P (suc (suc n))) → (n : ℕ) → 2 ≤ n → P n
+above_two P h n two =
+    let levels : suc (suc (n - 2)) ≡ n = omega (arith, two) in
+    subst P levels (h (n - 2))
+
+one_above : (n : ℕ) → 1 ≤ suc n
+one_above n = omega arith
+
+one_of_two : (n : ℕ) → 2 ≤ n → 1 ≤ n
+one_of_two n two = omega (arith, two)
+
+one_less : (k n : ℕ) → suc k ≤ n → k ≤ n - 1
+one_less k n enough = omega (arith, enough)
+
+levels_left : (k n : ℕ) → suc k ≤ n → suc (n - 1) ≡ n
+levels_left k n enough = omega (arith, enough)
+
+enough_for : (k n : ℕ) → 2 ≤ k → k ≤ n → 2 ≤ n
+enough_for k n two enough = omega (arith, two, enough)
+
+module _ {X : Type 0} {F : X → Type 0} {g : _} (v : Evaluator X F g) where
+  -- a literal
+  pub literal_told : (t : Term) (l : Literal) → t ≡ literal l → IsToldFrom v 1 t (answers_value (plain_represented l))
+  literal_told t l is =
+      above_one (λ m. IsTold v m t (answers_value (plain_represented l)))
+      (λ m. subst (λ z. IsTold v (suc m) z (answers_value (plain_represented l))) (sym is) (λ slots. refl))
+
+  -- a variable
+  pub variable_told : (x : Variable) (r : Represented) → partial_view (given_for v.given x) ≡ value r →
+      IsToldFrom v 1 (variable x) (answers_value r)
+  variable_told x r is =
+      above_one (λ m. IsTold v m (variable x) (answers_value r))
+      (λ m slots. ap answers (sym is ∙ says (variables_of v.given) v.of_request x))
 
   -- a boolean
-  pub told_literal : (l : Literal) (r : Option Bool) → 1 ≤ n → t ≡ literal l → IfSome r (λ b. l ≡ bool_literal b) →
-      IfSome r (λ b. IsTold v n t (answers_bool b))
-  told_literal l (Some b) one is that =
-      let levels : suc (n - 1) ≡ n = omega (arith, one) in
-      subst (λ k. IsTold v k t (answers_bool b)) levels
-      (subst (λ z. IsTold v (suc (n - 1)) z (answers_bool b)) (sym (is ∙ ap literal that)) (λ slots. refl))
-  told_literal l None one is that = tt
+  pub bool_told : (t : Term) (l : Literal) (r : Option Bool) → t ≡ literal l → IfSome r (λ b. l ≡ bool_literal b) →
+      IfSome r (λ b. IsToldFrom v 2 t (answers_bool b))
+  bool_told t l (Some b) is that = λ n two. literal_told t (bool_literal b) (is ∙ ap literal that) n (one_of_two n two)
+  bool_told t l None is that = tt
 
-module _ {X : Type 0} {F : X → Type 0} {g : _} (v : Evaluator X F g) (n : ℕ) (t u : Term) where
-  -- the same of a conjunction with so many levels
-  pub beside_false : suc (n - 1) ≡ n → IsTold v (n - 1) t (answers_bool false) → IsTold v n (both t u) (answers_bool false)
-  beside_false levels h = subst (λ k. IsTold v k (both t u) (answers_bool false)) levels (told_false v (n - 1) t u h)
+  -- two values that are compared
+  pub compared_told : (t u : Term) (op : BinaryOperator) (x y : Represented) (b : Bool) →
+      IsToldFrom v 1 t (answers_value x) → IsToldFrom v 1 u (answers_value y) →
+      ((slots : Slots) → answers_bool b ≡ binary_answer (setting_of v slots) op x y) →
+      IsToldFrom v 2 (binary op t u) (answers_bool b)
+  compared_told t u op x y b h k is =
+      above_two (λ m. IsTold v m (binary op t u) (answers_bool b))
+      (λ m slots. compared (setting_of v slots) (calls_in v) m t u op x y b (h (suc m) (one_above m) slots) (k (suc m) (one_above m) slots) (is slots))
 
-  pub beside_true : (r : Option Bool) → suc (n - 1) ≡ n → IsTold v (n - 1) t (answers_bool true) →
-      IfSome r (λ b. IsTold v (n - 1) u (answers_bool b)) → IfSome r (λ b. IsTold v n (both t u) (answers_bool b))
-  beside_true r levels h g = subst (λ k. IfSome r (λ b. IsTold v k (both t u) (answers_bool b))) levels (told_true v (n - 1) t u r h g)
+  -- an entity, whose type is tested
+  pub type_told : (t : Term) (d : EntityName) (k : Text) → IsToldFrom v 1 t (answers_value (plain_represented (entity_literal d))) →
+      IsToldFrom v 2 (is_of_type t k) (answers_bool (text_eq d.type_name k))
+  type_told t d k h =
+      above_two (λ m. IsTold v m (is_of_type t k) (answers_bool (text_eq d.type_name k)))
+      (λ m slots. type_tested (setting_of v slots) (calls_in v) (suc m) t d k (h (suc m) (one_above m) slots))
 
--- what stands for a variable
-pub told_variable : {X : Type 0} {F : X → Type 0} {g : _} (v : Evaluator X F g) (x : Variable) (p : Placed) (r : Option Placed) →
-    partial_view (given_for v.given x) ≡ value p.what → IfSome r (λ y. y ≡ p) →
-    IfSome r (λ y. (k : ℕ) → IsTold v (suc k) (variable x) (answers_value y.what))
-told_variable v x p (Some y) is that = λ k slots.
-    ap (λ z. answers_value z.what) that ∙ ap answers (sym is ∙ says (variables_of v.given) v.of_request x)
-told_variable v x p None is that = tt
+  -- a conjunction whose left side is false
+  pub beside_false_told : (k : ℕ) (t u : Term) → IsToldFrom v k t (answers_bool false) →
+      IsToldFrom v (suc k) (both t u) (answers_bool false)
+  beside_false_told k t u h n enough =
+      subst (λ m. IsTold v m (both t u) (answers_bool false)) (levels_left k n enough)
+      (λ slots. false_left (setting_of v slots) (calls_in v) (n - 1) t u (h (n - 1) (one_less k n enough) slots))
+
+  -- and one whose left side is true
+  pub beside_true_bool : (k : ℕ) (t u : Term) (b : Bool) → 2 ≤ k → IsToldFrom v k t (answers_bool true) →
+      IsToldFrom v 2 u (answers_bool b) → IsToldFrom v (suc k) (both t u) (answers_bool b)
+  beside_true_bool k t u b two h j n enough =
+      let left : k ≤ n - 1 = one_less k n enough in
+      subst (λ m. IsTold v m (both t u) (answers_bool b)) (levels_left k n enough)
+      (λ slots. true_bool (setting_of v slots) (calls_in v) (n - 1) t u b (h (n - 1) left slots) (j (n - 1) (enough_for k (n - 1) two left) slots))
+
+  pub beside_true_told : (k : ℕ) (t u : Term) (r : Option Bool) → 2 ≤ k → IsToldFrom v k t (answers_bool true) →
+      IfSome r (λ b. IsToldFrom v 2 u (answers_bool b)) → IfSome r (λ b. IsToldFrom v (suc k) (both t u) (answers_bool b))
+  beside_true_told k t u (Some b) two h j = beside_true_bool k t u b two h j
+  beside_true_told k t u None two h j = tt
+
+module _ {X : Type 0} {F : X → Type 0} {g : _} (v : Evaluator X F g) {A : Type 0} (name : A → EntityName) where
+  -- an entity that is a literal
+  pub literal_entity_told : (t : Term) (l : Literal) (r : Option A) → t ≡ literal l → IfSome r (λ u. l ≡ entity_literal (name u)) →
+      IfSome r (λ u. IsToldFrom v 1 t (answers_value (plain_represented (entity_literal (name u)))))
+  literal_entity_told t l (Some u) is that = literal_told v t (entity_literal (name u)) (is ∙ ap literal that)
+  literal_entity_told t l None is that = tt
+
+  -- and one that a variable stands for
+  pub variable_entity_told : (x : Variable) (r : Option A) →
+      IfSome r (λ u. partial_view (given_for v.given x) ≡ value (plain_represented (entity_literal (name u)))) →
+      IfSome r (λ u. IsToldFrom v 1 (variable x) (answers_value (plain_represented (entity_literal (name u)))))
+  variable_entity_told x (Some u) is = variable_told v x (plain_represented (entity_literal (name u))) is
+  variable_entity_told x None is = tt
+
+module _ {X : Type 0} {F : X → Type 0} {g : _} (v : Evaluator X F g) (x : Variable) (t : Term) (d e : EntityName)
+    (is : partial_view (given_for v.given x) ≡ value (plain_represented (entity_literal d)))
+    (told : IsToldFrom v 1 t (answers_value (plain_represented (entity_literal e)))) where
+  -- a variable that equals an entity, or does not
+  pub equal_told : IsToldFrom v 2 (binary eq_operator (variable x) t) (answers_bool (entity_eq d e))
+  equal_told =
+      compared_told v (variable x) t eq_operator (plain_represented (entity_literal d)) (plain_represented (entity_literal e)) (entity_eq d e)
+      (variable_told v x (plain_represented (entity_literal d)) is) told (λ slots. equal_answered (setting_of v slots) d e)
+
+  -- and one that is in it, or is not
+  pub in_told : (r : Option Bool) → r ≡ within (known_view (known_for v.known x)) d e →
+      IfSome r (λ b. IsToldFrom v 2 (binary in_operator (variable x) t) (answers_bool b))
+  in_told (Some b) that =
+      compared_told v (variable x) t in_operator (plain_represented (entity_literal d)) (plain_represented (entity_literal e)) b
+      (variable_told v x (plain_represented (entity_literal d)) is) told
+      (λ slots. in_answered (setting_of v slots) d e b (v.known_of_store x d e b is (sym that)))
+  in_told None that = tt
 
 module _ {X : Type 0} {F : X → Type 0} {g : _} (v : Evaluator X F g) (slots : Slots) (n : ℕ) (t : Term) where
   -- a boolean decides
@@ -138,8 +264,3 @@ module _ {X : Type 0} {F : X → Type 0} {g : _} (v : Evaluator X F g) (slots : 
       let f = joined (both (literal (bool_literal true))) in
       let runs = meets (λ w. ok (is ok ∙ ap (λ z. decided (f z)) w)) in
       (f a, evaluator_promised v slots (suc n) (both t u) (f a) (true_left (setting_of v slots) (calls_in v) n t u a (h slots) runs), is ok)
-
--- a value that is this boolean
-pub bool_is : (v : Represented) (r : Option Bool) → r ≡ bool_of (abstract_value v) → IfSome r (λ b. answers_value v ≡ answers_bool b)
-bool_is v None h = tt
-bool_is v (Some b) h = is_bool v b (sym h)

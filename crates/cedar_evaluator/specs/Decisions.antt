@@ -5,8 +5,8 @@ use Rattle.cedar_model.specs.Authorizations.{evaluated}
 use Rattle.cedar_model.specs.Responses.{Decided, decides, errs_with, leaves, decided}
 use Rattle.cedar_expressions.specs.declared.expr.Expr.{Expr}
 use Rattle.cedar_expressions.specs.View.{view}
-use Rattle.cedar_values.specs.declared.evaluator.err.EvaluationError.{EvaluationError}
-use Rattle.cedar_values.specs.Failures.{failure_of}
+use Rattle.cedar_errors.specs.declared.evaluator.err.EvaluationError.{EvaluationError}
+use Rattle.cedar_errors.specs.Failures.{failure_of}
 use Rattle.either.specs.declared.Either.{Either}
 use Rattle.either.specs.declared.Either.TheVariants.{Left, Right}
 

@@ -8,16 +8,16 @@ use Rattle.cedar_model.specs.Settings.{RequestPart, Store, Resolution, Setting}
 use Rattle.cedar_model.specs.Rules.{StoredCalls, Runs, Meets}
 use Rattle.cedar_model.specs.Agreement.{HasNothingUnknown, AgreesWithFunctions, IsKnown, own_world}
 use Rattle.cedar_model.specs.Authorizations.{IsExactDecision}
-use Rattle.cedar_data.specs.Residuals.{partial_view}
+use Rattle.cedar_values.specs.Residuals.{partial_view}
 use Rattle.cedar_layers.specs.declared.policies.policy.Policy.{Policy}
 use Rattle.cedar_layers.specs.Policies.{policy_view, condition_term}
 use Rattle.cedar_layers.specs.Stores.{store_view}
 use Rattle.cedar_extensions.specs.declared.extensions.Extensions as stored
 use Rattle.cedar_extensions.specs.Extensions.{extensions_view, calls_of}
-use Rattle.cedar_restricted.specs.Evaluations.{only_values}
-use Rattle.cedar_evaluation.specs.declared.evaluation.Given.{Given}
-use Rattle.cedar_evaluation.specs.Settings.{mapper_view, resolution_view, given_for}
-use Rattle.cedar_evaluation.specs.Promises.{IsKnownExactly, IsSound, IsDeepEnough, IsLimitByNeed, IsAllowed, IsPromised}
+use Rattle.cedar_restricted_evaluator.specs.Evaluations.{only_values}
+use Rattle.cedar_interpreter.specs.declared.evaluation.Given.{Given}
+use Rattle.cedar_interpreter.specs.Settings.{mapper_view, resolution_view, given_for}
+use Rattle.cedar_interpreter.specs.Promises.{IsKnownExactly, IsSound, IsDeepEnough, IsLimitByNeed, IsAllowed, IsPromised}
 use Rattle.cedar_evaluator.specs.declared.evaluator.Evaluator.{Evaluator}
 use Rattle.cedar_evaluator.specs.Variables.{request_of}
 

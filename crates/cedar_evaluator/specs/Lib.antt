@@ -1,4 +1,5 @@
 pub mod Decisions
 pub mod Variables
+pub mod Known
 pub mod Evaluations
 pub mod Told

@@ -1,49 +1,54 @@
-//! Conditions. A scope whose parts compare what is at hand is told at once, without the loop over frames.
-ghost use Rattle.std.specs.Prelude.{◌≡◌, ◌≢◌, ℕ, ◌-◌, suc, true, IfOk, IfSome};
-ghost use Rattle.cedar_model.specs.Terms.{Term, bool_literal, literal, variable, both, binary};
+//! What a policy's condition decides. A scope whose parts compare entities that are at hand is told at once, by reference.
+ghost use Rattle.std.specs.Prelude.{◌≡◌, ◌≢◌, ℕ, ◌≤◌, suc, true, IfOk, IfSome};
+ghost use Rattle.cedar_model.specs.Terms.{Term, bool_literal, entity_literal, literal, variable, both, binary, is_of_type};
+ghost use Rattle.cedar_model.specs.Values.{plain_represented};
 ghost use Rattle.cedar_model.specs.Failures.{out_of_memory, answers_bool, answers_value};
 ghost use Rattle.cedar_model.specs.Responses.{errs_with, decided};
 ghost use Rattle.cedar_model.specs.Shapes.{has_unknown};
 ghost use Rattle.cedar_model.specs.Rules.{joined};
+ghost use Rattle.cedar_names.specs.Names.{uid_name, type_text};
 ghost use Rattle.cedar_names.specs.Leaves.{literal_view, variable_view, binary_view};
 ghost use Rattle.cedar_expressions.specs.View.{view, expr_loc};
-ghost use Rattle.cedar_data.specs.Residuals.{partial_loc};
-ghost use Rattle.cedar_values.specs.Answers.{partial_answer};
-ghost use Rattle.cedar_values.specs.Failures.{failure_of};
-ghost use Rattle.cedar_layers.specs.Policies.{slots_view};
-ghost use Rattle.cedar_evaluation.specs.Promises.{IsPromised};
-ghost use Rattle.cedar_evaluation.specs.Settings.{given_for};
+ghost use Rattle.cedar_values.specs.Residuals.{partial_loc};
+ghost use Rattle.cedar_errors.specs.Answers.{partial_answer, AnswersWith};
+ghost use Rattle.cedar_errors.specs.Failures.{failure_of};
+ghost use Rattle.cedar_layers.specs.Policies.{policy_view, policy_location};
+ghost use Rattle.cedar_interpreter.specs.Settings.{given_for};
 ghost use Rattle.cedar_evaluator.specs.Decisions.{partly_decided, PartlyDecidesBy, IfLeaves};
-ghost use Rattle.cedar_evaluator.specs.Evaluations.{setting_of, calls_in, IsPromisedBy};
-ghost use Rattle.cedar_evaluator.specs.Told.{IsTold};
+ghost use Rattle.cedar_evaluator.specs.Evaluations.{IsPromisedOf};
+ghost use Rattle.cedar_evaluator.specs.Told.{scope_term, IsToldFrom};
 
+use crate::at_hand::entity_at_hand;
 use crate::evaluator::{Evaluator, decided_by};
-use cedar_evaluation::Evaluation;
+use cedar_errors::evaluator::err::EvaluationError;
+use cedar_interpreter::Evaluation;
 use cedar_layers::expressions::{
-    BinaryOp, Expr, ExprKind, Literal, Loc, PartialValue, SlotEnv, Value, ValueKind, Var,
+    BinaryOp, EntityType, EntityUID, Expr, ExprKind, Literal, Loc, PartialValue, Var,
 };
-use cedar_operators::binary::binary_app;
-use cedar_operators::typed::bool_in;
+use cedar_layers::policies::Policy;
 use cedar_partial_operators::connectives::true_and;
-use cedar_values::evaluator::err::EvaluationError;
 use either::{Either, Left};
 use std::alloc::Global;
 
 impl<'e, 'f> Evaluator<'e, 'f> {
-    // What the condition decides: by its scope, where that is told at once, and then by its clause alone.
+    // What the policy's condition decides: by its scope, where that is told at once, and then by its clause alone; else by its
+    // parts one after another. A scope is told with four levels, and the condition has one more.
     pub(crate) fn decide(
         &self,
         alloc: Global,
-        condition: &Expr,
-        slots: &SlotEnv,
+        policy: &Policy,
     ) -> Result<Either<bool, Expr>, EvaluationError>
-        ensures decides { PartlyDecidesBy (IsPromisedBy self.now (slots_view slots.now) (view condition.now)) result }
-        ensures place { IfLeaves result (λ e. expr_loc e ≡ expr_loc condition.now) }
+        ensures decides { PartlyDecidesBy (IsPromisedOf self.now policy.now) result }
+        ensures place { IfLeaves result (λ e. expr_loc e ≡ policy_location policy.now) }
         ensures unknown { IfLeaves result (λ e. has_unknown (view e) ≡ true) }
     {
-        match sides(condition) {
-            Some((scope, clause)) => self.decide_by_scope(alloc, condition, scope, clause, slots),
-            None => self.decide_whole(alloc, condition, slots),
+        if self.limit < 5 {
+            return self.decide_whole(alloc, policy);
+        }
+        match self.told_scope(policy) {
+            Some(true) => self.decide_by_clause(alloc, policy),
+            Some(false) => Ok(Left(false)),
+            None => self.decide_by_parts(alloc, policy),
         }
     }
 
@@ -51,202 +56,128 @@ impl<'e, 'f> Evaluator<'e, 'f> {
     fn decide_whole(
         &self,
         alloc: Global,
-        condition: &Expr,
-        slots: &SlotEnv,
+        policy: &Policy,
     ) -> Result<Either<bool, Expr>, EvaluationError>
-        ensures decides { PartlyDecidesBy (IsPromisedBy self.now (slots_view slots.now) (view condition.now)) result }
-        ensures place { IfLeaves result (λ e. expr_loc e ≡ expr_loc condition.now) }
+        ensures decides { PartlyDecidesBy (IsPromisedOf self.now policy.now) result }
+        ensures place { IfLeaves result (λ e. expr_loc e ≡ policy_location policy.now) }
         ensures unknown { IfLeaves result (λ e. has_unknown (view e) ≡ true) }
     {
-        decided_by(alloc, self.partial_interpret(alloc, condition, slots))
+        let condition = policy.condition(alloc)?;
+        decided_by(
+            alloc,
+            self.partial_interpret(alloc, &condition, policy.env()),
+        )
     }
 
-    // The same by the scope and the clause that the condition has.
-    fn decide_by_scope(
-        &self,
-        alloc: Global,
-        condition: &Expr,
-        scope: &Expr,
-        clause: &Expr,
-        slots: &SlotEnv,
-    ) -> Result<Either<bool, Expr>, EvaluationError>
-        requires { view condition.now ≡ both (view scope.now) (view clause.now) }
-        ensures decides { PartlyDecidesBy (IsPromisedBy self.now (slots_view slots.now) (view condition.now)) result }
-        ensures place { IfLeaves result (λ e. expr_loc e ≡ expr_loc condition.now) }
-        ensures unknown { IfLeaves result (λ e. has_unknown (view e) ≡ true) }
-    {
-        if self.limit == 0 {
-            return self.decide_whole(alloc, condition, slots);
-        }
-        let below = self.limit - 1;
-        match self.told_scope(alloc, scope, below) {
-            Some(true) => self.decide_by_clause(
-                alloc,
-                clause,
-                slots,
-                below,
-                condition.source_loc().copied(),
-            ),
-            Some(false) => Ok(Left(false)),
-            None => self.decide_whole(alloc, condition, slots),
-        }
-    }
-
-    // What the clause decides beside a true scope, at this location; with so many levels for the clause.
+    // The same by the clause, which has a level less, beside a scope that is told to be true.
     fn decide_by_clause(
         &self,
         alloc: Global,
-        clause: &Expr,
-        slots: &SlotEnv,
-        levels: usize,
-        loc: Option<Loc>,
+        policy: &Policy,
     ) -> Result<Either<bool, Expr>, EvaluationError>
-        ensures decides { (t : Term) → IsTold self.now levels t (answers_bool true) → PartlyDecidesBy
-            (IsPromised (setting_of self.now (slots_view slots.now)) (calls_in self.now) (suc levels)
-            (both t (view clause.now))) result }
-        ensures place { IfLeaves result (λ e. expr_loc e ≡ loc) }
+        requires { 5 ≤ self.now.limit }
+        ensures decides { IsToldFrom self.now 4 (scope_term (policy_view policy.now)) (answers_bool true) →
+            PartlyDecidesBy (IsPromisedOf self.now policy.now) result }
+        ensures place { IfLeaves result (λ e. expr_loc e ≡ policy_location policy.now) }
         ensures unknown { IfLeaves result (λ e. has_unknown (view e) ≡ true) }
     {
-        match self.told_part(alloc, clause, levels) {
+        let clause = policy.when_clause();
+        match self.told_part(clause) {
             Some(is_true) => Ok(Left(is_true)),
             None => {
                 let evaluation = Evaluation {
                     given: &self.given,
-                    slots,
+                    slots: policy.env(),
                 };
-                beside_true(alloc, evaluation.interpret(alloc, clause, levels), loc)
+                let answer = evaluation.interpret(alloc, clause, self.limit - 1);
+                beside_true(alloc, answer, policy.loc())
             }
         }
     }
 
     // Whether the scope is true, where that is told at once: `(principal && action) && resource`.
-    fn told_scope(&self, alloc: Global, scope: &Expr, levels: usize) -> Option<bool>
-        ensures { IfSome result (λ b. IsTold self.now levels (view scope.now) (answers_bool b)) }
+    fn told_scope(&self, policy: &Policy) -> Option<bool>
+        ensures { IfSome result (λ b. IsToldFrom self.now 4 (scope_term (policy_view policy.now)) (answers_bool b)) }
     {
-        match sides(scope) {
-            Some((pair, resource)) => {
-                let told = self.told_pair(alloc, pair, levels.saturating_sub(1));
-                self.told_beside(alloc, told, resource, levels)
-            }
-            None => self.told_part(alloc, scope, levels),
-        }
+        let principal = self.told_part(policy.principal_constraint());
+        let pair = self.told_beside(principal, policy.action_constraint());
+        self.told_beside(pair, policy.resource_constraint())
     }
 
-    // The same of `principal && action`.
-    fn told_pair(&self, alloc: Global, pair: &Expr, levels: usize) -> Option<bool>
-        ensures { IfSome result (λ b. IsTold self.now levels (view pair.now) (answers_bool b)) }
+    // The same of a conjunction, whose left side is told to be this.
+    fn told_beside(&self, left: Option<bool>, right: &Expr) -> Option<bool>
+        ensures { (k : ℕ) (t : Term) → 2 ≤ k → IfSome left (λ b. IsToldFrom self.now k t (answers_bool b)) →
+            IfSome result (λ b. IsToldFrom self.now (suc k) (both t (view right.now)) (answers_bool b)) }
     {
-        match sides(pair) {
-            Some((principal, action)) => {
-                let told = self.told_part(alloc, principal, levels.saturating_sub(1));
-                self.told_beside(alloc, told, action, levels)
-            }
-            None => self.told_part(alloc, pair, levels),
-        }
-    }
-
-    // The same of a conjunction, whose left side is told to be this with a level less.
-    fn told_beside(
-        &self,
-        alloc: Global,
-        left: Option<bool>,
-        right: &Expr,
-        levels: usize,
-    ) -> Option<bool>
-        ensures { (t : Term) → IfSome left (λ b. IsTold self.now (levels - 1) t (answers_bool b)) → IfSome result
-            (λ b. IsTold self.now levels (both t (view right.now)) (answers_bool b)) }
-    {
-        if levels == 0 {
-            return None;
-        }
         match left {
-            Some(true) => self.told_part(alloc, right, levels - 1),
+            Some(true) => self.told_part(right),
             Some(false) => Some(false),
             None => None,
         }
     }
 
-    // The same of a boolean, and of a comparison of what is at hand.
-    fn told_part(&self, alloc: Global, e: &Expr, levels: usize) -> Option<bool>
-        ensures { IfSome result (λ b. IsTold self.now levels (view e.now) (answers_bool b)) }
+    // The same of a boolean, of a comparison of a variable, and of a test of an entity's type.
+    pub(crate) fn told_part(&self, e: &Expr) -> Option<bool>
+        ensures { IfSome result (λ b. IsToldFrom self.now 2 (view e.now) (answers_bool b)) }
     {
-        if levels == 0 {
-            return None;
-        }
         match e.expr_kind() {
             ExprKind::Lit(literal) => bool_in_literal(literal),
-            ExprKind::BinaryApp { op, arg1, arg2 } => {
-                self.told_comparison(alloc, *op, arg1, arg2, levels)
-            }
+            ExprKind::BinaryApp { op, arg1, arg2 } => self.told_comparison(*op, arg1, arg2),
+            ExprKind::Is { expr, entity_type } => self.told_type(expr, entity_type),
             _ => None,
         }
     }
 
-    // The same of a comparison of what is at hand.
-    fn told_comparison(
-        &self,
-        alloc: Global,
-        op: BinaryOp,
-        left: &Expr,
-        right: &Expr,
-        levels: usize,
-    ) -> Option<bool>
-        ensures { IfSome result (λ b. IsTold self.now levels (binary (binary_view op) (view left.now) (view right.now))
+    // The same of a test of an entity's type.
+    fn told_type(&self, e: &Expr, entity_type: &EntityType) -> Option<bool>
+        ensures { IfSome result (λ b. IsToldFrom self.now 2 (is_of_type (view e.now) (type_text entity_type.now))
             (answers_bool b)) }
     {
-        if levels < 2 {
-            return None;
+        match self.entity(e) {
+            Some(uid) => Some(uid.entity_type() == entity_type),
+            None => None,
         }
-        if !is_comparison(op) {
-            return None;
-        }
-        match self.at_hand(left) {
-            Some(left) => match self.at_hand(right) {
-                Some(right) => bool_answered(binary_app(
-                    alloc,
-                    self.given.entities,
-                    self.given.extensions,
-                    op,
-                    left,
-                    right,
-                    None,
-                )),
+    }
+
+    // The same of a comparison of a variable that stands for an entity.
+    fn told_comparison(&self, op: BinaryOp, left: &Expr, right: &Expr) -> Option<bool>
+        ensures { IfSome result (λ b. IsToldFrom self.now 2 (binary (binary_view op) (view left.now) (view right.now))
+            (answers_bool b)) }
+    {
+        match left.expr_kind() {
+            ExprKind::Var(var) => match self.entity(right) {
+                Some(other) => self.told_of_entities(op, *var, other),
                 None => None,
+            },
+            _ => None,
+        }
+    }
+
+    // The same of a variable beside an entity.
+    fn told_of_entities(&self, op: BinaryOp, var: Var, other: &EntityUID) -> Option<bool>
+        ensures { (t : Term) → IsToldFrom self.now 1 t (answers_value (plain_represented (entity_literal
+            (uid_name other.now)))) → IfSome result (λ b. IsToldFrom self.now 2 (binary (binary_view op) (variable
+            (variable_view var)) t) (answers_bool b)) }
+    {
+        match entity_at_hand(self.given_for(var)) {
+            Some(uid) => match op {
+                BinaryOp::Eq => Some(uid == other),
+                BinaryOp::In => self.known.is_in(var, uid, other),
+                _ => None,
             },
             None => None,
         }
     }
 
-    // The value of a literal, and of a variable that is known.
-    fn at_hand(&self, e: &Expr) -> Option<Value>
-        ensures { IfSome result (λ v. (n : ℕ) → IsTold self.now (suc n) (view e.now) (answers_value v.what)) }
+    // The entity of a literal, and of a variable that stands for one that is known.
+    fn entity<'x>(&'x self, e: &'x Expr) -> Option<&'x EntityUID>
+        ensures { IfSome result (λ u. IsToldFrom self.now 1 (view e.now) (answers_value (plain_represented (entity_literal
+            (uid_name u.now))))) }
     {
         match e.expr_kind() {
-            ExprKind::Lit(literal) => self.literal_value(literal),
-            ExprKind::Var(var) => self.variable_value(*var),
+            ExprKind::Lit(literal) => entity_in_literal(literal),
+            ExprKind::Var(var) => entity_at_hand(self.given_for(*var)),
             _ => None,
-        }
-    }
-
-    // The value of a literal, unless memory is wanting.
-    fn literal_value(&self, value: &Literal) -> Option<Value>
-        ensures { IfSome result (λ v. (n : ℕ) → IsTold self.now (suc n) (literal (literal_view value.now))
-            (answers_value v.what)) }
-    {
-        match value.clone() {
-            Ok(value) => Some(Value::new(ValueKind::Lit(value), None)),
-            Err(_) => None,
-        }
-    }
-
-    // The value that the variable stands for, if it is known, unless memory is wanting.
-    fn variable_value(&self, var: Var) -> Option<Value>
-        ensures { IfSome result (λ v. (n : ℕ) → IsTold self.now (suc n) (variable (variable_view var))
-            (answers_value v.what)) }
-    {
-        match self.given_for(var) {
-            PartialValue::Value(value) => copied(value),
-            PartialValue::Residual(_) => None,
         }
     }
 
@@ -263,26 +194,6 @@ impl<'e, 'f> Evaluator<'e, 'f> {
     }
 }
 
-// The value, unless memory is wanting.
-fn copied(value: &Value) -> Option<Value>
-    ensures { IfSome result (λ v. v ≡ value.now) }
-{
-    match value.clone() {
-        Ok(value) => Some(value),
-        Err(_) => None,
-    }
-}
-
-// The sides of a conjunction.
-fn sides(e: &Expr) -> Option<(&Expr, &Expr)>
-    ensures { IfSome result (λ p. view e.now ≡ both (view p.0.now) (view p.1.now)) }
-{
-    match e.expr_kind() {
-        ExprKind::And { left, right } => Some((left, right)),
-        _ => None,
-    }
-}
-
 // The boolean that the literal is.
 fn bool_in_literal(value: &Literal) -> Option<bool>
     ensures { IfSome result (λ b. literal_view value.now ≡ bool_literal b) }
@@ -295,37 +206,20 @@ fn bool_in_literal(value: &Literal) -> Option<bool>
     }
 }
 
-// Whether the operator is `==` or `in`, as scopes have them.
-fn is_comparison(op: BinaryOp) -> bool {
-    match op {
-        BinaryOp::Eq => true,
-        BinaryOp::In => true,
-        BinaryOp::Less => false,
-        BinaryOp::LessEq => false,
-        BinaryOp::Add => false,
-        BinaryOp::Sub => false,
-        BinaryOp::Mul => false,
-        BinaryOp::Contains => false,
-        BinaryOp::ContainsAll => false,
-        BinaryOp::ContainsAny => false,
-        BinaryOp::GetTag => false,
-        BinaryOp::HasTag => false,
-    }
-}
-
-// The boolean that was answered, if it was one.
-fn bool_answered(answer: Result<PartialValue, EvaluationError>) -> Option<bool>
-    ensures { IfSome result (λ b. partial_answer answer ≡ answers_bool b) }
+// The entity that the literal is.
+fn entity_in_literal(value: &Literal) -> Option<&EntityUID>
+    ensures { IfSome result (λ u. literal_view value.now ≡ entity_literal (uid_name u.now)) }
 {
-    match answer {
-        Ok(PartialValue::Value(value)) => bool_in(&value),
-        Ok(PartialValue::Residual(_)) => None,
-        Err(_) => None,
+    match value {
+        Literal::Bool(_) => None,
+        Literal::Long(_) => None,
+        Literal::String(_) => None,
+        Literal::EntityUID(uid) => Some(uid),
     }
 }
 
 // What is decided by this answer of the clause beside a true scope, at this location.
-#[tactic(auto, unfolding(cedar_model::specs::Rules::joined, cedar_model::specs::Responses::decided))]
+#[tactic(auto, unfolding(cedar_model::specs::Responses::decided))]
 fn beside_true(
     alloc: Global,
     answer: Result<PartialValue, EvaluationError>,
@@ -336,14 +230,27 @@ fn beside_true(
     ensures place { IfLeaves result (λ e. expr_loc e ≡ loc) }
     ensures unknown { IfLeaves result (λ e. has_unknown (view e) ≡ true) }
 {
+    decided_by(alloc, joined_to_true(alloc, answer, loc))
+}
+
+// What the right side of `true && ..` answered, as the answer of the whole, at this location.
+#[tactic(auto, unfolding(cedar_model::specs::Rules::joined))]
+pub(crate) fn joined_to_true(
+    alloc: Global,
+    answer: Result<PartialValue, EvaluationError>,
+    loc: Option<Loc>,
+) -> Result<PartialValue, EvaluationError>
+    ensures answer { AnswersWith result (joined (both (literal (bool_literal true))) (partial_answer answer)) }
+    ensures place { IfOk result (λ p. partial_loc p ≡ loc) }
+{
     match answer {
-        Ok(part) => decided_by(alloc, placed(true_and(alloc, part), loc)),
+        Ok(part) => placed(true_and(alloc, part), loc),
         Err(error) => Err(with_enclosing_loc(error, loc)),
     }
 }
 
 // The answer at this location; an error, if it has none.
-fn placed(
+pub(crate) fn placed(
     answer: Result<PartialValue, EvaluationError>,
     loc: Option<Loc>,
 ) -> Result<PartialValue, EvaluationError>
@@ -357,7 +264,7 @@ fn placed(
 }
 
 // The error, at this location if it has none.
-fn with_enclosing_loc(error: EvaluationError, loc: Option<Loc>) -> EvaluationError
+pub(crate) fn with_enclosing_loc(error: EvaluationError, loc: Option<Loc>) -> EvaluationError
     ensures { failure_of result ≡ failure_of error }
 {
     if error.source_loc().is_none() {

@@ -1,4 +1,4 @@
-//! The evaluator.
+//! The evaluator: what an expression is, and what a policy decides, for one request over one store.
 ghost use Rattle.std.specs.Prelude.{◌≡◌, ◌≢◌, ℕ, Option, None, true, Err, IfOk};
 ghost use Rattle.cedar_model.specs.Failures.{fails, out_of_memory};
 ghost use Rattle.cedar_model.specs.RestrictedLaws.{HoldsUnknown};
@@ -8,27 +8,31 @@ ghost use Rattle.cedar_model.specs.Shapes.{has_unknown};
 ghost use Rattle.cedar_names.specs.declared.names.Loc.{Loc};
 ghost use Rattle.cedar_expressions.specs.declared.expr.Expr as expressions;
 ghost use Rattle.cedar_expressions.specs.View.{view, expr_loc};
-ghost use Rattle.cedar_data.specs.Residuals.{partial_view, partial_loc, IfValue};
+ghost use Rattle.cedar_values.specs.Residuals.{partial_view, partial_loc, IfValue};
 ghost use Rattle.cedar_layers.specs.Parts.{is_restricted_part};
-ghost use Rattle.cedar_values.specs.Answers.{partial_answer, value_answer};
-ghost use Rattle.cedar_restricted.specs.Evaluations.{only_values};
-ghost use Rattle.cedar_restricted.specs.Elements.{ElementsStand};
-ghost use Rattle.cedar_evaluation.specs.Settings.{given_for};
+ghost use Rattle.cedar_errors.specs.Answers.{partial_answer, value_answer};
+ghost use Rattle.cedar_restricted_evaluator.specs.Evaluations.{only_values};
+ghost use Rattle.cedar_restricted_evaluator.specs.Elements.{ElementsStand};
+ghost use Rattle.cedar_interpreter.specs.Settings.{given_for};
 ghost use Rattle.cedar_evaluator.specs.Decisions.{decision_of, partly_decided, IfLeaves};
+ghost use Rattle.cedar_evaluator.specs.Known.{AreKnownOf};
 ghost use Rattle.cedar_evaluator.specs.Variables.{are_of_request};
+ghost use Rattle.cedar_layers.specs.Stores.{store_view};
+ghost use Rattle.std.proofs.Props.{props};
 ghost use mathlib.Core.Bool.{Bool-set};
 
+use crate::at_hand::{KnownEntities, known_in};
 use crate::request::Request;
-pub use cedar_evaluation::Resolution;
-use cedar_evaluation::{Evaluation, Given, Mapper};
+pub use cedar_errors::evaluator::err::{EvaluationError, evaluation_errors};
 use cedar_extensions::Extensions;
+pub use cedar_interpreter::Resolution;
+use cedar_interpreter::{Evaluation, Given, Mapper};
 use cedar_layers::expressions::{Expr, PartialValue, SlotEnv, Value};
 use cedar_layers::policies::{Entities, Policy};
 use cedar_operators::failures::non_value;
 pub use cedar_operators::operators::{binary_arith, binary_relation, unary_app};
 use cedar_operators::typed::get_as_bool;
-pub use cedar_restricted::RestrictedEvaluator;
-pub use cedar_values::evaluator::err::{EvaluationError, evaluation_errors};
+pub use cedar_restricted_evaluator::RestrictedEvaluator;
 use either::{Either, Left, Right};
 use std::alloc::{AllocError, Global};
 use std::collections::HashMap;
@@ -39,17 +43,18 @@ use std::rc::RcStr;
 pub struct Evaluator<'e, 'f> {
     pub(crate) given: Given<'e, 'f>,
     pub(crate) limit: usize,
+    pub(crate) known: KnownEntities<'e>,
     ghost of_request: { are_of_request (λ v. partial_view (given_for given v)) ≡ true } by { Bool-set _ _ },
     ghost context_restricted: { is_restricted_part (partial_view given.context) ≡ true } by { Bool-set _ _ },
+    ghost known_of_store: { AreKnownOf (store_view given.entities.now) (λ v. partial_view (given_for given v)) known } by { Prim.hlevel props },
 }
 
 impl<'e, 'f> Evaluator<'e, 'f> {
     ghost use Rattle.cedar_layers.specs.Policies.{slots_view, policy_location};
-    ghost use Rattle.cedar_layers.specs.Stores.{store_view};
     ghost use Rattle.cedar_extensions.specs.Extensions.{extensions_view};
     ghost use Rattle.cedar_requests.specs.Requests.{request_view};
     ghost use Rattle.cedar_requests.specs.Substitutions.{values_for};
-    ghost use Rattle.cedar_evaluation.specs.Settings.{resolution_view};
+    ghost use Rattle.cedar_interpreter.specs.Settings.{resolution_view};
     ghost use Rattle.cedar_evaluator.specs.Evaluations.{setting_for, setting_of, with_values, resolving};
     ghost use Rattle.cedar_evaluator.specs.Evaluations.{extensions_given, limit_of};
     ghost use Rattle.cedar_evaluator.specs.Evaluations.{RunsByRules, MeetsLimitByNeed, IsAllowedByRules, MeansWhereKnown};
@@ -73,6 +78,14 @@ impl<'e, 'f> Evaluator<'e, 'f> {
         ensures limit { IfOk result (λ v. limit_of v ≡ limit) }
     {
         let (principal, action, resource, context) = request.variable_values(alloc)?;
+        let principal_known = known_in(alloc, entities, &principal)?;
+        let action_known = known_in(alloc, entities, &action)?;
+        let resource_known = known_in(alloc, entities, &resource)?;
+        let known = KnownEntities {
+            principal: principal_known,
+            action: action_known,
+            resource: resource_known,
+        };
         Ok(Evaluator {
             given: Given {
                 principal,
@@ -85,6 +98,7 @@ impl<'e, 'f> Evaluator<'e, 'f> {
                 resolution: Resolution::Shallow,
             },
             limit,
+            known,
         })
     }
 
@@ -95,7 +109,11 @@ impl<'e, 'f> Evaluator<'e, 'f> {
         ensures extensions { extensions_given result ≡ extensions_given self.entry }
         ensures limit { limit_of result ≡ limit_of self.entry }
     {
-        let Evaluator { given, limit } = self;
+        let Evaluator {
+            given,
+            limit,
+            known,
+        } = self;
         let Given {
             principal,
             action,
@@ -118,6 +136,7 @@ impl<'e, 'f> Evaluator<'e, 'f> {
                 resolution,
             },
             limit,
+            known,
         }
     }
 
@@ -128,7 +147,11 @@ impl<'e, 'f> Evaluator<'e, 'f> {
         ensures extensions { extensions_given result ≡ extensions_given self.entry }
         ensures limit { limit_of result ≡ limit_of self.entry }
     {
-        let Evaluator { given, limit } = self;
+        let Evaluator {
+            given,
+            limit,
+            known,
+        } = self;
         let Given {
             principal,
             action,
@@ -151,6 +174,7 @@ impl<'e, 'f> Evaluator<'e, 'f> {
                 resolution,
             },
             limit,
+            known,
         }
     }
 
@@ -217,8 +241,7 @@ impl<'e, 'f> Evaluator<'e, 'f> {
         ensures place { IfLeaves result (λ e. expr_loc e ≡ policy_location policy.now) }
         ensures unknown { IfLeaves result (λ e. has_unknown (view e) ≡ true) }
     {
-        let condition = policy.condition(alloc)?;
-        self.decide(alloc, &condition, policy.env())
+        self.decide(alloc, policy)
     }
 
     /// Whether the policy's condition is true. A condition of another value than a boolean is a `TypeError` that expects `Bool`;
@@ -232,7 +255,7 @@ impl<'e, 'f> Evaluator<'e, 'f> {
 }
 
 // The value, or that something is left.
-#[tactic(auto, unfolding(cedar_restricted::specs::Evaluations::only_values))]
+#[tactic(auto, unfolding(cedar_restricted_evaluator::specs::Evaluations::only_values))]
 fn only_value(answer: Result<PartialValue, EvaluationError>) -> Result<Value, EvaluationError>
     ensures answer { value_answer result ≢ fails out_of_memory → value_answer result ≡ only_values
         (partial_answer answer) }

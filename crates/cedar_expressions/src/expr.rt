@@ -1,5 +1,5 @@
 #![tactic(auto, using(crate::proofs::Levels::levels, crate::proofs::NodeLevels::nodes))]
-//! Expressions.
+//! Expressions: the 17 kinds, how each is made, and what is read of one.
 ghost use Rattle.std.specs.Prelude.{◌≡◌, IfOk};
 
 mod copies;

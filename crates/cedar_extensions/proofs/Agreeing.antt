@@ -12,7 +12,7 @@ use Rattle.cedar_model.specs.Failures.{value, Answer, answers, fails, answers_re
 use Rattle.cedar_model.specs.Failures.{out_of_memory, failure_kind}
 use Rattle.cedar_model.specs.Operators.{expecting}
 use Rattle.cedar_model.specs.Agreement.{failure_answer, function_answer}
-use Rattle.cedar_data.specs.Sound.{Placed}
+use Rattle.cedar_values.specs.Sound.{Placed}
 use Rattle.cedar_extensions.specs.declared.extensions.Extensions.{Extensions}
 use Rattle.cedar_extensions.specs.declared.function.ExtensionFunction.{ExtensionFunction}
 use Rattle.cedar_extensions.specs.Outcomes.{Returned, outcome, OnlyLawful, abstracts}

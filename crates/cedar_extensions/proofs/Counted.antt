@@ -5,7 +5,7 @@ use Rattle.std.proofs.lemmas.Bool.{eq-eqb, ne_eqb}
 use Rattle.cedar_model.specs.Terms.{Text}
 use Rattle.cedar_model.specs.Failures.{Answer, fails, arguments_are_miscounted}
 use Rattle.cedar_model.specs.Rules.{StoredCalls, Counts}
-use Rattle.cedar_data.specs.Sound.{Placed, whats}
+use Rattle.cedar_values.specs.Sound.{Placed, whats}
 
 pub length-whats : (ps : List Placed) → length (whats ps) ≡ length ps
 length-whats [] = refl

@@ -9,11 +9,11 @@ use Rattle.cedar_model.specs.Failures.{Answer, answers, fails, answers_value, an
 use Rattle.cedar_model.specs.Failures.{out_of_memory}
 use Rattle.cedar_model.specs.Operators.{expecting}
 use Rattle.cedar_names.specs.Leaves.{type_view}
-use Rattle.cedar_data.specs.declared.partial_value.PartialValue.{PartialValue}
-use Rattle.cedar_data.specs.Residuals.{partial_view}
-use Rattle.cedar_data.specs.Sound.{Placed, whats}
-use Rattle.cedar_values.specs.Failures.{failure_of}
-use Rattle.cedar_values.specs.declared.evaluator.err.EvaluationError.{EvaluationError}
+use Rattle.cedar_values.specs.declared.partial_value.PartialValue.{PartialValue}
+use Rattle.cedar_values.specs.Residuals.{partial_view}
+use Rattle.cedar_values.specs.Sound.{Placed, whats}
+use Rattle.cedar_errors.specs.Failures.{failure_of}
+use Rattle.cedar_errors.specs.declared.evaluator.err.EvaluationError.{EvaluationError}
 use Rattle.cedar_extensions.specs.declared.function.stored.ExtensionOutputValue.TheVariants as outputs
 use Rattle.cedar_extensions.specs.Outcomes.{Returned}
 

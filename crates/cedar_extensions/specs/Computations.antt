@@ -8,7 +8,7 @@ use Rattle.cedar_model.specs.Outcomes.{function_does_not_exist, type_error, text
 use Rattle.cedar_model.specs.World.{FunctionAnswer, function_errs, function_asks, Functions}
 use Rattle.cedar_model.specs.Failures.{Answer}
 use Rattle.cedar_model.specs.Agreement.{function_answer, AgreesWithFunctions, AnswerFaithfully}
-use Rattle.cedar_data.specs.Sound.{Placed}
+use Rattle.cedar_values.specs.Sound.{Placed}
 use Rattle.cedar_extensions.specs.declared.extensions.Extensions.{Extensions}
 use Rattle.cedar_extensions.specs.declared.function.ExtensionFunction.{ExtensionFunction}
 use Rattle.cedar_extensions.specs.Outcomes.{Returned, abstracts, ComesTo}

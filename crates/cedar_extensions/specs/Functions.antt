@@ -7,8 +7,8 @@ use Rattle.cedar_model.specs.Values.{Represented}
 use Rattle.cedar_model.specs.Outcomes.{text_eq}
 use Rattle.cedar_model.specs.Failures.{Answer, arguments_are_miscounted, out_of_memory}
 use Rattle.cedar_model.specs.Rules.{LooksUp}
-use Rattle.cedar_values.specs.Failures.{failure_of}
-use Rattle.cedar_values.specs.declared.evaluator.err.EvaluationError.{EvaluationError}
+use Rattle.cedar_errors.specs.Failures.{failure_of}
+use Rattle.cedar_errors.specs.declared.evaluator.err.EvaluationError.{EvaluationError}
 use Rattle.cedar_names.specs.declared.names.CallStyle.{CallStyle}
 use Rattle.cedar_names.specs.declared.names.Name.{Name}
 use Rattle.cedar_names.specs.declared.types.«Type».{«Type» as RType}

@@ -10,12 +10,12 @@ use Rattle.cedar_model.specs.Outcomes.{record_attribute_does_not_exist, function
 use Rattle.cedar_model.specs.Outcomes.{wrong_number_of_arguments, integer_overflow, unlinked_slot, function_failed}
 use Rattle.cedar_model.specs.World.{FunctionAnswer, function_gives, function_errs, function_asks}
 use Rattle.cedar_names.specs.Leaves.{type_view}
-use Rattle.cedar_data.specs.Sound.{Placed, whats}
+use Rattle.cedar_values.specs.Sound.{Placed, whats}
 use Rattle.cedar_extensions.specs.Codes.{function_answer_set}
-use Rattle.cedar_values.specs.declared.extensions.ExtensionFunctionLookupError.{ExtensionFunctionLookupError}
-use Rattle.cedar_values.specs.declared.extensions.ExtensionFunctionLookupError.TheVariants as lookups
-use Rattle.cedar_values.specs.declared.evaluator.err.EvaluationError.{EvaluationError}
-use Rattle.cedar_values.specs.declared.evaluator.err.EvaluationError.TheVariants as errors
+use Rattle.cedar_errors.specs.declared.extensions.ExtensionFunctionLookupError.{ExtensionFunctionLookupError}
+use Rattle.cedar_errors.specs.declared.extensions.ExtensionFunctionLookupError.TheVariants as lookups
+use Rattle.cedar_errors.specs.declared.evaluator.err.EvaluationError.{EvaluationError}
+use Rattle.cedar_errors.specs.declared.evaluator.err.EvaluationError.TheVariants as errors
 use Rattle.cedar_extensions.specs.declared.function.stored.ExtensionOutputValue.{ExtensionOutputValue}
 use Rattle.cedar_extensions.specs.declared.function.stored.ExtensionOutputValue.TheVariants as outputs
 

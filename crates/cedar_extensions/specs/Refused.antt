@@ -6,8 +6,8 @@ use Rattle.cedar_model.specs.Refusals.{first_repeated}
 use Rattle.cedar_names.specs.declared.names.Name.{Name}
 use Rattle.cedar_names.specs.Names.{name_text, name_loc}
 use Rattle.cedar_names.specs.Leaves.{type_view}
-use Rattle.cedar_values.specs.declared.extensions.ExtensionFunctionLookupError.{ExtensionFunctionLookupError}
-use Rattle.cedar_values.specs.declared.extensions.ExtensionFunctionLookupError.TheVariants as lookups
+use Rattle.cedar_errors.specs.declared.extensions.ExtensionFunctionLookupError.{ExtensionFunctionLookupError}
+use Rattle.cedar_errors.specs.declared.extensions.ExtensionFunctionLookupError.TheVariants as lookups
 use Rattle.cedar_extensions.specs.declared.errors.ExtensionInitializationError.{ExtensionInitializationError}
 use Rattle.cedar_extensions.specs.declared.errors.ExtensionInitializationError.TheVariants as errors
 use Rattle.cedar_extensions.specs.declared.function.ExtensionFunction.{ExtensionFunction}

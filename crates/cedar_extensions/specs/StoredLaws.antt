@@ -20,14 +20,14 @@ use Rattle.cedar_model.specs.LevelLaws.{FunctionsMeetNoLimit, FunctionsFindMemor
 use Rattle.cedar_model.specs.Restricted.{IsSoundPart}
 use Rattle.cedar_model.specs.RestrictedLaws.{HoldsUnknown}
 use Rattle.cedar_names.specs.Leaves.{type_view}
-use Rattle.cedar_data.specs.Sound.{Placed}
-use Rattle.cedar_values.specs.Failures.{failure_of, lookup_failure, overflow_failure}
-use Rattle.cedar_values.specs.declared.extensions.ExtensionFunctionLookupError.{ExtensionFunctionLookupError}
-use Rattle.cedar_values.specs.declared.extensions.ExtensionFunctionLookupError.TheVariants as lookups
-use Rattle.cedar_values.specs.declared.evaluator.err.evaluation_errors.IntegerOverflowError.{IntegerOverflowError}
-use Rattle.cedar_values.specs.declared.evaluator.err.evaluation_errors.IntegerOverflowError.TheVariants as overflows
-use Rattle.cedar_values.specs.declared.evaluator.err.EvaluationError.{EvaluationError}
-use Rattle.cedar_values.specs.declared.evaluator.err.EvaluationError.TheVariants as errors
+use Rattle.cedar_values.specs.Sound.{Placed}
+use Rattle.cedar_errors.specs.Failures.{failure_of, lookup_failure, overflow_failure}
+use Rattle.cedar_errors.specs.declared.extensions.ExtensionFunctionLookupError.{ExtensionFunctionLookupError}
+use Rattle.cedar_errors.specs.declared.extensions.ExtensionFunctionLookupError.TheVariants as lookups
+use Rattle.cedar_errors.specs.declared.evaluator.err.evaluation_errors.IntegerOverflowError.{IntegerOverflowError}
+use Rattle.cedar_errors.specs.declared.evaluator.err.evaluation_errors.IntegerOverflowError.TheVariants as overflows
+use Rattle.cedar_errors.specs.declared.evaluator.err.EvaluationError.{EvaluationError}
+use Rattle.cedar_errors.specs.declared.evaluator.err.EvaluationError.TheVariants as errors
 use Rattle.cedar_extensions.specs.declared.function.callee.Callee.{Callee}
 use Rattle.cedar_extensions.specs.declared.function.callee.Callee.TheVariants as callees
 use Rattle.cedar_extensions.specs.declared.extensions.Extensions.{Extensions}

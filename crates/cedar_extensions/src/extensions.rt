@@ -9,11 +9,11 @@ use crate::errors::ExtensionInitializationError;
 use crate::extension::Extension;
 use crate::function::ExtensionFunction;
 use crate::iterators::{ExtNames, ExtTypes, OverloadingTypes};
-use cedar_data::{PartialValue, Value};
+use cedar_errors::evaluator::err::EvaluationError;
+use cedar_errors::extensions::ExtensionFunctionLookupError;
+use cedar_errors::extensions::extension_function_lookup_errors::FuncDoesNotExistError;
 use cedar_names::{Loc, Name, Type};
-use cedar_values::evaluator::err::EvaluationError;
-use cedar_values::extensions::ExtensionFunctionLookupError;
-use cedar_values::extensions::extension_function_lookup_errors::FuncDoesNotExistError;
+use cedar_values::{PartialValue, Value};
 use std::alloc::{AllocError, Global};
 
 /// The extensions that an evaluation may use. No two of their functions have one name.
@@ -29,7 +29,7 @@ impl<'a> Extensions<'a> {
     ghost use Rattle.cedar_model.specs.Rules.{Meets};
     ghost use Rattle.cedar_names.specs.Names.{name_text};
     ghost use Rattle.cedar_names.specs.Leaves.{type_view};
-    ghost use Rattle.cedar_data.specs.Sound.{whats};
+    ghost use Rattle.cedar_values.specs.Sound.{whats};
     ghost use Rattle.cedar_extensions.specs.Answers.{call_answer};
     ghost use Rattle.cedar_extensions.specs.Functions.{answered_types, IsFound};
     ghost use Rattle.cedar_extensions.specs.Extension.{name_of, all_overloading_types};

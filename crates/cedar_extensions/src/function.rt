@@ -2,7 +2,7 @@
 ghost use Rattle.std.specs.Prelude.{◌≡◌, ◌≢◌, length, map, option_copied, Ok};
 ghost use Rattle.cedar_model.specs.Failures.{answers, arguments_are_miscounted, out_of_memory};
 ghost use Rattle.cedar_names.specs.Leaves.{type_view};
-ghost use Rattle.cedar_data.specs.Residuals.{partial_view};
+ghost use Rattle.cedar_values.specs.Residuals.{partial_view};
 ghost use Rattle.cedar_extensions.specs.Answers.{returned_answer};
 ghost use Rattle.cedar_extensions.specs.Types.{extension_name, is_one_text, is_text};
 ghost use Rattle.cedar_extensions.specs.Outcomes.{TakesArity, AtMostOne, OnlyLawful};
@@ -13,11 +13,11 @@ mod callee;
 mod stored;
 
 use callee::Callee;
-use cedar_data::{PartialValue, ResidualExpr, Value};
+use cedar_errors::evaluator::err::EvaluationError;
+use cedar_errors::evaluator::err::evaluation_errors::WrongNumArgumentsError;
 use cedar_expressions::Expr;
 use cedar_names::{CallStyle, Name, Type};
-use cedar_values::evaluator::err::EvaluationError;
-use cedar_values::evaluator::err::evaluation_errors::WrongNumArgumentsError;
+use cedar_values::{PartialValue, ResidualExpr, Value};
 use std::alloc::{AllocError, Global};
 use std::rc::RcStr;
 use stored::StoredFunction;
@@ -54,8 +54,8 @@ impl ExtensionFunction {
     ghost use Rattle.cedar_model.specs.Rules.{Meets};
     ghost use Rattle.cedar_names.specs.Leaves.{type_view};
     ghost use Rattle.cedar_names.specs.declared.names.CallStyle.TheVariants.{FunctionStyle};
-    ghost use Rattle.cedar_data.specs.Sound.{whats};
-    ghost use Rattle.cedar_values.specs.Failures.{failure_of};
+    ghost use Rattle.cedar_values.specs.Sound.{whats};
+    ghost use Rattle.cedar_errors.specs.Failures.{failure_of};
     ghost use Rattle.cedar_extensions.specs.Answers.{AnswersBy, AsksOf, call_answer};
     ghost use Rattle.cedar_extensions.specs.Functions.{function_name, function_style, function_returns, function_takes};
     ghost use Rattle.cedar_extensions.specs.Functions.{function_text, arity, CanAnswer, AnswersAs, AnswersAlone};

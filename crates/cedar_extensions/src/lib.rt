@@ -10,7 +10,7 @@ mod iterators;
 pub mod laws;
 pub mod util;
 
-pub use cedar_values::extensions::{
+pub use cedar_errors::extensions::{
     ExtensionFunctionLookupError, extension_function_lookup_errors,
 };
 pub use errors::{ExtensionInitializationError, extension_initialization_errors};

@@ -1,4 +1,4 @@
-//! What extensions are checked with.
+//! Maps of pairs whose keys differ, and the first key that comes again.
 ghost use Rattle.std.specs.Prelude.{IfOk, IfErr, IfSome};
 ghost use Rattle.std.specs.Iterator.{IsFinite};
 ghost use Rattle.cedar_extensions.specs.Collected.{AreAll, ComesAgain, duplicate};

@@ -1,4 +1,4 @@
-//! The stack of frames.
+//! The stack of frames, no higher than its limit.
 ghost use Rattle.std.specs.Prelude.{◌≡◌, ◌+◌, ◌++◌, ◌∷◌, [], ◌<◌, ◌≤◌, IfOk, IfSome, vec_len, length};
 ghost use Rattle.cedar_frames.specs.Stacks.{IsPopped};
 

@@ -1,16 +1,14 @@
 -- Which entities are among others.
-use Rattle.std.proofs.Common.{◌≡◌, refl, sym, ap, ◌∙◌, Bool, true, false, not, ◌&&◌, ◌||◌, List, [], ◌∷◌, ◌++◌}
-use Rattle.std.proofs.lemmas.List.Sorted.{list_any-IsPermutation}
-use Rattle.std.specs.Bool.{MatchBool}
+use Rattle.std.proofs.Common.{◌≡◌, refl, sym, ap, ◌∙◌, Bool, true, false, ◌&&◌, ◌||◌, List, [], ◌∷◌, ◌++◌}
 use Rattle.std.specs.Cmp.Lexicographic.{same_text}
 use Rattle.std.specs.List.{list_any}
-use Rattle.std.specs.List.Sorted.{IsPermutation}
+use Rattle.std.specs.Set.{KeepsOthers}
 use Rattle.cedar_model.specs.Terms.{EntityName}
 use Rattle.cedar_model.specs.Outcomes.{text_eq, entity_eq}
 use Rattle.cedar_model.specs.Settings.{is_among}
 use Rattle.cedar_names.specs.declared.names.EntityUID.{EntityUID}
-use Rattle.cedar_names.specs.contracts.names.EntityUIDPartialEq.TheImpl.{eq-value}
 use Rattle.cedar_names.specs.Names.{uid_name}
+use Rattle.cedar_names.specs.Order.{is_tied, is_tied-by_name}
 use Rattle.cedar_json.specs.StatedEntities.{names_of}
 use Rattle.cedar_json.specs.Evaluated.{AreAmong, PutsName}
 
@@ -30,36 +28,22 @@ unfolding is_among
 among_any n [] = refl
 among_any n (u ∷ us) = λ i. entity_eq n (uid_name u) || among_any n us i
 
-among_moved : (n : EntityName) (us vs : List EntityUID) → IsPermutation us vs → is_among n (names_of us) ≡ is_among n (names_of vs)
-among_moved n us vs h = among_any n us ∙ list_any-IsPermutation (λ u. entity_eq n (uid_name u)) us vs h ∙ sym (among_any n vs)
-
 -- whether a set has the uid of a name is whether the name is among its
-pub has_name : (u : EntityUID) (us : List EntityUID) → list_any (eq-value.it u) us ≡ is_among (uid_name u) (names_of us)
-unfolding is_among
-has_name u [] = refl
-has_name u (v ∷ us) = λ i. entity_eq (uid_name u) (uid_name v) || has_name u us i
-
-kept : (b c : Bool) → (b ≡ true → c ≡ true) → c ≡ (b || c)
-kept true c f = f refl
-kept false c f = refl
+pub has_name : (u : EntityUID) (us : List EntityUID) → list_any (is_tied u) us ≡ is_among (uid_name u) (names_of us)
+has_name u us = (λ i. list_any (λ (v : EntityUID). is_tied-by_name u v i) us) ∙ sym (among_any (uid_name u) us)
 
 -- the names behind an insert
-put_name : (old new : List EntityUID) (k : EntityUID) (added : Bool) → added ≡ not (is_among (uid_name k) (names_of old)) → MatchBool added (IsPermutation (k ∷ old) new) (new ≡ old)
-    → (n : EntityName) → is_among n (names_of new) ≡ (entity_eq n (uid_name k) || is_among n (names_of old))
-unfolding is_among
-put_name old new k true is h n = sym (among_moved n (k ∷ old) new h)
-put_name old new k false is h n =
-    let there : is_among (uid_name k) (names_of old) ≡ true = not_not (is_among (uid_name k) (names_of old)) is in
-    ap (λ (us : List EntityUID). is_among n (names_of us)) h
-    ∙ kept (entity_eq n (uid_name k)) (is_among n (names_of old)) (λ e. ap (λ (m : EntityName). is_among m (names_of old)) (same_entity n (uid_name k) e) ∙ there)
-  where
-    not_not : (b : Bool) → false ≡ not b → b ≡ true
-    not_not true e = refl
-    not_not false e = absurd (cc)
+module _ (old new : List EntityUID) (k : EntityUID) (there : list_any (is_tied k) new ≡ true) (others : KeepsOthers is_tied (is_tied k) old new) where
+  put_at : (n : EntityName) (b : Bool) → entity_eq n (uid_name k) ≡ b → is_among n (names_of new) ≡ (b || is_among n (names_of old))
+  unfolding KeepsOthers
+  put_at n true h = ap (λ (m : EntityName). is_among m (names_of new)) (same_entity n (uid_name k) h) ∙ sym (has_name k new) ∙ there
+  put_at n false h =
+      let own : (x y : EntityUID) → entity_eq n (uid_name x) ≡ true → entity_eq n (uid_name y) ≡ is_tied x y = λ x y e. ap (λ (m : EntityName). entity_eq m (uid_name y)) (same_entity n (uid_name x) e) ∙ sym (is_tied-by_name x y) in
+      let apart : (u : EntityUID) → is_tied k u ≡ true → entity_eq n (uid_name u) ≡ false = λ u e. ap (λ (m : EntityName). entity_eq n m) (sym (same_entity (uid_name k) (uid_name u) (sym (is_tied-by_name k u) ∙ e))) ∙ h in
+      among_any n new ∙ others (λ (u : EntityUID). entity_eq n (uid_name u)) own apart ∙ sym (among_any n old)
 
-pub put_among : (old new : List EntityUID) (k : EntityUID) (added : Bool) → added ≡ not (list_any (eq-value.it k) old) → MatchBool added (IsPermutation (k ∷ old) new) (new ≡ old)
-    → PutsName (names_of old) (uid_name k) (names_of new)
-put_among old new k added is h n = put_name old new k added (is ∙ ap not (has_name k old)) h n
+  pub put_among : PutsName (names_of old) (uid_name k) (names_of new)
+  put_among = λ n. put_at n (entity_eq n (uid_name k)) refl
 
 swapped : (a b c : Bool) → (a || (b || c)) ≡ (b || (a || c))
 swapped true true c = refl

@@ -12,8 +12,8 @@ use Rattle.cedar_model.specs.Terms.{Text, Term, Fields, no_fields, one_field}
 use Rattle.cedar_model.specs.World.{Extensions}
 use Rattle.cedar_model.specs.Rules.{StoredCalls}
 use Rattle.cedar_expressions.specs.Records.{put_field}
-use Rattle.cedar_data.specs.declared.partial_value.PartialValue.{PartialValue}
-use Rattle.cedar_data.specs.Residuals.{partial_view}
+use Rattle.cedar_values.specs.declared.partial_value.PartialValue.{PartialValue}
+use Rattle.cedar_values.specs.Residuals.{partial_view}
 use Rattle.cedar_layers.specs.Parts.{parts_view}
 use Rattle.cedar_layers.specs.declared.policies.entities.Entity.{Entity}
 use Rattle.cedar_json.specs.SaidEntities.{SaidEntity}

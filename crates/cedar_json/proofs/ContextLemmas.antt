@@ -4,13 +4,13 @@ use Rattle.cedar_model.specs.Terms.{Text, Term}
 use Rattle.cedar_model.specs.World as world
 use Rattle.cedar_model.specs.Rules.{StoredCalls, fields_of_record}
 use Rattle.cedar_expressions.specs.Records.{first_repeated}
-use Rattle.cedar_restricted.specs.Evaluations.{bare}
+use Rattle.cedar_restricted_evaluator.specs.Evaluations.{bare}
 use Rattle.cedar_requests.specs.declared.context.Context.{Context}
 use Rattle.cedar_requests.specs.declared.errors.ContextCreationError.{ContextCreationError}
 use Rattle.cedar_requests.specs.declared.errors.ContextCreationError.TheVariants as creations
 use Rattle.cedar_requests.specs.Creations.{IsCreated, is_record}
 use Rattle.json.specs.Json.{Members}
-use Rattle.cedar_values.specs.declared.evaluator.err.EvaluationError.{EvaluationError}
+use Rattle.cedar_errors.specs.declared.evaluator.err.EvaluationError.{EvaluationError}
 use Rattle.cedar_json.specs.declared.errors.JsonError.{JsonError}
 use Rattle.cedar_json.specs.declared.errors.JsonError.TheVariants as errors
 use Rattle.cedar_json.specs.Paths.{Step, path_view}

@@ -1,6 +1,6 @@
 -- Errors of evaluations are passed on.
 use Rattle.std.proofs.Common.{List, subst}
-use Rattle.cedar_values.specs.declared.evaluator.err.EvaluationError.{EvaluationError}
+use Rattle.cedar_errors.specs.declared.evaluator.err.EvaluationError.{EvaluationError}
 use Rattle.cedar_json.specs.declared.errors.JsonError.{JsonError}
 use Rattle.cedar_json.specs.declared.errors.JsonError.TheVariants as errors
 use Rattle.cedar_json.specs.Paths.{Step}

@@ -8,8 +8,8 @@ use Rattle.std.specs.declared.cmp.Ordering.TheVariants.{Less, Equal, Greater}
 use Rattle.std.specs.declared.rc.RcStr.{RcStr}
 use Rattle.cedar_model.specs.Failures.{PartialValue as Part, value, residual}
 use Rattle.cedar_model.specs.Restricted.{IsSoundPart}
-use Rattle.cedar_data.specs.declared.partial_value.PartialValue.{PartialValue}
-use Rattle.cedar_data.specs.Residuals.{partial_view}
+use Rattle.cedar_values.specs.declared.partial_value.PartialValue.{PartialValue}
+use Rattle.cedar_values.specs.Residuals.{partial_view}
 use Rattle.cedar_layers.specs.Parts.{parts_view, is_restricted_part, are_restricted_parts}
 
 -- what an evaluation answers may be stored

@@ -1,22 +1,26 @@
 -- What a text says is what its JSON value says.
-use Rattle.std.proofs.Common.{◌≡◌, ℕ, List, Some, None, Ok, Err, IsOk, refl, sym, subst, Option}
+use Rattle.std.proofs.Common.{◌≡◌, ℕ, List, [], ◌∷◌, Some, None, Ok, Err, IsOk, refl, sym, subst, Option, codes}
 use Rattle.cedar_json.specs.Paths.{path_view}
 use Rattle.std.specs.Prelude.{⊤, IsSomeAnd}
 use Rattle.json.specs.Json.{Json, document}
+use Rattle.json.specs.Find.{as_str, get}
 use Rattle.json.specs.Strict.{HasUniqueKeys}
 use Rattle.cedar_model.specs.Terms.{Text}
 use Rattle.cedar_json.specs.declared.errors.JsonError.{JsonError}
 use Rattle.cedar_json.specs.declared.errors.JsonError.TheVariants as errors
-use Rattle.cedar_json.specs.Refusals.{Said, IsRefusal}
+use Rattle.cedar_json.specs.declared.errors.RefusalReason.{RefusalReason}
+use Rattle.cedar_json.specs.declared.errors.RefusalReason.TheVariants as reasons
+use Rattle.cedar_json.specs.Refusals.{Said, under, IsRefusal, IsRefusedAt}
 use Rattle.cedar_json.specs.JsonTexts.{Says, SaysSo, IsUnread, IsTextRefusal, IsTextError}
 use Rattle.cedar_model.specs.Terms.{Term}
 use Rattle.cedar_model.specs.World as world
 use Rattle.cedar_model.specs.Rules.{StoredCalls}
 use Rattle.cedar_layers.specs.declared.policies.entities.Entity.{Entity}
-use Rattle.cedar_json.specs.Paths.{Step}
+use Rattle.cedar_json.specs.Paths.{Step, at_key}
 use Rattle.cedar_json.specs.SaidContexts.{IsContextRefusal}
-use Rattle.cedar_json.specs.SaidEntities.{SaidEntity, entities_said}
-use Rattle.cedar_json.specs.SaidRequests.{SaidRequest, IsRequestRefusal}
+use Rattle.cedar_json.specs.SaidEntities.{SaidEntity, entities_said, plain_uid_said}
+use Rattle.cedar_json.specs.NamedEntities.{IsNoEntityText, IsUnnamedBy, IsUnnamedIn, IsUnnamedAt}
+use Rattle.cedar_json.specs.SaidRequests.{AreUnnamed, no_principal, no_action, no_resource, IsRequestRefusal, no_request, no_entity, no_context, object_said, context_at}
 use Rattle.cedar_json.specs.Evaluated.{AreEvaluated, AreEntitiesOf, IsEvaluationError, IsEntitiesError}
 
 pub text_says : {T : Type 0} (text : Text) (said : Json → Said T) (j : Json) (t : T) → document text ≡ Some j → HasUniqueKeys j → said j ≡ Ok t → Says text said t
@@ -68,12 +72,44 @@ context_of_value x calls n s there (errors.Refused p r) h = tt
 context_of_value x calls n s there (errors.Evaluation p y) h = tt
 context_of_value x calls n s there (errors.Memory m) h = tt
 
-pub request_of_value : (x : world.Extensions) (calls : StoredCalls) (n : ℕ) (s : Said SaidRequest) (e : JsonError) → IsRequestRefusal x calls n s e → IsOfValue e
-request_of_value x calls n s errors.Syntax h = h
-request_of_value x calls n s errors.DuplicateKey h = h
-request_of_value x calls n s (errors.Refused p r) h = tt
-request_of_value x calls n s (errors.Evaluation p y) h = tt
-request_of_value x calls n s (errors.Memory m) h = tt
+refusal_of_value : {T : Type 0} (s : Said T) (e : JsonError) → IsRefusal s e → IsOfValue e
+refusal_of_value s errors.Syntax h = h
+refusal_of_value s errors.DuplicateKey h = h
+refusal_of_value s (errors.Refused p r) h = tt
+refusal_of_value s (errors.Evaluation p y) h = tt
+refusal_of_value s (errors.Memory m) h = tt
+
+part_of_value : (path : List Step) (r : RefusalReason) (e : JsonError) → IsRefusedAt path r e → IsOfValue e
+part_of_value path r errors.Syntax h = h
+part_of_value path r errors.DuplicateKey h = h
+part_of_value path r (errors.Refused p q) h = tt
+part_of_value path r (errors.Evaluation p y) h = tt
+part_of_value path r (errors.Memory m) h = tt
+
+name_of_value : (t : Text) (there : List Step) (e : JsonError) → IsNoEntityText t there e → IsOfValue e
+name_of_value t there errors.Syntax h = h
+name_of_value t there errors.DuplicateKey h = h
+name_of_value t there (errors.Refused p r) h = tt
+name_of_value t there (errors.Evaluation p y) h = tt
+name_of_value t there (errors.Memory m) h = tt
+
+member_of_value : (k : Text) (o : Option Text) (j : Json) (e : JsonError) → IsUnnamedBy k o j e → IsOfValue e
+member_of_value k None j e h = refusal_of_value (under (at_key k) (plain_uid_said j)) e h
+member_of_value k (Some t) j e h = name_of_value t (at_key k ∷ []) e h
+
+unnamed_of_value : (k : Text) (o : Option Json) (e : JsonError) → IsUnnamedIn k o e → IsOfValue e
+unnamed_of_value k None e h = part_of_value (at_key k ∷ []) reasons.MissingMember e h
+unnamed_of_value k (Some j) e h = member_of_value k (as_str j) j e h
+
+entities_of_value : (j : Json) (e : JsonError) → AreUnnamed j e → IsOfValue e
+entities_of_value j e (no_principal h) = unnamed_of_value (codes "principal") (get (codes "principal") j) e h
+entities_of_value j e (no_action p n h) = unnamed_of_value (codes "action") (get (codes "action") j) e h
+entities_of_value j e (no_resource p a n m h) = unnamed_of_value (codes "resource") (get (codes "resource") j) e h
+
+pub request_of_value : (x : world.Extensions) (calls : StoredCalls) (n : ℕ) (j : Json) (e : JsonError) → IsRequestRefusal x calls n j e → IsOfValue e
+request_of_value x calls n j e (no_request h) = refusal_of_value (object_said j) e h
+request_of_value x calls n j e (no_entity is h) = entities_of_value j e h
+request_of_value x calls n j e (no_context is named h) = context_of_value x calls n (context_at j) (at_key (codes "context") ∷ []) e h
 
 -- entities that the text says, and that are evaluated
 pub text_entities : (x : world.Extensions) (calls : StoredCalls) (n : ℕ) (text : Text) (o : Option Json) (es : List SaidEntity) (ds : List Entity)

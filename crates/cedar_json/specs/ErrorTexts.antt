@@ -1,6 +1,8 @@
 -- The texts of paths and errors, in bytes of UTF-8.
 use Rattle.std.specs.Prelude.{ℕ, List, ◌∷◌, ◌++◌, if◌then◌else◌, flat_map, Option, Some, None, codes}
 use Rattle.std.specs.Fmt.{decimal}
+use Rattle.cedar_tokens.specs.Names.{expected_text}
+use Rattle.cedar_tokens.specs.declared.errors.Expected.{Expected}
 use Rattle.cedar_model.specs.Terms.{Text}
 use Rattle.cedar_names.specs.Texts.{quoted}
 use Rattle.cedar_json.specs.declared.errors.JsonError.{JsonError}
@@ -25,12 +27,17 @@ step_text (at_index i) = index_text i
 abbrev pub path_text : List Step → Text
 path_text ss = 36 ∷ flat_map step_text ss
 
+-- what was expected at a byte of a text
+abbrev pub expected_there : Expected → ℕ → Text
+expected_there w s = codes "expected " ++ (expected_text w ++ (codes " at byte " ++ decimal s))
+
 abbrev pub reason_text : RefusalReason → Text
 reason_text reasons.Null = codes "null is no value"
 reason_text reasons.NotALong = codes "not an integer of 64 bits"
 reason_text reasons.ReservedKey = codes "a reserved key"
 reason_text reasons.RepeatedKey = codes "the key comes again"
 reason_text reasons.NotAnEntity = codes "not a type and an id"
+reason_text (reasons.NotAnEntityText w s e) = expected_there w s
 reason_text reasons.NotAName = codes "not a name"
 reason_text reasons.NotACall = codes "not a fn and an arg or args"
 reason_text reasons.NotAnUnknown = codes "an unknown takes its name alone"

@@ -13,11 +13,11 @@ use Rattle.std.specs.Rc.{rc_str_bytes}
 use Rattle.std.specs.declared.alloc.Global.{Global}
 use Rattle.std.specs.declared.cmp.Ordering.{Ordering}
 use Rattle.std.specs.declared.rc.RcStr.{RcStr}
-use Rattle.cedar_data.specs.declared.partial_value.PartialValue as parts
+use Rattle.cedar_values.specs.declared.partial_value.PartialValue as parts
 use Rattle.cedar_layers.specs.Parts.{parts_view}
 use Rattle.cedar_layers.specs.declared.policies.entities.Entity.{Entity}
 use Rattle.cedar_layers.specs.Stores.{entity_name, entity_view}
-use Rattle.cedar_restricted.specs.Evaluations.{IsBare, IsAnswerWithin}
+use Rattle.cedar_restricted_evaluator.specs.Evaluations.{IsBare, IsAnswerWithin}
 use Rattle.cedar_json.specs.declared.errors.JsonError.{JsonError}
 use Rattle.cedar_json.specs.declared.errors.JsonError.TheVariants as errors
 use Rattle.cedar_json.specs.Paths.{path_view}

@@ -1,6 +1,7 @@
 -- Words, and names made of them.
-use Rattle.std.specs.Prelude.{ℕ, Bool, false, [], ◌∷◌, ◌==◌, ◌||◌, ◌&&◌, if◌then◌else◌, true, Option, Some, None}
-use Rattle.std.specs.List.{list_all}
+use Rattle.std.specs.Prelude.{ℕ, Bool, false, [], ◌∷◌, ◌==◌, ◌||◌, ◌&&◌, not, if◌then◌else◌, true, Option, Some, None}
+use Rattle.std.specs.Prelude.{length, drop, codes}
+use Rattle.std.specs.List.{list_all, starts_with}
 use Rattle.std.specs.Char.{is_ascii_alphabetic, is_ascii_alphanumeric}
 use Rattle.cedar_model.specs.Terms.{Text}
 use Rattle.cedar_json.specs.declared.names.Place.{Place}
@@ -38,5 +39,30 @@ goes_on_from (Some p) [] = may_end p
 goes_on_from (Some p) (b ∷ bs) = goes_on_from (behind p b) bs
 
 -- words with `::` between them
+abbrev pub are_words : Text → Bool
+are_words t = goes_on_from (Some AtWord) t
+
+-- a word that ends before these bytes ends there: at a colon, or at the end
+abbrev pub is_at_end : Text → Bool
+is_at_end [] = true
+is_at_end (b ∷ bs) = b == 58
+
+-- the bytes begin with this word
+abbrev pub begins_with : Text → Text → Bool
+begins_with t w = starts_with (λ a b. a == b) t w && is_at_end (drop (length w) t)
+
+-- the bytes begin with one of the words that are no identifiers in Cedar
+abbrev pub begins_reserved : Text → Bool
+begins_reserved t =
+    begins_with t (codes "true") || (begins_with t (codes "false") || (begins_with t (codes "if")
+    || (begins_with t (codes "then") || (begins_with t (codes "else") || (begins_with t (codes "in")
+    || (begins_with t (codes "has") || (begins_with t (codes "like") || begins_with t (codes "is"))))))))
+
+-- no word is reserved that begins in these bytes: behind a colon, and at their beginning, if one begins there
+abbrev pub has_no_reserved : Bool → Text → Bool
+has_no_reserved begins [] = true
+has_no_reserved begins (b ∷ bs) = not (begins && begins_reserved (b ∷ bs)) && has_no_reserved (b == 58) bs
+
+-- words with `::` between them, none of which is reserved
 abbrev pub is_name : Text → Bool
-is_name t = goes_on_from (Some AtWord) t
+is_name t = are_words t && has_no_reserved true t

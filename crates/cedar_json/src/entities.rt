@@ -21,7 +21,7 @@ use cedar_names::EntityUID;
 use cedar_restricted_expressions::RestrictedExpr;
 use json::Value;
 use std::alloc::Global;
-use std::collections::HashSet;
+use std::collections::BTreeSet;
 use std::rc::RcStr;
 
 /// An entity as the JSON says it, of which nothing is evaluated.
@@ -77,7 +77,7 @@ fn put_entities(
         (stated.entities_from [] 0 (items_view items.now.items) ≡ Ok (stated_views entities.new.items)) }
     ensures refused { IfErr result (IsRefusal (stated.entities_from [] 0 (items_view items.now.items))) }
 {
-    let mut seen: HashSet<EntityUID> = HashSet::new(alloc);
+    let mut seen: BTreeSet<EntityUID> = BTreeSet::new(alloc);
     let mut index: usize = 0;
     'items: for item in items {
         match put_item(alloc, item, index, &mut seen, entities) {
@@ -93,7 +93,7 @@ fn put_item(
     alloc: Global,
     item: &Value<'_>,
     index: usize,
-    seen: &mut HashSet<EntityUID>,
+    seen: &mut BTreeSet<EntityUID>,
     entities: &mut Vec<StatedEntity>,
 ) -> Result<(), JsonError>
     ensures said { OnOk result (IsOneMore (stated_views entities.old.items)
@@ -116,7 +116,7 @@ fn put_item(
 fn put_entity(
     alloc: Global,
     entity: StatedEntity,
-    seen: &mut HashSet<EntityUID>,
+    seen: &mut BTreeSet<EntityUID>,
     entities: &mut Vec<StatedEntity>,
 ) -> Result<(), JsonError>
     ensures said { OnOk result (IsOneMore (stated_views entities.old.items)
@@ -157,7 +157,7 @@ fn push_entity(entity: StatedEntity, entities: &mut Vec<StatedEntity>) -> Result
 }
 
 // Whether the entity was not seen before. Now it was.
-fn is_new(seen: &mut HashSet<EntityUID>, uid: &EntityUID) -> Result<bool, JsonError>
+fn is_new(seen: &mut BTreeSet<EntityUID>, uid: &EntityUID) -> Result<bool, JsonError>
     ensures new { IfOk result (λ b. b ≡ not (is_among (uid_name uid.now) (names_of seen.old.keys))) }
     ensures seen { OnOk result (PutsName (names_of seen.old.keys) (uid_name uid.now) (names_of seen.new.keys)) }
     ensures memory { IfErr result IsMemory }
@@ -168,7 +168,7 @@ fn is_new(seen: &mut HashSet<EntityUID>, uid: &EntityUID) -> Result<bool, JsonEr
     }
 }
 
-fn insert(seen: &mut HashSet<EntityUID>, uid: EntityUID) -> Result<bool, JsonError>
+fn insert(seen: &mut BTreeSet<EntityUID>, uid: EntityUID) -> Result<bool, JsonError>
     ensures new { IfOk result (λ b. b ≡ not (is_among (uid_name uid) (names_of seen.old.keys))) }
     ensures seen { OnOk result (PutsName (names_of seen.old.keys) (uid_name uid) (names_of seen.new.keys)) }
     ensures memory { IfErr result IsMemory }
@@ -245,9 +245,11 @@ fn with_tags(
     parents: Vec<EntityUID>,
 ) -> Result<StatedEntity, JsonError>
     ensures said { IfOk result
-        (λ r. stated.with_tags (uid_name uid) (pairs_said attrs.items) (names_of parents.items) (value_view value.now) ≡ Ok (stated_view r)) }
+        (λ r. stated.with_tags (uid_name uid) (pairs_said attrs.items) (names_of parents.items)
+        (value_view value.now) ≡ Ok (stated_view r)) }
     ensures refused { IfErr result
-        (IsRefusal (stated.with_tags (uid_name uid) (pairs_said attrs.items) (names_of parents.items) (value_view value.now))) }
+        (IsRefusal (stated.with_tags (uid_name uid) (pairs_said attrs.items) (names_of parents.items)
+        (value_view value.now))) }
 {
     match tags_at(alloc, value) {
         Ok(tags) => Ok(StatedEntity {
@@ -312,8 +314,8 @@ pub(crate) fn uid_at(alloc: Global, value: &Value<'_>, key: &str) -> Result<Enti
     }
 }
 
-// The entity, with or without `__entity` round its type and its id.
-fn plain_uid(alloc: Global, value: &Value<'_>) -> Result<EntityUID, JsonError>
+/// The entity, with or without `__entity` round its type and its id.
+pub(crate) fn plain_uid(alloc: Global, value: &Value<'_>) -> Result<EntityUID, JsonError>
     ensures said { IfOk result (λ r. stated.plain_uid_said (value_view value.now) ≡ Ok (uid_name r)) }
     ensures refused { IfErr result (IsRefusal (stated.plain_uid_said (value_view value.now))) }
 {

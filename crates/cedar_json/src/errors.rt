@@ -3,14 +3,15 @@ ghost use Rattle.std.specs.Prelude.{◌≡◌, alloc_error};
 ghost use Rattle.cedar_json.specs.declared.errors.JsonError.TheVariants as errors;
 
 use crate::paths::{JsonPath, PathStep};
-use cedar_values::evaluator::err::EvaluationError;
+use cedar_errors::evaluator::err::EvaluationError;
+use cedar_tokens::errors::Expected;
 use std::alloc::{AllocError, AllocFailed, Global};
 use std::fmt;
 use std::fmt::Display;
 use std::rc::RcStr;
 
 /// Why a part of a JSON value is refused.
-#[derive(Clone, Copy, Debug, PartialEq, Eq, Drop)]
+#[derive(Clone, Copy, Debug, Drop)]
 pub enum RefusalReason {
     /// `null`.
     Null,
@@ -22,7 +23,14 @@ pub enum RefusalReason {
     RepeatedKey,
     /// What names an entity is no object of a text at `type` and a text at `id`.
     NotAnEntity,
-    /// The name of a type or of a function is no words with `::` between them.
+    /// A text that names an entity of a request is not the entity in Cedar's text: this was expected in it, from the
+    /// byte `start` up to, but not including, the byte `end`. The first byte is 0.
+    NotAnEntityText {
+        expected: Expected,
+        start: usize,
+        end: usize,
+    },
+    /// The name of a type or of a function is no words with `::` between them, or one of the words is reserved.
     NotAName,
     /// A call is no object of a text at `fn`, and a value at `arg` or an array at `args`.
     NotACall,
@@ -158,6 +166,11 @@ impl fmt::Display for RefusalReason {
             RefusalReason::ReservedKey => f.write_str("a reserved key"),
             RefusalReason::RepeatedKey => f.write_str("the key comes again"),
             RefusalReason::NotAnEntity => f.write_str("not a type and an id"),
+            RefusalReason::NotAnEntityText {
+                expected,
+                start,
+                end: _,
+            } => write_expected(*expected, *start, f),
             RefusalReason::NotAName => f.write_str("not a name"),
             RefusalReason::NotACall => f.write_str("not a fn and an arg or args"),
             RefusalReason::NotAnUnknown => f.write_str("an unknown takes its name alone"),
@@ -192,8 +205,21 @@ impl fmt::Display for JsonError {
 }
 
 ghost use Rattle.std.specs.Fmt.{WritesOnOk};
-ghost use Rattle.cedar_json.specs.ErrorTexts.{refusal_text};
+ghost use Rattle.cedar_json.specs.ErrorTexts.{expected_there, refusal_text};
 ghost use Rattle.cedar_json.specs.Paths.{path_view};
+
+fn write_expected<W: fmt::Write>(
+    expected: Expected,
+    start: usize,
+    f: &mut fmt::Formatter<W>,
+) -> fmt::Result
+    ensures { WritesOnOk W.write_str_gives f.old result (expected_there expected start) f.new }
+{
+    f.write_str("expected ")?;
+    expected.fmt(f)?;
+    f.write_str(" at byte ")?;
+    start.fmt(f)
+}
 
 fn write_refusal<W: fmt::Write>(
     path: &JsonPath,

@@ -6,27 +6,27 @@ ghost use Rattle.std.specs.Rc.{rc_str_bytes};
 ghost use Rattle.cedar_expressions.specs.Records.{fields_in_order};
 ghost use Rattle.cedar_names.specs.Names.{uid_name};
 ghost use Rattle.cedar_extensions.specs.Extensions.{extensions_view, calls_of};
-ghost use Rattle.cedar_restricted.specs.Evaluators.{extensions_in, calls_in, limit_of};
+ghost use Rattle.cedar_restricted_evaluator.specs.Evaluators.{extensions_in, calls_in, limit_of};
 ghost use Rattle.cedar_restricted_expressions.specs.Views.{restricted_term};
 ghost use Rattle.cedar_json.specs.Lists.{pairs_said};
 ghost use Rattle.cedar_json.specs.StatedEntities.{names_of, stated_view, stated_views};
 ghost use Rattle.cedar_json.specs.Evaluated.{IsAnswerOf, AreAnswered, AreAmong, IsEvaluated, AreEvaluated};
 ghost use Rattle.cedar_json.specs.Evaluated.{IsEvaluationError, key_cmp, AddsPart, AddsEntity, PutsName};
-ghost use Rattle.cedar_data.specs.Residuals.{partial_view};
+ghost use Rattle.cedar_values.specs.Residuals.{partial_view};
 ghost use Rattle.cedar_layers.specs.Parts.{parts_view, are_restricted_parts, is_restricted_part};
 ghost use mathlib.Core.Bool.{Bool-set};
 
 use crate::entities::StatedEntity;
 use crate::errors::JsonError;
-use cedar_data::PartialValue;
+use cedar_errors::evaluator::err::EvaluationError;
 use cedar_extensions::Extensions;
 use cedar_layers::policies::Entity;
 use cedar_names::EntityUID;
-use cedar_restricted::RestrictedEvaluator;
+use cedar_restricted_evaluator::RestrictedEvaluator;
 use cedar_restricted_expressions::RestrictedExpr;
-use cedar_values::evaluator::err::EvaluationError;
+use cedar_values::PartialValue;
 use std::alloc::{AllocError, Global};
-use std::collections::{BTreeMap, HashSet};
+use std::collections::{BTreeMap, BTreeSet};
 use std::rc::RcStr;
 
 // Values and residuals under their names, as an entity has them.
@@ -144,18 +144,18 @@ fn evaluate(
 }
 
 // The set of these.
-fn set_of(alloc: Global, uids: Vec<EntityUID>) -> Result<HashSet<EntityUID>, JsonError>
+fn set_of(alloc: Global, uids: Vec<EntityUID>) -> Result<BTreeSet<EntityUID>, JsonError>
     ensures among { IfOk result (λ s. AreAmong (names_of s.keys) (names_of uids.items)) }
     ensures failed { IfErr result IsEvaluationError }
 {
-    let mut set: HashSet<EntityUID> = HashSet::new(alloc);
+    let mut set: BTreeSet<EntityUID> = BTreeSet::new(alloc);
     'uids: for uid in uids {
         put_uid(uid, &mut set)?;
     }
     Ok(set)
 }
 
-fn put_uid(uid: EntityUID, set: &mut HashSet<EntityUID>) -> Result<(), JsonError>
+fn put_uid(uid: EntityUID, set: &mut BTreeSet<EntityUID>) -> Result<(), JsonError>
     ensures puts { OnOk result (PutsName (names_of set.old.keys) (uid_name uid) (names_of set.new.keys)) }
     ensures failed { IfErr result IsEvaluationError }
 {

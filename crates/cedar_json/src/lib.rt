@@ -7,7 +7,8 @@
 //! - A context: an object of values.
 //! - Entities: an array of objects, each with a `uid`, `attrs`, `parents` and, where there are any, `tags`. A uid is
 //!   `{"type": .., "id": ..}`, or that at `__entity`.
-//! - A request: an object of a `principal`, an `action`, a `resource` and a `context`.
+//! - A request: an object of a `principal`, an `action`, a `resource` and a `context`. Each entity is as a uid, or
+//!   Cedar's text of it: `"User::\"alice\""`.
 //!
 //! What is no such thing is refused, with the path of the part that is at fault. A text may nest at most 128 levels
 //! deep, and no object of it may have a key twice. A key `__entity`, `__extn` or `__expr` is no attribute's.

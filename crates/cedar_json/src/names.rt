@@ -1,5 +1,5 @@
 //! Words, and names made of them.
-ghost use Rattle.std.specs.Prelude.{◌≡◌};
+ghost use Rattle.std.specs.Prelude.{◌≡◌, true};
 ghost use Rattle.std.specs.List.{list_all};
 ghost use Rattle.cedar_json.specs.Words as Words;
 
@@ -45,12 +45,19 @@ fn goes_on(bytes: &[u8]) -> bool
     true
 }
 
-/// Whether the text is a name: words with `::` between them.
+/// Whether the text is a name: words with `::` between them, none of which is reserved.
 pub(crate) fn is_name(text: &str) -> bool
     ensures { result ≡ Words.is_name text.now }
 {
+    are_words(text.as_bytes()) && has_no_reserved(text.as_bytes())
+}
+
+// Whether the bytes are words with `::` between them.
+fn are_words(bytes: &[u8]) -> bool
+    ensures { result ≡ Words.are_words bytes.now }
+{
     let mut place = Place::AtWord;
-    'bytes: for byte in text.as_bytes() {
+    'bytes: for byte in bytes {
         match behind(place, *byte) {
             Some(next) => place = next,
             None => return false,
@@ -86,4 +93,47 @@ fn behind(place: Place, byte: u8) -> Option<Place>
             None
         },
     }
+}
+
+// Whether none of the words that begin in the bytes is reserved, where one begins at the first byte.
+fn has_no_reserved(bytes: &[u8]) -> bool
+    ensures { result ≡ Words.has_no_reserved true bytes.now }
+{
+    let mut begins = true;
+    let mut rest = bytes;
+    'bytes: while let Some((first, others)) = rest.split_first() {
+        if begins && begins_reserved(rest) {
+            return false;
+        }
+        begins = *first == b':';
+        rest = others;
+    }
+    true
+}
+
+fn begins_reserved(bytes: &[u8]) -> bool
+    ensures { result ≡ Words.begins_reserved bytes.now }
+{
+    begins_with(bytes, b"true")
+        || begins_with(bytes, b"false")
+        || begins_with(bytes, b"if")
+        || begins_with(bytes, b"then")
+        || begins_with(bytes, b"else")
+        || begins_with(bytes, b"in")
+        || begins_with(bytes, b"has")
+        || begins_with(bytes, b"like")
+        || begins_with(bytes, b"is")
+}
+
+// Whether the bytes begin with the word, and it ends there: at a colon or at the end.
+fn begins_with(bytes: &[u8], word: &[u8]) -> bool
+    ensures { result ≡ Words.begins_with bytes.now word.now }
+{
+    bytes.starts_with(word) && is_at_end(&bytes[word.len()..])
+}
+
+fn is_at_end(bytes: &[u8]) -> bool
+    ensures { result ≡ Words.is_at_end bytes.now }
+{
+    bytes.is_empty() || bytes[0] == b':'
 }

@@ -10,7 +10,7 @@ ghost use Rattle.cedar_json.specs.SaidEntities.{entities_said};
 ghost use Rattle.cedar_json.specs.StatedEntities.{stated_views};
 ghost use Rattle.cedar_json.specs.JsonTexts.{IsUnread, Says, IsTextRefusal, SaysSo, IsTextError};
 ghost use Rattle.cedar_json.specs.SaidContexts.{context_said, IsContextOf, IsContextRefusal};
-ghost use Rattle.cedar_json.specs.SaidRequests.{request_said, IsRequestOf, IsRequestRefusal};
+ghost use Rattle.cedar_json.specs.SaidRequests.{IsRequestOf, IsRequestRefusal};
 ghost use Rattle.cedar_json.specs.Evaluated.{AreEntitiesOf, IsEntitiesError};
 ghost use Rattle.cedar_extensions.specs.Extensions.{extensions_view, calls_of};
 
@@ -103,10 +103,12 @@ pub fn stated_entities_from_json_str(
     }
 }
 
-/// The request that the text says: an object of a `principal`, an `action` and a `resource`, each a type and an id, and
-/// of a `context`, evaluated with these extensions at most `limit` levels deep. `Syntax` and `DuplicateKey` as for a
-/// value; else the first refusal, in the order unexpected members, `principal`, `action`, `resource`, `context`.
-/// `Evaluation` holds the error of the evaluation of the context, at the path `$.context`.
+/// The request that the text says: an object of a `principal`, an `action` and a `resource`, each a type and an id,
+/// with or without `__entity` around, or a text that is the entity in Cedar's text, as `"User::\"alice\""`, and of a
+/// `context`, evaluated with these extensions at most `limit` levels deep. `Syntax` and `DuplicateKey` as for a value;
+/// else the first refusal, in the order unexpected members, `principal`, `action`, `resource`, `context`; that of a
+/// text is `NotAnEntityText`, with the place in the text. `Evaluation` holds the error of the evaluation of the
+/// context, at the path `$.context`.
 pub fn request_from_json_str(
     alloc: Global,
     text: &str,
@@ -114,11 +116,10 @@ pub fn request_from_json_str(
     limit: usize,
 ) -> Result<Request, JsonError>
     ensures made { IfOk result
-        (λ r. SaysSo text.now (λ j. IsRequestOf (extensions_view extensions.now) (calls_of extensions.now) limit
-        (request_said j) r)) }
+        (λ r. SaysSo text.now (λ j. IsRequestOf (extensions_view extensions.now) (calls_of extensions.now) limit j r)) }
     ensures refused { IfErr result
         (IsTextError text.now (λ j e. IsRequestRefusal (extensions_view extensions.now) (calls_of extensions.now) limit
-        (request_said j) e)) }
+        j e)) }
 {
     let mut scratch = Scratch::new(alloc);
     match parsed(alloc, text, &mut scratch) {

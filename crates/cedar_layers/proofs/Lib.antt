@@ -4,3 +4,5 @@ pub mod Parts
 pub mod Stores
 pub mod StoredValues
 pub mod Sound
+pub mod Picking
+pub mod Placing

@@ -14,8 +14,8 @@ use Rattle.cedar_model.specs.Terms.{Text}
 use Rattle.cedar_model.specs.Outcomes.{text_eq}
 use Rattle.cedar_model.specs.Settings.{part_at, names_of}
 use Rattle.cedar_model.specs.Failures as model
-use Rattle.cedar_data.specs.declared.partial_value.PartialValue.{PartialValue}
-use Rattle.cedar_data.specs.Residuals.{partial_view}
+use Rattle.cedar_values.specs.declared.partial_value.PartialValue.{PartialValue}
+use Rattle.cedar_values.specs.Residuals.{partial_view}
 use Rattle.cedar_layers.specs.Parts.{parts_view, is_restricted_part, are_restricted_parts}
 
 option_map-cond : (b : Bool) (x : PartialValue) (o : Option PartialValue) → option_map partial_view (cond b (Some x) o) ≡ cond b (Some (partial_view x)) (option_map partial_view o)

@@ -15,10 +15,10 @@ use Rattle.cedar_model.specs.Restricted.{IsSound, IsSoundPart}
 use Rattle.cedar_names.specs.declared.names.EntityUID.{EntityUID}
 use Rattle.cedar_names.specs.Names.{uid_name}
 use Rattle.cedar_expressions.specs.Mappings.{mapping_of}
-use Rattle.cedar_data.specs.declared.partial_value.PartialValue.{PartialValue}
-use Rattle.cedar_data.specs.declared.partial_value.PartialValue.TheVariants as partials
-use Rattle.cedar_data.specs.Residuals.{partial_view}
-use Rattle.cedar_data.specs.Sound.{Placed}
+use Rattle.cedar_values.specs.declared.partial_value.PartialValue.{PartialValue}
+use Rattle.cedar_values.specs.declared.partial_value.PartialValue.TheVariants as partials
+use Rattle.cedar_values.specs.Residuals.{partial_view}
+use Rattle.cedar_values.specs.Sound.{Placed}
 use Rattle.cedar_layers.specs.declared.policies.entities.Entities.{Entities}
 use Rattle.cedar_layers.specs.declared.policies.entities.Entity.{Entity}
 use Rattle.cedar_layers.specs.Mapped.{IsSoundMapping}

@@ -9,9 +9,9 @@ use Rattle.std.specs.List.{AllByRecursion}
 use Rattle.std.specs.List.Sorted.{IsStrictlySortedBy}
 use Rattle.std.specs.Map.{keys_of}
 use Rattle.std.specs.Ordering.{ordering_reverse, nat_cmp}
-use Rattle.cedar_data.specs.declared.partial_value.PartialValue.{PartialValue}
-use Rattle.cedar_data.specs.declared.partial_value.PartialValue.TheVariants as partials
-use Rattle.cedar_data.specs.Sound.{Placed}
+use Rattle.cedar_values.specs.declared.partial_value.PartialValue.{PartialValue}
+use Rattle.cedar_values.specs.declared.partial_value.PartialValue.TheVariants as partials
+use Rattle.cedar_values.specs.Sound.{Placed}
 use Rattle.cedar_layers.specs.Parts.{parts_view, values_as_parts, are_restricted_parts}
 
 abbrev pub Entry : Type 0

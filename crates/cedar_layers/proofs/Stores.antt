@@ -8,22 +8,18 @@ use Rattle.cedar_model.specs.Terms.{Text, EntityName}
 use Rattle.cedar_model.specs.Outcomes.{text_eq, entity_eq, escaped}
 use Rattle.cedar_model.specs.Settings.{StoredEntity, found, not_there, not_known, found_in, is_among, printed_entity}
 use Rattle.cedar_names.specs.declared.names.EntityUID.{EntityUID}
-use Rattle.cedar_names.specs.contracts.names.EntityUIDPartialEq.TheImpl.{eq-value}
 use Rattle.cedar_names.specs.Names.{uid_name}
+use Rattle.cedar_names.specs.Order.{is_tied, is_tied-by_name}
 use Rattle.cedar_names.specs.Texts as texts
 use Rattle.cedar_layers.specs.declared.policies.entities.Entity.{Entity}
 use Rattle.cedar_layers.specs.Stores.{entity_name, entity_view, Held, no_entities, with_entity, with_entities, held, Standing, none_stands, standing_with, standing_with_each, last_of_each_name, standing}
-
--- uids are equal where their names are
-pub same_by_name : (u v : EntityUID) → eq-value.it u v ≡ entity_eq (uid_name u) (uid_name v)
-same_by_name u v = refl
 
 both_true : (a b : Bool) → (a && b) ≡ true → (a ≡ true) × (b ≡ true)
 both_true true b h = (refl, h)
 both_true false b h = cc
 
 -- the test on names is equality
-entity_eq-true : (d e : EntityName) → entity_eq d e ≡ true → d ≡ e
+pub entity_eq-true : (d e : EntityName) → entity_eq d e ≡ true → d ≡ e
 entity_eq-true d e h =
     let parts : (text_eq d.type_name e.type_name ≡ true) × (text_eq d.id e.id ≡ true) = both_true _ _ h in
     let of_type : d.type_name ≡ e.type_name = same_text _ _ (sym parts.0) in
@@ -31,10 +27,10 @@ entity_eq-true d e h =
     λ i. record { type_name = of_type i; id = of_id i }
 
 -- an entity is among the names where its uid is among the uids
-pub list_any-uids : (u : EntityUID) (us : List EntityUID) → list_any (eq-value.it u) us ≡ is_among (uid_name u) (map uid_name us)
+pub list_any-uids : (u : EntityUID) (us : List EntityUID) → list_any (is_tied u) us ≡ is_among (uid_name u) (map uid_name us)
 unfolding is_among
 list_any-uids u [] = refl
-list_any-uids u (v ∷ us) = λ i. same_by_name u v i || list_any-uids u us i
+list_any-uids u (v ∷ us) = λ i. is_tied-by_name u v i || list_any-uids u us i
 
 -- no entity under the name: there is none, or it is not known
 pub found_in-some : (o : Option StoredEntity) (d : StoredEntity) (is_partial : Bool) → o ≡ Some d → found d ≡ found_in o is_partial
@@ -49,16 +45,20 @@ pub found_in-unknown : (o : Option StoredEntity) (is_partial : Bool) → o ≡ N
 unfolding found_in
 found_in-unknown o is_partial e f = sym (λ i. found_in (e i) (f i))
 
+-- a look-up by the order is one by name
+pub lookup-by_name : (u : EntityUID) (es : List (EntityUID × Entity)) → lookup (is_tied u) es ≡ standing es (uid_name u)
+lookup-by_name u es = λ i. lookup (λ (v : EntityUID). is_tied-by_name u v i) es
+
 -- what a map holds after an insertion, name by name
-module _ (old new : List (EntityUID × Entity)) (key : EntityUID) (entity : Entity) (there : lookup (eq-value.it key) new ≡ Some entity) (others : KeepsOthers eq-value.it (eq-value.it key) old new) where
+module _ (old new : List (EntityUID × Entity)) (key : EntityUID) (entity : Entity) (there : lookup (is_tied key) new ≡ Some entity) (others : KeepsOthers is_tied (is_tied key) old new) where
   standing_at : (n : EntityName) (b : Bool) → entity_eq n (uid_name key) ≡ b → standing new n ≡ (if b then Some entity else standing old n)
   unfolding KeepsOthers
   standing_at n true h =
       let same : n ≡ uid_name key = entity_eq-true n (uid_name key) h in
-      ap (λ (m : EntityName). standing new m) same ∙ there
+      ap (λ (m : EntityName). standing new m) same ∙ sym (lookup-by_name key new) ∙ there
   standing_at n false h =
-      let own : (x y : EntityUID) → entity_eq n (uid_name x) ≡ true → entity_eq n (uid_name y) ≡ eq-value.it x y = λ x y e. ap (λ (m : EntityName). entity_eq m (uid_name y)) (entity_eq-true n (uid_name x) e) in
-      let apart : (u : EntityUID) → eq-value.it key u ≡ true → entity_eq n (uid_name u) ≡ false = λ u e. ap (λ (m : EntityName). entity_eq n m) (sym (entity_eq-true (uid_name key) (uid_name u) e)) ∙ h in
+      let own : (x y : EntityUID) → entity_eq n (uid_name x) ≡ true → entity_eq n (uid_name y) ≡ is_tied x y = λ x y e. ap (λ (m : EntityName). entity_eq m (uid_name y)) (entity_eq-true n (uid_name x) e) ∙ sym (is_tied-by_name x y) in
+      let apart : (u : EntityUID) → is_tied key u ≡ true → entity_eq n (uid_name u) ≡ false = λ u e. ap (λ (m : EntityName). entity_eq n m) (sym (entity_eq-true (uid_name key) (uid_name u) (sym (is_tied-by_name key u) ∙ e))) ∙ h in
       others (λ (u : EntityUID). entity_eq n (uid_name u)) own apart
 
   pub standing-put : uid_name key ≡ entity_name entity → standing new ≡ standing_with (standing old) entity

@@ -1,4 +1,5 @@
 pub mod Policies
+pub mod Scopes
 pub mod PolicySets
 pub mod Parts
 pub mod Stores

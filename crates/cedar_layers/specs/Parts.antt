@@ -9,10 +9,10 @@ use Rattle.std.specs.declared.rc.RcStr.{RcStr}
 use Rattle.cedar_model.specs.Terms.{Text}
 use Rattle.cedar_model.specs.Shapes.{is_restricted}
 use Rattle.cedar_model.specs.Failures as model
-use Rattle.cedar_data.specs.declared.partial_value.PartialValue.{PartialValue}
-use Rattle.cedar_data.specs.declared.partial_value.PartialValue.TheVariants as partials
-use Rattle.cedar_data.specs.Residuals.{partial_view}
-use Rattle.cedar_data.specs.Sound.{Placed}
+use Rattle.cedar_values.specs.declared.partial_value.PartialValue.{PartialValue}
+use Rattle.cedar_values.specs.declared.partial_value.PartialValue.TheVariants as partials
+use Rattle.cedar_values.specs.Residuals.{partial_view}
+use Rattle.cedar_values.specs.Sound.{Placed}
 
 -- the parts under their names
 abbrev pub parts_view : List (RcStr Global × PartialValue) → List (Text × model.PartialValue)

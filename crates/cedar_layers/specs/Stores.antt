@@ -7,7 +7,7 @@ use Rattle.cedar_model.specs.Outcomes.{entity_eq}
 use Rattle.cedar_model.specs.Settings.{StoredEntity, Store, Found, found, not_there, not_known, missing_entity}
 use Rattle.std.specs.declared.alloc.Global.{Global}
 use Rattle.std.specs.declared.rc.RcStr.{RcStr}
-use Rattle.cedar_data.specs.declared.partial_value.PartialValue.{PartialValue}
+use Rattle.cedar_values.specs.declared.partial_value.PartialValue.{PartialValue}
 use Rattle.cedar_names.specs.declared.names.EntityUID.{EntityUID}
 use Rattle.cedar_names.specs.Names.{uid_name}
 use Rattle.cedar_names.specs.Leaves.{type_view}
@@ -15,7 +15,7 @@ use Rattle.cedar_layers.specs.declared.policies.entities.Dereference.{Dereferenc
 use Rattle.cedar_layers.specs.declared.policies.entities.Dereference.TheVariants as answers
 use Rattle.cedar_layers.specs.declared.policies.entities.Entities.{Entities}
 use Rattle.cedar_layers.specs.declared.policies.entities.Entity.{Entity}
-use Rattle.cedar_data.specs.Sound.{Placed}
+use Rattle.cedar_values.specs.Sound.{Placed}
 use Rattle.cedar_layers.specs.Parts.{parts_view, values_as_parts}
 
 -- the parts of an entity as they were handed in, places included

@@ -2,12 +2,12 @@
 ghost use Rattle.cedar_model.specs.Agreement.{EachStored};
 ghost use Rattle.cedar_model.specs.Restricted.{IsSoundPart};
 ghost use Rattle.cedar_expressions.specs.Mappings.{mapping_of};
-ghost use Rattle.cedar_data.specs.Sound.{Placed};
+ghost use Rattle.cedar_values.specs.Sound.{Placed};
 ghost use Rattle.cedar_layers.specs.Mapped.{IsSoundMapping};
 ghost use Rattle.cedar_layers.specs.Stores.{store_view};
 
 use crate::policies::Entities;
-use cedar_data::Value;
+use cedar_values::Value;
 use std::collections::HashMap;
 use std::rc::RcStr;
 

@@ -3,6 +3,7 @@
 mod entities;
 mod policy;
 mod policy_set;
+mod scope_index;
 
 pub use entities::{Dereference, Entities, Entity};
 pub use policy::{Annotations, Effect, Policy, PolicyID};

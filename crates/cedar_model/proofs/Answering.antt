@@ -28,7 +28,7 @@ use Rattle.cedar_model.specs.Progress
 use Rattle.cedar_model.proofs.Means
 use Rattle.cedar_model.proofs.OwnWorld
 use Rattle.cedar_model.proofs.Resolving as resolving
-use Rattle.cedar_model.proofs.Resolving.{IsStored, none_is_stored, none_read, each_stored, attribute_is_stored}
+use Rattle.cedar_model.proofs.Resolving.{IsStored, none_read, each_stored, attribute_is_stored}
 use Rattle.cedar_model.proofs.Resolving.{beside_is_stored}
 use Rattle.cedar_model.proofs.Unread as unread
 use Rattle.cedar_model.proofs.Unread.{IsNoResidual}

@@ -10,7 +10,7 @@ use Rattle.cedar_model.specs.World.{World, Extensions, Functions}
 use Rattle.cedar_model.specs.Meaning.{meaning}
 use Rattle.cedar_model.specs.Policies.{Effect, permit, forbid, Policy, Verdict, satisfied, unsatisfied, erring}
 use Rattle.cedar_model.specs.Policies.{verdict, Judged, Decision, allow, deny, is_satisfied_by, some_satisfied}
-use Rattle.cedar_model.specs.Policies.{satisfied_ids, decision, reasons, judge_each}
+use Rattle.cedar_model.specs.Policies.{satisfied_ids, decision, reasons}
 use Rattle.cedar_model.specs.Responses
 use Rattle.cedar_model.specs.Responses.{Reported, reported_true, reported_false, reported_residual, Row}
 use Rattle.cedar_model.specs.Chains.{is_true, is_residual, has_effect, rows_of}

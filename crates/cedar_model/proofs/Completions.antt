@@ -11,7 +11,7 @@ use Rattle.cedar_model.specs.Values.{plain_represented, set_represented, record_
 use Rattle.cedar_model.specs.Values.{RepresentedFields, abstract_value}
 use Rattle.cedar_model.specs.Sets.{abstract_set}
 use Rattle.cedar_model.specs.Outcomes
-use Rattle.cedar_model.specs.Outcomes.{Outcome, gives, errs, entity_of, text_eq, ErrorKind}
+use Rattle.cedar_model.specs.Outcomes.{Outcome, gives, entity_of, text_eq, ErrorKind}
 use Rattle.cedar_model.specs.World.{World, Slots, Extensions, Functions}
 use Rattle.cedar_model.specs.Meaning
 use Rattle.cedar_model.specs.Failures.{value, residual, Answer, answers, fails}

@@ -2,4 +2,3 @@ pub mod Keys
 pub mod Sets
 pub mod Codes
 pub mod Layers
-pub mod Steps

@@ -10,8 +10,8 @@ use Rattle.std.proofs.lemmas.Cmp.{eq_by_cmp_equiv}
 use Rattle.cedar_model.specs.Terms.{Text, EntityName, Literal, Variable, Slot, ValueType, UnaryOperator, BinaryOperator, PatternPart, Term, Terms, Fields}
 use Rattle.cedar_model.specs.Keys.{Key, number_key, text_key, entity_key, literal_key, number_of_key, text_of_key, entity_of_key, literal_of_key, key_cmp}
 use Rattle.cedar_model.specs.lemmas.Keys.{text_of_key-text_key, entity_of_key-entity_key, literal_of_key-literal_key, key_cmp-equal, key_cmp-self, key_cmp-total}
-use Rattle.cedar_model.specs.lemmas.Codes.{type_key, type_of_key, type_of_key-type_key, annotation_key, annotation_of_key, annotation_of_key-annotation_key, variable_number, variable_of_number, variable_of_number-variable_number, slot_number, slot_of_number, slot_of_number-slot_number, unary_number, unary_of_number, unary_of_number-unary_number, binary_number, binary_of_number, binary_of_number-binary_number, pattern_key, pattern_of_key, pattern_of_key-pattern_key, texts_key, texts_of_key, texts_of_key-texts_key, term_key, term_of_key, term_of_key-term_key, terms_key, terms_of_key, terms_of_key-terms_key, fields_key, fields_of_key, fields_of_key-fields_key}
-use Rattle.cedar_names.specs.Equality.{key_eq, text_eq, texts_eq, entity_eq, literal_eq, type_eq, annotation_eq, variable_eq, slot_eq, unary_eq, binary_eq, pattern_eq, term_eq, terms_eq, fields_eq}
+use Rattle.cedar_model.specs.lemmas.Codes.{type_key, type_of_key, type_of_key-type_key, annotation_key, annotation_of_key, annotation_of_key-annotation_key, variable_number, variable_of_number, variable_of_number-variable_number, slot_number, slot_of_number, slot_of_number-slot_number, unary_number, unary_of_number, unary_of_number-unary_number, binary_number, binary_of_number, binary_of_number-binary_number, pattern_key, pattern_of_key, pattern_of_key-pattern_key, term_key, term_of_key, term_of_key-term_key, terms_key, terms_of_key, terms_of_key-terms_key, fields_key, fields_of_key, fields_of_key-fields_key}
+use Rattle.cedar_names.specs.Equality.{key_eq, text_eq, entity_eq, literal_eq, type_eq, annotation_eq, variable_eq, slot_eq, unary_eq, binary_eq, pattern_eq, term_eq, terms_eq, fields_eq}
 
 is_eq-true : (o : Ordering) → is_eq o ≡ true → o ≡ Equal
 is_eq-true Less e = absurd (cc)
@@ -26,10 +26,6 @@ key_decides key back same a b =
 pub text_eq-decides : (a b : Text) → Decides (text_eq a b) (a ≡ b)
 unfolding text_eq
 text_eq-decides = key_decides text_key text_of_key text_of_key-text_key
-
-pub texts_eq-decides : (a b : List Text) → Decides (texts_eq a b) (a ≡ b)
-unfolding texts_eq
-texts_eq-decides = key_decides texts_key texts_of_key texts_of_key-texts_key
 
 pub entity_eq-decides : (a b : EntityName) → Decides (entity_eq a b) (a ≡ b)
 unfolding entity_eq

@@ -9,3 +9,4 @@ pub mod NameFields
 pub mod EntityFields
 pub mod UnknownFields
 pub mod PatternFields
+pub mod Order

@@ -1,4 +1,4 @@
--- How a pattern and a text begin.
+-- How a pattern and a text begin: with a wildcard, with the same character, so that they differ, or not at all.
 use Rattle.std.specs.Prelude.{◌≡◌, ℕ, false, List, [], ◌∷◌, map}
 use Rattle.std.specs.Str.{chars, IsUtf8}
 use Rattle.cedar_model.specs.Terms.{PatternPart, character, wildcard}

@@ -21,9 +21,9 @@ pub struct Loc {
     pub end: usize,
 }
 
-/// A name: of a function, of an extension type or of an entity type. Equality and hash ignore its location.
+/// A name: of a function, of an extension type or of an entity type. Equality, order and hash ignore its location.
 #[derive(Clone, Debug)]
-#[derive_where(PartialEq, Eq, Hash)]
+#[derive_where(PartialEq, Eq, PartialOrd, Ord, Hash)]
 pub struct Name {
     text: RcStr,
     #[derive_where(skip(EqHashOrd))]
@@ -64,7 +64,7 @@ impl Name {
 }
 
 /// The name of an entity type.
-#[derive(Clone, Debug, PartialEq, Eq, Hash)]
+#[derive(Clone, Debug, PartialEq, Eq, PartialOrd, Ord, Hash)]
 pub struct EntityType(Name);
 
 impl Drop for EntityType {
@@ -83,9 +83,10 @@ impl EntityType {
     }
 }
 
-/// The name of an entity: its type and its id. Equality and hash ignore its location.
+/// The name of an entity: its type and its id. Equality, order and hash ignore its location; the order is that of the types'
+/// texts, and of one type that of the ids, byte by byte.
 #[derive(Clone, Debug)]
-#[derive_where(PartialEq, Eq, Hash)]
+#[derive_where(PartialEq, Eq, PartialOrd, Ord, Hash)]
 pub struct EntityUID {
     ty: EntityType,
     eid: RcStr,

@@ -37,6 +37,20 @@ pub enum Literal {
     EntityUID(Rc<EntityUID>),
 }
 
+impl From<Rc<EntityUID>> for Literal {
+    ghost use Rattle.cedar_model.specs.Terms.{entity_literal};
+    ghost use Rattle.cedar_names.specs.Names.{uid_name};
+    ghost use Rattle.cedar_names.specs.Leaves.{literal_view};
+    ghost use Rattle.cedar_names.specs.declared.types.Literal.TheVariants as literals;
+
+    ghost from_gives = { λ u l. (literal_view l ≡ entity_literal (uid_name u.value)) × (l ≡ literals.EntityUID u) };
+
+    /// The name of this entity, which the literal shares. It takes no memory.
+    fn from(uid: Rc<EntityUID>) -> Literal {
+        Literal::EntityUID(uid)
+    }
+}
+
 /// A value that is not known yet: its name, and its type where that is known.
 #[derive(Clone, Debug, PartialEq, Eq, Hash, Drop)]
 pub struct Unknown {

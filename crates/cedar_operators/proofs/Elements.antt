@@ -7,10 +7,10 @@ use Rattle.cedar_model.specs.Outcomes.{entity_of}
 use Rattle.cedar_model.specs.Meaning.{entities_of_set, add_entity, some_entity}
 use Rattle.cedar_model.specs.Failures.{Failure, out_of_memory, any_entity, wrong_type, Answer, fails, answers_bool}
 use Rattle.cedar_model.specs.Operators.{expecting, unless_entity, element_failure}
-use Rattle.cedar_data.specs.Sound.{Placed, whats}
-use Rattle.cedar_values.specs.declared.evaluator.err.EvaluationError.{EvaluationError}
-use Rattle.cedar_values.specs.Failures.{failure_of}
-use Rattle.cedar_values.specs.Answers.{FailsWith}
+use Rattle.cedar_values.specs.Sound.{Placed, whats}
+use Rattle.cedar_errors.specs.declared.evaluator.err.EvaluationError.{EvaluationError}
+use Rattle.cedar_errors.specs.Failures.{failure_of}
+use Rattle.cedar_errors.specs.Answers.{FailsWith}
 
 -- the elements of a list
 abbrev pub elements_in : List Placed → AbstractValues

@@ -2,9 +2,9 @@
 use Rattle.std.proofs.Common.{◌≡◌, ◌≢◌, Option, Some, None, Err, sym, ap, ◌∙◌}
 use Rattle.cedar_model.specs.Failures.{Failure, out_of_memory, Answer, fails}
 use Rattle.cedar_model.specs.Operators.{expecting}
-use Rattle.cedar_values.specs.declared.evaluator.err.EvaluationError.{EvaluationError}
-use Rattle.cedar_values.specs.Failures.{failure_of}
-use Rattle.cedar_values.specs.Answers.{Answers, FailsWith}
+use Rattle.cedar_errors.specs.declared.evaluator.err.EvaluationError.{EvaluationError}
+use Rattle.cedar_errors.specs.Failures.{failure_of}
+use Rattle.cedar_errors.specs.Answers.{Answers, FailsWith}
 
 module _ {A : Type 0} where
   -- a value of the type: goes on

@@ -15,7 +15,7 @@ use Rattle.cedar_model.specs.Values.{Represented}
 use Rattle.cedar_model.specs.Failures.{Failure, answers_value, fails}
 use Rattle.cedar_model.specs.Operators.{represented_at, represented_names, shown_names, value_or_failure}
 use Rattle.cedar_names.specs.Leaves.{texts_view}
-use Rattle.cedar_data.specs.Sound.{Placed, whats_at}
+use Rattle.cedar_values.specs.Sound.{Placed, whats_at}
 
 found_or : (b : Bool) (v : Placed) (rest : Option Placed) (more : Option Represented) → option_map (λ (p : Placed). p.what) rest ≡ more → option_map (λ (p : Placed). p.what) (cond b (Some v) rest) ≡ cond b (Some v.what) more
 found_or true v rest more e = refl

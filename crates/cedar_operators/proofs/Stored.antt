@@ -16,7 +16,7 @@ use Rattle.cedar_model.specs.Settings.{Store}
 use Rattle.cedar_model.specs.Operators.{represented_at, container_of, container_expected, last_in, step_in, step_to}
 use Rattle.cedar_model.specs.Operators.{stored_attribute, mapped, path_answer, after_step, walks_on, stops}
 use Rattle.cedar_names.specs.Leaves.{texts_view}
-use Rattle.cedar_data.specs.Sound.{Placed, whats_at}
+use Rattle.cedar_values.specs.Sound.{Placed, whats_at}
 use Rattle.cedar_operators.proofs.Keys.{whats-lookup}
 
 -- without a map a stored attribute is answered as it is stored

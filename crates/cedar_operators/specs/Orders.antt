@@ -11,10 +11,10 @@ use Rattle.cedar_model.specs.Operators.{comparison_failure}
 use Rattle.cedar_model.specs.Outcomes.{text_eq, has_text}
 use Rattle.cedar_model.specs.World.{Extensions}
 use Rattle.cedar_names.specs.Names.{name_text}
-use Rattle.cedar_data.specs.Sound.{Placed}
+use Rattle.cedar_values.specs.Sound.{Placed}
 use Rattle.cedar_extensions.specs.declared.extensions.Extensions as extensions
 use Rattle.cedar_extensions.specs.Extensions.{extensions_view}
-use Rattle.cedar_data.specs.declared.extension_value.ExtensionValue.{ExtensionValue}
+use Rattle.cedar_values.specs.declared.extension_value.ExtensionValue.{ExtensionValue}
 
 -- the type and the key of an extension value
 abbrev pub compared_as : ExtensionValue → Text × List ℕ

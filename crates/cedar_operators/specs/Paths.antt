@@ -4,8 +4,8 @@ use Rattle.cedar_model.specs.Failures.{out_of_memory, fails}
 use Rattle.cedar_model.specs.Operators as model
 use Rattle.cedar_model.specs.Operators.{a_record, an_entity, no_container, Step, walks_on, stops}
 use Rattle.cedar_names.specs.Names.{uid_name}
-use Rattle.cedar_data.specs.Sound.{whats_at}
-use Rattle.cedar_values.specs.Answers.{partial_answer}
+use Rattle.cedar_values.specs.Sound.{whats_at}
+use Rattle.cedar_errors.specs.Answers.{partial_answer}
 use Rattle.cedar_operators.specs.declared.attributes.Container.{Container}
 use Rattle.cedar_operators.specs.declared.attributes.Container.TheVariants as containers
 use Rattle.cedar_operators.specs.declared.attributes.PathStep.{PathStep}

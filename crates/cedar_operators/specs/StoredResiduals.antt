@@ -15,8 +15,8 @@ use Rattle.cedar_names.specs.declared.types.FirstRest.{FirstRest}
 use Rattle.cedar_names.specs.Leaves.{texts_view}
 use Rattle.cedar_expressions.specs.declared.expr.Expr.{Expr}
 use Rattle.cedar_expressions.specs.View.{view}
-use Rattle.cedar_data.specs.declared.partial_value.ResidualExpr.{ResidualExpr}
-use Rattle.cedar_data.specs.Residuals.{residual_term}
+use Rattle.cedar_values.specs.declared.partial_value.ResidualExpr.{ResidualExpr}
+use Rattle.cedar_values.specs.Residuals.{residual_term}
 
 -- the expression of a stored residual, if there is one
 abbrev pub residual_of : Option (Bor ResidualExpr) → Option Term

@@ -11,10 +11,10 @@ ghost use Rattle.cedar_model.specs.Operators.{step_in, step_to, step_found, step
 ghost use Rattle.cedar_model.specs.Operators.{container_of, container_expected};
 ghost use Rattle.cedar_names.specs.Names.{uid_name};
 ghost use Rattle.cedar_names.specs.Leaves.{texts_view};
-ghost use Rattle.cedar_data.specs.Residuals.{residual_term};
-ghost use Rattle.cedar_data.specs.Sound.{whats_at};
+ghost use Rattle.cedar_values.specs.Residuals.{residual_term};
+ghost use Rattle.cedar_values.specs.Sound.{whats_at};
 ghost use Rattle.cedar_layers.specs.Stores.{store_view, entity_view};
-ghost use Rattle.cedar_values.specs.Answers.{AnswersWith};
+ghost use Rattle.cedar_errors.specs.Answers.{AnswersWith};
 ghost use Rattle.cedar_operators.specs.Operands.{over, unknown_term};
 ghost use Rattle.cedar_operators.specs.Paths.{container_view, StepsTo};
 
@@ -25,11 +25,11 @@ use crate::residuals::{
 };
 use crate::store::no_such_entity;
 use crate::typed::bool_part;
+use cedar_errors::evaluator::err::EvaluationError;
 use cedar_layers::expressions::{
     EntityUID, FirstRest, Literal, Loc, PartialValue, ResidualExpr, Type, Unknown, Value, ValueKind,
 };
 use cedar_layers::policies::{Dereference, Entities, Entity};
-use cedar_values::evaluator::err::EvaluationError;
 use std::alloc::Global;
 use std::collections::BTreeMap;
 use std::rc::{Rc, RcStr};

@@ -3,7 +3,7 @@ ghost use Rattle.cedar_model.specs.Settings.{Setting};
 ghost use Rattle.cedar_model.specs.Operators.{binary_answer};
 ghost use Rattle.cedar_names.specs.Leaves.{binary_view};
 ghost use Rattle.cedar_layers.specs.Stores.{store_view};
-ghost use Rattle.cedar_values.specs.Answers.{AnswersWith};
+ghost use Rattle.cedar_errors.specs.Answers.{AnswersWith};
 ghost use Rattle.cedar_extensions.specs.Extensions.{extensions_view};
 ghost use Rattle.cedar_operators.specs.Operands.{given};
 
@@ -11,10 +11,10 @@ use crate::operators::{binary_arith, binary_relation};
 use crate::sets::{contains, contains_all, contains_any};
 use crate::store::{has_tag, is_in, tag_of};
 use crate::typed::as_part;
+use cedar_errors::evaluator::err::EvaluationError;
 use cedar_extensions::Extensions;
 use cedar_layers::expressions::{BinaryOp, Loc, PartialValue, Value};
 use cedar_layers::policies::Entities;
-use cedar_values::evaluator::err::EvaluationError;
 use std::alloc::Global;
 
 /// An operator on two values, over this store and with these extensions: what `binary_relation`, `binary_arith`,

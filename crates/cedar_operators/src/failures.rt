@@ -5,11 +5,11 @@ ghost use Rattle.cedar_model.specs.Failures as Failures;
 ghost use Rattle.cedar_model.specs.Failures.{wrong_type, residual_is_left};
 ghost use Rattle.cedar_names.specs.Leaves.{type_view};
 ghost use Rattle.cedar_expressions.specs.View.{view};
-ghost use Rattle.cedar_values.specs.Failures.{failure_of};
-ghost use Rattle.cedar_values.specs.Answers.{FailsWith};
+ghost use Rattle.cedar_errors.specs.Failures.{failure_of};
+ghost use Rattle.cedar_errors.specs.Answers.{FailsWith};
 
+use cedar_errors::evaluator::err::{EvaluationError, evaluation_errors};
 use cedar_layers::expressions::{EntityType, Expr, FirstRest, Loc, Name, Type, Value};
-use cedar_values::evaluator::err::{EvaluationError, evaluation_errors};
 use evaluation_errors::{NonValueError, TypeError};
 use std::alloc::{AllocError, Global};
 use std::rc::RcStr;

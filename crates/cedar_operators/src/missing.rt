@@ -6,12 +6,12 @@ ghost use Rattle.cedar_model.specs.Operators.{key_is_missing, shown_names, tag_i
 ghost use Rattle.cedar_names.specs.Names.{uid_name};
 ghost use Rattle.cedar_names.specs.Leaves.{texts_view};
 ghost use Rattle.cedar_layers.specs.Stores.{entity_view};
-ghost use Rattle.cedar_values.specs.Failures.{failure_of};
-ghost use Rattle.cedar_values.specs.Answers.{FailsWith};
+ghost use Rattle.cedar_errors.specs.Failures.{failure_of};
+ghost use Rattle.cedar_errors.specs.Answers.{FailsWith};
 
+use cedar_errors::evaluator::err::{EvaluationError, evaluation_errors};
 use cedar_layers::expressions::{EntityUID, Loc};
 use cedar_layers::policies::Entity;
-use cedar_values::evaluator::err::{EvaluationError, evaluation_errors};
 use evaluation_errors::{EntityAttrDoesNotExistError, RecordAttrDoesNotExistError};
 use std::alloc::{AllocError, Global};
 use std::collections::BTreeMap;

@@ -6,13 +6,13 @@ ghost use Rattle.cedar_model.specs.Terms.{neg_operator};
 ghost use Rattle.cedar_model.specs.Failures as Failures;
 ghost use Rattle.cedar_model.specs.Operators.{arithmetic_answer, unary_answer};
 ghost use Rattle.cedar_names.specs.Leaves.{binary_view};
-ghost use Rattle.cedar_values.specs.Failures.{failure_of};
-ghost use Rattle.cedar_values.specs.Answers.{Answers};
+ghost use Rattle.cedar_errors.specs.Failures.{failure_of};
+ghost use Rattle.cedar_errors.specs.Answers.{Answers};
 ghost use Rattle.cedar_operators.specs.Operands.{is_arithmetic, arithmetic_of};
 
 use crate::typed::{get_as_long, long_value};
+use cedar_errors::evaluator::err::{EvaluationError, evaluation_errors};
 use cedar_layers::expressions::{BinaryOp, Loc, UnaryOp, Value};
-use cedar_values::evaluator::err::{EvaluationError, evaluation_errors};
 use evaluation_errors::{BinaryOpOverflowError, IntegerOverflowError, UnaryOpOverflowError};
 use std::alloc::Global;
 

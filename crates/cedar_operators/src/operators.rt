@@ -5,16 +5,16 @@ ghost use Rattle.cedar_model.specs.Settings.{Setting};
 ghost use Rattle.cedar_model.specs.Operators.{unary_answer, binary_answer, like_answer, is_answer};
 ghost use Rattle.cedar_names.specs.Names.{type_text};
 ghost use Rattle.cedar_names.specs.Leaves.{unary_view, binary_view, pattern_view};
-ghost use Rattle.cedar_values.specs.Answers.{Answers};
+ghost use Rattle.cedar_errors.specs.Answers.{Answers};
 ghost use Rattle.cedar_extensions.specs.Extensions.{extensions_view};
 ghost use Rattle.cedar_operators.specs.Operands.{with_extensions, is_relation, is_arithmetic};
 
 use crate::numbers::{arithmetic, negated};
 use crate::order::order;
 use crate::typed::{bool_value, get_as_bool, get_as_entity, get_as_set, get_as_string};
+use cedar_errors::evaluator::err::EvaluationError;
 use cedar_extensions::Extensions;
 use cedar_layers::expressions::{BinaryOp, EntityType, Loc, Pattern, UnaryOp, Value};
-use cedar_values::evaluator::err::EvaluationError;
 use std::alloc::Global;
 
 /// An operator on one value: `!` of a boolean, `-` of a long, `isEmpty` of a set. A value of another type is a `TypeError` at the

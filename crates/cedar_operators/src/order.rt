@@ -3,16 +3,16 @@ ghost use Rattle.std.specs.Prelude.{◌≡◌, ◌≢◌, Some, None, IfOk, IfEr
 ghost use Rattle.cedar_model.specs.Values.{abstract_value};
 ghost use Rattle.cedar_model.specs.Outcomes.{long_of};
 ghost use Rattle.cedar_model.specs.Failures.{out_of_memory};
-ghost use Rattle.cedar_values.specs.Failures.{failure_of};
-ghost use Rattle.cedar_values.specs.Answers.{FailsWith};
+ghost use Rattle.cedar_errors.specs.Failures.{failure_of};
+ghost use Rattle.cedar_errors.specs.Answers.{FailsWith};
 ghost use Rattle.cedar_operators.specs.Orders.{compared_as, compared_in, ordering, ordering_failure};
 ghost use Rattle.cedar_operators.specs.Orders.{none_comparable, not_of_type};
 
 use crate::failures::type_error;
 use crate::typed::long_in;
+use cedar_errors::evaluator::err::{EvaluationError, evaluation_errors};
 use cedar_extensions::Extensions;
 use cedar_layers::expressions::{ExtensionValue, FirstRest, Type, Value, ValueKind};
-use cedar_values::evaluator::err::{EvaluationError, evaluation_errors};
 use evaluation_errors::TypeError;
 use std::alloc::{AllocError, Global};
 use std::cmp::Ordering;

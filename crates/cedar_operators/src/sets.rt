@@ -2,11 +2,11 @@
 ghost use Rattle.cedar_model.specs.Terms.{contains_operator, contains_all_operator, contains_any_operator};
 ghost use Rattle.cedar_model.specs.Settings.{Setting};
 ghost use Rattle.cedar_model.specs.Operators.{binary_answer};
-ghost use Rattle.cedar_values.specs.Answers.{Answers};
+ghost use Rattle.cedar_errors.specs.Answers.{Answers};
 
 use crate::typed::{bool_value, get_as_set};
+use cedar_errors::evaluator::err::EvaluationError;
 use cedar_layers::expressions::Value;
-use cedar_values::evaluator::err::EvaluationError;
 use std::alloc::Global;
 
 /// `a.contains(b)`: whether the set has an element that equals the value. A type error where it is no set.

@@ -10,18 +10,18 @@ ghost use Rattle.cedar_model.specs.Operators.{binary_answer, in_answer, in_found
 ghost use Rattle.cedar_names.specs.Names.{uid_name};
 ghost use Rattle.cedar_names.specs.Leaves.{binary_view};
 ghost use Rattle.cedar_layers.specs.Stores.{store_view, entity_view};
-ghost use Rattle.cedar_values.specs.Answers.{Answers, AnswersWith, FailsWith};
+ghost use Rattle.cedar_errors.specs.Answers.{Answers, AnswersWith, FailsWith};
 ghost use Rattle.cedar_operators.specs.Operands.{over, unknown_term, is_within, element_answer, right_answer, right_expected};
 
 use crate::failures::or_entity_expected;
 use crate::missing::no_such_tag;
 use crate::residuals::binary_of_unknown;
 use crate::typed::{as_part, bool_part, bool_value, get_as_entity, get_as_string};
+use cedar_errors::evaluator::err::{EvaluationError, evaluation_errors};
 use cedar_layers::expressions::{
     BinaryOp, EntityUID, Expr, Literal, Loc, PartialValue, Set, Type, Unknown, Value, ValueKind,
 };
 use cedar_layers::policies::{Dereference, Entities, Entity};
-use cedar_values::evaluator::err::{EvaluationError, evaluation_errors};
 use evaluation_errors::EntityDoesNotExistError;
 use std::alloc::Global;
 use std::rc::{Rc, RcStr};

@@ -9,8 +9,8 @@ ghost use Rattle.cedar_model.specs.Operators.{attribute_residual, attribute_resi
 ghost use Rattle.cedar_model.specs.Operators.{tag_residual_found, tag_residual_of, residual_in, container_of};
 ghost use Rattle.cedar_names.specs.Names.{uid_name};
 ghost use Rattle.cedar_names.specs.Leaves.{binary_view, texts_view};
-ghost use Rattle.cedar_data.specs.Residuals.{residual_term};
-ghost use Rattle.cedar_data.specs.Sound.{Placed};
+ghost use Rattle.cedar_values.specs.Residuals.{residual_term};
+ghost use Rattle.cedar_values.specs.Sound.{Placed};
 ghost use Rattle.cedar_layers.specs.Parts.{found_part};
 ghost use Rattle.cedar_layers.specs.Stores.{store_view};
 ghost use Rattle.cedar_operators.specs.StoredResiduals.{residual_of, on_path_of, path_residual_of, path_residual};

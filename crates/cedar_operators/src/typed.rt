@@ -10,14 +10,14 @@ ghost use Rattle.cedar_names.specs.Names.{uid_name};
 ghost use Rattle.cedar_names.specs.declared.names.EntityUID.{EntityUID};
 ghost use Rattle.std.specs.declared.rc.Rc.{Rc};
 ghost use Rattle.std.specs.declared.alloc.Global.{Global};
-ghost use Rattle.cedar_data.specs.Residuals.{partial_view};
-ghost use Rattle.cedar_data.specs.Sound.{Elements};
-ghost use Rattle.cedar_values.specs.Failures.{failure_of};
-ghost use Rattle.cedar_values.specs.Answers.{value_answer, partial_answer, FailsWith};
+ghost use Rattle.cedar_values.specs.Residuals.{partial_view};
+ghost use Rattle.cedar_values.specs.Sound.{Elements};
+ghost use Rattle.cedar_errors.specs.Failures.{failure_of};
+ghost use Rattle.cedar_errors.specs.Answers.{value_answer, partial_answer, FailsWith};
 
 use crate::failures::{entity_expected, type_error};
+use cedar_errors::evaluator::err::EvaluationError;
 use cedar_layers::expressions::{EntityUID, Literal, PartialValue, Set, Type, Value, ValueKind};
-use cedar_values::evaluator::err::EvaluationError;
 use std::alloc::Global;
 use std::rc::{Rc, RcStr};
 

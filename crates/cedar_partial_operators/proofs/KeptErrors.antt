@@ -3,11 +3,11 @@ use Rattle.std.proofs.Common.{◌≡◌, true, false, refl}
 use Rattle.cedar_model.specs.Terms.{Term}
 use Rattle.cedar_model.specs.Failures.{Failure, FailureKind, of_meaning, of_residual, of_limit, of_memory, failure_kind}
 use Rattle.cedar_model.specs.Rules.{best_of_kind, kept, handed_up}
-use Rattle.cedar_values.specs.declared.extensions.ExtensionFunctionLookupError.{ExtensionFunctionLookupError}
-use Rattle.cedar_values.specs.declared.extensions.ExtensionFunctionLookupError.TheVariants as lookups
-use Rattle.cedar_values.specs.declared.evaluator.err.evaluation_errors.IntegerOverflowError.{IntegerOverflowError}
-use Rattle.cedar_values.specs.declared.evaluator.err.evaluation_errors.IntegerOverflowError.TheVariants as overflows
-use Rattle.cedar_values.specs.Failures.{lookup_failure, overflow_failure}
+use Rattle.cedar_errors.specs.declared.extensions.ExtensionFunctionLookupError.{ExtensionFunctionLookupError}
+use Rattle.cedar_errors.specs.declared.extensions.ExtensionFunctionLookupError.TheVariants as lookups
+use Rattle.cedar_errors.specs.declared.evaluator.err.evaluation_errors.IntegerOverflowError.{IntegerOverflowError}
+use Rattle.cedar_errors.specs.declared.evaluator.err.evaluation_errors.IntegerOverflowError.TheVariants as overflows
+use Rattle.cedar_errors.specs.Failures.{lookup_failure, overflow_failure}
 use Rattle.cedar_partial_operators.specs.Parts.{is_handed_up}
 
 pub keeps : (k : FailureKind) (e : Failure) (t : Term) → is_handed_up k ≡ false → best_of_kind k e t ≡ kept t

@@ -10,9 +10,9 @@ use Rattle.cedar_model.specs.Operators.{attribute_answer, term_at, field_names, 
 use Rattle.cedar_model.specs.Rules.{MayAnswer, Best, kept, handed_up, fields_of_record}
 use Rattle.cedar_expressions.specs.declared.expr.Expr.{Expr}
 use Rattle.cedar_expressions.specs.View.{view}
-use Rattle.cedar_values.specs.Answers.{partial_answer}
-use Rattle.cedar_values.specs.declared.evaluator.err.EvaluationError.{EvaluationError}
-use Rattle.cedar_values.specs.Failures.{failure_of}
+use Rattle.cedar_errors.specs.Answers.{partial_answer}
+use Rattle.cedar_errors.specs.declared.evaluator.err.EvaluationError.{EvaluationError}
+use Rattle.cedar_errors.specs.Failures.{failure_of}
 use Rattle.cedar_partial_operators.specs.declared.attributes.Projected.{Projected}
 use Rattle.cedar_partial_operators.specs.declared.attributes.Projected.TheVariants as projections
 

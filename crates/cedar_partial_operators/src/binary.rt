@@ -8,19 +8,19 @@ ghost use Rattle.cedar_model.specs.Rules as Rules;
 ghost use Rattle.cedar_model.specs.Rules.{kept_binary, differ_by_type, are_apart, entity_type_of};
 ghost use Rattle.cedar_names.specs.Leaves.{binary_view};
 ghost use Rattle.cedar_expressions.specs.View.{view};
-ghost use Rattle.cedar_data.specs.Residuals.{partial_view};
+ghost use Rattle.cedar_values.specs.Residuals.{partial_view};
 ghost use Rattle.cedar_layers.specs.Stores.{store_view};
-ghost use Rattle.cedar_values.specs.Answers.{AnswersWith};
+ghost use Rattle.cedar_errors.specs.Answers.{AnswersWith};
 ghost use Rattle.cedar_extensions.specs.Extensions.{extensions_view};
 ghost use Rattle.cedar_operators.specs.Operands.{given};
 
 use crate::shapes::type_in_part;
+use cedar_errors::evaluator::err::EvaluationError;
 use cedar_extensions::Extensions;
 use cedar_layers::expressions::{BinaryOp, Expr, Loc, PartialValue, ResidualExpr};
 use cedar_layers::policies::Entities;
 use cedar_operators::binary::binary_app;
 use cedar_operators::typed::bool_part;
-use cedar_values::evaluator::err::EvaluationError;
 use std::alloc::{AllocError, Global};
 
 /// An operator on two parts: of two values as `binary_app` answers; where one is a residual, the operator around both

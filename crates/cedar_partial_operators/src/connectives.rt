@@ -7,17 +7,17 @@ ghost use Rattle.cedar_model.specs.Failures.{answers, answers_residual, failure_
 ghost use Rattle.cedar_model.specs.Rules as Rules;
 ghost use Rattle.cedar_model.specs.Rules.{joined, bool_or_failure, best_of_kind};
 ghost use Rattle.cedar_expressions.specs.View.{view};
-ghost use Rattle.cedar_data.specs.Residuals.{partial_view, residual_term};
-ghost use Rattle.cedar_values.specs.Answers.{partial_answer, AnswersWith};
-ghost use Rattle.cedar_values.specs.Failures.{failure_of};
+ghost use Rattle.cedar_values.specs.Residuals.{partial_view, residual_term};
+ghost use Rattle.cedar_errors.specs.Answers.{partial_answer, AnswersWith};
+ghost use Rattle.cedar_errors.specs.Failures.{failure_of};
 ghost use Rattle.cedar_partial_operators.specs.Parts.{IsBest, is_handed_up};
 
 use crate::binary::into_expr;
 use crate::residuals::{false_or_residual, true_and_residual};
+use cedar_errors::evaluator::err::EvaluationError;
 use cedar_layers::expressions::{Expr, PartialValue, ResidualExpr, Type, Value};
 use cedar_operators::failures::type_error;
 use cedar_operators::typed::{bool_in, bool_part};
-use cedar_values::evaluator::err::EvaluationError;
 use std::alloc::Global;
 
 /// `true && part`: a boolean as it is, a `TypeError` that expects one for another value, and `true && part` itself of

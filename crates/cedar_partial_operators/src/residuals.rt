@@ -4,13 +4,13 @@ ghost use Rattle.cedar_model.specs.Terms.{unary, both, either, literal, bool_lit
 ghost use Rattle.cedar_model.specs.Failures.{answers_residual};
 ghost use Rattle.cedar_names.specs.Names.{type_text};
 ghost use Rattle.cedar_names.specs.Leaves.{unary_view, pattern_view};
-ghost use Rattle.cedar_data.specs.Residuals.{residual_term};
-ghost use Rattle.cedar_values.specs.Answers.{AnswersWith};
+ghost use Rattle.cedar_values.specs.Residuals.{residual_term};
+ghost use Rattle.cedar_errors.specs.Answers.{AnswersWith};
 
+use cedar_errors::evaluator::err::EvaluationError;
 use cedar_layers::expressions::{
     EntityType, Expr, Literal, PartialValue, Pattern, ResidualExpr, UnaryOp,
 };
-use cedar_values::evaluator::err::EvaluationError;
 use std::alloc::{AllocError, Global};
 
 // The operator on the residual.

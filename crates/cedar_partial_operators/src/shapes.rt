@@ -6,7 +6,7 @@ ghost use Rattle.cedar_model.specs.Rules.{fields_of_record, entity_type_of_resid
 ghost use Rattle.cedar_names.specs.Names.{type_text};
 ghost use Rattle.cedar_names.specs.Leaves.{type_view};
 ghost use Rattle.cedar_expressions.specs.View.{view, fields_view};
-ghost use Rattle.cedar_data.specs.Residuals.{partial_view};
+ghost use Rattle.cedar_values.specs.Residuals.{partial_view};
 
 use cedar_layers::expressions::{EntityType, Expr, ExprKind, PartialValue, Type, Unknown};
 use cedar_operators::typed::entity_in;

@@ -5,15 +5,15 @@ ghost use Rattle.cedar_model.specs.Operators.{unary_answer, like_answer};
 ghost use Rattle.cedar_model.specs.Rules.{on_part, is_part, is_annotated, entity_type_of_residual};
 ghost use Rattle.cedar_names.specs.Names.{type_text};
 ghost use Rattle.cedar_names.specs.Leaves.{unary_view, pattern_view};
-ghost use Rattle.cedar_data.specs.Residuals.{partial_view, residual_term};
-ghost use Rattle.cedar_values.specs.Answers.{AnswersWith};
+ghost use Rattle.cedar_values.specs.Residuals.{partial_view, residual_term};
+ghost use Rattle.cedar_errors.specs.Answers.{AnswersWith};
 
 use crate::residuals::{residual_is, residual_like, residual_unary};
 use crate::shapes::type_in_residual;
+use cedar_errors::evaluator::err::EvaluationError;
 use cedar_layers::expressions::{EntityType, Loc, PartialValue, Pattern, ResidualExpr, UnaryOp};
 use cedar_operators::operators::{is_of_type, likeness, unary_app};
 use cedar_operators::typed::{as_part, bool_part};
-use cedar_values::evaluator::err::EvaluationError;
 use std::alloc::Global;
 
 /// An operator on one part: of a value as `unary_app` answers, of a residual the operator around it. The result is at

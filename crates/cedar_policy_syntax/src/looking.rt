@@ -1,4 +1,4 @@
-//! Tokens by their numbers.
+//! Tokens by their numbers: their kinds and places, and whether one can be an identifier.
 ghost use Rattle.std.specs.Prelude.{◌≡◌, ◌+◌, ◌<◌, length, IfOk, IfErr, IfSome, ℕ, true};
 ghost use Prim.Native.Nat.{max};
 ghost use Rattle.cedar_tokens.specs.Kinds as Kinds;

@@ -1,4 +1,4 @@
-//! Policies as steps.
+//! A policy as it is read: its annotations and effect, and the steps of its constraints and its condition.
 ghost use Rattle.std.specs.Prelude.{◌≡◌, ◌<◌, length, [], IfOk, IfErr, Some};
 ghost use Rattle.cedar_syntax.specs.Places.{IsPlaced};
 ghost use Rattle.cedar_syntax.specs.Tokens as Tokens;

@@ -11,8 +11,8 @@ use Rattle.cedar_model.specs.Depth.{substituted_height}
 use Rattle.cedar_model.specs.Refusals.{Refusal, value_is_wrong, is_there_already, context_fails, context_by}
 use Rattle.cedar_model.specs.Refusals.{context_beside, no_record, concrete_context}
 use Rattle.cedar_model.specs.Chains.{Mapping, SubstitutesTo}
-use Rattle.cedar_values.specs.declared.evaluator.err.EvaluationError.{EvaluationError}
-use Rattle.cedar_values.specs.Failures.{failure_of}
+use Rattle.cedar_errors.specs.declared.evaluator.err.EvaluationError.{EvaluationError}
+use Rattle.cedar_errors.specs.Failures.{failure_of}
 use Rattle.cedar_requests.specs.declared.context.Context.{Context}
 use Rattle.cedar_requests.specs.declared.context.pairs.ContextPairs.{ContextPairs}
 use Rattle.cedar_requests.specs.declared.context.pairs.ContextPairs.TheVariants as kinds

@@ -6,12 +6,12 @@ use Rattle.cedar_model.specs.Refusals.{Refusal, mode_is_other, id_comes_again, v
 use Rattle.cedar_model.specs.Refusals.{type_is_other, context_fails}
 use Rattle.cedar_decisions.specs.Decisions.{mode_view}
 use Rattle.cedar_names.specs.Names.{type_text}
-use Rattle.cedar_data.specs.Residuals.{partial_view}
+use Rattle.cedar_values.specs.Residuals.{partial_view}
 use Rattle.cedar_layers.specs.declared.policies.policy_set.PolicySetError.{PolicySetError}
 use Rattle.cedar_layers.specs.declared.policies.policy_set.PolicySetError.TheVariants as sets
 use Rattle.cedar_layers.specs.PolicySets.{occupied_id}
-use Rattle.cedar_values.specs.declared.evaluator.err.EvaluationError.{EvaluationError}
-use Rattle.cedar_values.specs.Failures.{failure_of}
+use Rattle.cedar_errors.specs.declared.evaluator.err.EvaluationError.{EvaluationError}
+use Rattle.cedar_errors.specs.Failures.{failure_of}
 use Rattle.cedar_reauthorization.specs.declared.err.ConcretizationError.{ConcretizationError}
 use Rattle.cedar_reauthorization.specs.declared.err.ConcretizationError.TheVariants as concretizations
 use Rattle.cedar_reauthorization.specs.declared.err.ReauthorizationError.{ReauthorizationError}

@@ -4,11 +4,11 @@ ghost use Rattle.cedar_reauthorization.specs.Errors.{IsValueRefusal, IsPolicyRef
 ghost use Rattle.cedar_reauthorization.specs.declared.err.ConcretizationError.TheVariants as concretizations;
 ghost use Rattle.cedar_reauthorization.specs.declared.err.ReauthorizationError.TheVariants as reauthorizations;
 
-use cedar_data::{PartialValue, Value};
 use cedar_decisions::ErrorHandling;
+use cedar_errors::evaluator::err::EvaluationError;
 use cedar_layers::policies::PolicySetError;
 use cedar_names::EntityType;
-use cedar_values::evaluator::err::EvaluationError;
+use cedar_values::{PartialValue, Value};
 use std::alloc::{AllocError, AllocFailed};
 use std::rc::RcStr;
 use thiserror::Error;

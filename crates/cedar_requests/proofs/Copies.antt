@@ -8,7 +8,7 @@ use Rattle.cedar_model.specs.Values.{one_represented_at}
 use Rattle.cedar_expressions.specs.declared.expr.Expr.{Expr}
 use Rattle.cedar_expressions.specs.View.{view, fields_view, expr_loc}
 use Rattle.cedar_expressions.specs.Nodes.{parts_of}
-use Rattle.cedar_data.specs.Sound.{Placed, whats_at}
+use Rattle.cedar_values.specs.Sound.{Placed, whats_at}
 
 abbrev pub ValuePair : Type 0
 ValuePair = RcStr Global × Placed

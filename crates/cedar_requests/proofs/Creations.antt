@@ -10,9 +10,9 @@ use Rattle.cedar_model.specs.World as world
 use Rattle.cedar_names.specs.declared.names.Loc.{Loc}
 use Rattle.cedar_expressions.specs.declared.expr.Expr.{Expr}
 use Rattle.cedar_expressions.specs.Records.{first_repeated, keys_view}
-use Rattle.cedar_values.specs.Failures.{failure_of}
-use Rattle.cedar_values.specs.declared.evaluator.err.EvaluationError.{EvaluationError}
-use Rattle.cedar_restricted.specs.Evaluations.{IsBare, bare, IsAnswerWithin}
+use Rattle.cedar_errors.specs.Failures.{failure_of}
+use Rattle.cedar_errors.specs.declared.evaluator.err.EvaluationError.{EvaluationError}
+use Rattle.cedar_restricted_evaluator.specs.Evaluations.{IsBare, bare, IsAnswerWithin}
 use Rattle.cedar_requests.specs.declared.context.Context.{Context}
 use Rattle.cedar_requests.specs.declared.errors.ContextCreationError.{ContextCreationError}
 use Rattle.cedar_requests.specs.declared.errors.ContextCreationError.TheVariants as refusals

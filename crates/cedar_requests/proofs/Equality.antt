@@ -10,9 +10,9 @@ use Rattle.cedar_names.proofs.Equality.{then_eq, text_eq-bytes}
 use Rattle.cedar_expressions.specs.View.{view, fields_view}
 use Rattle.cedar_expressions.proofs.Equality.{term_eq-record_of, fields_eq-none, fields_eq-more, fields_eq-less}
 use Rattle.cedar_expressions.proofs.Equality.{fields_eq-one}
-use Rattle.cedar_data.specs.Compared.{represented_cmp, represented_eq, entries_cmp}
-use Rattle.cedar_data.specs.Sound.{whats_at}
-use Rattle.cedar_data.proofs.Order.{key_cmp-entries}
+use Rattle.cedar_values.specs.Compared.{represented_cmp, represented_eq, entries_cmp}
+use Rattle.cedar_values.specs.Sound.{whats_at}
+use Rattle.cedar_values.proofs.Order.{key_cmp-entries}
 use Rattle.cedar_requests.proofs.Copies.{ValuePair, ExprPair}
 
 and_assoc : (a b c : Bool) → ((a && b) && c) ≡ (a && (b && c))

@@ -1,6 +1,7 @@
 pub mod Copies
 pub mod Equality
 pub mod Names
+pub mod Named
 pub mod Records
 pub mod Creations
 pub mod Substituting

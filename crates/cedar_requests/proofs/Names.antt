@@ -2,7 +2,7 @@
 use Rattle.std.proofs.Common.{◌≡◌, List, [], ◌∷◌, length, refl, ap, suc}
 use Rattle.cedar_model.specs.Operators.{represented_names, field_names}
 use Rattle.cedar_expressions.specs.View.{fields_view}
-use Rattle.cedar_data.specs.Sound.{whats_at}
+use Rattle.cedar_values.specs.Sound.{whats_at}
 use Rattle.cedar_requests.proofs.Copies.{ValuePair, ExprPair}
 
 pub represented_names-count : (fs : List ValuePair) → length (represented_names (whats_at fs)) ≡ length fs

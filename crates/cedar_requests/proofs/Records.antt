@@ -13,7 +13,7 @@ use Rattle.cedar_model.specs.Rules.{StoredCalls, Runs, fields_of_record, fields_
 use Rattle.cedar_model.specs.Rules.{record_of_parts}
 use Rattle.cedar_model.specs.Rules.{values_of_field_parts}
 use Rattle.cedar_expressions.specs.View.{fields_view}
-use Rattle.cedar_data.specs.Sound.{whats_at}
+use Rattle.cedar_values.specs.Sound.{whats_at}
 use Rattle.cedar_requests.specs.Contexts.{ValueMap, ExprMap}
 use Rattle.cedar_requests.specs.Creations.{is_record, IsRecordPart}
 use Rattle.cedar_requests.proofs.Copies.{IsCopy, IsExprCopy, whats_at-copied, fields_view-copied}

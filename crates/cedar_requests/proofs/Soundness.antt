@@ -9,7 +9,7 @@ use Rattle.cedar_model.specs.Outcomes.{text_eq}
 use Rattle.cedar_model.specs.Values.{Represented, expression_of}
 use Rattle.cedar_model.specs.Shapes.{is_restricted}
 use Rattle.cedar_model.specs.Restricted.{IsSound, IsSoundContext}
-use Rattle.cedar_data.specs.Sound.{Placed, AreSoundAt-whats_at, restricted-from_sound}
+use Rattle.cedar_values.specs.Sound.{Placed, AreSoundAt-whats_at, restricted-from_sound}
 use Rattle.cedar_requests.specs.declared.context.Context.{Context}
 use Rattle.cedar_requests.specs.declared.context.pairs.ContextPairs.{ContextPairs}
 use Rattle.cedar_requests.specs.declared.context.pairs.ContextPairs.TheVariants as kinds

@@ -18,9 +18,9 @@ use Rattle.cedar_model.specs.Refusals.{IsContext, context_fails}
 use Rattle.cedar_model.specs.Restricted.{IsSound}
 use Rattle.cedar_model.specs.Chains.{Mapping, substituted, substituted_at, without_map}
 use Rattle.cedar_model.proofs.RestrictedAnswers.{substituted_at_restricted}
-use Rattle.cedar_data.specs.Sound.{Placed}
-use Rattle.cedar_values.specs.declared.evaluator.err.EvaluationError.{EvaluationError}
-use Rattle.cedar_values.specs.Failures.{failure_of}
+use Rattle.cedar_values.specs.Sound.{Placed}
+use Rattle.cedar_errors.specs.declared.evaluator.err.EvaluationError.{EvaluationError}
+use Rattle.cedar_errors.specs.Failures.{failure_of}
 use Rattle.cedar_requests.specs.declared.context.Context.{Context}
 use Rattle.cedar_requests.specs.declared.context.pairs.ContextPairs.{ContextPairs}
 use Rattle.cedar_requests.specs.declared.context.pairs.ContextPairs.TheVariants as kinds

@@ -3,7 +3,7 @@ use Rattle.std.proofs.Common.{◌≡◌, None, refl}
 use Rattle.cedar_model.specs.Terms.{record_of}
 use Rattle.cedar_model.specs.Settings.{context_value}
 use Rattle.cedar_names.specs.Texts.{shown}
-use Rattle.cedar_data.specs.Residuals.{partial_term}
+use Rattle.cedar_values.specs.Residuals.{partial_term}
 use Rattle.cedar_requests.specs.declared.context.pairs.ContextPairs.{ContextPairs}
 use Rattle.cedar_requests.specs.declared.context.pairs.ContextPairs.TheVariants as kinds
 use Rattle.cedar_requests.specs.Contexts.{pairs_view, pairs_terms}

@@ -11,8 +11,8 @@ use Rattle.cedar_model.specs.Settings.{ContextPart, absent_context, known_contex
 use Rattle.cedar_names.specs.declared.names.Loc.{Loc}
 use Rattle.cedar_expressions.specs.declared.expr.Expr.{Expr}
 use Rattle.cedar_expressions.specs.View.{fields_view, expr_loc}
-use Rattle.cedar_data.specs.Compared.{partial_eq}
-use Rattle.cedar_data.specs.Sound.{Placed, whats_at}
+use Rattle.cedar_values.specs.Compared.{partial_eq}
+use Rattle.cedar_values.specs.Sound.{Placed, whats_at}
 use Rattle.cedar_requests.specs.declared.context.Context.{Context}
 use Rattle.cedar_requests.specs.declared.context.pairs.ContextPairs.{ContextPairs}
 use Rattle.cedar_requests.specs.declared.context.pairs.ContextPairs.TheVariants as kinds

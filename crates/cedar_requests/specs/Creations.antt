@@ -17,8 +17,8 @@ use Rattle.cedar_expressions.specs.declared.errors.ExpressionConstructionError.{
 use Rattle.cedar_expressions.specs.declared.errors.ExpressionConstructionError.TheVariants as constructions
 use Rattle.cedar_expressions.specs.Records.{first_repeated, fields_in_order, pairs_view, keys_view}
 use Rattle.cedar_expressions.specs.View.{view}
-use Rattle.cedar_values.specs.Failures.{failure_of}
-use Rattle.cedar_restricted.specs.Evaluations.{IsBare, IsAnswerWithin}
+use Rattle.cedar_errors.specs.Failures.{failure_of}
+use Rattle.cedar_restricted_evaluator.specs.Evaluations.{IsBare, IsAnswerWithin}
 use Rattle.cedar_requests.specs.declared.context.Context.{Context}
 use Rattle.cedar_requests.specs.declared.errors.ContextCreationError.{ContextCreationError}
 use Rattle.cedar_requests.specs.declared.errors.ContextCreationError.TheVariants as refusals

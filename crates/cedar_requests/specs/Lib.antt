@@ -1,4 +1,5 @@
 pub mod Contexts
+pub mod Named
 pub mod LeftPairs
 pub mod ContextFields
 pub mod RequestFields

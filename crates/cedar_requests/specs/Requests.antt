@@ -10,9 +10,9 @@ use Rattle.cedar_names.specs.declared.types.«Type».{«Type» as RType}
 use Rattle.cedar_names.specs.declared.types.«Type».TheVariants as types
 use Rattle.cedar_expressions.specs.Nodes as node
 use Rattle.cedar_expressions.specs.Nodes.{Node, node_of}
-use Rattle.cedar_data.specs.declared.partial_value.PartialValue.{PartialValue}
-use Rattle.cedar_data.specs.declared.partial_value.PartialValue.TheVariants as partials
-use Rattle.cedar_data.specs.Residuals.{partial_loc, residual_expr}
+use Rattle.cedar_values.specs.declared.partial_value.PartialValue.{PartialValue}
+use Rattle.cedar_values.specs.declared.partial_value.PartialValue.TheVariants as partials
+use Rattle.cedar_values.specs.Residuals.{partial_loc, residual_expr}
 use Rattle.cedar_requests.specs.declared.context.Context.{Context}
 use Rattle.cedar_requests.specs.declared.entry.EntityUIDEntry.{EntityUIDEntry}
 use Rattle.cedar_requests.specs.declared.entry.EntityUIDEntry.TheVariants.{Known, Unknown}

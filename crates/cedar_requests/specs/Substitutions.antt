@@ -1,9 +1,8 @@
 -- What is answered where values are put into a context, against the model's steps.
-use Rattle.std.specs.Prelude.{◌≡◌, ◌≢◌, ℕ, List, Some, Result, Ok, Err, IfOk}
+use Rattle.std.specs.Prelude.{◌≡◌, ◌≢◌, ℕ, List, Result, Ok, Err, IfOk}
 use Rattle.std.specs.declared.alloc.Global.{Global}
 use Rattle.std.specs.declared.rc.RcStr.{RcStr}
-use Rattle.cedar_model.specs.Terms.{Text, record_of}
-use Rattle.cedar_model.specs.Values.{Represented}
+use Rattle.cedar_model.specs.Terms.{record_of}
 use Rattle.cedar_model.specs.World.{World, Functions}
 use Rattle.cedar_model.specs.World as world
 use Rattle.cedar_model.specs.Failures.{out_of_memory, Answer, answers, fails}
@@ -15,10 +14,10 @@ use Rattle.cedar_model.specs.Headline.{CompletesMap}
 use Rattle.cedar_model.specs.Refusals.{Refusal, context_fails}
 use Rattle.cedar_model.specs.Chains.{Mapping, substituted_at, SubstitutesTo}
 use Rattle.cedar_expressions.specs.Mappings.{mapping_of}
-use Rattle.cedar_data.specs.Sound.{Placed}
-use Rattle.cedar_values.specs.declared.evaluator.err.EvaluationError.{EvaluationError}
-use Rattle.cedar_values.specs.Failures.{failure_of}
-use Rattle.cedar_restricted.specs.Evaluations.{IsBare, IsAnswerWithin}
+use Rattle.cedar_values.specs.Sound.{Placed}
+use Rattle.cedar_errors.specs.declared.evaluator.err.EvaluationError.{EvaluationError}
+use Rattle.cedar_errors.specs.Failures.{failure_of}
+use Rattle.cedar_restricted_evaluator.specs.Evaluations.{IsBare, IsAnswerWithin}
 use Rattle.cedar_requests.specs.declared.context.Context.{Context}
 use Rattle.cedar_requests.specs.Contexts.{context_view, context_part_value}
 

@@ -1,4 +1,4 @@
-//! What is held while something else is asked for.
+//! One thing that is held while another is asked for: both, or the error of the other.
 ghost use Rattle.std.specs.Prelude.{◌≡◌, Ok, IfOk};
 
 use std::alloc::AllocError;

@@ -5,13 +5,14 @@ mod conversions;
 mod copies;
 mod creation;
 mod equality;
+mod named;
 pub(crate) mod pairs;
 mod substitution;
 mod texts;
 mod walk;
 
-use cedar_data::Value;
 use cedar_expressions::Expr;
+use cedar_values::Value;
 use pairs::ContextPairs;
 use std::alloc::Global;
 use std::collections::BTreeMap;
@@ -30,7 +31,7 @@ pub struct Context {
 impl Model for Context {
     ghost use Rattle.std.specs.Coded.{codes};
     ghost use Rattle.std_collections.specs.Layout.BTreeMap.{btree_map_code};
-    ghost use Rattle.cedar_data.specs.Sound.{placed_code};
+    ghost use Rattle.cedar_values.specs.Sound.{placed_code};
     ghost use Rattle.cedar_requests.specs.contracts.context.pairs.ResidualPairs as residuals;
     ghost use Rattle.cedar_requests.specs.ContextFields.{ContextFields};
 
@@ -48,9 +49,8 @@ impl Context {
     ghost use Rattle.cedar_model.specs.Settings.{known_context};
     ghost use Rattle.cedar_model.specs.Shapes.{are_restricted_at, have_unknown_at};
     ghost use Rattle.cedar_expressions.specs.View.{fields_view};
-    ghost use Rattle.cedar_data.specs.Sound.{whats_at};
+    ghost use Rattle.cedar_values.specs.Sound.{whats_at};
     ghost use Rattle.cedar_requests.specs.Contexts.{context_view, context_keys, context_values, context_residual};
-    ghost use Rattle.cedar_requests.specs.Contexts.{context_pairs};
 
     /// The context with no attribute. It takes no memory.
     pub fn empty(alloc: Global) -> Context
@@ -98,12 +98,5 @@ impl Context {
             ContextPairs::Values(_) => None,
             ContextPairs::Residual(residual) => Some(residual.as_map()),
         }
-    }
-
-    /// The attributes, by value: values, or the expressions of a residual.
-    pub fn into_pairs(self) -> ContextPairs
-        ensures { result ≡ context_pairs self }
-    {
-        self.pairs
     }
 }

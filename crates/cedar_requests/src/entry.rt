@@ -2,8 +2,8 @@
 ghost use Rattle.std.specs.Prelude.{◌≡◌, None, Some, option_copied, option_map, IfOk};
 
 use crate::variables::{known_part, unknown_part};
-use cedar_data::PartialValue;
 use cedar_names::{EntityType, EntityUID, Loc, Var};
+use cedar_values::PartialValue;
 use std::alloc::{AllocError, Global};
 
 /// The entity that stands for a variable of the request: a known one, or one that is not known yet.
@@ -26,7 +26,7 @@ impl EntityUIDEntry {
     ghost use Rattle.cedar_names.specs.Names.{type_text, uid_name};
     ghost use Rattle.cedar_names.specs.Leaves.{variable_view};
     ghost use Rattle.cedar_names.specs.Texts.{variable_text};
-    ghost use Rattle.cedar_data.specs.Residuals.{partial_view, partial_loc};
+    ghost use Rattle.cedar_values.specs.Residuals.{partial_view, partial_loc};
     ghost use Rattle.cedar_requests.specs.declared.entry.EntityUIDEntry.TheVariants.{Known, Unknown};
     ghost use Rattle.cedar_requests.specs.Requests.{entry_view, entry_uid, entry_entity_type, entry_loc};
     ghost use Rattle.cedar_requests.specs.Requests.{entry_name, entry_type, entry_annotation, partial_annotation};

@@ -3,8 +3,8 @@ ghost use Rattle.std.specs.Prelude.{◌≡◌, alloc_error};
 ghost use Rattle.cedar_requests.specs.Errors.{IsEvaluationRefusal, construction_refusal};
 ghost use Rattle.cedar_requests.specs.declared.errors.ContextCreationError.TheVariants.{NotARecord, Memory};
 
+use cedar_errors::evaluator::err::EvaluationError;
 use cedar_expressions::ExpressionConstructionError;
-use cedar_values::evaluator::err::EvaluationError;
 use std::alloc::{AllocError, AllocFailed};
 use thiserror::Error;
 

@@ -10,7 +10,7 @@ ghost use Rattle.cedar_requests.specs.Substitutions.{values_for};
 
 use crate::context::Context;
 use crate::request::Request;
-use cedar_data::Value;
+use cedar_values::Value;
 use std::collections::HashMap;
 use std::rc::RcStr;
 

@@ -7,7 +7,6 @@ mod entry;
 mod errors;
 pub mod laws;
 mod request;
-pub mod shared;
 mod variables;
 
 pub use context::{Context, IntoIter};

@@ -1,4 +1,4 @@
-//! Requests.
+//! Requests: three entries and a context, each of which may be unknown.
 ghost use Rattle.std.specs.Prelude.{◌≡◌, Some, option_copied};
 
 mod copies;
@@ -47,7 +47,7 @@ impl Model for Request {
 
 impl Request {
     ghost use Rattle.cedar_model.specs.Settings.{known_entry};
-    ghost use Rattle.cedar_names.specs.Names.{uid_name};
+    ghost use Rattle.cedar_names.specs.Names.{uid_name, uid_loc};
     ghost use Rattle.cedar_requests.specs.declared.entry.EntityUIDEntry.TheVariants.{Known};
     ghost use Rattle.cedar_requests.specs.Requests.{entry_view, context_given, request_view, request_parts};
     ghost use Rattle.cedar_requests.specs.Contexts.{context_view};
@@ -72,6 +72,34 @@ impl Request {
             principal: EntityUIDEntry::known(principal.0, principal.1),
             action: EntityUIDEntry::known(action.0, action.1),
             resource: EntityUIDEntry::known(resource.0, resource.1),
+            context: Some(context),
+        }
+    }
+
+    /// The request of these entities, each named where its uid is, in this context. It takes no memory.
+    pub fn of(
+        principal: EntityUID,
+        action: EntityUID,
+        resource: EntityUID,
+        context: Context,
+    ) -> Request
+        ensures view { request_view result ≡ record {
+          principal_entry = known_entry (uid_name principal);
+          action_entry = known_entry (uid_name action);
+          resource_entry = known_entry (uid_name resource);
+          context_part = context_view context;
+        } }
+        ensures parts { request_parts result ≡ (
+          Known principal (uid_loc principal),
+          Known action (uid_loc action),
+          Known resource (uid_loc resource),
+          Some context,
+        ) }
+    {
+        Request {
+            principal: EntityUIDEntry::from(principal),
+            action: EntityUIDEntry::from(action),
+            resource: EntityUIDEntry::from(resource),
             context: Some(context),
         }
     }

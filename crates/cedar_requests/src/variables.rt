@@ -8,20 +8,23 @@ ghost use Rattle.cedar_model.specs.Settings.{type_annotation, context_value};
 ghost use Rattle.cedar_names.specs.Names.{type_text, uid_name};
 ghost use Rattle.cedar_names.specs.Leaves.{type_view, variable_view};
 ghost use Rattle.cedar_names.specs.Texts.{variable_text};
-ghost use Rattle.cedar_data.specs.Residuals.{partial_view, partial_loc};
+ghost use Rattle.cedar_values.specs.Residuals.{partial_view, partial_loc};
 ghost use Rattle.cedar_requests.specs.Requests.{context_given, annotated_type, partial_annotation};
 
 use crate::context::Context;
-use cedar_data::{PartialValue, ResidualExpr, Value, ValueKind};
 use cedar_expressions::Expr;
 use cedar_names::{EntityType, EntityUID, Literal, Loc, Type, Unknown, Var};
+use cedar_values::{PartialValue, ResidualExpr, Value, ValueKind};
 use std::alloc::{AllocError, Global};
 use std::rc::{Rc, RcStr};
 
-/// What the variable `context` answers: the record of the context, or the untyped unknown `context` where there is
-/// none. It is at no location. Refuses only for want of memory.
+// What the variable `context` answers: the record of the context, or the untyped unknown `context` where there is
+// none. It is at no location. Refuses only for want of memory.
 #[tactic(auto, unfolding(cedar_model::specs::Settings::context_value, cedar_model::specs::Settings::type_annotation))]
-pub fn context_part(alloc: Global, context: Option<Context>) -> Result<PartialValue, AllocError>
+pub(crate) fn context_part(
+    alloc: Global,
+    context: Option<Context>,
+) -> Result<PartialValue, AllocError>
     ensures view { IfOk result (λ p. partial_view p ≡ context_value (context_given context)) }
     ensures place { IfOk result (λ p. partial_loc p ≡ None) }
 {

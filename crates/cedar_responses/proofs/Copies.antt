@@ -10,18 +10,18 @@ use Rattle.cedar_names.specs.declared.types.«Type».{«Type» as RType}
 use Rattle.cedar_names.specs.declared.types.«Type».TheVariants as types
 use Rattle.cedar_names.specs.contracts.types.TypeClone.TheImpl as type_clones
 use Rattle.cedar_names.specs.Leaves.{texts_view, type_view}
-use Rattle.cedar_values.specs.declared.extensions.ExtensionFunctionLookupError.{ExtensionFunctionLookupError}
-use Rattle.cedar_values.specs.declared.extensions.ExtensionFunctionLookupError.TheVariants as lookups
-use Rattle.cedar_values.specs.contracts.extensions.ExtensionFunctionLookupErrorClone.TheImpl as lookup_clones
-use Rattle.cedar_values.specs.declared.evaluator.err.evaluation_errors.IntegerOverflowError.{IntegerOverflowError}
-use Rattle.cedar_values.specs.declared.evaluator.err.evaluation_errors.IntegerOverflowError.TheVariants as overflows
-use Rattle.cedar_values.specs.contracts.evaluator.err.evaluation_errors.IntegerOverflowErrorClone.TheImpl as overflow_clones
-use Rattle.cedar_values.specs.declared.evaluator.err.EvaluationError.{EvaluationError}
-use Rattle.cedar_values.specs.declared.evaluator.err.EvaluationError.TheVariants as errors
-use Rattle.cedar_values.specs.contracts.evaluator.err.EvaluationErrorClone.TheImpl as error_clones
-use Rattle.cedar_values.specs.Fields.{MissingEntityAttribute, MissingRecordAttribute}
-use Rattle.cedar_values.specs.Errors.{lookup_loc, overflow_loc, error_loc}
-use Rattle.cedar_values.specs.Failures.{lookup_failure, overflow_failure, failure_of}
+use Rattle.cedar_errors.specs.declared.extensions.ExtensionFunctionLookupError.{ExtensionFunctionLookupError}
+use Rattle.cedar_errors.specs.declared.extensions.ExtensionFunctionLookupError.TheVariants as lookups
+use Rattle.cedar_errors.specs.contracts.extensions.ExtensionFunctionLookupErrorClone.TheImpl as lookup_clones
+use Rattle.cedar_errors.specs.declared.evaluator.err.evaluation_errors.IntegerOverflowError.{IntegerOverflowError}
+use Rattle.cedar_errors.specs.declared.evaluator.err.evaluation_errors.IntegerOverflowError.TheVariants as overflows
+use Rattle.cedar_errors.specs.contracts.evaluator.err.evaluation_errors.IntegerOverflowErrorClone.TheImpl as overflow_clones
+use Rattle.cedar_errors.specs.declared.evaluator.err.EvaluationError.{EvaluationError}
+use Rattle.cedar_errors.specs.declared.evaluator.err.EvaluationError.TheVariants as errors
+use Rattle.cedar_errors.specs.contracts.evaluator.err.EvaluationErrorClone.TheImpl as error_clones
+use Rattle.cedar_errors.specs.Fields.{MissingEntityAttribute, MissingRecordAttribute}
+use Rattle.cedar_errors.specs.Errors.{lookup_loc, overflow_loc, error_loc}
+use Rattle.cedar_errors.specs.Failures.{lookup_failure, overflow_failure, failure_of}
 use Rattle.cedar_layers.specs.declared.policies.policy.PolicyID.{PolicyID}
 use Rattle.cedar_layers.specs.Policies.{policy_id_text}
 use Rattle.cedar_responses.specs.declared.err.AuthorizationError.{AuthorizationError}

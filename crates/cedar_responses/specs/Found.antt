@@ -1,4 +1,4 @@
--- What is made, as what is found.
+-- What was made, as an option that is there: an error stays one.
 use Rattle.std.specs.Prelude.{Result, Ok, Err, Option, Some}
 
 abbrev pub found_in : {A E : Type 0} → Result A E → Result (Option A) E

@@ -13,8 +13,8 @@ use Rattle.cedar_decisions.specs.Decisions.{decision_view}
 use Rattle.cedar_names.specs.declared.names.Loc.{Loc}
 use Rattle.cedar_layers.specs.declared.policies.policy.PolicyID.{PolicyID}
 use Rattle.cedar_layers.specs.Policies.{policy_id_text}
-use Rattle.cedar_values.specs.Errors.{error_loc}
-use Rattle.cedar_values.specs.Failures.{failure_of}
+use Rattle.cedar_errors.specs.Errors.{error_loc}
+use Rattle.cedar_errors.specs.Failures.{failure_of}
 use Rattle.cedar_responses.specs.declared.response.Response.{Response}
 use Rattle.cedar_responses.specs.declared.err.AuthorizationError.{AuthorizationError}
 use Rattle.cedar_responses.specs.declared.err.AuthorizationError.TheVariants.{PolicyEvaluationError}

@@ -9,7 +9,7 @@ use Rattle.cedar_model.specs.Chains.{is_true, is_false, is_residual}
 use Rattle.cedar_expressions.specs.declared.expr.Expr.{Expr}
 use Rattle.cedar_expressions.specs.View.{view}
 use Rattle.cedar_layers.specs.Policies.{PolicyView}
-use Rattle.cedar_values.specs.Failures.{failure_of}
+use Rattle.cedar_errors.specs.Failures.{failure_of}
 use Rattle.cedar_responses.specs.declared.sheet.Outcome.{Outcome}
 use Rattle.cedar_responses.specs.declared.sheet.Outcome.TheVariants as outcomes
 use Rattle.cedar_responses.specs.declared.sheet.Sheet.{Sheet}

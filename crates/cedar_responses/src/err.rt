@@ -1,6 +1,6 @@
 //! Why a policy was skipped.
+use cedar_errors::evaluator::err::EvaluationError;
 use cedar_layers::policies::PolicyID;
-use cedar_values::evaluator::err::EvaluationError;
 use thiserror::Error;
 
 /// Why a policy was skipped.

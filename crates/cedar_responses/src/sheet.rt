@@ -4,7 +4,7 @@ ghost use Rattle.cedar_model.specs.Responses.{reported_true, reported_false, rep
 ghost use Rattle.cedar_decisions.specs.Decisions.{mode_view};
 ghost use Rattle.cedar_expressions.specs.View.{view};
 ghost use Rattle.cedar_layers.specs.Policies.{policy_view, effect_view, policy_id_text, annotations_view};
-ghost use Rattle.cedar_values.specs.Failures.{failure_of};
+ghost use Rattle.cedar_errors.specs.Failures.{failure_of};
 ghost use Rattle.cedar_responses.specs.Rows.{located};
 ghost use Rattle.cedar_responses.specs.Sheets.{sheet_view, nothing_noted, noted_also, noting};
 
@@ -12,9 +12,9 @@ use crate::beside::{add_last, beside};
 use crate::err::AuthorizationError;
 use crate::partial_response::ErrorState;
 use cedar_decisions::ErrorHandling;
+use cedar_errors::evaluator::err::EvaluationError;
 use cedar_expressions::Expr;
 use cedar_layers::policies::{Annotations, Effect, Policy, PolicyID};
-use cedar_values::evaluator::err::EvaluationError;
 use std::alloc::{AllocError, Global};
 use std::rc::Rc;
 

@@ -9,7 +9,7 @@ use Rattle.cedar_model.specs.Shapes.{is_restricted, are_restricted, are_restrict
 use Rattle.cedar_model.specs.Restricted.{Disallowed, first_disallowed}
 use Rattle.cedar_model.proofs.RestrictedAnswers.{none_disallowed}
 use Rattle.cedar_model.specs.Values.{expression_of}
-use Rattle.cedar_data.specs.Sound.{Placed, restricted-from_sound}
+use Rattle.cedar_values.specs.Sound.{Placed, restricted-from_sound}
 use Rattle.cedar_expressions.specs.View.{terms_view}
 use Rattle.cedar_expressions.specs.Records.{put_field, put_fields, pairs_view, fields_in_order}
 use Rattle.cedar_restricted_expressions.specs.declared.restricted_expr.RestrictedExpr.{RestrictedExpr}

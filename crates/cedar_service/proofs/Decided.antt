@@ -5,37 +5,37 @@ use Rattle.std.specs.Map.{lookup, KeepsOthers}
 use Rattle.std.specs.Rc.{rc_str_bytes}
 use Rattle.std.specs.declared.alloc.Global.{Global}
 use Rattle.std.specs.declared.rc.RcStr.{RcStr}
-use Rattle.cedar_model.specs.Terms.{Text, EntityName, entity_literal}
-use Rattle.cedar_model.specs.Values.{plain, no_values_at, Represented, plain_represented, abstract_value}
-use Rattle.cedar_model.specs.Keys.{value_eq}
-use Rattle.cedar_model.specs.lemmas.Keys.{value_eq-true, value_eq-self}
-use Rattle.cedar_model.specs.Outcomes
-use Rattle.cedar_model.specs.Outcomes.{Outcome, gives_bool, text_eq}
-use Rattle.cedar_model.specs.World
-use Rattle.cedar_model.specs.World.{World, Extensions}
-use Rattle.cedar_model.specs.Meaning
-use Rattle.cedar_model.specs.Meaning.{meaning, and_then_bool}
-use Rattle.cedar_model.specs.Settings.{Resolution, RequestPart, Store, Setting, found_in}
-use Rattle.cedar_model.specs.Rules.{StoredCalls}
-use Rattle.cedar_model.specs.Agreement.{no_slots, AgreesWithFunctions, IsFaithful, AnswerFaithfully}
-use Rattle.cedar_model.specs.Policies as model
-use Rattle.cedar_model.specs.Policies.{permit, Judged, allow, deny, decision, ErrorHandling, skip, forbid_on_error, counted}
-use Rattle.cedar_model.specs.Policies.{counted_each}
-use Rattle.cedar_model.specs.Configurations.{Configuration, configured}
-use Rattle.cedar_model.specs.Reports.{given_decision}
-use Rattle.cedar_model.specs.Chains.{Mapping, ChainStep, at_step, no_values}
-use Rattle.cedar_model.specs.Headline.{Premises, CompletesMap, CompletesStore}
-use Rattle.cedar_decisions.specs.declared.decision.Decision.{Decision}
-use Rattle.cedar_decisions.specs.Decisions.{decision_view}
-use Rattle.cedar_data.specs.Sound.{Placed}
-use Rattle.cedar_layers.specs.Policies.{PolicyView, condition_term, decides_as}
-use Rattle.cedar_layers.specs.Stores.{no_entities}
-use Rattle.cedar_extensions.specs.Computations.{no_answers}
-use Rattle.cedar_requests.specs.Substitutions.{values_for}
-use Rattle.cedar_responses.specs.declared.partial_response.PartialResponse.{PartialResponse}
-use Rattle.cedar_responses.specs.Rows.{rows_view}
-use Rattle.cedar_authorizer.specs.Headline.{IsHeadline}
-use Rattle.cedar_authorizer.specs.Running.{errors_of}
+use Rattle.cedar_policy_core.specs.Model.Terms.{Text, EntityName, entity_literal}
+use Rattle.cedar_policy_core.specs.Model.Values.{plain, no_values_at, Represented, plain_represented, abstract_value}
+use Rattle.cedar_policy_core.specs.Model.Keys.{value_eq}
+use Rattle.cedar_policy_core.specs.Lemmas.Keys.{value_eq-true, value_eq-self}
+use Rattle.cedar_policy_core.specs.Model.Outcomes
+use Rattle.cedar_policy_core.specs.Model.Outcomes.{Outcome, gives_bool, text_eq}
+use Rattle.cedar_policy_core.specs.Model.World
+use Rattle.cedar_policy_core.specs.Model.World.{World, Extensions}
+use Rattle.cedar_policy_core.specs.Model.Meaning
+use Rattle.cedar_policy_core.specs.Model.Meaning.{meaning, and_then_bool}
+use Rattle.cedar_policy_core.specs.Model.Settings.{Resolution, RequestPart, Store, Setting, found_in}
+use Rattle.cedar_policy_core.specs.Model.Rules.{StoredCalls}
+use Rattle.cedar_policy_core.specs.Model.Agreement.{no_slots, AgreesWithFunctions, IsFaithful, AnswerFaithfully}
+use Rattle.cedar_policy_core.specs.Model.Policies as model
+use Rattle.cedar_policy_core.specs.Model.Policies.{permit, Judged, allow, deny, decision, ErrorHandling, skip, forbid_on_error, counted}
+use Rattle.cedar_policy_core.specs.Model.Policies.{counted_each}
+use Rattle.cedar_policy_core.specs.Model.Configurations.{Configuration, configured}
+use Rattle.cedar_policy_core.specs.Model.Reports.{given_decision}
+use Rattle.cedar_policy_core.specs.Model.Chains.{Mapping, ChainStep, at_step, no_values}
+use Rattle.cedar_policy_core.specs.Model.Headline.{Premises, CompletesMap, CompletesStore}
+use Rattle.cedar_policy_core.specs.Types.Decision.{Decision}
+use Rattle.cedar_policy_core.specs.Authorizer.Decisions.{decision_view}
+use Rattle.cedar_policy_core.specs.Ast.Sound.{Placed}
+use Rattle.cedar_policy_core.specs.Ast.Policies.{PolicyView, condition_term, decides_as}
+use Rattle.cedar_policy_core.specs.Entities.Stores.{no_entities}
+use Rattle.cedar_policy_core.specs.Extensions.Computations.{no_answers}
+use Rattle.cedar_policy_core.specs.Ast.Substitutions.{values_for}
+use Rattle.cedar_policy_core.specs.Types.PartialResponse.{PartialResponse}
+use Rattle.cedar_policy_core.specs.Authorizer.Rows.{rows_view}
+use Rattle.cedar_policy_core.specs.Authorizer.Headline.{IsHeadline}
+use Rattle.cedar_policy_core.specs.Authorizer.Running.{errors_of}
 use Rattle.cedar_service.specs.Stages.{owner_may, from_someone, one_value, values_of, IsDecidedIn, IsDecidedFor}
 use Rattle.cedar_service.specs.declared.stop.Stop.{Stop}
 

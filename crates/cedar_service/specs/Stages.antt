@@ -1,18 +1,18 @@
 -- A decision in two stages: what is asked before it is known who asks, and what is decided then.
 use Rattle.std.specs.Prelude.{◌≡◌, ◌↔◌, cond, List, [], ◌∷◌, Some, None, codes}
-use Rattle.cedar_model.specs.Terms.{Text, EntityName, entity_literal, principal, eq_operator, Term, literal, variable}
-use Rattle.cedar_model.specs.Terms.{binary}
-use Rattle.cedar_model.specs.Values.{Represented, plain_represented, no_represented_at}
-use Rattle.cedar_model.specs.Outcomes.{text_eq}
-use Rattle.cedar_model.specs.World.{World, Functions}
-use Rattle.cedar_model.specs.Settings.{known_entry, unknown_entry, known_context, RequestPart, Setting}
-use Rattle.cedar_model.specs.Agreement.{no_slots}
-use Rattle.cedar_model.specs.Policies.{permit, Policy, Decision, allow, decision, counted_each}
-use Rattle.cedar_model.specs.Configurations.{Configuration}
-use Rattle.cedar_model.specs.Responses.{truth}
-use Rattle.cedar_model.specs.Chains.{Mapping, ChainStep}
-use Rattle.cedar_model.specs.Headline.{Premises}
-use Rattle.cedar_layers.specs.Policies.{PolicyView}
+use Rattle.cedar_policy_core.specs.Model.Terms.{Text, EntityName, entity_literal, principal, eq_operator, Term, literal, variable}
+use Rattle.cedar_policy_core.specs.Model.Terms.{binary}
+use Rattle.cedar_policy_core.specs.Model.Values.{Represented, plain_represented, no_represented_at}
+use Rattle.cedar_policy_core.specs.Model.Outcomes.{text_eq}
+use Rattle.cedar_policy_core.specs.Model.World.{World, Functions}
+use Rattle.cedar_policy_core.specs.Model.Settings.{known_entry, unknown_entry, known_context, RequestPart, Setting}
+use Rattle.cedar_policy_core.specs.Model.Agreement.{no_slots}
+use Rattle.cedar_policy_core.specs.Model.Policies.{permit, Policy, Decision, allow, decision, counted_each}
+use Rattle.cedar_policy_core.specs.Model.Configurations.{Configuration}
+use Rattle.cedar_policy_core.specs.Model.Responses.{truth}
+use Rattle.cedar_policy_core.specs.Model.Chains.{Mapping, ChainStep}
+use Rattle.cedar_policy_core.specs.Model.Headline.{Premises}
+use Rattle.cedar_policy_core.specs.Ast.Policies.{PolicyView}
 
 -- `principal == UID`
 abbrev pub principal_is : EntityName → Term

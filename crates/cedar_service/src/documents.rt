@@ -1,9 +1,9 @@
 //! The store: the users with their roles, and the documents.
 use crate::names::{entity, put, text_value, uid};
-use cedar_layers::expressions::{EntityUID, Value};
-use cedar_layers::policies::{Entities, Entity};
+use cedar_policy_core::ast::{Entity, EntityUID, Value};
+use cedar_policy_core::entities::Entities;
 use std::alloc::{AllocError, Global};
-use std::collections::{BTreeMap, HashSet};
+use std::collections::{BTreeMap, BTreeSet};
 use std::rc::RcStr;
 
 /// The ids of the documents.
@@ -22,7 +22,7 @@ pub fn stored(alloc: Global) -> Result<Entities, AllocError> {
 
 // A user in this role.
 fn user(alloc: Global, id: &str, role: &str) -> Result<Entity, AllocError> {
-    let mut roles: HashSet<EntityUID> = HashSet::new(alloc);
+    let mut roles: BTreeSet<EntityUID> = BTreeSet::new(alloc);
     roles.insert(uid(alloc, "Role", role)?)?;
     let none = BTreeMap::new(alloc);
     Entity::from_values(
@@ -62,7 +62,7 @@ fn document(
     attributes: BTreeMap<RcStr, Value>,
     tags: BTreeMap<RcStr, Value>,
 ) -> Result<Entity, AllocError> {
-    let mut folders: HashSet<EntityUID> = HashSet::new(alloc);
+    let mut folders: BTreeSet<EntityUID> = BTreeSet::new(alloc);
     folders.insert(uid(alloc, "Folder", "archive")?)?;
     Entity::from_values(
         alloc,

@@ -1,15 +1,14 @@
 //! The hours at which the service is open: a function that policies call.
 ghost use Rattle.std.specs.Prelude.{◌≡◌, true, [], ◌∷◌};
-ghost use Rattle.cedar_model.specs.Values.{abstract_value};
-ghost use Rattle.cedar_model.specs.Outcomes.{type_error};
-ghost use Rattle.cedar_model.specs.World.{function_errs};
-ghost use Rattle.cedar_extensions.specs.Outcomes.{ComesTo, is_lawful, abstracts};
+ghost use Rattle.cedar_policy_core.specs.Model.Values.{abstract_value};
+ghost use Rattle.cedar_policy_core.specs.Model.Outcomes.{type_error};
+ghost use Rattle.cedar_policy_core.specs.Model.World.{function_errs};
+ghost use Rattle.cedar_policy_core.specs.Extensions.Outcomes.{ComesTo, is_lawful, abstracts};
 ghost use Rattle.cedar_service.specs.Stored.{is_open_of};
 
-use cedar_extensions::ExtensionOutputValue;
-use cedar_layers::expressions::{FirstRest, Literal, Type, Value, ValueKind};
-use cedar_values::evaluator::err::EvaluationError;
-use cedar_values::evaluator::err::evaluation_errors::TypeError;
+use cedar_policy_core::ast::{ExtensionOutputValue, FirstRest, Literal, Type, Value, ValueKind};
+use cedar_policy_core::evaluator::EvaluationError;
+use cedar_policy_core::evaluator::evaluation_errors::TypeError;
 use std::alloc::Global;
 
 /// Whether the service is open at the hour that is the first argument, or a type error that expects a long.

@@ -3,7 +3,7 @@
 #![tactic(auto)]
 
 ghost use Rattle.std.specs.Prelude.{◌≡◌, true};
-ghost use Rattle.cedar_extensions.specs.Outcomes.{ComesTo, is_lawful, abstracts};
+ghost use Rattle.cedar_policy_core.specs.Extensions.Outcomes.{ComesTo, is_lawful, abstracts};
 ghost use Rattle.cedar_service.specs.Stored.{is_open_of};
 
 mod documents;
@@ -16,12 +16,13 @@ mod requests;
 mod stages;
 mod stop;
 
-use cedar_extensions::{
-    Extension, ExtensionFunction, ExtensionFunctionObject, ExtensionOutputValue, Extensions,
+use cedar_policy_core::ast::{
+    CallStyle, Extension, ExtensionFunction, ExtensionFunctionObject, ExtensionOutputValue,
+    PolicySet, Type, Value,
 };
-use cedar_layers::expressions::{CallStyle, Type, Value};
-use cedar_layers::policies::{Entities, PolicySet};
-use cedar_values::evaluator::err::EvaluationError;
+use cedar_policy_core::entities::Entities;
+use cedar_policy_core::evaluator::EvaluationError;
+use cedar_policy_core::extensions::Extensions;
 use hours::is_open;
 use names::name;
 use std::alloc::Global;

@@ -1,5 +1,5 @@
 //! Names, entities and texts.
-use cedar_layers::expressions::{EntityType, EntityUID, Expr, Literal, Name, Value};
+use cedar_policy_core::ast::{EntityType, EntityUID, Expr, Literal, Name, Value};
 use std::alloc::{AllocError, Global};
 use std::collections::BTreeMap;
 use std::rc::{Rc, RcStr};

@@ -1,8 +1,9 @@
 //! The policies.
 use crate::names::{both, entity_expr, name, text_expr};
 use crate::stop::Stop;
-use cedar_layers::expressions::{BinaryOp, Expr, Literal, SlotEnv, Var};
-use cedar_layers::policies::{Annotations, Effect, Policy, PolicyID, PolicySet};
+use cedar_policy_core::ast::{
+    Annotations, BinaryOp, Effect, Expr, Literal, Policy, PolicyID, PolicySet, SlotEnv, Var,
+};
 use std::alloc::{AllocError, Global};
 use std::rc::RcStr;
 

@@ -1,5 +1,5 @@
 //! What is in a value.
-use cedar_layers::expressions::{EntityUID, Literal, PartialValue, Value, ValueKind};
+use cedar_policy_core::ast::{EntityUID, Literal, PartialValue, Value, ValueKind};
 
 /// The value of an attribute or a tag, if there is one and it is known.
 pub fn known(part: Option<&PartialValue>) -> Option<&Value> {

@@ -4,11 +4,12 @@ use crate::reading::{as_bool, as_entity, as_long, as_text, known};
 use crate::requests::{Asked, Staged};
 use crate::stages::decided_in_stages;
 use crate::stop::Stop;
-use cedar_authorizer::authorizer::{
+use cedar_policy_core::ast::{Entity, Policy, PolicyID, PolicySet};
+use cedar_policy_core::authorizer::{
     AuthorizationError, Authorizer, Decision, PartialResponse, ReportedPolicies, Response,
 };
-use cedar_extensions::Extensions;
-use cedar_layers::policies::{Dereference, Entities, Entity, Policy, PolicyID, PolicySet};
+use cedar_policy_core::entities::{Dereference, Entities};
+use cedar_policy_core::extensions::Extensions;
 use std::alloc::{AllocError, Global};
 use std::collections::HashSet;
 use std::io::Write;
@@ -116,7 +117,7 @@ fn decide(
     asked: &Asked,
     policies: &PolicySet,
     entities: &Entities,
-    authorizer: &Authorizer<'_, '_>,
+    authorizer: &Authorizer<'_>,
 ) -> Result<Response, AllocError> {
     authorizer.is_authorized(alloc, asked.request(alloc)?, policies, entities)
 }
@@ -126,7 +127,7 @@ fn partly_decide(
     asked: &Asked,
     policies: &PolicySet,
     entities: &Entities,
-    authorizer: &Authorizer<'_, '_>,
+    authorizer: &Authorizer<'_>,
 ) -> Result<PartialResponse, AllocError> {
     authorizer.is_authorized_core(alloc, asked.request(alloc)?, policies, entities)
 }

@@ -1,7 +1,6 @@
 //! The requests.
 use crate::names::{both, name, put, uid};
-use cedar_evaluator::request::{Context, EntityUIDEntry, Request};
-use cedar_layers::expressions::{EntityType, Value};
+use cedar_policy_core::ast::{Context, EntityType, EntityUIDEntry, Request, Value};
 use std::alloc::{AllocError, Global};
 use std::collections::BTreeMap;
 use std::rc::RcStr;

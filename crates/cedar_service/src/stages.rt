@@ -1,33 +1,35 @@
 //! A decision in two stages: what is to be done with what is known at first, and who asks only then.
 ghost use Rattle.std.specs.Prelude.{◌≡◌, ◌↔◌, [], ◌∷◌, Some, IfOk, IfSome};
 ghost use Rattle.std.specs.Rc.{rc_str_bytes};
-ghost use Rattle.cedar_model.specs.Terms.{entity_literal};
-ghost use Rattle.cedar_model.specs.Policies.{allow};
-ghost use Rattle.cedar_model.specs.Responses.{truth};
-ghost use Rattle.cedar_model.specs.Reports.{given_decision};
-ghost use Rattle.cedar_decisions.specs.Decisions.{decision_view};
-ghost use Rattle.cedar_names.specs.Leaves.{literal_view};
-ghost use Rattle.cedar_names.specs.Names.{uid_name};
-ghost use Rattle.cedar_expressions.specs.View.{view};
-ghost use Rattle.cedar_layers.specs.Policies.{policy_view};
-ghost use Rattle.cedar_layers.specs.PolicySets.{policies_view};
-ghost use Rattle.cedar_requests.specs.Requests.{request_view};
-ghost use Rattle.cedar_requests.specs.Substitutions.{values_for};
-ghost use Rattle.cedar_responses.specs.Rows.{rows_view};
-ghost use Rattle.cedar_authorizer.specs.Configured.{configuration, resolution_of, asked};
-ghost use Rattle.cedar_authorizer.specs.Headline.{steps_view};
-ghost use Rattle.cedar_authorizer.specs.Responding.{deciding};
-ghost use Rattle.cedar_authorizer.specs.Running.{errors_of};
+ghost use Rattle.cedar_policy_core.specs.Model.Terms.{entity_literal};
+ghost use Rattle.cedar_policy_core.specs.Model.Policies.{allow};
+ghost use Rattle.cedar_policy_core.specs.Model.Responses.{truth};
+ghost use Rattle.cedar_policy_core.specs.Model.Reports.{given_decision};
+ghost use Rattle.cedar_policy_core.specs.Authorizer.Decisions.{decision_view};
+ghost use Rattle.cedar_policy_core.specs.Ast.Leaves.{literal_view};
+ghost use Rattle.cedar_policy_core.specs.Ast.Names.{uid_name};
+ghost use Rattle.cedar_policy_core.specs.Ast.View.{view};
+ghost use Rattle.cedar_policy_core.specs.Ast.Policies.{policy_view};
+ghost use Rattle.cedar_policy_core.specs.Ast.PolicySets.{policies_view};
+ghost use Rattle.cedar_policy_core.specs.Ast.Requests.{request_view};
+ghost use Rattle.cedar_policy_core.specs.Ast.Substitutions.{values_for};
+ghost use Rattle.cedar_policy_core.specs.Authorizer.Rows.{rows_view};
+ghost use Rattle.cedar_policy_core.specs.Authorizer.Configured.{configuration, resolution_of, asked};
+ghost use Rattle.cedar_policy_core.specs.Authorizer.Headline.{steps_view};
+ghost use Rattle.cedar_policy_core.specs.Authorizer.Responding.{deciding};
+ghost use Rattle.cedar_policy_core.specs.Authorizer.Running.{errors_of};
 ghost use Rattle.cedar_service.specs.Stages.{principal_is, owner_may, from_someone, one_value, values_of};
 ghost use Rattle.cedar_service.specs.Stages.{IsDecidedIn, IsDecidedFor, IsForOwner};
 
 use crate::stop::Stop;
-use cedar_authorizer::authorizer::{Authorizer, Decision, PartialResponse};
-use cedar_evaluator::request::{Context, EntityUIDEntry, Request};
-use cedar_extensions::Extensions;
-use cedar_extensions::laws::no_functions_agree;
-use cedar_layers::expressions::{BinaryOp, EntityUID, Expr, Literal, SlotEnv, Value, Var};
-use cedar_layers::policies::{Annotations, Effect, Entities, Policy, PolicyID, PolicySet};
+use cedar_policy_core::ast::{
+    Annotations, BinaryOp, Context, Effect, EntityUID, EntityUIDEntry, Expr, Literal, Policy,
+    PolicyID, PolicySet, Request, SlotEnv, Value, Var,
+};
+use cedar_policy_core::authorizer::{Authorizer, Decision, PartialResponse};
+use cedar_policy_core::entities::Entities;
+use cedar_policy_core::extensions::Extensions;
+use cedar_policy_core::extensions::laws::no_functions_agree;
 use std::alloc::{AllocError, Global};
 use std::collections::HashMap;
 use std::rc::{Rc, RcStr};
@@ -183,7 +185,7 @@ fn from_someone(
 // The decision after these steps, where it is known and no error was recorded: that of the policies in every completion.
 fn decided_after(
     alloc: Global,
-    authorizer: &Authorizer<'_, '_>,
+    authorizer: &Authorizer<'_>,
     request: Request,
     policies: &PolicySet,
     entities: &Entities,

@@ -1,7 +1,7 @@
 //! Why the service stops.
-use cedar_authorizer::authorizer::ReauthorizationError;
-use cedar_extensions::ExtensionInitializationError;
-use cedar_layers::policies::PolicySetError;
+use cedar_policy_core::ast::PolicySetError;
+use cedar_policy_core::authorizer::ReauthorizationError;
+use cedar_policy_core::extensions::ExtensionInitializationError;
 use std::alloc::{AllocError, AllocFailed};
 use std::io;
 

@@ -1,4 +1,4 @@
--- Where a machine stands.
+-- What a machine has read before the token at which it stands, in each of its states.
 use Rattle.std.specs.Prelude.{◌≡◌, ℕ, ◌+◌, ◌≤◌, List, true, false}
 use Rattle.cedar_tokens.specs.Kinds.{is_identifier}
 use Rattle.cedar_tokens.specs.declared.tokens.Kind.TheVariants as kind

@@ -1,17 +1,17 @@
 //! What is answered to a row that is evaluated in the setting or reads what the setting holds.
 //!
-//! - of the words of an expression: `value LIMIT`, `place LIMIT`, `elements LIMIT` and `error LIMIT` (what it evaluates to, where
+//! - of an expression: `value LIMIT`, `place LIMIT`, `elements LIMIT` and `error LIMIT` (what it evaluates to, where
 //!   that or its error stands, where each element of a set does, and the error's text; with no limit as many levels as it needs),
-//!   `partial LIMIT`, `partial-place LIMIT` and `residual LIMIT` (what it partly evaluates to, where that stands, and the words of
-//!   what is left of it);
-//! - of the words of values and then an operator: `operator PLACE`; of the words of an error: `built-error PLACE`;
+//!   `partial LIMIT`, `partial-place LIMIT` and `residual LIMIT` (what it partly evaluates to, where that stands, and what is left
+//!   of it, as an expression that is read and compared);
+//! - of an operator on values: `operator PLACE`; of the words of an error: `built-error PLACE`;
 //! - of the setting: `request` and `entity`, and `extensions` (their names, the types that their functions make, and those that
 //!   they overload);
 //! - of a name: `function` (how many arguments the stored function takes);
 //! - of a name and values: `made-entity` (an entity that is made of values);
 //! - of a number: `negations LIMIT`, what `true` evaluates to under so many.
 //!
-//! Questions on what words write alone are those of `written`.
+//! Questions on what is written alone are those of `written`.
 
 pub mod deep;
 pub mod described;

@@ -1,5 +1,5 @@
-//! Tables. A file has cases, with a line `case` between them; a case has facts, a line `rows`, and rows. A row has words, ` => `
-//! and the answer that is wanted. A line `ask QUESTION` says what is asked of the rows below it; before the first one it is what
+//! Tables. A file has cases, with a line `case` between them; a case has facts, a line `rows`, and rows. A row has what is asked
+//! about, ` => ` and the answer that is wanted. A line `ask QUESTION` says what is asked of the rows below it; before the first one it is what
 //! expressions evaluate to. A line that begins with `#` is a title. The facts are those that `notation` reads, and `in FILE`: the
 //! facts of that file stand behind them. `questions` says which there are.
 use crate::functions::tally;
@@ -14,7 +14,7 @@ use std::rc::RcStr;
 use std::rt::Files;
 
 /// The request of a case that has no other.
-const REQUEST: &str = "principal User:a\naction Action:view\nresource Photo:p";
+const REQUEST: &str = "principal User::\"a\"\naction Action::\"view\"\nresource Photo::\"p\"";
 
 /// The answer of a row that holds where memory is wanting.
 const WANT_OF_MEMORY: &str = "want of memory";

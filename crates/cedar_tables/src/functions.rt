@@ -13,12 +13,12 @@ use crate::notation::settings::setting_of;
 use crate::notation::unanswered::{Noted, Unanswered};
 use crate::notation::{add, both, fact, first_fact, or_memory};
 use cedar_built_in_rows::functions::{ask, ask_any, ask_long, even, fail, made, plain_name, want};
+use cedar_errors::evaluator::err::EvaluationError;
 use cedar_extensions::{
     Extension, ExtensionFunction, ExtensionFunctionObject, ExtensionInitializationError,
     ExtensionOutputValue, Extensions,
 };
 use cedar_layers::expressions::{CallStyle, Name, Type, Value};
-use cedar_values::evaluator::err::EvaluationError;
 use std::alloc::{AllocError, Global};
 
 /// How many of these rows hold in the setting of these facts. Prints those that do not.

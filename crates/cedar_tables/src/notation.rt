@@ -1,9 +1,8 @@
-//! Reads what a line of a table says: expressions and values as words, policies, and the setting that rows are answered in; and
-//! shows what answers have in common.
-//!
-//! A text stands in a word as it is, but for `␣`, which stands for a space. A place is written as its ends, `1-2`.
+//! Reads what a line of a table says: expressions, values and policies of Cedar's text, and the setting that rows are answered in;
+//! and shows what answers have in common. A place is written as its ends, `1-2`.
 
 pub mod answer;
+mod calls;
 pub mod errors;
 pub mod expressions;
 pub mod leaves;
@@ -14,7 +13,6 @@ pub mod shown;
 pub mod unanswered;
 pub mod values;
 
-use leaves::text;
 use std::alloc::{AllocError, Global};
 use std::collections::{BTreeMap, HashMap};
 use std::rc::RcStr;
@@ -46,8 +44,13 @@ pub fn headed(text: &str) -> (&str, &str) {
     }
 }
 
-/// The parts that were read and that no later word has taken, the latest one last. Why they can't be read is noted in them, so that
-/// who reads a word looks at nothing, and they are looked at once, when all are read.
+/// The name and what is written behind it, of `NAME = TEXT`.
+pub fn named(written: &str) -> Result<(&str, &str), Unanswered> {
+    Ok(written.split_once(" = ").ok_or("a name and what it has")?)
+}
+
+/// The parts that were read and that no later one has taken, the latest one last. Why they can't be read is noted in them, so that
+/// who reads a part looks at nothing, and they are looked at once, when all are read.
 #[derive(Drop)]
 pub struct Parts<T: Drop> {
     parts: Vec<T>,
@@ -93,7 +96,7 @@ impl<T: Drop> Parts<T> {
         }
     }
 
-    /// Takes the latest part. Where there is none, it is the one that is given, and the words are not well made.
+    /// Takes the latest part. Where there is none, it is the one that is given, and what is written is not well made.
     pub fn pop(&mut self, instead: T) -> T {
         match self.parts.pop() {
             Some(part) => part,
@@ -111,27 +114,6 @@ impl<T: Drop> Parts<T> {
             self.refuse("a part is missing");
         }
         self.parts.split_off(length.saturating_sub(count))
-    }
-
-    /// Takes the latest parts, one for each of these keys, with their keys.
-    pub fn named(&mut self, alloc: Global, keys: &str) -> Result<Vec<(RcStr, T)>, AllocError> {
-        let mut pairs: Vec<(RcStr, T)> = Vec::new(alloc);
-        if keys.is_empty() {
-            return Ok(pairs);
-        }
-        for key in keys.rsplit(',') {
-            let key = text(alloc, key)?;
-            match self.parts.pop() {
-                Some(part) => pair(&mut pairs, key, part)?,
-                None => self.refuse("a part is missing"),
-            }
-        }
-        Ok(pairs)
-    }
-
-    /// The number that is written so.
-    pub fn number(&mut self, written: &str) -> usize {
-        self.noted.number(written)
     }
 
     /// The parts, in their order.

@@ -1,13 +1,12 @@
 //! Reads the steps that a response is taken further by, and what a response is made of.
 //!
-//! - `x L:1, y B:true` is a step with these values for unknowns, and `none` one with no value. Steps have ` / ` between them.
-//! - `then x L:1` is a step over the second store, of which each fact stands behind `then` in the setting; by an authorizer that
+//! - `x = 1; y = true` is a step with these values for unknowns, and `none` one with no value. Steps have ` / ` between them.
+//! - `then x = 1` is a step over the second store, of which each fact stands behind `then` in the setting; by an authorizer that
 //!   handles errors as `then errors` says, or as the setting does, and resolves as `then resolution` says, or as the setting does.
-//! - `permit a true, permit b=note error, forbid c U:x` is what a response is made of: `a` is satisfied, `b` erred and has the
-//!   annotation `note`, and `c` has these words left.
+//! - `permit a true; permit b=note error; forbid c unknown("x")` is what a response is made of: `a` is satisfied, `b` erred and has
+//!   the annotation `note`, and `c` has this expression left.
 use crate::notation::errors::error;
 use crate::notation::expressions::expression;
-use crate::notation::leaves::text;
 use crate::notation::policies::{effect, policy_id};
 use crate::notation::settings::{error_handling, put_value, resolution, stored};
 use crate::notation::unanswered::{Noted, Unanswered};
@@ -104,9 +103,9 @@ pub fn mapping(alloc: Global, written: &str) -> Result<HashMap<RcStr, Value>, Un
 
 fn read_mapping(alloc: Global, written: &str, noted: &mut Noted) -> HashMap<RcStr, Value> {
     let mut map: HashMap<RcStr, Value> = HashMap::new(alloc);
-    for pair in written.split(", ") {
-        if pair != "none" {
-            put_value(alloc, &mut map, pair, noted);
+    for value in written.split("; ") {
+        if value != "none" {
+            put_value(alloc, &mut map, value, noted);
         }
     }
     map
@@ -115,7 +114,7 @@ fn read_mapping(alloc: Global, written: &str, noted: &mut Noted) -> HashMap<RcSt
 /// The sheet with these notes, where errors are handled so.
 pub fn sheet(alloc: Global, mode: ErrorHandling, written: &str) -> Result<Sheet, Unanswered> {
     let mut sheet = Sheet::new(alloc);
-    for note in written.split(", ") {
+    for note in written.split("; ") {
         if let Err(error) = put_note(alloc, mode, &mut sheet, note) {
             drop(sheet);
             return Err(error);
@@ -178,8 +177,9 @@ fn noted_with(
 
 fn annotated(alloc: Global, note: &str) -> Result<Annotations, AllocError> {
     let mut annotations = Annotations::new(alloc);
-    annotations
-        .0
-        .insert(text(alloc, "note")?, text(alloc, note)?)?;
+    annotations.0.insert(
+        RcStr::from_str(alloc, "note")?,
+        RcStr::from_str(alloc, note)?,
+    )?;
     Ok(annotations)
 }

@@ -1,4 +1,4 @@
--- What a builder has.
+-- The finished expressions on the stack of a builder, with and without keys.
 use Rattle.std.specs.Prelude.{ℕ, List, [], ◌∷◌, map, reverse, None, Some}
 use Rattle.std.specs.declared.alloc.Global.{Global}
 use Rattle.std.specs.declared.rc.RcStr.{RcStr}

@@ -4,6 +4,7 @@
 #![tactic(auto)]
 
 mod answer;
+mod json;
 mod places;
 mod policies;
 mod questions;

@@ -7,8 +7,10 @@
 //! - `entity`: the entity, as a tree, and `name`: the name;
 //! - `policies`: the policies and templates, or why each policy that can't be read can't;
 //! - `policy-places`: where they stand, and where the nodes of their three constraints and their condition do;
-//! - `policy`: the only policy.
+//! - `policy`: the only policy;
+//! - `json QUESTION`: what `json` has of texts in JSON.
 use crate::answer::Answer;
+use crate::json::ask_json;
 use crate::places::put_places;
 use crate::policies::{put_policies, put_policy};
 use crate::trees::{put_entity, put_tree};
@@ -36,7 +38,14 @@ pub fn ask(answer: &mut Answer, question: &str, text: &str) {
         "policies" => ask_policies(answer, Shown::Tree, text),
         "policy-places" => ask_policies(answer, Shown::Places, text),
         "policy" => ask_policy(answer, text),
-        _ => ask_within(answer, question, text),
+        _ => ask_more(answer, question, text),
+    }
+}
+
+fn ask_more(answer: &mut Answer, question: &str, text: &str) {
+    match question.strip_prefix("json ") {
+        Some(asked) => ask_json(answer, asked, text),
+        None => ask_within(answer, question, text),
     }
 }
 

@@ -1,6 +1,9 @@
-pub mod Answers
-pub mod Errors
-pub mod Fields
-pub mod Failures
-pub mod Texts
-pub mod TypeTexts
+pub mod Sound
+pub mod Representations
+pub mod Kinds
+pub mod Left
+pub mod Sizes
+pub mod Compared
+pub mod Hashed
+pub mod Members
+pub mod Residuals

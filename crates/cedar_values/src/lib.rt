@@ -1,5 +1,10 @@
-//! The extensions of the language, and the errors of evaluation.
+//! The values of Cedar's policy language: values and sets of values, extension values, partial values and residuals.
 #![tactic(auto)]
 
-pub mod evaluator;
-pub mod extensions;
+mod extension_value;
+mod partial_value;
+mod value;
+
+pub use extension_value::{ExtensionValue, Representation};
+pub use partial_value::{PartialValue, ResidualExpr};
+pub use value::{Set, Value, ValueKind};

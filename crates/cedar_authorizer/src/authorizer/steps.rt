@@ -21,7 +21,6 @@ ghost use Rattle.cedar_authorizer.specs.Steps.{KeepsWhatStands};
 ghost use Rattle.cedar_authorizer.specs.Steps.{TakesNothingBack, Finishes, IsDeepEnough};
 
 use super::{Authorizer, response_of, run_all};
-use cedar_data::Value;
 use cedar_evaluator::evaluator::{EvaluationError, Evaluator};
 use cedar_evaluator::request::Request;
 use cedar_layers::policies::{Entities, PolicySet};
@@ -29,6 +28,7 @@ use cedar_reauthorization::ReauthorizationError;
 use cedar_reauthorization::shared::{concretize_request, residual_policies};
 use cedar_responses::shared::Sheet;
 use cedar_responses::{AuthorizationError, ErrorHandling, PartialResponse};
+use cedar_values::Value;
 use std::alloc::{AllocError, Global};
 use std::collections::HashMap;
 use std::rc::{Rc, RcStr};
@@ -57,7 +57,7 @@ pub trait Reauthorize {
         &self,
         alloc: Global,
         map: &HashMap<RcStr, Value>,
-        authorizer: &Authorizer<'_, '_>,
+        authorizer: &Authorizer<'_>,
         entities: &Entities,
     ) -> Result<PartialResponse, ReauthorizationError>
         ensures conflict { IsConflict (mode_of authorizer.now) (said self.now).mode (step_answer result) }
@@ -85,7 +85,7 @@ impl Reauthorize for PartialResponse {
         &self,
         alloc: Global,
         map: &HashMap<RcStr, Value>,
-        authorizer: &Authorizer<'_, '_>,
+        authorizer: &Authorizer<'_>,
         entities: &Entities,
     ) -> Result<PartialResponse, ReauthorizationError> {
         reauthorized(alloc, self, map, authorizer, entities)
@@ -97,7 +97,7 @@ fn reauthorized(
     alloc: Global,
     response: &PartialResponse,
     map: &HashMap<RcStr, Value>,
-    authorizer: &Authorizer<'_, '_>,
+    authorizer: &Authorizer<'_>,
     entities: &Entities,
 ) -> Result<PartialResponse, ReauthorizationError>
     ensures conflict { IsConflict (mode_of authorizer.now) (rows.mode_of response.now) (step_answer result) }
@@ -139,7 +139,7 @@ fn in_same_mode(
     alloc: Global,
     response: &PartialResponse,
     map: &HashMap<RcStr, Value>,
-    authorizer: &Authorizer<'_, '_>,
+    authorizer: &Authorizer<'_>,
     entities: &Entities,
 ) -> Result<PartialResponse, ReauthorizationError>
     ensures step { is_same_mode (mode_of authorizer.now) (rows.mode_of response.now) ≡ true →
@@ -174,7 +174,7 @@ fn with_policies(
     request: &Request,
     policies: &PolicySet,
     map: &HashMap<RcStr, Value>,
-    authorizer: &Authorizer<'_, '_>,
+    authorizer: &Authorizer<'_>,
     entities: &Entities,
 ) -> Result<PartialResponse, ReauthorizationError>
     ensures step { IfSome (step_answer result)
@@ -187,7 +187,13 @@ fn with_policies(
         (request_view request.now).context_part
         → IfErr result (λ e. step_refusal e ≢ Some (context_fails recursion_limit)) }
 {
-    match concretize_request(alloc, request, map, authorizer.extensions, authorizer.limit) {
+    match concretize_request(
+        alloc,
+        request,
+        map,
+        &authorizer.extensions,
+        authorizer.limit,
+    ) {
         Ok(request) => Ok(decided_again(alloc, request, policies, map, authorizer, entities)?),
         Err(error) => Err(ReauthorizationError::from(error)),
     }
@@ -199,7 +205,7 @@ fn decided_again(
     request: Request,
     policies: &PolicySet,
     map: &HashMap<RcStr, Value>,
-    authorizer: &Authorizer<'_, '_>,
+    authorizer: &Authorizer<'_>,
     entities: &Entities,
 ) -> Result<PartialResponse, AllocError>
     ensures run { IfOk result (IsRun (configuration authorizer.now)
@@ -222,7 +228,7 @@ fn next_sheet(
     request: &Request,
     policies: &PolicySet,
     map: &HashMap<RcStr, Value>,
-    authorizer: &Authorizer<'_, '_>,
+    authorizer: &Authorizer<'_>,
     entities: &Entities,
 ) -> Result<Sheet, AllocError>
     ensures { IfOk result (IsNotedBy (configuration authorizer.now)
@@ -233,7 +239,7 @@ fn next_sheet(
         alloc,
         request.clone()?,
         entities,
-        authorizer.extensions,
+        &authorizer.extensions,
         authorizer.limit,
     )?;
     let evaluator = evaluator
@@ -248,7 +254,7 @@ fn next_sheet(
 pub(super) fn take_steps(
     alloc: Global,
     first: PartialResponse,
-    authorizer: &Authorizer<'_, '_>,
+    authorizer: &Authorizer<'_>,
     steps: &[(&HashMap<RcStr, Value>, &Entities)],
 ) -> Result<PartialResponse, ReauthorizationError>
     ensures memory { IfErr result IsUnwrapped }
@@ -274,7 +280,7 @@ fn take_step(
     alloc: Global,
     response: PartialResponse,
     map: &HashMap<RcStr, Value>,
-    authorizer: &Authorizer<'_, '_>,
+    authorizer: &Authorizer<'_>,
     entities: &Entities,
 ) -> Result<PartialResponse, ReauthorizationError>
     ensures memory { IfErr result IsUnwrapped }

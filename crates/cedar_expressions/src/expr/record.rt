@@ -1,5 +1,5 @@
 #![tactic(auto, using(crate::proofs::Levels::levels, crate::proofs::NodeLevels::nodes, crate::proofs::Records::steps))]
-//! Records.
+//! Records of pairs, refused where a key comes again.
 ghost use Rattle.std.specs.Prelude.{◌≡◌, IfOk, OnOk, IfErr, None, codes};
 ghost use Rattle.std.specs.Rc.{rc_str_bytes};
 ghost use Rattle.cedar_model.specs.Terms.{record_of};

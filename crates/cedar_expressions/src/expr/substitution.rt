@@ -1,5 +1,5 @@
 #![tactic(auto, using(crate::proofs::Levels::levels, crate::proofs::Substitution::levels))]
-//! Values for unknowns.
+//! Expressions with the values of a map in place of their unknowns.
 ghost use Rattle.std.specs.Prelude.{◌≡◌, IfOk, option_map};
 ghost use Rattle.std.specs.Rc.{rc_str_bytes};
 ghost use Rattle.cedar_model.specs.Terms.{unknown, if_then_else, both, either, unary, binary, call};

@@ -5,14 +5,14 @@ ghost use Rattle.cedar_model.specs.Terms.{string_type};
 ghost use Rattle.cedar_model.specs.Values.{abstract_value};
 ghost use Rattle.cedar_model.specs.Outcomes.{text_of};
 ghost use Rattle.cedar_model.specs.Failures.{fails, wrong_type, out_of_memory};
-ghost use Rattle.cedar_values.specs.Failures.{failure_of};
+ghost use Rattle.cedar_errors.specs.Failures.{failure_of};
 ghost use Rattle.cedar_extensions.specs.Answers.{returned_answer, asks, IsTextExpected};
 
 use super::stored::ExtensionOutputValue;
-use cedar_data::{Value, ValueKind};
+use cedar_errors::evaluator::err::EvaluationError;
+use cedar_errors::evaluator::err::evaluation_errors::TypeError;
 use cedar_names::{FirstRest, Literal, Type, Unknown};
-use cedar_values::evaluator::err::EvaluationError;
-use cedar_values::evaluator::err::evaluation_errors::TypeError;
+use cedar_values::{Value, ValueKind};
 use std::alloc::Global;
 use std::rc::RcStr;
 

@@ -1,8 +1,8 @@
 //! What a call of a function does.
 use super::built_in;
 use super::stored::{ExtensionOutputValue, StoredFunction};
-use cedar_data::Value;
-use cedar_values::evaluator::err::EvaluationError;
+use cedar_errors::evaluator::err::EvaluationError;
+use cedar_values::Value;
 use std::alloc::Global;
 
 // It calls what the caller stored, or it makes an unknown.
@@ -15,7 +15,7 @@ pub(crate) enum Callee {
 impl Callee {
     ghost use Rattle.std.specs.Prelude.{◌≡◌, length};
     ghost use Rattle.cedar_model.specs.Rules.{Meets};
-    ghost use Rattle.cedar_data.specs.Sound.{whats};
+    ghost use Rattle.cedar_values.specs.Sound.{whats};
     ghost use Rattle.cedar_extensions.specs.Answers.{returned_answer};
     ghost use Rattle.cedar_extensions.specs.Callees.{arity_of, CalleeAnswers};
 

@@ -3,9 +3,9 @@ ghost use Rattle.std.specs.Prelude.{◌≡◌, length, true};
 ghost use Rattle.cedar_extensions.specs.Outcomes.{TakesArity, AtMostOne, OnlyLawful, AtMostOne-prop, OnlyLawful-prop};
 ghost use Rattle.cedar_extensions.specs.Outcomes.{is_lawful};
 
-use cedar_data::Value;
+use cedar_errors::evaluator::err::EvaluationError;
 use cedar_names::Unknown;
-use cedar_values::evaluator::err::EvaluationError;
+use cedar_values::Value;
 
 /// What a stored function answers.
 #[derive(Debug, Drop)]

@@ -3,11 +3,11 @@ ghost use Rattle.std.specs.Prelude.{◌≡◌, true, IfOk};
 ghost use Rattle.cedar_layers.specs.Parts.{parts_view, values_as_parts, are_restricted_parts};
 ghost use mathlib.Core.Bool.{Bool-set};
 
-use cedar_data::{PartialValue, Value};
 use cedar_names::{EntityUID, Type, Unknown};
+use cedar_values::{PartialValue, Value};
 use std::alloc::{AllocError, Global};
 use std::collections::btree_map::Keys;
-use std::collections::{BTreeMap, HashMap, HashSet};
+use std::collections::{BTreeMap, BTreeSet};
 use std::rc::RcStr;
 
 /// An entity: its uid, its attributes and tags under their names, and the entities that it is in. A residual among the
@@ -16,7 +16,7 @@ use std::rc::RcStr;
 pub struct Entity {
     uid: EntityUID,
     attrs: BTreeMap<RcStr, PartialValue>,
-    ancestors: HashSet<EntityUID>,
+    ancestors: BTreeSet<EntityUID>,
     tags: BTreeMap<RcStr, PartialValue>,
     ghost attrs_restricted: { are_restricted_parts (parts_view attrs.entries) ≡ true } by { Bool-set _ _ },
     ghost tags_restricted: { are_restricted_parts (parts_view tags.entries) ≡ true } by { Bool-set _ _ },
@@ -41,7 +41,7 @@ impl Entity {
     ghost use Rattle.std.specs.Rc.{rc_str_bytes};
     ghost use Rattle.cedar_model.specs.Settings.{part_at, is_among, names_of};
     ghost use Rattle.cedar_names.specs.Names.{uid_name};
-    ghost use Rattle.cedar_data.specs.Residuals.{partial_view};
+    ghost use Rattle.cedar_values.specs.Residuals.{partial_view};
     ghost use Rattle.cedar_layers.specs.Parts.{found_part, is_restricted_part, part_under};
     ghost use Rattle.cedar_layers.specs.Stores.{entity_uid, entity_attributes, entity_tags, entity_ancestors};
     ghost use Rattle.cedar_layers.specs.Stores.{entity_name, entity_view, facts_of, facts_of_values};
@@ -53,7 +53,7 @@ impl Entity {
     pub fn new(
         uid: EntityUID,
         attrs: BTreeMap<RcStr, PartialValue>,
-        ancestors: HashSet<EntityUID>,
+        ancestors: BTreeSet<EntityUID>,
         tags: BTreeMap<RcStr, PartialValue>,
     ) -> Entity
         requires attrs { are_restricted_parts (parts_view attrs.entries) ≡ true }
@@ -79,7 +79,7 @@ impl Entity {
         alloc: Global,
         uid: EntityUID,
         attrs: BTreeMap<RcStr, Value>,
-        ancestors: HashSet<EntityUID>,
+        ancestors: BTreeSet<EntityUID>,
         tags: BTreeMap<RcStr, Value>,
     ) -> Result<Entity, AllocError>
         ensures name { IfOk result (λ e. entity_name e ≡ uid_name uid) }
@@ -151,14 +151,14 @@ impl Entity {
     }
 
     /// The recorded ancestors.
-    pub fn ancestors(&self) -> &HashSet<EntityUID>
+    pub fn ancestors(&self) -> &BTreeSet<EntityUID>
         ensures whole { result.now.keys ≡ entity_ancestors self.now }
     {
         &self.ancestors
     }
 
     /// This entity with these ancestors in place of those that are recorded, taken as they are, as in `new`.
-    pub fn with_ancestors(self, ancestors: HashSet<EntityUID>) -> Entity
+    pub fn with_ancestors(self, ancestors: BTreeSet<EntityUID>) -> Entity
         ensures view { entity_view result ≡ facts_of (entity_attributes self) ancestors.keys (entity_tags self) }
         ensures uid { entity_uid result ≡ entity_uid self }
         ensures attributes { entity_attributes result ≡ entity_attributes self }
@@ -213,10 +213,11 @@ pub enum Dereference<'a> {
     Data(&'a Entity),
 }
 
-/// A store of entities. A concrete store has every entity; of a partial one a missing entity is not known.
+/// A store of entities. A concrete store has every entity; of a partial one a missing entity is not known. It is kept in the
+/// order of the entities' names, so that no choice of names makes a look-up slow.
 #[derive(Debug)]
 pub struct Entities {
-    entities: HashMap<EntityUID, Entity>,
+    entities: BTreeMap<EntityUID, Entity>,
     partial: bool,
 }
 
@@ -245,7 +246,7 @@ impl Entities {
         ensures { store_view result ≡ record { entity = no_entities; is_partial = false } }
     {
         Entities {
-            entities: HashMap::new(alloc),
+            entities: BTreeMap::new(alloc),
             partial: false,
         }
     }
@@ -259,7 +260,7 @@ impl Entities {
         ensures view { IfOk result (λ s. store_view s ≡ store_of entities.items partial) }
         ensures whole { IfOk result (λ s. stored_entity s ≡ last_of_each_name entities.items) }
     {
-        let mut held: HashMap<EntityUID, Entity> = HashMap::new(alloc);
+        let mut held: BTreeMap<EntityUID, Entity> = BTreeMap::new(alloc);
         'put: for entity in entities {
             Entities::put(&mut held, entity)?;
         }
@@ -270,7 +271,7 @@ impl Entities {
     }
 
     // Puts the entity into the map, in the place of one of the same uid.
-    fn put(map: &mut HashMap<EntityUID, Entity>, entity: Entity) -> Result<(), AllocError>
+    fn put(map: &mut BTreeMap<EntityUID, Entity>, entity: Entity) -> Result<(), AllocError>
         ensures { OnOk result (standing map.new.entries ≡ standing_with (standing map.old.entries) entity) }
     {
         let uid = entity.uid.clone()?;
@@ -285,7 +286,7 @@ impl Entities {
         ensures whole { IfOk result (λ d. answered_entity d ≡ stored_entity self.now (uid_name uid.now)) }
         ensures unknown { IfOk result (AsksFor (uid_name uid.now)) }
     {
-        match self.entities.get(uid) {
+        match self.get(uid) {
             Some(entity) => Ok(Dereference::Data(entity)),
             None => {
                 if self.partial {

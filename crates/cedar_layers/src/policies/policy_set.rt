@@ -1,9 +1,12 @@
 //! Sets of policies.
-ghost use Rattle.std.specs.Prelude.{◌≡◌, None, map};
+ghost use Rattle.std.specs.Prelude.{◌≡◌, None, map, IfOk, IfSome};
 ghost use Rattle.std.specs.Map.{values_of};
 ghost use Rattle.cedar_layers.specs.Policies.{policy_view, policy_ids, first_repeated, first_repeated_id};
+ghost use Rattle.cedar_layers.specs.Scopes.{ArePlaced, ArePlaced-prop, ArePicked};
 
 use super::policy::{Policy, PolicyID};
+use super::scope_index::ScopeIndex;
+use cedar_names::EntityUID;
 use indexmap::IndexMap;
 use indexmap::map::Values;
 use std::alloc::{AllocError, AllocFailed, Global};
@@ -13,12 +16,17 @@ use thiserror::Error;
 #[derive(Debug)]
 pub struct PolicySet {
     policies: IndexMap<PolicyID, Policy>,
+    index: ScopeIndex,
     ghost distinct: { first_repeated (policy_ids (map policy_view (values_of policies.entries))) ≡ None },
+    ghost indexed: { ArePlaced index (values_of policies.entries) } by { ArePlaced-prop index (values_of policies.entries) },
 }
 
 impl Drop for PolicySet {
     fn drop(self) {
-        let PolicySet { policies: _ } = self;
+        let PolicySet {
+            policies: _,
+            index: _,
+        } = self;
     }
 }
 
@@ -57,7 +65,9 @@ impl<T: Drop> From<AllocFailed<T>> for PolicySetError {
 }
 
 impl PolicySet {
-    ghost use Rattle.std.specs.Prelude.{Some, IfOk, OnOk, IfErr, IfSome};
+    ghost use Rattle.std.specs.Prelude.{Some, OnOk, IfErr, length};
+    ghost use Rattle.cedar_names.specs.Names.{uid_name};
+    ghost use Rattle.cedar_layers.specs.Scopes.{Places, AreWithinReach};
     ghost use Rattle.cedar_layers.specs.PolicySets.{policies_view, stored_policies, policies_left};
     ghost use Rattle.cedar_layers.specs.PolicySets.{occupied_id, Adds, IsTaken};
 
@@ -68,10 +78,34 @@ impl PolicySet {
         ensures occupied { IfErr result (λ e. IfSome (occupied_id e) (λ i. first_repeated_id policies.items ≡ Some i)) }
     {
         let mut set: IndexMap<PolicyID, Policy> = IndexMap::new(alloc);
+        let mut index = ScopeIndex::new(alloc);
         'insert: for policy in policies {
-            PolicySet::insert(&mut set, policy)?;
+            PolicySet::place(alloc, &mut set, &mut index, policy)?;
         }
-        Ok(PolicySet { policies: set })
+        Ok(PolicySet {
+            policies: set,
+            index,
+        })
+    }
+
+    // Puts the policy after the others, and into the index.
+    fn place(
+        alloc: Global,
+        set: &mut IndexMap<PolicyID, Policy>,
+        index: &mut ScopeIndex,
+        policy: Policy,
+    ) -> Result<(), PolicySetError>
+        ensures ok { OnOk result (Adds set.old.entries set.new.entries policy) }
+        ensures occupied { IfErr result (λ e. IfSome (occupied_id e) (λ i. IsTaken set.old.entries policy i)) }
+        ensures placed { OnOk result (Places index.old index.new (length set.old.entries) (policy_view policy)) }
+    {
+        match index.place(alloc, &policy, set.len()) {
+            Ok(()) => PolicySet::insert(set, policy),
+            Err(error) => {
+                drop(policy);
+                Err(PolicySetError::Memory(error))
+            }
+        }
     }
 
     // Puts the policy after the others, or refuses where its id is there.
@@ -91,6 +125,24 @@ impl PolicySet {
         }
     }
 
+    /// The policies in order of insertion, but for some that are bound elsewhere: of which the scope asks that principal, action
+    /// or resource is an entity, or is in one, that is none of these. None, where the index leaves out too few. Refuses only for
+    /// want of memory.
+    pub fn within_reach(
+        &self,
+        alloc: Global,
+        uids: &[&EntityUID],
+    ) -> Result<Option<Vec<&Policy>>, AllocError>
+        ensures { IfOk result (λ o. IfSome o (λ v. AreWithinReach (map (λ u. uid_name u.now) uids.now)
+            (stored_policies self.now) (map (λ p. p.now) v.items))) }
+    {
+        if self.index.is_mostly_rest(self.policies.len()) {
+            return Ok(None);
+        }
+        let positions = self.index.positions(alloc, uids)?;
+        picked(alloc, &self.policies, positions)
+    }
+
     /// The policies, in order of insertion.
     pub fn policies(&self) -> Policies<'_>
         ensures view { map policy_view (policies_left result) ≡ policies_view self.now }
@@ -101,6 +153,38 @@ impl PolicySet {
             policies: self.policies.values(),
         }
     }
+}
+
+// The policies at these positions, in the order of insertion. None, where the positions are in another order.
+fn picked(
+    alloc: Global,
+    policies: &IndexMap<PolicyID, Policy>,
+    positions: Vec<usize>,
+) -> Result<Option<Vec<&Policy>>, AllocError>
+    ensures { IfOk result (λ o. IfSome o (λ v. ArePicked positions.items (values_of policies.now.entries)
+        (map (λ p. p.now) v.items))) }
+{
+    let mut picked: Vec<&Policy> = Vec::new(alloc);
+    let mut next: usize = 0;
+    'positions: for at in positions {
+        if at < next {
+            if next - at > 1 {
+                return Ok(None);
+            }
+        } else {
+            if at >= policies.len() {
+                return Ok(None);
+            }
+            match policies.get_index(at) {
+                Some((_, policy)) => {
+                    picked.push(policy)?;
+                    next = at + 1;
+                }
+                None => return Ok(None),
+            }
+        }
+    }
+    Ok(Some(picked))
 }
 
 /// The policies, in order of insertion.

@@ -1,8 +1,8 @@
 -- Levels by the number that is left: for code that counts down.
 use Rattle.std.specs.Prelude.{◌≡◌, ℕ, zero, suc, ◌<◌, ◌-◌}
-use Rattle.std.proofs.Common.{refl, subst, arith}
+use Rattle.std.proofs.Common.{subst, arith}
 use Rattle.cedar_model.specs.Terms.{Term}
-use Rattle.cedar_model.specs.Failures.{Answer, limit}
+use Rattle.cedar_model.specs.Failures.{Answer}
 use Rattle.cedar_model.specs.Settings.{Setting}
 use Rattle.cedar_model.specs.Rules.{StoredCalls, Rule, Runs}
 
@@ -11,13 +11,3 @@ pub runs_by_layer : (s : Setting) (calls : StoredCalls) (n : ℕ) (t : Term) (a 
 runs_by_layer s calls zero t a h r = absurd (omega arith)
 runs_by_layer s calls (suc m) t a h r =
     let e : suc m - 1 ≡ m = omega arith in subst (λ k. Rule s calls (Runs s calls k) t a) e r
-
-pub layer_of_runs : (s : Setting) (calls : StoredCalls) (n : ℕ) (t : Term) (a : Answer) → 0 < n → Runs s calls n t a
-    → Rule s calls (Runs s calls (n - 1)) t a
-layer_of_runs s calls zero t a h r = absurd (omega arith)
-layer_of_runs s calls (suc m) t a h r =
-    let e : m ≡ suc m - 1 = omega arith in subst (λ k. Rule s calls (Runs s calls k) t a) e r
-
-pub runs_none : (s : Setting) (calls : StoredCalls) (n : ℕ) (t : Term) → n ≡ 0 → Runs s calls n t limit
-runs_none s calls zero t h = refl
-runs_none s calls (suc m) t h = absurd (omega arith)

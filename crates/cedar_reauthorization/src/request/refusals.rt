@@ -4,13 +4,13 @@ ghost use Rattle.cedar_model.specs.Refusals.{value_is_wrong, is_there_already, t
 ghost use Rattle.cedar_names.specs.Leaves.{variable_view};
 ghost use Rattle.cedar_names.specs.Names.{type_text};
 ghost use Rattle.cedar_names.specs.Texts.{variable_text};
-ghost use Rattle.cedar_data.specs.Residuals.{partial_view};
+ghost use Rattle.cedar_values.specs.Residuals.{partial_view};
 ghost use Rattle.cedar_reauthorization.specs.Errors.{refusal_of};
 
 use super::variable_text;
 use crate::err::ConcretizationError;
-use cedar_data::{PartialValue, Value};
 use cedar_names::{EntityType, Var};
+use cedar_values::{PartialValue, Value};
 use std::alloc::{AllocError, Global};
 use std::rc::RcStr;
 

@@ -1,14 +1,14 @@
 //! The partial value and the restricted expression that a context is.
 ghost use Rattle.std.specs.Prelude.{◌≡◌, None, IfOk};
-ghost use Rattle.cedar_data.specs.Residuals.{partial_view, partial_loc, partial_term};
+ghost use Rattle.cedar_values.specs.Residuals.{partial_view, partial_loc, partial_term};
 ghost use Rattle.cedar_restricted_expressions.specs.Views.{restricted_term, restricted_loc};
 ghost use Rattle.cedar_requests.specs.Contexts.{context_part_value};
 
 use super::Context;
 use super::pairs::ContextPairs;
-use cedar_data::{PartialValue, ResidualExpr, Value};
 use cedar_expressions::Expr;
 use cedar_restricted_expressions::RestrictedExpr;
+use cedar_values::{PartialValue, ResidualExpr, Value};
 use std::alloc::AllocError;
 
 /// The record of the context's values, or the residual of its expressions, at no location.

@@ -2,7 +2,7 @@
 //! change nothing.
 ghost use Rattle.std.specs.Prelude.{◌≡◌};
 ghost use Rattle.std.specs.Cmp.{on_equiv, on_per, partial_equiv_from_equiv};
-ghost use Rattle.cedar_data.specs.Compared.{partial_eq-equivalence};
+ghost use Rattle.cedar_values.specs.Compared.{partial_eq-equivalence};
 ghost use Rattle.cedar_requests.specs.Contexts.{context_eq, context_part_value};
 
 use super::Context;

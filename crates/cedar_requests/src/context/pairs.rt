@@ -4,8 +4,8 @@ ghost use Rattle.cedar_model.specs.Shapes.{are_restricted_at, have_unknown_at};
 ghost use Rattle.cedar_expressions.specs.View.{fields_view};
 ghost use mathlib.Core.Bool.{Bool-set};
 
-use cedar_data::Value;
 use cedar_expressions::Expr;
+use cedar_values::Value;
 use std::collections::BTreeMap;
 use std::marker::Model;
 use std::rc::RcStr;

@@ -7,9 +7,9 @@ ghost use mathlib.Core.Bool.{Bool-set};
 
 use super::Context;
 use super::pairs::{ContextPairs, ResidualPairs};
-use cedar_data::Value;
 use cedar_expressions::Expr;
 use cedar_restricted_expressions::RestrictedExpr;
+use cedar_values::Value;
 use std::alloc::{AllocError, Global};
 use std::collections::btree_map;
 use std::rc::RcStr;

@@ -2,14 +2,14 @@
 ghost use Rattle.std.specs.Prelude.{◌≡◌, Ok, IfOk};
 ghost use Rattle.cedar_model.specs.Terms.{principal, action, resource, context};
 ghost use Rattle.cedar_model.specs.Settings.{variable_part};
-ghost use Rattle.cedar_data.specs.Residuals.{partial_view};
+ghost use Rattle.cedar_values.specs.Residuals.{partial_view};
 ghost use Rattle.cedar_requests.specs.Requests.{request_view, answer_locs, variable_locs};
 ghost use Rattle.cedar_requests.specs.Requests.{answer_annotations, variable_annotations};
 
 use super::Request;
 use crate::variables::context_part;
-use cedar_data::PartialValue;
 use cedar_names::Var;
+use cedar_values::PartialValue;
 use std::alloc::{AllocError, Global};
 
 impl Request {

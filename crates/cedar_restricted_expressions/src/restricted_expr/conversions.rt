@@ -2,14 +2,14 @@
 ghost use Rattle.std.specs.Prelude.{◌≡◌, IfOk, IfErr, None};
 ghost use Rattle.cedar_model.specs.Values.{expression_of};
 ghost use Rattle.cedar_model.specs.Restricted.{first_disallowed};
-ghost use Rattle.cedar_data.specs.Kinds.{kind_what};
-ghost use Rattle.cedar_data.specs.Residuals.{partial_view, partial_loc, partial_term, residual_expr, IfResidual};
+ghost use Rattle.cedar_values.specs.Kinds.{kind_what};
+ghost use Rattle.cedar_values.specs.Residuals.{partial_view, partial_loc, partial_term, residual_expr, IfResidual};
 ghost use Rattle.cedar_restricted_expressions.specs.Refusals.{IsRefusedResidual, HoldsFirstPartOfResidual};
 
 use super::{BorrowedRestrictedExpr, RestrictedExpr};
 use crate::err::{PartialValueToRestrictedExprError, RestrictedExpressionError};
-use cedar_data::{PartialValue, Value, ValueKind};
 use cedar_expressions::Expr;
+use cedar_values::{PartialValue, Value, ValueKind};
 use std::alloc::{AllocError, Global};
 use std::ops::Deref;
 

@@ -1,113 +1,92 @@
 //! What the operators answer that users call by themselves, and errors that are made from their fields.
 use crate::answers::evaluated::{put_outcome, put_place};
 use crate::notation::answer::Answer;
+use crate::notation::both;
 use crate::notation::errors::error;
-use crate::notation::leaves::unary;
+use crate::notation::expressions::expression;
 use crate::notation::shown::put_same;
-use crate::notation::values::values;
+use crate::notation::values::value_of;
 use cedar_evaluator::evaluator::{EvaluationError, binary_arith, binary_relation, unary_app};
 use cedar_extensions::Extensions;
-use cedar_layers::expressions::{BinaryOp, Loc, Value};
+use cedar_layers::expressions::{BinaryOp, Expr, ExprKind, Loc, UnaryOp, Value};
 
-/// The value or the error of the operator, and where it stands.
-pub fn ask(answer: &mut Answer, ends: &str, words: &str) {
-    match words.rsplit_once(' ') {
-        Some((words, operator)) => of_operator(answer, ends, words, operator),
-        None => answer.refuse("an operator has operands"),
-    }
-}
-
-fn of_operator(answer: &mut Answer, ends: &str, words: &str, operator: &str) {
+/// The value or the error of the operator, whose parts write values, and where it stands.
+pub fn ask(answer: &mut Answer, ends: &str, text: &str) {
     let place = answer.place(ends);
-    match values(answer.alloc, words) {
-        Ok(values) => apply(answer, operator, values, place.as_ref()),
+    match expression(answer.alloc, text) {
+        Ok(expr) => {
+            of_operator(answer, &expr, place.as_ref());
+            drop(expr);
+        }
         Err(why) => answer.fail(why),
     }
 }
 
-fn apply(answer: &mut Answer, operator: &str, values: Vec<Value>, place: Option<&Loc>) {
-    let mut values = values;
-    let (right, left) = (values.pop(), values.pop());
-    drop(values);
-    match right {
-        Some(right) => match unary(operator) {
-            Some(op) => {
-                drop(left);
-                let outcome = unary_app(answer.alloc, op, right, place);
-                put_applied(answer, outcome);
-            }
-            None => apply_to_two(answer, operator, left, right, place),
-        },
-        None => {
-            drop(left);
-            answer.refuse("an operand is missing");
-        }
+fn of_operator(answer: &mut Answer, expr: &Expr, place: Option<&Loc>) {
+    match expr.expr_kind() {
+        ExprKind::UnaryApp { op, arg } => apply_to_one(answer, *op, arg, place),
+        ExprKind::BinaryApp { op, arg1, arg2 } => apply_to_two(answer, *op, arg1, arg2, place),
+        _ => answer.refuse("no operator"),
     }
 }
 
-fn apply_to_two(
-    answer: &mut Answer,
-    operator: &str,
-    left: Option<Value>,
-    right: Value,
-    place: Option<&Loc>,
-) {
-    match left {
-        Some(left) => apply_to_both(answer, operator, left, right, place),
-        None => {
-            drop(right);
-            answer.refuse("an operand is missing");
+fn apply_to_one(answer: &mut Answer, op: UnaryOp, arg: &Expr, place: Option<&Loc>) {
+    match value_of(answer.alloc, arg) {
+        Ok(value) => {
+            let outcome = unary_app(answer.alloc, op, value, place);
+            put_applied(answer, outcome);
         }
+        Err(why) => answer.fail(why),
     }
 }
 
-fn apply_to_both(
-    answer: &mut Answer,
-    operator: &str,
-    left: Value,
-    right: Value,
-    place: Option<&Loc>,
-) {
+fn apply_to_two(answer: &mut Answer, op: BinaryOp, left: &Expr, right: &Expr, place: Option<&Loc>) {
     let alloc = answer.alloc;
-    match operator {
-        "add" => put_applied(
+    match both(value_of(alloc, left), value_of(alloc, right)) {
+        Ok((left, right)) => apply(answer, op, left, right, place),
+        Err(why) => answer.fail(why),
+    }
+}
+
+fn apply(answer: &mut Answer, op: BinaryOp, left: Value, right: Value, place: Option<&Loc>) {
+    let alloc = answer.alloc;
+    match op {
+        BinaryOp::Add => put_applied(
             answer,
             binary_arith(alloc, BinaryOp::Add, left, right, place),
         ),
-        "sub" => put_applied(
+        BinaryOp::Sub => put_applied(
             answer,
             binary_arith(alloc, BinaryOp::Sub, left, right, place),
         ),
-        "mul" => put_applied(
+        BinaryOp::Mul => put_applied(
             answer,
             binary_arith(alloc, BinaryOp::Mul, left, right, place),
         ),
         _ => {
-            relate(answer, operator, &left, &right);
+            relate(answer, op, &left, &right);
             drop(left);
             drop(right);
         }
     }
 }
 
-fn relate(answer: &mut Answer, operator: &str, left: &Value, right: &Value) {
+fn relate(answer: &mut Answer, op: BinaryOp, left: &Value, right: &Value) {
     let none = Extensions::none();
     let alloc = answer.alloc;
-    match operator {
-        "eq" => put_applied(
+    match op {
+        BinaryOp::Eq => put_applied(
             answer,
             binary_relation(alloc, BinaryOp::Eq, left, right, &none),
         ),
-        "less" => put_applied(
+        BinaryOp::Less => put_applied(
             answer,
             binary_relation(alloc, BinaryOp::Less, left, right, &none),
         ),
-        "lessEq" => {
-            put_applied(
-                answer,
-                binary_relation(alloc, BinaryOp::LessEq, left, right, &none),
-            )
-        }
+        BinaryOp::LessEq => put_applied(
+            answer,
+            binary_relation(alloc, BinaryOp::LessEq, left, right, &none),
+        ),
         _ => answer.refuse("no such operator"),
     }
 }

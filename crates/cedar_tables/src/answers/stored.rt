@@ -1,17 +1,17 @@
 //! What a request and a store hold.
 use crate::answers::evaluated::place_of;
 use crate::notation::answer::Answer;
-use crate::notation::leaves::{name, text, uid};
+use crate::notation::leaves::{name, uid};
+use crate::notation::settings::value_named;
 use crate::notation::unanswered::Unanswered;
-use crate::notation::values::value;
-use crate::notation::{Parts, both, headed, mapped, or_memory};
+use crate::notation::{Parts, both, mapped, or_memory};
+use cedar_errors::extensions::ExtensionFunctionLookupError;
 use cedar_extensions::Extensions;
 use cedar_layers::expressions::{EntityUID, Name, PartialValue, Type, Unknown, Value, Var};
 use cedar_layers::policies::{Dereference, Entities, Entity};
 use cedar_requests::{Context, EntityUIDEntry, Request, RequestType};
-use cedar_values::extensions::ExtensionFunctionLookupError;
 use std::alloc::{AllocError, Global};
-use std::collections::{BTreeMap, HashSet};
+use std::collections::{BTreeMap, BTreeSet};
 use std::rc::RcStr;
 
 /// The part of the request of this name.
@@ -153,7 +153,7 @@ fn put_overloaded(answer: &mut Answer, types: &[Type]) {
     }
 }
 
-/// What an entity has that is made of values: `E:e / a L:1, b T:x / t L:2` has two attributes and a tag, and `none` is none.
+/// What an entity has that is made of values: `E::"e" / a = 1; b = "x" / t = 2` has two attributes and a tag, and `none` is none.
 pub fn ask_made_entity(answer: &mut Answer, words: &str) {
     let (name, parts) = split(words);
     let (attributes, tags) = split(parts);
@@ -163,7 +163,7 @@ pub fn ask_made_entity(answer: &mut Answer, words: &str) {
         both(values_named(alloc, attributes), values_named(alloc, tags)),
     ) {
         Ok((uid, (attributes, tags))) => {
-            let none: HashSet<EntityUID> = HashSet::new(alloc);
+            let none: BTreeSet<EntityUID> = BTreeSet::new(alloc);
             put_made(
                 answer,
                 Entity::from_values(alloc, uid, attributes, none, tags),
@@ -182,20 +182,15 @@ fn split(words: &str) -> (&str, &str) {
 
 fn values_named(alloc: Global, written: &str) -> Result<BTreeMap<RcStr, Value>, Unanswered> {
     let mut parts: Parts<(RcStr, Value)> = Parts::new(alloc);
-    for named in written.split(", ") {
-        if named != "none" {
-            parts.push_read(value_named(alloc, named));
+    for value in written.split("; ") {
+        if value != "none" {
+            parts.push_read(value_named(alloc, value));
         }
     }
     match parts.all() {
         Ok(pairs) => or_memory(mapped(alloc, pairs)),
         Err(why) => Err(why),
     }
-}
-
-fn value_named(alloc: Global, named: &str) -> Result<(RcStr, Value), Unanswered> {
-    let (name, words) = headed(named);
-    both(or_memory(text(alloc, name)), value(alloc, words))
 }
 
 fn put_made(answer: &mut Answer, made: Result<Entity, AllocError>) {

@@ -1,14 +1,14 @@
 //! Reads errors of evaluation: `TypeError Bool Long,String` has the type that was given and those that were expected,
 //! `WrongNumArguments f 2 1` the function, the count that it takes and the count that it was given,
 //! `FailedExtensionFunctionExecution f text` the extension and what it says.
-use crate::notation::leaves::{name, named_type, text};
+use crate::notation::leaves::{name, named_type};
 use crate::notation::unanswered::Unanswered;
 use crate::notation::{Parts, both, headed};
-use cedar_layers::expressions::{FirstRest, Type};
-use cedar_values::evaluator::err::EvaluationError;
-use cedar_values::evaluator::err::evaluation_errors::{
+use cedar_errors::evaluator::err::EvaluationError;
+use cedar_errors::evaluator::err::evaluation_errors::{
     ExtensionFunctionExecutionError, TypeError, WrongNumArgumentsError,
 };
+use cedar_layers::expressions::{FirstRest, Type};
 use std::alloc::Global;
 
 /// The error that these words write, at no known place.
@@ -69,7 +69,7 @@ fn failed_execution(
     extension: &str,
     says: &str,
 ) -> Result<EvaluationError, Unanswered> {
-    let msg = String::from_str(alloc, text(alloc, says)?.as_str())?;
+    let msg = String::from_str(alloc, says)?;
     let extension_name = name(alloc, extension)?;
     let error = ExtensionFunctionExecutionError {
         extension_name,

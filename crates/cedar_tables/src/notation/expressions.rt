@@ -1,57 +1,48 @@
-//! Reads expressions that are written as words, each after its parts: `L:1 L:2 add` is `1 + 2`.
-//!
-//! - `B:true`, `L:-1`, `T:text` and `E:User:a` are literals, `V:principal` a variable, `S:principal` a slot, `U:x` and `U:x:Long`
-//!   unknowns; `M:User:a` is the unknown that stands for an entity that a partial store lacks.
-//! - `eq`, `add`, `isEmpty`, `and`, `if` and the like take the parts before them.
-//! - `get:k`, `has:k`, `ext:k.l`, `like:p*` and `is:User` take the part before them. In a pattern `\` goes before a character that
-//!   stands for itself.
-//! - `set:3` takes three parts, `record:k,l` and `fields:k,l` a part for each key, and `call:f:2` two arguments; `call:f@1-2:2` has
-//!   its name at a place.
-//! - `@1-2` puts the part before it at this place.
-//! - `many:9:record:a;get:a` are the words `record:a get:a`, nine times.
-use crate::notation::leaves::{
-    attributes, binary, entity_type, literal, missing, name, pattern, place, slot, text, unary,
-    unknown, variable,
-};
+//! Reads expressions of Cedar's text, and drops their places. What Cedar has no syntax for is written as a call: `calls` says which.
+use crate::notation::calls::put_call;
+use crate::notation::leaves::{attributes, unplaced};
 use crate::notation::unanswered::Unanswered;
-use crate::notation::{Parts, mapped};
-use cedar_layers::expressions::{Expr, ExpressionConstructionError, Literal, Unknown};
+use crate::notation::{Parts, add, or_memory};
+use cedar_layers::expressions::{
+    BinaryOp, EntityType, EntityUID, Expr, ExprKind, ExpressionConstructionError, FirstRest,
+    Literal, Name, Pattern, UnaryOp,
+};
 use cedar_restricted_expressions::{RestrictedExpr, RestrictedExpressionError};
+use cedar_text::parse_expr;
 use std::alloc::{AllocError, Global};
+use std::collections::BTreeMap;
+use std::rc::RcStr;
 
-/// The expression that these words write.
-pub fn expression(alloc: Global, words: &str) -> Result<Expr, Unanswered> {
-    let mut parts: Parts<Expr> = Parts::new(alloc);
-    for word in words.split(' ') {
-        match word.strip_prefix("many:") {
-            Some(repeated) => read_many(alloc, repeated, &mut parts),
-            None => read(alloc, word, &mut parts),
+/// More levels than the text of any row has.
+pub const LEVELS: usize = 1000;
+
+/// The expression that the text writes.
+pub fn expression(alloc: Global, text: &str) -> Result<Expr, Unanswered> {
+    match parse_expr(alloc, text, LEVELS) {
+        Ok(read) => {
+            let made = meant(alloc, &read);
+            drop(read);
+            made
         }
+        Err(error) => Err(Unanswered::from(error)),
     }
+}
+
+/// The expression that is meant by what was read of Cedar's text.
+pub fn meant(alloc: Global, read: &Expr) -> Result<Expr, Unanswered> {
+    let mut parts: Parts<Expr> = Parts::new(alloc);
+    visit(alloc, read, &mut parts);
     parts.only()
 }
 
-fn read_many(alloc: Global, repeated: &str, parts: &mut Parts<Expr>) {
-    match repeated.split_once(':') {
-        Some((count, words)) => {
-            let count = parts.number(count);
-            for _ in 0..count {
-                read_joined(alloc, words, parts);
-            }
-        }
-        None => parts.refuse("a count and words"),
-    }
+/// The restricted expression that the text writes.
+pub fn restricted(alloc: Global, text: &str) -> Result<RestrictedExpr, Unanswered> {
+    restricted_of(expression(alloc, text)?)
 }
 
-fn read_joined(alloc: Global, words: &str, parts: &mut Parts<Expr>) {
-    for word in words.split(';') {
-        read(alloc, word, parts);
-    }
-}
-
-/// The restricted expression that these words write.
-pub fn restricted(alloc: Global, words: &str) -> Result<RestrictedExpr, Unanswered> {
-    match RestrictedExpr::new(expression(alloc, words)?) {
+/// The expression, where it is restricted.
+pub fn restricted_of(expr: Expr) -> Result<RestrictedExpr, Unanswered> {
+    match RestrictedExpr::new(expr) {
         Ok(expr) => Ok(expr),
         Err(error) => {
             let reason = reason(&error);
@@ -71,102 +62,264 @@ fn reason(error: &RestrictedExpressionError) -> Unanswered {
     }
 }
 
-// Reads a word: an operation, a leaf, a list, or a word on the part before it.
-fn read(alloc: Global, word: &str, parts: &mut Parts<Expr>) {
-    match word.strip_prefix('@') {
-        Some(ends) => place_last(ends, parts),
-        None => match word.split_once(':') {
-            Some((kind, rest)) => read_kind(alloc, kind, rest, parts),
-            None => operate(alloc, word, parts),
-        },
+// ---- what was read, part by part
+
+// Puts what is meant by this behind the others.
+#[cycle(visit)]
+fn visit(alloc: Global, read: &Expr, parts: &mut Parts<Expr>) {
+    match read.expr_kind() {
+        ExprKind::Lit(literal) => put_literal(alloc, literal, parts),
+        ExprKind::Var(var) => put(parts, Expr::var(*var)),
+        ExprKind::Slot(slot) => put(parts, Expr::slot(*slot)),
+        ExprKind::Unknown(_) => parts.refuse("no text writes an unknown"),
+        ExprKind::If {
+            test_expr,
+            then_expr,
+            else_expr,
+        } => {
+            visit(alloc, test_expr, parts);
+            visit(alloc, then_expr, parts);
+            visit(alloc, else_expr, parts);
+            put_if(alloc, parts);
+        }
+        ExprKind::And { left, right } => {
+            visit(alloc, left, parts);
+            visit(alloc, right, parts);
+            put_and(alloc, parts);
+        }
+        ExprKind::Or { left, right } => {
+            visit(alloc, left, parts);
+            visit(alloc, right, parts);
+            put_or(alloc, parts);
+        }
+        ExprKind::UnaryApp { op, arg } => visit_unary(alloc, *op, arg, parts),
+        ExprKind::BinaryApp { op, arg1, arg2 } => {
+            visit(alloc, arg1, parts);
+            visit(alloc, arg2, parts);
+            put_binary(alloc, *op, parts);
+        }
+        ExprKind::ExtensionFunctionApp { fn_name, args } => {
+            visit_call(alloc, fn_name, args, parts)
+        }
+        ExprKind::GetAttr { expr, attr } => visit_attribute(alloc, expr, attr, parts),
+        ExprKind::HasAttr { expr, attr } => visit_has(alloc, expr, attr, parts),
+        ExprKind::ExtHasAttr { expr, attrs } => visit_path(alloc, expr, attrs, parts),
+        ExprKind::Like { expr, pattern } => visit_like(alloc, expr, pattern, parts),
+        ExprKind::Is { expr, entity_type } => visit_is(alloc, expr, entity_type, parts),
+        ExprKind::Set(elements) => visit_set(alloc, elements, parts),
+        ExprKind::Record(pairs) => visit_record(alloc, pairs, parts),
     }
 }
 
-fn put(parts: &mut Parts<Expr>, expr: Expr) {
+#[cycle(visit)]
+fn visit_unary(alloc: Global, op: UnaryOp, arg: &Expr, parts: &mut Parts<Expr>) {
+    visit(alloc, arg, parts);
+    put_unary(alloc, op, parts);
+}
+
+#[cycle(visit)]
+fn visit_call(alloc: Global, name: &Name, args: &[Expr], parts: &mut Parts<Expr>) {
+    visit_each(alloc, args, parts);
+    put_call(alloc, name.text().as_str(), args.len(), parts);
+}
+
+#[cycle(visit)]
+fn visit_attribute(alloc: Global, expr: &Expr, attribute: &RcStr, parts: &mut Parts<Expr>) {
+    visit(alloc, expr, parts);
+    put_attribute(alloc, attribute, parts);
+}
+
+#[cycle(visit)]
+fn visit_has(alloc: Global, expr: &Expr, attribute: &RcStr, parts: &mut Parts<Expr>) {
+    visit(alloc, expr, parts);
+    put_has(alloc, attribute, parts);
+}
+
+#[cycle(visit)]
+fn visit_path(alloc: Global, expr: &Expr, path: &FirstRest<RcStr>, parts: &mut Parts<Expr>) {
+    visit(alloc, expr, parts);
+    put_path(alloc, or_memory(attributes(alloc, path)), parts);
+}
+
+#[cycle(visit)]
+fn visit_like(alloc: Global, expr: &Expr, pattern: &Pattern, parts: &mut Parts<Expr>) {
+    visit(alloc, expr, parts);
+    put_like(alloc, pattern, parts);
+}
+
+#[cycle(visit)]
+fn visit_is(alloc: Global, expr: &Expr, ty: &EntityType, parts: &mut Parts<Expr>) {
+    visit(alloc, expr, parts);
+    put_is(alloc, ty, parts);
+}
+
+#[cycle(visit)]
+fn visit_set(alloc: Global, elements: &[Expr], parts: &mut Parts<Expr>) {
+    visit_each(alloc, elements, parts);
+    put_set(alloc, elements.len(), parts);
+}
+
+#[cycle(visit)]
+fn visit_each(alloc: Global, each: &[Expr], parts: &mut Parts<Expr>) {
+    'each: for one in each {
+        visit(alloc, one, parts);
+    }
+}
+
+#[cycle(visit)]
+fn visit_record(alloc: Global, read: &BTreeMap<RcStr, Expr>, parts: &mut Parts<Expr>) {
+    let mut pairs: Vec<(RcStr, Expr)> = Vec::new(alloc);
+    'pairs: for (key, part) in read.iter() {
+        visit(alloc, part, parts);
+        put_pair(&mut pairs, key, parts);
+    }
+    put_distinct(Expr::record(alloc, pairs), parts);
+}
+
+// ---- what becomes of the parts that were put last
+
+pub(super) fn put(parts: &mut Parts<Expr>, expr: Expr) {
     parts.push(expr);
 }
 
-fn put_made(parts: &mut Parts<Expr>, made: Result<Expr, AllocError>) {
+pub(super) fn put_made(parts: &mut Parts<Expr>, made: Result<Expr, AllocError>) {
     match made {
         Ok(expr) => parts.push(expr),
         Err(_) => parts.lack_memory(),
     }
 }
 
-fn popped(parts: &mut Parts<Expr>) -> Expr {
+pub(super) fn popped(parts: &mut Parts<Expr>) -> Expr {
     parts.pop(Expr::val(Literal::Bool(false)))
 }
 
-// Puts the part before the word at this place.
-fn place_last(ends: &str, parts: &mut Parts<Expr>) {
-    match place(ends) {
-        Ok(place) => {
-            let expr = popped(parts).with_maybe_source_loc(place);
-            put(parts, expr);
+fn put_literal(alloc: Global, literal: &Literal, parts: &mut Parts<Expr>) {
+    match literal {
+        Literal::Bool(is_true) => put(parts, Expr::val(Literal::Bool(*is_true))),
+        Literal::Long(number) => put(parts, Expr::val(Literal::Long(*number))),
+        Literal::String(text) => put_text(text.clone(), parts),
+        Literal::EntityUID(uid) => put_entity(alloc, unplaced(alloc, uid), parts),
+    }
+}
+
+fn put_text(text: Result<RcStr, AllocError>, parts: &mut Parts<Expr>) {
+    match text {
+        Ok(text) => put(parts, Expr::val(Literal::String(text))),
+        Err(_) => parts.lack_memory(),
+    }
+}
+
+fn put_entity(alloc: Global, uid: Result<EntityUID, AllocError>, parts: &mut Parts<Expr>) {
+    match uid {
+        Ok(uid) => put_made(parts, Expr::entity(alloc, uid)),
+        Err(_) => parts.lack_memory(),
+    }
+}
+
+fn put_if(alloc: Global, parts: &mut Parts<Expr>) {
+    let else_expr = popped(parts);
+    let then_expr = popped(parts);
+    let test_expr = popped(parts);
+    put_made(parts, Expr::ite(alloc, test_expr, then_expr, else_expr));
+}
+
+fn put_and(alloc: Global, parts: &mut Parts<Expr>) {
+    let right = popped(parts);
+    let left = popped(parts);
+    put_made(parts, Expr::and(alloc, left, right));
+}
+
+fn put_or(alloc: Global, parts: &mut Parts<Expr>) {
+    let right = popped(parts);
+    let left = popped(parts);
+    put_made(parts, Expr::or(alloc, left, right));
+}
+
+pub(super) fn put_unary(alloc: Global, op: UnaryOp, parts: &mut Parts<Expr>) {
+    let arg = popped(parts);
+    put_made(parts, Expr::unary_app(alloc, op, arg));
+}
+
+fn put_binary(alloc: Global, op: BinaryOp, parts: &mut Parts<Expr>) {
+    let right = popped(parts);
+    let left = popped(parts);
+    put_made(parts, Expr::binary_app(alloc, op, left, right));
+}
+
+fn put_attribute(alloc: Global, attribute: &RcStr, parts: &mut Parts<Expr>) {
+    match attribute.clone() {
+        Ok(attribute) => {
+            let expr = popped(parts);
+            put_made(parts, Expr::get_attr(alloc, expr, attribute));
+        }
+        Err(_) => parts.lack_memory(),
+    }
+}
+
+fn put_has(alloc: Global, attribute: &RcStr, parts: &mut Parts<Expr>) {
+    match attribute.clone() {
+        Ok(attribute) => {
+            let expr = popped(parts);
+            put_made(parts, Expr::has_attr(alloc, expr, attribute));
+        }
+        Err(_) => parts.lack_memory(),
+    }
+}
+
+// Takes the last part, and puts an extended `has` of it.
+pub(super) fn put_path(
+    alloc: Global,
+    path: Result<FirstRest<RcStr>, Unanswered>,
+    parts: &mut Parts<Expr>,
+) {
+    match path {
+        Ok(path) => {
+            let expr = popped(parts);
+            put_made(parts, Expr::extended_has_attr(alloc, expr, path));
         }
         Err(why) => parts.fail(why),
     }
 }
 
-fn read_kind(alloc: Global, kind: &str, rest: &str, parts: &mut Parts<Expr>) {
-    match kind {
-        "V" => put_variable(rest, parts),
-        "S" => put_slot(rest, parts),
-        "U" => put_unknown(unknown(alloc, rest), parts),
-        "M" => put_unknown(missing(alloc, rest), parts),
-        "set" => put_set(alloc, rest, parts),
-        "record" => put_record(alloc, rest, parts),
-        "fields" => put_fields(alloc, rest, parts),
-        "call" => put_call(alloc, rest, parts),
-        "get" => put_attribute(alloc, rest, parts),
-        "has" => put_has(alloc, rest, parts),
-        "ext" => put_path(alloc, rest, parts),
-        "like" => put_like(alloc, rest, parts),
-        "is" => put_is(alloc, rest, parts),
-        _ => put_literal(alloc, kind, rest, parts),
+fn put_like(alloc: Global, pattern: &Pattern, parts: &mut Parts<Expr>) {
+    match pattern.clone() {
+        Ok(pattern) => {
+            let expr = popped(parts);
+            put_made(parts, Expr::like(alloc, expr, pattern));
+        }
+        Err(_) => parts.lack_memory(),
     }
 }
 
-fn put_variable(word: &str, parts: &mut Parts<Expr>) {
-    match variable(word) {
-        Ok(var) => put(parts, Expr::var(var)),
-        Err(why) => parts.fail(why),
+fn put_is(alloc: Global, ty: &EntityType, parts: &mut Parts<Expr>) {
+    match ty.text().clone() {
+        Ok(text) => {
+            let expr = popped(parts);
+            let ty = EntityType::new(Name::new(text, None));
+            put_made(parts, Expr::is_entity_type(alloc, expr, ty));
+        }
+        Err(_) => parts.lack_memory(),
     }
 }
 
-fn put_slot(word: &str, parts: &mut Parts<Expr>) {
-    match slot(word) {
-        Ok(slot) => put(parts, Expr::slot(slot)),
-        Err(why) => parts.fail(why),
-    }
-}
-
-fn put_unknown(read: Result<Unknown, Unanswered>, parts: &mut Parts<Expr>) {
-    match read {
-        Ok(unknown) => put(parts, Expr::unknown(unknown)),
-        Err(why) => parts.fail(why),
-    }
-}
-
-fn put_literal(alloc: Global, kind: &str, rest: &str, parts: &mut Parts<Expr>) {
-    match literal(alloc, kind, rest) {
-        Ok(literal) => put(parts, Expr::val(literal)),
-        Err(why) => parts.fail(why),
-    }
-}
-
-fn put_set(alloc: Global, count: &str, parts: &mut Parts<Expr>) {
-    let count = parts.number(count);
+pub(super) fn put_set(alloc: Global, count: usize, parts: &mut Parts<Expr>) {
     match parts.last(count) {
         Ok(elements) => put_made(parts, Expr::set(alloc, elements)),
         Err(_) => parts.lack_memory(),
     }
 }
 
-fn put_record(alloc: Global, keys: &str, parts: &mut Parts<Expr>) {
-    match parts.named(alloc, keys) {
-        Ok(pairs) => put_distinct(Expr::record(alloc, pairs), parts),
-        Err(_) => parts.lack_memory(),
+// Takes the last part, and puts it behind these pairs under its key.
+fn put_pair(pairs: &mut Vec<(RcStr, Expr)>, key: &RcStr, parts: &mut Parts<Expr>) {
+    let part = popped(parts);
+    match key.clone() {
+        Ok(key) => if add(pairs, (key, part)).is_err() {
+            parts.lack_memory();
+        },
+        Err(_) => {
+            drop(part);
+            parts.lack_memory();
+        }
     }
 }
 
@@ -177,119 +330,5 @@ fn put_distinct(made: Result<Expr, ExpressionConstructionError>, parts: &mut Par
             parts.refuse("a key twice")
         }
         Err(ExpressionConstructionError::Memory(_)) => parts.lack_memory(),
-    }
-}
-
-fn put_fields(alloc: Global, keys: &str, parts: &mut Parts<Expr>) {
-    match parts.named(alloc, keys) {
-        Ok(pairs) => match mapped(alloc, pairs) {
-            Ok(map) => put_made(parts, Expr::record_map(alloc, map)),
-            Err(_) => parts.lack_memory(),
-        },
-        Err(_) => parts.lack_memory(),
-    }
-}
-
-fn put_call(alloc: Global, rest: &str, parts: &mut Parts<Expr>) {
-    match rest.rsplit_once(':') {
-        Some((function, count)) => put_call_of(alloc, function, count, parts),
-        None => parts.refuse("a call has a name and a count"),
-    }
-}
-
-fn put_call_of(alloc: Global, function: &str, count: &str, parts: &mut Parts<Expr>) {
-    let count = parts.number(count);
-    match parts.last(count) {
-        Ok(arguments) => match name(alloc, function) {
-            Ok(function) => put_made(parts, Expr::call_extension_fn(alloc, function, arguments)),
-            Err(why) => {
-                drop(arguments);
-                parts.fail(why);
-            }
-        },
-        Err(_) => parts.lack_memory(),
-    }
-}
-
-fn put_attribute(alloc: Global, written: &str, parts: &mut Parts<Expr>) {
-    match text(alloc, written) {
-        Ok(attribute) => {
-            let expr = popped(parts);
-            put_made(parts, Expr::get_attr(alloc, expr, attribute));
-        }
-        Err(_) => parts.lack_memory(),
-    }
-}
-
-fn put_has(alloc: Global, written: &str, parts: &mut Parts<Expr>) {
-    match text(alloc, written) {
-        Ok(attribute) => {
-            let expr = popped(parts);
-            put_made(parts, Expr::has_attr(alloc, expr, attribute));
-        }
-        Err(_) => parts.lack_memory(),
-    }
-}
-
-fn put_path(alloc: Global, written: &str, parts: &mut Parts<Expr>) {
-    match attributes(alloc, written) {
-        Ok(path) => {
-            let expr = popped(parts);
-            put_made(parts, Expr::extended_has_attr(alloc, expr, path));
-        }
-        Err(_) => parts.lack_memory(),
-    }
-}
-
-fn put_like(alloc: Global, written: &str, parts: &mut Parts<Expr>) {
-    match pattern(alloc, written) {
-        Ok(pattern) => {
-            let expr = popped(parts);
-            put_made(parts, Expr::like(alloc, expr, pattern));
-        }
-        Err(_) => parts.lack_memory(),
-    }
-}
-
-fn put_is(alloc: Global, written: &str, parts: &mut Parts<Expr>) {
-    match entity_type(alloc, written) {
-        Ok(ty) => {
-            let expr = popped(parts);
-            put_made(parts, Expr::is_entity_type(alloc, expr, ty));
-        }
-        Err(why) => parts.fail(why),
-    }
-}
-
-// A word alone: an operation on the parts before it.
-fn operate(alloc: Global, word: &str, parts: &mut Parts<Expr>) {
-    let right = popped(parts);
-    match unary(word) {
-        Some(op) => put_made(parts, Expr::unary_app(alloc, op, right)),
-        None => operate_on_two(alloc, word, right, parts),
-    }
-}
-
-fn operate_on_two(alloc: Global, word: &str, right: Expr, parts: &mut Parts<Expr>) {
-    let left = popped(parts);
-    match binary(word) {
-        Some(op) => put_made(parts, Expr::binary_app(alloc, op, left, right)),
-        None => connect(alloc, word, left, right, parts),
-    }
-}
-
-fn connect(alloc: Global, word: &str, left: Expr, right: Expr, parts: &mut Parts<Expr>) {
-    match word {
-        "and" => put_made(parts, Expr::and(alloc, left, right)),
-        "or" => put_made(parts, Expr::or(alloc, left, right)),
-        "if" => {
-            let test = popped(parts);
-            put_made(parts, Expr::ite(alloc, test, left, right));
-        }
-        _ => {
-            drop(left);
-            drop(right);
-            parts.refuse("no such operation");
-        }
     }
 }

@@ -1,19 +1,19 @@
 //! Reads policies, of which each is a fact of the setting.
 //!
-//! - `policy p permit WORDS` has this when clause, constraints that are `true`, and no place.
-//! - `policy p permit WORDS | WORDS | WORDS | WORDS` has these constraints on the principal, the action and the resource, and this
-//!   when clause.
-//! - `clause p forbid 3-5 WORDS` is a policy made from its when clause alone, at a place.
-//! - `annotation p key text` is an annotation of a policy.
-use crate::notation::expressions::expression;
-use crate::notation::leaves::{place, text};
+//! - `policy p permit(principal, action, resource) when { .. };` is a policy of Cedar's text, at no place.
+//! - `constraint p action EXPRESSION` is its constraint on the action, where no scope can write it; the same of the principal and of
+//!   the resource.
+//! - `clause p 3-5 forbid(principal, action, resource) when { .. };` is a policy made from its when clause alone, at a place.
+use crate::notation::expressions::{LEVELS, expression, meant};
+use crate::notation::leaves::place;
 use crate::notation::settings::{fact_of, slots};
 use crate::notation::unanswered::{Noted, Unanswered};
-use crate::notation::{Parts, both, headed, or_memory};
+use crate::notation::{Parts, both, fact, headed, or_memory};
 use cedar_layers::expressions::{Expr, Literal, SlotEnv};
-use cedar_layers::policies::{Annotations, Effect, Policy, PolicyID, PolicySet, PolicySetError};
+use cedar_layers::policies::{Effect, Policy, PolicyID, PolicySet, PolicySetError};
+use cedar_policy_text::parse_policy;
 use std::alloc::{AllocError, Global};
-use std::rc::Rc;
+use std::rc::{Rc, RcStr};
 
 /// The policies of these ids, in order; `none` is no policy.
 pub fn policies(alloc: Global, setting: &str, ids: &str) -> Result<Vec<Policy>, Unanswered> {
@@ -40,10 +40,10 @@ pub fn policy_set(alloc: Global, setting: &str, ids: &str) -> Result<PolicySet, 
 /// The policy of this id.
 pub fn policy(alloc: Global, setting: &str, id: &str) -> Result<Policy, Unanswered> {
     match stated(setting, "clause", id) {
-        Some(rest) => clause(alloc, setting, id, rest),
+        Some(rest) => clause(alloc, id, rest),
         None => {
-            let rest = stated(setting, "policy", id).ok_or("no such policy")?;
-            of_parts(alloc, setting, id, rest)
+            let text = stated(setting, "policy", id).ok_or("no such policy")?;
+            of_text(alloc, setting, id, text)
         }
     }
 }
@@ -57,18 +57,36 @@ fn stated<'a>(setting: &'a str, keyword: &str, id: &str) -> Option<&'a str> {
     None
 }
 
-fn clause(alloc: Global, setting: &str, id: &str, stated: &str) -> Result<Policy, Unanswered> {
-    let (effect_name, rest) = headed(stated);
-    let (ends, words) = headed(rest);
-    let (effect, place) = both(effect(effect_name), place(ends))?;
+fn clause(alloc: Global, id: &str, stated: &str) -> Result<Policy, Unanswered> {
+    let (ends, text) = headed(stated);
+    match read(alloc, id, text) {
+        Ok(read) => {
+            let made = of_clause(alloc, id, ends, &read);
+            drop(read);
+            made
+        }
+        Err(why) => Err(why),
+    }
+}
+
+// The policy as the text writes it, with the places of the text.
+fn read(alloc: Global, id: &str, text: &str) -> Result<Policy, Unanswered> {
+    match parse_policy(alloc, policy_id(alloc, id)?, text, LEVELS) {
+        Ok(policy) => Ok(policy),
+        Err(error) => Err(Unanswered::from(error)),
+    }
+}
+
+fn of_clause(alloc: Global, id: &str, ends: &str, read: &Policy) -> Result<Policy, Unanswered> {
+    let place = place(ends)?;
     let ((annotations, id), clause) = both(
         both(
-            shared(alloc, annotations(alloc, setting, id)),
+            or_memory(read.annotations_rc().clone()),
             or_memory(policy_id(alloc, id)),
         ),
-        shared(alloc, expression(alloc, words)),
+        shared(alloc, meant(alloc, read.when_clause())),
     )?;
-    or_memory(Policy::from_when_clause_annos(alloc, effect, clause, id, place, annotations))
+    or_memory(Policy::from_when_clause_annos(alloc, read.effect(), clause, id, place, annotations))
 }
 
 // The part, to be shared.
@@ -77,12 +95,27 @@ fn shared<T: Drop>(alloc: Global, part: Result<T, Unanswered>) -> Result<Rc<T>, 
     Ok(Rc::new(alloc, part)?)
 }
 
-fn of_parts(alloc: Global, setting: &str, id: &str, stated: &str) -> Result<Policy, Unanswered> {
-    let (effect_name, words) = headed(stated);
-    let effect = effect(effect_name)?;
-    let ((annotations, slots), (id, conjuncts)) = both(
-        both(annotations(alloc, setting, id), linked(alloc, setting)),
-        both(or_memory(policy_id(alloc, id)), conjuncts(alloc, words)),
+fn of_text(alloc: Global, setting: &str, id: &str, text: &str) -> Result<Policy, Unanswered> {
+    match read(alloc, id, text) {
+        Ok(read) => {
+            let made = of_parts(alloc, setting, id, &read);
+            drop(read);
+            made
+        }
+        Err(why) => Err(why),
+    }
+}
+
+fn of_parts(alloc: Global, setting: &str, id: &str, read: &Policy) -> Result<Policy, Unanswered> {
+    let ((annotations, slots), (policy_id, conjuncts)) = both(
+        both(
+            or_memory(read.annotations_rc().as_ref().clone()),
+            linked(alloc, setting),
+        ),
+        both(
+            or_memory(policy_id(alloc, id)),
+            conjuncts(alloc, setting, id, read),
+        ),
     )?;
     let mut parts = conjuncts;
     let when = part(&mut parts);
@@ -90,8 +123,8 @@ fn of_parts(alloc: Global, setting: &str, id: &str, stated: &str) -> Result<Poli
     drop(parts);
     or_memory(Policy::new(
         alloc,
-        effect,
-        id,
+        read.effect(),
+        policy_id,
         annotations,
         principal,
         action,
@@ -110,13 +143,43 @@ fn linked(alloc: Global, setting: &str) -> Result<SlotEnv, Unanswered> {
     }
 }
 
-// The constraints on the principal, the action and the resource, if they are written, and the when clause.
-fn conjuncts(alloc: Global, words: &str) -> Result<Vec<Expr>, Unanswered> {
+// The constraints on the principal, the action and the resource, and the when clause.
+fn conjuncts(
+    alloc: Global,
+    setting: &str,
+    id: &str,
+    read: &Policy,
+) -> Result<Vec<Expr>, Unanswered> {
     let mut parts: Parts<Expr> = Parts::new(alloc);
-    for part in words.split(" | ") {
-        parts.push_read(expression(alloc, part));
-    }
+    let (principal, action) = (read.principal_constraint(), read.action_constraint());
+    parts.push_read(constraint(alloc, setting, id, "principal", principal));
+    parts.push_read(constraint(alloc, setting, id, "action", action));
+    parts.push_read(constraint(alloc, setting, id, "resource", read.resource_constraint()));
+    parts.push_read(meant(alloc, read.when_clause()));
     parts.all()
+}
+
+// The constraint on this variable: the one that a fact states, or else that of the scope.
+fn constraint(
+    alloc: Global,
+    setting: &str,
+    id: &str,
+    variable: &str,
+    in_scope: &Expr,
+) -> Result<Expr, Unanswered> {
+    for line in setting.lines() {
+        if let Some(text) = constraint_in(line, id, variable) {
+            return expression(alloc, text);
+        }
+    }
+    meant(alloc, in_scope)
+}
+
+fn constraint_in<'a>(line: &'a str, id: &str, variable: &str) -> Option<&'a str> {
+    match fact_of(line, "constraint", id) {
+        Some(rest) => fact(rest, variable),
+        None => None,
+    }
 }
 
 // The last part; a constraint that is not written is `true`.
@@ -127,22 +190,9 @@ fn part(parts: &mut Vec<Expr>) -> Expr {
     }
 }
 
-fn annotations(alloc: Global, setting: &str, id: &str) -> Result<Annotations, Unanswered> {
-    let mut annotations = Annotations::new(alloc);
-    for line in setting.lines() {
-        if let Some(rest) = fact_of(line, "annotation", id) {
-            let (key, written) = headed(rest);
-            annotations
-                .0
-                .insert(text(alloc, key)?, text(alloc, written)?)?;
-        }
-    }
-    Ok(annotations)
-}
-
 /// The id that is written so.
 pub fn policy_id(alloc: Global, id: &str) -> Result<PolicyID, AllocError> {
-    Ok(PolicyID::from_string(text(alloc, id)?))
+    Ok(PolicyID::from_string(RcStr::from_str(alloc, id)?))
 }
 
 /// The effect of this name.

@@ -1,10 +1,10 @@
 //! Errors that may be want of memory, which is no answer to a row.
 use cedar_authorizer::authorizer::{ConcretizationError, ReauthorizationError};
+use cedar_errors::evaluator::err::EvaluationError;
 use cedar_layers::expressions::ExpressionConstructionError;
 use cedar_layers::policies::PolicySetError;
 use cedar_requests::ContextCreationError;
 use cedar_restricted_expressions::{PartialValueToRestrictedExprError, RestrictedExpressionError};
-use cedar_values::evaluator::err::EvaluationError;
 use std::fmt;
 
 /// An error that may be want of memory.

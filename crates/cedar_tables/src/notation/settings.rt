@@ -1,16 +1,15 @@
 //! Reads the setting of a table. Each line states a fact; a line that states none says nothing.
 //!
-//! - `principal User:a`, `action Action:view` and `resource Photo:p 1-2` are the request's entities, each with its place if it has
-//!   one; `principal unknown` and `principal unknown User` are not known, the second of that type.
-//! - `context WORDS` is the context that the words of a restricted expression are evaluated to; `context none` is not known;
-//!   without either it is empty.
-//! - `slot resource Photo:p` links a slot.
+//! - `principal User::"a"`, `action Action::"view"` and `resource Photo::"p" 1-2` are the request's entities, each with its place
+//!   if it has one; `principal unknown` and `principal unknown User` are not known, the second of that type.
+//! - `context {n: 1}` is the context that this restricted expression is evaluated to; `context none` is not known; without either
+//!   it is empty.
+//! - `slot resource Photo::"p"` links a slot.
 //! - `store partial`: an entity that the store lacks is not known.
-//! - `entity User:a` is an entity of the store; with `entity User:a second` the facts on it name it `second`.
-//! - `attribute User:a age L:30` and `tag User:a age L:30` have the words of a value, or, where one of them is an unknown, of a
-//!   restricted expression.
-//! - `ancestor User:a Group:g`.
-//! - `map x L:1` is the value of an unknown.
+//! - `entity User::"a"` is an entity of the store; with `entity User::"a" second` the facts on it name it `second`.
+//! - `attribute User::"a" age = 30` and `tag User::"a" age = 30` have a value, or, where it has an unknown, a restricted expression.
+//! - `ancestor User::"a" Group::"g"`.
+//! - `map x = 1` is the value of an unknown.
 //! - `errors skip` and `errors forbid` say how errors are handled: a policy that errs is skipped, as where neither stands; or a
 //!   forbid that errs forbids.
 //! - `resolution shallow` and `resolution deep` say what reading a stored residual answers: what is stored, as where neither
@@ -21,11 +20,11 @@ ghost use Rattle.std.specs.Prelude.{◌≡◌, true};
 ghost use Rattle.cedar_layers.specs.Parts.{parts_view, are_restricted_parts};
 ghost use mathlib.Core.Bool.{Bool-set};
 
-use crate::notation::expressions::restricted;
-use crate::notation::leaves::{entity_type, slot, text, uid};
+use crate::notation::expressions::{expression, restricted, restricted_of};
+use crate::notation::leaves::{entity_type, slot, uid};
 use crate::notation::unanswered::{Noted, Unanswered};
-use crate::notation::values::value;
-use crate::notation::{add, both, fact, first_fact, headed, or_memory, put};
+use crate::notation::values::{value, value_of};
+use crate::notation::{add, both, fact, first_fact, headed, named, or_memory, put};
 use cedar_authorizer::authorizer::{ErrorHandling, Resolution};
 use cedar_extensions::Extensions;
 use cedar_layers::expressions::{EntityUID, Expr, PartialValue, ResidualExpr, SlotEnv, Value};
@@ -33,7 +32,7 @@ use cedar_layers::policies::{Entities, Entity};
 use cedar_requests::{Context, ContextCreationError, EntityUIDEntry, Request};
 use cedar_restricted_expressions::RestrictedExpr;
 use std::alloc::{AllocError, Global};
-use std::collections::{BTreeMap, HashMap, HashSet};
+use std::collections::{BTreeMap, BTreeSet, HashMap};
 use std::rc::RcStr;
 
 /// As many levels as any expression of a setting takes.
@@ -169,21 +168,21 @@ fn context(
 ) -> Option<Context> {
     match first_fact(facts, "context") {
         None => Some(Context::empty(alloc)),
-        Some(words) => if words == "none" {
+        Some(text) => if text == "none" {
             None
         } else {
-            context_of(alloc, words, extensions, noted)
+            context_of(alloc, text, extensions, noted)
         },
     }
 }
 
 fn context_of(
     alloc: Global,
-    words: &str,
+    text: &str,
     extensions: &Extensions<'_>,
     noted: &mut Noted,
 ) -> Option<Context> {
-    match restricted(alloc, words) {
+    match restricted(alloc, text) {
         Ok(expr) => {
             let made = Context::from_expr(alloc, expr.as_borrowed(), extensions, LIMIT);
             drop(expr);
@@ -249,35 +248,40 @@ pub fn resolution(facts: &str, noted: &mut Noted) -> Resolution {
 fn mapped_values(alloc: Global, facts: &str, noted: &mut Noted) -> HashMap<RcStr, Value> {
     let mut map: HashMap<RcStr, Value> = HashMap::new(alloc);
     for line in facts.lines() {
-        if let Some(named) = fact(line, "map") {
-            put_value(alloc, &mut map, named, noted);
+        if let Some(written) = fact(line, "map") {
+            put_value(alloc, &mut map, written, noted);
         }
     }
     map
 }
 
-/// Puts the value that these words write into the map, under the name that stands before them.
-pub fn put_value(alloc: Global, map: &mut HashMap<RcStr, Value>, named: &str, noted: &mut Noted) {
-    let (name, words) = headed(named);
-    match both(or_memory(text(alloc, name)), value(alloc, words)) {
+/// Puts the value of `NAME = VALUE` into the map, under the name.
+pub fn put_value(alloc: Global, map: &mut HashMap<RcStr, Value>, written: &str, noted: &mut Noted) {
+    match value_named(alloc, written) {
         Ok((name, value)) => noted.note(put(map, name, value)),
         Err(why) => noted.fail(why),
     }
+}
+
+/// The name and the value, of `NAME = VALUE`.
+pub fn value_named(alloc: Global, written: &str) -> Result<(RcStr, Value), Unanswered> {
+    let (name, text) = named(written)?;
+    both(or_memory(RcStr::from_str(alloc, name)), value(alloc, text))
 }
 
 /// The entities of the slots that are linked.
 pub fn slots(alloc: Global, facts: &str, noted: &mut Noted) -> SlotEnv {
     let mut slots = SlotEnv::new(alloc);
     for line in facts.lines() {
-        if let Some(named) = fact(line, "slot") {
-            link(alloc, &mut slots, named, noted);
+        if let Some(linked) = fact(line, "slot") {
+            link(alloc, &mut slots, linked, noted);
         }
     }
     slots
 }
 
-fn link(alloc: Global, slots: &mut SlotEnv, named: &str, noted: &mut Noted) {
-    let (name, entity) = headed(named);
+fn link(alloc: Global, slots: &mut SlotEnv, linked: &str, noted: &mut Noted) {
+    let (name, entity) = headed(linked);
     match both(slot(name), uid(alloc, entity)) {
         Ok((slot, uid)) => if slots.insert(slot, uid).is_err() {
             noted.lack_memory();
@@ -335,8 +339,8 @@ fn entity(alloc: Global, facts: &str, uid: EntityUID, called: &str, noted: &mut 
     Entity::new(uid, attributes.parts, ancestors, tags.parts)
 }
 
-fn ancestors(alloc: Global, facts: &str, called: &str, noted: &mut Noted) -> HashSet<EntityUID> {
-    let mut ancestors: HashSet<EntityUID> = HashSet::new(alloc);
+fn ancestors(alloc: Global, facts: &str, called: &str, noted: &mut Noted) -> BTreeSet<EntityUID> {
+    let mut ancestors: BTreeSet<EntityUID> = BTreeSet::new(alloc);
     for line in facts.lines() {
         if let Some(above) = fact_of(line, "ancestor", called) {
             put_ancestor(alloc, &mut ancestors, above, noted);
@@ -345,7 +349,12 @@ fn ancestors(alloc: Global, facts: &str, called: &str, noted: &mut Noted) -> Has
     ancestors
 }
 
-fn put_ancestor(alloc: Global, ancestors: &mut HashSet<EntityUID>, above: &str, noted: &mut Noted) {
+fn put_ancestor(
+    alloc: Global,
+    ancestors: &mut BTreeSet<EntityUID>,
+    above: &str,
+    noted: &mut Noted,
+) {
     match uid(alloc, above) {
         Ok(uid) => if ancestors.insert(uid).is_err() {
             noted.lack_memory();
@@ -364,16 +373,16 @@ fn parts_of(
 ) -> StoredParts {
     let mut parts = StoredParts::new(alloc);
     for line in facts.lines() {
-        if let Some(named) = fact_of(line, keyword, called) {
-            parts = with_part(alloc, parts, named, noted);
+        if let Some(written) = fact_of(line, keyword, called) {
+            parts = with_part(alloc, parts, written, noted);
         }
     }
     parts
 }
 
-// The parts, and the one that is named so. Where that can't be read, what is left of them is no matter.
-fn with_part(alloc: Global, parts: StoredParts, named: &str, noted: &mut Noted) -> StoredParts {
-    match read_part(alloc, parts, named) {
+// The parts, and the one that is written so. Where that can't be read, what is left of them is no matter.
+fn with_part(alloc: Global, parts: StoredParts, written: &str, noted: &mut Noted) -> StoredParts {
+    match read_part(alloc, parts, written) {
         Ok(parts) => parts,
         Err(why) => {
             noted.fail(why);
@@ -382,26 +391,51 @@ fn with_part(alloc: Global, parts: StoredParts, named: &str, noted: &mut Noted) 
     }
 }
 
-fn read_part(alloc: Global, parts: StoredParts, named: &str) -> Result<StoredParts, Unanswered> {
-    let (name, words) = headed(named);
-    let name = text(alloc, name)?;
-    if has_unknown(words) {
-        let ((parts, name), residual) = both(Ok((parts, name)), restricted(alloc, words))?;
-        parts.with_residual(name, residual)
-    } else {
-        let ((parts, name), value) = both(Ok((parts, name)), value(alloc, words))?;
-        Ok(parts.with(name, value)?)
+fn read_part(alloc: Global, parts: StoredParts, written: &str) -> Result<StoredParts, Unanswered> {
+    let (name, text) = named(written)?;
+    let (parts, (name, part)) = both(
+        Ok(parts),
+        both(or_memory(RcStr::from_str(alloc, name)), part(alloc, text)),
+    )?;
+    match part {
+        PartRead::Value(value) => Ok(parts.with(name, value)?),
+        PartRead::Residual(residual) => parts.with_residual(name, residual),
     }
 }
 
-// Whether one of the words is an unknown.
-fn has_unknown(words: &str) -> bool {
-    for word in words.split(' ') {
-        if word.starts_with("U:") {
-            return true;
-        }
+/// What an attribute or a tag has.
+#[derive(Drop)]
+enum PartRead {
+    Value(Value),
+    Residual(RestrictedExpr),
+}
+
+// The value that the text writes, or, where it has an unknown, the restricted expression.
+fn part(alloc: Global, text: &str) -> Result<PartRead, Unanswered> {
+    match expression(alloc, text) {
+        Ok(expr) => if expr.has_unknown() {
+            residual(expr)
+        } else {
+            let value = value_of(alloc, &expr);
+            drop(expr);
+            known(value)
+        },
+        Err(why) => Err(why),
     }
-    false
+}
+
+fn residual(expr: Expr) -> Result<PartRead, Unanswered> {
+    match restricted_of(expr) {
+        Ok(residual) => Ok(PartRead::Residual(residual)),
+        Err(why) => Err(why),
+    }
+}
+
+fn known(value: Result<Value, Unanswered>) -> Result<PartRead, Unanswered> {
+    match value {
+        Ok(value) => Ok(PartRead::Value(value)),
+        Err(why) => Err(why),
+    }
 }
 
 /// What the line states of this keyword on what is called so, if it states that.

@@ -2,8 +2,8 @@
 use crate::notation::answer::Answer;
 use crate::notation::expressions::expression;
 use crate::notation::unanswered::Unanswered;
+use cedar_errors::evaluator::err::EvaluationError;
 use cedar_layers::expressions::{Expr, Loc};
-use cedar_values::evaluator::err::EvaluationError;
 use std::alloc::AllocError;
 use std::fmt;
 use std::hash::{FoldHasher, Hash, Hasher};
@@ -90,7 +90,7 @@ pub fn put_same<T: fmt::Display + PartialEq>(
     answer.show(&is_same);
 }
 
-/// The words that are wanted, where the expression that they write is this one, else the text of this one.
+/// The text that is wanted, where the expression that it writes is this one, else what this one prints as.
 pub fn put_wanted(answer: &mut Answer, expr: &Expr, want: &str) {
     match expression(answer.alloc, want) {
         Ok(wanted) => if wanted == *expr {

@@ -1,9 +1,10 @@
 //! Why a row has no answer.
 use crate::notation::leaves::place;
 use cedar_layers::expressions::Loc;
+use cedar_tokens::errors::ReadError;
 use std::alloc::{AllocError, AllocFailed};
 use std::num::ParseIntError;
-use std::str::{ParseBoolError, Utf8Error};
+use std::str::Utf8Error;
 use std::{fmt, io};
 
 /// Why a row has no answer.
@@ -35,15 +36,19 @@ impl From<&'static str> for Unanswered {
     }
 }
 
-impl From<ParseIntError> for Unanswered {
-    fn from(_error: ParseIntError) -> Unanswered {
-        Unanswered::Unreadable("a number")
+impl From<ReadError> for Unanswered {
+    fn from(error: ReadError) -> Unanswered {
+        match error {
+            ReadError::Memory => Unanswered::Memory,
+            ReadError::Expected { .. } => Unanswered::Unreadable("not of Cedar's grammar"),
+            ReadError::TooDeep { .. } => Unanswered::Unreadable("more levels than can be read"),
+        }
     }
 }
 
-impl From<ParseBoolError> for Unanswered {
-    fn from(_error: ParseBoolError) -> Unanswered {
-        Unanswered::Unreadable("true or false")
+impl From<ParseIntError> for Unanswered {
+    fn from(_error: ParseIntError) -> Unanswered {
+        Unanswered::Unreadable("a number")
     }
 }
 

@@ -1,12 +1,12 @@
 //! What is answered of contexts that are made of restricted expressions: what they hold, or why there is none.
 //!
-//! Pairs are written `b=U:x, a=L:1 set:1`, in that order: names, and the words of a restricted expression. `none` is no pair.
+//! Pairs are written `b = unknown("x"); a = [1]`, in that order: names and restricted expressions. `none` is no pair.
 use crate::levels::{Asked, Shortage, answer_within, met_by};
 use crate::notation::answer::Answer;
 use crate::notation::expressions::restricted;
-use crate::notation::pair;
 use crate::notation::shown::is_equal;
 use crate::notation::unanswered::Unanswered;
+use crate::notation::{named, pair};
 use cedar_extensions::Extensions;
 use cedar_layers::expressions::{Expr, ExpressionConstructionError, PartialValue};
 use cedar_requests::{Context, ContextCreationError};
@@ -15,7 +15,7 @@ use std::alloc::{AllocError, Global};
 use std::collections::BTreeMap;
 use std::rc::RcStr;
 
-/// What is asked of the context of these words.
+/// What is asked of the context that is written so.
 pub fn ask(
     answer: &mut Answer,
     extensions: &Extensions<'_>,
@@ -24,7 +24,7 @@ pub fn ask(
     written: &str,
 ) {
     match kind {
-        "expression" => of_words(answer, extensions, limit_text, written),
+        "expression" => of_text(answer, extensions, limit_text, written),
         _ => match pairs(answer.alloc, written) {
             Ok(pairs) => of_pairs(answer, extensions, kind, limit_text, pairs),
             Err(why) => answer.fail(why),
@@ -213,8 +213,8 @@ fn of_record(
     }
 }
 
-fn of_words(answer: &mut Answer, extensions: &Extensions<'_>, limit_text: &str, words: &str) {
-    match restricted(answer.alloc, words) {
+fn of_text(answer: &mut Answer, extensions: &Extensions<'_>, limit_text: &str, text: &str) {
+    match restricted(answer.alloc, text) {
         Ok(expr) => {
             of_expression(answer, extensions, limit_text, &expr);
             drop(expr);
@@ -225,9 +225,9 @@ fn of_words(answer: &mut Answer, extensions: &Extensions<'_>, limit_text: &str, 
 
 fn pairs(alloc: Global, written: &str) -> Result<Vec<(RcStr, RestrictedExpr)>, Unanswered> {
     let mut pairs: Vec<(RcStr, RestrictedExpr)> = Vec::new(alloc);
-    'pairs: for named in written.split(", ") {
-        if let Some((name, words)) = named.split_once('=') {
-            put_pair(alloc, &mut pairs, name, words)?;
+    'pairs: for written in written.split("; ") {
+        if written != "none" {
+            put_pair(alloc, &mut pairs, written)?;
         }
     }
     Ok(pairs)
@@ -236,11 +236,11 @@ fn pairs(alloc: Global, written: &str) -> Result<Vec<(RcStr, RestrictedExpr)>, U
 fn put_pair(
     alloc: Global,
     pairs: &mut Vec<(RcStr, RestrictedExpr)>,
-    name: &str,
-    words: &str,
+    written: &str,
 ) -> Result<(), Unanswered> {
+    let (name, text) = named(written)?;
     let name = RcStr::from_str(alloc, name)?;
-    let value = restricted(alloc, words)?;
+    let value = restricted(alloc, text)?;
     Ok(pair(pairs, name, value)?)
 }
 

@@ -2,7 +2,7 @@
 use crate::notation::answer::Answer;
 use crate::notation::expressions::expression;
 use crate::notation::shown::{are_equal, hash_of, put_same, put_wanted};
-use crate::notation::values::values;
+use crate::notation::values::two_values;
 use crate::notation::{both, pair};
 use crate::steps::mapping;
 use cedar_layers::expressions::{
@@ -14,7 +14,7 @@ use std::collections::HashMap;
 use std::hash::{FoldHasher, Hasher};
 use std::rc::RcStr;
 
-/// What is asked of the expression that the words write, of two, of keys, or of two values.
+/// What is asked of the expression that is written, of two, of keys, or of two values.
 pub fn ask(answer: &mut Answer, kind: &str, bound: &str, words: &str) {
     match kind {
         "equal" => ask_equal(answer, words),
@@ -66,7 +66,7 @@ fn put_shape(answer: &mut Answer, expr: &Expr) {
     answer.show(&is_projectable);
 }
 
-/// What `put_wanted` says of the expression that substitution answers. The map has a value at the first word, or nothing.
+/// What `put_wanted` says of the expression that substitution answers.
 pub fn ask_substituted(answer: &mut Answer, map: &str, words: &str, want: &str) {
     match mapping(answer.alloc, if map.is_empty() { "none" } else { map }) {
         Ok(map) => {
@@ -140,25 +140,20 @@ fn shape_hash(expr: &Expr) -> u64 {
 
 // Whether the two values hash alike, and whether what they are does.
 fn ask_hashes(answer: &mut Answer, words: &str) {
-    match values(answer.alloc, words) {
-        Ok(values) => {
-            put_hashes_of(answer, values.as_slice());
-            drop(values);
+    match two_values(answer.alloc, words) {
+        Ok((left, right)) => {
+            put_hashes_of(answer, &left, &right);
+            drop((left, right));
         }
         Err(why) => answer.fail(why),
     }
 }
 
-fn put_hashes_of(answer: &mut Answer, values: &[Value]) {
-    match values {
-        [left, right] => {
-            let (kind, other) = (left.value_kind(), right.value_kind());
-            answer.show(&(hash_of(left) == hash_of(right)));
-            answer.put(" ");
-            answer.show(&(hash_of(kind) == hash_of(other)));
-        }
-        _ => answer.refuse("hashes are of two"),
-    }
+fn put_hashes_of(answer: &mut Answer, left: &Value, right: &Value) {
+    let (kind, other) = (left.value_kind(), right.value_kind());
+    answer.show(&(hash_of(left) == hash_of(right)));
+    answer.put(" ");
+    answer.show(&(hash_of(kind) == hash_of(other)));
 }
 
 // The record of `true` under these keys, or the text of its error as it is and in another context.
@@ -198,19 +193,12 @@ fn put_in_context(answer: &mut Answer, error: ExpressionConstructionError) {
 
 // How the first value stands to the second one, and whether they are equal.
 fn ask_order(answer: &mut Answer, words: &str) {
-    match values(answer.alloc, words) {
-        Ok(values) => {
-            put_order_of(answer, values.as_slice());
-            drop(values);
+    match two_values(answer.alloc, words) {
+        Ok((left, right)) => {
+            put_order(answer, left.cmp(&right), left == right);
+            drop((left, right));
         }
         Err(why) => answer.fail(why),
-    }
-}
-
-fn put_order_of(answer: &mut Answer, values: &[Value]) {
-    match values {
-        [left, right] => put_order(answer, left.cmp(right), left == right),
-        _ => answer.refuse("an order is of two"),
     }
 }
 

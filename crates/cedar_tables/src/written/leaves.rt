@@ -1,28 +1,23 @@
 //! Leaves as they are printed.
 use crate::notation::answer::Answer;
-use crate::notation::leaves::{binary, entity_type, name, named_type, slot, uid, unary, variable};
+use crate::notation::expressions::expression;
+use crate::notation::headed;
+use crate::notation::leaves::{entity_type, name, named_type, uid};
 use crate::notation::unanswered::Unanswered;
+use cedar_layers::expressions::{Expr, ExprKind};
 use std::fmt;
 
-/// The text of the leaf, which is written as its kind, a colon and the leaf.
+/// The text of the leaf that is written behind its kind: `name`, `entity-type`, `uid`, `type`, or `head`, the operator, the
+/// variable or the slot that an expression begins with.
 pub fn ask(answer: &mut Answer, words: &str) {
-    match words.split_once(':') {
-        Some((kind, rest)) => of_kind(answer, kind, rest),
-        None => answer.refuse("a leaf has a kind"),
-    }
-}
-
-fn of_kind(answer: &mut Answer, kind: &str, written: &str) {
+    let (kind, written) = headed(words);
     let alloc = answer.alloc;
     match kind {
         "name" => put_read(answer, name(alloc, written)),
         "entity-type" => put_read(answer, entity_type(alloc, written)),
         "uid" => put_read(answer, uid(alloc, written)),
         "type" => put_read(answer, named_type(alloc, written)),
-        "variable" => put_read(answer, variable(written)),
-        "slot" => put_read(answer, slot(written)),
-        "unary" => put_known(answer, unary(written)),
-        "binary" => put_known(answer, binary(written)),
+        "head" => ask_head(answer, written),
         _ => answer.refuse("no such leaf"),
     }
 }
@@ -35,9 +30,22 @@ fn put_read<T: fmt::Display + Drop>(answer: &mut Answer, read: Result<T, Unanswe
     }
 }
 
-fn put_known<T: fmt::Display + Drop>(answer: &mut Answer, leaf: Option<T>) {
-    match leaf {
-        Some(leaf) => answer.show(&leaf),
-        None => answer.refuse("no such leaf"),
+fn ask_head(answer: &mut Answer, text: &str) {
+    match expression(answer.alloc, text) {
+        Ok(expr) => {
+            put_head(answer, &expr);
+            drop(expr);
+        }
+        Err(why) => answer.fail(why),
+    }
+}
+
+fn put_head(answer: &mut Answer, expr: &Expr) {
+    match expr.expr_kind() {
+        ExprKind::Var(var) => answer.show(var),
+        ExprKind::Slot(slot) => answer.show(slot),
+        ExprKind::UnaryApp { op, .. } => answer.show(op),
+        ExprKind::BinaryApp { op, .. } => answer.show(op),
+        _ => answer.refuse("no such leaf"),
     }
 }

@@ -1,4 +1,4 @@
-//! What is answered of restricted expressions, of which the words write one.
+//! What is answered of restricted expressions.
 use crate::answers::evaluated::{put_outcome, put_partial, put_partial_place};
 use crate::levels::{Asked, Shortage, answer_within, met_in};
 use crate::notation::answer::Answer;
@@ -6,14 +6,14 @@ use crate::notation::expressions::{expression, restricted};
 use crate::notation::pair;
 use crate::notation::shown::{hash_of, put_same};
 use crate::notation::unanswered::Unanswered;
+use cedar_errors::evaluator::err::EvaluationError;
 use cedar_extensions::Extensions;
 use cedar_layers::expressions::{Expr, Literal, PartialValue, ResidualExpr, Unknown, Value};
-use cedar_restricted::RestrictedEvaluator;
+use cedar_restricted_evaluator::RestrictedEvaluator;
 use cedar_restricted_expressions::{
     BorrowedRestrictedExpr, PartialValueToRestrictedExprError, RestrictedExpr,
     RestrictedExprShapeOnly, RestrictedExpressionError,
 };
-use cedar_values::evaluator::err::EvaluationError;
 use std::alloc::{AllocError, Global};
 use std::fmt;
 use std::rc::RcStr;
@@ -385,7 +385,7 @@ fn put_call(answer: &mut Answer, expr: BorrowedRestrictedExpr<'_>) {
     }
 }
 
-// ---- what words write
+// ---- what is written
 
 fn residual(alloc: Global, words: &str) -> Result<PartialValue, Unanswered> {
     let expr = expression(alloc, words)?;

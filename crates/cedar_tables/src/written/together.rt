@@ -4,17 +4,17 @@ ghost use Rattle.cedar_extensions.specs.Outcomes.{ComesTo, is_lawful, abstracts}
 ghost use Rattle.cedar_built_in_rows.specs.Stored.{made_of};
 
 use crate::notation::answer::Answer;
-use crate::notation::leaves::{name, named_type, text};
+use crate::notation::leaves::{name, named_type};
 use crate::notation::unanswered::Unanswered;
 use crate::notation::{add, both, headed, pair};
 use cedar_built_in_rows::functions::made;
+use cedar_errors::evaluator::err::EvaluationError;
 use cedar_extensions::util::{CollectError, collect_no_duplicates};
 use cedar_extensions::{
     Extension, ExtensionFunction, ExtensionFunctionObject, ExtensionInitializationError,
     ExtensionOutputValue, Extensions,
 };
 use cedar_layers::expressions::{CallStyle, Type, Value};
-use cedar_values::evaluator::err::EvaluationError;
 use std::alloc::{AllocError, Global};
 use std::rc::RcStr;
 
@@ -136,7 +136,7 @@ fn pairs(alloc: Global, keys: &str) -> Result<Vec<(RcStr, usize)>, AllocError> {
     let mut pairs: Vec<(RcStr, usize)> = Vec::new(alloc);
     for key in keys.split(' ') {
         let before = pairs.len();
-        pair(&mut pairs, text(alloc, key)?, before)?;
+        pair(&mut pairs, RcStr::from_str(alloc, key)?, before)?;
     }
     Ok(pairs)
 }

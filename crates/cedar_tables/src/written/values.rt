@@ -1,16 +1,16 @@
 //! Values and partial values as they are printed and copied.
 use crate::answers::evaluated::put_elements_of;
 use crate::notation::answer::Answer;
-use crate::notation::leaves::unknown;
+use crate::notation::expressions::expression;
 use crate::notation::shown::{Place, put_same};
 use crate::notation::unanswered::Unanswered;
-use crate::notation::values::value;
+use crate::notation::values::{value, value_of};
 use crate::written::expressions::{cut, put_copy_of};
-use cedar_layers::expressions::{Expr, PartialValue, ResidualExpr, Value};
+use cedar_layers::expressions::{PartialValue, ResidualExpr, Value};
 use cedar_restricted_expressions::RestrictedExpr;
 use std::alloc::{AllocError, Global};
 
-/// What is asked of the value that the words write.
+/// What is asked of the value that is written.
 pub fn ask(answer: &mut Answer, kind: &str, bound: &str, words: &str) {
     match value(answer.alloc, words) {
         Ok(value) => {
@@ -83,7 +83,7 @@ fn put_expr(answer: &mut Answer, made: Result<RestrictedExpr, AllocError>) {
     }
 }
 
-/// What is asked of the partial value that the words write.
+/// What is asked of the partial value that is written.
 pub fn ask_part(answer: &mut Answer, kind: &str, bound: &str, words: &str) {
     match partial(answer.alloc, words) {
         Ok(part) => {
@@ -94,14 +94,24 @@ pub fn ask_part(answer: &mut Answer, kind: &str, bound: &str, words: &str) {
     }
 }
 
-// The value that the words write, or the unknown.
-fn partial(alloc: Global, words: &str) -> Result<PartialValue, Unanswered> {
-    match words.strip_prefix("U:") {
-        Some(rest) => {
-            let unknown = unknown(alloc, rest)?;
-            Ok(PartialValue::Residual(ResidualExpr::new(Expr::unknown(unknown))))
-        }
-        None => Ok(PartialValue::Value(value(alloc, words)?)),
+// The value that is written, or, where it has an unknown, the residual.
+fn partial(alloc: Global, text: &str) -> Result<PartialValue, Unanswered> {
+    match expression(alloc, text) {
+        Ok(expr) => if expr.has_unknown() {
+            Ok(PartialValue::Residual(ResidualExpr::new(expr)))
+        } else {
+            let value = value_of(alloc, &expr);
+            drop(expr);
+            known(value)
+        },
+        Err(why) => Err(why),
+    }
+}
+
+fn known(value: Result<Value, Unanswered>) -> Result<PartialValue, Unanswered> {
+    match value {
+        Ok(value) => Ok(PartialValue::Value(value)),
+        Err(why) => Err(why),
     }
 }
 

@@ -1,6 +1,6 @@
 use Rattle.std.proofs.Common.{sym, subst}
 use Rattle.cedar_model.specs.Settings.{StoredEntity}
-use Rattle.cedar_restricted.specs.Evaluators.{extensions_in, calls_in, limit_of}
+use Rattle.cedar_restricted_evaluator.specs.Evaluators.{extensions_in, calls_in, limit_of}
 use Rattle.cedar_json.specs.StatedEntities.{stated_view}
 use Rattle.cedar_json.specs.Evaluated.{IsFacts}
 use Rattle.cedar_json.proofs.evaluation.evaluate.Goals as goal

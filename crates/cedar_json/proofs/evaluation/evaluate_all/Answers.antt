@@ -1,7 +1,7 @@
 use Rattle.std.proofs.Common.{◌≡◌, [], ◌∷◌, ◌++◌, List, sym, ap, ◌∙◌, subst, append_assoc, append-nil, rules}
 use Rattle.std.specs.Vec.Iter.{into_iter_items}
 use Rattle.cedar_layers.specs.declared.policies.entities.Entity.{Entity}
-use Rattle.cedar_restricted.specs.Evaluators.{extensions_in, calls_in, limit_of}
+use Rattle.cedar_restricted_evaluator.specs.Evaluators.{extensions_in, calls_in, limit_of}
 use Rattle.cedar_json.specs.declared.entities.StatedEntity.{StatedEntity}
 use Rattle.cedar_json.specs.SaidEntities.{SaidEntity}
 use Rattle.cedar_json.specs.StatedEntities.{stated_view, stated_views}

@@ -1,6 +1,6 @@
 use Rattle.std.proofs.Common.{◌≡◌, ◌++◌, List}
 use Rattle.std.specs.Vec.Iter.{into_iter_items}
-use Rattle.cedar_restricted.specs.Evaluators.{extensions_in, calls_in, limit_of}
+use Rattle.cedar_restricted_evaluator.specs.Evaluators.{extensions_in, calls_in, limit_of}
 use Rattle.cedar_json.specs.SaidEntities.{SaidEntity}
 use Rattle.cedar_json.specs.StatedEntities.{stated_views}
 use Rattle.cedar_json.specs.Evaluated.{AreEvaluated}

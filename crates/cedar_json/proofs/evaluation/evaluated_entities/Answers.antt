@@ -1,6 +1,6 @@
 use Rattle.std.proofs.Common.{ℕ, subst}
 use Rattle.cedar_extensions.specs.Extensions.{extensions_view, calls_of}
-use Rattle.cedar_restricted.specs.Evaluators.{limit_of}
+use Rattle.cedar_restricted_evaluator.specs.Evaluators.{limit_of}
 use Rattle.cedar_json.specs.StatedEntities.{stated_views}
 use Rattle.cedar_json.specs.Evaluated.{AreEvaluated}
 use Rattle.cedar_json.proofs.evaluation.evaluated_entities.Goals as goal

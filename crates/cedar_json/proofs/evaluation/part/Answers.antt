@@ -2,9 +2,9 @@ use Rattle.std.proofs.Common.{◌≡◌, ap, subst}
 use Rattle.cedar_expressions.specs.View.{view}
 use Rattle.cedar_model.specs.Terms.{Term}
 use Rattle.cedar_model.specs.Failures.{answers}
-use Rattle.cedar_data.specs.Residuals.{partial_view}
-use Rattle.cedar_restricted.specs.Evaluations.{IsAnswerWithin}
-use Rattle.cedar_restricted.specs.Evaluators.{calls_in, limit_of}
+use Rattle.cedar_values.specs.Residuals.{partial_view}
+use Rattle.cedar_restricted_evaluator.specs.Evaluations.{IsAnswerWithin}
+use Rattle.cedar_restricted_evaluator.specs.Evaluators.{calls_in, limit_of}
 use Rattle.cedar_restricted_expressions.specs.Views.{restricted_term, borrowed_term}
 use Rattle.cedar_json.proofs.evaluation.part.Goals as goal
 

@@ -4,9 +4,9 @@ use Rattle.std.specs.Vec.Iter.{into_iter_items}
 use Rattle.std.specs.declared.rc.RcStr.{RcStr}
 use Rattle.cedar_model.specs.Terms.{Fields, no_fields}
 use Rattle.cedar_expressions.specs.Records.{put_field, put_fields}
-use Rattle.cedar_data.specs.declared.partial_value.PartialValue.{PartialValue}
+use Rattle.cedar_values.specs.declared.partial_value.PartialValue.{PartialValue}
 use Rattle.cedar_layers.specs.Parts.{parts_view}
-use Rattle.cedar_restricted.specs.Evaluators.{extensions_in, calls_in, limit_of}
+use Rattle.cedar_restricted_evaluator.specs.Evaluators.{extensions_in, calls_in, limit_of}
 use Rattle.cedar_restricted_expressions.specs.declared.restricted_expr.RestrictedExpr.{RestrictedExpr}
 use Rattle.cedar_restricted_expressions.specs.Views.{restricted_term}
 use Rattle.cedar_json.specs.Lists.{pairs_said}

@@ -3,7 +3,7 @@ use Rattle.std.specs.Vec.Iter.{into_iter_items}
 use Rattle.cedar_model.specs.Terms.{Fields}
 use Rattle.cedar_expressions.specs.Records.{put_fields, fields_in_order}
 use Rattle.cedar_layers.specs.Parts.{parts_view}
-use Rattle.cedar_restricted.specs.Evaluators.{extensions_in, calls_in, limit_of}
+use Rattle.cedar_restricted_evaluator.specs.Evaluators.{extensions_in, calls_in, limit_of}
 use Rattle.cedar_json.specs.Lists.{pairs_said}
 use Rattle.cedar_json.specs.Evaluated.{AreAnswered}
 use Rattle.cedar_json.proofs.evaluation.parts.Given as goal

@@ -1,6 +1,6 @@
 use Rattle.std.proofs.Common.{◌≡◌, [], ◌∷◌, ◌++◌, List, sym, subst, rules}
 use Rattle.cedar_layers.specs.declared.policies.entities.Entity.{Entity}
-use Rattle.cedar_restricted.specs.Evaluators.{extensions_in, calls_in, limit_of}
+use Rattle.cedar_restricted_evaluator.specs.Evaluators.{extensions_in, calls_in, limit_of}
 use Rattle.cedar_json.specs.StatedEntities.{stated_view}
 use Rattle.cedar_json.specs.Evaluated.{AreEvaluated}
 use Rattle.cedar_json.proofs.Answered.{one_more_evaluated}

@@ -2,9 +2,9 @@ use Rattle.std.proofs.Common.{List, sym, subst, Global}
 use Rattle.std.specs.Rc.{rc_str_bytes}
 use Rattle.std.specs.declared.rc.RcStr.{RcStr}
 use Rattle.cedar_expressions.specs.Records.{put_field}
-use Rattle.cedar_data.specs.declared.partial_value.PartialValue.{PartialValue}
+use Rattle.cedar_values.specs.declared.partial_value.PartialValue.{PartialValue}
 use Rattle.cedar_layers.specs.Parts.{parts_view}
-use Rattle.cedar_restricted.specs.Evaluators.{extensions_in, calls_in, limit_of}
+use Rattle.cedar_restricted_evaluator.specs.Evaluators.{extensions_in, calls_in, limit_of}
 use Rattle.cedar_restricted_expressions.specs.Views.{restricted_term}
 use Rattle.cedar_json.specs.Evaluated.{AreAnswered}
 use Rattle.cedar_json.proofs.Answered.{answered_insert}

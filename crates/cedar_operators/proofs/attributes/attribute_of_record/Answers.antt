@@ -2,7 +2,7 @@ use Rattle.std.proofs.Common.{◌∙◌, sym, ap, refl}
 use Rattle.std.specs.Rc.{rc_str_bytes}
 use Rattle.cedar_model.specs.Failures.{answers_value, fails}
 use Rattle.cedar_model.specs.Operators.{key_is_missing}
-use Rattle.cedar_data.specs.Sound.{Placed}
+use Rattle.cedar_values.specs.Sound.{Placed}
 use Rattle.cedar_operators.proofs.Keys.{found_value, missing_value, names-whats}
 use Rattle.cedar_operators.proofs.attributes.attribute_of_record.Goals as goal
 

@@ -1,5 +1,5 @@
 use Rattle.std.proofs.Common.{refl, ◌∙◌}
-use Rattle.cedar_data.specs.Residuals.{partial_view}
+use Rattle.cedar_values.specs.Residuals.{partial_view}
 use Rattle.cedar_operators.proofs.Keys.{is_some-found}
 use Rattle.cedar_operators.proofs.missing.missing_attribute.Goals as goal
 

@@ -2,9 +2,9 @@ use Rattle.std.proofs.Common.{sym, subst}
 use Rattle.cedar_model.specs.Failures.{value}
 use Rattle.cedar_model.specs.Rules.{binary_of_parts}
 use Rattle.cedar_names.specs.Leaves.{binary_view}
-use Rattle.cedar_data.specs.Residuals.{partial_view}
+use Rattle.cedar_values.specs.Residuals.{partial_view}
 use Rattle.cedar_layers.specs.Stores.{store_view}
-use Rattle.cedar_values.specs.Answers.{AnswersWith}
+use Rattle.cedar_errors.specs.Answers.{AnswersWith}
 use Rattle.cedar_extensions.specs.Extensions.{extensions_view}
 use Rattle.cedar_operators.specs.Operands.{given}
 use Rattle.cedar_partial_operators.proofs.binary.binary_of_parts.Goals as goal

@@ -1,6 +1,6 @@
-use Rattle.cedar_authorizer.specs.Configured.{configuration, resolution_of, asked}
-use Rattle.cedar_authorizer.specs.Headline.{steps_view}
-use Rattle.cedar_authorizer.specs.Responding.{deciding}
+use Rattle.cedar_policy_core.specs.Authorizer.Configured.{configuration, resolution_of, asked}
+use Rattle.cedar_policy_core.specs.Authorizer.Headline.{steps_view}
+use Rattle.cedar_policy_core.specs.Authorizer.Responding.{deciding}
 use Rattle.cedar_service.proofs.Decided.{decided_in}
 use Rattle.cedar_service.proofs.stages.decided_after.Goals as goal
 

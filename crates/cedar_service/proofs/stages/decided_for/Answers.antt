@@ -1,6 +1,6 @@
-use Rattle.cedar_names.specs.Names.{uid_name}
-use Rattle.cedar_layers.specs.PolicySets.{policies_view}
-use Rattle.cedar_requests.specs.Substitutions.{values_for}
+use Rattle.cedar_policy_core.specs.Ast.Names.{uid_name}
+use Rattle.cedar_policy_core.specs.Ast.PolicySets.{policies_view}
+use Rattle.cedar_policy_core.specs.Ast.Substitutions.{values_for}
 use Rattle.cedar_service.specs.Stages.{IsDecidedFor, IsForOwner}
 use Rattle.cedar_service.proofs.Decided.{each_decision}
 use Rattle.cedar_service.proofs.stages.decided_for.Goals as goal

@@ -1,7 +1,7 @@
 use Rattle.std.proofs.Common.{◌≡◌, ◌↔◌}
-use Rattle.cedar_model.specs.Policies.{allow}
-use Rattle.cedar_names.specs.Names.{uid_name}
-use Rattle.cedar_layers.specs.PolicySets.{policies_view}
+use Rattle.cedar_policy_core.specs.Model.Policies.{allow}
+use Rattle.cedar_policy_core.specs.Ast.Names.{uid_name}
+use Rattle.cedar_policy_core.specs.Ast.PolicySets.{policies_view}
 use Rattle.cedar_service.specs.Stages.{IsForOwner}
 use Rattle.cedar_service.proofs.Decided.{each_decision}
 use Rattle.cedar_service.proofs.stages.decided_in_stages.Goals as goal

@@ -1,13 +1,13 @@
 use Rattle.std.proofs.Common.{sym, subst, [], ◌∷◌}
-use Rattle.cedar_names.specs.Names.{uid_name}
-use Rattle.cedar_extensions.specs.Computations.{no_answers, AgreesWith, AreFaithfulBy}
-use Rattle.cedar_extensions.specs.Extensions.{extensions_view, calls_of}
-use Rattle.cedar_layers.specs.PolicySets.{policies_view}
-use Rattle.cedar_layers.specs.Stores.{store_view}
-use Rattle.cedar_requests.specs.Requests.{request_view}
-use Rattle.cedar_requests.specs.Substitutions.{values_for}
-use Rattle.cedar_authorizer.specs.Configured.{configuration, asked, extensions_of, limit_of, mode_of, resolution_of}
-use Rattle.cedar_authorizer.specs.Responding.{deciding}
+use Rattle.cedar_policy_core.specs.Ast.Names.{uid_name}
+use Rattle.cedar_policy_core.specs.Extensions.Computations.{no_answers, AgreesWith, AreFaithfulBy}
+use Rattle.cedar_policy_core.specs.Extensions.Extensions.{extensions_view, calls_of}
+use Rattle.cedar_policy_core.specs.Ast.PolicySets.{policies_view}
+use Rattle.cedar_policy_core.specs.Entities.Stores.{store_view}
+use Rattle.cedar_policy_core.specs.Ast.Requests.{request_view}
+use Rattle.cedar_policy_core.specs.Ast.Substitutions.{values_for}
+use Rattle.cedar_policy_core.specs.Authorizer.Configured.{configuration, asked, extensions_of, limit_of, mode_of, resolution_of}
+use Rattle.cedar_policy_core.specs.Authorizer.Responding.{deciding}
 use Rattle.cedar_service.specs.Stages.{IsDecidedIn, IsDecidedFor}
 use Rattle.cedar_service.proofs.Decided.{a_step, decided_for_owner, each_decision}
 use Rattle.cedar_service.proofs.stages.decided_with.Goals as goal

@@ -1,13 +1,13 @@
 use Rattle.std.proofs.Common.{◌≡◌, ◌∙◌, List, codes, Result, Ok, Err, IfOk}
-use Rattle.cedar_model.specs.Terms.{Text, Term}
-use Rattle.cedar_model.specs.World.{Slots}
-use Rattle.cedar_model.specs.Agreement.{no_slots}
-use Rattle.cedar_model.specs.Policies.{permit}
-use Rattle.cedar_names.specs.Names.{uid_name}
-use Rattle.cedar_expressions.specs.View.{view}
-use Rattle.cedar_layers.specs.declared.policies.policy.Policy.{Policy}
-use Rattle.cedar_layers.specs.Policies.{PolicyView, policy_view, policy_id_text, annotations_view, slots_view}
-use Rattle.cedar_layers.proofs.Slots.{slots_view-empty}
+use Rattle.cedar_policy_core.specs.Model.Terms.{Text, Term}
+use Rattle.cedar_policy_core.specs.Model.World.{Slots}
+use Rattle.cedar_policy_core.specs.Model.Agreement.{no_slots}
+use Rattle.cedar_policy_core.specs.Model.Policies.{permit}
+use Rattle.cedar_policy_core.specs.Ast.Names.{uid_name}
+use Rattle.cedar_policy_core.specs.Ast.View.{view}
+use Rattle.cedar_policy_core.specs.Types.Policy.{Policy}
+use Rattle.cedar_policy_core.specs.Ast.Policies.{PolicyView, policy_view, policy_id_text, annotations_view, slots_view}
+use Rattle.cedar_policy_core.specs.Lemmas.Slots.{slots_view-empty}
 use Rattle.cedar_service.specs.Stages.{owner_may}
 use Rattle.cedar_service.proofs.stages.owner_may.Goals as goal
 

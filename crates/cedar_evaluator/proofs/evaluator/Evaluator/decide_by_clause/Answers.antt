@@ -1,23 +1,41 @@
-use Rattle.std.proofs.Common.{suc}
-use Rattle.cedar_model.specs.Terms.{both}
+use Rattle.std.proofs.Common.{◌≡◌, ◌≤◌, ◌-◌, suc, subst, arith}
+use Rattle.cedar_model.specs.Terms.{Term}
+use Rattle.cedar_model.specs.World.{Slots}
+use Rattle.cedar_model.specs.Failures.{answers_bool}
 use Rattle.cedar_expressions.specs.View.{view}
-use Rattle.cedar_layers.specs.Policies.{slots_view}
-use Rattle.cedar_values.specs.Answers.{partial_answer}
-use Rattle.cedar_evaluator.specs.Decisions.{partly_decided}
+use Rattle.cedar_layers.specs.Policies.{slots_view, policy_view, condition_term}
+use Rattle.cedar_errors.specs.Answers.{partial_answer}
+use Rattle.cedar_interpreter.specs.Promises.{IsPromised}
+use Rattle.cedar_evaluator.specs.Decisions.{partly_decided, PartlyDecidesBy}
 use Rattle.cedar_evaluator.specs.Evaluations.{variables_of, request_in, setting_of, calls_in}
+use Rattle.cedar_evaluator.specs.Told.{scope_term, IsToldFrom, RunsWith}
 use Rattle.cedar_evaluator.proofs.Requests.{says}
-use Rattle.cedar_evaluator.proofs.Told.{true_bool, bool_promised, beside_promised}
+use Rattle.cedar_evaluator.proofs.Told.{beside_true_bool, bool_promised, beside_promised}
 use Rattle.cedar_evaluator.proofs.evaluator.Evaluator.decide_by_clause.Goals as goal
 
 pub returns-in-Some-clause-decides : goal.returns-in-Some-clause-decides
-returns-in-Some-clause-decides g c t h ok =
-    let slots = slots_view c.args.slots.now in
-    bool_promised c.args.self.now slots (suc c.args.levels) (both t (view c.args.clause.now)) c.in-Some.is_true
-    (true_bool (setting_of c.args.self.now slots) (calls_in c.args.self.now) c.args.levels t (view c.args.clause.now) c.in-Some.is_true (h slots) (c.in-Some.ensures slots))
+returns-in-Some-clause-decides g c told ok =
+    let p = policy_view c.args.policy.now in
+    let v = c.args.self.now in
+    let two : 2 ≤ 4 = omega arith in
+    bool_promised v p.slots v.limit (condition_term p) c.in-Some.is_true
+    (beside_true_bool v 4 (scope_term p) p.when_clause c.in-Some.is_true two told
+    (subst (λ (t : Term). IsToldFrom v 2 t (answers_bool c.in-Some.is_true)) c.when_clause-clause.ensures.view c.in-Some.ensures)
+    v.limit c.requires p.slots)
 
 pub returns-in-None-clause-decides : goal.returns-in-None-clause-decides
-returns-in-None-clause-decides g c t h =
-    beside_promised c.args.self.now (slots_view c.args.slots.now) c.args.levels t (view c.args.clause.now) (partial_answer c.interpret.result)
-    (partly_decided c.beside_true.result) h
-    (c.interpret.ensures.runs (request_in c.args.self.now) (says (variables_of c.args.self.now.given) c.args.self.now.of_request))
-    c.beside_true.ensures.decides
+returns-in-None-clause-decides g c told =
+    let p = policy_view c.args.policy.now in
+    let v = c.args.self.now in
+    let answer = partial_answer c.interpret-answer.result in
+    let slots = slots_view c.env.result.now in
+    let levels : suc (v.limit - 1) ≡ v.limit = omega (arith, c.requires) in
+    let enough : 4 ≤ v.limit - 1 = omega (arith, c.requires) in
+    let runs : RunsWith v slots (v.limit - 1) (view c.when_clause-clause.result.now) answer =
+    c.interpret-answer.ensures.runs (request_in v) (says (variables_of v.given) v.of_request) in
+    subst (λ n. PartlyDecidesBy (IsPromised (setting_of v p.slots) (calls_in v) n (condition_term p)) c.beside_true.result) levels
+    (beside_promised v p.slots (v.limit - 1) (scope_term p) p.when_clause answer (partly_decided c.beside_true.result)
+    (told (v.limit - 1) enough)
+    (subst (λ (s : Slots). RunsWith v s (v.limit - 1) p.when_clause answer) c.env.ensures
+    (subst (λ (t : Term). RunsWith v slots (v.limit - 1) t answer) c.when_clause-clause.ensures.view runs))
+    c.beside_true.ensures.decides)

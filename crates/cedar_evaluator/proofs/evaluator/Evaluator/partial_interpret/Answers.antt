@@ -1,6 +1,6 @@
 use Rattle.cedar_expressions.specs.View.{view}
 use Rattle.cedar_layers.specs.Policies.{slots_view}
-use Rattle.cedar_values.specs.Answers.{partial_answer}
+use Rattle.cedar_errors.specs.Answers.{partial_answer}
 use Rattle.cedar_evaluator.specs.Evaluations.{variables_of, request_in, limit_of}
 use Rattle.cedar_evaluator.proofs.Requests.{says}
 use Rattle.cedar_evaluator.proofs.Sound.{rules_promised}

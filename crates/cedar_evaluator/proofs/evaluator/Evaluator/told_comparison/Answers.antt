@@ -1,12 +1,14 @@
-use Rattle.std.proofs.Common.{◌≤◌, arith}
+use Rattle.std.proofs.Common.{sym, ap, ◌∙◌, subst, IfSome}
+use Rattle.cedar_model.specs.Terms.{binary}
+use Rattle.cedar_model.specs.Failures.{answers_bool}
 use Rattle.cedar_names.specs.Leaves.{binary_view}
-use Rattle.cedar_expressions.specs.View.{view}
-use Rattle.cedar_values.specs.Answers.{partial_answer}
-use Rattle.cedar_evaluator.proofs.Told.{told_compared}
+use Rattle.cedar_expressions.specs.View.{view, kind_view}
+use Rattle.cedar_expressions.proofs.Levels as levels
+use Rattle.cedar_evaluator.specs.Told.{IsToldFrom}
 use Rattle.cedar_evaluator.proofs.evaluator.Evaluator.told_comparison.Goals as goal
 
-pub returns-in-Some-at_hand : goal.returns-in-Some-at_hand
-returns-in-Some-at_hand g c =
-    let two : 2 ≤ c.args.levels = omega (arith, c.if-levels-lt2.false) in
-    told_compared c.args.self.now c.args.levels (view c.args.left.now) (view c.args.right.now) (binary_view c.args.op) _ _
-    (partial_answer c.binary_app.result) c.bool_answered.result two c.in-Some.ensures c.in-Some-at_hand.ensures c.binary_app.ensures c.bool_answered.ensures
+pub returns-in-Some : goal.returns-in-Some
+returns-in-Some g c =
+    subst (λ t. IfSome c.told_of_entities.result (λ b. IsToldFrom c.args.self.now 2 (binary (binary_view c.args.op) t (view c.args.right.now)) (answers_bool b)))
+    (sym (levels.kind_view-Var _) ∙ sym (ap kind_view c.in-Var.is) ∙ c.expr_kind.ensures.view)
+    (c.told_of_entities.ensures (view c.args.right.now) c.in-Some.ensures)

@@ -1,9 +1,13 @@
-use Rattle.std.proofs.Common.{sym, subst, IfSome}
-use Rattle.cedar_model.specs.Failures.{answers_bool}
-use Rattle.cedar_evaluator.specs.Told.{IsTold}
+use Rattle.std.proofs.Common.{◌≤◌, arith}
+use Rattle.cedar_expressions.specs.View.{view}
+use Rattle.cedar_model.specs.Terms.{both}
 use Rattle.cedar_evaluator.proofs.evaluator.Evaluator.told_scope.Goals as goal
 
-pub returns-in-Some : goal.returns-in-Some
-returns-in-Some g c =
-    subst (λ t. IfSome c.told_beside.result (λ b. IsTold c.args.self.now c.args.levels t (answers_bool b))) (sym c.in-Some.ensures)
-    (c.told_beside.ensures _ (rw c.saturating_sub.ensures at c.told_pair-told.ensures))
+pub returns : goal.returns
+returns g c =
+    let two : 2 ≤ 2 = omega arith in
+    let three : 2 ≤ 3 = omega arith in
+    let principal = view c.principal_constraint.result.now in
+    let action = view c.action_constraint.result.now in
+    rw (c.principal_constraint.ensures.view, c.action_constraint.ensures.view, c.resource_constraint.ensures.view)
+    at (c.told_beside.ensures 3 (both principal action) three (c.told_beside-pair.ensures 2 principal two c.told_part-principal.ensures))

@@ -1,5 +1,5 @@
 use Rattle.cedar_names.specs.Names.{name_text}
-use Rattle.cedar_data.specs.Sound.{whats}
+use Rattle.cedar_values.specs.Sound.{whats}
 use Rattle.cedar_extensions.specs.Answers.{call_answer}
 use Rattle.cedar_extensions.specs.CallLaws.{looks_up_found}
 use Rattle.cedar_extensions.proofs.extensions.Extensions.call.Goals as goal

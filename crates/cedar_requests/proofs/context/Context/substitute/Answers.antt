@@ -6,7 +6,7 @@ use Rattle.cedar_model.specs.Depth.{substituted_height}
 use Rattle.cedar_model.specs.Settings.{context_value}
 use Rattle.cedar_expressions.specs.View.{view}
 use Rattle.cedar_extensions.specs.Extensions.{extensions_view, calls_of}
-use Rattle.cedar_restricted.specs.Evaluations.{IsAnswerWithin}
+use Rattle.cedar_restricted_evaluator.specs.Evaluations.{IsAnswerWithin}
 use Rattle.cedar_requests.specs.Contexts.{context_view, pairs_view}
 use Rattle.cedar_requests.specs.Creations.{is_record}
 use Rattle.cedar_requests.specs.Substitutions.{values_for, context_answer, IsSubstitutedWithin, KeepsCompletions}

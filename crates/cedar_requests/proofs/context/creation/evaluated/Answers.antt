@@ -1,10 +1,10 @@
 use Rattle.std.proofs.Common.{◌≢◌, refl, ap, sym, subst}
 use Rattle.cedar_model.specs.Failures.{PartialValue, answers, fails, out_of_memory}
 use Rattle.cedar_model.specs.Rules.{Meets}
-use Rattle.cedar_data.specs.Residuals.{partial_view}
-use Rattle.cedar_values.specs.Failures.{failure_of}
+use Rattle.cedar_values.specs.Residuals.{partial_view}
+use Rattle.cedar_errors.specs.Failures.{failure_of}
 use Rattle.cedar_extensions.specs.Extensions.{extensions_view, calls_of}
-use Rattle.cedar_restricted.specs.Evaluations.{bare, IsBare, IsAnswerWithin}
+use Rattle.cedar_restricted_evaluator.specs.Evaluations.{bare, IsBare, IsAnswerWithin}
 use Rattle.cedar_restricted_expressions.specs.Views.{borrowed_term}
 use Rattle.cedar_requests.specs.Contexts.{context_part_value}
 use Rattle.cedar_requests.proofs.Creations.{bare-is_bare, same_answer}

@@ -2,7 +2,7 @@ use Rattle.std.proofs.Common.{◌≡◌, true, false, [], ◌∷◌, ap, sym, �
 use Rattle.std.proofs.lemmas.Grind.{common_steps}
 use Rattle.std.proofs.Output.{has_written_append, has_written_of_eq, writes_in_calls_nil}
 use Rattle.cedar_model.specs.Values.{expressions_at}
-use Rattle.cedar_data.specs.Sound.{whats_at}
+use Rattle.cedar_values.specs.Sound.{whats_at}
 use Rattle.cedar_names.specs.Texts.{is_spent}
 use Rattle.cedar_expressions.proofs.Loops.{fields_left, fields_end}
 use Rattle.cedar_requests.proofs.context.texts.show_values.Goals as goal

@@ -1,7 +1,7 @@
 use Rattle.std.proofs.Common.{◌≡◌, ℕ, true, List, ◌++◌}
 use Rattle.std.specs.Fmt.{HasWritten, IsPlainFormatter}
 use Rattle.cedar_model.specs.Values.{expressions_at}
-use Rattle.cedar_data.specs.Sound.{whats_at}
+use Rattle.cedar_values.specs.Sound.{whats_at}
 use Rattle.cedar_names.specs.Texts.{shown_fields}
 use Rattle.cedar_requests.proofs.context.texts.show_values.Given as goal
 

@@ -1,5 +1,5 @@
 use Rattle.std.proofs.Common.{ap, ◌∙◌, option_map}
-use Rattle.cedar_data.specs.Residuals.{partial_view}
+use Rattle.cedar_values.specs.Residuals.{partial_view}
 use Rattle.cedar_layers.proofs.Parts.{option_map-lookup, restricted_result}
 use Rattle.cedar_layers.proofs.policies.entities.Entity.get_tag.Goals as goal
 

@@ -3,7 +3,7 @@ use Rattle.cedar_model.specs.Terms.{record_of}
 use Rattle.cedar_model.specs.Settings.{context_value}
 use Rattle.cedar_names.specs.Equality.{term_eq}
 use Rattle.cedar_expressions.specs.View.{fields_view}
-use Rattle.cedar_data.specs.Compared.{partial_eq}
+use Rattle.cedar_values.specs.Compared.{partial_eq}
 use Rattle.cedar_requests.specs.Contexts.{ExprMap, pairs_view}
 use Rattle.cedar_requests.proofs.Equality.{values_eq, exprs_eq}
 use Rattle.cedar_requests.proofs.Opened.{opened}

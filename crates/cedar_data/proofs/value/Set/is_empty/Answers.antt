@@ -1,6 +1,0 @@
-use Rattle.std.proofs.Common.{◌∙◌}
-use Rattle.cedar_data.proofs.SetMembers.{empty-listed}
-use Rattle.cedar_data.proofs.value.Set.is_empty.Goals as goal
-
-pub returns : goal.returns
-returns c = c.is_empty.ensures ∙ empty-listed c.as_slice.result.now c.args.self.now.all c.as_slice.ensures.all

@@ -1,5 +1,0 @@
-use Rattle.cedar_data.proofs.SetMembers.{length-listed}
-use Rattle.cedar_data.proofs.value.Set.len.Goals as goal
-
-pub returns : goal.returns
-returns c = length-listed c.as_slice.result.now c.args.self.now.all c.as_slice.ensures.all

@@ -1,9 +1,0 @@
-pub mod Sound
-pub mod Representations
-pub mod Kinds
-pub mod Left
-pub mod Sizes
-pub mod Compared
-pub mod Hashed
-pub mod Members
-pub mod Residuals

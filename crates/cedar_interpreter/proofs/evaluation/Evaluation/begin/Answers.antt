@@ -1,0 +1,169 @@
+use Rattle.std.proofs.Common.{ℕ, sym, ap, ◌∙◌}
+use Rattle.cedar_model.specs.Settings.{RequestPart}
+use Rattle.cedar_expressions.specs.Nodes.{parts_below, kind_parts}
+use Rattle.cedar_expressions.proofs.NodeLevels.{kind_node-Set}
+use Rattle.cedar_interpreter.specs.Elements.{set_next, no_set_next}
+use Rattle.cedar_model.specs.Terms.{literal, slot, if_then_else, both, either, unary, call, set_of, record_of}
+use Rattle.cedar_names.specs.Names.{name_text}
+use Rattle.cedar_names.specs.Leaves.{literal_view, slot_view, unary_view}
+use Rattle.cedar_expressions.specs.View.{view, terms_view, fields_view, expr_loc}
+use Rattle.cedar_expressions.proofs.Levels as levels
+use Rattle.cedar_interpreter.specs.Settings.{setting_of, calls_in}
+use Rattle.cedar_interpreter.specs.Tasks.{Begins}
+use Rattle.cedar_interpreter.specs.Steps.{begins_in}
+use Rattle.cedar_interpreter.proofs.Seen.{seen, begins_seen}
+use Rattle.cedar_interpreter.proofs.evaluation.Evaluation.begin.Goals as goal
+
+pub returns-in-Lit-clause-begins : goal.returns-in-Lit-clause-begins
+returns-in-Lit-clause-begins g c =
+    begins_seen c.args.self.now c.args.levels c.args.whole.now c.literal.result (seen (levels.kind_view-Lit _) c.in-Lit.is c.expr_kind.ensures.view)
+    (begins_in c.args.self.now c.args.levels c.args.whole.now (literal (literal_view c.in-Lit.value)) c.literal.result c.literal.ensures)
+
+pub returns-in-Var-clause-begins : goal.returns-in-Var-clause-begins
+returns-in-Var-clause-begins g c =
+    begins_seen c.args.self.now c.args.levels c.args.whole.now c.variable.result (seen (levels.kind_view-Var _) c.in-Var.is c.expr_kind.ensures.view)
+    (c.variable.ensures c.args.levels)
+
+pub returns-in-Slot-clause-begins : goal.returns-in-Slot-clause-begins
+returns-in-Slot-clause-begins g c =
+    begins_seen c.args.self.now c.args.levels c.args.whole.now c.slot.result (seen (levels.kind_view-Slot _) c.in-Slot.is c.expr_kind.ensures.view)
+    (begins_in c.args.self.now c.args.levels c.args.whole.now (slot (slot_view c.in-Slot.slot)) c.slot.result c.slot.ensures)
+
+pub returns-in-If-clause-begins : goal.returns-in-If-clause-begins
+returns-in-If-clause-begins g c =
+    begins_seen c.args.self.now c.args.levels c.args.whole.now c.branches.result (seen (levels.kind_view-If _ _ _) c.in-If.is c.expr_kind.ensures.view)
+    (begins_in c.args.self.now c.args.levels c.args.whole.now (if_then_else (view c.in-If.test_expr.value) (view c.in-If.then_expr.value) (view c.in-If.else_expr.value)) c.branches.result c.branches.ensures)
+
+pub returns-in-And-clause-begins : goal.returns-in-And-clause-begins
+returns-in-And-clause-begins g c =
+    begins_seen c.args.self.now c.args.levels c.args.whole.now c.conjunction.result (seen (levels.kind_view-And _ _) c.in-And.is c.expr_kind.ensures.view)
+    (begins_in c.args.self.now c.args.levels c.args.whole.now (both (view c.in-And.left.value) (view c.in-And.right.value)) c.conjunction.result c.conjunction.ensures)
+
+pub returns-in-Or-clause-begins : goal.returns-in-Or-clause-begins
+returns-in-Or-clause-begins g c =
+    begins_seen c.args.self.now c.args.levels c.args.whole.now c.disjunction.result (seen (levels.kind_view-Or _ _) c.in-Or.is c.expr_kind.ensures.view)
+    (begins_in c.args.self.now c.args.levels c.args.whole.now (either (view c.in-Or.left.value) (view c.in-Or.right.value)) c.disjunction.result c.disjunction.ensures)
+
+pub returns-in-UnaryApp-clause-begins : goal.returns-in-UnaryApp-clause-begins
+returns-in-UnaryApp-clause-begins g c =
+    begins_seen c.args.self.now c.args.levels c.args.whole.now c.operand.result (seen (levels.kind_view-UnaryApp _ _) c.in-UnaryApp.is c.expr_kind.ensures.view)
+    (begins_in c.args.self.now c.args.levels c.args.whole.now (unary (unary_view c.in-UnaryApp.op) (view c.in-UnaryApp.arg.value)) c.operand.result c.operand.ensures)
+
+pub returns-in-BinaryApp-clause-begins : goal.returns-in-BinaryApp-clause-begins
+returns-in-BinaryApp-clause-begins g c =
+    begins_seen c.args.self.now c.args.levels c.args.whole.now c.operands.result (seen (levels.kind_view-BinaryApp _ _ _) c.in-BinaryApp.is c.expr_kind.ensures.view)
+    (c.operands.ensures)
+
+pub returns-in-ExtensionFunctionApp-clause-begins : goal.returns-in-ExtensionFunctionApp-clause-begins
+returns-in-ExtensionFunctionApp-clause-begins g c =
+    begins_seen c.args.self.now c.args.levels c.args.whole.now c.call.result (seen (levels.kind_view-ExtensionFunctionApp _ _) c.in-ExtensionFunctionApp.is c.expr_kind.ensures.view)
+    (begins_in c.args.self.now c.args.levels c.args.whole.now (call (name_text c.in-ExtensionFunctionApp.fn_name) (terms_view c.in-ExtensionFunctionApp.args.value.items)) c.call.result c.call.ensures)
+
+pub returns-in-GetAttr-clause-begins : goal.returns-in-GetAttr-clause-begins
+returns-in-GetAttr-clause-begins g c =
+    begins_seen c.args.self.now c.args.levels c.args.whole.now c.attribute.result (seen (levels.kind_view-GetAttr _ _) c.in-GetAttr.is c.expr_kind.ensures.view)
+    (c.attribute.ensures)
+
+pub returns-in-HasAttr-clause-begins : goal.returns-in-HasAttr-clause-begins
+returns-in-HasAttr-clause-begins g c =
+    begins_seen c.args.self.now c.args.levels c.args.whole.now c.tested.result (seen (levels.kind_view-HasAttr _ _) c.in-HasAttr.is c.expr_kind.ensures.view)
+    (c.tested.ensures)
+
+pub returns-in-ExtHasAttr-clause-begins : goal.returns-in-ExtHasAttr-clause-begins
+returns-in-ExtHasAttr-clause-begins g c =
+    begins_seen c.args.self.now c.args.levels c.args.whole.now c.walked.result (seen (levels.kind_view-ExtHasAttr _ _) c.in-ExtHasAttr.is c.expr_kind.ensures.view)
+    (c.walked.ensures)
+
+pub returns-in-Like-clause-begins : goal.returns-in-Like-clause-begins
+returns-in-Like-clause-begins g c =
+    begins_seen c.args.self.now c.args.levels c.args.whole.now c.likeness.result (seen (levels.kind_view-Like _ _) c.in-Like.is c.expr_kind.ensures.view)
+    c.likeness.ensures
+
+pub returns-in-Is-clause-begins : goal.returns-in-Is-clause-begins
+returns-in-Is-clause-begins g c =
+    begins_seen c.args.self.now c.args.levels c.args.whole.now c.typed.result (seen (levels.kind_view-Is _ _) c.in-Is.is c.expr_kind.ensures.view)
+    c.typed.ensures
+
+pub returns-in-Set-clause-begins : goal.returns-in-Set-clause-begins
+returns-in-Set-clause-begins g c =
+    begins_seen c.args.self.now c.args.levels c.args.whole.now c.set.result (seen (levels.kind_view-Set _) c.in-Set.is c.expr_kind.ensures.view)
+    (begins_in c.args.self.now c.args.levels c.args.whole.now (set_of (terms_view c.in-Set.parts.value.items)) c.set.result c.set.ensures.begins)
+
+pub returns-in-Record-clause-begins : goal.returns-in-Record-clause-begins
+returns-in-Record-clause-begins g c =
+    let is : (r : RequestPart) (k : ℕ) → Begins (setting_of r c.args.self.now) (calls_in c.args.self.now) k (expr_loc c.args.whole.now.value) (record_of (fields_view c.in-Record.pairs.value.entries)) c.«record».result = λ r k. rw (c.deref.ensures) at c.«record».ensures r k in
+    begins_seen c.args.self.now c.args.levels c.args.whole.now c.«record».result (seen (levels.kind_view-Record _) c.in-Record.is c.expr_kind.ensures.view)
+    (begins_in c.args.self.now c.args.levels c.args.whole.now (record_of (fields_view c.in-Record.pairs.value.entries)) c.«record».result is)
+
+pub returns-in-Unknown-clause-begins : goal.returns-in-Unknown-clause-begins
+returns-in-Unknown-clause-begins g c =
+    begins_in c.args.self.now c.args.levels c.args.whole.now (view c.args.e.now) c.unknown.result c.unknown.ensures
+
+pub returns-in-Set-clause-elements : goal.returns-in-Set-clause-elements
+returns-in-Set-clause-elements g c =
+    set_next c.args.e.now c.in-Set.parts.value.items c.set.result
+    (ap kind_parts (sym c.expr_kind.ensures.node ∙ c.in-Set.is) ∙ ap parts_below (kind_node-Set c.in-Set.parts)) c.set.ensures.elements
+
+pub returns-in-Lit-clause-elements : goal.returns-in-Lit-clause-elements
+returns-in-Lit-clause-elements g c =
+    no_set_next c.args.e.now _ c.literal.result (seen (levels.kind_view-Lit _) c.in-Lit.is c.expr_kind.ensures.view) (λ ts is. cc)
+
+pub returns-in-Var-clause-elements : goal.returns-in-Var-clause-elements
+returns-in-Var-clause-elements g c =
+    no_set_next c.args.e.now _ c.variable.result (seen (levels.kind_view-Var _) c.in-Var.is c.expr_kind.ensures.view) (λ ts is. cc)
+
+pub returns-in-Slot-clause-elements : goal.returns-in-Slot-clause-elements
+returns-in-Slot-clause-elements g c =
+    no_set_next c.args.e.now _ c.slot.result (seen (levels.kind_view-Slot _) c.in-Slot.is c.expr_kind.ensures.view) (λ ts is. cc)
+
+pub returns-in-Unknown-clause-elements : goal.returns-in-Unknown-clause-elements
+returns-in-Unknown-clause-elements g c =
+    no_set_next c.args.e.now _ c.unknown.result (seen (levels.kind_view-Unknown _) c.in-Unknown.is c.expr_kind.ensures.view) (λ ts is. cc)
+
+pub returns-in-If-clause-elements : goal.returns-in-If-clause-elements
+returns-in-If-clause-elements g c =
+    no_set_next c.args.e.now _ c.branches.result (seen (levels.kind_view-If _ _ _) c.in-If.is c.expr_kind.ensures.view) (λ ts is. cc)
+
+pub returns-in-And-clause-elements : goal.returns-in-And-clause-elements
+returns-in-And-clause-elements g c =
+    no_set_next c.args.e.now _ c.conjunction.result (seen (levels.kind_view-And _ _) c.in-And.is c.expr_kind.ensures.view) (λ ts is. cc)
+
+pub returns-in-Or-clause-elements : goal.returns-in-Or-clause-elements
+returns-in-Or-clause-elements g c =
+    no_set_next c.args.e.now _ c.disjunction.result (seen (levels.kind_view-Or _ _) c.in-Or.is c.expr_kind.ensures.view) (λ ts is. cc)
+
+pub returns-in-UnaryApp-clause-elements : goal.returns-in-UnaryApp-clause-elements
+returns-in-UnaryApp-clause-elements g c =
+    no_set_next c.args.e.now _ c.operand.result (seen (levels.kind_view-UnaryApp _ _) c.in-UnaryApp.is c.expr_kind.ensures.view) (λ ts is. cc)
+
+pub returns-in-BinaryApp-clause-elements : goal.returns-in-BinaryApp-clause-elements
+returns-in-BinaryApp-clause-elements g c =
+    no_set_next c.args.e.now _ c.operands.result (seen (levels.kind_view-BinaryApp _ _ _) c.in-BinaryApp.is c.expr_kind.ensures.view) (λ ts is. cc)
+
+pub returns-in-ExtensionFunctionApp-clause-elements : goal.returns-in-ExtensionFunctionApp-clause-elements
+returns-in-ExtensionFunctionApp-clause-elements g c =
+    no_set_next c.args.e.now _ c.call.result (seen (levels.kind_view-ExtensionFunctionApp _ _) c.in-ExtensionFunctionApp.is c.expr_kind.ensures.view) (λ ts is. cc)
+
+pub returns-in-GetAttr-clause-elements : goal.returns-in-GetAttr-clause-elements
+returns-in-GetAttr-clause-elements g c =
+    no_set_next c.args.e.now _ c.attribute.result (seen (levels.kind_view-GetAttr _ _) c.in-GetAttr.is c.expr_kind.ensures.view) (λ ts is. cc)
+
+pub returns-in-HasAttr-clause-elements : goal.returns-in-HasAttr-clause-elements
+returns-in-HasAttr-clause-elements g c =
+    no_set_next c.args.e.now _ c.tested.result (seen (levels.kind_view-HasAttr _ _) c.in-HasAttr.is c.expr_kind.ensures.view) (λ ts is. cc)
+
+pub returns-in-ExtHasAttr-clause-elements : goal.returns-in-ExtHasAttr-clause-elements
+returns-in-ExtHasAttr-clause-elements g c =
+    no_set_next c.args.e.now _ c.walked.result (seen (levels.kind_view-ExtHasAttr _ _) c.in-ExtHasAttr.is c.expr_kind.ensures.view) (λ ts is. cc)
+
+pub returns-in-Like-clause-elements : goal.returns-in-Like-clause-elements
+returns-in-Like-clause-elements g c =
+    no_set_next c.args.e.now _ c.likeness.result (seen (levels.kind_view-Like _ _) c.in-Like.is c.expr_kind.ensures.view) (λ ts is. cc)
+
+pub returns-in-Is-clause-elements : goal.returns-in-Is-clause-elements
+returns-in-Is-clause-elements g c =
+    no_set_next c.args.e.now _ c.typed.result (seen (levels.kind_view-Is _ _) c.in-Is.is c.expr_kind.ensures.view) (λ ts is. cc)
+
+pub returns-in-Record-clause-elements : goal.returns-in-Record-clause-elements
+returns-in-Record-clause-elements g c =
+    no_set_next c.args.e.now _ c.«record».result (seen (levels.kind_view-Record _) c.in-Record.is c.expr_kind.ensures.view) (λ ts is. cc)

@@ -1,0 +1,18 @@
+use Rattle.std.proofs.Common.{ap, ◌∙◌, subst, Some}
+use Rattle.cedar_expressions.specs.View.{view}
+use Rattle.cedar_interpreter.specs.Settings.{setting_of, calls_in}
+use Rattle.cedar_interpreter.specs.Told.{IsBoolTold}
+use Rattle.cedar_interpreter.specs.Tellers.{true_guard_told, false_guard_told}
+use Rattle.cedar_interpreter.proofs.tellers.TellerAbove.guarded.Goals as goal
+
+pub returns-in-Some-true : goal.returns-in-Some-true
+returns-in-Some-true g c r k speaks low =
+    let s = setting_of r c.args.within.now in
+    let calls = calls_in c.args.within.now in
+    true_guard_told s calls k (view c.args.test_expr.now) (view c.args.then_expr.now) (view c.args.else_expr.now) c.tell.result (subst (IsBoolTold s calls k (view c.args.test_expr.now)) (c.in-Some-true.is ∙ ap Some c.in-Some-true.field-0-test) (c.boolean.ensures r k speaks low)) (c.tell.ensures r k speaks low)
+
+pub returns-in-Some-false : goal.returns-in-Some-false
+returns-in-Some-false g c r k speaks low =
+    let s = setting_of r c.args.within.now in
+    let calls = calls_in c.args.within.now in
+    false_guard_told s calls k (view c.args.test_expr.now) (view c.args.else_expr.now) (view c.args.then_expr.now) c.tell-in-Some-false.result (subst (IsBoolTold s calls k (view c.args.test_expr.now)) (c.in-Some-false.is ∙ ap Some c.in-Some-false.field-0-test) (c.boolean.ensures r k speaks low)) (c.tell-in-Some-false.ensures r k speaks low)

@@ -1,0 +1,17 @@
+pub mod Endings
+pub mod Kept
+pub mod Types
+pub mod Settings
+pub mod Tasks
+pub mod Operands
+pub mod Reads
+pub mod Stored
+pub mod Frames
+pub mod PartsLaws
+pub mod Booleans
+pub mod Elements
+pub mod Laws
+pub mod Steps
+pub mod Told
+pub mod Tellers
+pub mod Promises

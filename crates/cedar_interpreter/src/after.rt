@@ -1,0 +1,222 @@
+//! What comes after a part of `if`, `&&` or `||` that is kept beside a residual, and after a part that failed.
+ghost use Rattle.std.specs.Prelude.{◌≡◌, IfOk};
+ghost use Rattle.cedar_model.specs.Terms.{Term};
+ghost use Rattle.cedar_model.specs.Failures.{answers, fails};
+ghost use Rattle.cedar_model.specs.Rules.{best, kept};
+ghost use Rattle.cedar_expressions.specs.View.{view};
+ghost use Rattle.cedar_values.specs.Residuals.{partial_view};
+ghost use Rattle.cedar_errors.specs.Failures.{failure_of};
+ghost use Rattle.cedar_interpreter.specs.Steps.{GoesOnIn, GoesOnAt};
+ghost use Rattle.cedar_interpreter.specs.Endings.{boxed_answer};
+ghost use Rattle.cedar_interpreter.specs.declared.frame.Pending.TheVariants as pendings;
+
+use crate::answers::{or_want, passed_on, put_at};
+use crate::evaluation::Evaluation;
+use crate::failed::Failed;
+use crate::frame::{FirstBranch, Next, Part, Pending, SecondBranch};
+use cedar_expressions::Expr;
+use cedar_values::{PartialValue, ResidualExpr};
+use std::alloc::{AllocError, Global};
+use std::rc::Rc;
+
+impl<'e, 'g, 'f> Evaluation<'e, 'g, 'f> {
+    // What comes next of what waited, after this value or residual.
+    pub(crate) fn after(
+        &self,
+        alloc: Global,
+        whole: Part,
+        pending: Pending,
+        answer: Box<PartialValue>,
+        levels: usize,
+    ) -> Next
+        ensures { GoesOnIn self.now levels whole pending (boxed_answer answer) result }
+    {
+        match pending {
+            Pending::Passed => put_at(alloc, &whole, answer),
+            Pending::Guard {
+                then_expr,
+                else_expr,
+            } => self.after_guard(alloc, whole, then_expr, else_expr, answer),
+            Pending::Then(first) => self.after_then(alloc, whole, first, answer),
+            Pending::Else(second) => self.after_else(alloc, whole, second, answer),
+            Pending::AndLeft { right } => self.after_and_left(alloc, whole, right, answer, levels),
+            Pending::AndRight => self.after_and_right(alloc, whole, answer),
+            Pending::AndKept { left, right } => {
+                self.after_and_kept(alloc, whole, left, right, answer)
+            }
+            Pending::OrLeft { right } => self.after_or_left(alloc, whole, right, answer, levels),
+            Pending::OrRight => self.after_or_right(alloc, whole, answer),
+            Pending::OrKept { left, right } => {
+                self.after_or_kept(alloc, whole, left, right, answer)
+            }
+            Pending::Unary(op) => self.after_operand(alloc, &whole, op, answer),
+            Pending::BinaryLeft { op, right } => {
+                self.after_left(alloc, &whole, op, &right, answer, levels)
+            },
+            Pending::BinaryRight { op, left } => {
+                self.after_right(alloc, &whole, op, left, answer)
+            },
+            Pending::GetAttr(attr) => self.after_container(alloc, &whole, &attr, answer),
+            Pending::HasAttr(attr) => self.after_tested(alloc, &whole, &attr, answer),
+            Pending::ExtHasAttr(attrs) => self.after_walked(alloc, &whole, &attrs, answer),
+            Pending::Like(pattern) => self.after_text(alloc, &whole, &pattern, answer),
+            Pending::Is(entity_type) => self.after_entity(alloc, &whole, &entity_type, answer),
+        }
+    }
+
+    // The second branch beside a residual guard, after the first.
+    #[cold]
+    #[inline(never)]
+    fn after_then(
+        &self,
+        alloc: Global,
+        whole: Part,
+        first: Box<FirstBranch>,
+        answer: Box<PartialValue>,
+    ) -> Next
+        ensures { GoesOnAt self.now whole (pendings.Then first) (boxed_answer answer) result }
+    {
+        let kept = kept_part(alloc, answer);
+        or_want(self.second_branch(alloc, whole, first, kept))
+    }
+
+    // `if` beside a residual guard, after both branches.
+    #[cold]
+    #[inline(never)]
+    fn after_else(
+        &self,
+        alloc: Global,
+        whole: Part,
+        second: Box<SecondBranch>,
+        answer: Box<PartialValue>,
+    ) -> Next
+        ensures { GoesOnAt self.now whole (pendings.Else second) (boxed_answer answer) result }
+    {
+        let kept = kept_part(alloc, answer);
+        self.both_branches(alloc, whole, second, kept)
+    }
+
+    // `&&` beside a residual left side, after the right.
+    #[cold]
+    #[inline(never)]
+    fn after_and_kept(
+        &self,
+        alloc: Global,
+        whole: Part,
+        left: Box<ResidualExpr>,
+        right: Rc<Expr>,
+        answer: Box<PartialValue>,
+    ) -> Next
+        ensures { GoesOnAt self.now whole (pendings.AndKept left right) (boxed_answer answer) result }
+    {
+        let kept = kept_part(alloc, answer);
+        self.kept_conjunction(alloc, whole, left, right, kept)
+    }
+
+    // `||` beside a residual left side, after the right.
+    #[cold]
+    #[inline(never)]
+    fn after_or_kept(
+        &self,
+        alloc: Global,
+        whole: Part,
+        left: Box<ResidualExpr>,
+        right: Rc<Expr>,
+        answer: Box<PartialValue>,
+    ) -> Next
+        ensures { GoesOnAt self.now whole (pendings.OrKept left right) (boxed_answer answer) result }
+    {
+        let kept = kept_part(alloc, answer);
+        self.kept_disjunction(alloc, whole, left, right, kept)
+    }
+
+    // What comes next of what waited, after this error: beside a residual the part's original is kept, elsewhere it is
+    // the answer.
+    #[cold]
+    #[inline(never)]
+    pub(crate) fn failed(
+        &self,
+        alloc: Global,
+        whole: Part,
+        pending: Pending,
+        failed: Box<Failed>,
+    ) -> Next
+        ensures { GoesOnAt self.now whole pending (fails (failure_of failed.value.error)) result }
+    {
+        match pending {
+            Pending::Then(first) => self.failed_then(alloc, whole, first, failed),
+            Pending::Else(second) => self.failed_else(alloc, whole, second, failed),
+            Pending::AndKept { left, right } => {
+                let kept = original_of(failed, &right);
+                self.kept_conjunction(alloc, whole, left, right, kept)
+            }
+            Pending::OrKept { left, right } => {
+                let kept = original_of(failed, &right);
+                self.kept_disjunction(alloc, whole, left, right, kept)
+            }
+            Pending::Passed => passed_on(alloc, &whole, (), failed),
+            Pending::Guard {
+                then_expr,
+                else_expr,
+            } => passed_on(alloc, &whole, (then_expr, else_expr), failed),
+            Pending::AndLeft { right } => passed_on(alloc, &whole, right, failed),
+            Pending::AndRight => passed_on(alloc, &whole, (), failed),
+            Pending::OrLeft { right } => passed_on(alloc, &whole, right, failed),
+            Pending::OrRight => passed_on(alloc, &whole, (), failed),
+            Pending::Unary(op) => passed_on(alloc, &whole, op, failed),
+            Pending::BinaryLeft { op: _, right } => passed_on(alloc, &whole, right, failed),
+            Pending::BinaryRight { op: _, left } => passed_on(alloc, &whole, left, failed),
+            Pending::GetAttr(attr) => passed_on(alloc, &whole, attr, failed),
+            Pending::HasAttr(attr) => passed_on(alloc, &whole, attr, failed),
+            Pending::ExtHasAttr(attrs) => passed_on(alloc, &whole, attrs, failed),
+            Pending::Like(pattern) => passed_on(alloc, &whole, pattern, failed),
+            Pending::Is(entity_type) => passed_on(alloc, &whole, entity_type, failed),
+        }
+    }
+
+    // The second branch beside a residual guard, after an error in the first.
+    fn failed_then(
+        &self,
+        alloc: Global,
+        whole: Part,
+        first: Box<FirstBranch>,
+        failed: Box<Failed>,
+    ) -> Next
+        ensures { GoesOnAt self.now whole (pendings.Then first) (fails (failure_of failed.value.error)) result }
+    {
+        let kept = original_of(failed, &first.then_expr);
+        or_want(self.second_branch(alloc, whole, first, kept))
+    }
+
+    // `if` beside a residual guard, after an error in the second branch.
+    fn failed_else(
+        &self,
+        alloc: Global,
+        whole: Part,
+        second: Box<SecondBranch>,
+        failed: Box<Failed>,
+    ) -> Next
+        ensures { GoesOnAt self.now whole (pendings.Else second) (fails (failure_of failed.value.error)) result }
+    {
+        let kept = original_of(failed, &second.else_expr);
+        self.both_branches(alloc, whole, second, kept)
+    }
+}
+
+// What is kept of a part that answered.
+#[tactic(auto, unfolding(cedar_model::specs::Rules::best, cedar_model::specs::Failures::part_expression))]
+fn kept_part(alloc: Global, answer: Box<PartialValue>) -> Result<Expr, AllocError>
+    ensures { (t : Term) → IfOk result (λ e. best (answers (partial_view answer.value)) t ≡ kept (view e)) }
+{
+    match Box::into_inner(answer) {
+        PartialValue::Value(value) => Ok(value.to_expr(alloc)?),
+        PartialValue::Residual(residual) => Ok(residual.into_expr()),
+    }
+}
+
+// What is kept of a part that failed: its original.
+fn original_of(failed: Box<Failed>, part: &Part) -> Result<Expr, AllocError>
+    ensures { IfOk result (λ e. best (fails (failure_of failed.value.error)) (view part.now.value) ≡ kept (view e)) }
+{
+    Failed::original(failed, part)
+}

@@ -1,0 +1,190 @@
+//! Answers that end an expression: a value, an error or a residual, put at its location.
+ghost use Rattle.std.specs.Prelude.{◌≡◌, Bool, true, Some, IfOk};
+ghost use Rattle.cedar_model.specs.Failures.{Answer, answers, fails};
+ghost use Rattle.cedar_model.specs.Rules.{bool_expected};
+ghost use Rattle.cedar_expressions.specs.View.{expr_loc};
+ghost use Rattle.cedar_values.specs.Residuals.{partial_view, partial_loc, partial_inside};
+ghost use Rattle.cedar_errors.specs.Answers.{AnswersWith};
+ghost use Rattle.cedar_errors.specs.Failures.{failure_of};
+ghost use Rattle.cedar_interpreter.specs.Tasks.{Gives, IsOrWant};
+ghost use Rattle.cedar_interpreter.specs.Booleans.{part_bool};
+ghost use Rattle.cedar_interpreter.specs.Elements.{IsBoxed};
+
+use crate::boxed::boxed;
+use crate::failed::Failed;
+use crate::frame::{Next, Part};
+use crate::stopped::Stopped;
+use cedar_errors::evaluator::err::EvaluationError;
+use cedar_frames::Step;
+use cedar_layers::expressions::Type;
+use cedar_names::Loc;
+use cedar_operators::failures::type_error;
+use cedar_operators::typed::{bool_in, bool_part};
+use cedar_values::{PartialValue, Value};
+use std::alloc::{AllocError, Global};
+use std::mem;
+
+// Where an expression stands.
+#[inline(always)]
+pub(crate) fn loc_of(whole: &Part) -> Option<Loc>
+    ensures { result ≡ expr_loc whole.now.value }
+{
+    whole.source_loc().copied()
+}
+
+// What a call answers, where the whole stands.
+pub(crate) fn answered(
+    alloc: Global,
+    whole: &Part,
+    answer: Result<PartialValue, EvaluationError>,
+) -> Next
+    ensures { (a : Answer) → AnswersWith answer a → Gives (expr_loc whole.now.value) result a }
+{
+    match answer {
+        Ok(value) => done(alloc, whole, value),
+        Err(error) => Step::Done(Err(Stopped::of(alloc, error, loc_of(whole)))),
+    }
+}
+
+// What a call answers, in the box of an operand, where the whole stands.
+pub(crate) fn answered_in(
+    alloc: Global,
+    whole: &Part,
+    mut operand: Box<PartialValue>,
+    answer: Result<PartialValue, EvaluationError>,
+) -> Next
+    ensures { (a : Answer) → AnswersWith answer a → Gives (expr_loc whole.now.value) result a }
+{
+    match answer {
+        Ok(value) => {
+            drop(mem::replace(&mut *operand, value));
+            put_at(alloc, whole, operand)
+        }
+        Err(error) => Step::Done(Err(Stopped::of(alloc, error, loc_of(whole)))),
+    }
+}
+
+// Takes an operand out of its box.
+#[inline(always)]
+pub(crate) fn taken_out(operand: &mut PartialValue) -> PartialValue
+    ensures { result ≡ operand.old }
+{
+    mem::replace(operand, bool_part(false))
+}
+
+// This value or residual, where the whole stands.
+#[inline(always)]
+pub(crate) fn done(alloc: Global, whole: &Part, part: PartialValue) -> Next
+    ensures answer { Gives (expr_loc whole.now.value) result (answers (partial_view part)) }
+    ensures boxed { IsBoxed part result }
+{
+    match Box::new(alloc, part) {
+        Ok(part) => put_at(alloc, whole, part),
+        Err(_) => Step::Done(Err(Stopped::Memory)),
+    }
+}
+
+// This answer, where the whole stands.
+#[inline(always)]
+pub(crate) fn put_at(alloc: Global, whole: &Part, mut part: Box<PartialValue>) -> Next
+    ensures answer { Gives (expr_loc whole.now.value) result (answers (partial_view part.value)) }
+    ensures boxed { IsBoxed part.value result }
+{
+    if is_value_put(&mut part, whole) {
+        Step::Done(Ok(part))
+    } else {
+        residual_at(alloc, whole, part)
+    }
+}
+
+// An answer that is this boolean, where the whole stands. It is no step, which would be copied once more.
+#[inline(always)]
+pub(crate) fn bool_at(whole: &Part, mut part: Box<PartialValue>, _b: bool) -> Box<PartialValue>
+    requires { part_bool (partial_view part.value) ≡ Some _b }
+    ensures view { partial_view result.value ≡ partial_view part.value }
+    ensures place { partial_loc result.value ≡ expr_loc whole.now.value }
+{
+    let _is_put = is_value_put(&mut part, whole);
+    part
+}
+
+// Puts a value where the whole stands; a residual stays.
+#[inline(always)]
+fn is_value_put(part: &mut PartialValue, whole: &Part) -> bool
+    ensures view { partial_view part.new ≡ partial_view part.old }
+    ensures inside { partial_inside part.new ≡ partial_inside part.old }
+    ensures put { result ≡ true → partial_loc part.new ≡ expr_loc whole.now.value }
+    ensures known { (b : Bool) → part_bool (partial_view part.old) ≡ Some b → result ≡ true }
+{
+    match part {
+        PartialValue::Value(value) => {
+            value.loc = loc_of(whole);
+            true
+        }
+        PartialValue::Residual(_) => false,
+    }
+}
+
+// A residual, where the whole stands.
+#[cold]
+#[inline(never)]
+fn residual_at(alloc: Global, whole: &Part, part: Box<PartialValue>) -> Next
+    ensures answer { Gives (expr_loc whole.now.value) result (answers (partial_view part.value)) }
+    ensures boxed { IsBoxed part.value result }
+{
+    match boxed(
+        alloc,
+        Box::into_inner(part).with_maybe_source_loc(loc_of(whole)),
+    ) {
+        Ok(part) => Step::Done(Ok(part)),
+        Err(_) => Step::Done(Err(Stopped::Memory)),
+    }
+}
+
+// The error that came, which ends what waited too, where the whole stands if it stands nowhere.
+pub(crate) fn passed_on<T: Drop>(alloc: Global, whole: &Part, _held: T, failed: Box<Failed>) -> Next
+    ensures { Gives (expr_loc whole.now.value) result (fails (failure_of failed.value.error)) }
+{
+    Step::Done(Err(Stopped::Failed(failed).within(alloc, loc_of(whole))))
+}
+
+// The boolean that an answer is, if it is one.
+#[inline(always)]
+pub(crate) fn known_bool(part: &PartialValue) -> Option<bool>
+    ensures { result ≡ part_bool (partial_view part.now) }
+{
+    match part {
+        PartialValue::Value(value) => bool_in(value),
+        PartialValue::Residual(_) => None,
+    }
+}
+
+// That a boolean is expected.
+#[cold]
+#[inline(never)]
+pub(crate) fn no_bool(alloc: Global, whole: &Part, value: &Value) -> Next
+    ensures { Gives (expr_loc whole.now.value) result (bool_expected value.now.what) }
+{
+    Step::Done(Err(Stopped::of(alloc, type_error(alloc, Type::Bool, value), loc_of(whole))))
+}
+
+// What comes next, or want of memory.
+pub(crate) fn or_want(next: Result<Next, AllocError>) -> Next
+    ensures { IsOrWant next result }
+{
+    match next {
+        Ok(next) => next,
+        Err(_) => Step::Done(Err(Stopped::Memory)),
+    }
+}
+
+// Both once more.
+#[inline(always)]
+pub(crate) fn both(first: &Part, second: &Part) -> Result<(Part, Part), AllocError>
+    ensures first { IfOk result (λ p. p.0.value ≡ first.now.value) }
+    ensures second { IfOk result (λ p. p.1.value ≡ second.now.value) }
+{
+    let first = first.clone()?;
+    let second = second.clone()?;
+    Ok((first, second))
+}

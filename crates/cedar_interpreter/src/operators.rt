@@ -1,0 +1,361 @@
+//! Operators of one and of two operands, `like`, `is`, attributes and `has`, once their parts have answered.
+ghost use Rattle.std.specs.Prelude.{◌≡◌, true, false, None};
+ghost use Rattle.std.specs.Rc.{rc_str_bytes};
+ghost use Rattle.cedar_model.specs.Terms.{unary, extended_has};
+ghost use Rattle.cedar_model.specs.Operators.{unary_answer, path_answer};
+ghost use Rattle.cedar_model.specs.Rules as Rules;
+ghost use Rattle.cedar_model.specs.Rules.{on_part};
+ghost use Rattle.cedar_model.specs.Settings.{RequestPart};
+ghost use Rattle.cedar_names.specs.Leaves.{unary_view, binary_view, texts_view};
+ghost use Rattle.cedar_model.specs.Failures.{answers};
+ghost use Rattle.cedar_expressions.specs.View.{view, expr_loc};
+ghost use Rattle.cedar_values.specs.Residuals.{partial_view, residual_term};
+ghost use Rattle.cedar_layers.specs.Stores.{store_view};
+ghost use Rattle.cedar_operators.specs.StoredResiduals.{on_path_of};
+ghost use Rattle.cedar_interpreter.specs.Reads.{resolved_in, part_residual};
+ghost use Rattle.cedar_interpreter.specs.Settings.{resolution_view, setting_of};
+ghost use Rattle.cedar_interpreter.specs.Tasks.{Gives, IsPassed, IsWaiting, IsWalkedOn};
+ghost use Rattle.cedar_interpreter.specs.Steps.{GoesOnIn, GoesOnAt};
+ghost use Rattle.cedar_interpreter.specs.Endings.{boxed_answer};
+ghost use Rattle.cedar_interpreter.specs.declared.frame.Pending.TheVariants as pendings;
+ghost use Rattle.cedar_interpreter.specs.declared.frame.Task.TheVariants as tasks;
+
+use crate::answers::{answered_in, both, known_bool, put_at, taken_out};
+use crate::evaluation::Evaluation;
+use crate::frame::{Frame, Next, Part, Pending, Task};
+use crate::stopped::Stopped;
+use crate::stored::stored_in;
+use cedar_expressions::Expr;
+use cedar_frames::Step;
+use cedar_names::{BinaryOp, EntityType, FirstRest, Pattern, UnaryOp};
+use cedar_operators::stored_residuals::OnPath;
+use cedar_operators::typed::bool_part;
+use cedar_partial_operators::attributes::{
+    Projected, attribute_of_part, extended_has_of_part, has_of_part,
+};
+use cedar_partial_operators::binary::binary_of_parts;
+use cedar_partial_operators::unary::{is_of_part, like_of_part, unary_of_part};
+use cedar_values::{PartialValue, ResidualExpr};
+use std::alloc::Global;
+use std::mem;
+use std::rc::{Rc, RcStr};
+
+impl<'e, 'g, 'f> Evaluation<'e, 'g, 'f> {
+    // An operator on its one operand.
+    pub(crate) fn after_operand(
+        &self,
+        alloc: Global,
+        whole: &Part,
+        op: UnaryOp,
+        mut operand: Box<PartialValue>,
+    ) -> Next
+        ensures { GoesOnAt self.now whole.now (pendings.Unary op) (boxed_answer operand) result }
+    {
+        if is_negated(op, &mut operand) {
+            put_at(alloc, whole, operand)
+        } else {
+            self.after_other_operand(alloc, whole, op, operand)
+        }
+    }
+
+    // The same of any operator and operand.
+    #[inline(never)]
+    fn after_other_operand(
+        &self,
+        alloc: Global,
+        whole: &Part,
+        op: UnaryOp,
+        mut operand: Box<PartialValue>,
+    ) -> Next
+        ensures { GoesOnAt self.now whole.now (pendings.Unary op) (boxed_answer operand) result }
+    {
+        let part = taken_out(&mut operand);
+        answered_in(alloc, whole, operand, unary_of_part(alloc, op, part, None))
+    }
+
+    // The right operand, after the left one.
+    pub(crate) fn after_left(
+        &self,
+        alloc: Global,
+        whole: &Part,
+        op: BinaryOp,
+        right: &Part,
+        left: Box<PartialValue>,
+        levels: usize,
+    ) -> Next
+        ensures { GoesOnIn self.now levels whole.now (pendings.BinaryLeft op right.now) (boxed_answer left) result }
+    {
+        match self.told(alloc, right, levels) {
+            Some(right) => self.applied(alloc, whole, op, left, PartialValue::Value(right)),
+            None => right_operand(whole, op, right, left),
+        }
+    }
+
+    // An operator on its two operands.
+    pub(crate) fn after_right(
+        &self,
+        alloc: Global,
+        whole: &Part,
+        op: BinaryOp,
+        left: Box<PartialValue>,
+        right: Box<PartialValue>,
+    ) -> Next
+        ensures { GoesOnAt self.now whole.now (pendings.BinaryRight op left) (boxed_answer right) result }
+    {
+        self.applied(alloc, whole, op, left, Box::into_inner(right))
+    }
+
+    // The same. With deep resolution a stored residual that they read is evaluated.
+    pub(crate) fn applied(
+        &self,
+        alloc: Global,
+        whole: &Part,
+        op: BinaryOp,
+        left: Box<PartialValue>,
+        right: PartialValue,
+    ) -> Next
+        ensures { GoesOnAt self.now whole.now (pendings.BinaryRight op left) (answers (partial_view right)) result }
+    {
+        match self.operands_residual(op, &left, &right) {
+            Some(tag) => {
+                drop((left, right));
+                read_again(alloc, whole, tag)
+            }
+            None => self.applied_as_stored(alloc, whole, op, left, right),
+        }
+    }
+
+    // What the operator answers, where a stored residual answers itself.
+    fn applied_as_stored(
+        &self,
+        alloc: Global,
+        whole: &Part,
+        op: BinaryOp,
+        mut left: Box<PartialValue>,
+        right: PartialValue,
+    ) -> Next
+        ensures { (r : RequestPart) → Gives (expr_loc whole.now.value) result (Rules.binary_of_parts
+            (setting_of r self.now) (binary_view op) (partial_view left.value) (partial_view right)) }
+    {
+        let left_part = taken_out(&mut left);
+        let entities = self.given.entities;
+        let extensions = self.given.extensions;
+        answered_in(
+            alloc,
+            whole,
+            left,
+            binary_of_parts(alloc, entities, extensions, op, left_part, right, None),
+        )
+    }
+
+    // The attribute; with deep resolution a stored residual is evaluated.
+    pub(crate) fn after_container(
+        &self,
+        alloc: Global,
+        whole: &Part,
+        attr: &RcStr,
+        container: Box<PartialValue>,
+    ) -> Next
+        ensures { GoesOnAt self.now whole.now (pendings.GetAttr attr.now) (boxed_answer container) result }
+    {
+        match self.attribute_residual(&container, attr) {
+            Some(residual) => {
+                drop(container);
+                read_again(alloc, whole, residual)
+            }
+            None => self.attribute_as_stored(alloc, whole, attr, container),
+        }
+    }
+
+    // The attribute, where a stored residual answers itself; that of a projectable record is evaluated again.
+    fn attribute_as_stored(
+        &self,
+        alloc: Global,
+        whole: &Part,
+        attr: &RcStr,
+        mut container: Box<PartialValue>,
+    ) -> Next
+        requires { resolved_in (resolution_view self.now.given.now.resolution) (part_residual
+            (store_view self.now.given.now.entities.now) (partial_view container.value) (rc_str_bytes attr.now)) ≡ None }
+        ensures { GoesOnAt self.now whole.now (pendings.GetAttr attr.now) (boxed_answer container) result }
+    {
+        let part = taken_out(&mut container);
+        match attribute_of_part(alloc, self.given.entities, part, attr, None) {
+            Projected::Answer(answer) => {
+                stored_in(alloc, whole, &self.given.mapper, container, answer)
+            }
+            Projected::Part(part) => projected(alloc, whole, part),
+        }
+    }
+
+    // Whether there is the attribute.
+    pub(crate) fn after_tested(
+        &self,
+        alloc: Global,
+        whole: &Part,
+        attr: &RcStr,
+        mut container: Box<PartialValue>,
+    ) -> Next
+        ensures { GoesOnAt self.now whole.now (pendings.HasAttr attr.now) (boxed_answer container) result }
+    {
+        let part = taken_out(&mut container);
+        answered_in(
+            alloc,
+            whole,
+            container,
+            has_of_part(alloc, self.given.entities, part, attr),
+        )
+    }
+
+    // Whether there are the attributes, one in the other. With deep resolution a stored residual before the last of them is
+    // evaluated.
+    pub(crate) fn after_walked(
+        &self,
+        alloc: Global,
+        whole: &Part,
+        attrs: &Rc<FirstRest<RcStr>>,
+        container: Box<PartialValue>,
+    ) -> Next
+        ensures { GoesOnAt self.now whole.now (pendings.ExtHasAttr attrs.now) (boxed_answer container) result }
+    {
+        match self.path_residual(alloc, &container, attrs) {
+            Ok(read) => match read {
+                Some(read) => {
+                    drop(container);
+                    walk_again(whole, read)
+                }
+                None => self.walked_as_stored(alloc, whole, attrs, container),
+            },
+            Err(_) => Step::Done(Err(Stopped::Memory)),
+        }
+    }
+
+    // Whether there are the attributes, where a stored residual answers itself.
+    fn walked_as_stored(
+        &self,
+        alloc: Global,
+        whole: &Part,
+        attrs: &FirstRest<RcStr>,
+        mut container: Box<PartialValue>,
+    ) -> Next
+        ensures { Gives (expr_loc whole.now.value) result (on_part
+            (λ v. path_answer (store_view self.now.given.now.entities.now) v (rc_str_bytes attrs.now.first)
+            (texts_view attrs.now.rest.items))
+            (λ q. extended_has q (rc_str_bytes attrs.now.first) (texts_view attrs.now.rest.items))
+            (boxed_answer container)) }
+    {
+        let part = taken_out(&mut container);
+        answered_in(
+            alloc,
+            whole,
+            container,
+            extended_has_of_part(alloc, self.given.entities, part, attrs),
+        )
+    }
+
+    // Whether the text matches.
+    pub(crate) fn after_text(
+        &self,
+        alloc: Global,
+        whole: &Part,
+        pattern: &Box<Pattern>,
+        mut text: Box<PartialValue>,
+    ) -> Next
+        ensures { GoesOnAt self.now whole.now (pendings.Like pattern.now) (boxed_answer text) result }
+    {
+        let part = taken_out(&mut text);
+        answered_in(alloc, whole, text, like_of_part(alloc, part, pattern))
+    }
+
+    // Whether the entity is of the type.
+    pub(crate) fn after_entity(
+        &self,
+        alloc: Global,
+        whole: &Part,
+        entity_type: &Box<EntityType>,
+        mut entity: Box<PartialValue>,
+    ) -> Next
+        ensures { GoesOnAt self.now whole.now (pendings.Is entity_type.now) (boxed_answer entity) result }
+    {
+        let part = taken_out(&mut entity);
+        answered_in(alloc, whole, entity, is_of_part(alloc, part, entity_type))
+    }
+}
+
+// The right operand is waited for, beside the left one.
+fn right_operand(whole: &Part, op: BinaryOp, right: &Part, left: Box<PartialValue>) -> Next
+    ensures { IsWaiting whole.now (tasks.Other (pendings.BinaryRight op left)) right.now result }
+{
+    match both(whole, right) {
+        Ok((whole, right)) => {
+            let task = Task::Other(Pending::BinaryRight { op, left });
+            Step::Wait(Frame { whole, task }, right)
+        }
+        Err(_) => Step::Done(Err(Stopped::Memory)),
+    }
+}
+
+// A stored residual is evaluated, and is the answer.
+#[cold]
+#[inline(never)]
+fn read_again(alloc: Global, whole: &Part, residual: &ResidualExpr) -> Next
+    ensures { IsPassed (expr_loc whole.now.value) (residual_term residual.now) result }
+{
+    match residual.as_expr().clone() {
+        Ok(part) => projected(alloc, whole, part),
+        Err(_) => Step::Done(Err(Stopped::Memory)),
+    }
+}
+
+// A stored residual is evaluated, and then tested for the attributes after it.
+#[cold]
+#[inline(never)]
+fn walk_again(whole: &Part, read: OnPath) -> Next
+    ensures { IsWalkedOn (expr_loc whole.now.value) (on_path_of read) result }
+{
+    let (part, attrs) = read;
+    match whole.clone() {
+        Ok(whole) => {
+            let task = Task::Other(Pending::ExtHasAttr(attrs));
+            Step::Wait(Frame { whole, task }, part)
+        }
+        Err(_) => Step::Done(Err(Stopped::Memory)),
+    }
+}
+
+// A part of a record is evaluated again, and is the answer.
+#[cold]
+#[inline(never)]
+fn projected(alloc: Global, whole: &Part, part: Expr) -> Next
+    ensures { IsPassed (expr_loc whole.now.value) (view part) result }
+{
+    match whole.clone() {
+        Ok(whole) => match Rc::new(alloc, part) {
+            Ok(part) => {
+                let task = Task::Other(Pending::Passed);
+                Step::Wait(Frame { whole, task }, part)
+            }
+            Err(_) => Step::Done(Err(Stopped::Memory)),
+        },
+        Err(_) => Step::Done(Err(Stopped::Memory)),
+    }
+}
+
+// Negates a boolean where the operator is `!`. Anything else stays.
+fn is_negated(op: UnaryOp, part: &mut PartialValue) -> bool
+    ensures negated { result ≡ true → answers (partial_view part.new)
+        ≡ on_part (unary_answer (unary_view op)) (unary (unary_view op)) (answers (partial_view part.old)) }
+    ensures same { result ≡ false → part.new ≡ part.old }
+{
+    match op {
+        UnaryOp::Not => match known_bool(part) {
+            Some(b) => {
+                drop(mem::replace(part, bool_part(!b)));
+                true
+            }
+            None => false,
+        },
+        UnaryOp::Neg => false,
+        UnaryOp::IsEmpty => false,
+    }
+}

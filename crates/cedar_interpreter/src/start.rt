@@ -1,0 +1,445 @@
+//! How each kind of expression starts: with its answer, or with its first part.
+ghost use Rattle.std.specs.Prelude.{◌≡◌, ℕ, IfOk};
+ghost use Rattle.std.specs.Rc.{rc_str_bytes};
+ghost use Rattle.cedar_model.specs.Terms as Terms;
+ghost use Rattle.cedar_model.specs.Failures.{fails, slot_is_unlinked};
+ghost use Rattle.cedar_model.specs.Operators.{slot_answer};
+ghost use Rattle.cedar_names.specs.Names.{type_text};
+ghost use Rattle.cedar_names.specs.Leaves.{literal_view, variable_view, slot_view};
+ghost use Rattle.cedar_names.specs.Leaves.{unary_view, binary_view, pattern_view};
+ghost use Rattle.cedar_expressions.specs.View.{view, terms_view, fields_view, extended_has_of, call_of, expr_loc};
+ghost use Rattle.cedar_layers.specs.Policies.{slots_view};
+ghost use Rattle.cedar_operators.specs.Operands.{unknown_term};
+ghost use Rattle.cedar_interpreter.specs.Settings.{given_for};
+ghost use Rattle.cedar_interpreter.specs.Tasks.{Gives};
+ghost use Rattle.cedar_interpreter.specs.Steps.{BeginsIn, BeginsAt};
+ghost use Rattle.cedar_interpreter.specs.PartsLaws.{IsTaken, IsNextPart};
+ghost use Rattle.cedar_interpreter.specs.Elements.{IsPartTaken, NextStands, SetNext};
+
+use crate::answers::{answered, both, done, loc_of, or_want};
+use crate::evaluation::Evaluation;
+use crate::frame::{Frame, Next, Part, Pending, Task};
+use crate::stopped::Stopped;
+use crate::stored::mapped;
+use crate::told::literal_value;
+use cedar_errors::evaluator::err::{EvaluationError, evaluation_errors};
+use cedar_expressions::{Expr, ExprKind};
+use cedar_frames::Step;
+use cedar_layers::expressions::SlotEnv;
+use cedar_names::{
+    BinaryOp, EntityType, FirstRest, Literal, Name, Pattern, SlotId, Type, UnaryOp, Unknown, Var,
+};
+use cedar_partial_operators::unary::{is_of_part, like_of_part};
+use cedar_restricted_evaluator::{NextPart, PartsFrame};
+use cedar_values::{PartialValue, Value, ValueKind};
+use evaluation_errors::UnlinkedSlotError;
+use std::alloc::{AllocError, Global};
+use std::collections::BTreeMap;
+use std::rc::{Rc, RcStr};
+
+impl<'e, 'g, 'f> Evaluation<'e, 'g, 'f> {
+    // Looks at an expression, which is that of the whole: answers it, or waits for its first part.
+    #[tactic(auto, using(cedar_expressions::proofs::Levels::levels))]
+    pub(crate) fn begin(&self, alloc: Global, whole: &Part, e: &Expr, levels: usize) -> Next
+        ensures begins { BeginsIn self.now levels whole.now (view e.now) result }
+        ensures elements { NextStands e.now result }
+    {
+        match e.expr_kind() {
+            ExprKind::Lit(value) => self.literal(alloc, whole, value),
+            ExprKind::Var(var) => self.variable(alloc, whole, *var),
+            ExprKind::Slot(slot) => self.slot(alloc, whole, *slot),
+            ExprKind::Unknown(unknown) => self.unknown(alloc, whole, e, unknown),
+            ExprKind::If {
+                test_expr,
+                then_expr,
+                else_expr,
+            } => self.branches(whole, test_expr, then_expr, else_expr),
+            ExprKind::And { left, right } => self.conjunction(whole, left, right),
+            ExprKind::Or { left, right } => self.disjunction(whole, left, right),
+            ExprKind::UnaryApp { op, arg } => self.operand(whole, *op, arg),
+            ExprKind::BinaryApp { op, arg1, arg2 } => {
+                self.operands(alloc, whole, *op, arg1, arg2, levels)
+            }
+            ExprKind::ExtensionFunctionApp { fn_name, args } => {
+                self.call(alloc, whole, fn_name, args)
+            }
+            ExprKind::GetAttr { expr, attr } => { self.attribute(alloc, whole, expr, attr, levels) }
+            ExprKind::HasAttr { expr, attr } => { self.tested(alloc, whole, expr, attr, levels) }
+            ExprKind::ExtHasAttr { expr, attrs } => {
+                self.walked(alloc, whole, expr, attrs, levels)
+            }
+            ExprKind::Like { expr, pattern } => {
+                self.likeness(alloc, whole, expr, pattern, levels)
+            }
+            ExprKind::Is { expr, entity_type } => {
+                self.typed(alloc, whole, expr, entity_type, levels)
+            }
+            ExprKind::Set(parts) => self.set(alloc, whole, parts),
+            ExprKind::Record(pairs) => self.record(alloc, whole, pairs),
+        }
+    }
+
+    fn literal(&self, alloc: Global, whole: &Part, value: &Literal) -> Next
+        ensures { BeginsAt self.now whole.now (Terms.literal (literal_view value.now)) result }
+    {
+        match literal_value(value) {
+            Some(value) => done(alloc, whole, PartialValue::Value(value)),
+            None => Step::Done(Err(Stopped::Memory)),
+        }
+    }
+
+    fn variable(&self, alloc: Global, whole: &Part, var: Var) -> Next
+        ensures { (levels : ℕ) → BeginsIn self.now levels whole.now (Terms.variable (variable_view var)) result }
+    {
+        match self.given_for(var).clone() {
+            Ok(part) => done(alloc, whole, part),
+            Err(_) => Step::Done(Err(Stopped::Memory)),
+        }
+    }
+
+    // What is given for the variable.
+    pub(crate) fn given_for(&self, var: Var) -> &PartialValue
+        ensures { result.now ≡ given_for self.now.given.now (variable_view var) }
+    {
+        match var {
+            Var::Principal => &self.given.principal,
+            Var::Action => &self.given.action,
+            Var::Resource => &self.given.resource,
+            Var::Context => &self.given.context,
+        }
+    }
+
+    fn slot(&self, alloc: Global, whole: &Part, slot: SlotId) -> Next
+        ensures { BeginsAt self.now whole.now (Terms.slot (slot_view slot)) result }
+    {
+        or_want(slot_answer(alloc, whole, self.slots, slot))
+    }
+
+    fn unknown(&self, alloc: Global, whole: &Part, e: &Expr, unknown: &Unknown) -> Next
+        requires { view e.now ≡ unknown_term unknown.now }
+        ensures { BeginsAt self.now whole.now (view e.now) result }
+    {
+        or_want(mapped(alloc, whole, &self.given.mapper, e, unknown))
+    }
+
+    fn operand(&self, whole: &Part, op: UnaryOp, arg: &Part) -> Next
+        ensures { BeginsAt self.now whole.now (Terms.unary (unary_view op) (view arg.now.value)) result }
+    {
+        match both(whole, arg) {
+            Ok((whole, arg)) => {
+                let task = Task::Other(Pending::Unary(op));
+                Step::Wait(Frame { whole, task }, arg)
+            }
+            Err(_) => Step::Done(Err(Stopped::Memory)),
+        }
+    }
+
+    fn operands(
+        &self,
+        alloc: Global,
+        whole: &Part,
+        op: BinaryOp,
+        left: &Part,
+        right: &Part,
+        levels: usize,
+    ) -> Next
+        ensures { BeginsIn self.now levels whole.now
+            (Terms.binary (binary_view op) (view left.now.value) (view right.now.value)) result }
+    {
+        match self.told_boxed(alloc, left, levels) {
+            Some(told) => self.after_left(alloc, whole, op, right, told, levels),
+            None => self.wait_for_left(whole, op, left, right),
+        }
+    }
+
+    fn wait_for_left(&self, whole: &Part, op: BinaryOp, left: &Part, right: &Part) -> Next
+        ensures { BeginsAt self.now whole.now
+            (Terms.binary (binary_view op) (view left.now.value) (view right.now.value)) result }
+    {
+        match right.clone() {
+            Ok(right) => match both(whole, left) {
+                Ok((whole, left)) => {
+                    let task = Task::Other(Pending::BinaryLeft { op, right });
+                    Step::Wait(Frame { whole, task }, left)
+                }
+                Err(_) => Step::Done(Err(Stopped::Memory)),
+            },
+            Err(_) => Step::Done(Err(Stopped::Memory)),
+        }
+    }
+
+    fn attribute(
+        &self,
+        alloc: Global,
+        whole: &Part,
+        expr: &Part,
+        attr: &RcStr,
+        levels: usize,
+    ) -> Next
+        ensures { BeginsIn self.now levels whole.now
+            (Terms.get_attribute (view expr.now.value) (rc_str_bytes attr.now)) result }
+    {
+        match self.told_boxed(alloc, expr, levels) {
+            Some(told) => self.after_container(alloc, whole, attr, told),
+            None => self.wait_for_container(whole, expr, attr),
+        }
+    }
+
+    fn wait_for_container(&self, whole: &Part, expr: &Part, attr: &RcStr) -> Next
+        ensures { BeginsAt self.now whole.now
+            (Terms.get_attribute (view expr.now.value) (rc_str_bytes attr.now)) result }
+    {
+        match attr.clone() {
+            Ok(attr) => match both(whole, expr) {
+                Ok((whole, expr)) => {
+                    let task = Task::Other(Pending::GetAttr(attr));
+                    Step::Wait(Frame { whole, task }, expr)
+                }
+                Err(_) => Step::Done(Err(Stopped::Memory)),
+            },
+            Err(_) => Step::Done(Err(Stopped::Memory)),
+        }
+    }
+
+    fn tested(&self, alloc: Global, whole: &Part, expr: &Part, attr: &RcStr, levels: usize) -> Next
+        ensures { BeginsIn self.now levels whole.now
+            (Terms.has_attribute (view expr.now.value) (rc_str_bytes attr.now)) result }
+    {
+        match self.told_boxed(alloc, expr, levels) {
+            Some(told) => self.after_tested(alloc, whole, attr, told),
+            None => self.wait_for_tested(whole, expr, attr),
+        }
+    }
+
+    fn wait_for_tested(&self, whole: &Part, expr: &Part, attr: &RcStr) -> Next
+        ensures { BeginsAt self.now whole.now
+            (Terms.has_attribute (view expr.now.value) (rc_str_bytes attr.now)) result }
+    {
+        match attr.clone() {
+            Ok(attr) => match both(whole, expr) {
+                Ok((whole, expr)) => {
+                    let task = Task::Other(Pending::HasAttr(attr));
+                    Step::Wait(Frame { whole, task }, expr)
+                }
+                Err(_) => Step::Done(Err(Stopped::Memory)),
+            },
+            Err(_) => Step::Done(Err(Stopped::Memory)),
+        }
+    }
+
+    fn walked(
+        &self,
+        alloc: Global,
+        whole: &Part,
+        expr: &Part,
+        attrs: &Rc<FirstRest<RcStr>>,
+        levels: usize,
+    ) -> Next
+        ensures { BeginsIn self.now levels whole.now (extended_has_of (view expr.now.value) attrs.now.value) result }
+    {
+        match self.told_boxed(alloc, expr, levels) {
+            Some(told) => self.after_walked(alloc, whole, attrs, told),
+            None => self.wait_for_walked(whole, expr, attrs),
+        }
+    }
+
+    fn wait_for_walked(&self, whole: &Part, expr: &Part, attrs: &Rc<FirstRest<RcStr>>) -> Next
+        ensures { BeginsAt self.now whole.now (extended_has_of (view expr.now.value) attrs.now.value) result }
+    {
+        match attrs.clone() {
+            Ok(attrs) => match both(whole, expr) {
+                Ok((whole, expr)) => {
+                    let task = Task::Other(Pending::ExtHasAttr(attrs));
+                    Step::Wait(Frame { whole, task }, expr)
+                }
+                Err(_) => Step::Done(Err(Stopped::Memory)),
+            },
+            Err(_) => Step::Done(Err(Stopped::Memory)),
+        }
+    }
+
+    fn likeness(
+        &self,
+        alloc: Global,
+        whole: &Part,
+        expr: &Part,
+        pattern: &Pattern,
+        levels: usize,
+    ) -> Next
+        ensures { BeginsIn self.now levels whole.now
+            (Terms.like (view expr.now.value) (pattern_view pattern.now)) result }
+    {
+        match self.told(alloc, expr, levels) {
+            Some(told) => {
+                answered(
+                    alloc,
+                    whole,
+                    like_of_part(alloc, PartialValue::Value(told), pattern),
+                )
+            }
+            None => self.wait_for_text(alloc, whole, expr, pattern),
+        }
+    }
+
+    fn wait_for_text(&self, alloc: Global, whole: &Part, expr: &Part, pattern: &Pattern) -> Next
+        ensures { BeginsAt self.now whole.now (Terms.like (view expr.now.value) (pattern_view pattern.now)) result }
+    {
+        match boxed_pattern(alloc, pattern) {
+            Ok(pattern) => match both(whole, expr) {
+                Ok((whole, expr)) => {
+                    let task = Task::Other(Pending::Like(pattern));
+                    Step::Wait(Frame { whole, task }, expr)
+                }
+                Err(_) => Step::Done(Err(Stopped::Memory)),
+            },
+            Err(_) => Step::Done(Err(Stopped::Memory)),
+        }
+    }
+
+    fn typed(
+        &self,
+        alloc: Global,
+        whole: &Part,
+        expr: &Part,
+        entity_type: &EntityType,
+        levels: usize,
+    ) -> Next
+        ensures { BeginsIn self.now levels whole.now
+            (Terms.is_of_type (view expr.now.value) (type_text entity_type.now)) result }
+    {
+        match self.told(alloc, expr, levels) {
+            Some(told) => {
+                answered(
+                    alloc,
+                    whole,
+                    is_of_part(alloc, PartialValue::Value(told), entity_type),
+                )
+            }
+            None => self.wait_for_entity(alloc, whole, expr, entity_type),
+        }
+    }
+
+    fn wait_for_entity(
+        &self,
+        alloc: Global,
+        whole: &Part,
+        expr: &Part,
+        entity_type: &EntityType,
+    ) -> Next
+        ensures { BeginsAt self.now whole.now
+            (Terms.is_of_type (view expr.now.value) (type_text entity_type.now)) result }
+    {
+        match boxed_type(alloc, entity_type) {
+            Ok(entity_type) => match both(whole, expr) {
+                Ok((whole, expr)) => {
+                    let task = Task::Other(Pending::Is(entity_type));
+                    Step::Wait(Frame { whole, task }, expr)
+                }
+                Err(_) => Step::Done(Err(Stopped::Memory)),
+            },
+            Err(_) => Step::Done(Err(Stopped::Memory)),
+        }
+    }
+
+    fn set(&self, alloc: Global, whole: &Part, parts: &Rc<Vec<Expr>>) -> Next
+        ensures begins { BeginsAt self.now whole.now (Terms.set_of (terms_view parts.now.value.items)) result }
+        ensures elements { SetNext parts.now.value.items result }
+    {
+        let next = PartsFrame::set(alloc, self.given.extensions, parts, loc_of(whole));
+        first_part(alloc, whole, next)
+    }
+
+    fn record(&self, alloc: Global, whole: &Part, pairs: &BTreeMap<RcStr, Expr>) -> Next
+        ensures { BeginsAt self.now whole.now (Terms.record_of (fields_view pairs.now.entries)) result }
+    {
+        let next = PartsFrame::record(alloc, self.given.extensions, pairs, loc_of(whole));
+        first_part(alloc, whole, next)
+    }
+
+    fn call(&self, alloc: Global, whole: &Part, fn_name: &Name, args: &Rc<Vec<Expr>>) -> Next
+        ensures { BeginsAt self.now whole.now (call_of fn_name.now args.now.value.items) result }
+    {
+        let next = PartsFrame::call(alloc, self.given.extensions, fn_name, args, loc_of(whole));
+        first_part(alloc, whole, next)
+    }
+}
+
+// A copy of the pattern in a box.
+fn boxed_pattern(alloc: Global, pattern: &Pattern) -> Result<Box<Pattern>, AllocError>
+    ensures { IfOk result (λ p. pattern_view p.value ≡ pattern_view pattern.now) }
+{
+    Ok(Box::new(alloc, pattern.clone()?)?)
+}
+
+// A copy of the entity type in a box.
+fn boxed_type(alloc: Global, entity_type: &EntityType) -> Result<Box<EntityType>, AllocError>
+    ensures { IfOk result (λ t. type_text t.value ≡ type_text entity_type.now) }
+{
+    Ok(Box::new(alloc, entity_type.clone()?)?)
+}
+
+// The entity that the slot is linked to.
+#[tactic(auto, unfolding(cedar_model::specs::Operators::slot_answer))]
+fn slot_answer(
+    alloc: Global,
+    whole: &Part,
+    slots: &SlotEnv,
+    slot: SlotId,
+) -> Result<Next, AllocError>
+    ensures { IfOk result (λ n. Gives (expr_loc whole.now.value) n
+        (slot_answer (slot_view slot) (slots_view slots.now (slot_view slot)))) }
+{
+    match slots.get(&slot) {
+        Some(uid) => {
+            let uid = Rc::new(alloc, uid.clone()?)?;
+            let value = Value::new(ValueKind::Lit(Literal::EntityUID(uid)), None);
+            Ok(done(alloc, whole, PartialValue::Value(value)))
+        }
+        None => Ok(slot_unlinked(alloc, whole, slot)),
+    }
+}
+
+// That the slot is linked to no entity.
+#[cold]
+#[inline(never)]
+fn slot_unlinked(alloc: Global, whole: &Part, slot: SlotId) -> Next
+    ensures { Gives (expr_loc whole.now.value) result (fails (slot_is_unlinked (slot_view slot))) }
+{
+    let error = EvaluationError::UnlinkedSlot(UnlinkedSlotError {
+        slot,
+        source_loc: None,
+    });
+    Step::Done(Err(Stopped::of(alloc, error, loc_of(whole))))
+}
+
+// What comes first of a set, a record or a call.
+fn first_part(alloc: Global, whole: &Part, next: NextPart) -> Next
+    ensures taken { IsTaken (expr_loc whole.now.value) next result }
+    ensures same { IsPartTaken next result }
+{
+    match whole.clone() {
+        Ok(whole) => taken(alloc, whole, next),
+        Err(_) => Step::Done(Err(Stopped::Memory)),
+    }
+}
+
+// What comes next of a set, a record or a call.
+pub(crate) fn taken(alloc: Global, whole: Part, next: NextPart) -> Next
+    ensures taken { IsTaken (expr_loc whole.value) next result }
+    ensures same { IsPartTaken next result }
+{
+    match next {
+        Step::Done(Ok(part)) => done(alloc, &whole, part),
+        Step::Done(Err(error)) => Step::Done(Err(Stopped::of(alloc, error, loc_of(&whole)))),
+        Step::Wait(frame, part) => or_want(next_part(alloc, whole, frame, part)),
+    }
+}
+
+// A set, a record or a call waits for this part.
+fn next_part(alloc: Global, whole: Part, frame: PartsFrame, part: Expr) -> Result<Next, AllocError>
+    ensures { IfOk result (IsNextPart (expr_loc whole.value) frame part) }
+{
+    let part = Rc::new(alloc, part)?;
+    let task = Task::Parts(Box::new(alloc, frame)?);
+    Ok(Step::Wait(Frame { whole, task }, part))
+}

@@ -1,0 +1,190 @@
+//! Unknowns, and stored attributes that are unknowns: the map may have a value for them.
+ghost use Rattle.std.specs.Prelude.{◌≡◌, true, [], Some, option_map, option_copied, MatchOption, IfOk};
+ghost use Rattle.std.specs.Rc.{rc_str_bytes};
+ghost use Rattle.cedar_model.specs.Values.{abstract_value};
+ghost use Rattle.cedar_model.specs.Shapes.{has_unknown};
+ghost use Rattle.cedar_model.specs.Outcomes.{type_eq};
+ghost use Rattle.cedar_model.specs.Failures.{Answer, fails, answers_residual, wrong_type};
+ghost use Rattle.cedar_model.specs.Operators.{typed_value};
+ghost use Rattle.cedar_names.specs.Leaves.{type_view};
+ghost use Rattle.cedar_expressions.specs.View.{view, expr_loc};
+ghost use Rattle.cedar_values.specs.Residuals.{residual_term};
+ghost use Rattle.cedar_values.specs.Sound.{Placed};
+ghost use Rattle.cedar_errors.specs.Answers.{AnswersWith};
+ghost use Rattle.cedar_operators.specs.Operands.{unknown_term};
+ghost use Rattle.cedar_interpreter.specs.Settings.{mapper_view};
+ghost use Rattle.cedar_interpreter.specs.Tasks.{Gives};
+ghost use Rattle.cedar_interpreter.specs.Stored.{remapped, IsNoUnknown, mapped_unknown};
+
+use crate::answers::{answered_in, done, loc_of, or_want};
+use crate::evaluation::Mapper;
+use crate::frame::{Next, Part};
+use crate::stopped::Stopped;
+use cedar_errors::evaluator::err::EvaluationError;
+use cedar_expressions::{Expr, ExprKind};
+use cedar_frames::Step;
+use cedar_names::laws::leaves_are_equal_by_view;
+use cedar_names::{Type, Unknown};
+use cedar_operators::failures::type_error;
+use cedar_values::{PartialValue, ResidualExpr, Value};
+use std::alloc::{AllocError, Global};
+use std::rc::RcStr;
+
+// What a stored attribute answers, in the box of its container: one that is an unknown goes through the map.
+#[tactic(auto, unfolding(crate::specs::Stored::remapped))]
+pub(crate) fn stored_in(
+    alloc: Global,
+    whole: &Part,
+    mapper: &Mapper<'_>,
+    container: Box<PartialValue>,
+    answer: Result<PartialValue, EvaluationError>,
+) -> Next
+    ensures { (b : Answer) → AnswersWith answer b
+        → Gives (expr_loc whole.now.value) result (remapped (mapper_view mapper.now) b) }
+{
+    match answer {
+        Ok(PartialValue::Value(value)) => {
+            answered_in(alloc, whole, container, Ok(PartialValue::Value(value)))
+        }
+        Ok(PartialValue::Residual(residual)) => {
+            or_want(stored_residual(alloc, whole, mapper, residual))
+        }
+        Err(error) => answered_in(alloc, whole, container, Err(error)),
+    }
+}
+
+// What an attribute that is stored unevaluated answers: one that is an unknown goes through the map.
+#[tactic(auto, unfolding(crate::specs::Stored::remapped))]
+fn stored_residual(
+    alloc: Global,
+    whole: &Part,
+    mapper: &Mapper<'_>,
+    residual: ResidualExpr,
+) -> Result<Next, AllocError>
+    ensures { IfOk result (λ n. Gives (expr_loc whole.now.value) n
+        (remapped (mapper_view mapper.now) (answers_residual (residual_term residual)))) }
+{
+    match unknown_in(residual.as_expr()) {
+        Some(unknown) => {
+            let next = mapped(alloc, whole, mapper, residual.as_expr(), unknown);
+            drop(residual);
+            next
+        }
+        None => Ok(done(alloc, whole, PartialValue::Residual(residual))),
+    }
+}
+
+// The unknown that the expression is, if it is one.
+#[tactic(auto, using(cedar_expressions::proofs::Levels::levels), unfolding(crate::specs::Stored::remapped))]
+fn unknown_in(e: &Expr) -> Option<&Unknown>
+    ensures { MatchOption result (IsNoUnknown (view e.now)) (λ u. view e.now ≡ unknown_term u.now) }
+{
+    match e.expr_kind() {
+        ExprKind::Unknown(unknown) => Some(unknown),
+        ExprKind::Lit(_) => None,
+        ExprKind::Var(_) => None,
+        ExprKind::Slot(_) => None,
+        ExprKind::If {
+            test_expr: _,
+            then_expr: _,
+            else_expr: _,
+        } => None,
+        ExprKind::And { left: _, right: _ } => None,
+        ExprKind::Or { left: _, right: _ } => None,
+        ExprKind::UnaryApp { op: _, arg: _ } => None,
+        ExprKind::BinaryApp {
+            op: _,
+            arg1: _,
+            arg2: _,
+        } => None,
+        ExprKind::ExtensionFunctionApp {
+            fn_name: _,
+            args: _,
+        } => None,
+        ExprKind::GetAttr { expr: _, attr: _ } => None,
+        ExprKind::HasAttr { expr: _, attr: _ } => None,
+        ExprKind::ExtHasAttr { expr: _, attrs: _ } => None,
+        ExprKind::Like {
+            expr: _,
+            pattern: _,
+        } => None,
+        ExprKind::Is {
+            expr: _,
+            entity_type: _,
+        } => None,
+        ExprKind::Set(_) => None,
+        ExprKind::Record(_) => None,
+    }
+}
+
+// The map's value for the unknown, if it is of the annotated type; without one the unknown is left.
+#[tactic(auto, unfolding(cedar_model::specs::Operators::mapped, cedar_model::specs::Operators::typed_value))]
+pub(crate) fn mapped(
+    alloc: Global,
+    whole: &Part,
+    mapper: &Mapper<'_>,
+    e: &Expr,
+    unknown: &Unknown,
+) -> Result<Next, AllocError>
+    requires { view e.now ≡ unknown_term unknown.now }
+    ensures { IfOk result (λ n. Gives (expr_loc whole.now.value) n
+        (mapped_unknown (mapper_view mapper.now) unknown.now)) }
+{
+    match value_of(mapper, &unknown.name) {
+        Some(value) => match &unknown.type_annotation {
+            Some(ty) => of_type(alloc, whole, value, ty),
+            None => Ok(done(alloc, whole, PartialValue::Value(value.clone()?))),
+        },
+        None => Ok(left(alloc, whole, e.clone()?)),
+    }
+}
+
+// The value of the unknown of this name, if there is one.
+fn value_of<'v>(mapper: &Mapper<'v>, name: &RcStr) -> Option<&'v Value>
+    ensures { option_map (λ (v : Placed). v.what) (option_copied result)
+        ≡ mapper_view mapper.now (rc_str_bytes name.now) }
+{
+    match mapper {
+        Mapper::Empty => None,
+        Mapper::Values(map) => map.get(name),
+    }
+}
+
+// The value, if it is of this type.
+#[tactic(auto, unfolding(cedar_model::specs::Operators::typed_value))]
+fn of_type(alloc: Global, whole: &Part, value: &Value, ty: &Type) -> Result<Next, AllocError>
+    ensures { IfOk result (λ n. Gives (expr_loc whole.now.value) n
+        (typed_value (Some (type_view ty.now)) value.now.what)) }
+{
+    if same_type(&value.type_of()?, ty) {
+        Ok(done(alloc, whole, PartialValue::Value(value.clone()?)))
+    } else {
+        Ok(wrong_type(alloc, whole, ty.clone()?, value))
+    }
+}
+
+// Whether both types are the same.
+fn same_type(ty: &Type, other: &Type) -> bool
+    ensures { result ≡ type_eq (type_view ty.now) (type_view other.now) }
+{
+    leaves_are_equal_by_view();
+    ty == other
+}
+
+// That a value of this type is expected.
+#[cold]
+#[inline(never)]
+fn wrong_type(alloc: Global, whole: &Part, ty: Type, value: &Value) -> Next
+    ensures { Gives (expr_loc whole.now.value) result
+        (fails (wrong_type (type_view ty) [] (abstract_value value.now.what))) }
+{
+    Step::Done(Err(Stopped::of(alloc, type_error(alloc, ty, value), loc_of(whole))))
+}
+
+// The unknown is left.
+fn left(alloc: Global, whole: &Part, e: Expr) -> Next
+    requires { has_unknown (view e) ≡ true }
+    ensures { Gives (expr_loc whole.now.value) result (answers_residual (view e)) }
+{
+    done(alloc, whole, PartialValue::Residual(ResidualExpr::new(e)))
+}

@@ -1,0 +1,24 @@
+//! Contexts.
+ghost use Rattle.std.specs.Prelude.{◌≡◌, IfOk};
+ghost use Rattle.cedar_values.specs.Residuals.{partial_term};
+ghost use Rattle.cedar_requests.specs.Contexts.{context_part_value};
+ghost use Rattle.cedar_json_writing.specs.Trees.{json_view};
+ghost use Rattle.cedar_json_writing.specs.Written.{written};
+
+use crate::expressions::expr_to_json;
+use crate::tree::JsonValue;
+use cedar_requests::Context;
+use cedar_restricted_expressions::RestrictedExpr;
+use std::alloc::{AllocError, Global};
+
+/// The context in Cedar's JSON: the object of its values or, where an unknown stands in one, of its restricted
+/// expressions. Refuses only for want of memory.
+pub fn context_to_json(alloc: Global, context: &Context) -> Result<JsonValue, AllocError>
+    ensures { IfOk result (λ j. json_view j ≡ written (partial_term (context_part_value context.now))) }
+{
+    let copy: Context = context.clone()?;
+    let record = RestrictedExpr::try_from(copy)?;
+    let json = expr_to_json(alloc, record.as_ref());
+    drop(record);
+    json
+}

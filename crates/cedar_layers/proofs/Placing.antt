@@ -1,0 +1,294 @@
+-- The index of policies: what is placed stays, and what is reached by entities.
+use Rattle.std.proofs.Common.{◌≡◌, ◌⊎◌, inl, inr, refl, sym, ap, ◌∙◌, subst, arith, ℕ, zero, suc, ◌+◌, ◌==◌, Bool, true, false, cond, ◌||◌, ◌&&◌, List, [], ◌∷◌, ◌++◌, map, length, Option, Some, None, is_some}
+use Rattle.std.proofs.lemmas.Bool.{eqb-false}
+use Rattle.std.proofs.lemmas.List.Folds.{list_any-append}
+use Rattle.std.specs.List.{list_any}
+use Rattle.std.specs.Map.{lookup, values_of, KeepsOthers}
+use Rattle.std.specs.Prelude.{slice_get, Result, Ok, Err, OnOk, IfSome}
+use Rattle.std.specs.declared.alloc.Global.{Global}
+use Rattle.std.specs.declared.vec.Vec.{Vec}
+use Rattle.cedar_model.specs.Terms.{EntityName, Term, BinaryOperator, binary}
+use Rattle.cedar_model.specs.Outcomes.{entity_eq}
+use Rattle.cedar_model.specs.Settings.{is_among}
+use Rattle.cedar_names.specs.declared.names.EntityUID.{EntityUID}
+use Rattle.cedar_names.specs.contracts.names.EntityUIDPartialEq.TheImpl.{eq-value}
+use Rattle.cedar_names.specs.Names.{uid_name}
+use Rattle.cedar_layers.specs.declared.policies.policy.Policy.{Policy}
+use Rattle.cedar_layers.specs.declared.policies.scope_index.ScopeIndex.{ScopeIndex}
+use Rattle.cedar_layers.specs.Policies.{PolicyView, policy_view}
+use Rattle.cedar_layers.specs.Scopes.{compares, is_entity_variable, literal_entity, compared_entity, is_truth, principal_bound, action_bound, resource_bound, IsBoundTo, IsBoundElsewhere, Groups, items_or_none, standing_under, standing_at, has_position, is_placed, ArePlaced, Places, Extends, ReachesAll}
+use Rattle.cedar_layers.proofs.Picking.{some_inj, none_is_not_some}
+use Rattle.cedar_layers.proofs.Stores.{entity_eq-true}
+
+-- ---- entries
+
+module _ (old new : Groups) (key : EntityUID) (others : KeepsOthers eq-value.it (eq-value.it key) old new) where
+  -- what stands under another name stays
+  pub under_others : (n : EntityName) → entity_eq n (uid_name key) ≡ false → standing_under new n ≡ standing_under old n
+  unfolding KeepsOthers
+  under_others n h =
+      let own : (x y : EntityUID) → entity_eq n (uid_name x) ≡ true → entity_eq n (uid_name y) ≡ eq-value.it x y = λ x y e. ap (λ (m : EntityName). entity_eq m (uid_name y)) (entity_eq-true n (uid_name x) e) in
+      let apart : (u : EntityUID) → eq-value.it key u ≡ true → entity_eq n (uid_name u) ≡ false = λ u e. ap (λ (m : EntityName). entity_eq n m) (sym (entity_eq-true (uid_name key) (uid_name u) e)) ∙ h in
+      ap items_or_none (others (λ (u : EntityUID). entity_eq n (uid_name u)) own apart)
+
+-- a group that was taken out is put in, with one more
+pub extends : (old between new : Groups) (uid key : EntityUID) (group taken : Vec ℕ Global) (i : ℕ) → uid_name key ≡ uid_name uid
+    → taken.items ≡ standing_under old (uid_name uid) → ((n : EntityName) → entity_eq n (uid_name uid) ≡ false → standing_under between n ≡ standing_under old n)
+    → group.items ≡ taken.items ++ i ∷ [] → lookup (eq-value.it key) new ≡ Some group → KeepsOthers eq-value.it (eq-value.it key) between new
+    → Extends old new (uid_name uid) i
+extends old between new uid key group taken i name were stay more there others = record {
+  here = ap (standing_under new) (sym name) ∙ ap items_or_none there ∙ more ∙ ap (λ (ns : List ℕ). ns ++ i ∷ []) were;
+  others = λ m apart. under_others between new key others m (ap (entity_eq m) name ∙ apart) ∙ stay m apart;
+}
+
+-- what follows of a call that succeeds
+pub on_ok_then : {A E P Q : Type 0} (r : Result A E) → (P → Q) → OnOk r P → OnOk r Q
+on_ok_then (Ok x) f h = f h
+on_ok_then (Err e) f h = tt
+
+pub if_some_then : {U : Type 0} (o : Option U) (P Q : U → Type 0) → ((u : U) → P u → Q u) → IfSome o P → IfSome o Q
+if_some_then (Some u) P Q f h = f u h
+if_some_then None P Q f h = tt
+
+pub none_of : {A : Type 0} (xs : List A) → length xs ≡ 0 → xs ≡ []
+none_of [] h = refl
+none_of (x ∷ xs) h = absurd (omega (arith, h))
+
+-- ---- positions
+
+or_true : (b c : Bool) → (b || c) ≡ true → (b ≡ true) ⊎ (c ≡ true)
+or_true true c h = inl refl
+or_true false c h = inr h
+
+or_first : (b c : Bool) → b ≡ true → (b || c) ≡ true
+or_first true c h = refl
+or_first false c h = absurd (cc)
+
+or_second : (b c : Bool) → c ≡ true → (b || c) ≡ true
+or_second true c h = refl
+or_second false c h = h
+
+same_nat : (i : ℕ) → (i == i) ≡ true
+same_nat i = by (i == i) refl
+  where
+    by : (b : Bool) → (i == i) ≡ b → (i == i) ≡ true
+    by true e = e
+    by false e = absurd (eqb-false i i e refl)
+
+-- what is in a list is in a longer one
+pub position_stays : (i : ℕ) (ns ms : List ℕ) → has_position i ns ≡ true → has_position i (ns ++ ms) ≡ true
+position_stays i ns ms h = list_any-append (λ j. i == j) ns ms ∙ or_first _ _ h
+
+pub position_behind : (i : ℕ) (ns ms : List ℕ) → has_position i ms ≡ true → has_position i (ns ++ ms) ≡ true
+position_behind i ns ms h = list_any-append (λ j. i == j) ns ms ∙ or_second _ _ h
+
+pub position_last : (i : ℕ) (ns : List ℕ) → has_position i (ns ++ i ∷ []) ≡ true
+position_last i ns = position_behind i ns (i ∷ []) (or_first (i == i) false (same_nat i))
+
+-- ---- an index in which no position is lost
+
+module _ (old new : ScopeIndex) (rest : (j : ℕ) → has_position j old.rest.items ≡ true → has_position j new.rest.items ≡ true)
+    (groups : (j : ℕ) (o : Option EntityName) → has_position j (standing_at old.groups.entries o) ≡ true → has_position j (standing_at new.groups.entries o) ≡ true) where
+  placed_stay : (j : ℕ) (q : PolicyView) → is_placed old j q ≡ true → is_placed new j q ≡ true
+  placed_stay j q h = by (or_true _ _ h)
+    where
+      last : (has_position j (standing_at old.groups.entries (action_bound q)) ≡ true) ⊎ (has_position j (standing_at old.groups.entries (resource_bound q)) ≡ true)
+          → (has_position j (standing_at new.groups.entries (action_bound q)) || has_position j (standing_at new.groups.entries (resource_bound q))) ≡ true
+      last (inl e) = or_first _ _ (groups j (action_bound q) e)
+      last (inr e) = or_second _ _ (groups j (resource_bound q) e)
+
+      more : (has_position j (standing_at old.groups.entries (principal_bound q)) ≡ true)
+          ⊎ ((has_position j (standing_at old.groups.entries (action_bound q)) || has_position j (standing_at old.groups.entries (resource_bound q))) ≡ true)
+          → (has_position j (standing_at new.groups.entries (principal_bound q))
+          || (has_position j (standing_at new.groups.entries (action_bound q)) || has_position j (standing_at new.groups.entries (resource_bound q)))) ≡ true
+      more (inl e) = or_first _ _ (groups j (principal_bound q) e)
+      more (inr e) = or_second _ _ (last (or_true _ _ e))
+
+      by : (has_position j old.rest.items ≡ true)
+          ⊎ ((has_position j (standing_at old.groups.entries (principal_bound q))
+          || (has_position j (standing_at old.groups.entries (action_bound q)) || has_position j (standing_at old.groups.entries (resource_bound q)))) ≡ true)
+          → is_placed new j q ≡ true
+      by (inl e) = or_first _ _ (rest j e)
+      by (inr e) = or_second _ _ (more (or_true _ _ e))
+
+-- placed in the rest
+pub places_in_rest : (old new : ScopeIndex) (i : ℕ) (p : PolicyView) → new.rest.items ≡ old.rest.items ++ i ∷ [] → new.groups.entries ≡ old.groups.entries → Places old new i p
+places_in_rest old new i p e g =
+    let stays : (j : ℕ) → has_position j old.rest.items ≡ true → has_position j new.rest.items ≡ true =
+    λ j h. ap (has_position j) e ∙ position_stays j old.rest.items (i ∷ []) h in
+    record {
+      stay = placed_stay old new stays (λ j o h. ap (λ (m : Groups). has_position j (standing_at m o)) g ∙ h);
+      placed = or_first _ _ (ap (has_position i) e ∙ position_last i old.rest.items);
+    }
+
+module _ (old new : Groups) (n : EntityName) (i : ℕ) (more : Extends old new n i) where
+  group_stays : (j : ℕ) (o : Option EntityName) → has_position j (standing_at old o) ≡ true → has_position j (standing_at new o) ≡ true
+  group_stays j None h = h
+  group_stays j (Some m) h = by (entity_eq m n) refl
+    where
+      by : (b : Bool) → entity_eq m n ≡ b → has_position j (standing_under new m) ≡ true
+      by true e =
+          let same : m ≡ n = entity_eq-true m n e in
+          ap (λ (x : EntityName). has_position j (standing_under new x)) same ∙ ap (has_position j) more.here
+          ∙ position_stays j (standing_under old n) (i ∷ []) (sym (ap (λ (x : EntityName). has_position j (standing_under old x)) same) ∙ h)
+      by false e = ap (has_position j) (more.others m e) ∙ h
+
+  group_has : (o : Option EntityName) → o ≡ Some n → has_position i (standing_at new o) ≡ true
+  group_has o e =
+      ap (λ (x : Option EntityName). has_position i (standing_at new x)) e ∙ ap (has_position i) more.here
+      ∙ position_last i (standing_under old n)
+
+-- placed under an entity that it is bound to
+pub places_under : (old new : ScopeIndex) (i : ℕ) (p : PolicyView) (n : EntityName) → new.rest.items ≡ old.rest.items → Extends old.groups.entries new.groups.entries n i → IsBoundTo p n → Places old new i p
+places_under old new i p n e more bound = record {
+  stay = placed_stay old new (λ j h. ap (has_position j) e ∙ h) (group_stays old.groups.entries new.groups.entries n i more);
+  placed = or_second _ _ (by bound);
+}
+  where
+    has : (o : Option EntityName) → o ≡ Some n → has_position i (standing_at new.groups.entries o) ≡ true
+    has = group_has old.groups.entries new.groups.entries n i more
+
+    by : IsBoundTo p n → (has_position i (standing_at new.groups.entries (principal_bound p))
+        || (has_position i (standing_at new.groups.entries (action_bound p)) || has_position i (standing_at new.groups.entries (resource_bound p)))) ≡ true
+    by (inl h) = or_first _ _ (has (principal_bound p) h)
+    by (inr (inl h)) = or_second _ _ (or_first _ _ (has (action_bound p) h))
+    by (inr (inr h)) = or_second _ _ (or_second _ _ (has (resource_bound p) h))
+
+-- ---- of all policies of a list
+
+got_more : (ps : List Policy) (p q : Policy) (i : ℕ) → slice_get (ps ++ p ∷ []) i ≡ Some q → (slice_get ps i ≡ Some q) ⊎ ((i ≡ length ps) × (p ≡ q))
+got_more [] p q zero h = inr (refl, some_inj h)
+got_more [] p q (suc i) h = absurd (none_is_not_some h)
+got_more (x ∷ ps) p q zero h = inl h
+got_more (x ∷ ps) p q (suc i) h = by (got_more ps p q i h)
+  where
+    by : (slice_get ps i ≡ Some q) ⊎ ((i ≡ length ps) × (p ≡ q)) → (slice_get ps i ≡ Some q) ⊎ ((suc i ≡ length (x ∷ ps)) × (p ≡ q))
+    by (inl e) = inl e
+    by (inr e) = inr (ap suc e.0, e.1)
+
+pub placed_none : (index : ScopeIndex) (ps : List Policy) → ps ≡ [] → ArePlaced index ps
+placed_none index ps e i p h = absurd (none_is_not_some (sym (ap (λ (qs : List Policy). slice_get qs i) e) ∙ h))
+
+pub placed_more : (old new : ScopeIndex) (ps qs : List Policy) (p : Policy) (n : ℕ) → qs ≡ ps ++ p ∷ [] → n ≡ length ps → ArePlaced old ps → Places old new n (policy_view p) → ArePlaced new qs
+placed_more old new ps qs p n e count before more i q h =
+    by (got_more ps p q i (sym (ap (λ (xs : List Policy). slice_get xs i) e) ∙ h))
+  where
+    by : (slice_get ps i ≡ Some q) ⊎ ((i ≡ length ps) × (p ≡ q)) → is_placed new i (policy_view q) ≡ true
+    by (inl f) = more.stay i (policy_view q) (before i q f)
+    by (inr f) =
+        sym (λ j. is_placed new ((count ∙ sym f.0) j) (policy_view (f.1 j))) ∙ more.placed
+
+pub length_values : {K V : Type 0} (es : List (K × V)) → length es ≡ length (values_of es)
+length_values [] = refl
+length_values (e ∷ es) = ap suc (length_values es)
+
+pub get_value : {K V : Type 0} (es : List (K × V)) (i : ℕ) (k : K) (v : V) → slice_get es i ≡ Some (k, v) → slice_get (values_of es) i ≡ Some v
+get_value [] i k v h = absurd (none_is_not_some h)
+get_value (e ∷ es) zero k v h =
+    let same : e ≡ (k, v) = some_inj h in
+    ap (λ (x : _ × _). Some x.1) same
+get_value (e ∷ es) (suc i) k v h = get_value es i k v h
+
+-- ---- what entities reach
+
+true_is_not_false : {b : Bool} → b ≡ true → b ≡ false → ⊥
+true_is_not_false h g = cc
+
+-- the rest is among the positions, and so is what stands under the entities before those that are left
+pub record AreReachedSoFar (index : ScopeIndex) (es left : List EntityName) (ns : List ℕ) : Type 0 where
+  pub rest : (j : ℕ) → has_position j index.rest.items ≡ true → has_position j ns ≡ true
+  pub under : (j : ℕ) (e : EntityName) → is_among e es ≡ true → (is_among e left ≡ true) ⊎ (has_position j (standing_under index.groups.entries e) ≡ true → has_position j ns ≡ true)
+
+pub reached_none : (index : ScopeIndex) (es left : List EntityName) (ns : List ℕ) → left ≡ es → ns ≡ index.rest.items → AreReachedSoFar index es left ns
+reached_none index es left ns e f = record {
+  rest = λ j h. ap (has_position j) f ∙ h;
+  under = λ j d h. inl (ap (is_among d) e ∙ h);
+}
+
+pub reached_more : (index : ScopeIndex) (es left rest : List EntityName) (n : EntityName) (ns ms : List ℕ) → left ≡ n ∷ rest → ms ≡ ns ++ standing_under index.groups.entries n → AreReachedSoFar index es left ns → AreReachedSoFar index es rest ms
+unfolding is_among
+reached_more index es left rest n ns ms e f before = record {
+  rest = λ j h. ap (has_position j) f ∙ position_stays j ns (standing_under index.groups.entries n) (before.rest j h);
+  under = λ j d h. by j d (before.under j d h);
+}
+  where
+    here : (j : ℕ) (d : EntityName) (b : Bool) → entity_eq d n ≡ b → (b || is_among d rest) ≡ true → (is_among d rest ≡ true) ⊎ (has_position j (standing_under index.groups.entries d) ≡ true → has_position j ms ≡ true)
+    here j d true g h =
+        let same : d ≡ n = entity_eq-true d n g in
+        inr (λ k. ap (has_position j) f ∙ position_behind j ns (standing_under index.groups.entries n) (sym (ap (λ (x : EntityName). has_position j (standing_under index.groups.entries x)) same) ∙ k))
+    here j d false g h = inl h
+
+    by : (j : ℕ) (d : EntityName) → (is_among d left ≡ true) ⊎ (has_position j (standing_under index.groups.entries d) ≡ true → has_position j ns ≡ true)
+        → (is_among d rest ≡ true) ⊎ (has_position j (standing_under index.groups.entries d) ≡ true → has_position j ms ≡ true)
+    by j d (inl h) = here j d (entity_eq d n) refl (sym (ap (is_among d) e) ∙ h)
+    by j d (inr g) = inr (λ k. ap (has_position j) f ∙ position_stays j ns (standing_under index.groups.entries n) (g k))
+
+module _ (index : ScopeIndex) (es left : List EntityName) (ns ms : List ℕ) (none : left ≡ []) (same : (j : ℕ) → has_position j ms ≡ has_position j ns) (before : AreReachedSoFar index es left ns) where
+  bound_elsewhere : (i : ℕ) → has_position i ms ≡ false → (o : Option EntityName) → has_position i (standing_at index.groups.entries o) ≡ true → (e : EntityName) × (o ≡ Some e) × (is_among e es ≡ false)
+  unfolding is_among
+  bound_elsewhere i gone None h = absurd (true_is_not_false h refl)
+  bound_elsewhere i gone (Some e) h = (e, refl, by (is_among e es) refl)
+    where
+      never : (is_among e left ≡ true) ⊎ (has_position i (standing_under index.groups.entries e) ≡ true → has_position i ns ≡ true) → ⊥
+      never (inl g) = true_is_not_false g (ap (is_among e) none)
+      never (inr g) = true_is_not_false (same i ∙ g h) gone
+
+      by : (b : Bool) → is_among e es ≡ b → is_among e es ≡ false
+      by true g = absurd (never (before.under i e g))
+      by false g = g
+
+  pub reached_all : ReachesAll index es ms
+  reached_all i p placed gone = by (or_true _ _ placed)
+    where
+      last : (has_position i (standing_at index.groups.entries (action_bound p)) ≡ true) ⊎ (has_position i (standing_at index.groups.entries (resource_bound p)) ≡ true) → IsBoundElsewhere es p
+      last (inl h) = let z = bound_elsewhere i gone (action_bound p) h in (z.0, inr (inl z.1), z.2)
+      last (inr h) = let z = bound_elsewhere i gone (resource_bound p) h in (z.0, inr (inr z.1), z.2)
+
+      more : (has_position i (standing_at index.groups.entries (principal_bound p)) ≡ true)
+          ⊎ ((has_position i (standing_at index.groups.entries (action_bound p)) || has_position i (standing_at index.groups.entries (resource_bound p))) ≡ true) → IsBoundElsewhere es p
+      more (inl h) = let z = bound_elsewhere i gone (principal_bound p) h in (z.0, inl z.1, z.2)
+      more (inr h) = last (or_true _ _ h)
+
+      by : (has_position i index.rest.items ≡ true)
+          ⊎ ((has_position i (standing_at index.groups.entries (principal_bound p))
+          || (has_position i (standing_at index.groups.entries (action_bound p)) || has_position i (standing_at index.groups.entries (resource_bound p)))) ≡ true) → IsBoundElsewhere es p
+      by (inl h) = absurd (true_is_not_false (same i ∙ before.rest i h) gone)
+      by (inr h) = more (or_true _ _ h)
+
+-- ---- scopes
+
+compared_if : (a b : Bool) (o : Option EntityName) (e : EntityName) → a ≡ true → b ≡ true → o ≡ Some e → cond (a && b) o None ≡ Some e
+compared_if true true o e f g h = h
+compared_if true false o e f g h = absurd (cc)
+compared_if false b o e f g h = absurd (cc)
+
+-- a comparison with an entity
+pub compared_with : (t a b : Term) (op : BinaryOperator) (e : EntityName) → t ≡ binary op a b → compares op ≡ true → is_entity_variable a ≡ true → literal_entity b ≡ Some e → compared_entity t ≡ Some e
+unfolding compared_entity
+compared_with t a b op e is f g h =
+    ap compared_entity is ∙ compared_if (compares op) (is_entity_variable a) (literal_entity b) e f g h
+
+any_action : (b c : Bool) → (b ≡ true) ⊎ (c ≡ true) → (b || c) ≡ true
+any_action b c (inl h) = or_first b c h
+any_action b c (inr h) = or_second b c h
+
+is_some_of : {A : Type 0} (o : Option A) (x : A) → o ≡ Some x → is_some o ≡ true
+is_some_of o x e = ap is_some e
+
+module _ (p : PolicyView) (e : EntityName) where
+  pub bound_principal : compared_entity p.principal_constraint ≡ Some e → IsBoundTo p e
+  bound_principal h = inl h
+
+  pub bound_action : is_truth p.principal_constraint ≡ true → compared_entity p.action_constraint ≡ Some e → IsBoundTo p e
+  bound_action any h = inr (inl (ap (λ (b : Bool). cond b (compared_entity p.action_constraint) None) any ∙ h))
+
+  bound_resource : is_truth p.principal_constraint ≡ true → (is_truth p.action_constraint || is_some (compared_entity p.action_constraint)) ≡ true → compared_entity p.resource_constraint ≡ Some e → IsBoundTo p e
+  bound_resource any is_bool h =
+      inr (inr ((λ i. cond (any i && is_bool i) (compared_entity p.resource_constraint) None) ∙ h))
+
+  pub bound_beside_action : (d : EntityName) → is_truth p.principal_constraint ≡ true → compared_entity p.action_constraint ≡ Some d → compared_entity p.resource_constraint ≡ Some e → IsBoundTo p e
+  bound_beside_action d any of_action h =
+      bound_resource any (or_second (is_truth p.action_constraint) _ (is_some_of (compared_entity p.action_constraint) d of_action)) h
+
+  pub bound_for_any_action : is_truth p.principal_constraint ≡ true → is_truth p.action_constraint ≡ true → compared_entity p.resource_constraint ≡ Some e → IsBoundTo p e
+  bound_for_any_action any is h = bound_resource any (or_first (is_truth p.action_constraint) _ is) h

@@ -1,0 +1,4 @@
+-- What follows of the definitions, for proofs of callers.
+pub use Rattle.cedar_model.specs.lemmas.Keys
+pub use Rattle.cedar_model.specs.lemmas.Sets
+pub use Rattle.cedar_layers.proofs.Slots

@@ -1,0 +1,10 @@
+pub mod Model
+pub mod Ast
+pub mod Entities
+pub mod Evaluator
+pub mod Extensions
+pub mod Authorizer
+pub mod Parser
+pub mod Writing
+pub mod Types
+pub mod Lemmas

@@ -1,0 +1,104 @@
+#![tactic(auto, using(crate::proofs::Named::steps))]
+//! Contexts of values under their names.
+ghost use Rattle.std.specs.Prelude.{◌≡◌, None, Some, IfOk, OnOk, IfErr};
+ghost use Rattle.std.specs.Rc.{rc_str_bytes};
+ghost use Rattle.cedar_model.specs.Settings.{known_context};
+ghost use Rattle.cedar_expressions.specs.Records.{first_repeated, repeated_key, HasOneMore};
+ghost use Rattle.cedar_values.specs.Sound.{whats_at};
+ghost use Rattle.cedar_requests.specs.Contexts.{context_view};
+ghost use Rattle.cedar_requests.specs.Named.{names_given, entry_names, put_value, values_in_order};
+ghost use Rattle.cedar_requests.specs.Named.{IsRefusalOfName, IsRefusalOfNamed};
+
+use super::Context;
+use crate::errors::ContextCreationError;
+use cedar_expressions::ExpressionConstructionError;
+use cedar_values::Value;
+use std::alloc::Global;
+use std::collections::BTreeMap;
+use std::rc::RcStr;
+
+impl Context {
+    /// The context of these values under their names. Refuses the first name that comes again with
+    /// `ExpressionConstruction`, which holds a `DuplicateKey` in the context `in context`, as `from_pairs` does; else only for
+    /// want of memory, with `Memory`.
+    pub fn of(alloc: Global, pairs: Vec<(&str, Value)>) -> Result<Context, ContextCreationError>
+        ensures view { IfOk result (λ c. context_view c ≡ known_context (values_in_order pairs.entry.items)) }
+        ensures distinct { IfOk result (λ c. first_repeated (names_given pairs.entry.items) ≡ None) }
+        ensures refused { IfErr result (IsRefusalOfNamed pairs.entry.items) }
+    {
+        match values_of(alloc, pairs) {
+            Ok(values) => Ok(Context::from_values(alloc, values)),
+            Err(error) => Err(error),
+        }
+    }
+}
+
+// The values under their names.
+fn values_of(
+    alloc: Global,
+    pairs: Vec<(&str, Value)>,
+) -> Result<BTreeMap<RcStr, Value>, ContextCreationError>
+    ensures values { IfOk result (λ m. whats_at m.entries ≡ values_in_order pairs.entry.items) }
+    ensures distinct { IfOk result (λ m. first_repeated (names_given pairs.entry.items) ≡ None) }
+    ensures refused { IfErr result (IsRefusalOfNamed pairs.entry.items) }
+{
+    let mut values: BTreeMap<RcStr, Value> = BTreeMap::new(alloc);
+    'pairs: for (name, value) in pairs {
+        put_named(alloc, &mut values, name, value)?;
+    }
+    Ok(values)
+}
+
+// Puts the value under the name, or refuses where the name is there.
+fn put_named(
+    alloc: Global,
+    values: &mut BTreeMap<RcStr, Value>,
+    name: &str,
+    value: Value,
+) -> Result<(), ContextCreationError>
+    ensures values { OnOk result
+        (whats_at values.new.entries ≡ put_value (whats_at values.old.entries) name.now value.what) }
+    ensures names { OnOk result
+        (HasOneMore (entry_names values.old.entries) name.now (entry_names values.new.entries)) }
+    ensures refused { IfErr result (IsRefusalOfName (repeated_key (entry_names values.old.entries) name.now)) }
+{
+    match RcStr::from_str(alloc, name) {
+        Ok(key) => put_new(values, key, value),
+        Err(error) => {
+            drop(value);
+            Err(ContextCreationError::Memory(error))
+        }
+    }
+}
+
+// The same of a key.
+fn put_new(
+    values: &mut BTreeMap<RcStr, Value>,
+    key: RcStr,
+    value: Value,
+) -> Result<(), ContextCreationError>
+    ensures values { OnOk result
+        (whats_at values.new.entries ≡ put_value (whats_at values.old.entries) (rc_str_bytes key) value.what) }
+    ensures names { OnOk result
+        (HasOneMore (entry_names values.old.entries) (rc_str_bytes key) (entry_names values.new.entries)) }
+    ensures refused { IfErr result
+        (IsRefusalOfName (repeated_key (entry_names values.old.entries) (rc_str_bytes key))) }
+{
+    if values.contains_key(&key) {
+        drop(value);
+        return Err(repeated(key));
+    }
+    drop(values.insert(key, value)?);
+    Ok(())
+}
+
+// The error that the name comes again.
+#[cold]
+fn repeated(key: RcStr) -> ContextCreationError
+    ensures { IsRefusalOfName (Some (rc_str_bytes key)) result }
+{
+    ContextCreationError::ExpressionConstruction(ExpressionConstructionError::DuplicateKey {
+        key,
+        context: "in context",
+    })
+}

@@ -1,0 +1,41 @@
+//! Errors of an evaluation: where they are put, the one of a residual that is left, and those that end all.
+ghost use Rattle.std.specs.Prelude.{◌≡◌};
+ghost use Rattle.cedar_model.specs.Failures.{residual_is_left};
+ghost use Rattle.cedar_values.specs.Residuals.{residual_term};
+ghost use Rattle.cedar_errors.specs.Failures.{failure_of};
+ghost use Rattle.cedar_errors.specs.Finals.{is_final};
+
+use cedar_errors::evaluator::err::{EvaluationError, evaluation_errors};
+use cedar_names::Loc;
+use cedar_values::ResidualExpr;
+use evaluation_errors::NonValueError;
+
+// The error, at this location if it has none.
+#[inline(always)]
+pub(crate) fn with_enclosing_loc(error: EvaluationError, loc: Option<Loc>) -> EvaluationError
+    ensures { failure_of result ≡ failure_of error }
+{
+    if error.source_loc().is_none() {
+        error.with_maybe_source_loc(loc)
+    } else {
+        error
+    }
+}
+
+// The error that this residual is left, at the residual's location.
+#[cold]
+#[inline(never)]
+pub(crate) fn residual_left(residual: ResidualExpr) -> EvaluationError
+    ensures { failure_of result ≡ residual_is_left (residual_term residual) }
+{
+    let expr = residual.into_expr();
+    let source_loc: Option<Loc> = expr.source_loc().copied();
+    EvaluationError::NonValue(NonValueError { expr, source_loc })
+}
+
+// Whether the error ends an evaluation at once: the recursion limit, or want of memory.
+pub(crate) fn is_final(error: &EvaluationError) -> bool
+    ensures { result ≡ is_final error.now }
+{
+    error.is_recursion_limit() || error.is_want_of_memory()
+}

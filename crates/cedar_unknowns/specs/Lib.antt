@@ -1,0 +1,4 @@
+pub mod Occurrences
+pub mod Entities
+pub mod Quoted
+pub mod Residuals
