@@ -2,5 +2,5 @@ pub mod Requests
 pub mod Sound
 pub mod Knowing
 pub mod Looked
-pub mod Told
+pub mod Direct
 pub mod Joined

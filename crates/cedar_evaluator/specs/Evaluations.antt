@@ -17,7 +17,7 @@ use Rattle.cedar_extensions.specs.Extensions.{extensions_view, calls_of}
 use Rattle.cedar_restricted_evaluator.specs.Evaluations.{only_values}
 use Rattle.cedar_interpreter.specs.declared.evaluation.Given.{Given}
 use Rattle.cedar_interpreter.specs.Settings.{mapper_view, resolution_view, given_for}
-use Rattle.cedar_interpreter.specs.Promises.{IsKnownExactly, IsSound, IsDeepEnough, IsLimitByNeed, IsAllowed, IsPromised}
+use Rattle.cedar_interpreter.specs.Promises.{IsKnownExactly, IsResiduallySound, KeepsDepthBound, IsLimitByNeed, IsAllowed, IsPromised}
 use Rattle.cedar_evaluator.specs.declared.evaluator.Evaluator.{Evaluator}
 use Rattle.cedar_evaluator.specs.Variables.{request_of}
 
@@ -96,12 +96,12 @@ MeansWhereKnown v slots t = Meets (IsKnownExactly (setting_of v slots) (calls_in
 
 -- in every completion it stands for the meaning
 abbrev pub StandsInCompletions : {X : Type 0} {F : X → Type 0} {g : _} → Evaluator X F g → Slots → Term → Answer → Type 0
-StandsInCompletions v slots t = Meets (IsSound (setting_of v slots) (calls_in v) t)
+StandsInCompletions v slots t = Meets (IsResiduallySound (setting_of v slots) (calls_in v) t)
 
 -- where the expression and what is given (with deep resolution twice that) are together no higher than the limit, it is not the
 -- recursion limit
 abbrev pub StaysBelowLimit : {X : Type 0} {F : X → Type 0} {g : _} → Evaluator X F g → Slots → Term → Answer → Type 0
-StaysBelowLimit v slots t = Meets (IsDeepEnough (setting_of v slots) (calls_in v) (limit_of v) t)
+StaysBelowLimit v slots t = Meets (KeepsDepthBound (setting_of v slots) (calls_in v) (limit_of v) t)
 
 -- all of these
 abbrev pub IsPromisedBy : {X : Type 0} {F : X → Type 0} {g : _} → Evaluator X F g → Slots → Term → Answer → Type 0

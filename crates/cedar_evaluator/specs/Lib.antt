@@ -2,4 +2,4 @@ pub mod Decisions
 pub mod Variables
 pub mod Known
 pub mod Evaluations
-pub mod Told
+pub mod Direct

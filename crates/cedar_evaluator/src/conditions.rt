@@ -1,4 +1,4 @@
-//! What a policy's condition decides. A scope whose parts compare entities that are at hand is told at once, by reference.
+//! What a policy's condition decides. A scope whose parts compare entities that are at hand is decided at once, by reference.
 ghost use Rattle.std.specs.Prelude.{◌≡◌, ◌≢◌, ℕ, ◌≤◌, suc, true, IfOk, IfSome};
 ghost use Rattle.cedar_model.specs.Terms.{Term, bool_literal, entity_literal, literal, variable, both, binary, is_of_type};
 ghost use Rattle.cedar_model.specs.Values.{plain_represented};
@@ -16,7 +16,7 @@ ghost use Rattle.cedar_layers.specs.Policies.{policy_view, policy_location};
 ghost use Rattle.cedar_interpreter.specs.Settings.{given_for};
 ghost use Rattle.cedar_evaluator.specs.Decisions.{partly_decided, PartlyDecidesBy, IfLeaves};
 ghost use Rattle.cedar_evaluator.specs.Evaluations.{IsPromisedOf};
-ghost use Rattle.cedar_evaluator.specs.Told.{scope_term, IsToldFrom};
+ghost use Rattle.cedar_evaluator.specs.Direct.{scope_term, AnswersFrom};
 
 use crate::at_hand::entity_at_hand;
 use crate::evaluator::{Evaluator, decided_by};
@@ -31,9 +31,9 @@ use either::{Either, Left};
 use std::alloc::Global;
 
 impl<'e, 'f> Evaluator<'e, 'f> {
-    // What the policy's condition decides: by its scope, where that is told at once, and then by its clause alone; else by its
-    // parts one after another. A scope is told with four levels, and the condition has one more.
-    pub(crate) fn decide(
+    // What the policy's condition decides: by its scope, where that is decided at once, and then by its clause alone; else by its
+    // parts one after another. A scope is decided with four levels, and the condition has one more.
+    pub(crate) fn decide_condition(
         &self,
         alloc: Global,
         policy: &Policy,
@@ -45,7 +45,7 @@ impl<'e, 'f> Evaluator<'e, 'f> {
         if self.limit < 5 {
             return self.decide_whole(alloc, policy);
         }
-        match self.told_scope(policy) {
+        match self.direct_scope(policy) {
             Some(true) => self.decide_by_clause(alloc, policy),
             Some(false) => Ok(Left(false)),
             None => self.decide_by_parts(alloc, policy),
@@ -69,20 +69,20 @@ impl<'e, 'f> Evaluator<'e, 'f> {
         )
     }
 
-    // The same by the clause, which has a level less, beside a scope that is told to be true.
+    // The same by the clause, which has a level less, beside a scope that is decided to be true.
     fn decide_by_clause(
         &self,
         alloc: Global,
         policy: &Policy,
     ) -> Result<Either<bool, Expr>, EvaluationError>
         requires { 5 ≤ self.now.limit }
-        ensures decides { IsToldFrom self.now 4 (scope_term (policy_view policy.now)) (answers_bool true) →
+        ensures decides { AnswersFrom self.now 4 (scope_term (policy_view policy.now)) (answers_bool true) →
             PartlyDecidesBy (IsPromisedOf self.now policy.now) result }
         ensures place { IfLeaves result (λ e. expr_loc e ≡ policy_location policy.now) }
         ensures unknown { IfLeaves result (λ e. has_unknown (view e) ≡ true) }
     {
         let clause = policy.when_clause();
-        match self.told_part(clause) {
+        match self.direct_part(clause) {
             Some(is_true) => Ok(Left(is_true)),
             None => {
                 let evaluation = Evaluation {
@@ -95,42 +95,42 @@ impl<'e, 'f> Evaluator<'e, 'f> {
         }
     }
 
-    // Whether the scope is true, where that is told at once: `(principal && action) && resource`.
-    fn told_scope(&self, policy: &Policy) -> Option<bool>
-        ensures { IfSome result (λ b. IsToldFrom self.now 4 (scope_term (policy_view policy.now)) (answers_bool b)) }
+    // Whether the scope is true, where that is decided at once: `(principal && action) && resource`.
+    fn direct_scope(&self, policy: &Policy) -> Option<bool>
+        ensures { IfSome result (λ b. AnswersFrom self.now 4 (scope_term (policy_view policy.now)) (answers_bool b)) }
     {
-        let principal = self.told_part(policy.principal_constraint());
-        let pair = self.told_beside(principal, policy.action_constraint());
-        self.told_beside(pair, policy.resource_constraint())
+        let principal = self.direct_part(policy.principal_constraint());
+        let pair = self.direct_conjunction(principal, policy.action_constraint());
+        self.direct_conjunction(pair, policy.resource_constraint())
     }
 
-    // The same of a conjunction, whose left side is told to be this.
-    fn told_beside(&self, left: Option<bool>, right: &Expr) -> Option<bool>
-        ensures { (k : ℕ) (t : Term) → 2 ≤ k → IfSome left (λ b. IsToldFrom self.now k t (answers_bool b)) →
-            IfSome result (λ b. IsToldFrom self.now (suc k) (both t (view right.now)) (answers_bool b)) }
+    // The same of a conjunction, whose left side is decided to be this.
+    fn direct_conjunction(&self, left: Option<bool>, right: &Expr) -> Option<bool>
+        ensures { (k : ℕ) (t : Term) → 2 ≤ k → IfSome left (λ b. AnswersFrom self.now k t (answers_bool b)) →
+            IfSome result (λ b. AnswersFrom self.now (suc k) (both t (view right.now)) (answers_bool b)) }
     {
         match left {
-            Some(true) => self.told_part(right),
+            Some(true) => self.direct_part(right),
             Some(false) => Some(false),
             None => None,
         }
     }
 
     // The same of a boolean, of a comparison of a variable, and of a test of an entity's type.
-    pub(crate) fn told_part(&self, e: &Expr) -> Option<bool>
-        ensures { IfSome result (λ b. IsToldFrom self.now 2 (view e.now) (answers_bool b)) }
+    pub(crate) fn direct_part(&self, e: &Expr) -> Option<bool>
+        ensures { IfSome result (λ b. AnswersFrom self.now 2 (view e.now) (answers_bool b)) }
     {
         match e.expr_kind() {
             ExprKind::Lit(literal) => bool_in_literal(literal),
-            ExprKind::BinaryApp { op, arg1, arg2 } => self.told_comparison(*op, arg1, arg2),
-            ExprKind::Is { expr, entity_type } => self.told_type(expr, entity_type),
+            ExprKind::BinaryApp { op, arg1, arg2 } => self.direct_comparison(*op, arg1, arg2),
+            ExprKind::Is { expr, entity_type } => self.direct_type_test(expr, entity_type),
             _ => None,
         }
     }
 
     // The same of a test of an entity's type.
-    fn told_type(&self, e: &Expr, entity_type: &EntityType) -> Option<bool>
-        ensures { IfSome result (λ b. IsToldFrom self.now 2 (is_of_type (view e.now) (type_text entity_type.now))
+    fn direct_type_test(&self, e: &Expr, entity_type: &EntityType) -> Option<bool>
+        ensures { IfSome result (λ b. AnswersFrom self.now 2 (is_of_type (view e.now) (type_text entity_type.now))
             (answers_bool b)) }
     {
         match self.entity(e) {
@@ -140,13 +140,13 @@ impl<'e, 'f> Evaluator<'e, 'f> {
     }
 
     // The same of a comparison of a variable that stands for an entity.
-    fn told_comparison(&self, op: BinaryOp, left: &Expr, right: &Expr) -> Option<bool>
-        ensures { IfSome result (λ b. IsToldFrom self.now 2 (binary (binary_view op) (view left.now) (view right.now))
+    fn direct_comparison(&self, op: BinaryOp, left: &Expr, right: &Expr) -> Option<bool>
+        ensures { IfSome result (λ b. AnswersFrom self.now 2 (binary (binary_view op) (view left.now) (view right.now))
             (answers_bool b)) }
     {
         match left.expr_kind() {
             ExprKind::Var(var) => match self.entity(right) {
-                Some(other) => self.told_of_entities(op, *var, other),
+                Some(other) => self.direct_relation(op, *var, other),
                 None => None,
             },
             _ => None,
@@ -154,9 +154,9 @@ impl<'e, 'f> Evaluator<'e, 'f> {
     }
 
     // The same of a variable beside an entity.
-    fn told_of_entities(&self, op: BinaryOp, var: Var, other: &EntityUID) -> Option<bool>
-        ensures { (t : Term) → IsToldFrom self.now 1 t (answers_value (plain_represented (entity_literal
-            (uid_name other.now)))) → IfSome result (λ b. IsToldFrom self.now 2 (binary (binary_view op) (variable
+    fn direct_relation(&self, op: BinaryOp, var: Var, other: &EntityUID) -> Option<bool>
+        ensures { (t : Term) → AnswersFrom self.now 1 t (answers_value (plain_represented (entity_literal
+            (uid_name other.now)))) → IfSome result (λ b. AnswersFrom self.now 2 (binary (binary_view op) (variable
             (variable_view var)) t) (answers_bool b)) }
     {
         match entity_at_hand(self.given_for(var)) {
@@ -171,7 +171,7 @@ impl<'e, 'f> Evaluator<'e, 'f> {
 
     // The entity of a literal, and of a variable that stands for one that is known.
     fn entity<'x>(&'x self, e: &'x Expr) -> Option<&'x EntityUID>
-        ensures { IfSome result (λ u. IsToldFrom self.now 1 (view e.now) (answers_value (plain_represented (entity_literal
+        ensures { IfSome result (λ u. AnswersFrom self.now 1 (view e.now) (answers_value (plain_represented (entity_literal
             (uid_name u.now))))) }
     {
         match e.expr_kind() {

@@ -1,4 +1,4 @@
-//! Conditions whose scope is not told: the parts are evaluated one by one, and joined.
+//! Conditions whose scope is not decided at once: the parts are evaluated one by one, and joined.
 ghost use Rattle.std.specs.Prelude.{◌≡◌, ◌≤◌, ℕ, suc, true, IfOk};
 ghost use Rattle.cedar_model.specs.Terms.{Term, both};
 ghost use Rattle.cedar_model.specs.Failures.{answers_value, answers_residual};
@@ -9,7 +9,7 @@ ghost use Rattle.cedar_errors.specs.Answers.{partial_answer};
 ghost use Rattle.cedar_layers.specs.Policies.{slots_view, policy_view, policy_location, condition_term};
 ghost use Rattle.cedar_evaluator.specs.Decisions.{PartlyDecidesBy, IfLeaves};
 ghost use Rattle.cedar_evaluator.specs.Evaluations.{IsPromisedOf};
-ghost use Rattle.cedar_evaluator.specs.Told.{RunsWith};
+ghost use Rattle.cedar_evaluator.specs.Direct.{RunsWith};
 
 use crate::conditions::{joined_to_true, placed, with_enclosing_loc};
 use crate::evaluator::{Evaluator, decided_by};
@@ -79,7 +79,7 @@ impl<'e, 'f> Evaluator<'e, 'f> {
         requires { 2 ≤ levels }
         ensures { RunsWith self.now (slots_view slots.now) levels (view e.now) (partial_answer result) }
     {
-        match self.told_part(e) {
+        match self.direct_part(e) {
             Some(b) => placed(Ok(bool_part(b)), e.source_loc().copied()),
             None => {
                 let evaluation = Evaluation {

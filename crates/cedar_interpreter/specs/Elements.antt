@@ -20,16 +20,16 @@ use Rattle.cedar_restricted_evaluator.specs.Elements.{IsSetOf, ElementsStand, Se
 use Rattle.cedar_interpreter.specs.declared.frame.Frame.{Frame}
 use Rattle.cedar_interpreter.specs.declared.frame.Task.{Task}
 use Rattle.cedar_interpreter.specs.declared.frame.Task.TheVariants as tasks
-use Rattle.cedar_interpreter.specs.Endings.{Outcome}
-use Rattle.cedar_interpreter.specs.Tasks.{Part, Next, Gives}
+use Rattle.cedar_interpreter.specs.Endings.{Ending}
+use Rattle.cedar_interpreter.specs.Tasks.{SharedExpr, Next, Gives}
 use Rattle.cedar_interpreter.specs.PartsLaws.{IsTaken, IsTakenAs, no_fail}
-use Rattle.cedar_interpreter.specs.Frames.{IsRight, Waits, ends_all}
+use Rattle.cedar_interpreter.specs.Frames.{IsRight, FrameWaits, ends_all}
 
 -- ---- what stands where
 
 -- of an expression that is a set, the elements of its value stand where its parts do
-abbrev pub OutcomeStands : Part → Outcome → Type 0
-OutcomeStands p o = (n : ℕ) → IfOk o (λ b. IfValue b.value (ElementsStand n p.value))
+abbrev pub EndingStands : SharedExpr → Ending → Type 0
+EndingStands p o = (n : ℕ) → IfOk o (λ b. IfValue b.value (ElementsStand n p.value))
 
 -- the set of these parts waits for this one
 abbrev pub TaskWaits : List Expr → Task → Expr → Type 0
@@ -46,16 +46,16 @@ abbrev pub NextStands : Expr → Next → Type 0
 NextStands e x = (ts : Terms) → view e ≡ set_of ts → SetNext (parts_of e) x
 
 -- where the expression is a set, it waits in the frame for this part
-abbrev pub FrameStands : Frame → Part → Part → Type 0
+abbrev pub FrameStands : Frame → SharedExpr → SharedExpr → Type 0
 FrameStands f p c = (ts : Terms) → view p.value ≡ set_of ts → TaskWaits (parts_of p.value) f.task c.value
 
 -- the answer to a part, at its place
-abbrev pub PartStands : Expr → Outcome → Type 0
+abbrev pub PartStands : Expr → Ending → Type 0
 PartStands c o = (n : ℕ) → IfOk o (λ b. IfValue b.value (λ v. (v.loc ≡ expr_loc c) × ElementsStand n c v))
 
 -- what a set goes on to with the answer of the part that it waits for
-abbrev pub TaskGoesOn : Task → Outcome → Next → Type 0
-TaskGoesOn t o x = (es : List Expr) (c : Expr) → TaskWaits es t c → PartStands c o → SetNext es x
+abbrev pub TaskContinues : Task → Ending → Next → Type 0
+TaskContinues t o x = (es : List Expr) (c : Expr) → TaskWaits es t c → PartStands c o → SetNext es x
 
 -- ---- values that are handed on
 
@@ -105,8 +105,8 @@ failed_next es l e (Done (Ok b)) gives = absurd (no_fail (partial_view b.value) 
 failed_next es l e (Done (Err x)) gives = λ n. tt
 failed_next es l e (Wait f c) gives = absurd gives
 
-set_outcome : (p : Part) (r : Outcome) →
-    ((ts : Terms) → view p.value ≡ set_of ts → SetNext (parts_of p.value) (Done r)) → OutcomeStands p r
+set_outcome : (p : SharedExpr) (r : Ending) →
+    ((ts : Terms) → view p.value ≡ set_of ts → SetNext (parts_of p.value) (Done r)) → EndingStands p r
 set_outcome p (Ok b) h n = of_value b.value (λ ts is m. h ts is m) n
   where
     of_value : (q : PartialValue) → ((ts : Terms) → view p.value ≡ set_of ts → (m : ℕ) →
@@ -117,19 +117,19 @@ set_outcome p (Ok b) h n = of_value b.value (λ ts is m. h ts is m) n
 set_outcome p (Err e) h n = tt
 
 module _ (Says : RequestPart → Type 0) (setting : RequestPart → Setting) (calls : StoredCalls) where
-  abbrev pub BothRight : ℕ → Part → Outcome → Type 0
-  BothRight k p o = IsRight Says setting calls k p o × OutcomeStands p o
+  abbrev pub BothRight : ℕ → SharedExpr → Ending → Type 0
+  BothRight k p o = IsRight Says setting calls k p o × EndingStands p o
 
-  abbrev pub BothWait : ℕ → Frame → Part → Part → Type 0
-  BothWait k f p c = Waits Says setting calls k f p c × FrameStands f p c
+  abbrev pub BothWait : ℕ → Frame → SharedExpr → SharedExpr → Type 0
+  BothWait k f p c = FrameWaits Says setting calls k f p c × FrameStands f p c
 
   -- what comes next
-  pub both_resume : (k : ℕ) (p : Part) (x : Next) → Resumes (IsRight Says setting calls) (Waits Says setting calls) k p x →
+  pub both_resume : (k : ℕ) (p : SharedExpr) (x : Next) → Resumes (IsRight Says setting calls) (FrameWaits Says setting calls) k p x →
       NextStands p.value x → Resumes BothRight BothWait k p x
   both_resume k p (Done r) right stands = (right, set_outcome p r stands)
   both_resume k p (Wait f c) waits stands = (waits, stands)
 
-  part_stands : (k : ℕ) (c : Part) (o : Outcome) → BothRight k c o → PartStands c.value o
+  part_stands : (k : ℕ) (c : SharedExpr) (o : Ending) → BothRight k c o → PartStands c.value o
   part_stands k c (Ok b) (right, stands) n = of_value b.value right.place (stands n)
     where
       of_value : (q : PartialValue) → partial_loc q ≡ expr_loc c.value → IfValue q (ElementsStand n c.value) →
@@ -139,12 +139,12 @@ module _ (Says : RequestPart → Type 0) (setting : RequestPart → Setting) (ca
   part_stands k c (Err e) both n = tt
 
   -- what waited goes on
-  pub goes_on_standing : (k : ℕ) (f : Frame) (p c : Part) (o : Outcome) (n : Next) → BothWait k f p c → BothRight k c o →
-      TaskGoesOn f.task o n → NextStands p.value n
-  goes_on_standing k f p c o n (waits, stands) right more =
+  pub continues_standing : (k : ℕ) (f : Frame) (p c : SharedExpr) (o : Ending) (n : Next) → BothWait k f p c → BothRight k c o →
+      TaskContinues f.task o n → NextStands p.value n
+  continues_standing k f p c o n (waits, stands) right more =
       λ ts is. more (parts_of p.value) c.value (stands ts is) (part_stands k c o right)
 
 -- an answer that ends all is no value
-pub ended_stands : (p : Part) (o : Outcome) → ends_all o ≡ true → OutcomeStands p o
+pub ended_stands : (p : SharedExpr) (o : Ending) → ends_all o ≡ true → EndingStands p o
 ended_stands p (Ok b) ends = absurd (cc)
 ended_stands p (Err e) ends = λ n. tt

@@ -20,10 +20,10 @@ abbrev pub boxed_answer : Box PartialValue Global → Answer
 boxed_answer p = answers (partial_view p.value)
 
 -- what an evaluation ends with
-abbrev pub Outcome : Type 0
-Outcome = Result (Box PartialValue Global) Stopped
+abbrev pub Ending : Type 0
+Ending = Result (Box PartialValue Global) Stopped
 
 -- what it answers
-abbrev pub outcome_answer : Outcome → Answer
-outcome_answer (Ok p) = answers (partial_view p.value)
-outcome_answer (Err e) = fails (stopped_failure e)
+abbrev pub ending_answer : Ending → Answer
+ending_answer (Ok p) = answers (partial_view p.value)
+ending_answer (Err e) = fails (stopped_failure e)

@@ -33,12 +33,12 @@ use Rattle.cedar_interpreter.specs.declared.frame.Pending.TheVariants as pending
 use Rattle.cedar_interpreter.specs.declared.frame.Task.{Task}
 use Rattle.cedar_interpreter.specs.declared.frame.Task.TheVariants as tasks
 use Rattle.cedar_interpreter.specs.declared.stopped.Stopped.TheVariants as stops
-use Rattle.cedar_interpreter.specs.Endings.{Outcome, outcome_answer}
+use Rattle.cedar_interpreter.specs.Endings.{Ending, ending_answer}
 use Rattle.cedar_interpreter.specs.Reads.{resolved_in, part_path, read_shorter, path_as_read}
-use Rattle.cedar_interpreter.specs.Tasks.{Part, Next, StandsAt, Uses, WaitsFor, Begins, Gives, HasPlace, IsOrWant, IsWaiting, IsWalkedOn, IsPassed, WaitsAgain, GoesOn, Leads, LeftFewer, pending_left, task_left}
-use Rattle.cedar_interpreter.specs.Frames.{IsRight, Waits, ends_all, left_of}
+use Rattle.cedar_interpreter.specs.Tasks.{SharedExpr, Next, StandsAt, Uses, WaitsFor, Starts, Gives, HasPlace, IsOrWant, IsWaiting, IsWalkedOn, IsPassed, WaitsAgain, Continues, Leads, LeftFewer, pending_left, task_left}
+use Rattle.cedar_interpreter.specs.Frames.{IsRight, FrameWaits, ends_all, left_of}
 use Rattle.cedar_interpreter.specs.Booleans.{joins}
-use Rattle.cedar_interpreter.specs.PartsLaws.{IsTaken, no_fail, parts_fail, parts_go_on}
+use Rattle.cedar_interpreter.specs.PartsLaws.{IsTaken, no_fail, parts_fail, parts_continue}
 
 limit_no_want : limit ≢ fails out_of_memory
 limit_no_want h = cc
@@ -46,19 +46,19 @@ limit_no_want h = cc
 -- ---- on with an answer
 
 -- what is given is what the rules make of an expression without parts
-pub gives_begins : (s : Setting) (calls : StoredCalls) (k : ℕ) (l : Option Loc) (t : Term) (b : Answer) (n : Next) →
-    ((a : Answer) → a ≢ fails out_of_memory → a ≡ b → Runs s calls (suc k) t a) → Gives l n b → Begins s calls k l t n
-gives_begins s calls k l t b (Done r) runs gives = (λ ok. runs (outcome_answer r) ok (gives.0 ok), gives.1)
-gives_begins s calls k l t b (Wait f c) runs gives = absurd gives
+pub gives_starts : (s : Setting) (calls : StoredCalls) (k : ℕ) (l : Option Loc) (t : Term) (b : Answer) (n : Next) →
+    ((a : Answer) → a ≢ fails out_of_memory → a ≡ b → Runs s calls (suc k) t a) → Gives l n b → Starts s calls k l t n
+gives_starts s calls k l t b (Done r) runs gives = (λ ok. runs (ending_answer r) ok (gives.0 ok), gives.1)
+gives_starts s calls k l t b (Wait f c) runs gives = absurd gives
 
 -- where what comes next stands
-pub begins_placed : (s : Setting) (calls : StoredCalls) (k : ℕ) (l : Option Loc) (t : Term) (n : Next) → Begins s calls k l t n → HasPlace l n
-begins_placed s calls k l t (Done r) begins = begins.1
-begins_placed s calls k l t (Wait f c) begins = begins.1
+pub starts_placed : (s : Setting) (calls : StoredCalls) (k : ℕ) (l : Option Loc) (t : Term) (n : Next) → Starts s calls k l t n → HasPlace l n
+starts_placed s calls k l t (Done r) starts = starts.1
+starts_placed s calls k l t (Wait f c) starts = starts.1
 
-pub goes_on_placed : (s : Setting) (calls : StoredCalls) (k : ℕ) (l : Option Loc) (p : Pending) (x : Answer) (n : Next) → GoesOn s calls k l p x n → HasPlace l n
-goes_on_placed s calls k l p x (Done r) goes = goes.1
-goes_on_placed s calls k l p x (Wait f c) goes = goes.1
+pub continues_placed : (s : Setting) (calls : StoredCalls) (k : ℕ) (l : Option Loc) (p : Pending) (x : Answer) (n : Next) → Continues s calls k l p x n → HasPlace l n
+continues_placed s calls k l p x (Done r) goes = goes.1
+continues_placed s calls k l p x (Wait f c) goes = goes.1
 
 pub taken_placed : (l : Option Loc) (x : NextPart) (n : Next) → IsTaken l x n → HasPlace l n
 taken_placed l (Wait f c) (Wait g d) taken = taken.1
@@ -80,10 +80,10 @@ or_want_gives l b (Ok m) n gives is = subst (λ x. Gives l x b) (sym is) gives
 or_want_gives l b (Err e) n gives is = subst (λ x. Gives l x b) (sym is) (λ ok. absurd (ok refl), tt)
 
 -- what is given is what the rules make of the part's answer
-pub gives_goes_on : (s : Setting) (calls : StoredCalls) (k : ℕ) (l : Option Loc) (p : Pending) (x b : Answer) (n : Next) →
-    ((a : Answer) → a ≢ fails out_of_memory → a ≡ b → Uses s (Runs s calls k) p x a) → Gives l n b → GoesOn s calls k l p x n
-gives_goes_on s calls k l p x b (Done r) uses gives = (λ ok. uses (outcome_answer r) ok (gives.0 ok), gives.1)
-gives_goes_on s calls k l p x b (Wait f c) uses gives = absurd gives
+pub gives_continues : (s : Setting) (calls : StoredCalls) (k : ℕ) (l : Option Loc) (p : Pending) (x b : Answer) (n : Next) →
+    ((a : Answer) → a ≢ fails out_of_memory → a ≡ b → Uses s (Runs s calls k) p x a) → Gives l n b → Continues s calls k l p x n
+gives_continues s calls k l p x b (Done r) uses gives = (λ ok. uses (ending_answer r) ok (gives.0 ok), gives.1)
+gives_continues s calls k l p x b (Wait f c) uses gives = absurd gives
 
 -- what waited for a part other than one of a set, a record or a call
 waits_again_leads : (s : Setting) (calls : StoredCalls) (k : ℕ) (p : Pending) (x : Answer) (task : Task) (d : Term) → x ≢ fails out_of_memory →
@@ -91,23 +91,23 @@ waits_again_leads : (s : Setting) (calls : StoredCalls) (k : ℕ) (p : Pending) 
 waits_again_leads s calls k p x (tasks.Parts f) d no_want goes t c waits meets = absurd goes
 waits_again_leads s calls k p x (tasks.Other q) d no_want goes t c waits meets = λ y a runs uses. waits x a (meets no_want) (goes.1 y a runs uses)
 
-pub goes_on_leads : (s : Setting) (calls : StoredCalls) (k : ℕ) (l : Option Loc) (p : Pending) (x : Answer) (n : Next) → x ≢ fails out_of_memory → GoesOn s calls k l p x n → Leads s calls k l (tasks.Other p) x n
-goes_on_leads s calls k l p x (Done r) no_want goes t c waits meets = (λ ok. waits x (outcome_answer r) (meets no_want) (goes.0 ok), goes.1)
-goes_on_leads s calls k l p x (Wait f d) no_want goes t c waits meets = (waits_again_leads s calls k p x f.task (view d.value) no_want goes.0 t c waits meets, goes.1)
+pub continues_leads : (s : Setting) (calls : StoredCalls) (k : ℕ) (l : Option Loc) (p : Pending) (x : Answer) (n : Next) → x ≢ fails out_of_memory → Continues s calls k l p x n → Leads s calls k l (tasks.Other p) x n
+continues_leads s calls k l p x (Done r) no_want goes t c waits meets = (λ ok. waits x (ending_answer r) (meets no_want) (goes.0 ok), goes.1)
+continues_leads s calls k l p x (Wait f d) no_want goes t c waits meets = (waits_again_leads s calls k p x f.task (view d.value) no_want goes.0 t c waits meets, goes.1)
 
 waits_again_fewer : (s : Setting) (calls : StoredCalls) (k : ℕ) (p : Pending) (x : Answer) (task : Task) (d : Term) → WaitsAgain s calls k p x task d → task_left task < pending_left p
 waits_again_fewer s calls k p x (tasks.Parts f) d goes = absurd goes
 waits_again_fewer s calls k p x (tasks.Other q) d goes = goes.0
 
-pub goes_on_fewer : (s : Setting) (calls : StoredCalls) (k : ℕ) (l : Option Loc) (p : Pending) (x : Answer) (n : Next) → GoesOn s calls k l p x n → LeftFewer (tasks.Other p) n
-goes_on_fewer s calls k l p x (Done r) goes = tt
-goes_on_fewer s calls k l p x (Wait f d) goes = waits_again_fewer s calls k p x f.task (view d.value) goes.0
+pub continues_fewer : (s : Setting) (calls : StoredCalls) (k : ℕ) (l : Option Loc) (p : Pending) (x : Answer) (n : Next) → Continues s calls k l p x n → LeftFewer (tasks.Other p) n
+continues_fewer s calls k l p x (Done r) goes = tt
+continues_fewer s calls k l p x (Wait f d) goes = waits_again_fewer s calls k p x f.task (view d.value) goes.0
 
 -- what goes on, where memory may be wanting
-pub or_want_goes_on : (s : Setting) (calls : StoredCalls) (k : ℕ) (l : Option Loc) (p : Pending) (x : Answer) (m : Result Next AllocError) (n : Next) →
-    IfOk m (GoesOn s calls k l p x) → IsOrWant m n → GoesOn s calls k l p x n
-or_want_goes_on s calls k l p x (Ok m) n goes is = subst (GoesOn s calls k l p x) (sym is) goes
-or_want_goes_on s calls k l p x (Err e) n goes is = subst (GoesOn s calls k l p x) (sym is) (λ ok. absurd (ok refl), tt)
+pub or_want_continues : (s : Setting) (calls : StoredCalls) (k : ℕ) (l : Option Loc) (p : Pending) (x : Answer) (m : Result Next AllocError) (n : Next) →
+    IfOk m (Continues s calls k l p x) → IsOrWant m n → Continues s calls k l p x n
+or_want_continues s calls k l p x (Ok m) n goes is = subst (Continues s calls k l p x) (sym is) goes
+or_want_continues s calls k l p x (Err e) n goes is = subst (Continues s calls k l p x) (sym is) (λ ok. absurd (ok refl), tt)
 
 -- a boolean on the right is the answer
 pub literal_joined : (with_left : Term → Term) (b : Bool) → answers_bool b ≡ joined with_left (answers_bool b)
@@ -115,12 +115,12 @@ unfolding bool_of
 literal_joined with_left b = joins with_left (value (plain_represented (bool_literal b))) b refl
 
 -- the next operand
-pub waiting_goes_on : (s : Setting) (calls : StoredCalls) (k : ℕ) (w : Part) (p q : Pending) (x : Answer) (c : Part) (n : Next) →
+pub waiting_continues : (s : Setting) (calls : StoredCalls) (k : ℕ) (w : SharedExpr) (p q : Pending) (x : Answer) (c : SharedExpr) (n : Next) →
     pending_left q < pending_left p → ((y a : Answer) → Runs s calls k (view c.value) y → Uses s (Runs s calls k) q y a → Uses s (Runs s calls k) p x a) →
-    IsWaiting w (tasks.Other q) c n → GoesOn s calls k (expr_loc w.value) p x n
-waiting_goes_on s calls k w p q x c (Done r) fewer uses is =
-    subst (λ o. GoesOn s calls k (expr_loc w.value) p x (Done o)) (sym is) (λ ok. absurd (ok refl), tt)
-waiting_goes_on s calls k w p q x c (Wait f d) fewer uses (task, part, whole) = (
+    IsWaiting w (tasks.Other q) c n → Continues s calls k (expr_loc w.value) p x n
+waiting_continues s calls k w p q x c (Done r) fewer uses is =
+    subst (λ o. Continues s calls k (expr_loc w.value) p x (Done o)) (sym is) (λ ok. absurd (ok refl), tt)
+waiting_continues s calls k w p q x c (Wait f d) fewer uses (task, part, whole) = (
   subst (λ t. WaitsAgain s calls k p x t (view d.value)) (sym task)
       (subst (λ e. WaitsAgain s calls k p x (tasks.Other q) (view e)) (sym part) (fewer, uses)),
   ap expr_loc whole,
@@ -134,11 +134,11 @@ waits_through s calls k p q x y (tasks.Parts f) d fewer lift waits = absurd wait
 waits_through s calls k p q x y (tasks.Other o) d fewer lift (less, again) =
     (omega (arith, fewer, less), λ z a runs uses. lift a (again z a runs uses))
 
-pub goes_on_through : (s : Setting) (calls : StoredCalls) (k : ℕ) (l : Option Loc) (p q : Pending) (x y : Answer) (n : Next) →
+pub continues_through : (s : Setting) (calls : StoredCalls) (k : ℕ) (l : Option Loc) (p q : Pending) (x y : Answer) (n : Next) →
     pending_left q < pending_left p → ((a : Answer) → Uses s (Runs s calls k) q y a → Uses s (Runs s calls k) p x a) →
-    GoesOn s calls k l q y n → GoesOn s calls k l p x n
-goes_on_through s calls k l p q x y (Done r) fewer lift (goes, place) = (λ ok. lift (outcome_answer r) (goes ok), place)
-goes_on_through s calls k l p q x y (Wait f d) fewer lift (waits, place) =
+    Continues s calls k l q y n → Continues s calls k l p x n
+continues_through s calls k l p q x y (Done r) fewer lift (goes, place) = (λ ok. lift (ending_answer r) (goes ok), place)
+continues_through s calls k l p q x y (Wait f d) fewer lift (waits, place) =
     (waits_through s calls k p q x y f.task (view d.value) fewer lift waits, place)
 
 -- and can wait less often
@@ -149,9 +149,9 @@ fewer_through p q (Wait f d) fewer less = omega (arith, fewer, less)
 -- a part that is the answer
 pub passed_again : (s : Setting) (calls : StoredCalls) (k : ℕ) (l : Option Loc) (p : Pending) (x : Answer) (t : Term) (n : Next) →
     pending_left pendings.Passed < pending_left p → ((y a : Answer) → Runs s calls k t y → a ≡ y → Uses s (Runs s calls k) p x a) →
-    IsPassed l t n → GoesOn s calls k l p x n
+    IsPassed l t n → Continues s calls k l p x n
 passed_again s calls k l p x t (Done r) fewer uses is =
-    subst (λ o. GoesOn s calls k l p x (Done o)) (sym is) (λ ok. absurd (ok refl), tt)
+    subst (λ o. Continues s calls k l p x (Done o)) (sym is) (λ ok. absurd (ok refl), tt)
 passed_again s calls k l p x t (Wait f d) fewer uses (task, part, place) = (
   subst (λ y. WaitsAgain s calls k p x y (view d.value)) (sym task)
       (subst (λ c. WaitsAgain s calls k p x (tasks.Other pendings.Passed) c) (sym part) (fewer, uses)),
@@ -162,13 +162,13 @@ fewer_texts : (a b m n : ℕ) → a ≡ m → n ≡ b → m < n → suc a < suc 
 fewer_texts a b m n is same fewer = omega (arith, is, same, fewer)
 
 -- a stored residual on the way of an extended `has`, which is waited for
-pub walked_goes_on : (s : Setting) (calls : StoredCalls) (k : ℕ) (l : Option Loc) (path : Rc (FirstRest (RcStr Global)) Global)
+pub walked_continues : (s : Setting) (calls : StoredCalls) (k : ℕ) (l : Option Loc) (path : Rc (FirstRest (RcStr Global)) Global)
     (p : model.PartialValue) (read : Term × Text × List Text) (x : Next)
     → resolved_in s.resolution (part_path s.store p (rc_str_bytes path.value.first) (texts_view path.value.rest.items)) ≡ Some read
-    → IsWalkedOn l read x → GoesOn s calls k l (pendings.ExtHasAttr path) (answers p) x
-walked_goes_on s calls k l path p read (Done r) some is =
-    subst (λ o. GoesOn s calls k l (pendings.ExtHasAttr path) (answers p) (Done o)) (sym is) (λ ok. absurd (ok refl), tt)
-walked_goes_on s calls k l path p (t, n, ns) (Wait f c) some ((q, task, first, rest), part, place) = (
+    → IsWalkedOn l read x → Continues s calls k l (pendings.ExtHasAttr path) (answers p) x
+walked_continues s calls k l path p read (Done r) some is =
+    subst (λ o. Continues s calls k l (pendings.ExtHasAttr path) (answers p) (Done o)) (sym is) (λ ok. absurd (ok refl), tt)
+walked_continues s calls k l path p (t, n, ns) (Wait f c) some ((q, task, first, rest), part, place) = (
   subst (λ y. WaitsAgain s calls k (pendings.ExtHasAttr path) (answers p) y (view c.value)) (sym task)
       (subst (λ y. WaitsAgain s calls k (pendings.ExtHasAttr path) (answers p) (tasks.Other (pendings.ExtHasAttr q)) y) (sym part) (
         fewer_texts (length q.value.rest.items) (length path.value.rest.items) (length ns) (length (texts_view path.value.rest.items))
@@ -260,10 +260,10 @@ passed_on s May (pendings.Like q) e h = refl
 passed_on s May (pendings.Is t) e h = refl
 
 -- an error of a part is given where it is passed on
-pub passed_goes_on : (s : Setting) (calls : StoredCalls) (k : ℕ) (l : Option Loc) (p : Pending) (e : model.Failure) (n : Next) →
-    IsPassedOn p → Gives l n (fails e) → GoesOn s calls k l p (fails e) n
-passed_goes_on s calls k l p e n h gives =
-    gives_goes_on s calls k l p (fails e) (fails e) n
+pub passed_continues : (s : Setting) (calls : StoredCalls) (k : ℕ) (l : Option Loc) (p : Pending) (e : model.Failure) (n : Next) →
+    IsPassedOn p → Gives l n (fails e) → Continues s calls k l p (fails e) n
+passed_continues s calls k l p e n h gives =
+    gives_continues s calls k l p (fails e) (fails e) n
     (λ a ok is. subst (Uses s (Runs s calls k) p (fails e)) (sym is) (passed_on s (Runs s calls k) p e h)) gives
 
 -- the recursion limit of what is waited for is that of what waits
@@ -281,43 +281,43 @@ module _ (s : Setting) (calls : StoredCalls) (k : ℕ) (l : Option Loc) where
   limit_leads task t c waits meets = (λ ok. limit_upward calls s k task t c waits (meets limit_no_want), tt)
 
   pub parts_lead : (f : Box PartsFrame Global) (p : PartialValue) (x : NextPart) (n : Next) → restricted.GoesOn s.extensions calls f.value (Ok p) x → IsTaken l x n → Leads s calls k l (tasks.Parts f) (answers (partial_view p)) n
-  parts_lead f p x n goes taken t c waits meets = parts_go_on s calls k t l f.value c waits p x n (meets (no_fail (partial_view p) out_of_memory)) goes taken
+  parts_lead f p x n goes taken t c waits meets = parts_continue s calls k t l f.value c waits p x n (meets (no_fail (partial_view p) out_of_memory)) goes taken
 
   pub failed_leads : (f : Box PartsFrame Global) (e : model.Failure) (n : Next) → Gives l n (fails e) → Leads s calls k l (tasks.Parts f) (fails e) n
   failed_leads f e n gives t c waits meets =
-      gives_begins s calls k l t (fails e) n
+      gives_starts s calls k l t (fails e) n
       (λ a ok is. subst (Runs s calls (suc k) t) (sym is) (parts_fail s calls k t l f.value c waits e (meets (λ w. ok (is ∙ w))))) gives
 
 -- ---- the loop
 
 module _ (Says : RequestPart → Type 0) (setting : RequestPart → Setting) (calls : StoredCalls) where
-  pub start_right : (k : ℕ) (p : Part) (l : Option Loc) (x : Next) →
-      ((r : RequestPart) → Says r → Begins (setting r) calls k l (view p.value) x) → HasPlace l x → l ≡ expr_loc p.value →
-      Resumes (IsRight Says setting calls) (Waits Says setting calls) k p x
-  start_right k p l (Done r) begins has place = record {
-    answer = λ q speaks ok. (begins q speaks).0 ok;
+  pub start_right : (k : ℕ) (p : SharedExpr) (l : Option Loc) (x : Next) →
+      ((r : RequestPart) → Says r → Starts (setting r) calls k l (view p.value) x) → HasPlace l x → l ≡ expr_loc p.value →
+      Resumes (IsRight Says setting calls) (FrameWaits Says setting calls) k p x
+  start_right k p l (Done r) starts has place = record {
+    answer = λ q speaks ok. (starts q speaks).0 ok;
     place = subst (λ y. StandsAt y r) place has;
   }
-  start_right k p l (Wait f c) begins has place = record {
-    waits = λ q speaks. (begins q speaks).0;
+  start_right k p l (Wait f c) starts has place = record {
+    waits = λ q speaks. (starts q speaks).0;
     place = has ∙ place;
   }
 
-  pub resume_right : (k : ℕ) (f : Frame) (p c : Part) (y : Outcome) (x : Next) →
-      Waits Says setting calls k f p c → IsRight Says setting calls k c y →
-      ((r : RequestPart) → Says r → Leads (setting r) calls k (expr_loc f.whole.value) f.task (outcome_answer y) x) →
-      HasPlace (expr_loc f.whole.value) x → Resumes (IsRight Says setting calls) (Waits Says setting calls) k p x
+  pub resume_right : (k : ℕ) (f : Frame) (p c : SharedExpr) (y : Ending) (x : Next) →
+      FrameWaits Says setting calls k f p c → IsRight Says setting calls k c y →
+      ((r : RequestPart) → Says r → Leads (setting r) calls k (expr_loc f.whole.value) f.task (ending_answer y) x) →
+      HasPlace (expr_loc f.whole.value) x → Resumes (IsRight Says setting calls) (FrameWaits Says setting calls) k p x
   resume_right k f p c y x waits right leads has =
       start_right k p (expr_loc f.whole.value) x
       (λ q speaks. leads q speaks (view p.value) (view c.value) (waits.waits q speaks) (right.answer q speaks)) has waits.place
 
-  pub right_limit : (p : Part) → IsRight Says setting calls 0 p (Err stops.Limit)
+  pub right_limit : (p : SharedExpr) → IsRight Says setting calls 0 p (Err stops.Limit)
   right_limit p = record { answer = λ q speaks ok. refl; place = tt }
 
-  pub right_want : (k : ℕ) (p : Part) → IsRight Says setting calls k p (Err stops.Memory)
+  pub right_want : (k : ℕ) (p : SharedExpr) → IsRight Says setting calls k p (Err stops.Memory)
   right_want k p = record { answer = λ q speaks ok. absurd (ok refl); place = tt }
 
-  pub right_upward : (k : ℕ) (f : Frame) (p c : Part) (a : Outcome) → ends_all a ≡ true → Waits Says setting calls k f p c → IsRight Says setting calls k c a → IsRight Says setting calls (suc k) p a
+  pub right_upward : (k : ℕ) (f : Frame) (p c : SharedExpr) (a : Ending) → ends_all a ≡ true → FrameWaits Says setting calls k f p c → IsRight Says setting calls k c a → IsRight Says setting calls (suc k) p a
   right_upward k f p c (Ok v) ends waits right = absurd (cc)
   right_upward k f p c (Err stops.Memory) ends waits right = right_want (suc k) p
   right_upward k f p c (Err stops.Limit) ends waits right = record {

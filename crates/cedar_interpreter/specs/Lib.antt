@@ -11,7 +11,7 @@ pub mod PartsLaws
 pub mod Booleans
 pub mod Elements
 pub mod Laws
-pub mod Steps
-pub mod Told
-pub mod Tellers
+pub mod Continuations
+pub mod Direct
+pub mod DirectEvaluators
 pub mod Promises

@@ -28,8 +28,8 @@ use Rattle.cedar_restricted_evaluator.specs.Steps.{so_far_none, so_far_all, so_f
 use Rattle.cedar_interpreter.specs.declared.frame.Task.TheVariants as tasks
 use Rattle.cedar_interpreter.specs.declared.frame.Task.{Task}
 use Rattle.cedar_interpreter.specs.declared.stopped.Stopped.TheVariants as stops
-use Rattle.cedar_interpreter.specs.Endings.{outcome_answer}
-use Rattle.cedar_interpreter.specs.Tasks.{Next, StandsAt, WaitsForPart, WaitsFor, Begins, LeftFewer, task_left}
+use Rattle.cedar_interpreter.specs.Endings.{ending_answer}
+use Rattle.cedar_interpreter.specs.Tasks.{Next, StandsAt, WaitsForPart, WaitsFor, Starts, LeftFewer, task_left}
 
 pub no_fail : (p : model.PartialValue) (e : Failure) → answers p ≢ fails e
 no_fail p e h = cc
@@ -47,7 +47,7 @@ IsNextPart l f c (Done o) = o ≡ Err stops.Memory
 -- the next part, or the answer, taken over for the whole at this place
 abbrev pub IsTaken : Option Loc → NextPart → Next → Type 0
 IsTaken l (Wait f c) n = IsNextPart l f c n
-IsTaken l (Done r) (Done o) = (outcome_answer o ≢ fails out_of_memory → outcome_answer o ≡ partial_answer r) × StandsAt l o
+IsTaken l (Done r) (Done o) = (ending_answer o ≢ fails out_of_memory → ending_answer o ≡ partial_answer r) × StandsAt l o
 IsTaken l (Done r) (Wait g d) = ⊥
 
 module _ (s : Setting) (calls : StoredCalls) (k : ℕ) (t : Term) (here : Option Loc) where
@@ -66,15 +66,15 @@ module _ (s : Setting) (calls : StoredCalls) (k : ℕ) (t : Term) (here : Option
 
   reads_right : (whole : Whole) (ps : restricted.Parts) (a : Answers) (loc : Option Loc) (x : NextPart) (n : Next) →
       whole_term whole (terms_view ps.value.items) ≡ t → HasKeys whole (length ps.value.items) → HasRead May ps a →
-      Reads s.extensions calls whole ps a loc x → IsTaken here x n → Begins s calls k here t n
+      Reads s.extensions calls whole ps a loc x → IsTaken here x n → Starts s calls k here t n
   reads_right whole ps a loc (Wait f c) (Wait g d) term keys read h (taken, place) =
       (waits_right whole ps a loc f c g.task d.value term read h taken, place)
   reads_right whole ps a loc (Wait f c) (Done o) term keys read h taken =
-      subst (λ y. Begins s calls k here t (Done y)) (sym taken) (λ ok. absurd (ok refl), tt)
+      subst (λ y. Starts s calls k here t (Done y)) (sym taken) (λ ok. absurd (ok refl), tt)
   reads_right whole ps a loc (Done r) (Wait g d) term keys read h taken = absurd taken
   reads_right whole ps a loc (Done r) (Done o) term keys read (h, l) (taken, place) = (
     λ ok.
-        let is : outcome_answer o ≡ partial_answer r = taken ok in
+        let is : ending_answer o ≡ partial_answer r = taken ok in
         let x = h (λ i. ok (is ∙ i)) in
         let items = ps.value.items in
         let all : Parts May (terms_view items) (Ok read.0) = so_far_all May (terms_view items) _ read.0 read.2 (none_left items (count a) x.0) in
@@ -87,17 +87,17 @@ module _ (s : Setting) (calls : StoredCalls) (k : ℕ) (t : Term) (here : Option
   begun_read ps a none zero_count =
       ([], none, subst (λ n. shapes.SoFar May (terms_view ps.value.items) (terms_view (drop n ps.value.items)) []) (sym zero_count) (so_far_none May (terms_view ps.value.items)))
 
-  -- an expression that begins
-  pub parts_begin : (loc : Option Loc) (x : NextPart) (n : Next) → restricted.Begins s.extensions calls t loc x → IsTaken here x n → Begins s calls k here t n
-  parts_begin loc (Wait f c) n b taken =
+  -- an expression that starts
+  pub parts_start : (loc : Option Loc) (x : NextPart) (n : Next) → restricted.Begins s.extensions calls t loc x → IsTaken here x n → Starts s calls k here t n
+  parts_start loc (Wait f c) n b taken =
       reads_right b.whole b.parts b.answers loc (Wait f c) n b.term b.keys (begun_read b.parts b.answers b.none.0 b.none.1) b.reads taken
-  parts_begin loc (Done r) (Done o) (b, l) taken = (
+  parts_start loc (Done r) (Done o) (b, l) taken = (
     λ ok.
         let begun = b (λ i. ok (taken.0 ok ∙ i)) in
         (reads_right begun.whole begun.parts begun.answers loc (Done r) (Done o) begun.term begun.keys (begun_read begun.parts begun.answers begun.none.0 begun.none.1) begun.reads taken).0 ok,
     taken.1,
   )
-  parts_begin loc (Done r) (Wait g d) b taken = absurd taken
+  parts_start loc (Done r) (Wait g d) b taken = absurd taken
 
   module _ (f : PartsFrame) (c : Term) (w : WaitsForPart s calls k f t c) where
     -- the failure of a part is the whole's
@@ -107,17 +107,17 @@ module _ (s : Setting) (calls : StoredCalls) (k : ℕ) (t : Term) (here : Option
         let all : Parts May (terms_view items) (Err e) = so_far_fails May (terms_view items) _ w.next.0 c w.read.0 e w.read.2 w.next.1 h in
         subst (λ u. Runs s calls (suc k) u (fails e)) w.term (whole_fails s calls May f.whole items e f.keys all)
 
-    continued : (p : PartialValue) (x : NextPart) (n : Next) → Runs s calls k c (answers (partial_view p)) → Continued s.extensions calls f p x → IsTaken here x n → Begins s calls k here t n
+    continued : (p : PartialValue) (x : NextPart) (n : Next) → Runs s calls k c (answers (partial_view p)) → Continued s.extensions calls f p x → IsTaken here x n → Starts s calls k here t n
     continued p x n gives h taken =
         let read : HasRead May f.parts h.answers = grown_read May s.extensions calls f p x c w.next.0 (literal_runs s calls k c (partial_view p) gives) w.read w.next.1 gives h in
         reads_right f.whole f.parts h.answers f.loc x n w.term f.keys read h.reads taken
 
     -- with the answer of the next part
-    pub parts_go_on : (p : PartialValue) (x : NextPart) (n : Next) → Runs s calls k c (answers (partial_view p)) → GoesOn s.extensions calls f (Ok p) x → IsTaken here x n → Begins s calls k here t n
-    parts_go_on p (Wait g d) n gives h taken = continued p (Wait g d) n gives h taken
-    parts_go_on p (Done r) (Done o) gives (h, l) (taken, place) =
+    pub parts_continue : (p : PartialValue) (x : NextPart) (n : Next) → Runs s calls k c (answers (partial_view p)) → GoesOn s.extensions calls f (Ok p) x → IsTaken here x n → Starts s calls k here t n
+    parts_continue p (Wait g d) n gives h taken = continued p (Wait g d) n gives h taken
+    parts_continue p (Done r) (Done o) gives (h, l) (taken, place) =
         (λ ok. (continued p (Done r) (Done o) gives (h (λ i. ok (taken ok ∙ i))) (taken, place)).0 ok, place)
-    parts_go_on p (Done r) (Wait g d) gives h taken = absurd taken
+    parts_continue p (Done r) (Wait g d) gives h taken = absurd taken
 
 taken_fewer : (f h : PartsFrame) (c : Expr) (task : Task) (d : Expr) → left_of h < left_of f → IsTakenAs h c task d → task_left task < left_of f
 taken_fewer f h c (tasks.Parts g) d fewer (same, part) = subst (λ y. left_of y < left_of f) (sym same) fewer

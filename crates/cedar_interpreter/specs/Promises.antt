@@ -15,7 +15,7 @@ use Rattle.cedar_model.specs.Depth.{IsNoHigher, bound_of}
 use Rattle.cedar_model.specs.LevelLaws.{FunctionsMeetNoLimit}
 use Rattle.cedar_model.specs.Restricted.{IsGivenSound}
 use Rattle.cedar_interpreter.specs.declared.evaluation.Evaluation.{Evaluation}
-use Rattle.cedar_interpreter.specs.Settings.{Speaks, setting_of, calls_in}
+use Rattle.cedar_interpreter.specs.Settings.{Speaks, evaluation_setting, calls_in}
 use Rattle.cedar_model.proofs.Determined.{limit_alone}
 use Rattle.cedar_model.proofs.Exactly.{answer_exact}
 use Rattle.cedar_model.proofs.Needs.{need_bounded}
@@ -30,15 +30,15 @@ IsKnownExactly s calls levels t a =
 
 -- residual soundness: in every completion a value is faithful and the meaning's, an error is one of the meaning, and a residual
 -- fits the world and has the meaning's outcome without slots
-abbrev pub IsSound : Setting → StoredCalls → Term → Answer → Type 0
-IsSound s calls t a =
+abbrev pub IsResiduallySound : Setting → StoredCalls → Term → Answer → Type 0
+IsResiduallySound s calls t a =
     (ans : Functions) (w : World) → CompletesWith calls ans w s → Fits ans w t → a ≢ limit →
     StandsFor s.extensions ans w a (meaning s.extensions ans w s.slots t)
 
 -- the depth bound: where the expression and all that is given (with deep resolution twice that) are together no higher than the
 -- levels, no recursion limit
-abbrev pub IsDeepEnough : Setting → StoredCalls → ℕ → Term → Answer → Type 0
-IsDeepEnough s calls levels t a =
+abbrev pub KeepsDepthBound : Setting → StoredCalls → ℕ → Term → Answer → Type 0
+KeepsDepthBound s calls levels t a =
     (b : ℕ) → IsNoHigher calls s s.map b → height t + bound_of s.resolution b ≤ levels → a ≢ limit
 
 -- the recursion limit exactly where the need is above the levels
@@ -56,8 +56,8 @@ pub record IsPromised (s : Setting) (calls : StoredCalls) (levels : ℕ) (t : Te
   pub limited : IsLimitByNeed s calls levels t a
   pub allowed : IsAllowed s calls t a
   pub known : IsKnownExactly s calls levels t a
-  pub sound : IsSound s calls t a
-  pub deep_enough : IsDeepEnough s calls levels t a
+  pub sound : IsResiduallySound s calls t a
+  pub deep_enough : KeepsDepthBound s calls levels t a
 
 too_deep : (n h : ℕ) → n < h → h ≤ n → ⊥
 too_deep n h above enough = omega (arith, above, enough)
@@ -85,10 +85,10 @@ meets_promised s calls levels t functional no_limit given_sound a runs ok =
 
 -- it answers as the rules say
 abbrev pub RunsIn : {X : Type 0} {F : X → Type 0} {g : _} → Evaluation X F g → ℕ → Term → Answer → Type 0
-RunsIn e levels t a = (r : RequestPart) → Speaks r e → Meets (Runs (setting_of r e) (calls_in e) levels t) a
+RunsIn e levels t a = (r : RequestPart) → Speaks r e → Meets (Runs (evaluation_setting r e) (calls_in e) levels t) a
 
 -- and as promised, where what is given is sound
 abbrev pub PromisedIn : {X : Type 0} {F : X → Type 0} {g : _} → Evaluation X F g → ℕ → Term → Answer → Type 0
 PromisedIn e levels t a =
-    (r : RequestPart) → Speaks r e → IsGivenSound (calls_in e) (setting_of r e) →
-    Meets (IsPromised (setting_of r e) (calls_in e) levels t) a
+    (r : RequestPart) → Speaks r e → IsGivenSound (calls_in e) (evaluation_setting r e) →
+    Meets (IsPromised (evaluation_setting r e) (calls_in e) levels t) a

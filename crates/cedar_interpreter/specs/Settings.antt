@@ -41,8 +41,8 @@ abbrev pub Speaks : {X : Type 0} {F : X → Type 0} {g : _} → RequestPart → 
 Speaks r e = (v : Variable) → partial_view (given_for e.given.now v) ≡ variable_part r v
 
 -- what the evaluation is given, where this is the request
-abbrev pub setting_of : {X : Type 0} {F : X → Type 0} {g : _} → RequestPart → Evaluation X F g → Setting
-setting_of r e =
+abbrev pub evaluation_setting : {X : Type 0} {F : X → Type 0} {g : _} → RequestPart → Evaluation X F g → Setting
+evaluation_setting r e =
     record {
       request = r;
       store = store_view e.given.now.entities.now;

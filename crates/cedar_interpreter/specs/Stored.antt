@@ -145,7 +145,7 @@ module _ (May : MayAnswer) (s : Setting) (p : PartialValue) (k : Text) where
       let all : projection s p k ≡ answered (remapped s.map (partial_answer x)) = of_projection s p k ∙ ap (remapped_projection s.map) (sym same) in
       part_stored a none (subst (λ q. Projects May q a) (sym all) is)
 
-  pub part_uses : (e : Expr) → ProjectsTo (projections.Part e) (projection (over s s.store) p k) → (y a : Answer) → May (view e) y →
+  pub part_uses : (e : Expr) → ProjectsTo (projections.Attribute e) (projection (over s s.store) p k) → (y a : Answer) → May (view e) y →
       a ≡ y → resolved_in s.resolution (part_residual s.store p k) ≡ None → AtAttribute May s (answers p) k a
   unfolding remapped_projection
   part_uses e h y a may is none =

@@ -28,18 +28,18 @@ use Rattle.cedar_interpreter.specs.declared.frame.Pending.TheVariants as pending
 use Rattle.cedar_interpreter.specs.declared.frame.Task.{Task}
 use Rattle.cedar_interpreter.specs.declared.frame.Task.TheVariants as tasks
 use Rattle.cedar_interpreter.specs.declared.stopped.Stopped.TheVariants as stops
-use Rattle.cedar_interpreter.specs.Endings.{Outcome, outcome_answer}
+use Rattle.cedar_interpreter.specs.Endings.{Ending, ending_answer}
 
 -- what is evaluated
-abbrev pub Part : Type 0
-Part = Rc Expr Global
+abbrev pub SharedExpr : Type 0
+SharedExpr = Rc Expr Global
 
 -- what comes next of an expression
 abbrev pub Next : Type 0
-Next = Step Frame Part Outcome
+Next = Step Frame SharedExpr Ending
 
 -- a value or residual stands at this place
-abbrev pub StandsAt : Option Loc → Outcome → Type 0
+abbrev pub StandsAt : Option Loc → Ending → Type 0
 StandsAt l o = IfOk o (λ v. partial_loc v.value ≡ l)
 
 -- ---- what is done with the answer of a part
@@ -94,14 +94,14 @@ WaitsFor s Calls k (tasks.Other p) t c =
 
 -- the answer is this, at this place, unless memory is wanting
 abbrev pub Gives : Option Loc → Next → Answer → Type 0
-Gives l (Done r) a = (outcome_answer r ≢ fails out_of_memory → outcome_answer r ≡ a) × StandsAt l r
+Gives l (Done r) a = (ending_answer r ≢ fails out_of_memory → ending_answer r ≡ a) × StandsAt l r
 Gives l (Wait f c) a = ⊥
 
 -- the term, which stands at this place, is answered, or waits for a part
-abbrev pub Begins : Setting → StoredCalls → ℕ → Option Loc → Term → Next → Type 0
-Begins s Calls k l t (Done r) =
-    (outcome_answer r ≢ fails out_of_memory → Runs s Calls (suc k) t (outcome_answer r)) × StandsAt l r
-Begins s Calls k l t (Wait f c) = WaitsFor s Calls k f.task t (view c.value) × (expr_loc f.whole.value ≡ l)
+abbrev pub Starts : Setting → StoredCalls → ℕ → Option Loc → Term → Next → Type 0
+Starts s Calls k l t (Done r) =
+    (ending_answer r ≢ fails out_of_memory → Runs s Calls (suc k) t (ending_answer r)) × StandsAt l r
+Starts s Calls k l t (Wait f c) = WaitsFor s Calls k f.task t (view c.value) × (expr_loc f.whole.value ≡ l)
 
 -- what comes next of the whole at this place stands there, or waits as it
 abbrev pub HasPlace : Option Loc → Next → Type 0
@@ -109,7 +109,7 @@ HasPlace l (Done r) = StandsAt l r
 HasPlace l (Wait f c) = expr_loc f.whole.value ≡ l
 
 -- the whole waits for this part, with this to be done, unless memory is wanting
-abbrev pub IsWaiting : Part → Task → Part → Next → Type 0
+abbrev pub IsWaiting : SharedExpr → Task → SharedExpr → Next → Type 0
 IsWaiting w t c (Done r) = r ≡ Err stops.Memory
 IsWaiting w t c (Wait f d) = (f.task ≡ t) × (d.value ≡ c.value) × (f.whole.value ≡ w.value)
 
@@ -164,15 +164,15 @@ WaitsAgain s Calls k p x (tasks.Other q) c =
     × ((y a : Answer) → Runs s Calls k c y → Uses s (Runs s Calls k) q y a → Uses s (Runs s Calls k) p x a)
 
 -- what waited, for the whole at this place, is answered, or waits for another part, after the first answered x
-abbrev pub GoesOn : Setting → StoredCalls → ℕ → Option Loc → Pending → Answer → Next → Type 0
-GoesOn s Calls k l p x (Done r) =
-    (outcome_answer r ≢ fails out_of_memory → Uses s (Runs s Calls k) p x (outcome_answer r)) × StandsAt l r
-GoesOn s Calls k l p x (Wait f c) = WaitsAgain s Calls k p x f.task (view c.value) × (expr_loc f.whole.value ≡ l)
+abbrev pub Continues : Setting → StoredCalls → ℕ → Option Loc → Pending → Answer → Next → Type 0
+Continues s Calls k l p x (Done r) =
+    (ending_answer r ≢ fails out_of_memory → Uses s (Runs s Calls k) p x (ending_answer r)) × StandsAt l r
+Continues s Calls k l p x (Wait f c) = WaitsAgain s Calls k p x f.task (view c.value) × (expr_loc f.whole.value ≡ l)
 
 -- a term that waits for a part is answered, or waits for another, after the part answered x
 abbrev pub Leads : Setting → StoredCalls → ℕ → Option Loc → Task → Answer → Next → Type 0
 Leads s Calls k l task x n =
-    (t c : Term) → WaitsFor s Calls k task t c → Meets (Runs s Calls k c) x → Begins s Calls k l t n
+    (t c : Term) → WaitsFor s Calls k task t c → Meets (Runs s Calls k c) x → Starts s Calls k l t n
 
 -- how often a task can still wait
 abbrev pub task_left : Task → ℕ

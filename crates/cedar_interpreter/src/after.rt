@@ -6,14 +6,14 @@ ghost use Rattle.cedar_model.specs.Rules.{best, kept};
 ghost use Rattle.cedar_expressions.specs.View.{view};
 ghost use Rattle.cedar_values.specs.Residuals.{partial_view};
 ghost use Rattle.cedar_errors.specs.Failures.{failure_of};
-ghost use Rattle.cedar_interpreter.specs.Steps.{GoesOnIn, GoesOnAt};
+ghost use Rattle.cedar_interpreter.specs.Continuations.{ContinuesIn, ContinuesAt};
 ghost use Rattle.cedar_interpreter.specs.Endings.{boxed_answer};
 ghost use Rattle.cedar_interpreter.specs.declared.frame.Pending.TheVariants as pendings;
 
 use crate::answers::{or_want, passed_on, put_at};
 use crate::evaluation::Evaluation;
 use crate::failed::Failed;
-use crate::frame::{FirstBranch, Next, Part, Pending, SecondBranch};
+use crate::frame::{FirstBranch, Next, Pending, SecondBranch, SharedExpr};
 use cedar_expressions::Expr;
 use cedar_values::{PartialValue, ResidualExpr};
 use std::alloc::{AllocError, Global};
@@ -24,12 +24,12 @@ impl<'e, 'g, 'f> Evaluation<'e, 'g, 'f> {
     pub(crate) fn after(
         &self,
         alloc: Global,
-        whole: Part,
+        whole: SharedExpr,
         pending: Pending,
         answer: Box<PartialValue>,
         levels: usize,
     ) -> Next
-        ensures { GoesOnIn self.now levels whole pending (boxed_answer answer) result }
+        ensures { ContinuesIn self.now levels whole pending (boxed_answer answer) result }
     {
         match pending {
             Pending::Passed => put_at(alloc, &whole, answer),
@@ -70,11 +70,11 @@ impl<'e, 'g, 'f> Evaluation<'e, 'g, 'f> {
     fn after_then(
         &self,
         alloc: Global,
-        whole: Part,
+        whole: SharedExpr,
         first: Box<FirstBranch>,
         answer: Box<PartialValue>,
     ) -> Next
-        ensures { GoesOnAt self.now whole (pendings.Then first) (boxed_answer answer) result }
+        ensures { ContinuesAt self.now whole (pendings.Then first) (boxed_answer answer) result }
     {
         let kept = kept_part(alloc, answer);
         or_want(self.second_branch(alloc, whole, first, kept))
@@ -86,11 +86,11 @@ impl<'e, 'g, 'f> Evaluation<'e, 'g, 'f> {
     fn after_else(
         &self,
         alloc: Global,
-        whole: Part,
+        whole: SharedExpr,
         second: Box<SecondBranch>,
         answer: Box<PartialValue>,
     ) -> Next
-        ensures { GoesOnAt self.now whole (pendings.Else second) (boxed_answer answer) result }
+        ensures { ContinuesAt self.now whole (pendings.Else second) (boxed_answer answer) result }
     {
         let kept = kept_part(alloc, answer);
         self.both_branches(alloc, whole, second, kept)
@@ -102,12 +102,12 @@ impl<'e, 'g, 'f> Evaluation<'e, 'g, 'f> {
     fn after_and_kept(
         &self,
         alloc: Global,
-        whole: Part,
+        whole: SharedExpr,
         left: Box<ResidualExpr>,
         right: Rc<Expr>,
         answer: Box<PartialValue>,
     ) -> Next
-        ensures { GoesOnAt self.now whole (pendings.AndKept left right) (boxed_answer answer) result }
+        ensures { ContinuesAt self.now whole (pendings.AndKept left right) (boxed_answer answer) result }
     {
         let kept = kept_part(alloc, answer);
         self.kept_conjunction(alloc, whole, left, right, kept)
@@ -119,12 +119,12 @@ impl<'e, 'g, 'f> Evaluation<'e, 'g, 'f> {
     fn after_or_kept(
         &self,
         alloc: Global,
-        whole: Part,
+        whole: SharedExpr,
         left: Box<ResidualExpr>,
         right: Rc<Expr>,
         answer: Box<PartialValue>,
     ) -> Next
-        ensures { GoesOnAt self.now whole (pendings.OrKept left right) (boxed_answer answer) result }
+        ensures { ContinuesAt self.now whole (pendings.OrKept left right) (boxed_answer answer) result }
     {
         let kept = kept_part(alloc, answer);
         self.kept_disjunction(alloc, whole, left, right, kept)
@@ -137,11 +137,11 @@ impl<'e, 'g, 'f> Evaluation<'e, 'g, 'f> {
     pub(crate) fn failed(
         &self,
         alloc: Global,
-        whole: Part,
+        whole: SharedExpr,
         pending: Pending,
         failed: Box<Failed>,
     ) -> Next
-        ensures { GoesOnAt self.now whole pending (fails (failure_of failed.value.error)) result }
+        ensures { ContinuesAt self.now whole pending (fails (failure_of failed.value.error)) result }
     {
         match pending {
             Pending::Then(first) => self.failed_then(alloc, whole, first, failed),
@@ -178,11 +178,11 @@ impl<'e, 'g, 'f> Evaluation<'e, 'g, 'f> {
     fn failed_then(
         &self,
         alloc: Global,
-        whole: Part,
+        whole: SharedExpr,
         first: Box<FirstBranch>,
         failed: Box<Failed>,
     ) -> Next
-        ensures { GoesOnAt self.now whole (pendings.Then first) (fails (failure_of failed.value.error)) result }
+        ensures { ContinuesAt self.now whole (pendings.Then first) (fails (failure_of failed.value.error)) result }
     {
         let kept = original_of(failed, &first.then_expr);
         or_want(self.second_branch(alloc, whole, first, kept))
@@ -192,11 +192,11 @@ impl<'e, 'g, 'f> Evaluation<'e, 'g, 'f> {
     fn failed_else(
         &self,
         alloc: Global,
-        whole: Part,
+        whole: SharedExpr,
         second: Box<SecondBranch>,
         failed: Box<Failed>,
     ) -> Next
-        ensures { GoesOnAt self.now whole (pendings.Else second) (fails (failure_of failed.value.error)) result }
+        ensures { ContinuesAt self.now whole (pendings.Else second) (fails (failure_of failed.value.error)) result }
     {
         let kept = original_of(failed, &second.else_expr);
         self.both_branches(alloc, whole, second, kept)
@@ -215,7 +215,7 @@ fn kept_part(alloc: Global, answer: Box<PartialValue>) -> Result<Expr, AllocErro
 }
 
 // What is kept of a part that failed: its original.
-fn original_of(failed: Box<Failed>, part: &Part) -> Result<Expr, AllocError>
+fn original_of(failed: Box<Failed>, part: &SharedExpr) -> Result<Expr, AllocError>
     ensures { IfOk result (λ e. best (fails (failure_of failed.value.error)) (view part.now.value) ≡ kept (view e)) }
 {
     Failed::original(failed, part)

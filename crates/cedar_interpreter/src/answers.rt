@@ -12,7 +12,7 @@ ghost use Rattle.cedar_interpreter.specs.Elements.{IsBoxed};
 
 use crate::boxed::boxed;
 use crate::failed::Failed;
-use crate::frame::{Next, Part};
+use crate::frame::{Next, SharedExpr};
 use crate::stopped::Stopped;
 use cedar_errors::evaluator::err::EvaluationError;
 use cedar_frames::Step;
@@ -26,7 +26,7 @@ use std::mem;
 
 // Where an expression stands.
 #[inline(always)]
-pub(crate) fn loc_of(whole: &Part) -> Option<Loc>
+pub(crate) fn loc_of(whole: &SharedExpr) -> Option<Loc>
     ensures { result ≡ expr_loc whole.now.value }
 {
     whole.source_loc().copied()
@@ -35,7 +35,7 @@ pub(crate) fn loc_of(whole: &Part) -> Option<Loc>
 // What a call answers, where the whole stands.
 pub(crate) fn answered(
     alloc: Global,
-    whole: &Part,
+    whole: &SharedExpr,
     answer: Result<PartialValue, EvaluationError>,
 ) -> Next
     ensures { (a : Answer) → AnswersWith answer a → Gives (expr_loc whole.now.value) result a }
@@ -49,7 +49,7 @@ pub(crate) fn answered(
 // What a call answers, in the box of an operand, where the whole stands.
 pub(crate) fn answered_in(
     alloc: Global,
-    whole: &Part,
+    whole: &SharedExpr,
     mut operand: Box<PartialValue>,
     answer: Result<PartialValue, EvaluationError>,
 ) -> Next
@@ -74,7 +74,7 @@ pub(crate) fn taken_out(operand: &mut PartialValue) -> PartialValue
 
 // This value or residual, where the whole stands.
 #[inline(always)]
-pub(crate) fn done(alloc: Global, whole: &Part, part: PartialValue) -> Next
+pub(crate) fn done(alloc: Global, whole: &SharedExpr, part: PartialValue) -> Next
     ensures answer { Gives (expr_loc whole.now.value) result (answers (partial_view part)) }
     ensures boxed { IsBoxed part result }
 {
@@ -86,7 +86,7 @@ pub(crate) fn done(alloc: Global, whole: &Part, part: PartialValue) -> Next
 
 // This answer, where the whole stands.
 #[inline(always)]
-pub(crate) fn put_at(alloc: Global, whole: &Part, mut part: Box<PartialValue>) -> Next
+pub(crate) fn put_at(alloc: Global, whole: &SharedExpr, mut part: Box<PartialValue>) -> Next
     ensures answer { Gives (expr_loc whole.now.value) result (answers (partial_view part.value)) }
     ensures boxed { IsBoxed part.value result }
 {
@@ -99,7 +99,11 @@ pub(crate) fn put_at(alloc: Global, whole: &Part, mut part: Box<PartialValue>) -
 
 // An answer that is this boolean, where the whole stands. It is no step, which would be copied once more.
 #[inline(always)]
-pub(crate) fn bool_at(whole: &Part, mut part: Box<PartialValue>, _b: bool) -> Box<PartialValue>
+pub(crate) fn bool_at(
+    whole: &SharedExpr,
+    mut part: Box<PartialValue>,
+    _b: bool,
+) -> Box<PartialValue>
     requires { part_bool (partial_view part.value) ≡ Some _b }
     ensures view { partial_view result.value ≡ partial_view part.value }
     ensures place { partial_loc result.value ≡ expr_loc whole.now.value }
@@ -110,7 +114,7 @@ pub(crate) fn bool_at(whole: &Part, mut part: Box<PartialValue>, _b: bool) -> Bo
 
 // Puts a value where the whole stands; a residual stays.
 #[inline(always)]
-fn is_value_put(part: &mut PartialValue, whole: &Part) -> bool
+fn is_value_put(part: &mut PartialValue, whole: &SharedExpr) -> bool
     ensures view { partial_view part.new ≡ partial_view part.old }
     ensures inside { partial_inside part.new ≡ partial_inside part.old }
     ensures put { result ≡ true → partial_loc part.new ≡ expr_loc whole.now.value }
@@ -128,7 +132,7 @@ fn is_value_put(part: &mut PartialValue, whole: &Part) -> bool
 // A residual, where the whole stands.
 #[cold]
 #[inline(never)]
-fn residual_at(alloc: Global, whole: &Part, part: Box<PartialValue>) -> Next
+fn residual_at(alloc: Global, whole: &SharedExpr, part: Box<PartialValue>) -> Next
     ensures answer { Gives (expr_loc whole.now.value) result (answers (partial_view part.value)) }
     ensures boxed { IsBoxed part.value result }
 {
@@ -142,7 +146,12 @@ fn residual_at(alloc: Global, whole: &Part, part: Box<PartialValue>) -> Next
 }
 
 // The error that came, which ends what waited too, where the whole stands if it stands nowhere.
-pub(crate) fn passed_on<T: Drop>(alloc: Global, whole: &Part, _held: T, failed: Box<Failed>) -> Next
+pub(crate) fn passed_on<T: Drop>(
+    alloc: Global,
+    whole: &SharedExpr,
+    _held: T,
+    failed: Box<Failed>,
+) -> Next
     ensures { Gives (expr_loc whole.now.value) result (fails (failure_of failed.value.error)) }
 {
     Step::Done(Err(Stopped::Failed(failed).within(alloc, loc_of(whole))))
@@ -162,7 +171,7 @@ pub(crate) fn known_bool(part: &PartialValue) -> Option<bool>
 // That a boolean is expected.
 #[cold]
 #[inline(never)]
-pub(crate) fn no_bool(alloc: Global, whole: &Part, value: &Value) -> Next
+pub(crate) fn no_bool(alloc: Global, whole: &SharedExpr, value: &Value) -> Next
     ensures { Gives (expr_loc whole.now.value) result (bool_expected value.now.what) }
 {
     Step::Done(Err(Stopped::of(alloc, type_error(alloc, Type::Bool, value), loc_of(whole))))
@@ -178,9 +187,12 @@ pub(crate) fn or_want(next: Result<Next, AllocError>) -> Next
     }
 }
 
-// Both once more.
+// Each of two once more.
 #[inline(always)]
-pub(crate) fn both(first: &Part, second: &Part) -> Result<(Part, Part), AllocError>
+pub(crate) fn pair_of_copies(
+    first: &SharedExpr,
+    second: &SharedExpr,
+) -> Result<(SharedExpr, SharedExpr), AllocError>
     ensures first { IfOk result (λ p. p.0.value ≡ first.now.value) }
     ensures second { IfOk result (λ p. p.1.value ≡ second.now.value) }
 {

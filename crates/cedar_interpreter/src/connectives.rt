@@ -6,16 +6,16 @@ ghost use Rattle.cedar_model.specs.Failures.{Answer, value, answers_residual};
 ghost use Rattle.cedar_expressions.specs.View.{view};
 ghost use Rattle.cedar_values.specs.Residuals.{partial_view, residual_term};
 ghost use Rattle.cedar_interpreter.specs.Booleans.{part_bool};
-ghost use Rattle.cedar_interpreter.specs.Steps.{GoesOnIn, BeginsAt, GoesOnAt};
-ghost use Rattle.cedar_interpreter.specs.Told.{IsRightSide, IsAwaited};
+ghost use Rattle.cedar_interpreter.specs.Continuations.{ContinuesIn, StartsAt, ContinuesAt};
+ghost use Rattle.cedar_interpreter.specs.Direct.{IsRightSide, IsAwaited};
 ghost use Rattle.cedar_interpreter.specs.Endings.{boxed_answer};
 ghost use Rattle.cedar_interpreter.specs.Kept.{IsKept};
 ghost use Rattle.cedar_interpreter.specs.declared.frame.Pending.TheVariants as pendings;
 
-use crate::answers::{answered, bool_at, both, known_bool, no_bool, or_want};
+use crate::answers::{answered, bool_at, known_bool, no_bool, or_want, pair_of_copies};
 use crate::boxed::boxed_beside;
 use crate::evaluation::Evaluation;
-use crate::frame::{Frame, Next, Part, Pending, Task};
+use crate::frame::{Frame, Next, Pending, SharedExpr, Task};
 use crate::stopped::Stopped;
 use cedar_expressions::Expr;
 use cedar_frames::Step;
@@ -30,11 +30,16 @@ use std::rc::Rc;
 
 impl<'e, 'g, 'f> Evaluation<'e, 'g, 'f> {
     // `&&` waits for its left side.
-    pub(crate) fn conjunction(&self, whole: &Part, left: &Part, right: &Part) -> Next
-        ensures { BeginsAt self.now whole.now (both (view left.now.value) (view right.now.value)) result }
+    pub(crate) fn conjunction(
+        &self,
+        whole: &SharedExpr,
+        left: &SharedExpr,
+        right: &SharedExpr,
+    ) -> Next
+        ensures { StartsAt self.now whole.now (both (view left.now.value) (view right.now.value)) result }
     {
         match right.clone() {
-            Ok(right) => match both(whole, left) {
+            Ok(right) => match pair_of_copies(whole, left) {
                 Ok((whole, left)) => {
                     let task = Task::Other(Pending::AndLeft { right });
                     Step::Wait(Frame { whole, task }, left)
@@ -46,11 +51,16 @@ impl<'e, 'g, 'f> Evaluation<'e, 'g, 'f> {
     }
 
     // `||` waits for its left side.
-    pub(crate) fn disjunction(&self, whole: &Part, left: &Part, right: &Part) -> Next
-        ensures { BeginsAt self.now whole.now (either (view left.now.value) (view right.now.value)) result }
+    pub(crate) fn disjunction(
+        &self,
+        whole: &SharedExpr,
+        left: &SharedExpr,
+        right: &SharedExpr,
+    ) -> Next
+        ensures { StartsAt self.now whole.now (either (view left.now.value) (view right.now.value)) result }
     {
         match right.clone() {
-            Ok(right) => match both(whole, left) {
+            Ok(right) => match pair_of_copies(whole, left) {
                 Ok((whole, left)) => {
                     let task = Task::Other(Pending::OrLeft { right });
                     Step::Wait(Frame { whole, task }, left)
@@ -65,12 +75,12 @@ impl<'e, 'g, 'f> Evaluation<'e, 'g, 'f> {
     pub(crate) fn after_and_left(
         &self,
         alloc: Global,
-        whole: Part,
+        whole: SharedExpr,
         right: Rc<Expr>,
         left: Box<PartialValue>,
         levels: usize,
     ) -> Next
-        ensures { GoesOnIn self.now levels whole (pendings.AndLeft right) (boxed_answer left) result }
+        ensures { ContinuesIn self.now levels whole (pendings.AndLeft right) (boxed_answer left) result }
     {
         match known_bool(&left) {
             Some(true) => self.right_of_and(alloc, whole, right, left, levels),
@@ -88,12 +98,12 @@ impl<'e, 'g, 'f> Evaluation<'e, 'g, 'f> {
     fn after_no_bool_and_left(
         &self,
         alloc: Global,
-        whole: Part,
+        whole: SharedExpr,
         right: Rc<Expr>,
         left: Box<PartialValue>,
     ) -> Result<Next, AllocError>
         requires { part_bool (partial_view left.value) ≡ None }
-        ensures { IfOk result (GoesOnAt self.now whole (pendings.AndLeft right) (boxed_answer left)) }
+        ensures { IfOk result (ContinuesAt self.now whole (pendings.AndLeft right) (boxed_answer left)) }
     {
         match Box::into_inner(left) {
             PartialValue::Value(value) => Ok(no_bool(alloc, &whole, &value)),
@@ -107,11 +117,11 @@ impl<'e, 'g, 'f> Evaluation<'e, 'g, 'f> {
     fn and_kept(
         &self,
         alloc: Global,
-        whole: Part,
+        whole: SharedExpr,
         left: ResidualExpr,
         right: Rc<Expr>,
     ) -> Result<Next, AllocError>
-        ensures { IfOk result (GoesOnAt self.now whole (pendings.AndLeft right)
+        ensures { IfOk result (ContinuesAt self.now whole (pendings.AndLeft right)
             (answers_residual (residual_term left))) }
     {
         let (left, right, part) = boxed_beside(alloc, left, right)?;
@@ -124,10 +134,10 @@ impl<'e, 'g, 'f> Evaluation<'e, 'g, 'f> {
     pub(crate) fn after_and_right(
         &self,
         alloc: Global,
-        whole: Part,
+        whole: SharedExpr,
         right: Box<PartialValue>,
     ) -> Next
-        ensures { GoesOnAt self.now whole pendings.AndRight (boxed_answer right) result }
+        ensures { ContinuesAt self.now whole pendings.AndRight (boxed_answer right) result }
     {
         match known_bool(&right) {
             Some(b) => Step::Done(Ok(bool_at(&whole, right, b))),
@@ -138,8 +148,13 @@ impl<'e, 'g, 'f> Evaluation<'e, 'g, 'f> {
     // The same after one that is no boolean.
     #[cold]
     #[inline(never)]
-    fn after_no_bool_and_right(&self, alloc: Global, whole: Part, right: Box<PartialValue>) -> Next
-        ensures { GoesOnAt self.now whole pendings.AndRight (boxed_answer right) result }
+    fn after_no_bool_and_right(
+        &self,
+        alloc: Global,
+        whole: SharedExpr,
+        right: Box<PartialValue>,
+    ) -> Next
+        ensures { ContinuesAt self.now whole pendings.AndRight (boxed_answer right) result }
     {
         answered(alloc, &whole, true_and(alloc, Box::into_inner(right)))
     }
@@ -148,13 +163,13 @@ impl<'e, 'g, 'f> Evaluation<'e, 'g, 'f> {
     pub(crate) fn kept_conjunction(
         &self,
         alloc: Global,
-        whole: Part,
+        whole: SharedExpr,
         left: Box<ResidualExpr>,
         right: Rc<Expr>,
         right_kept: Result<Expr, AllocError>,
     ) -> Next
         ensures { (x : Answer) → IsKept right_kept x right.value
-            → GoesOnAt self.now whole (pendings.AndKept left right) x result }
+            → ContinuesAt self.now whole (pendings.AndKept left right) x result }
     {
         match right_kept {
             Ok(right) => {
@@ -169,12 +184,12 @@ impl<'e, 'g, 'f> Evaluation<'e, 'g, 'f> {
     pub(crate) fn after_or_left(
         &self,
         alloc: Global,
-        whole: Part,
+        whole: SharedExpr,
         right: Rc<Expr>,
         left: Box<PartialValue>,
         levels: usize,
     ) -> Next
-        ensures { GoesOnIn self.now levels whole (pendings.OrLeft right) (boxed_answer left) result }
+        ensures { ContinuesIn self.now levels whole (pendings.OrLeft right) (boxed_answer left) result }
     {
         match known_bool(&left) {
             Some(true) => {
@@ -192,12 +207,12 @@ impl<'e, 'g, 'f> Evaluation<'e, 'g, 'f> {
     fn after_no_bool_or_left(
         &self,
         alloc: Global,
-        whole: Part,
+        whole: SharedExpr,
         right: Rc<Expr>,
         left: Box<PartialValue>,
     ) -> Result<Next, AllocError>
         requires { part_bool (partial_view left.value) ≡ None }
-        ensures { IfOk result (GoesOnAt self.now whole (pendings.OrLeft right) (boxed_answer left)) }
+        ensures { IfOk result (ContinuesAt self.now whole (pendings.OrLeft right) (boxed_answer left)) }
     {
         match Box::into_inner(left) {
             PartialValue::Value(value) => Ok(no_bool(alloc, &whole, &value)),
@@ -211,11 +226,11 @@ impl<'e, 'g, 'f> Evaluation<'e, 'g, 'f> {
     fn or_kept(
         &self,
         alloc: Global,
-        whole: Part,
+        whole: SharedExpr,
         left: ResidualExpr,
         right: Rc<Expr>,
     ) -> Result<Next, AllocError>
-        ensures { IfOk result (GoesOnAt self.now whole (pendings.OrLeft right)
+        ensures { IfOk result (ContinuesAt self.now whole (pendings.OrLeft right)
             (answers_residual (residual_term left))) }
     {
         let (left, right, part) = boxed_beside(alloc, left, right)?;
@@ -228,10 +243,10 @@ impl<'e, 'g, 'f> Evaluation<'e, 'g, 'f> {
     pub(crate) fn after_or_right(
         &self,
         alloc: Global,
-        whole: Part,
+        whole: SharedExpr,
         right: Box<PartialValue>,
     ) -> Next
-        ensures { GoesOnAt self.now whole pendings.OrRight (boxed_answer right) result }
+        ensures { ContinuesAt self.now whole pendings.OrRight (boxed_answer right) result }
     {
         match known_bool(&right) {
             Some(b) => Step::Done(Ok(bool_at(&whole, right, b))),
@@ -242,8 +257,13 @@ impl<'e, 'g, 'f> Evaluation<'e, 'g, 'f> {
     // The same after one that is no boolean.
     #[cold]
     #[inline(never)]
-    fn after_no_bool_or_right(&self, alloc: Global, whole: Part, right: Box<PartialValue>) -> Next
-        ensures { GoesOnAt self.now whole pendings.OrRight (boxed_answer right) result }
+    fn after_no_bool_or_right(
+        &self,
+        alloc: Global,
+        whole: SharedExpr,
+        right: Box<PartialValue>,
+    ) -> Next
+        ensures { ContinuesAt self.now whole pendings.OrRight (boxed_answer right) result }
     {
         answered(alloc, &whole, false_or(alloc, Box::into_inner(right)))
     }
@@ -252,13 +272,13 @@ impl<'e, 'g, 'f> Evaluation<'e, 'g, 'f> {
     pub(crate) fn kept_disjunction(
         &self,
         alloc: Global,
-        whole: Part,
+        whole: SharedExpr,
         left: Box<ResidualExpr>,
         right: Rc<Expr>,
         right_kept: Result<Expr, AllocError>,
     ) -> Next
         ensures { (x : Answer) → IsKept right_kept x right.value
-            → GoesOnAt self.now whole (pendings.OrKept left right) x result }
+            → ContinuesAt self.now whole (pendings.OrKept left right) x result }
     {
         match right_kept {
             Ok(right) => {
@@ -269,12 +289,12 @@ impl<'e, 'g, 'f> Evaluation<'e, 'g, 'f> {
         }
     }
 
-    // The right side of `true && ..`: a boolean that is told is the answer, in the box of the left one.
+    // The right side of `true && ..`: a boolean that is evaluated directly is the answer, in the box of the left one.
     fn right_of_and(
         &self,
         alloc: Global,
-        whole: Part,
-        right: Part,
+        whole: SharedExpr,
+        right: SharedExpr,
         left: Box<PartialValue>,
         levels: usize,
     ) -> Next
@@ -292,26 +312,26 @@ impl<'e, 'g, 'f> Evaluation<'e, 'g, 'f> {
     fn other_right_of_and(
         &self,
         alloc: Global,
-        whole: Part,
-        right: Part,
+        whole: SharedExpr,
+        right: SharedExpr,
         left: Box<PartialValue>,
         levels: usize,
     ) -> Next
         requires { part_bool (partial_view left.value) ≡ Some true }
         ensures { IsRightSide self.now levels whole pendings.AndRight right result }
     {
-        match self.told_bool(alloc, &right, levels) {
+        match self.direct_bool(alloc, &right, levels) {
             Some(b) => Step::Done(Ok(bool_at(&whole, with_bool(left, b), b))),
             None => wait_for_right(whole, Pending::AndRight, right),
         }
     }
 
-    // The right side of `false || ..`: a boolean that is told is the answer, in the box of the left one.
+    // The right side of `false || ..`: a boolean that is evaluated directly is the answer, in the box of the left one.
     fn right_of_or(
         &self,
         alloc: Global,
-        whole: Part,
-        right: Part,
+        whole: SharedExpr,
+        right: SharedExpr,
         left: Box<PartialValue>,
         levels: usize,
     ) -> Next
@@ -329,15 +349,15 @@ impl<'e, 'g, 'f> Evaluation<'e, 'g, 'f> {
     fn other_right_of_or(
         &self,
         alloc: Global,
-        whole: Part,
-        right: Part,
+        whole: SharedExpr,
+        right: SharedExpr,
         left: Box<PartialValue>,
         levels: usize,
     ) -> Next
         requires { part_bool (partial_view left.value) ≡ Some false }
         ensures { IsRightSide self.now levels whole pendings.OrRight right result }
     {
-        match self.told_bool(alloc, &right, levels) {
+        match self.direct_bool(alloc, &right, levels) {
             Some(b) => Step::Done(Ok(bool_at(&whole, with_bool(left, b), b))),
             None => wait_for_right(whole, Pending::OrRight, right),
         }
@@ -370,7 +390,7 @@ fn with_bool(mut part: Box<PartialValue>, b: bool) -> Box<PartialValue>
 }
 
 // The right side is waited for.
-fn wait_for_right(whole: Part, pending: Pending, right: Part) -> Next
+fn wait_for_right(whole: SharedExpr, pending: Pending, right: SharedExpr) -> Next
     ensures { IsAwaited whole pending right result }
 {
     let task = Task::Other(pending);

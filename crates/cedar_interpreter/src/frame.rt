@@ -8,7 +8,7 @@ use cedar_values::{PartialValue, ResidualExpr};
 use std::rc::{Rc, RcStr};
 
 /// What is evaluated: an expression that others may hold too.
-pub type Part = Rc<Expr>;
+pub type SharedExpr = Rc<Expr>;
 
 /// An expression that waits for the answer of a part, and what is to be done with it.
 #[derive(Drop)]
@@ -103,7 +103,7 @@ pub struct SecondBranch {
 }
 
 /// What an evaluation ends with.
-pub type Outcome = Result<Box<PartialValue>, Stopped>;
+pub type Ending = Result<Box<PartialValue>, Stopped>;
 
 /// What comes next of an expression: its answer, or the part that it waits for.
-pub type Next = Step<Frame, Part, Outcome>;
+pub type Next = Step<Frame, SharedExpr, Ending>;

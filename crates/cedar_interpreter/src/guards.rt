@@ -5,15 +5,15 @@ ghost use Rattle.cedar_model.specs.Failures.{Answer, answers_residual};
 ghost use Rattle.cedar_expressions.specs.View.{view};
 ghost use Rattle.cedar_values.specs.Residuals.{partial_view, residual_term};
 ghost use Rattle.cedar_interpreter.specs.Booleans.{part_bool};
-ghost use Rattle.cedar_interpreter.specs.Steps.{BeginsAt, GoesOnAt};
+ghost use Rattle.cedar_interpreter.specs.Continuations.{StartsAt, ContinuesAt};
 ghost use Rattle.cedar_interpreter.specs.Endings.{boxed_answer};
 ghost use Rattle.cedar_interpreter.specs.Kept.{IsKept};
 ghost use Rattle.cedar_interpreter.specs.declared.frame.Pending.TheVariants as pendings;
 
-use crate::answers::{answered, both, known_bool, no_bool, or_want};
+use crate::answers::{answered, known_bool, no_bool, or_want, pair_of_copies};
 use crate::boxed::boxed_with;
 use crate::evaluation::Evaluation;
-use crate::frame::{FirstBranch, Frame, Next, Part, Pending, SecondBranch, Task};
+use crate::frame::{FirstBranch, Frame, Next, Pending, SecondBranch, SharedExpr, Task};
 use crate::stopped::Stopped;
 use cedar_expressions::Expr;
 use cedar_frames::Step;
@@ -26,16 +26,16 @@ impl<'e, 'g, 'f> Evaluation<'e, 'g, 'f> {
     // `if` waits for its guard.
     pub(crate) fn branches(
         &self,
-        whole: &Part,
-        test_expr: &Part,
-        then_expr: &Part,
-        else_expr: &Part,
+        whole: &SharedExpr,
+        test_expr: &SharedExpr,
+        then_expr: &SharedExpr,
+        else_expr: &SharedExpr,
     ) -> Next
-        ensures { BeginsAt self.now whole.now
+        ensures { StartsAt self.now whole.now
             (if_then_else (view test_expr.now.value) (view then_expr.now.value) (view else_expr.now.value)) result }
     {
-        match both(then_expr, else_expr) {
-            Ok((then_expr, else_expr)) => match both(whole, test_expr) {
+        match pair_of_copies(then_expr, else_expr) {
+            Ok((then_expr, else_expr)) => match pair_of_copies(whole, test_expr) {
                 Ok((whole, test_expr)) => {
                     let task = Task::Other(Pending::Guard {
                         then_expr,
@@ -53,12 +53,12 @@ impl<'e, 'g, 'f> Evaluation<'e, 'g, 'f> {
     pub(crate) fn after_guard(
         &self,
         alloc: Global,
-        whole: Part,
+        whole: SharedExpr,
         then_expr: Rc<Expr>,
         else_expr: Rc<Expr>,
         guard: Box<PartialValue>,
     ) -> Next
-        ensures { GoesOnAt self.now whole (pendings.Guard then_expr else_expr) (boxed_answer guard) result }
+        ensures { ContinuesAt self.now whole (pendings.Guard then_expr else_expr) (boxed_answer guard) result }
     {
         match known_bool(&guard) {
             Some(true) => {
@@ -81,13 +81,13 @@ impl<'e, 'g, 'f> Evaluation<'e, 'g, 'f> {
     fn after_no_bool_guard(
         &self,
         alloc: Global,
-        whole: Part,
+        whole: SharedExpr,
         then_expr: Rc<Expr>,
         else_expr: Rc<Expr>,
         guard: Box<PartialValue>,
     ) -> Result<Next, AllocError>
         requires { part_bool (partial_view guard.value) ≡ None }
-        ensures { IfOk result (GoesOnAt self.now whole (pendings.Guard then_expr else_expr) (boxed_answer guard)) }
+        ensures { IfOk result (ContinuesAt self.now whole (pendings.Guard then_expr else_expr) (boxed_answer guard)) }
     {
         match Box::into_inner(guard) {
             PartialValue::Value(value) => {
@@ -107,12 +107,12 @@ impl<'e, 'g, 'f> Evaluation<'e, 'g, 'f> {
     fn first_branch(
         &self,
         alloc: Global,
-        whole: Part,
+        whole: SharedExpr,
         guard: ResidualExpr,
         then_expr: Rc<Expr>,
         else_expr: Rc<Expr>,
     ) -> Result<Next, AllocError>
-        ensures { IfOk result (GoesOnAt self.now whole (pendings.Guard then_expr else_expr)
+        ensures { IfOk result (ContinuesAt self.now whole (pendings.Guard then_expr else_expr)
             (answers_residual (residual_term guard))) }
     {
         let part: Result<Rc<Expr>, AllocError> = then_expr.clone();
@@ -130,12 +130,12 @@ impl<'e, 'g, 'f> Evaluation<'e, 'g, 'f> {
     pub(crate) fn second_branch(
         &self,
         alloc: Global,
-        whole: Part,
+        whole: SharedExpr,
         first: Box<FirstBranch>,
         then_kept: Result<Expr, AllocError>,
     ) -> Result<Next, AllocError>
         ensures { (x : Answer) → IsKept then_kept x first.value.then_expr.value
-            → IfOk result (GoesOnAt self.now whole (pendings.Then first) x) }
+            → IfOk result (ContinuesAt self.now whole (pendings.Then first) x) }
     {
         let then_expr = then_kept?;
         let FirstBranch {
@@ -158,12 +158,12 @@ impl<'e, 'g, 'f> Evaluation<'e, 'g, 'f> {
     pub(crate) fn both_branches(
         &self,
         alloc: Global,
-        whole: Part,
+        whole: SharedExpr,
         second: Box<SecondBranch>,
         else_kept: Result<Expr, AllocError>,
     ) -> Next
         ensures { (x : Answer) → IsKept else_kept x second.value.else_expr.value
-            → GoesOnAt self.now whole (pendings.Else second) x result }
+            → ContinuesAt self.now whole (pendings.Else second) x result }
     {
         match else_kept {
             Ok(else_expr) => {

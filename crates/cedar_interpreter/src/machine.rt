@@ -4,17 +4,17 @@ ghost use Rattle.cedar_model.specs.Failures.{fails};
 ghost use Rattle.cedar_errors.specs.Failures.{failure_of};
 ghost use Rattle.cedar_interpreter.specs.declared.frame.Task.TheVariants as tasks;
 ghost use Rattle.cedar_interpreter.specs.declared.stopped.Stopped.TheVariants as stops;
-ghost use Rattle.cedar_interpreter.specs.Endings.{outcome_answer, stopped_failure, boxed_answer};
-ghost use Rattle.cedar_interpreter.specs.Settings.{Speaks, setting_of, calls_in};
-ghost use Rattle.cedar_interpreter.specs.Steps.{LeadsIn};
-ghost use Rattle.cedar_interpreter.specs.Frames.{IsRight, Waits, left_of, ends_all};
-ghost use Rattle.cedar_interpreter.specs.Elements.{OutcomeStands, FrameStands, TaskGoesOn, ended_stands};
+ghost use Rattle.cedar_interpreter.specs.Endings.{ending_answer, stopped_failure, boxed_answer};
+ghost use Rattle.cedar_interpreter.specs.Settings.{Speaks, evaluation_setting, calls_in};
+ghost use Rattle.cedar_interpreter.specs.Continuations.{LeadsIn};
+ghost use Rattle.cedar_interpreter.specs.Frames.{IsRight, FrameWaits, left_of, ends_all};
+ghost use Rattle.cedar_interpreter.specs.Elements.{EndingStands, FrameStands, TaskContinues, ended_stands};
 ghost use Rattle.cedar_interpreter.specs.Laws.{right_limit, right_want, right_upward, limit_ends, some_left, some_most};
 
 use crate::answers::passed_on;
 use crate::evaluation::Evaluation;
 use crate::failed::Failed;
-use crate::frame::{Frame, Next, Outcome, Part, Task};
+use crate::frame::{Ending, Frame, Next, SharedExpr, Task};
 use crate::start::taken;
 use crate::stopped::Stopped;
 use cedar_frames::{Machine, Step};
@@ -25,15 +25,15 @@ use std::alloc::Global;
 impl<'e, 'g, 'f> Machine for Evaluation<'e, 'g, 'f> {
     type Frame = Frame;
 
-    type Part = Part;
+    type Part = SharedExpr;
 
-    type Answer = Outcome;
+    type Answer = Ending;
 
     ghost right = { λ s k t a.
-        IsRight (λ r. Speaks r s) (λ r. setting_of r s) (calls_in s) k t a × OutcomeStands t a };
+        IsRight (λ r. Speaks r s) (λ r. evaluation_setting r s) (calls_in s) k t a × EndingStands t a };
 
     ghost waits = { λ s k f t c.
-        Waits (λ r. Speaks r s) (λ r. setting_of r s) (calls_in s) k f t c × FrameStands f t c };
+        FrameWaits (λ r. Speaks r s) (λ r. evaluation_setting r s) (calls_in s) k f t c × FrameStands f t c };
 
     ghost left_of = { left_of };
 
@@ -46,18 +46,18 @@ impl<'e, 'g, 'f> Machine for Evaluation<'e, 'g, 'f> {
     ghost at_want = { Err stops.Memory };
 
     #[inline(always)]
-    fn start(&self, alloc: Global, part: Part, levels: usize) -> Next {
+    fn start(&self, alloc: Global, part: SharedExpr, levels: usize) -> Next {
         self.begin(alloc, &part, &part, levels)
     }
 
     #[inline(always)]
-    fn resume(&self, alloc: Global, frame: Frame, answer: Outcome, levels: usize) -> Next {
+    fn resume(&self, alloc: Global, frame: Frame, answer: Ending, levels: usize) -> Next {
         let Frame { whole, task } = frame;
         self.resumed(alloc, whole, task, answer, levels)
     }
 
     #[inline(always)]
-    fn ends(&self, answer: &Outcome) -> bool {
+    fn ends(&self, answer: &Ending) -> bool {
         match answer {
             Ok(_) => false,
             Err(Stopped::Memory) => true,
@@ -66,22 +66,22 @@ impl<'e, 'g, 'f> Machine for Evaluation<'e, 'g, 'f> {
         }
     }
 
-    fn limit(&self) -> Outcome {
+    fn limit(&self) -> Ending {
         Err(Stopped::Limit)
     }
 
-    fn want(&self) -> Outcome {
+    fn want(&self) -> Ending {
         Err(Stopped::Memory)
     }
 
-    ghost right_limit = { λ s t. (right_limit (λ r. Speaks r s) (λ r. setting_of r s) (calls_in s) t, λ n. tt) };
+    ghost right_limit = { λ s t. (right_limit (λ r. Speaks r s) (λ r. evaluation_setting r s) (calls_in s) t, λ n. tt) };
 
-    ghost right_want = { λ s k t. (right_want (λ r. Speaks r s) (λ r. setting_of r s) (calls_in s) k t, λ n. tt) };
+    ghost right_want = { λ s k t. (right_want (λ r. Speaks r s) (λ r. evaluation_setting r s) (calls_in s) k t, λ n. tt) };
 
     ghost limit_ends = { limit_ends };
 
     ghost right_upward = { λ s k f t c a ends waits right. (
-      right_upward (λ r. Speaks r s) (λ r. setting_of r s) (calls_in s) k f t c a ends waits.0 right.0,
+      right_upward (λ r. Speaks r s) (λ r. evaluation_setting r s) (calls_in s) k f t c a ends waits.0 right.0,
       ended_stands t a ends,
     ) };
 
@@ -96,13 +96,13 @@ impl<'e, 'g, 'f> Evaluation<'e, 'g, 'f> {
     fn resumed(
         &self,
         alloc: Global,
-        whole: Part,
+        whole: SharedExpr,
         task: Task,
-        answer: Outcome,
+        answer: Ending,
         levels: usize,
     ) -> Next
-        ensures leads { LeadsIn self.now levels whole task (outcome_answer answer) result }
-        ensures elements { TaskGoesOn task answer result }
+        ensures leads { LeadsIn self.now levels whole task (ending_answer answer) result }
+        ensures elements { TaskContinues task answer result }
     {
         match answer {
             Ok(value) => self.valued(alloc, whole, task, value, levels),
@@ -113,9 +113,9 @@ impl<'e, 'g, 'f> Evaluation<'e, 'g, 'f> {
     // The same after what stopped the part.
     #[cold]
     #[inline(never)]
-    fn stopped(&self, alloc: Global, whole: Part, task: Task, stopped: Stopped) -> Next
+    fn stopped(&self, alloc: Global, whole: SharedExpr, task: Task, stopped: Stopped) -> Next
         ensures leads { (levels : ℕ) → LeadsIn self.now levels whole task (fails (stopped_failure stopped)) result }
-        ensures elements { TaskGoesOn task (Err stopped) result }
+        ensures elements { TaskContinues task (Err stopped) result }
     {
         match stopped {
             Stopped::Memory => Step::Done(Err(Stopped::Memory)),
@@ -129,13 +129,13 @@ impl<'e, 'g, 'f> Evaluation<'e, 'g, 'f> {
     fn valued(
         &self,
         alloc: Global,
-        whole: Part,
+        whole: SharedExpr,
         task: Task,
         value: Box<PartialValue>,
         levels: usize,
     ) -> Next
         ensures leads { LeadsIn self.now levels whole task (boxed_answer value) result }
-        ensures elements { TaskGoesOn task (Ok value) result }
+        ensures elements { TaskContinues task (Ok value) result }
     {
         match task {
             Task::Parts(frame) => self.after_part(alloc, whole, frame, value),
@@ -147,12 +147,12 @@ impl<'e, 'g, 'f> Evaluation<'e, 'g, 'f> {
     fn after_part(
         &self,
         alloc: Global,
-        whole: Part,
+        whole: SharedExpr,
         frame: Box<PartsFrame>,
         value: Box<PartialValue>,
     ) -> Next
         ensures leads { (levels : ℕ) → LeadsIn self.now levels whole (tasks.Parts frame) (boxed_answer value) result }
-        ensures elements { TaskGoesOn (tasks.Parts frame) (Ok value) result }
+        ensures elements { TaskContinues (tasks.Parts frame) (Ok value) result }
     {
         let parts = Box::into_inner(frame);
         let part = Box::into_inner(value);
@@ -164,10 +164,16 @@ impl<'e, 'g, 'f> Evaluation<'e, 'g, 'f> {
     }
 
     // The same after an error.
-    fn kept_or_failed(&self, alloc: Global, whole: Part, task: Task, failed: Box<Failed>) -> Next
+    fn kept_or_failed(
+        &self,
+        alloc: Global,
+        whole: SharedExpr,
+        task: Task,
+        failed: Box<Failed>,
+    ) -> Next
         ensures leads { (levels : ℕ) →
             LeadsIn self.now levels whole task (fails (failure_of failed.value.error)) result }
-        ensures elements { TaskGoesOn task (Err (stops.Failed failed)) result }
+        ensures elements { TaskContinues task (Err (stops.Failed failed)) result }
     {
         match task {
             Task::Parts(frame) => passed_on(alloc, &whole, frame, failed),

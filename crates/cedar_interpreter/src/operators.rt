@@ -13,16 +13,16 @@ ghost use Rattle.cedar_values.specs.Residuals.{partial_view, residual_term};
 ghost use Rattle.cedar_layers.specs.Stores.{store_view};
 ghost use Rattle.cedar_operators.specs.StoredResiduals.{on_path_of};
 ghost use Rattle.cedar_interpreter.specs.Reads.{resolved_in, part_residual};
-ghost use Rattle.cedar_interpreter.specs.Settings.{resolution_view, setting_of};
+ghost use Rattle.cedar_interpreter.specs.Settings.{resolution_view, evaluation_setting};
 ghost use Rattle.cedar_interpreter.specs.Tasks.{Gives, IsPassed, IsWaiting, IsWalkedOn};
-ghost use Rattle.cedar_interpreter.specs.Steps.{GoesOnIn, GoesOnAt};
+ghost use Rattle.cedar_interpreter.specs.Continuations.{ContinuesIn, ContinuesAt};
 ghost use Rattle.cedar_interpreter.specs.Endings.{boxed_answer};
 ghost use Rattle.cedar_interpreter.specs.declared.frame.Pending.TheVariants as pendings;
 ghost use Rattle.cedar_interpreter.specs.declared.frame.Task.TheVariants as tasks;
 
-use crate::answers::{answered_in, both, known_bool, put_at, taken_out};
+use crate::answers::{answered_in, known_bool, pair_of_copies, put_at, taken_out};
 use crate::evaluation::Evaluation;
-use crate::frame::{Frame, Next, Part, Pending, Task};
+use crate::frame::{Frame, Next, Pending, SharedExpr, Task};
 use crate::stopped::Stopped;
 use crate::stored::stored_in;
 use cedar_expressions::Expr;
@@ -45,11 +45,11 @@ impl<'e, 'g, 'f> Evaluation<'e, 'g, 'f> {
     pub(crate) fn after_operand(
         &self,
         alloc: Global,
-        whole: &Part,
+        whole: &SharedExpr,
         op: UnaryOp,
         mut operand: Box<PartialValue>,
     ) -> Next
-        ensures { GoesOnAt self.now whole.now (pendings.Unary op) (boxed_answer operand) result }
+        ensures { ContinuesAt self.now whole.now (pendings.Unary op) (boxed_answer operand) result }
     {
         if is_negated(op, &mut operand) {
             put_at(alloc, whole, operand)
@@ -63,11 +63,11 @@ impl<'e, 'g, 'f> Evaluation<'e, 'g, 'f> {
     fn after_other_operand(
         &self,
         alloc: Global,
-        whole: &Part,
+        whole: &SharedExpr,
         op: UnaryOp,
         mut operand: Box<PartialValue>,
     ) -> Next
-        ensures { GoesOnAt self.now whole.now (pendings.Unary op) (boxed_answer operand) result }
+        ensures { ContinuesAt self.now whole.now (pendings.Unary op) (boxed_answer operand) result }
     {
         let part = taken_out(&mut operand);
         answered_in(alloc, whole, operand, unary_of_part(alloc, op, part, None))
@@ -77,15 +77,15 @@ impl<'e, 'g, 'f> Evaluation<'e, 'g, 'f> {
     pub(crate) fn after_left(
         &self,
         alloc: Global,
-        whole: &Part,
+        whole: &SharedExpr,
         op: BinaryOp,
-        right: &Part,
+        right: &SharedExpr,
         left: Box<PartialValue>,
         levels: usize,
     ) -> Next
-        ensures { GoesOnIn self.now levels whole.now (pendings.BinaryLeft op right.now) (boxed_answer left) result }
+        ensures { ContinuesIn self.now levels whole.now (pendings.BinaryLeft op right.now) (boxed_answer left) result }
     {
-        match self.told(alloc, right, levels) {
+        match self.direct_value(alloc, right, levels) {
             Some(right) => self.applied(alloc, whole, op, left, PartialValue::Value(right)),
             None => right_operand(whole, op, right, left),
         }
@@ -95,12 +95,12 @@ impl<'e, 'g, 'f> Evaluation<'e, 'g, 'f> {
     pub(crate) fn after_right(
         &self,
         alloc: Global,
-        whole: &Part,
+        whole: &SharedExpr,
         op: BinaryOp,
         left: Box<PartialValue>,
         right: Box<PartialValue>,
     ) -> Next
-        ensures { GoesOnAt self.now whole.now (pendings.BinaryRight op left) (boxed_answer right) result }
+        ensures { ContinuesAt self.now whole.now (pendings.BinaryRight op left) (boxed_answer right) result }
     {
         self.applied(alloc, whole, op, left, Box::into_inner(right))
     }
@@ -109,12 +109,12 @@ impl<'e, 'g, 'f> Evaluation<'e, 'g, 'f> {
     pub(crate) fn applied(
         &self,
         alloc: Global,
-        whole: &Part,
+        whole: &SharedExpr,
         op: BinaryOp,
         left: Box<PartialValue>,
         right: PartialValue,
     ) -> Next
-        ensures { GoesOnAt self.now whole.now (pendings.BinaryRight op left) (answers (partial_view right)) result }
+        ensures { ContinuesAt self.now whole.now (pendings.BinaryRight op left) (answers (partial_view right)) result }
     {
         match self.operands_residual(op, &left, &right) {
             Some(tag) => {
@@ -129,13 +129,13 @@ impl<'e, 'g, 'f> Evaluation<'e, 'g, 'f> {
     fn applied_as_stored(
         &self,
         alloc: Global,
-        whole: &Part,
+        whole: &SharedExpr,
         op: BinaryOp,
         mut left: Box<PartialValue>,
         right: PartialValue,
     ) -> Next
         ensures { (r : RequestPart) → Gives (expr_loc whole.now.value) result (Rules.binary_of_parts
-            (setting_of r self.now) (binary_view op) (partial_view left.value) (partial_view right)) }
+            (evaluation_setting r self.now) (binary_view op) (partial_view left.value) (partial_view right)) }
     {
         let left_part = taken_out(&mut left);
         let entities = self.given.entities;
@@ -152,11 +152,11 @@ impl<'e, 'g, 'f> Evaluation<'e, 'g, 'f> {
     pub(crate) fn after_container(
         &self,
         alloc: Global,
-        whole: &Part,
+        whole: &SharedExpr,
         attr: &RcStr,
         container: Box<PartialValue>,
     ) -> Next
-        ensures { GoesOnAt self.now whole.now (pendings.GetAttr attr.now) (boxed_answer container) result }
+        ensures { ContinuesAt self.now whole.now (pendings.GetAttr attr.now) (boxed_answer container) result }
     {
         match self.attribute_residual(&container, attr) {
             Some(residual) => {
@@ -171,20 +171,20 @@ impl<'e, 'g, 'f> Evaluation<'e, 'g, 'f> {
     fn attribute_as_stored(
         &self,
         alloc: Global,
-        whole: &Part,
+        whole: &SharedExpr,
         attr: &RcStr,
         mut container: Box<PartialValue>,
     ) -> Next
         requires { resolved_in (resolution_view self.now.given.now.resolution) (part_residual
             (store_view self.now.given.now.entities.now) (partial_view container.value) (rc_str_bytes attr.now)) ≡ None }
-        ensures { GoesOnAt self.now whole.now (pendings.GetAttr attr.now) (boxed_answer container) result }
+        ensures { ContinuesAt self.now whole.now (pendings.GetAttr attr.now) (boxed_answer container) result }
     {
         let part = taken_out(&mut container);
         match attribute_of_part(alloc, self.given.entities, part, attr, None) {
             Projected::Answer(answer) => {
                 stored_in(alloc, whole, &self.given.mapper, container, answer)
             }
-            Projected::Part(part) => projected(alloc, whole, part),
+            Projected::Attribute(part) => projected(alloc, whole, part),
         }
     }
 
@@ -192,11 +192,11 @@ impl<'e, 'g, 'f> Evaluation<'e, 'g, 'f> {
     pub(crate) fn after_tested(
         &self,
         alloc: Global,
-        whole: &Part,
+        whole: &SharedExpr,
         attr: &RcStr,
         mut container: Box<PartialValue>,
     ) -> Next
-        ensures { GoesOnAt self.now whole.now (pendings.HasAttr attr.now) (boxed_answer container) result }
+        ensures { ContinuesAt self.now whole.now (pendings.HasAttr attr.now) (boxed_answer container) result }
     {
         let part = taken_out(&mut container);
         answered_in(
@@ -212,11 +212,11 @@ impl<'e, 'g, 'f> Evaluation<'e, 'g, 'f> {
     pub(crate) fn after_walked(
         &self,
         alloc: Global,
-        whole: &Part,
+        whole: &SharedExpr,
         attrs: &Rc<FirstRest<RcStr>>,
         container: Box<PartialValue>,
     ) -> Next
-        ensures { GoesOnAt self.now whole.now (pendings.ExtHasAttr attrs.now) (boxed_answer container) result }
+        ensures { ContinuesAt self.now whole.now (pendings.ExtHasAttr attrs.now) (boxed_answer container) result }
     {
         match self.path_residual(alloc, &container, attrs) {
             Ok(read) => match read {
@@ -234,7 +234,7 @@ impl<'e, 'g, 'f> Evaluation<'e, 'g, 'f> {
     fn walked_as_stored(
         &self,
         alloc: Global,
-        whole: &Part,
+        whole: &SharedExpr,
         attrs: &FirstRest<RcStr>,
         mut container: Box<PartialValue>,
     ) -> Next
@@ -257,11 +257,11 @@ impl<'e, 'g, 'f> Evaluation<'e, 'g, 'f> {
     pub(crate) fn after_text(
         &self,
         alloc: Global,
-        whole: &Part,
+        whole: &SharedExpr,
         pattern: &Box<Pattern>,
         mut text: Box<PartialValue>,
     ) -> Next
-        ensures { GoesOnAt self.now whole.now (pendings.Like pattern.now) (boxed_answer text) result }
+        ensures { ContinuesAt self.now whole.now (pendings.Like pattern.now) (boxed_answer text) result }
     {
         let part = taken_out(&mut text);
         answered_in(alloc, whole, text, like_of_part(alloc, part, pattern))
@@ -271,11 +271,11 @@ impl<'e, 'g, 'f> Evaluation<'e, 'g, 'f> {
     pub(crate) fn after_entity(
         &self,
         alloc: Global,
-        whole: &Part,
+        whole: &SharedExpr,
         entity_type: &Box<EntityType>,
         mut entity: Box<PartialValue>,
     ) -> Next
-        ensures { GoesOnAt self.now whole.now (pendings.Is entity_type.now) (boxed_answer entity) result }
+        ensures { ContinuesAt self.now whole.now (pendings.Is entity_type.now) (boxed_answer entity) result }
     {
         let part = taken_out(&mut entity);
         answered_in(alloc, whole, entity, is_of_part(alloc, part, entity_type))
@@ -283,10 +283,15 @@ impl<'e, 'g, 'f> Evaluation<'e, 'g, 'f> {
 }
 
 // The right operand is waited for, beside the left one.
-fn right_operand(whole: &Part, op: BinaryOp, right: &Part, left: Box<PartialValue>) -> Next
+fn right_operand(
+    whole: &SharedExpr,
+    op: BinaryOp,
+    right: &SharedExpr,
+    left: Box<PartialValue>,
+) -> Next
     ensures { IsWaiting whole.now (tasks.Other (pendings.BinaryRight op left)) right.now result }
 {
-    match both(whole, right) {
+    match pair_of_copies(whole, right) {
         Ok((whole, right)) => {
             let task = Task::Other(Pending::BinaryRight { op, left });
             Step::Wait(Frame { whole, task }, right)
@@ -298,7 +303,7 @@ fn right_operand(whole: &Part, op: BinaryOp, right: &Part, left: Box<PartialValu
 // A stored residual is evaluated, and is the answer.
 #[cold]
 #[inline(never)]
-fn read_again(alloc: Global, whole: &Part, residual: &ResidualExpr) -> Next
+fn read_again(alloc: Global, whole: &SharedExpr, residual: &ResidualExpr) -> Next
     ensures { IsPassed (expr_loc whole.now.value) (residual_term residual.now) result }
 {
     match residual.as_expr().clone() {
@@ -310,7 +315,7 @@ fn read_again(alloc: Global, whole: &Part, residual: &ResidualExpr) -> Next
 // A stored residual is evaluated, and then tested for the attributes after it.
 #[cold]
 #[inline(never)]
-fn walk_again(whole: &Part, read: OnPath) -> Next
+fn walk_again(whole: &SharedExpr, read: OnPath) -> Next
     ensures { IsWalkedOn (expr_loc whole.now.value) (on_path_of read) result }
 {
     let (part, attrs) = read;
@@ -326,7 +331,7 @@ fn walk_again(whole: &Part, read: OnPath) -> Next
 // A part of a record is evaluated again, and is the answer.
 #[cold]
 #[inline(never)]
-fn projected(alloc: Global, whole: &Part, part: Expr) -> Next
+fn projected(alloc: Global, whole: &SharedExpr, part: Expr) -> Next
     ensures { IsPassed (expr_loc whole.now.value) (view part) result }
 {
     match whole.clone() {

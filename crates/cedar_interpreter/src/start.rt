@@ -12,16 +12,16 @@ ghost use Rattle.cedar_layers.specs.Policies.{slots_view};
 ghost use Rattle.cedar_operators.specs.Operands.{unknown_term};
 ghost use Rattle.cedar_interpreter.specs.Settings.{given_for};
 ghost use Rattle.cedar_interpreter.specs.Tasks.{Gives};
-ghost use Rattle.cedar_interpreter.specs.Steps.{BeginsIn, BeginsAt};
+ghost use Rattle.cedar_interpreter.specs.Continuations.{StartsIn, StartsAt};
 ghost use Rattle.cedar_interpreter.specs.PartsLaws.{IsTaken, IsNextPart};
 ghost use Rattle.cedar_interpreter.specs.Elements.{IsPartTaken, NextStands, SetNext};
 
-use crate::answers::{answered, both, done, loc_of, or_want};
+use crate::answers::{answered, done, loc_of, or_want, pair_of_copies};
+use crate::direct::literal_value;
 use crate::evaluation::Evaluation;
-use crate::frame::{Frame, Next, Part, Pending, Task};
+use crate::frame::{Frame, Next, Pending, SharedExpr, Task};
 use crate::stopped::Stopped;
 use crate::stored::mapped;
-use crate::told::literal_value;
 use cedar_errors::evaluator::err::{EvaluationError, evaluation_errors};
 use cedar_expressions::{Expr, ExprKind};
 use cedar_frames::Step;
@@ -40,8 +40,8 @@ use std::rc::{Rc, RcStr};
 impl<'e, 'g, 'f> Evaluation<'e, 'g, 'f> {
     // Looks at an expression, which is that of the whole: answers it, or waits for its first part.
     #[tactic(auto, using(cedar_expressions::proofs::Levels::levels))]
-    pub(crate) fn begin(&self, alloc: Global, whole: &Part, e: &Expr, levels: usize) -> Next
-        ensures begins { BeginsIn self.now levels whole.now (view e.now) result }
+    pub(crate) fn begin(&self, alloc: Global, whole: &SharedExpr, e: &Expr, levels: usize) -> Next
+        ensures starts { StartsIn self.now levels whole.now (view e.now) result }
         ensures elements { NextStands e.now result }
     {
         match e.expr_kind() {
@@ -79,8 +79,8 @@ impl<'e, 'g, 'f> Evaluation<'e, 'g, 'f> {
         }
     }
 
-    fn literal(&self, alloc: Global, whole: &Part, value: &Literal) -> Next
-        ensures { BeginsAt self.now whole.now (Terms.literal (literal_view value.now)) result }
+    fn literal(&self, alloc: Global, whole: &SharedExpr, value: &Literal) -> Next
+        ensures { StartsAt self.now whole.now (Terms.literal (literal_view value.now)) result }
     {
         match literal_value(value) {
             Some(value) => done(alloc, whole, PartialValue::Value(value)),
@@ -88,8 +88,8 @@ impl<'e, 'g, 'f> Evaluation<'e, 'g, 'f> {
         }
     }
 
-    fn variable(&self, alloc: Global, whole: &Part, var: Var) -> Next
-        ensures { (levels : ℕ) → BeginsIn self.now levels whole.now (Terms.variable (variable_view var)) result }
+    fn variable(&self, alloc: Global, whole: &SharedExpr, var: Var) -> Next
+        ensures { (levels : ℕ) → StartsIn self.now levels whole.now (Terms.variable (variable_view var)) result }
     {
         match self.given_for(var).clone() {
             Ok(part) => done(alloc, whole, part),
@@ -109,23 +109,23 @@ impl<'e, 'g, 'f> Evaluation<'e, 'g, 'f> {
         }
     }
 
-    fn slot(&self, alloc: Global, whole: &Part, slot: SlotId) -> Next
-        ensures { BeginsAt self.now whole.now (Terms.slot (slot_view slot)) result }
+    fn slot(&self, alloc: Global, whole: &SharedExpr, slot: SlotId) -> Next
+        ensures { StartsAt self.now whole.now (Terms.slot (slot_view slot)) result }
     {
         or_want(slot_answer(alloc, whole, self.slots, slot))
     }
 
-    fn unknown(&self, alloc: Global, whole: &Part, e: &Expr, unknown: &Unknown) -> Next
+    fn unknown(&self, alloc: Global, whole: &SharedExpr, e: &Expr, unknown: &Unknown) -> Next
         requires { view e.now ≡ unknown_term unknown.now }
-        ensures { BeginsAt self.now whole.now (view e.now) result }
+        ensures { StartsAt self.now whole.now (view e.now) result }
     {
         or_want(mapped(alloc, whole, &self.given.mapper, e, unknown))
     }
 
-    fn operand(&self, whole: &Part, op: UnaryOp, arg: &Part) -> Next
-        ensures { BeginsAt self.now whole.now (Terms.unary (unary_view op) (view arg.now.value)) result }
+    fn operand(&self, whole: &SharedExpr, op: UnaryOp, arg: &SharedExpr) -> Next
+        ensures { StartsAt self.now whole.now (Terms.unary (unary_view op) (view arg.now.value)) result }
     {
-        match both(whole, arg) {
+        match pair_of_copies(whole, arg) {
             Ok((whole, arg)) => {
                 let task = Task::Other(Pending::Unary(op));
                 Step::Wait(Frame { whole, task }, arg)
@@ -137,27 +137,33 @@ impl<'e, 'g, 'f> Evaluation<'e, 'g, 'f> {
     fn operands(
         &self,
         alloc: Global,
-        whole: &Part,
+        whole: &SharedExpr,
         op: BinaryOp,
-        left: &Part,
-        right: &Part,
+        left: &SharedExpr,
+        right: &SharedExpr,
         levels: usize,
     ) -> Next
-        ensures { BeginsIn self.now levels whole.now
+        ensures { StartsIn self.now levels whole.now
             (Terms.binary (binary_view op) (view left.now.value) (view right.now.value)) result }
     {
-        match self.told_boxed(alloc, left, levels) {
-            Some(told) => self.after_left(alloc, whole, op, right, told, levels),
+        match self.direct_answer(alloc, left, levels) {
+            Some(direct) => self.after_left(alloc, whole, op, right, direct, levels),
             None => self.wait_for_left(whole, op, left, right),
         }
     }
 
-    fn wait_for_left(&self, whole: &Part, op: BinaryOp, left: &Part, right: &Part) -> Next
-        ensures { BeginsAt self.now whole.now
+    fn wait_for_left(
+        &self,
+        whole: &SharedExpr,
+        op: BinaryOp,
+        left: &SharedExpr,
+        right: &SharedExpr,
+    ) -> Next
+        ensures { StartsAt self.now whole.now
             (Terms.binary (binary_view op) (view left.now.value) (view right.now.value)) result }
     {
         match right.clone() {
-            Ok(right) => match both(whole, left) {
+            Ok(right) => match pair_of_copies(whole, left) {
                 Ok((whole, left)) => {
                     let task = Task::Other(Pending::BinaryLeft { op, right });
                     Step::Wait(Frame { whole, task }, left)
@@ -171,26 +177,26 @@ impl<'e, 'g, 'f> Evaluation<'e, 'g, 'f> {
     fn attribute(
         &self,
         alloc: Global,
-        whole: &Part,
-        expr: &Part,
+        whole: &SharedExpr,
+        expr: &SharedExpr,
         attr: &RcStr,
         levels: usize,
     ) -> Next
-        ensures { BeginsIn self.now levels whole.now
+        ensures { StartsIn self.now levels whole.now
             (Terms.get_attribute (view expr.now.value) (rc_str_bytes attr.now)) result }
     {
-        match self.told_boxed(alloc, expr, levels) {
-            Some(told) => self.after_container(alloc, whole, attr, told),
+        match self.direct_answer(alloc, expr, levels) {
+            Some(direct) => self.after_container(alloc, whole, attr, direct),
             None => self.wait_for_container(whole, expr, attr),
         }
     }
 
-    fn wait_for_container(&self, whole: &Part, expr: &Part, attr: &RcStr) -> Next
-        ensures { BeginsAt self.now whole.now
+    fn wait_for_container(&self, whole: &SharedExpr, expr: &SharedExpr, attr: &RcStr) -> Next
+        ensures { StartsAt self.now whole.now
             (Terms.get_attribute (view expr.now.value) (rc_str_bytes attr.now)) result }
     {
         match attr.clone() {
-            Ok(attr) => match both(whole, expr) {
+            Ok(attr) => match pair_of_copies(whole, expr) {
                 Ok((whole, expr)) => {
                     let task = Task::Other(Pending::GetAttr(attr));
                     Step::Wait(Frame { whole, task }, expr)
@@ -201,22 +207,29 @@ impl<'e, 'g, 'f> Evaluation<'e, 'g, 'f> {
         }
     }
 
-    fn tested(&self, alloc: Global, whole: &Part, expr: &Part, attr: &RcStr, levels: usize) -> Next
-        ensures { BeginsIn self.now levels whole.now
+    fn tested(
+        &self,
+        alloc: Global,
+        whole: &SharedExpr,
+        expr: &SharedExpr,
+        attr: &RcStr,
+        levels: usize,
+    ) -> Next
+        ensures { StartsIn self.now levels whole.now
             (Terms.has_attribute (view expr.now.value) (rc_str_bytes attr.now)) result }
     {
-        match self.told_boxed(alloc, expr, levels) {
-            Some(told) => self.after_tested(alloc, whole, attr, told),
+        match self.direct_answer(alloc, expr, levels) {
+            Some(direct) => self.after_tested(alloc, whole, attr, direct),
             None => self.wait_for_tested(whole, expr, attr),
         }
     }
 
-    fn wait_for_tested(&self, whole: &Part, expr: &Part, attr: &RcStr) -> Next
-        ensures { BeginsAt self.now whole.now
+    fn wait_for_tested(&self, whole: &SharedExpr, expr: &SharedExpr, attr: &RcStr) -> Next
+        ensures { StartsAt self.now whole.now
             (Terms.has_attribute (view expr.now.value) (rc_str_bytes attr.now)) result }
     {
         match attr.clone() {
-            Ok(attr) => match both(whole, expr) {
+            Ok(attr) => match pair_of_copies(whole, expr) {
                 Ok((whole, expr)) => {
                     let task = Task::Other(Pending::HasAttr(attr));
                     Step::Wait(Frame { whole, task }, expr)
@@ -230,24 +243,29 @@ impl<'e, 'g, 'f> Evaluation<'e, 'g, 'f> {
     fn walked(
         &self,
         alloc: Global,
-        whole: &Part,
-        expr: &Part,
+        whole: &SharedExpr,
+        expr: &SharedExpr,
         attrs: &Rc<FirstRest<RcStr>>,
         levels: usize,
     ) -> Next
-        ensures { BeginsIn self.now levels whole.now (extended_has_of (view expr.now.value) attrs.now.value) result }
+        ensures { StartsIn self.now levels whole.now (extended_has_of (view expr.now.value) attrs.now.value) result }
     {
-        match self.told_boxed(alloc, expr, levels) {
-            Some(told) => self.after_walked(alloc, whole, attrs, told),
+        match self.direct_answer(alloc, expr, levels) {
+            Some(direct) => self.after_walked(alloc, whole, attrs, direct),
             None => self.wait_for_walked(whole, expr, attrs),
         }
     }
 
-    fn wait_for_walked(&self, whole: &Part, expr: &Part, attrs: &Rc<FirstRest<RcStr>>) -> Next
-        ensures { BeginsAt self.now whole.now (extended_has_of (view expr.now.value) attrs.now.value) result }
+    fn wait_for_walked(
+        &self,
+        whole: &SharedExpr,
+        expr: &SharedExpr,
+        attrs: &Rc<FirstRest<RcStr>>,
+    ) -> Next
+        ensures { StartsAt self.now whole.now (extended_has_of (view expr.now.value) attrs.now.value) result }
     {
         match attrs.clone() {
-            Ok(attrs) => match both(whole, expr) {
+            Ok(attrs) => match pair_of_copies(whole, expr) {
                 Ok((whole, expr)) => {
                     let task = Task::Other(Pending::ExtHasAttr(attrs));
                     Step::Wait(Frame { whole, task }, expr)
@@ -261,31 +279,37 @@ impl<'e, 'g, 'f> Evaluation<'e, 'g, 'f> {
     fn likeness(
         &self,
         alloc: Global,
-        whole: &Part,
-        expr: &Part,
+        whole: &SharedExpr,
+        expr: &SharedExpr,
         pattern: &Pattern,
         levels: usize,
     ) -> Next
-        ensures { BeginsIn self.now levels whole.now
+        ensures { StartsIn self.now levels whole.now
             (Terms.like (view expr.now.value) (pattern_view pattern.now)) result }
     {
-        match self.told(alloc, expr, levels) {
-            Some(told) => {
+        match self.direct_value(alloc, expr, levels) {
+            Some(direct) => {
                 answered(
                     alloc,
                     whole,
-                    like_of_part(alloc, PartialValue::Value(told), pattern),
+                    like_of_part(alloc, PartialValue::Value(direct), pattern),
                 )
             }
             None => self.wait_for_text(alloc, whole, expr, pattern),
         }
     }
 
-    fn wait_for_text(&self, alloc: Global, whole: &Part, expr: &Part, pattern: &Pattern) -> Next
-        ensures { BeginsAt self.now whole.now (Terms.like (view expr.now.value) (pattern_view pattern.now)) result }
+    fn wait_for_text(
+        &self,
+        alloc: Global,
+        whole: &SharedExpr,
+        expr: &SharedExpr,
+        pattern: &Pattern,
+    ) -> Next
+        ensures { StartsAt self.now whole.now (Terms.like (view expr.now.value) (pattern_view pattern.now)) result }
     {
         match boxed_pattern(alloc, pattern) {
-            Ok(pattern) => match both(whole, expr) {
+            Ok(pattern) => match pair_of_copies(whole, expr) {
                 Ok((whole, expr)) => {
                     let task = Task::Other(Pending::Like(pattern));
                     Step::Wait(Frame { whole, task }, expr)
@@ -299,20 +323,20 @@ impl<'e, 'g, 'f> Evaluation<'e, 'g, 'f> {
     fn typed(
         &self,
         alloc: Global,
-        whole: &Part,
-        expr: &Part,
+        whole: &SharedExpr,
+        expr: &SharedExpr,
         entity_type: &EntityType,
         levels: usize,
     ) -> Next
-        ensures { BeginsIn self.now levels whole.now
+        ensures { StartsIn self.now levels whole.now
             (Terms.is_of_type (view expr.now.value) (type_text entity_type.now)) result }
     {
-        match self.told(alloc, expr, levels) {
-            Some(told) => {
+        match self.direct_value(alloc, expr, levels) {
+            Some(direct) => {
                 answered(
                     alloc,
                     whole,
-                    is_of_part(alloc, PartialValue::Value(told), entity_type),
+                    is_of_part(alloc, PartialValue::Value(direct), entity_type),
                 )
             }
             None => self.wait_for_entity(alloc, whole, expr, entity_type),
@@ -322,15 +346,15 @@ impl<'e, 'g, 'f> Evaluation<'e, 'g, 'f> {
     fn wait_for_entity(
         &self,
         alloc: Global,
-        whole: &Part,
-        expr: &Part,
+        whole: &SharedExpr,
+        expr: &SharedExpr,
         entity_type: &EntityType,
     ) -> Next
-        ensures { BeginsAt self.now whole.now
+        ensures { StartsAt self.now whole.now
             (Terms.is_of_type (view expr.now.value) (type_text entity_type.now)) result }
     {
         match boxed_type(alloc, entity_type) {
-            Ok(entity_type) => match both(whole, expr) {
+            Ok(entity_type) => match pair_of_copies(whole, expr) {
                 Ok((whole, expr)) => {
                     let task = Task::Other(Pending::Is(entity_type));
                     Step::Wait(Frame { whole, task }, expr)
@@ -341,23 +365,23 @@ impl<'e, 'g, 'f> Evaluation<'e, 'g, 'f> {
         }
     }
 
-    fn set(&self, alloc: Global, whole: &Part, parts: &Rc<Vec<Expr>>) -> Next
-        ensures begins { BeginsAt self.now whole.now (Terms.set_of (terms_view parts.now.value.items)) result }
+    fn set(&self, alloc: Global, whole: &SharedExpr, parts: &Rc<Vec<Expr>>) -> Next
+        ensures starts { StartsAt self.now whole.now (Terms.set_of (terms_view parts.now.value.items)) result }
         ensures elements { SetNext parts.now.value.items result }
     {
         let next = PartsFrame::set(alloc, self.given.extensions, parts, loc_of(whole));
         first_part(alloc, whole, next)
     }
 
-    fn record(&self, alloc: Global, whole: &Part, pairs: &BTreeMap<RcStr, Expr>) -> Next
-        ensures { BeginsAt self.now whole.now (Terms.record_of (fields_view pairs.now.entries)) result }
+    fn record(&self, alloc: Global, whole: &SharedExpr, pairs: &BTreeMap<RcStr, Expr>) -> Next
+        ensures { StartsAt self.now whole.now (Terms.record_of (fields_view pairs.now.entries)) result }
     {
         let next = PartsFrame::record(alloc, self.given.extensions, pairs, loc_of(whole));
         first_part(alloc, whole, next)
     }
 
-    fn call(&self, alloc: Global, whole: &Part, fn_name: &Name, args: &Rc<Vec<Expr>>) -> Next
-        ensures { BeginsAt self.now whole.now (call_of fn_name.now args.now.value.items) result }
+    fn call(&self, alloc: Global, whole: &SharedExpr, fn_name: &Name, args: &Rc<Vec<Expr>>) -> Next
+        ensures { StartsAt self.now whole.now (call_of fn_name.now args.now.value.items) result }
     {
         let next = PartsFrame::call(alloc, self.given.extensions, fn_name, args, loc_of(whole));
         first_part(alloc, whole, next)
@@ -382,7 +406,7 @@ fn boxed_type(alloc: Global, entity_type: &EntityType) -> Result<Box<EntityType>
 #[tactic(auto, unfolding(cedar_model::specs::Operators::slot_answer))]
 fn slot_answer(
     alloc: Global,
-    whole: &Part,
+    whole: &SharedExpr,
     slots: &SlotEnv,
     slot: SlotId,
 ) -> Result<Next, AllocError>
@@ -402,7 +426,7 @@ fn slot_answer(
 // That the slot is linked to no entity.
 #[cold]
 #[inline(never)]
-fn slot_unlinked(alloc: Global, whole: &Part, slot: SlotId) -> Next
+fn slot_unlinked(alloc: Global, whole: &SharedExpr, slot: SlotId) -> Next
     ensures { Gives (expr_loc whole.now.value) result (fails (slot_is_unlinked (slot_view slot))) }
 {
     let error = EvaluationError::UnlinkedSlot(UnlinkedSlotError {
@@ -413,7 +437,7 @@ fn slot_unlinked(alloc: Global, whole: &Part, slot: SlotId) -> Next
 }
 
 // What comes first of a set, a record or a call.
-fn first_part(alloc: Global, whole: &Part, next: NextPart) -> Next
+fn first_part(alloc: Global, whole: &SharedExpr, next: NextPart) -> Next
     ensures taken { IsTaken (expr_loc whole.now.value) next result }
     ensures same { IsPartTaken next result }
 {
@@ -424,7 +448,7 @@ fn first_part(alloc: Global, whole: &Part, next: NextPart) -> Next
 }
 
 // What comes next of a set, a record or a call.
-pub(crate) fn taken(alloc: Global, whole: Part, next: NextPart) -> Next
+pub(crate) fn taken(alloc: Global, whole: SharedExpr, next: NextPart) -> Next
     ensures taken { IsTaken (expr_loc whole.value) next result }
     ensures same { IsPartTaken next result }
 {
@@ -436,7 +460,12 @@ pub(crate) fn taken(alloc: Global, whole: Part, next: NextPart) -> Next
 }
 
 // A set, a record or a call waits for this part.
-fn next_part(alloc: Global, whole: Part, frame: PartsFrame, part: Expr) -> Result<Next, AllocError>
+fn next_part(
+    alloc: Global,
+    whole: SharedExpr,
+    frame: PartsFrame,
+    part: Expr,
+) -> Result<Next, AllocError>
     ensures { IfOk result (IsNextPart (expr_loc whole.value) frame part) }
 {
     let part = Rc::new(alloc, part)?;

@@ -18,7 +18,7 @@ ghost use Rattle.cedar_interpreter.specs.Stored.{remapped, IsNoUnknown, mapped_u
 
 use crate::answers::{answered_in, done, loc_of, or_want};
 use crate::evaluation::Mapper;
-use crate::frame::{Next, Part};
+use crate::frame::{Next, SharedExpr};
 use crate::stopped::Stopped;
 use cedar_errors::evaluator::err::EvaluationError;
 use cedar_expressions::{Expr, ExprKind};
@@ -34,7 +34,7 @@ use std::rc::RcStr;
 #[tactic(auto, unfolding(crate::specs::Stored::remapped))]
 pub(crate) fn stored_in(
     alloc: Global,
-    whole: &Part,
+    whole: &SharedExpr,
     mapper: &Mapper<'_>,
     container: Box<PartialValue>,
     answer: Result<PartialValue, EvaluationError>,
@@ -57,7 +57,7 @@ pub(crate) fn stored_in(
 #[tactic(auto, unfolding(crate::specs::Stored::remapped))]
 fn stored_residual(
     alloc: Global,
-    whole: &Part,
+    whole: &SharedExpr,
     mapper: &Mapper<'_>,
     residual: ResidualExpr,
 ) -> Result<Next, AllocError>
@@ -121,7 +121,7 @@ fn unknown_in(e: &Expr) -> Option<&Unknown>
 #[tactic(auto, unfolding(cedar_model::specs::Operators::mapped, cedar_model::specs::Operators::typed_value))]
 pub(crate) fn mapped(
     alloc: Global,
-    whole: &Part,
+    whole: &SharedExpr,
     mapper: &Mapper<'_>,
     e: &Expr,
     unknown: &Unknown,
@@ -152,7 +152,7 @@ fn value_of<'v>(mapper: &Mapper<'v>, name: &RcStr) -> Option<&'v Value>
 
 // The value, if it is of this type.
 #[tactic(auto, unfolding(cedar_model::specs::Operators::typed_value))]
-fn of_type(alloc: Global, whole: &Part, value: &Value, ty: &Type) -> Result<Next, AllocError>
+fn of_type(alloc: Global, whole: &SharedExpr, value: &Value, ty: &Type) -> Result<Next, AllocError>
     ensures { IfOk result (λ n. Gives (expr_loc whole.now.value) n
         (typed_value (Some (type_view ty.now)) value.now.what)) }
 {
@@ -174,7 +174,7 @@ fn same_type(ty: &Type, other: &Type) -> bool
 // That a value of this type is expected.
 #[cold]
 #[inline(never)]
-fn wrong_type(alloc: Global, whole: &Part, ty: Type, value: &Value) -> Next
+fn wrong_type(alloc: Global, whole: &SharedExpr, ty: Type, value: &Value) -> Next
     ensures { Gives (expr_loc whole.now.value) result
         (fails (wrong_type (type_view ty) [] (abstract_value value.now.what))) }
 {
@@ -182,7 +182,7 @@ fn wrong_type(alloc: Global, whole: &Part, ty: Type, value: &Value) -> Next
 }
 
 // The unknown is left.
-fn left(alloc: Global, whole: &Part, e: Expr) -> Next
+fn left(alloc: Global, whole: &SharedExpr, e: Expr) -> Next
     requires { has_unknown (view e) ≡ true }
     ensures { Gives (expr_loc whole.now.value) result (answers_residual (view e)) }
 {

@@ -21,5 +21,5 @@ step_view (steps.WalksOn v) = walks_on v.now.what
 step_view (steps.Stops r) = stops (partial_answer r)
 
 -- a step finds this, unless it finds no memory
-abbrev pub StepsTo : PathStep → Step → Type 0
-StepsTo p s = step_view p ≢ stops (fails out_of_memory) → step_view p ≡ s
+abbrev pub FindsStep : PathStep → Step → Type 0
+FindsStep p s = step_view p ≢ stops (fails out_of_memory) → step_view p ≡ s

@@ -16,7 +16,7 @@ ghost use Rattle.cedar_values.specs.Sound.{whats_at};
 ghost use Rattle.cedar_layers.specs.Stores.{store_view, entity_view};
 ghost use Rattle.cedar_errors.specs.Answers.{AnswersWith};
 ghost use Rattle.cedar_operators.specs.Operands.{over, unknown_term};
-ghost use Rattle.cedar_operators.specs.Paths.{container_view, StepsTo};
+ghost use Rattle.cedar_operators.specs.Paths.{container_view, FindsStep};
 
 use crate::failures::or_entity_expected;
 use crate::missing::{no_such_attribute, no_such_key};
@@ -232,7 +232,7 @@ fn step<'v>(
     attr: &RcStr,
     after: (&RcStr, &[RcStr]),
 ) -> PathStep<'v>
-    ensures { StepsTo result (step_in (store_view entities.now) (container_of value.now.what)
+    ensures { FindsStep result (step_in (store_view entities.now) (container_of value.now.what)
         (container_expected value.now.what) (rc_str_bytes attr.now) (rc_str_bytes after.entry.0.now)
         (texts_view after.entry.1.now)) }
 {
@@ -248,7 +248,7 @@ fn step<'v>(
 // The value at the key to walk on from, if there is one.
 #[tactic(auto, unfolding(cedar_model::specs::Operators::step_to))]
 fn step_of_record<'v>(pairs: &'v BTreeMap<RcStr, Value>, attr: &RcStr) -> PathStep<'v>
-    ensures { StepsTo result (step_to (represented_at (rc_str_bytes attr.now) (whats_at pairs.now.entries))) }
+    ensures { FindsStep result (step_to (represented_at (rc_str_bytes attr.now) (whats_at pairs.now.entries))) }
 {
     match pairs.get(attr) {
         Some(value) => PathStep::WalksOn(value),
@@ -265,7 +265,7 @@ fn step_of_entity<'v>(
     attr: &RcStr,
     after: (&RcStr, &[RcStr]),
 ) -> PathStep<'v>
-    ensures { StepsTo result (step_found (look_up (store_view entities.now) (uid_name uid.now)) (uid_name uid.now)
+    ensures { FindsStep result (step_found (look_up (store_view entities.now) (uid_name uid.now)) (uid_name uid.now)
         (rc_str_bytes attr.now) (rc_str_bytes after.entry.0.now) (texts_view after.entry.1.now)) }
 {
     match entities.entity(alloc, uid) {
@@ -288,7 +288,7 @@ fn stored_step<'v>(
     attr: &RcStr,
     after: (&RcStr, &[RcStr]),
 ) -> PathStep<'v>
-    ensures { StepsTo result (step_to_stored (part_at (rc_str_bytes attr.now) (entity_view entity.now).attributes)
+    ensures { FindsStep result (step_to_stored (part_at (rc_str_bytes attr.now) (entity_view entity.now).attributes)
         (rc_str_bytes after.entry.0.now) (texts_view after.entry.1.now)) }
 {
     match entity.get(attr) {

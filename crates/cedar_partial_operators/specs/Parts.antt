@@ -48,7 +48,7 @@ Projects May (interpreted_again t) a = May t a
 
 abbrev pub projected_view : Projected → Projection
 projected_view (projections.Answer r) = answered (partial_answer r)
-projected_view (projections.Part e) = interpreted_again (view e)
+projected_view (projections.Attribute e) = interpreted_again (view e)
 
 -- a call comes to this, unless it finds no memory
 abbrev pub ProjectsTo : Projected → Projection → Type 0

@@ -33,7 +33,7 @@ pub enum Projected {
     /// An answer.
     Answer(Result<PartialValue, EvaluationError>),
     /// A part of a record, which is to be interpreted again.
-    Part(Expr),
+    Attribute(Expr),
 }
 
 /// `part.attr`: of a value as `attribute_of` answers. Of a residual that is a projectable record the part at this
@@ -97,7 +97,7 @@ fn again(part: &Expr) -> Projected
     ensures { ProjectsTo result (interpreted_again (view part.now)) }
 {
     match part.clone() {
-        Ok(part) => Projected::Part(part),
+        Ok(part) => Projected::Attribute(part),
         Err(error) => Projected::Answer(Err(EvaluationError::Memory(error))),
     }
 }

@@ -62,7 +62,7 @@ pub fn binary_of_parts(
     }
 }
 
-// The operator around both parts, of which one is a residual, unless their types tell the answer.
+// The operator around both parts, of which one is a residual, unless their types decide the answer.
 fn kept(
     alloc: Global,
     op: BinaryOp,
@@ -93,7 +93,7 @@ fn around(
     ensures { AnswersWith result (answers_residual (binary (binary_view op) (part_expression (partial_view first))
         (part_expression (partial_view second)))) }
 {
-    let (left, right) = both(into_expr(alloc, first), into_expr(alloc, second))?;
+    let (left, right) = pair_of(into_expr(alloc, first), into_expr(alloc, second))?;
     residual_binary(alloc, op, left, right)
 }
 
@@ -112,7 +112,7 @@ fn residual_binary(
 }
 
 // Both, or the first error.
-fn both<A: Drop, B: Drop>(
+fn pair_of<A: Drop, B: Drop>(
     first: Result<A, AllocError>,
     second: Result<B, AllocError>,
 ) -> Result<(A, B), AllocError>

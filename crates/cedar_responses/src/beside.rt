@@ -18,7 +18,7 @@ pub(crate) fn beside<H: Drop, T: Drop>(
 }
 
 // Both, or the first that is refused.
-pub(crate) fn both<A: Drop, B: Drop>(
+pub(crate) fn pair_of<A: Drop, B: Drop>(
     first: Result<A, AllocError>,
     second: Result<B, AllocError>,
 ) -> Result<(A, B), AllocError>
@@ -42,9 +42,9 @@ pub(crate) fn all_four<A: Drop, B: Drop, C: Drop, D: Drop>(
     ensures third { IfOk result (λ p. third ≡ Ok p.2) }
     ensures fourth { IfOk result (λ p. fourth ≡ Ok p.3) }
 {
-    let firsts = both(first, second);
-    let lasts = both(third, fourth);
-    let all = both(firsts, lasts)?;
+    let firsts = pair_of(first, second);
+    let lasts = pair_of(third, fourth);
+    let all = pair_of(firsts, lasts)?;
     let ((first, second), (third, fourth)) = all;
     Ok((first, second, third, fourth))
 }

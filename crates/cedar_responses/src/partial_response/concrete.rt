@@ -14,7 +14,7 @@ ghost use Rattle.cedar_responses.specs.Concrete.{id_texts, reason_texts, errors_
 ghost use Rattle.cedar_responses.specs.Readers.{entry_ids};
 
 use super::PartialResponse;
-use crate::beside::{add_last, beside, both};
+use crate::beside::{add_last, beside, pair_of};
 use crate::err::AuthorizationError;
 use crate::response::{Diagnostics, Response};
 use cedar_decisions::ErrorHandling;
@@ -98,7 +98,7 @@ fn diagnostics_of(
     ensures reason { IfOk result (λ d. reason ≡ Ok d.reason) }
     ensures errors { IfOk result (λ d. errors ≡ Ok d.errors) }
 {
-    let (reason, errors) = both(reason, errors)?;
+    let (reason, errors) = pair_of(reason, errors)?;
     Ok(Diagnostics { reason, errors })
 }
 

@@ -5,7 +5,7 @@ ghost use Rattle.cedar_expressions.specs.View.{view, expr_loc};
 ghost use Rattle.cedar_layers.specs.Policies.{effect_view, policy_id_text, annotations_view, policy_parts};
 ghost use Rattle.cedar_responses.specs.Readers.{made_view, made};
 
-use crate::beside::{both, in_rc};
+use crate::beside::{in_rc, pair_of};
 use cedar_expressions::Expr;
 use cedar_layers::policies::{Annotations, Effect, Policy, PolicyID};
 use cedar_names::Literal;
@@ -25,8 +25,8 @@ pub(super) fn policy_of_truth(
     ensures clause { IfOk result (λ p. expr_loc (policy_parts p).when ≡ None) }
 {
     let clause = in_rc(alloc, Expr::val(Literal::Bool(is_true)));
-    let named = both(id.clone(), annotations.clone());
-    let (clause, (id, annotations)) = both(clause, named)?;
+    let named = pair_of(id.clone(), annotations.clone());
+    let (clause, (id, annotations)) = pair_of(clause, named)?;
     Policy::from_when_clause_annos(alloc, effect, clause, id, None, annotations)
 }
 
@@ -43,7 +43,7 @@ pub(super) fn policy_of_residual(
     ensures clause { IfOk result (λ p. (policy_parts p).when ≡ residual.now.value) }
 {
     let loc = residual.source_loc().copied();
-    let named = both(id.clone(), annotations.clone());
-    let (clause, (id, annotations)) = both(residual.clone(), named)?;
+    let named = pair_of(id.clone(), annotations.clone());
+    let (clause, (id, annotations)) = pair_of(residual.clone(), named)?;
     Policy::from_when_clause_annos(alloc, effect, clause, id, loc, annotations)
 }

@@ -6,7 +6,7 @@ use Rattle.cedar_errors.specs.Answers.{partial_answer}
 use Rattle.cedar_errors.specs.Failures.{failure_of}
 use Rattle.cedar_layers.specs.Policies.{slots_view}
 use Rattle.cedar_evaluator.specs.Evaluations.{setting_of, calls_in}
-use Rattle.cedar_evaluator.specs.Told.{RunsWith}
+use Rattle.cedar_evaluator.specs.Direct.{RunsWith}
 use Rattle.cedar_evaluator.proofs.Joined.{failed_left}
 use Rattle.cedar_evaluator.proofs.evaluator.Evaluator.beside.Goals as goal
 

@@ -8,23 +8,23 @@ use Rattle.cedar_errors.specs.Answers.{partial_answer}
 use Rattle.cedar_interpreter.specs.Promises.{IsPromised}
 use Rattle.cedar_evaluator.specs.Decisions.{partly_decided, PartlyDecidesBy}
 use Rattle.cedar_evaluator.specs.Evaluations.{variables_of, request_in, setting_of, calls_in}
-use Rattle.cedar_evaluator.specs.Told.{scope_term, IsToldFrom, RunsWith}
+use Rattle.cedar_evaluator.specs.Direct.{scope_term, AnswersFrom, RunsWith}
 use Rattle.cedar_evaluator.proofs.Requests.{says}
-use Rattle.cedar_evaluator.proofs.Told.{beside_true_bool, bool_promised, beside_promised}
+use Rattle.cedar_evaluator.proofs.Direct.{beside_true_bool, bool_promised, beside_promised}
 use Rattle.cedar_evaluator.proofs.evaluator.Evaluator.decide_by_clause.Goals as goal
 
 pub returns-in-Some-clause-decides : goal.returns-in-Some-clause-decides
-returns-in-Some-clause-decides g c told ok =
+returns-in-Some-clause-decides g c direct ok =
     let p = policy_view c.args.policy.now in
     let v = c.args.self.now in
     let two : 2 ≤ 4 = omega arith in
     bool_promised v p.slots v.limit (condition_term p) c.in-Some.is_true
-    (beside_true_bool v 4 (scope_term p) p.when_clause c.in-Some.is_true two told
-    (subst (λ (t : Term). IsToldFrom v 2 t (answers_bool c.in-Some.is_true)) c.when_clause-clause.ensures.view c.in-Some.ensures)
+    (beside_true_bool v 4 (scope_term p) p.when_clause c.in-Some.is_true two direct
+    (subst (λ (t : Term). AnswersFrom v 2 t (answers_bool c.in-Some.is_true)) c.when_clause-clause.ensures.view c.in-Some.ensures)
     v.limit c.requires p.slots)
 
 pub returns-in-None-clause-decides : goal.returns-in-None-clause-decides
-returns-in-None-clause-decides g c told =
+returns-in-None-clause-decides g c direct =
     let p = policy_view c.args.policy.now in
     let v = c.args.self.now in
     let answer = partial_answer c.interpret-answer.result in
@@ -35,7 +35,7 @@ returns-in-None-clause-decides g c told =
     c.interpret-answer.ensures.runs (request_in v) (says (variables_of v.given) v.of_request) in
     subst (λ n. PartlyDecidesBy (IsPromised (setting_of v p.slots) (calls_in v) n (condition_term p)) c.beside_true.result) levels
     (beside_promised v p.slots (v.limit - 1) (scope_term p) p.when_clause answer (partly_decided c.beside_true.result)
-    (told (v.limit - 1) enough)
+    (direct (v.limit - 1) enough)
     (subst (λ (s : Slots). RunsWith v s (v.limit - 1) p.when_clause answer) c.env.ensures
     (subst (λ (t : Term). RunsWith v slots (v.limit - 1) t answer) c.when_clause-clause.ensures.view runs))
     c.beside_true.ensures.decides)

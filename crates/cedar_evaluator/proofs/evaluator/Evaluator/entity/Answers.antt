@@ -8,13 +8,13 @@ use Rattle.cedar_values.specs.Residuals.{partial_view}
 use Rattle.cedar_expressions.specs.View.{view, kind_view}
 use Rattle.cedar_expressions.proofs.Levels as levels
 use Rattle.cedar_interpreter.specs.Settings.{given_for}
-use Rattle.cedar_evaluator.specs.Told.{IsToldFrom}
-use Rattle.cedar_evaluator.proofs.Told.{literal_entity_told, variable_entity_told}
+use Rattle.cedar_evaluator.specs.Direct.{AnswersFrom}
+use Rattle.cedar_evaluator.proofs.Direct.{literal_entity_direct, variable_entity_direct}
 use Rattle.cedar_evaluator.proofs.evaluator.Evaluator.entity.Goals as goal
 
 pub returns-in-Lit : goal.returns-in-Lit
 returns-in-Lit g c =
-    literal_entity_told c.args.self.now (λ u. uid_name u.now) (view c.args.e.now) _ c.entity_in_literal.result
+    literal_entity_direct c.args.self.now (λ u. uid_name u.now) (view c.args.e.now) _ c.entity_in_literal.result
     (sym c.expr_kind.ensures.view ∙ ap kind_view c.in-Lit.is ∙ levels.kind_view-Lit _) c.entity_in_literal.ensures
 
 pub returns-in-Var : goal.returns-in-Var
@@ -22,7 +22,7 @@ returns-in-Var g c =
     let v = c.args.self.now in
     let x = variable_view c.in-Var.var in
     let is : given_for v.given x ≡ c.given_for.result.now = sym c.given_for.ensures in
-    subst (λ (t : Term). IfSome c.entity_at_hand.result (λ u. IsToldFrom v 1 t (answers_value (plain_represented (entity_literal (uid_name u.now))))))
+    subst (λ (t : Term). IfSome c.entity_at_hand.result (λ u. AnswersFrom v 1 t (answers_value (plain_represented (entity_literal (uid_name u.now))))))
     (sym (levels.kind_view-Var _) ∙ sym (ap kind_view c.in-Var.is) ∙ c.expr_kind.ensures.view)
-    (variable_entity_told v (λ u. uid_name u.now) x c.entity_at_hand.result
+    (variable_entity_direct v (λ u. uid_name u.now) x c.entity_at_hand.result
     (subst (λ p. IfSome c.entity_at_hand.result (λ u. partial_view p ≡ value (plain_represented (entity_literal (uid_name u.now))))) (sym is) c.entity_at_hand.ensures))

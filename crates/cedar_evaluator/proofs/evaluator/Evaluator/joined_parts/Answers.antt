@@ -4,7 +4,7 @@ use Rattle.cedar_model.specs.World.{Slots}
 use Rattle.cedar_expressions.specs.View.{view}
 use Rattle.cedar_errors.specs.Answers.{partial_answer}
 use Rattle.cedar_layers.specs.Policies.{slots_view, policy_view, condition_term}
-use Rattle.cedar_evaluator.specs.Told.{RunsWith}
+use Rattle.cedar_evaluator.specs.Direct.{RunsWith}
 use Rattle.cedar_evaluator.proofs.evaluator.Evaluator.joined_parts.Goals as goal
 
 pub returns-clause-answer : goal.returns-clause-answer

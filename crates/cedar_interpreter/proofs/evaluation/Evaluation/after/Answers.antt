@@ -3,99 +3,99 @@ use Rattle.cedar_model.specs.Failures.{answers}
 use Rattle.cedar_expressions.specs.View.{expr_loc}
 use Rattle.cedar_values.specs.Residuals.{partial_view}
 use Rattle.cedar_interpreter.specs.declared.frame.Pending.TheVariants as pendings
-use Rattle.cedar_interpreter.specs.Laws.{gives_goes_on}
-use Rattle.cedar_interpreter.specs.Settings.{setting_of, calls_in}
-use Rattle.cedar_interpreter.specs.Steps.{GoesOnIn, goes_on_in}
+use Rattle.cedar_interpreter.specs.Laws.{gives_continues}
+use Rattle.cedar_interpreter.specs.Settings.{evaluation_setting, calls_in}
+use Rattle.cedar_interpreter.specs.Continuations.{ContinuesIn, continues_in}
 use Rattle.cedar_interpreter.proofs.evaluation.Evaluation.after.Goals as goal
 
 pub returns-in-Passed : goal.returns-in-Passed
 returns-in-Passed g c =
     let x = answers (partial_view c.args.answer.value) in
-    subst (λ p. GoesOnIn c.args.self.now c.args.levels c.args.whole p x c.put_at.result) (sym c.in-Passed.is)
-    (goes_on_in c.args.self.now c.args.levels c.args.whole pendings.Passed x c.put_at.result
-    (λ r k. gives_goes_on (setting_of r c.args.self.now) (calls_in c.args.self.now) k (expr_loc c.args.whole.value) pendings.Passed x x c.put_at.result (λ a ok is. is) c.put_at.ensures.answer))
+    subst (λ p. ContinuesIn c.args.self.now c.args.levels c.args.whole p x c.put_at.result) (sym c.in-Passed.is)
+    (continues_in c.args.self.now c.args.levels c.args.whole pendings.Passed x c.put_at.result
+    (λ r k. gives_continues (evaluation_setting r c.args.self.now) (calls_in c.args.self.now) k (expr_loc c.args.whole.value) pendings.Passed x x c.put_at.result (λ a ok is. is) c.put_at.ensures.answer))
 
 pub returns-in-Guard : goal.returns-in-Guard
 returns-in-Guard g c =
-    subst (λ p. GoesOnIn c.args.self.now c.args.levels c.args.whole p (answers (partial_view c.args.answer.value)) c.after_guard.result) (sym c.in-Guard.is)
-    (goes_on_in c.args.self.now c.args.levels c.args.whole (pendings.Guard c.in-Guard.then_expr c.in-Guard.else_expr) (answers (partial_view c.args.answer.value)) c.after_guard.result c.after_guard.ensures)
+    subst (λ p. ContinuesIn c.args.self.now c.args.levels c.args.whole p (answers (partial_view c.args.answer.value)) c.after_guard.result) (sym c.in-Guard.is)
+    (continues_in c.args.self.now c.args.levels c.args.whole (pendings.Guard c.in-Guard.then_expr c.in-Guard.else_expr) (answers (partial_view c.args.answer.value)) c.after_guard.result c.after_guard.ensures)
 
 pub returns-in-Then : goal.returns-in-Then
 returns-in-Then g c =
-    subst (λ p. GoesOnIn c.args.self.now c.args.levels c.args.whole p (answers (partial_view c.args.answer.value)) c.after_then.result) (sym c.in-Then.is)
-    (goes_on_in c.args.self.now c.args.levels c.args.whole (pendings.Then c.in-Then.first) (answers (partial_view c.args.answer.value)) c.after_then.result c.after_then.ensures)
+    subst (λ p. ContinuesIn c.args.self.now c.args.levels c.args.whole p (answers (partial_view c.args.answer.value)) c.after_then.result) (sym c.in-Then.is)
+    (continues_in c.args.self.now c.args.levels c.args.whole (pendings.Then c.in-Then.first) (answers (partial_view c.args.answer.value)) c.after_then.result c.after_then.ensures)
 
 pub returns-in-Else : goal.returns-in-Else
 returns-in-Else g c =
-    subst (λ p. GoesOnIn c.args.self.now c.args.levels c.args.whole p (answers (partial_view c.args.answer.value)) c.after_else.result) (sym c.in-Else.is)
-    (goes_on_in c.args.self.now c.args.levels c.args.whole (pendings.Else c.in-Else.second) (answers (partial_view c.args.answer.value)) c.after_else.result c.after_else.ensures)
+    subst (λ p. ContinuesIn c.args.self.now c.args.levels c.args.whole p (answers (partial_view c.args.answer.value)) c.after_else.result) (sym c.in-Else.is)
+    (continues_in c.args.self.now c.args.levels c.args.whole (pendings.Else c.in-Else.second) (answers (partial_view c.args.answer.value)) c.after_else.result c.after_else.ensures)
 
 pub returns-in-AndLeft : goal.returns-in-AndLeft
 returns-in-AndLeft g c =
-    subst (λ p. GoesOnIn c.args.self.now c.args.levels c.args.whole p (answers (partial_view c.args.answer.value)) c.after_and_left.result) (sym c.in-AndLeft.is)
+    subst (λ p. ContinuesIn c.args.self.now c.args.levels c.args.whole p (answers (partial_view c.args.answer.value)) c.after_and_left.result) (sym c.in-AndLeft.is)
     c.after_and_left.ensures
 
 pub returns-in-AndRight : goal.returns-in-AndRight
 returns-in-AndRight g c =
-    subst (λ p. GoesOnIn c.args.self.now c.args.levels c.args.whole p (answers (partial_view c.args.answer.value)) c.after_and_right.result) (sym c.in-AndRight.is)
-    (goes_on_in c.args.self.now c.args.levels c.args.whole pendings.AndRight (answers (partial_view c.args.answer.value)) c.after_and_right.result c.after_and_right.ensures)
+    subst (λ p. ContinuesIn c.args.self.now c.args.levels c.args.whole p (answers (partial_view c.args.answer.value)) c.after_and_right.result) (sym c.in-AndRight.is)
+    (continues_in c.args.self.now c.args.levels c.args.whole pendings.AndRight (answers (partial_view c.args.answer.value)) c.after_and_right.result c.after_and_right.ensures)
 
 pub returns-in-AndKept : goal.returns-in-AndKept
 returns-in-AndKept g c =
-    subst (λ p. GoesOnIn c.args.self.now c.args.levels c.args.whole p (answers (partial_view c.args.answer.value)) c.after_and_kept.result) (sym c.in-AndKept.is)
-    (goes_on_in c.args.self.now c.args.levels c.args.whole (pendings.AndKept c.in-AndKept.left c.in-AndKept.right) (answers (partial_view c.args.answer.value)) c.after_and_kept.result c.after_and_kept.ensures)
+    subst (λ p. ContinuesIn c.args.self.now c.args.levels c.args.whole p (answers (partial_view c.args.answer.value)) c.after_and_kept.result) (sym c.in-AndKept.is)
+    (continues_in c.args.self.now c.args.levels c.args.whole (pendings.AndKept c.in-AndKept.left c.in-AndKept.right) (answers (partial_view c.args.answer.value)) c.after_and_kept.result c.after_and_kept.ensures)
 
 pub returns-in-OrLeft : goal.returns-in-OrLeft
 returns-in-OrLeft g c =
-    subst (λ p. GoesOnIn c.args.self.now c.args.levels c.args.whole p (answers (partial_view c.args.answer.value)) c.after_or_left.result) (sym c.in-OrLeft.is)
+    subst (λ p. ContinuesIn c.args.self.now c.args.levels c.args.whole p (answers (partial_view c.args.answer.value)) c.after_or_left.result) (sym c.in-OrLeft.is)
     c.after_or_left.ensures
 
 pub returns-in-OrRight : goal.returns-in-OrRight
 returns-in-OrRight g c =
-    subst (λ p. GoesOnIn c.args.self.now c.args.levels c.args.whole p (answers (partial_view c.args.answer.value)) c.after_or_right.result) (sym c.in-OrRight.is)
-    (goes_on_in c.args.self.now c.args.levels c.args.whole pendings.OrRight (answers (partial_view c.args.answer.value)) c.after_or_right.result c.after_or_right.ensures)
+    subst (λ p. ContinuesIn c.args.self.now c.args.levels c.args.whole p (answers (partial_view c.args.answer.value)) c.after_or_right.result) (sym c.in-OrRight.is)
+    (continues_in c.args.self.now c.args.levels c.args.whole pendings.OrRight (answers (partial_view c.args.answer.value)) c.after_or_right.result c.after_or_right.ensures)
 
 pub returns-in-OrKept : goal.returns-in-OrKept
 returns-in-OrKept g c =
-    subst (λ p. GoesOnIn c.args.self.now c.args.levels c.args.whole p (answers (partial_view c.args.answer.value)) c.after_or_kept.result) (sym c.in-OrKept.is)
-    (goes_on_in c.args.self.now c.args.levels c.args.whole (pendings.OrKept c.in-OrKept.left c.in-OrKept.right) (answers (partial_view c.args.answer.value)) c.after_or_kept.result c.after_or_kept.ensures)
+    subst (λ p. ContinuesIn c.args.self.now c.args.levels c.args.whole p (answers (partial_view c.args.answer.value)) c.after_or_kept.result) (sym c.in-OrKept.is)
+    (continues_in c.args.self.now c.args.levels c.args.whole (pendings.OrKept c.in-OrKept.left c.in-OrKept.right) (answers (partial_view c.args.answer.value)) c.after_or_kept.result c.after_or_kept.ensures)
 
 pub returns-in-Unary : goal.returns-in-Unary
 returns-in-Unary g c =
-    subst (λ p. GoesOnIn c.args.self.now c.args.levels c.args.whole p (answers (partial_view c.args.answer.value)) c.after_operand.result) (sym c.in-Unary.is)
-    (goes_on_in c.args.self.now c.args.levels c.args.whole (pendings.Unary c.in-Unary.op) (answers (partial_view c.args.answer.value)) c.after_operand.result c.after_operand.ensures)
+    subst (λ p. ContinuesIn c.args.self.now c.args.levels c.args.whole p (answers (partial_view c.args.answer.value)) c.after_operand.result) (sym c.in-Unary.is)
+    (continues_in c.args.self.now c.args.levels c.args.whole (pendings.Unary c.in-Unary.op) (answers (partial_view c.args.answer.value)) c.after_operand.result c.after_operand.ensures)
 
 pub returns-in-BinaryLeft : goal.returns-in-BinaryLeft
 returns-in-BinaryLeft g c =
-    subst (λ p. GoesOnIn c.args.self.now c.args.levels c.args.whole p (answers (partial_view c.args.answer.value)) c.after_left.result) (sym c.in-BinaryLeft.is)
+    subst (λ p. ContinuesIn c.args.self.now c.args.levels c.args.whole p (answers (partial_view c.args.answer.value)) c.after_left.result) (sym c.in-BinaryLeft.is)
     c.after_left.ensures
 
 pub returns-in-BinaryRight : goal.returns-in-BinaryRight
 returns-in-BinaryRight g c =
-    subst (λ p. GoesOnIn c.args.self.now c.args.levels c.args.whole p (answers (partial_view c.args.answer.value)) c.after_right.result) (sym c.in-BinaryRight.is)
-    (goes_on_in c.args.self.now c.args.levels c.args.whole (pendings.BinaryRight c.in-BinaryRight.op c.in-BinaryRight.left) (answers (partial_view c.args.answer.value)) c.after_right.result c.after_right.ensures)
+    subst (λ p. ContinuesIn c.args.self.now c.args.levels c.args.whole p (answers (partial_view c.args.answer.value)) c.after_right.result) (sym c.in-BinaryRight.is)
+    (continues_in c.args.self.now c.args.levels c.args.whole (pendings.BinaryRight c.in-BinaryRight.op c.in-BinaryRight.left) (answers (partial_view c.args.answer.value)) c.after_right.result c.after_right.ensures)
 
 pub returns-in-GetAttr : goal.returns-in-GetAttr
 returns-in-GetAttr g c =
-    subst (λ p. GoesOnIn c.args.self.now c.args.levels c.args.whole p (answers (partial_view c.args.answer.value)) c.after_container.result) (sym c.in-GetAttr.is)
-    (goes_on_in c.args.self.now c.args.levels c.args.whole (pendings.GetAttr c.in-GetAttr.attr) (answers (partial_view c.args.answer.value)) c.after_container.result c.after_container.ensures)
+    subst (λ p. ContinuesIn c.args.self.now c.args.levels c.args.whole p (answers (partial_view c.args.answer.value)) c.after_container.result) (sym c.in-GetAttr.is)
+    (continues_in c.args.self.now c.args.levels c.args.whole (pendings.GetAttr c.in-GetAttr.attr) (answers (partial_view c.args.answer.value)) c.after_container.result c.after_container.ensures)
 
 pub returns-in-HasAttr : goal.returns-in-HasAttr
 returns-in-HasAttr g c =
-    subst (λ p. GoesOnIn c.args.self.now c.args.levels c.args.whole p (answers (partial_view c.args.answer.value)) c.after_tested.result) (sym c.in-HasAttr.is)
-    (goes_on_in c.args.self.now c.args.levels c.args.whole (pendings.HasAttr c.in-HasAttr.attr) (answers (partial_view c.args.answer.value)) c.after_tested.result c.after_tested.ensures)
+    subst (λ p. ContinuesIn c.args.self.now c.args.levels c.args.whole p (answers (partial_view c.args.answer.value)) c.after_tested.result) (sym c.in-HasAttr.is)
+    (continues_in c.args.self.now c.args.levels c.args.whole (pendings.HasAttr c.in-HasAttr.attr) (answers (partial_view c.args.answer.value)) c.after_tested.result c.after_tested.ensures)
 
 pub returns-in-ExtHasAttr : goal.returns-in-ExtHasAttr
 returns-in-ExtHasAttr g c =
-    subst (λ p. GoesOnIn c.args.self.now c.args.levels c.args.whole p (answers (partial_view c.args.answer.value)) c.after_walked.result) (sym c.in-ExtHasAttr.is)
-    (goes_on_in c.args.self.now c.args.levels c.args.whole (pendings.ExtHasAttr c.in-ExtHasAttr.attrs) (answers (partial_view c.args.answer.value)) c.after_walked.result c.after_walked.ensures)
+    subst (λ p. ContinuesIn c.args.self.now c.args.levels c.args.whole p (answers (partial_view c.args.answer.value)) c.after_walked.result) (sym c.in-ExtHasAttr.is)
+    (continues_in c.args.self.now c.args.levels c.args.whole (pendings.ExtHasAttr c.in-ExtHasAttr.attrs) (answers (partial_view c.args.answer.value)) c.after_walked.result c.after_walked.ensures)
 
 pub returns-in-Like : goal.returns-in-Like
 returns-in-Like g c =
-    subst (λ p. GoesOnIn c.args.self.now c.args.levels c.args.whole p (answers (partial_view c.args.answer.value)) c.after_text.result) (sym c.in-Like.is)
-    (goes_on_in c.args.self.now c.args.levels c.args.whole (pendings.Like c.in-Like.pattern) (answers (partial_view c.args.answer.value)) c.after_text.result c.after_text.ensures)
+    subst (λ p. ContinuesIn c.args.self.now c.args.levels c.args.whole p (answers (partial_view c.args.answer.value)) c.after_text.result) (sym c.in-Like.is)
+    (continues_in c.args.self.now c.args.levels c.args.whole (pendings.Like c.in-Like.pattern) (answers (partial_view c.args.answer.value)) c.after_text.result c.after_text.ensures)
 
 pub returns-in-Is : goal.returns-in-Is
 returns-in-Is g c =
-    subst (λ p. GoesOnIn c.args.self.now c.args.levels c.args.whole p (answers (partial_view c.args.answer.value)) c.after_entity.result) (sym c.in-Is.is)
-    (goes_on_in c.args.self.now c.args.levels c.args.whole (pendings.Is c.in-Is.entity_type) (answers (partial_view c.args.answer.value)) c.after_entity.result c.after_entity.ensures)
+    subst (λ p. ContinuesIn c.args.self.now c.args.levels c.args.whole p (answers (partial_view c.args.answer.value)) c.after_entity.result) (sym c.in-Is.is)
+    (continues_in c.args.self.now c.args.levels c.args.whole (pendings.Is c.in-Is.entity_type) (answers (partial_view c.args.answer.value)) c.after_entity.result c.after_entity.ensures)

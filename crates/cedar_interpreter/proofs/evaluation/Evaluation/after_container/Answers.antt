@@ -5,14 +5,14 @@ use Rattle.cedar_model.specs.Rules.{Runs}
 use Rattle.cedar_expressions.specs.View.{expr_loc}
 use Rattle.cedar_values.specs.Residuals.{partial_view, residual_term}
 use Rattle.cedar_interpreter.specs.declared.frame.Pending.TheVariants as pendings
-use Rattle.cedar_interpreter.specs.Settings.{setting_of, calls_in}
+use Rattle.cedar_interpreter.specs.Settings.{evaluation_setting, calls_in}
 use Rattle.cedar_interpreter.specs.Stored.{part_read}
 use Rattle.cedar_interpreter.specs.Laws.{passed_again}
 use Rattle.cedar_interpreter.proofs.evaluation.Evaluation.after_container.Goals as goal
 
 pub returns-in-Some : goal.returns-in-Some
 returns-in-Some g c r k =
-    let s = setting_of r c.args.self.now in
+    let s = evaluation_setting r c.args.self.now in
     let calls = calls_in c.args.self.now in
     let part = partial_view c.args.container.value in
     let key = rc_str_bytes c.args.attr.now in

@@ -4,19 +4,19 @@ use Rattle.cedar_model.specs.Rules.{Runs}
 use Rattle.cedar_expressions.specs.View.{view}
 use Rattle.cedar_values.specs.Residuals.{partial_view}
 use Rattle.cedar_interpreter.specs.declared.frame.Pending.TheVariants as pendings
-use Rattle.cedar_interpreter.specs.Settings.{setting_of, calls_in}
-use Rattle.cedar_interpreter.specs.Laws.{waiting_goes_on}
-use Rattle.cedar_interpreter.specs.Steps.{goes_on_in}
-use Rattle.cedar_interpreter.specs.Told.{told_goes_on}
+use Rattle.cedar_interpreter.specs.Settings.{evaluation_setting, calls_in}
+use Rattle.cedar_interpreter.specs.Laws.{waiting_continues}
+use Rattle.cedar_interpreter.specs.Continuations.{continues_in}
+use Rattle.cedar_interpreter.specs.Direct.{direct_continues}
 use Rattle.cedar_interpreter.proofs.evaluation.Evaluation.after_left.Goals as goal
 
 pub returns-in-Some : goal.returns-in-Some
 returns-in-Some g c =
     let e = c.args.self.now in
     let v = answers_value c.in-Some.right.what in
-    told_goes_on e c.args.levels c.args.whole.now (pendings.BinaryLeft c.args.op c.args.right.now) (pendings.BinaryRight c.args.op c.args.left)
+    direct_continues e c.args.levels c.args.whole.now (pendings.BinaryLeft c.args.op c.args.right.now) (pendings.BinaryRight c.args.op c.args.left)
     (answers (partial_view c.args.left.value)) v c.applied.result (omega arith)
-    (λ r k speaks low a uses. (v, subst (λ d. Runs (setting_of r e) (calls_in e) (suc k) (view d) v) c.deref.ensures (c.in-Some.ensures.told r (suc k) speaks low), uses))
+    (λ r k speaks low a uses. (v, subst (λ d. Runs (evaluation_setting r e) (calls_in e) (suc k) (view d) v) c.deref.ensures (c.in-Some.ensures.direct r (suc k) speaks low), uses))
     c.applied.ensures
 
 pub returns-in-None : goal.returns-in-None
@@ -24,6 +24,6 @@ returns-in-None g c =
     let e = c.args.self.now in
     let x = answers (partial_view c.args.left.value) in
     let p = pendings.BinaryLeft c.args.op c.args.right.now in
-    goes_on_in e c.args.levels c.args.whole.now p x c.right_operand.result
-    (λ r k. waiting_goes_on (setting_of r e) (calls_in e) k c.args.whole.now p (pendings.BinaryRight c.args.op c.args.left) x c.args.right.now c.right_operand.result
+    continues_in e c.args.levels c.args.whole.now p x c.right_operand.result
+    (λ r k. waiting_continues (evaluation_setting r e) (calls_in e) k c.args.whole.now p (pendings.BinaryRight c.args.op c.args.left) x c.args.right.now c.right_operand.result
     (omega arith) (λ y a runs uses. (y, runs, uses)) c.right_operand.ensures)

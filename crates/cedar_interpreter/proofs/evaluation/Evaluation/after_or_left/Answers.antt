@@ -6,10 +6,10 @@ use Rattle.cedar_expressions.specs.View.{view}
 use Rattle.cedar_values.specs.Residuals.{partial_view}
 use Rattle.cedar_interpreter.specs.declared.frame.Pending.TheVariants as pendings
 use Rattle.cedar_interpreter.specs.Booleans.{part_bool, or_true}
-use Rattle.cedar_interpreter.specs.Settings.{setting_of, calls_in}
+use Rattle.cedar_interpreter.specs.Settings.{evaluation_setting, calls_in}
 use Rattle.cedar_interpreter.specs.Tasks.{Uses}
-use Rattle.cedar_interpreter.specs.Steps.{goes_on_in, or_want_at}
-use Rattle.cedar_interpreter.specs.Told.{or_right_side}
+use Rattle.cedar_interpreter.specs.Continuations.{continues_in, or_want_at}
+use Rattle.cedar_interpreter.specs.Direct.{or_right_side}
 use Rattle.cedar_interpreter.proofs.evaluation.Evaluation.after_or_left.Goals as goal
 
 pub returns-in-Some-false : goal.returns-in-Some-false
@@ -24,9 +24,9 @@ returns-in-Some-true g c =
     let x = answers (partial_view c.args.left.value) in
     let p = partial_view c.args.left.value in
     let is = subst (λ y. part_bool (partial_view y) ≡ Some true) c.deref.ensures (sym c.known_bool.ensures ∙ c.in-Some-true.is ∙ ap Some c.in-Some-true.field-0-test) in
-    goes_on_in e c.args.levels c.args.whole (pendings.OrLeft c.args.right) x (Done (Ok c.bool_at.result))
+    continues_in e c.args.levels c.args.whole (pendings.OrLeft c.args.right) x (Done (Ok c.bool_at.result))
     (λ r k. (
-      λ ok. subst (λ q. Uses (setting_of r e) (Runs (setting_of r e) (calls_in e) k) (pendings.OrLeft c.args.right) x (answers q)) (sym c.bool_at.ensures.view) (or_true (Runs (setting_of r e) (calls_in e) k) p (view c.args.right.value) is),
+      λ ok. subst (λ q. Uses (evaluation_setting r e) (Runs (evaluation_setting r e) (calls_in e) k) (pendings.OrLeft c.args.right) x (answers q)) (sym c.bool_at.ensures.view) (or_true (Runs (evaluation_setting r e) (calls_in e) k) p (view c.args.right.value) is),
       c.bool_at.ensures.place,
     ))
 
@@ -34,6 +34,6 @@ pub returns-in-None : goal.returns-in-None
 returns-in-None g c =
     let e = c.args.self.now in
     let x = answers (partial_view c.args.left.value) in
-    goes_on_in e c.args.levels c.args.whole (pendings.OrLeft c.args.right) x c.or_want.result
+    continues_in e c.args.levels c.args.whole (pendings.OrLeft c.args.right) x c.or_want.result
     (or_want_at e c.args.whole (pendings.OrLeft c.args.right) x c.after_no_bool_or_left.result c.or_want.result
     c.after_no_bool_or_left.ensures c.or_want.ensures)

@@ -4,7 +4,7 @@ use Rattle.cedar_extensions.specs.Extensions.{extensions_view, calls_of}
 use Rattle.cedar_restricted_evaluator.specs.Frames as restricted
 use Rattle.cedar_restricted_evaluator.specs.Elements.{SetGoesOn}
 use Rattle.cedar_interpreter.specs.Elements.{taken_stands}
-use Rattle.cedar_interpreter.specs.Steps.{parts_lead_in}
+use Rattle.cedar_interpreter.specs.Continuations.{parts_lead_in}
 use Rattle.cedar_interpreter.proofs.evaluation.Evaluation.after_part.Goals as goal
 
 pub returns-clause-leads : goal.returns-clause-leads
@@ -13,7 +13,7 @@ returns-clause-leads g c levels =
     let x = c.answered.result in
     parts_lead_in c.args.self.now levels c.args.whole c.args.frame c.args.value.value x c.taken.result
     (subst (λ f. restricted.GoesOn (extensions_view stored) (calls_of stored) f (Ok c.args.value.value) x) c.into_inner-parts.ensures
-    (subst (λ p. restricted.GoesOn (extensions_view stored) (calls_of stored) c.into_inner-parts.result (Ok p) x) c.into_inner-part.ensures c.answered.ensures.goes_on))
+    (subst (λ p. restricted.GoesOn (extensions_view stored) (calls_of stored) c.into_inner-parts.result (Ok p) x) c.into_inner-part.ensures c.answered.ensures.continues))
     c.taken.ensures.taken
 
 pub returns-clause-elements : goal.returns-clause-elements

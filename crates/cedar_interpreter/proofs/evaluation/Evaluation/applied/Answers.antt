@@ -5,14 +5,14 @@ use Rattle.cedar_names.specs.Leaves.{binary_view}
 use Rattle.cedar_expressions.specs.View.{expr_loc}
 use Rattle.cedar_values.specs.Residuals.{partial_view, residual_term}
 use Rattle.cedar_interpreter.specs.declared.frame.Pending.TheVariants as pendings
-use Rattle.cedar_interpreter.specs.Settings.{setting_of, calls_in}
+use Rattle.cedar_interpreter.specs.Settings.{evaluation_setting, calls_in}
 use Rattle.cedar_interpreter.specs.Reads.{as_stored, as_read}
-use Rattle.cedar_interpreter.specs.Laws.{gives_goes_on, passed_again}
+use Rattle.cedar_interpreter.specs.Laws.{gives_continues, passed_again}
 use Rattle.cedar_interpreter.proofs.evaluation.Evaluation.applied.Goals as goal
 
 pub returns-in-Some : goal.returns-in-Some
 returns-in-Some g c r k =
-    let s = setting_of r c.args.self.now in
+    let s = evaluation_setting r c.args.self.now in
     let calls = calls_in c.args.self.now in
     let op = binary_view c.args.op in
     let left = partial_view c.args.left.value in
@@ -26,12 +26,12 @@ returns-in-Some g c r k =
 pub returns-in-None : goal.returns-in-None
 unfolding binary_beside
 returns-in-None g c r k =
-    let s = setting_of r c.args.self.now in
+    let s = evaluation_setting r c.args.self.now in
     let calls = calls_in c.args.self.now in
     let op = binary_view c.args.op in
     let left = partial_view c.args.left.value in
     let right = partial_view c.args.right in
-    gives_goes_on s calls k (expr_loc c.args.whole.now.value) (pendings.BinaryRight c.args.op c.args.left) (answers right)
+    gives_continues s calls k (expr_loc c.args.whole.now.value) (pendings.BinaryRight c.args.op c.args.left) (answers right)
     (binary_of_parts s op left right) c.applied_as_stored.result
     (λ a ok is. as_stored (Runs s calls k) s.resolution (beside_residual s.store op left (answers right)) (binary_beside s op left (answers right)) a
     (sym (rw c.deref.ensures at c.in-None.ensures)) is)

@@ -8,96 +8,96 @@ use Rattle.cedar_names.specs.Names.{name_text}
 use Rattle.cedar_names.specs.Leaves.{literal_view, slot_view, unary_view}
 use Rattle.cedar_expressions.specs.View.{view, terms_view, fields_view, expr_loc}
 use Rattle.cedar_expressions.proofs.Levels as levels
-use Rattle.cedar_interpreter.specs.Settings.{setting_of, calls_in}
-use Rattle.cedar_interpreter.specs.Tasks.{Begins}
-use Rattle.cedar_interpreter.specs.Steps.{begins_in}
-use Rattle.cedar_interpreter.proofs.Seen.{seen, begins_seen}
+use Rattle.cedar_interpreter.specs.Settings.{evaluation_setting, calls_in}
+use Rattle.cedar_interpreter.specs.Tasks.{Starts}
+use Rattle.cedar_interpreter.specs.Continuations.{starts_in}
+use Rattle.cedar_interpreter.proofs.Seen.{seen, starts_seen}
 use Rattle.cedar_interpreter.proofs.evaluation.Evaluation.begin.Goals as goal
 
-pub returns-in-Lit-clause-begins : goal.returns-in-Lit-clause-begins
-returns-in-Lit-clause-begins g c =
-    begins_seen c.args.self.now c.args.levels c.args.whole.now c.literal.result (seen (levels.kind_view-Lit _) c.in-Lit.is c.expr_kind.ensures.view)
-    (begins_in c.args.self.now c.args.levels c.args.whole.now (literal (literal_view c.in-Lit.value)) c.literal.result c.literal.ensures)
+pub returns-in-Lit-clause-starts : goal.returns-in-Lit-clause-starts
+returns-in-Lit-clause-starts g c =
+    starts_seen c.args.self.now c.args.levels c.args.whole.now c.literal.result (seen (levels.kind_view-Lit _) c.in-Lit.is c.expr_kind.ensures.view)
+    (starts_in c.args.self.now c.args.levels c.args.whole.now (literal (literal_view c.in-Lit.value)) c.literal.result c.literal.ensures)
 
-pub returns-in-Var-clause-begins : goal.returns-in-Var-clause-begins
-returns-in-Var-clause-begins g c =
-    begins_seen c.args.self.now c.args.levels c.args.whole.now c.variable.result (seen (levels.kind_view-Var _) c.in-Var.is c.expr_kind.ensures.view)
+pub returns-in-Var-clause-starts : goal.returns-in-Var-clause-starts
+returns-in-Var-clause-starts g c =
+    starts_seen c.args.self.now c.args.levels c.args.whole.now c.variable.result (seen (levels.kind_view-Var _) c.in-Var.is c.expr_kind.ensures.view)
     (c.variable.ensures c.args.levels)
 
-pub returns-in-Slot-clause-begins : goal.returns-in-Slot-clause-begins
-returns-in-Slot-clause-begins g c =
-    begins_seen c.args.self.now c.args.levels c.args.whole.now c.slot.result (seen (levels.kind_view-Slot _) c.in-Slot.is c.expr_kind.ensures.view)
-    (begins_in c.args.self.now c.args.levels c.args.whole.now (slot (slot_view c.in-Slot.slot)) c.slot.result c.slot.ensures)
+pub returns-in-Slot-clause-starts : goal.returns-in-Slot-clause-starts
+returns-in-Slot-clause-starts g c =
+    starts_seen c.args.self.now c.args.levels c.args.whole.now c.slot.result (seen (levels.kind_view-Slot _) c.in-Slot.is c.expr_kind.ensures.view)
+    (starts_in c.args.self.now c.args.levels c.args.whole.now (slot (slot_view c.in-Slot.slot)) c.slot.result c.slot.ensures)
 
-pub returns-in-If-clause-begins : goal.returns-in-If-clause-begins
-returns-in-If-clause-begins g c =
-    begins_seen c.args.self.now c.args.levels c.args.whole.now c.branches.result (seen (levels.kind_view-If _ _ _) c.in-If.is c.expr_kind.ensures.view)
-    (begins_in c.args.self.now c.args.levels c.args.whole.now (if_then_else (view c.in-If.test_expr.value) (view c.in-If.then_expr.value) (view c.in-If.else_expr.value)) c.branches.result c.branches.ensures)
+pub returns-in-If-clause-starts : goal.returns-in-If-clause-starts
+returns-in-If-clause-starts g c =
+    starts_seen c.args.self.now c.args.levels c.args.whole.now c.branches.result (seen (levels.kind_view-If _ _ _) c.in-If.is c.expr_kind.ensures.view)
+    (starts_in c.args.self.now c.args.levels c.args.whole.now (if_then_else (view c.in-If.test_expr.value) (view c.in-If.then_expr.value) (view c.in-If.else_expr.value)) c.branches.result c.branches.ensures)
 
-pub returns-in-And-clause-begins : goal.returns-in-And-clause-begins
-returns-in-And-clause-begins g c =
-    begins_seen c.args.self.now c.args.levels c.args.whole.now c.conjunction.result (seen (levels.kind_view-And _ _) c.in-And.is c.expr_kind.ensures.view)
-    (begins_in c.args.self.now c.args.levels c.args.whole.now (both (view c.in-And.left.value) (view c.in-And.right.value)) c.conjunction.result c.conjunction.ensures)
+pub returns-in-And-clause-starts : goal.returns-in-And-clause-starts
+returns-in-And-clause-starts g c =
+    starts_seen c.args.self.now c.args.levels c.args.whole.now c.conjunction.result (seen (levels.kind_view-And _ _) c.in-And.is c.expr_kind.ensures.view)
+    (starts_in c.args.self.now c.args.levels c.args.whole.now (both (view c.in-And.left.value) (view c.in-And.right.value)) c.conjunction.result c.conjunction.ensures)
 
-pub returns-in-Or-clause-begins : goal.returns-in-Or-clause-begins
-returns-in-Or-clause-begins g c =
-    begins_seen c.args.self.now c.args.levels c.args.whole.now c.disjunction.result (seen (levels.kind_view-Or _ _) c.in-Or.is c.expr_kind.ensures.view)
-    (begins_in c.args.self.now c.args.levels c.args.whole.now (either (view c.in-Or.left.value) (view c.in-Or.right.value)) c.disjunction.result c.disjunction.ensures)
+pub returns-in-Or-clause-starts : goal.returns-in-Or-clause-starts
+returns-in-Or-clause-starts g c =
+    starts_seen c.args.self.now c.args.levels c.args.whole.now c.disjunction.result (seen (levels.kind_view-Or _ _) c.in-Or.is c.expr_kind.ensures.view)
+    (starts_in c.args.self.now c.args.levels c.args.whole.now (either (view c.in-Or.left.value) (view c.in-Or.right.value)) c.disjunction.result c.disjunction.ensures)
 
-pub returns-in-UnaryApp-clause-begins : goal.returns-in-UnaryApp-clause-begins
-returns-in-UnaryApp-clause-begins g c =
-    begins_seen c.args.self.now c.args.levels c.args.whole.now c.operand.result (seen (levels.kind_view-UnaryApp _ _) c.in-UnaryApp.is c.expr_kind.ensures.view)
-    (begins_in c.args.self.now c.args.levels c.args.whole.now (unary (unary_view c.in-UnaryApp.op) (view c.in-UnaryApp.arg.value)) c.operand.result c.operand.ensures)
+pub returns-in-UnaryApp-clause-starts : goal.returns-in-UnaryApp-clause-starts
+returns-in-UnaryApp-clause-starts g c =
+    starts_seen c.args.self.now c.args.levels c.args.whole.now c.operand.result (seen (levels.kind_view-UnaryApp _ _) c.in-UnaryApp.is c.expr_kind.ensures.view)
+    (starts_in c.args.self.now c.args.levels c.args.whole.now (unary (unary_view c.in-UnaryApp.op) (view c.in-UnaryApp.arg.value)) c.operand.result c.operand.ensures)
 
-pub returns-in-BinaryApp-clause-begins : goal.returns-in-BinaryApp-clause-begins
-returns-in-BinaryApp-clause-begins g c =
-    begins_seen c.args.self.now c.args.levels c.args.whole.now c.operands.result (seen (levels.kind_view-BinaryApp _ _ _) c.in-BinaryApp.is c.expr_kind.ensures.view)
+pub returns-in-BinaryApp-clause-starts : goal.returns-in-BinaryApp-clause-starts
+returns-in-BinaryApp-clause-starts g c =
+    starts_seen c.args.self.now c.args.levels c.args.whole.now c.operands.result (seen (levels.kind_view-BinaryApp _ _ _) c.in-BinaryApp.is c.expr_kind.ensures.view)
     (c.operands.ensures)
 
-pub returns-in-ExtensionFunctionApp-clause-begins : goal.returns-in-ExtensionFunctionApp-clause-begins
-returns-in-ExtensionFunctionApp-clause-begins g c =
-    begins_seen c.args.self.now c.args.levels c.args.whole.now c.call.result (seen (levels.kind_view-ExtensionFunctionApp _ _) c.in-ExtensionFunctionApp.is c.expr_kind.ensures.view)
-    (begins_in c.args.self.now c.args.levels c.args.whole.now (call (name_text c.in-ExtensionFunctionApp.fn_name) (terms_view c.in-ExtensionFunctionApp.args.value.items)) c.call.result c.call.ensures)
+pub returns-in-ExtensionFunctionApp-clause-starts : goal.returns-in-ExtensionFunctionApp-clause-starts
+returns-in-ExtensionFunctionApp-clause-starts g c =
+    starts_seen c.args.self.now c.args.levels c.args.whole.now c.call.result (seen (levels.kind_view-ExtensionFunctionApp _ _) c.in-ExtensionFunctionApp.is c.expr_kind.ensures.view)
+    (starts_in c.args.self.now c.args.levels c.args.whole.now (call (name_text c.in-ExtensionFunctionApp.fn_name) (terms_view c.in-ExtensionFunctionApp.args.value.items)) c.call.result c.call.ensures)
 
-pub returns-in-GetAttr-clause-begins : goal.returns-in-GetAttr-clause-begins
-returns-in-GetAttr-clause-begins g c =
-    begins_seen c.args.self.now c.args.levels c.args.whole.now c.attribute.result (seen (levels.kind_view-GetAttr _ _) c.in-GetAttr.is c.expr_kind.ensures.view)
+pub returns-in-GetAttr-clause-starts : goal.returns-in-GetAttr-clause-starts
+returns-in-GetAttr-clause-starts g c =
+    starts_seen c.args.self.now c.args.levels c.args.whole.now c.attribute.result (seen (levels.kind_view-GetAttr _ _) c.in-GetAttr.is c.expr_kind.ensures.view)
     (c.attribute.ensures)
 
-pub returns-in-HasAttr-clause-begins : goal.returns-in-HasAttr-clause-begins
-returns-in-HasAttr-clause-begins g c =
-    begins_seen c.args.self.now c.args.levels c.args.whole.now c.tested.result (seen (levels.kind_view-HasAttr _ _) c.in-HasAttr.is c.expr_kind.ensures.view)
+pub returns-in-HasAttr-clause-starts : goal.returns-in-HasAttr-clause-starts
+returns-in-HasAttr-clause-starts g c =
+    starts_seen c.args.self.now c.args.levels c.args.whole.now c.tested.result (seen (levels.kind_view-HasAttr _ _) c.in-HasAttr.is c.expr_kind.ensures.view)
     (c.tested.ensures)
 
-pub returns-in-ExtHasAttr-clause-begins : goal.returns-in-ExtHasAttr-clause-begins
-returns-in-ExtHasAttr-clause-begins g c =
-    begins_seen c.args.self.now c.args.levels c.args.whole.now c.walked.result (seen (levels.kind_view-ExtHasAttr _ _) c.in-ExtHasAttr.is c.expr_kind.ensures.view)
+pub returns-in-ExtHasAttr-clause-starts : goal.returns-in-ExtHasAttr-clause-starts
+returns-in-ExtHasAttr-clause-starts g c =
+    starts_seen c.args.self.now c.args.levels c.args.whole.now c.walked.result (seen (levels.kind_view-ExtHasAttr _ _) c.in-ExtHasAttr.is c.expr_kind.ensures.view)
     (c.walked.ensures)
 
-pub returns-in-Like-clause-begins : goal.returns-in-Like-clause-begins
-returns-in-Like-clause-begins g c =
-    begins_seen c.args.self.now c.args.levels c.args.whole.now c.likeness.result (seen (levels.kind_view-Like _ _) c.in-Like.is c.expr_kind.ensures.view)
+pub returns-in-Like-clause-starts : goal.returns-in-Like-clause-starts
+returns-in-Like-clause-starts g c =
+    starts_seen c.args.self.now c.args.levels c.args.whole.now c.likeness.result (seen (levels.kind_view-Like _ _) c.in-Like.is c.expr_kind.ensures.view)
     c.likeness.ensures
 
-pub returns-in-Is-clause-begins : goal.returns-in-Is-clause-begins
-returns-in-Is-clause-begins g c =
-    begins_seen c.args.self.now c.args.levels c.args.whole.now c.typed.result (seen (levels.kind_view-Is _ _) c.in-Is.is c.expr_kind.ensures.view)
+pub returns-in-Is-clause-starts : goal.returns-in-Is-clause-starts
+returns-in-Is-clause-starts g c =
+    starts_seen c.args.self.now c.args.levels c.args.whole.now c.typed.result (seen (levels.kind_view-Is _ _) c.in-Is.is c.expr_kind.ensures.view)
     c.typed.ensures
 
-pub returns-in-Set-clause-begins : goal.returns-in-Set-clause-begins
-returns-in-Set-clause-begins g c =
-    begins_seen c.args.self.now c.args.levels c.args.whole.now c.set.result (seen (levels.kind_view-Set _) c.in-Set.is c.expr_kind.ensures.view)
-    (begins_in c.args.self.now c.args.levels c.args.whole.now (set_of (terms_view c.in-Set.parts.value.items)) c.set.result c.set.ensures.begins)
+pub returns-in-Set-clause-starts : goal.returns-in-Set-clause-starts
+returns-in-Set-clause-starts g c =
+    starts_seen c.args.self.now c.args.levels c.args.whole.now c.set.result (seen (levels.kind_view-Set _) c.in-Set.is c.expr_kind.ensures.view)
+    (starts_in c.args.self.now c.args.levels c.args.whole.now (set_of (terms_view c.in-Set.parts.value.items)) c.set.result c.set.ensures.starts)
 
-pub returns-in-Record-clause-begins : goal.returns-in-Record-clause-begins
-returns-in-Record-clause-begins g c =
-    let is : (r : RequestPart) (k : ℕ) → Begins (setting_of r c.args.self.now) (calls_in c.args.self.now) k (expr_loc c.args.whole.now.value) (record_of (fields_view c.in-Record.pairs.value.entries)) c.«record».result = λ r k. rw (c.deref.ensures) at c.«record».ensures r k in
-    begins_seen c.args.self.now c.args.levels c.args.whole.now c.«record».result (seen (levels.kind_view-Record _) c.in-Record.is c.expr_kind.ensures.view)
-    (begins_in c.args.self.now c.args.levels c.args.whole.now (record_of (fields_view c.in-Record.pairs.value.entries)) c.«record».result is)
+pub returns-in-Record-clause-starts : goal.returns-in-Record-clause-starts
+returns-in-Record-clause-starts g c =
+    let is : (r : RequestPart) (k : ℕ) → Starts (evaluation_setting r c.args.self.now) (calls_in c.args.self.now) k (expr_loc c.args.whole.now.value) (record_of (fields_view c.in-Record.pairs.value.entries)) c.«record».result = λ r k. rw (c.deref.ensures) at c.«record».ensures r k in
+    starts_seen c.args.self.now c.args.levels c.args.whole.now c.«record».result (seen (levels.kind_view-Record _) c.in-Record.is c.expr_kind.ensures.view)
+    (starts_in c.args.self.now c.args.levels c.args.whole.now (record_of (fields_view c.in-Record.pairs.value.entries)) c.«record».result is)
 
-pub returns-in-Unknown-clause-begins : goal.returns-in-Unknown-clause-begins
-returns-in-Unknown-clause-begins g c =
-    begins_in c.args.self.now c.args.levels c.args.whole.now (view c.args.e.now) c.unknown.result c.unknown.ensures
+pub returns-in-Unknown-clause-starts : goal.returns-in-Unknown-clause-starts
+returns-in-Unknown-clause-starts g c =
+    starts_in c.args.self.now c.args.levels c.args.whole.now (view c.args.e.now) c.unknown.result c.unknown.ensures
 
 pub returns-in-Set-clause-elements : goal.returns-in-Set-clause-elements
 returns-in-Set-clause-elements g c =

@@ -2,81 +2,81 @@ use Rattle.std.proofs.Common.{sym, subst}
 use Rattle.cedar_model.specs.Failures.{fails}
 use Rattle.cedar_expressions.specs.View.{expr_loc}
 use Rattle.cedar_errors.specs.Failures.{failure_of}
-use Rattle.cedar_interpreter.specs.Settings.{setting_of, calls_in}
-use Rattle.cedar_interpreter.specs.Tasks.{GoesOn}
-use Rattle.cedar_interpreter.specs.Laws.{IsPassedOn, passed_goes_on}
+use Rattle.cedar_interpreter.specs.Settings.{evaluation_setting, calls_in}
+use Rattle.cedar_interpreter.specs.Tasks.{Continues}
+use Rattle.cedar_interpreter.specs.Laws.{IsPassedOn, passed_continues}
 use Rattle.cedar_interpreter.proofs.evaluation.Evaluation.failed.Goals as goal
 
 pub returns-in-Passed : goal.returns-in-Passed
 returns-in-Passed g c r k =
-    passed_goes_on (setting_of r c.args.self.now) (calls_in c.args.self.now) k (expr_loc c.args.whole.value) c.args.pending (failure_of c.args.failed.value.error) c.passed_on.result (subst IsPassedOn (sym c.in-Passed.is) tt) c.passed_on.ensures
+    passed_continues (evaluation_setting r c.args.self.now) (calls_in c.args.self.now) k (expr_loc c.args.whole.value) c.args.pending (failure_of c.args.failed.value.error) c.passed_on.result (subst IsPassedOn (sym c.in-Passed.is) tt) c.passed_on.ensures
 
 pub returns-in-Guard : goal.returns-in-Guard
 returns-in-Guard g c r k =
-    passed_goes_on (setting_of r c.args.self.now) (calls_in c.args.self.now) k (expr_loc c.args.whole.value) c.args.pending (failure_of c.args.failed.value.error) c.passed_on-in-Guard.result (subst IsPassedOn (sym c.in-Guard.is) tt) c.passed_on-in-Guard.ensures
+    passed_continues (evaluation_setting r c.args.self.now) (calls_in c.args.self.now) k (expr_loc c.args.whole.value) c.args.pending (failure_of c.args.failed.value.error) c.passed_on-in-Guard.result (subst IsPassedOn (sym c.in-Guard.is) tt) c.passed_on-in-Guard.ensures
 
 pub returns-in-AndLeft : goal.returns-in-AndLeft
 returns-in-AndLeft g c r k =
-    passed_goes_on (setting_of r c.args.self.now) (calls_in c.args.self.now) k (expr_loc c.args.whole.value) c.args.pending (failure_of c.args.failed.value.error) c.passed_on-in-AndLeft.result (subst IsPassedOn (sym c.in-AndLeft.is) tt) c.passed_on-in-AndLeft.ensures
+    passed_continues (evaluation_setting r c.args.self.now) (calls_in c.args.self.now) k (expr_loc c.args.whole.value) c.args.pending (failure_of c.args.failed.value.error) c.passed_on-in-AndLeft.result (subst IsPassedOn (sym c.in-AndLeft.is) tt) c.passed_on-in-AndLeft.ensures
 
 pub returns-in-AndRight : goal.returns-in-AndRight
 returns-in-AndRight g c r k =
-    passed_goes_on (setting_of r c.args.self.now) (calls_in c.args.self.now) k (expr_loc c.args.whole.value) c.args.pending (failure_of c.args.failed.value.error) c.passed_on-in-AndRight.result (subst IsPassedOn (sym c.in-AndRight.is) tt) c.passed_on-in-AndRight.ensures
+    passed_continues (evaluation_setting r c.args.self.now) (calls_in c.args.self.now) k (expr_loc c.args.whole.value) c.args.pending (failure_of c.args.failed.value.error) c.passed_on-in-AndRight.result (subst IsPassedOn (sym c.in-AndRight.is) tt) c.passed_on-in-AndRight.ensures
 
 pub returns-in-OrLeft : goal.returns-in-OrLeft
 returns-in-OrLeft g c r k =
-    passed_goes_on (setting_of r c.args.self.now) (calls_in c.args.self.now) k (expr_loc c.args.whole.value) c.args.pending (failure_of c.args.failed.value.error) c.passed_on-in-OrLeft.result (subst IsPassedOn (sym c.in-OrLeft.is) tt) c.passed_on-in-OrLeft.ensures
+    passed_continues (evaluation_setting r c.args.self.now) (calls_in c.args.self.now) k (expr_loc c.args.whole.value) c.args.pending (failure_of c.args.failed.value.error) c.passed_on-in-OrLeft.result (subst IsPassedOn (sym c.in-OrLeft.is) tt) c.passed_on-in-OrLeft.ensures
 
 pub returns-in-OrRight : goal.returns-in-OrRight
 returns-in-OrRight g c r k =
-    passed_goes_on (setting_of r c.args.self.now) (calls_in c.args.self.now) k (expr_loc c.args.whole.value) c.args.pending (failure_of c.args.failed.value.error) c.passed_on-in-OrRight.result (subst IsPassedOn (sym c.in-OrRight.is) tt) c.passed_on-in-OrRight.ensures
+    passed_continues (evaluation_setting r c.args.self.now) (calls_in c.args.self.now) k (expr_loc c.args.whole.value) c.args.pending (failure_of c.args.failed.value.error) c.passed_on-in-OrRight.result (subst IsPassedOn (sym c.in-OrRight.is) tt) c.passed_on-in-OrRight.ensures
 
 pub returns-in-Unary : goal.returns-in-Unary
 returns-in-Unary g c r k =
-    passed_goes_on (setting_of r c.args.self.now) (calls_in c.args.self.now) k (expr_loc c.args.whole.value) c.args.pending (failure_of c.args.failed.value.error) c.passed_on-in-Unary.result (subst IsPassedOn (sym c.in-Unary.is) tt) c.passed_on-in-Unary.ensures
+    passed_continues (evaluation_setting r c.args.self.now) (calls_in c.args.self.now) k (expr_loc c.args.whole.value) c.args.pending (failure_of c.args.failed.value.error) c.passed_on-in-Unary.result (subst IsPassedOn (sym c.in-Unary.is) tt) c.passed_on-in-Unary.ensures
 
 pub returns-in-BinaryLeft : goal.returns-in-BinaryLeft
 returns-in-BinaryLeft g c r k =
-    passed_goes_on (setting_of r c.args.self.now) (calls_in c.args.self.now) k (expr_loc c.args.whole.value) c.args.pending (failure_of c.args.failed.value.error) c.passed_on-in-BinaryLeft.result (subst IsPassedOn (sym c.in-BinaryLeft.is) tt) c.passed_on-in-BinaryLeft.ensures
+    passed_continues (evaluation_setting r c.args.self.now) (calls_in c.args.self.now) k (expr_loc c.args.whole.value) c.args.pending (failure_of c.args.failed.value.error) c.passed_on-in-BinaryLeft.result (subst IsPassedOn (sym c.in-BinaryLeft.is) tt) c.passed_on-in-BinaryLeft.ensures
 
 pub returns-in-BinaryRight : goal.returns-in-BinaryRight
 returns-in-BinaryRight g c r k =
-    passed_goes_on (setting_of r c.args.self.now) (calls_in c.args.self.now) k (expr_loc c.args.whole.value) c.args.pending (failure_of c.args.failed.value.error) c.passed_on-in-BinaryRight.result (subst IsPassedOn (sym c.in-BinaryRight.is) tt) c.passed_on-in-BinaryRight.ensures
+    passed_continues (evaluation_setting r c.args.self.now) (calls_in c.args.self.now) k (expr_loc c.args.whole.value) c.args.pending (failure_of c.args.failed.value.error) c.passed_on-in-BinaryRight.result (subst IsPassedOn (sym c.in-BinaryRight.is) tt) c.passed_on-in-BinaryRight.ensures
 
 pub returns-in-GetAttr : goal.returns-in-GetAttr
 returns-in-GetAttr g c r k =
-    passed_goes_on (setting_of r c.args.self.now) (calls_in c.args.self.now) k (expr_loc c.args.whole.value) c.args.pending (failure_of c.args.failed.value.error) c.passed_on-in-GetAttr.result (subst IsPassedOn (sym c.in-GetAttr.is) tt) c.passed_on-in-GetAttr.ensures
+    passed_continues (evaluation_setting r c.args.self.now) (calls_in c.args.self.now) k (expr_loc c.args.whole.value) c.args.pending (failure_of c.args.failed.value.error) c.passed_on-in-GetAttr.result (subst IsPassedOn (sym c.in-GetAttr.is) tt) c.passed_on-in-GetAttr.ensures
 
 pub returns-in-HasAttr : goal.returns-in-HasAttr
 returns-in-HasAttr g c r k =
-    passed_goes_on (setting_of r c.args.self.now) (calls_in c.args.self.now) k (expr_loc c.args.whole.value) c.args.pending (failure_of c.args.failed.value.error) c.passed_on-in-HasAttr.result (subst IsPassedOn (sym c.in-HasAttr.is) tt) c.passed_on-in-HasAttr.ensures
+    passed_continues (evaluation_setting r c.args.self.now) (calls_in c.args.self.now) k (expr_loc c.args.whole.value) c.args.pending (failure_of c.args.failed.value.error) c.passed_on-in-HasAttr.result (subst IsPassedOn (sym c.in-HasAttr.is) tt) c.passed_on-in-HasAttr.ensures
 
 pub returns-in-ExtHasAttr : goal.returns-in-ExtHasAttr
 returns-in-ExtHasAttr g c r k =
-    passed_goes_on (setting_of r c.args.self.now) (calls_in c.args.self.now) k (expr_loc c.args.whole.value) c.args.pending (failure_of c.args.failed.value.error) c.passed_on-in-ExtHasAttr.result (subst IsPassedOn (sym c.in-ExtHasAttr.is) tt) c.passed_on-in-ExtHasAttr.ensures
+    passed_continues (evaluation_setting r c.args.self.now) (calls_in c.args.self.now) k (expr_loc c.args.whole.value) c.args.pending (failure_of c.args.failed.value.error) c.passed_on-in-ExtHasAttr.result (subst IsPassedOn (sym c.in-ExtHasAttr.is) tt) c.passed_on-in-ExtHasAttr.ensures
 
 pub returns-in-Like : goal.returns-in-Like
 returns-in-Like g c r k =
-    passed_goes_on (setting_of r c.args.self.now) (calls_in c.args.self.now) k (expr_loc c.args.whole.value) c.args.pending (failure_of c.args.failed.value.error) c.passed_on-in-Like.result (subst IsPassedOn (sym c.in-Like.is) tt) c.passed_on-in-Like.ensures
+    passed_continues (evaluation_setting r c.args.self.now) (calls_in c.args.self.now) k (expr_loc c.args.whole.value) c.args.pending (failure_of c.args.failed.value.error) c.passed_on-in-Like.result (subst IsPassedOn (sym c.in-Like.is) tt) c.passed_on-in-Like.ensures
 
 pub returns-in-Is : goal.returns-in-Is
 returns-in-Is g c r k =
-    passed_goes_on (setting_of r c.args.self.now) (calls_in c.args.self.now) k (expr_loc c.args.whole.value) c.args.pending (failure_of c.args.failed.value.error) c.passed_on-in-Is.result (subst IsPassedOn (sym c.in-Is.is) tt) c.passed_on-in-Is.ensures
+    passed_continues (evaluation_setting r c.args.self.now) (calls_in c.args.self.now) k (expr_loc c.args.whole.value) c.args.pending (failure_of c.args.failed.value.error) c.passed_on-in-Is.result (subst IsPassedOn (sym c.in-Is.is) tt) c.passed_on-in-Is.ensures
 
 pub returns-in-Then : goal.returns-in-Then
 returns-in-Then g c r k =
-    subst (λ p. GoesOn (setting_of r c.args.self.now) (calls_in c.args.self.now) k (expr_loc c.args.whole.value) p (fails (failure_of c.args.failed.value.error)) c.failed_then.result) (sym c.in-Then.is) (c.failed_then.ensures r k)
+    subst (λ p. Continues (evaluation_setting r c.args.self.now) (calls_in c.args.self.now) k (expr_loc c.args.whole.value) p (fails (failure_of c.args.failed.value.error)) c.failed_then.result) (sym c.in-Then.is) (c.failed_then.ensures r k)
 
 pub returns-in-Else : goal.returns-in-Else
 returns-in-Else g c r k =
-    subst (λ p. GoesOn (setting_of r c.args.self.now) (calls_in c.args.self.now) k (expr_loc c.args.whole.value) p (fails (failure_of c.args.failed.value.error)) c.failed_else.result) (sym c.in-Else.is) (c.failed_else.ensures r k)
+    subst (λ p. Continues (evaluation_setting r c.args.self.now) (calls_in c.args.self.now) k (expr_loc c.args.whole.value) p (fails (failure_of c.args.failed.value.error)) c.failed_else.result) (sym c.in-Else.is) (c.failed_else.ensures r k)
 
 pub returns-in-AndKept : goal.returns-in-AndKept
 returns-in-AndKept g c r k =
     let x = fails (failure_of c.args.failed.value.error) in
-    subst (λ p. GoesOn (setting_of r c.args.self.now) (calls_in c.args.self.now) k (expr_loc c.args.whole.value) p x c.kept_conjunction.result) (sym c.in-AndKept.is) (c.kept_conjunction.ensures x c.original_of-kept.ensures r k)
+    subst (λ p. Continues (evaluation_setting r c.args.self.now) (calls_in c.args.self.now) k (expr_loc c.args.whole.value) p x c.kept_conjunction.result) (sym c.in-AndKept.is) (c.kept_conjunction.ensures x c.original_of-kept.ensures r k)
 
 pub returns-in-OrKept : goal.returns-in-OrKept
 returns-in-OrKept g c r k =
     let x = fails (failure_of c.args.failed.value.error) in
-    subst (λ p. GoesOn (setting_of r c.args.self.now) (calls_in c.args.self.now) k (expr_loc c.args.whole.value) p x c.kept_disjunction.result) (sym c.in-OrKept.is) (c.kept_disjunction.ensures x c.original_of-kept-in-OrKept.ensures r k)
+    subst (λ p. Continues (evaluation_setting r c.args.self.now) (calls_in c.args.self.now) k (expr_loc c.args.whole.value) p x c.kept_disjunction.result) (sym c.in-OrKept.is) (c.kept_disjunction.ensures x c.original_of-kept-in-OrKept.ensures r k)

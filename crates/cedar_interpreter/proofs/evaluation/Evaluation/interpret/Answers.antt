@@ -3,7 +3,7 @@ use Rattle.cedar_model.specs.Rules.{Meets}
 use Rattle.cedar_expressions.specs.View.{view}
 use Rattle.cedar_errors.specs.Answers.{partial_answer}
 use Rattle.cedar_extensions.specs.StoredLaws.{calls_functional, calls_meet_no_limit}
-use Rattle.cedar_interpreter.specs.Settings.{setting_of, calls_in}
+use Rattle.cedar_interpreter.specs.Settings.{evaluation_setting, calls_in}
 use Rattle.cedar_restricted_evaluator.specs.Elements.{answer_for}
 use Rattle.cedar_interpreter.specs.Promises.{IsPromised, RunsIn, meets_promised}
 use Rattle.cedar_interpreter.proofs.evaluation.Evaluation.interpret.Goals as goal
@@ -14,7 +14,7 @@ returns-in-Ok-clause-runs g c =
 
 pub returns-in-Ok-clause-promised : goal.returns-in-Ok-clause-promised
 returns-in-Ok-clause-promised g c r speaks sound =
-    let s = setting_of r c.args.self.now in
+    let s = evaluation_setting r c.args.self.now in
     let stored = c.args.self.now.given.now.extensions.now in
     let answer = partial_answer c.evaluated.result in
     subst (λ t. Meets (IsPromised s (calls_in c.args.self.now) c.args.limit t) answer) c.in-Ok.ensures.view

@@ -5,8 +5,8 @@ use Rattle.cedar_model.specs.Rules.{AfterBest, best, kept}
 use Rattle.cedar_expressions.specs.View.{view, expr_loc}
 use Rattle.cedar_values.specs.Residuals.{residual_term}
 use Rattle.cedar_interpreter.specs.declared.frame.Pending.TheVariants as pendings
-use Rattle.cedar_interpreter.specs.Settings.{setting_of, calls_in}
-use Rattle.cedar_interpreter.specs.Laws.{gives_goes_on}
+use Rattle.cedar_interpreter.specs.Settings.{evaluation_setting, calls_in}
+use Rattle.cedar_interpreter.specs.Laws.{gives_continues}
 use Rattle.cedar_interpreter.proofs.evaluation.Evaluation.kept_conjunction.Goals as goal
 
 pub returns-in-Ok : goal.returns-in-Ok
@@ -14,6 +14,6 @@ returns-in-Ok g c x is_kept r k =
     let l = c.args.left in
     let right = view c.args.right.value in
     let best_is : best x right ≡ kept (view c.in-Ok.right) = subst (λ m. IfOk m (λ e. best x right ≡ kept (view e))) c.in-Ok.is is_kept in
-    gives_goes_on (setting_of r c.args.self.now) (calls_in c.args.self.now) k (expr_loc c.args.whole.value) (pendings.AndKept l c.args.right) x (answers_residual (both (residual_term l.value) (view c.in-Ok.right))) c.answered.result
+    gives_continues (evaluation_setting r c.args.self.now) (calls_in c.args.self.now) k (expr_loc c.args.whole.value) (pendings.AndKept l c.args.right) x (answers_residual (both (residual_term l.value) (view c.in-Ok.right))) c.answered.result
     (λ a ok is. subst (λ o. AfterBest o (λ t b. b ≡ answers_residual (both (residual_term l.value) t)) a) (sym best_is) is)
     (c.answered.ensures _ (rw (c.into_inner.ensures) at c.residual_and-answer.ensures))

@@ -4,7 +4,7 @@ use Rattle.cedar_expressions.specs.View.{expr_loc}
 use Rattle.cedar_errors.specs.Failures.{failure_of}
 use Rattle.cedar_interpreter.specs.Elements.{TaskWaits, failed_next}
 use Rattle.cedar_interpreter.specs.Kept.{ordinary_no_want}
-use Rattle.cedar_interpreter.specs.Steps.{LeadsIn, failure_leads_in, parts_failure_in}
+use Rattle.cedar_interpreter.specs.Continuations.{LeadsIn, failure_leads_in, parts_failure_in}
 use Rattle.cedar_interpreter.proofs.evaluation.Evaluation.kept_or_failed.Goals as goal
 
 pub returns-in-Parts-clause-leads : goal.returns-in-Parts-clause-leads

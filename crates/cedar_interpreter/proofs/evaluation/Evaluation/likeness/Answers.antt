@@ -5,9 +5,9 @@ use Rattle.cedar_model.specs.Failures.{answers_value}
 use Rattle.cedar_model.specs.Rules.{Runs, on_part}
 use Rattle.cedar_names.specs.Leaves.{pattern_view}
 use Rattle.cedar_expressions.specs.View.{view}
-use Rattle.cedar_interpreter.specs.Settings.{setting_of, calls_in}
-use Rattle.cedar_interpreter.specs.Steps.{begins_in}
-use Rattle.cedar_interpreter.specs.Told.{told_gives}
+use Rattle.cedar_interpreter.specs.Settings.{evaluation_setting, calls_in}
+use Rattle.cedar_interpreter.specs.Continuations.{starts_in}
+use Rattle.cedar_interpreter.specs.Direct.{direct_gives}
 use Rattle.cedar_interpreter.proofs.evaluation.Evaluation.likeness.Goals as goal
 
 pub returns-in-Some : goal.returns-in-Some
@@ -15,11 +15,11 @@ returns-in-Some g c =
     let e = c.args.self.now in
     let t = view c.args.expr.now.value in
     let p = pattern_view c.args.pattern.now in
-    told_gives e c.args.levels c.args.whole.now (like t p) t c.in-Some.told.what (on_part (like_answer p) (λ q. like q p)) c.answered.result
+    direct_gives e c.args.levels c.args.whole.now (like t p) t c.in-Some.direct.what (on_part (like_answer p) (λ q. like q p)) c.answered.result
     (λ r k x a runs is. (x, runs, is))
-    (λ r k speaks low. subst (λ d. Runs (setting_of r e) (calls_in e) k (view d) (answers_value c.in-Some.told.what)) c.deref.ensures (c.in-Some.ensures.told r k speaks low))
+    (λ r k speaks low. subst (λ d. Runs (evaluation_setting r e) (calls_in e) k (view d) (answers_value c.in-Some.direct.what)) c.deref.ensures (c.in-Some.ensures.direct r k speaks low))
     (c.answered.ensures _ c.like_of_part.ensures)
 
 pub returns-in-None : goal.returns-in-None
 returns-in-None g c =
-    begins_in c.args.self.now c.args.levels c.args.whole.now (like (view c.args.expr.now.value) (pattern_view c.args.pattern.now)) c.wait_for_text.result c.wait_for_text.ensures
+    starts_in c.args.self.now c.args.levels c.args.whole.now (like (view c.args.expr.now.value) (pattern_view c.args.pattern.now)) c.wait_for_text.result c.wait_for_text.ensures

@@ -5,11 +5,11 @@ use Rattle.cedar_names.specs.Leaves.{literal_view}
 use Rattle.cedar_expressions.specs.View.{expr_loc}
 use Rattle.cedar_values.specs.declared.partial_value.PartialValue.TheVariants as partials
 use Rattle.cedar_values.specs.Residuals.{partial_view}
-use Rattle.cedar_interpreter.specs.Settings.{setting_of, calls_in}
-use Rattle.cedar_interpreter.specs.Laws.{gives_begins}
+use Rattle.cedar_interpreter.specs.Settings.{evaluation_setting, calls_in}
+use Rattle.cedar_interpreter.specs.Laws.{gives_starts}
 use Rattle.cedar_interpreter.proofs.evaluation.Evaluation.literal.Goals as goal
 
 pub returns-in-Some : goal.returns-in-Some
 returns-in-Some g c r k =
-    gives_begins (setting_of r c.args.self.now) (calls_in c.args.self.now) k (expr_loc c.args.whole.now.value) (literal (literal_view c.args.value.now)) (answers (partial_view (partials.Value c.in-Some.value))) c.done.result
+    gives_starts (evaluation_setting r c.args.self.now) (calls_in c.args.self.now) k (expr_loc c.args.whole.now.value) (literal (literal_view c.args.value.now)) (answers (partial_view (partials.Value c.in-Some.value))) c.done.result
     (λ a ok is. is ∙ ap (λ w. answers (value w)) c.in-Some.ensures) c.done.ensures.answer

@@ -6,9 +6,9 @@ use Rattle.cedar_names.specs.Leaves.{binary_view}
 use Rattle.cedar_expressions.specs.View.{view}
 use Rattle.cedar_values.specs.Residuals.{partial_view}
 use Rattle.cedar_interpreter.specs.declared.frame.Pending.TheVariants as pendings
-use Rattle.cedar_interpreter.specs.Settings.{setting_of, calls_in}
-use Rattle.cedar_interpreter.specs.Steps.{begins_in, value_leads_in}
-use Rattle.cedar_interpreter.specs.Told.{told_begins}
+use Rattle.cedar_interpreter.specs.Settings.{evaluation_setting, calls_in}
+use Rattle.cedar_interpreter.specs.Continuations.{starts_in, value_leads_in}
+use Rattle.cedar_interpreter.specs.Direct.{direct_starts}
 use Rattle.cedar_interpreter.proofs.evaluation.Evaluation.operands.Goals as goal
 
 pub returns-in-Some : goal.returns-in-Some
@@ -16,12 +16,12 @@ returns-in-Some g c =
     let e = c.args.self.now in
     let p = pendings.BinaryLeft c.args.op c.args.right.now in
     let t = binary (binary_view c.args.op) (view c.args.left.now.value) (view c.args.right.now.value) in
-    let v = partial_view c.in-Some.told.value in
-    told_begins e c.args.levels c.args.whole.now p t (view c.args.left.now.value) v c.after_left.result
+    let v = partial_view c.in-Some.direct.value in
+    direct_starts e c.args.levels c.args.whole.now p t (view c.args.left.now.value) v c.after_left.result
     (λ r k x a runs uses. (x, runs, uses))
-    (λ r k speaks low. subst (λ d. Runs (setting_of r e) (calls_in e) k (view d) (answers v)) c.deref.ensures (c.in-Some.ensures r k speaks low))
+    (λ r k speaks low. subst (λ d. Runs (evaluation_setting r e) (calls_in e) k (view d) (answers v)) c.deref.ensures (c.in-Some.ensures r k speaks low))
     (value_leads_in e c.args.levels c.args.whole.now p v c.after_left.result c.after_left.ensures)
 
 pub returns-in-None : goal.returns-in-None
 returns-in-None g c =
-    begins_in c.args.self.now c.args.levels c.args.whole.now (binary (binary_view c.args.op) (view c.args.left.now.value) (view c.args.right.now.value)) c.wait_for_left.result c.wait_for_left.ensures
+    starts_in c.args.self.now c.args.levels c.args.whole.now (binary (binary_view c.args.op) (view c.args.left.now.value) (view c.args.right.now.value)) c.wait_for_left.result c.wait_for_left.ensures

@@ -1,21 +1,21 @@
 use Rattle.std.proofs.Common.{sym, subst}
-use Rattle.cedar_interpreter.specs.Endings.{outcome_answer}
-use Rattle.cedar_interpreter.specs.Steps.{LeadsIn}
-use Rattle.cedar_interpreter.specs.Elements.{TaskGoesOn}
+use Rattle.cedar_interpreter.specs.Endings.{ending_answer}
+use Rattle.cedar_interpreter.specs.Continuations.{LeadsIn}
+use Rattle.cedar_interpreter.specs.Elements.{TaskContinues}
 use Rattle.cedar_interpreter.proofs.evaluation.Evaluation.resumed.Goals as goal
 
 pub returns-in-Ok-clause-leads : goal.returns-in-Ok-clause-leads
 returns-in-Ok-clause-leads g c =
-    subst (λ o. LeadsIn c.args.self.now c.args.levels c.args.whole c.args.task (outcome_answer o) c.valued.result) (sym c.in-Ok.is) c.valued.ensures.leads
+    subst (λ o. LeadsIn c.args.self.now c.args.levels c.args.whole c.args.task (ending_answer o) c.valued.result) (sym c.in-Ok.is) c.valued.ensures.leads
 
 pub returns-in-Err-clause-leads : goal.returns-in-Err-clause-leads
 returns-in-Err-clause-leads g c =
-    subst (λ o. LeadsIn c.args.self.now c.args.levels c.args.whole c.args.task (outcome_answer o) c.stopped.result) (sym c.in-Err.is) (c.stopped.ensures.leads c.args.levels)
+    subst (λ o. LeadsIn c.args.self.now c.args.levels c.args.whole c.args.task (ending_answer o) c.stopped.result) (sym c.in-Err.is) (c.stopped.ensures.leads c.args.levels)
 
 pub returns-in-Ok-clause-elements : goal.returns-in-Ok-clause-elements
 returns-in-Ok-clause-elements g c =
-    subst (λ o. TaskGoesOn c.args.task o c.valued.result) (sym c.in-Ok.is) c.valued.ensures.elements
+    subst (λ o. TaskContinues c.args.task o c.valued.result) (sym c.in-Ok.is) c.valued.ensures.elements
 
 pub returns-in-Err-clause-elements : goal.returns-in-Err-clause-elements
 returns-in-Err-clause-elements g c =
-    subst (λ o. TaskGoesOn c.args.task o c.stopped.result) (sym c.in-Err.is) c.stopped.ensures.elements
+    subst (λ o. TaskContinues c.args.task o c.stopped.result) (sym c.in-Err.is) c.stopped.ensures.elements

@@ -1,12 +1,12 @@
 use Rattle.cedar_expressions.specs.View.{expr_loc}
-use Rattle.cedar_interpreter.specs.Settings.{setting_of, calls_in}
-use Rattle.cedar_interpreter.specs.PartsLaws.{parts_begin}
+use Rattle.cedar_interpreter.specs.Settings.{evaluation_setting, calls_in}
+use Rattle.cedar_interpreter.specs.PartsLaws.{parts_start}
 use Rattle.cedar_interpreter.specs.Elements.{taken_stands}
 use Rattle.cedar_interpreter.proofs.evaluation.Evaluation.set.Goals as goal
 
-pub returns-clause-begins : goal.returns-clause-begins
-returns-clause-begins g c r k =
-    parts_begin (setting_of r c.args.self.now) (calls_in c.args.self.now) k _ (expr_loc c.args.whole.now.value) c.loc_of.result c.set-next.result c.first_part.result c.set-next.ensures.begins c.first_part.ensures.taken
+pub returns-clause-starts : goal.returns-clause-starts
+returns-clause-starts g c r k =
+    parts_start (evaluation_setting r c.args.self.now) (calls_in c.args.self.now) k _ (expr_loc c.args.whole.now.value) c.loc_of.result c.set-next.result c.first_part.result c.set-next.ensures.starts c.first_part.ensures.taken
 
 pub returns-clause-elements : goal.returns-clause-elements
 returns-clause-elements g c =

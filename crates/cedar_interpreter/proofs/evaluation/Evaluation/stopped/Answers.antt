@@ -3,8 +3,8 @@ use Rattle.cedar_model.specs.Failures.{fails}
 use Rattle.cedar_frames.specs.declared.machine.Step.TheVariants.{Done}
 use Rattle.cedar_interpreter.specs.declared.stopped.Stopped.TheVariants as stops
 use Rattle.cedar_interpreter.specs.Endings.{stopped_failure}
-use Rattle.cedar_interpreter.specs.Elements.{TaskGoesOn}
-use Rattle.cedar_interpreter.specs.Steps.{LeadsIn, limit_leads_in, want_leads_in}
+use Rattle.cedar_interpreter.specs.Elements.{TaskContinues}
+use Rattle.cedar_interpreter.specs.Continuations.{LeadsIn, limit_leads_in, want_leads_in}
 use Rattle.cedar_interpreter.proofs.evaluation.Evaluation.stopped.Goals as goal
 
 pub returns-in-Memory-clause-leads : goal.returns-in-Memory-clause-leads
@@ -21,4 +21,4 @@ returns-in-Failed-clause-leads g c levels =
 
 pub returns-in-Failed-clause-elements : goal.returns-in-Failed-clause-elements
 returns-in-Failed-clause-elements g c =
-    subst (λ s. TaskGoesOn c.args.task (Err s) c.kept_or_failed.result) (sym c.in-Failed.is) c.kept_or_failed.ensures.elements
+    subst (λ s. TaskContinues c.args.task (Err s) c.kept_or_failed.result) (sym c.in-Failed.is) c.kept_or_failed.ensures.elements

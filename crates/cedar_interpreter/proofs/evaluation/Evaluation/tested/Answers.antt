@@ -6,9 +6,9 @@ use Rattle.cedar_model.specs.Rules.{Runs}
 use Rattle.cedar_expressions.specs.View.{view}
 use Rattle.cedar_values.specs.Residuals.{partial_view}
 use Rattle.cedar_interpreter.specs.declared.frame.Pending.TheVariants as pendings
-use Rattle.cedar_interpreter.specs.Settings.{setting_of, calls_in}
-use Rattle.cedar_interpreter.specs.Steps.{begins_in, goes_on_in, value_leads_in}
-use Rattle.cedar_interpreter.specs.Told.{told_begins}
+use Rattle.cedar_interpreter.specs.Settings.{evaluation_setting, calls_in}
+use Rattle.cedar_interpreter.specs.Continuations.{starts_in, continues_in, value_leads_in}
+use Rattle.cedar_interpreter.specs.Direct.{direct_starts}
 use Rattle.cedar_interpreter.proofs.evaluation.Evaluation.tested.Goals as goal
 
 pub returns-in-Some : goal.returns-in-Some
@@ -16,12 +16,12 @@ returns-in-Some g c =
     let e = c.args.self.now in
     let p = pendings.HasAttr c.args.attr.now in
     let t = has_attribute (view c.args.expr.now.value) (rc_str_bytes c.args.attr.now) in
-    let v = partial_view c.in-Some.told.value in
-    told_begins e c.args.levels c.args.whole.now p t (view c.args.expr.now.value) v c.after_tested.result
+    let v = partial_view c.in-Some.direct.value in
+    direct_starts e c.args.levels c.args.whole.now p t (view c.args.expr.now.value) v c.after_tested.result
     (λ r k x a runs uses. (x, runs, uses))
-    (λ r k speaks low. subst (λ d. Runs (setting_of r e) (calls_in e) k (view d) (answers v)) c.deref.ensures (c.in-Some.ensures r k speaks low))
-    (value_leads_in e c.args.levels c.args.whole.now p v c.after_tested.result (goes_on_in e c.args.levels c.args.whole.now p (answers v) c.after_tested.result c.after_tested.ensures))
+    (λ r k speaks low. subst (λ d. Runs (evaluation_setting r e) (calls_in e) k (view d) (answers v)) c.deref.ensures (c.in-Some.ensures r k speaks low))
+    (value_leads_in e c.args.levels c.args.whole.now p v c.after_tested.result (continues_in e c.args.levels c.args.whole.now p (answers v) c.after_tested.result c.after_tested.ensures))
 
 pub returns-in-None : goal.returns-in-None
 returns-in-None g c =
-    begins_in c.args.self.now c.args.levels c.args.whole.now (has_attribute (view c.args.expr.now.value) (rc_str_bytes c.args.attr.now)) c.wait_for_tested.result c.wait_for_tested.ensures
+    starts_in c.args.self.now c.args.levels c.args.whole.now (has_attribute (view c.args.expr.now.value) (rc_str_bytes c.args.attr.now)) c.wait_for_tested.result c.wait_for_tested.ensures

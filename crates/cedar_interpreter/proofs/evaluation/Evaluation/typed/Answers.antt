@@ -4,9 +4,9 @@ use Rattle.cedar_model.specs.Failures.{answers_value}
 use Rattle.cedar_model.specs.Rules.{Runs, is_part}
 use Rattle.cedar_names.specs.Names.{type_text}
 use Rattle.cedar_expressions.specs.View.{view}
-use Rattle.cedar_interpreter.specs.Settings.{setting_of, calls_in}
-use Rattle.cedar_interpreter.specs.Steps.{begins_in}
-use Rattle.cedar_interpreter.specs.Told.{told_gives}
+use Rattle.cedar_interpreter.specs.Settings.{evaluation_setting, calls_in}
+use Rattle.cedar_interpreter.specs.Continuations.{starts_in}
+use Rattle.cedar_interpreter.specs.Direct.{direct_gives}
 use Rattle.cedar_interpreter.proofs.evaluation.Evaluation.typed.Goals as goal
 
 pub returns-in-Some : goal.returns-in-Some
@@ -14,11 +14,11 @@ returns-in-Some g c =
     let e = c.args.self.now in
     let t = view c.args.expr.now.value in
     let u = type_text c.args.entity_type.now in
-    told_gives e c.args.levels c.args.whole.now (is_of_type t u) t c.in-Some.told.what (is_part u) c.answered.result
+    direct_gives e c.args.levels c.args.whole.now (is_of_type t u) t c.in-Some.direct.what (is_part u) c.answered.result
     (λ r k x a runs is. (x, runs, is))
-    (λ r k speaks low. subst (λ d. Runs (setting_of r e) (calls_in e) k (view d) (answers_value c.in-Some.told.what)) c.deref.ensures (c.in-Some.ensures.told r k speaks low))
+    (λ r k speaks low. subst (λ d. Runs (evaluation_setting r e) (calls_in e) k (view d) (answers_value c.in-Some.direct.what)) c.deref.ensures (c.in-Some.ensures.direct r k speaks low))
     (c.answered.ensures _ c.is_of_part.ensures)
 
 pub returns-in-None : goal.returns-in-None
 returns-in-None g c =
-    begins_in c.args.self.now c.args.levels c.args.whole.now (is_of_type (view c.args.expr.now.value) (type_text c.args.entity_type.now)) c.wait_for_entity.result c.wait_for_entity.ensures
+    starts_in c.args.self.now c.args.levels c.args.whole.now (is_of_type (view c.args.expr.now.value) (type_text c.args.entity_type.now)) c.wait_for_entity.result c.wait_for_entity.ensures

@@ -5,9 +5,9 @@ use Rattle.cedar_model.specs.Terms.{unknown}
 use Rattle.cedar_model.specs.Operators.{unknown_answer}
 use Rattle.cedar_names.specs.Leaves.{type_view}
 use Rattle.cedar_expressions.specs.View.{expr_loc}
-use Rattle.cedar_interpreter.specs.Settings.{setting_of, calls_in, mapper_view}
-use Rattle.cedar_interpreter.specs.Tasks.{Begins}
-use Rattle.cedar_interpreter.specs.Laws.{gives_begins, or_want_gives}
+use Rattle.cedar_interpreter.specs.Settings.{evaluation_setting, calls_in, mapper_view}
+use Rattle.cedar_interpreter.specs.Tasks.{Starts}
+use Rattle.cedar_interpreter.specs.Laws.{gives_starts, or_want_gives}
 use Rattle.cedar_interpreter.proofs.evaluation.Evaluation.unknown.Goals as goal
 
 pub returns : goal.returns
@@ -15,6 +15,6 @@ returns g c r k =
     let n = rc_str_bytes c.args.unknown.now.name in
     let t = option_map type_view c.args.unknown.now.type_annotation in
     let b = unknown_answer (mapper_view c.args.self.now.given.now.mapper) n t in
-    subst (λ u. Begins (setting_of r c.args.self.now) (calls_in c.args.self.now) k (expr_loc c.args.whole.now.value) u c.or_want.result) (sym c.requires)
-    (gives_begins (setting_of r c.args.self.now) (calls_in c.args.self.now) k (expr_loc c.args.whole.now.value) (unknown n t) b c.or_want.result (λ a ok is. is)
+    subst (λ u. Starts (evaluation_setting r c.args.self.now) (calls_in c.args.self.now) k (expr_loc c.args.whole.now.value) u c.or_want.result) (sym c.requires)
+    (gives_starts (evaluation_setting r c.args.self.now) (calls_in c.args.self.now) k (expr_loc c.args.whole.now.value) (unknown n t) b c.or_want.result (λ a ok is. is)
     (or_want_gives (expr_loc c.args.whole.now.value) b c.mapped.result c.or_want.result c.mapped.ensures c.or_want.ensures))

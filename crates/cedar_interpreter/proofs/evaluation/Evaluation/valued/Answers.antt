@@ -1,8 +1,8 @@
 use Rattle.std.proofs.Common.{sym, subst, Ok}
 use Rattle.cedar_model.specs.Failures.{answers}
 use Rattle.cedar_values.specs.Residuals.{partial_view}
-use Rattle.cedar_interpreter.specs.Steps.{LeadsIn, value_leads_in}
-use Rattle.cedar_interpreter.specs.Elements.{TaskWaits, TaskGoesOn}
+use Rattle.cedar_interpreter.specs.Continuations.{LeadsIn, value_leads_in}
+use Rattle.cedar_interpreter.specs.Elements.{TaskWaits, TaskContinues}
 use Rattle.cedar_interpreter.proofs.evaluation.Evaluation.valued.Goals as goal
 
 pub returns-in-Parts-clause-leads : goal.returns-in-Parts-clause-leads
@@ -16,7 +16,7 @@ returns-in-Other-clause-leads g c =
 
 pub returns-in-Parts-clause-elements : goal.returns-in-Parts-clause-elements
 returns-in-Parts-clause-elements g c =
-    subst (λ t. TaskGoesOn t (Ok c.args.value) c.after_part.result) (sym c.in-Parts.is) c.after_part.ensures.elements
+    subst (λ t. TaskContinues t (Ok c.args.value) c.after_part.result) (sym c.in-Parts.is) c.after_part.ensures.elements
 
 pub returns-in-Other-clause-elements : goal.returns-in-Other-clause-elements
 returns-in-Other-clause-elements g c es d waits stands = absurd (subst (λ t. TaskWaits es t d) c.in-Other.is waits)

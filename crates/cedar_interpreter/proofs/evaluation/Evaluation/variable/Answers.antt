@@ -4,13 +4,13 @@ use Rattle.cedar_model.specs.Failures.{answers}
 use Rattle.cedar_names.specs.Leaves.{variable_view}
 use Rattle.cedar_expressions.specs.View.{expr_loc}
 use Rattle.cedar_values.specs.Residuals.{partial_view}
-use Rattle.cedar_interpreter.specs.Settings.{setting_of, calls_in}
-use Rattle.cedar_interpreter.specs.Laws.{gives_begins, gives_placed}
+use Rattle.cedar_interpreter.specs.Settings.{evaluation_setting, calls_in}
+use Rattle.cedar_interpreter.specs.Laws.{gives_starts, gives_placed}
 use Rattle.cedar_interpreter.proofs.evaluation.Evaluation.variable.Goals as goal
 
 pub returns-in-Ok : goal.returns-in-Ok
 returns-in-Ok g c levels = (
-  λ r k speaks low. gives_begins (setting_of r c.args.self.now) (calls_in c.args.self.now) k (expr_loc c.args.whole.now.value) (variable (variable_view c.args.var)) (answers (partial_view c.in-Ok.part)) c.done.result
+  λ r k speaks low. gives_starts (evaluation_setting r c.args.self.now) (calls_in c.args.self.now) k (expr_loc c.args.whole.now.value) (variable (variable_view c.args.var)) (answers (partial_view c.in-Ok.part)) c.done.result
       (λ a ok is. is ∙ ap answers (c.in-Ok.ensures.cases.0 ∙ ap partial_view c.given_for.ensures ∙ speaks (variable_view c.args.var))) c.done.ensures.answer,
   gives_placed (expr_loc c.args.whole.now.value) c.done.result (answers (partial_view c.in-Ok.part)) c.done.ensures.answer,
 )

@@ -1,7 +1,7 @@
 use Rattle.std.proofs.Common.{◌≤◌, suc, arith}
-use Rattle.cedar_interpreter.specs.Settings.{Speaks, setting_of, calls_in}
+use Rattle.cedar_interpreter.specs.Settings.{Speaks, evaluation_setting, calls_in}
 use Rattle.cedar_interpreter.specs.Laws.{resume_right, left_fewer}
-use Rattle.cedar_interpreter.specs.Elements.{both_resume, goes_on_standing}
+use Rattle.cedar_interpreter.specs.Elements.{both_resume, continues_standing}
 use Rattle.cedar_interpreter.proofs.machine.EvaluationMachine.resume.Goals as goal
 
 pub returns-clause-right : goal.returns-clause-right
@@ -9,10 +9,10 @@ returns-clause-right g c k t d is waits right =
     let s = c.args.self.now in
     let n = c.resumed.result in
     let low : c.args.levels ≤ suc k = omega (arith, is) in
-    both_resume (λ r. Speaks r s) (λ r. setting_of r s) (calls_in s) k t n
-    (resume_right (λ r. Speaks r s) (λ r. setting_of r s) (calls_in s) k c.args.frame t d c.args.answer n waits.0 right.0
+    both_resume (λ r. Speaks r s) (λ r. evaluation_setting r s) (calls_in s) k t n
+    (resume_right (λ r. Speaks r s) (λ r. evaluation_setting r s) (calls_in s) k c.args.frame t d c.args.answer n waits.0 right.0
     (λ r speaks. c.resumed.ensures.leads.0 r k speaks low) c.resumed.ensures.leads.1)
-    (goes_on_standing (λ r. Speaks r s) (λ r. setting_of r s) (calls_in s) k c.args.frame t d c.args.answer n waits right c.resumed.ensures.elements)
+    (continues_standing (λ r. Speaks r s) (λ r. evaluation_setting r s) (calls_in s) k c.args.frame t d c.args.answer n waits right c.resumed.ensures.elements)
 
 pub returns-clause-fewer : goal.returns-clause-fewer
 returns-clause-fewer g c = left_fewer c.args.frame c.resumed.result c.resumed.ensures.leads.2

@@ -1,0 +1,498 @@
+//! Direct evaluators: the values of low expressions, without a turn of the loop.
+ghost use Rattle.std.specs.Prelude.{◌≡◌, ◌≤◌, ℕ, suc, Ok, length, IfOk, IfSome};
+ghost use Rattle.std.specs.BTreeMap.{IsFromIterResult};
+ghost use Rattle.std.specs.List.{zip};
+ghost use Rattle.std.specs.List.Sorted.{IsStrictlySortedBy};
+ghost use Rattle.std.specs.Rc.{rc_str_bytes};
+ghost use Rattle.cedar_model.specs.Terms as Terms;
+ghost use Rattle.cedar_model.specs.Sets.{represented_fields_of};
+ghost use Rattle.cedar_model.specs.Values.{record_represented};
+ghost use Rattle.cedar_names.specs.Names.{type_text};
+ghost use Rattle.cedar_names.specs.Leaves.{unary_view, binary_view, pattern_view, variable_view};
+ghost use Rattle.cedar_expressions.specs.View.{view, expr_loc, terms_view, fields_view, extended_has_of};
+ghost use Rattle.cedar_values.specs.Sound.{whats};
+ghost use Rattle.cedar_restricted_evaluator.specs.Keys.{key_order, texts_of, under};
+ghost use Rattle.cedar_interpreter.specs.Direct.{IsValueOf, HasDirectValue, HasDirectBool, HasDirectValueAbove};
+ghost use Rattle.cedar_interpreter.specs.DirectEvaluators.{HasDirectParts, HasDirectPairs, some_above};
+
+use crate::direct::{bool_value, literal_value, value_in};
+use crate::evaluation::Evaluation;
+use cedar_expressions::{Expr, ExprKind};
+use cedar_names::{BinaryOp, EntityType, FirstRest, Literal, Pattern, UnaryOp, Var};
+use cedar_operators::attributes::attribute_of;
+use cedar_operators::binary::binary_app;
+use cedar_partial_operators::attributes::{extended_has_of_part, has_of_part};
+use cedar_partial_operators::unary::{is_of_part, like_of_part, unary_of_part};
+use cedar_values::{PartialValue, Value, ValueKind};
+use std::alloc::{AllocError, Global};
+use std::collections::BTreeMap;
+use std::rc::{Rc, RcStr};
+
+/// What evaluates directly expressions that are no higher than so many levels.
+pub(crate) trait DirectEvaluator {
+    /// How high they are.
+    ghost height: { ℕ };
+
+    /// Whether the expression is worth a try: it is no higher, and has neither calls nor slots nor unknowns. No promise
+    /// rests on it.
+    fn suits(&self, e: &Expr) -> bool;
+
+    /// The value of the expression, if there is one.
+    fn evaluate(&self, within: &Evaluation<'_, '_, '_>, alloc: Global, e: &Expr) -> Option<Value>
+        ensures { HasDirectValue within.now height (view e.now) result };
+
+    /// They are at least one level high.
+    ghost some: { 1 ≤ height };
+}
+
+/// That of literals, and of variables that are known.
+#[derive(Drop)]
+pub(crate) struct LeafEvaluator;
+
+/// That of expressions whose parts the one below evaluates.
+#[derive(Drop)]
+pub(crate) struct EvaluatorAbove<T> {
+    pub(crate) below: T,
+}
+
+impl DirectEvaluator for LeafEvaluator {
+    ghost height = { 1 };
+
+    fn suits(&self, e: &Expr) -> bool {
+        match e.expr_kind() {
+            ExprKind::Lit(_) => true,
+            ExprKind::Var(_) => true,
+            _ => false,
+        }
+    }
+
+    #[tactic(auto, using(cedar_expressions::proofs::Levels::levels))]
+    fn evaluate(&self, within: &Evaluation<'_, '_, '_>, alloc: Global, e: &Expr) -> Option<Value> {
+        match e.expr_kind() {
+            ExprKind::Lit(value) => literal_value(value),
+            ExprKind::Var(var) => within.value_of_variable(*var),
+            _ => None,
+        }
+    }
+
+    ghost some = { some_above 0 };
+}
+
+impl<T: DirectEvaluator> DirectEvaluator for EvaluatorAbove<T> {
+    ghost height = { suc T.height };
+
+    fn suits(&self, e: &Expr) -> bool {
+        match e.expr_kind() {
+            ExprKind::Lit(_) => true,
+            ExprKind::Var(_) => true,
+            ExprKind::UnaryApp { op: _, arg } => self.below.suits(arg),
+            ExprKind::And { left, right } => self.below.suits(left) && self.below.suits(right),
+            ExprKind::Or { left, right } => self.below.suits(left) && self.below.suits(right),
+            ExprKind::If {
+                test_expr,
+                then_expr,
+                else_expr,
+            } => {
+                self.below.suits(test_expr)
+                    && self.below.suits(then_expr)
+                    && self.below.suits(else_expr)
+            }
+            ExprKind::BinaryApp { op: _, arg1, arg2 } => {
+                self.below.suits(arg1) && self.below.suits(arg2)
+            }
+            ExprKind::GetAttr { expr, attr: _ } => self.below.suits(expr),
+            ExprKind::HasAttr { expr, attr: _ } => self.below.suits(expr),
+            ExprKind::ExtHasAttr { expr, attrs: _ } => self.below.suits(expr),
+            ExprKind::Like { expr, pattern: _ } => self.below.suits(expr),
+            ExprKind::Is {
+                expr,
+                entity_type: _,
+            } => self.below.suits(expr),
+            ExprKind::Set(parts) => self.suits_parts(parts.as_slice()),
+            ExprKind::Record(pairs) => self.suits_pairs(pairs),
+            _ => false,
+        }
+    }
+
+    #[tactic(auto, using(cedar_expressions::proofs::Levels::levels))]
+    fn evaluate(&self, within: &Evaluation<'_, '_, '_>, alloc: Global, e: &Expr) -> Option<Value> {
+        match e.expr_kind() {
+            ExprKind::Lit(value) => literal_value(value),
+            ExprKind::Var(var) => within.value_of_variable(*var),
+            ExprKind::If {
+                test_expr,
+                then_expr,
+                else_expr,
+            } => self.guarded(within, alloc, test_expr, then_expr, else_expr),
+            ExprKind::And { left, right } => self.and(within, alloc, left, right),
+            ExprKind::Or { left, right } => self.or(within, alloc, left, right),
+            ExprKind::UnaryApp { op, arg } => self.unary(within, alloc, *op, arg),
+            ExprKind::BinaryApp { op, arg1, arg2 } => self.binary(within, alloc, *op, arg1, arg2),
+            ExprKind::GetAttr { expr, attr } => self.attribute(within, alloc, expr, attr),
+            ExprKind::HasAttr { expr, attr } => self.has(within, alloc, expr, attr),
+            ExprKind::ExtHasAttr { expr, attrs } => self.extended_has(within, alloc, expr, attrs),
+            ExprKind::Like { expr, pattern } => self.like(within, alloc, expr, pattern),
+            ExprKind::Is { expr, entity_type } => self.is_of(within, alloc, expr, entity_type),
+            ExprKind::Set(parts) => self.set(within, alloc, parts.as_slice()),
+            ExprKind::Record(pairs) => self.record(within, alloc, pairs),
+            _ => None,
+        }
+    }
+
+    ghost some = { some_above T.height };
+}
+
+impl<T: DirectEvaluator> EvaluatorAbove<T> {
+    fn suits_parts(&self, parts: &[Expr]) -> bool {
+        for part in parts {
+            if !self.below.suits(part) {
+                return false;
+            }
+        }
+        true
+    }
+
+    fn suits_pairs(&self, pairs: &BTreeMap<RcStr, Expr>) -> bool {
+        for (_, part) in pairs.iter() {
+            if !self.below.suits(part) {
+                return false;
+            }
+        }
+        true
+    }
+
+    // `if` of what has values.
+    fn guarded(
+        &self,
+        within: &Evaluation<'_, '_, '_>,
+        alloc: Global,
+        test_expr: &Expr,
+        then_expr: &Expr,
+        else_expr: &Expr,
+    ) -> Option<Value>
+        ensures { HasDirectValueAbove within.now T.height
+            (Terms.if_then_else (view test_expr.now) (view then_expr.now) (view else_expr.now)) result }
+    {
+        match self.boolean(within, alloc, test_expr) {
+            Some(true) => self.below.evaluate(within, alloc, then_expr),
+            Some(false) => self.below.evaluate(within, alloc, else_expr),
+            None => None,
+        }
+    }
+
+    // `&&` of what has values.
+    fn and(
+        &self,
+        within: &Evaluation<'_, '_, '_>,
+        alloc: Global,
+        left: &Expr,
+        right: &Expr,
+    ) -> Option<Value>
+        ensures { HasDirectValueAbove within.now T.height (Terms.both (view left.now) (view right.now)) result }
+    {
+        match self.boolean(within, alloc, left) {
+            Some(true) => value_of(self.boolean(within, alloc, right)),
+            Some(false) => value_of(Some(false)),
+            None => None,
+        }
+    }
+
+    // `||` of what has values.
+    fn or(
+        &self,
+        within: &Evaluation<'_, '_, '_>,
+        alloc: Global,
+        left: &Expr,
+        right: &Expr,
+    ) -> Option<Value>
+        ensures { HasDirectValueAbove within.now T.height (Terms.either (view left.now) (view right.now)) result }
+    {
+        match self.boolean(within, alloc, left) {
+            Some(true) => value_of(Some(true)),
+            Some(false) => value_of(self.boolean(within, alloc, right)),
+            None => None,
+        }
+    }
+
+    // The boolean that an expression is, if it has a value and that is one.
+    fn boolean(&self, within: &Evaluation<'_, '_, '_>, alloc: Global, e: &Expr) -> Option<bool>
+        ensures { HasDirectBool within.now T.height (view e.now) result }
+    {
+        bool_value(self.below.evaluate(within, alloc, e))
+    }
+
+    // An operator on one operand that has a value.
+    fn unary(
+        &self,
+        within: &Evaluation<'_, '_, '_>,
+        alloc: Global,
+        op: UnaryOp,
+        arg: &Expr,
+    ) -> Option<Value>
+        ensures { HasDirectValueAbove within.now T.height (Terms.unary (unary_view op) (view arg.now)) result }
+    {
+        match self.below.evaluate(within, alloc, arg) {
+            Some(value) => value_in(unary_of_part(alloc, op, PartialValue::Value(value), None)),
+            None => None,
+        }
+    }
+
+    // An operator on two operands that have values.
+    fn binary(
+        &self,
+        within: &Evaluation<'_, '_, '_>,
+        alloc: Global,
+        op: BinaryOp,
+        left: &Expr,
+        right: &Expr,
+    ) -> Option<Value>
+        ensures { HasDirectValueAbove within.now T.height
+            (Terms.binary (binary_view op) (view left.now) (view right.now)) result }
+    {
+        match self.below.evaluate(within, alloc, left) {
+            Some(left) => match self.below.evaluate(within, alloc, right) {
+                Some(right) => {
+                    let entities = within.given.entities;
+                    let extensions = within.given.extensions;
+                    value_in(binary_app(alloc, entities, extensions, op, left, right, None))
+                }
+                None => None,
+            },
+            None => None,
+        }
+    }
+
+    // An attribute of what has a value.
+    fn attribute(
+        &self,
+        within: &Evaluation<'_, '_, '_>,
+        alloc: Global,
+        expr: &Expr,
+        attr: &RcStr,
+    ) -> Option<Value>
+        ensures { HasDirectValueAbove within.now T.height (Terms.get_attribute (view expr.now) (rc_str_bytes attr.now)) result }
+    {
+        match variable_in(expr) {
+            Some(var) => within.attribute_of_variable(alloc, var, attr),
+            None => self.attribute_of_other(within, alloc, expr, attr),
+        }
+    }
+
+    // The same of what is no variable.
+    fn attribute_of_other(
+        &self,
+        within: &Evaluation<'_, '_, '_>,
+        alloc: Global,
+        expr: &Expr,
+        attr: &RcStr,
+    ) -> Option<Value>
+        ensures { HasDirectValueAbove within.now T.height (Terms.get_attribute (view expr.now) (rc_str_bytes attr.now)) result }
+    {
+        match self.below.evaluate(within, alloc, expr) {
+            Some(value) => {
+                value_in(attribute_of(alloc, within.given.entities, &value, attr, None))
+            }
+            None => None,
+        }
+    }
+
+    // Whether what has a value has an attribute.
+    fn has(
+        &self,
+        within: &Evaluation<'_, '_, '_>,
+        alloc: Global,
+        expr: &Expr,
+        attr: &RcStr,
+    ) -> Option<Value>
+        ensures { HasDirectValueAbove within.now T.height (Terms.has_attribute (view expr.now) (rc_str_bytes attr.now)) result }
+    {
+        match self.below.evaluate(within, alloc, expr) {
+            Some(value) => {
+                let part = PartialValue::Value(value);
+                value_in(has_of_part(alloc, within.given.entities, part, attr))
+            }
+            None => None,
+        }
+    }
+
+    // Whether what has a value has attributes, one in the other.
+    fn extended_has(
+        &self,
+        within: &Evaluation<'_, '_, '_>,
+        alloc: Global,
+        expr: &Expr,
+        attrs: &FirstRest<RcStr>,
+    ) -> Option<Value>
+        ensures { HasDirectValueAbove within.now T.height (extended_has_of (view expr.now) attrs.now) result }
+    {
+        match self.below.evaluate(within, alloc, expr) {
+            Some(value) => {
+                let part = PartialValue::Value(value);
+                value_in(extended_has_of_part(alloc, within.given.entities, part, attrs))
+            }
+            None => None,
+        }
+    }
+
+    // Whether what has a value matches a pattern.
+    fn like(
+        &self,
+        within: &Evaluation<'_, '_, '_>,
+        alloc: Global,
+        expr: &Expr,
+        pattern: &Pattern,
+    ) -> Option<Value>
+        ensures { HasDirectValueAbove within.now T.height (Terms.like (view expr.now) (pattern_view pattern.now)) result }
+    {
+        match self.below.evaluate(within, alloc, expr) {
+            Some(value) => value_in(like_of_part(alloc, PartialValue::Value(value), pattern)),
+            None => None,
+        }
+    }
+
+    // Whether what has a value is of an entity type.
+    fn is_of(
+        &self,
+        within: &Evaluation<'_, '_, '_>,
+        alloc: Global,
+        expr: &Expr,
+        entity_type: &EntityType,
+    ) -> Option<Value>
+        ensures { HasDirectValueAbove within.now T.height (Terms.is_of_type (view expr.now) (type_text entity_type.now)) result }
+    {
+        match self.below.evaluate(within, alloc, expr) {
+            Some(value) => value_in(is_of_part(alloc, PartialValue::Value(value), entity_type)),
+            None => None,
+        }
+    }
+
+    // A set of what has values.
+    fn set(&self, within: &Evaluation<'_, '_, '_>, alloc: Global, parts: &[Expr]) -> Option<Value>
+        ensures { HasDirectValueAbove within.now T.height (Terms.set_of (terms_view parts.now)) result }
+    {
+        match self.values(within, alloc, parts) {
+            Ok(Some(values)) => made(Value::set(alloc, values, None)),
+            Ok(None) => None,
+            Err(_) => None,
+        }
+    }
+
+    // The values of all parts, if all have one.
+    fn values(
+        &self,
+        within: &Evaluation<'_, '_, '_>,
+        alloc: Global,
+        parts: &[Expr],
+    ) -> Result<Option<Vec<Value>>, AllocError>
+        ensures { HasDirectParts within.now T.height parts.now result }
+    {
+        let mut values: Vec<Value> = Vec::with_capacity(alloc, parts.len())?;
+        'parts: for part in parts {
+            match self.below.evaluate(within, alloc, part) {
+                Some(value) => values.push(standing_at(value, part))?,
+                None => return Ok(None),
+            }
+        }
+        Ok(Some(values))
+    }
+
+    // A record of what has values.
+    fn record(
+        &self,
+        within: &Evaluation<'_, '_, '_>,
+        alloc: Global,
+        pairs: &BTreeMap<RcStr, Expr>,
+    ) -> Option<Value>
+        ensures { HasDirectValueAbove within.now T.height (Terms.record_of (fields_view pairs.now.entries)) result }
+    {
+        match self.pairs(within, alloc, pairs) {
+            Ok(Some((keys, values))) => made(record_value(alloc, keys, values)),
+            Ok(None) => None,
+            Err(_) => None,
+        }
+    }
+
+    // The keys and the values of all pairs, if all have one.
+    fn pairs(
+        &self,
+        within: &Evaluation<'_, '_, '_>,
+        alloc: Global,
+        pairs: &BTreeMap<RcStr, Expr>,
+    ) -> Result<Option<(Vec<RcStr>, Vec<Value>)>, AllocError>
+        ensures { HasDirectPairs within.now T.height pairs.now.entries result }
+    {
+        let mut keys: Vec<RcStr> = Vec::with_capacity(alloc, pairs.len())?;
+        let mut values: Vec<Value> = Vec::with_capacity(alloc, pairs.len())?;
+        'pairs: for (key, part) in pairs.iter() {
+            match self.below.evaluate(within, alloc, part) {
+                Some(value) => {
+                    values.push(standing_at(value, part))?;
+                    keys.push(key.clone()?)?;
+                }
+                None => return Ok(None),
+            }
+        }
+        Ok(Some((keys, values)))
+    }
+}
+
+// The variable that the expression is, if it is one.
+#[tactic(auto, using(cedar_expressions::proofs::Levels::levels))]
+fn variable_in(e: &Expr) -> Option<Var>
+    ensures { IfSome result (λ v. view e.now ≡ Terms.variable (variable_view v)) }
+{
+    match e.expr_kind() {
+        ExprKind::Var(var) => Some(*var),
+        _ => None,
+    }
+}
+
+// The boolean as a value.
+fn value_of(b: Option<bool>) -> Option<Value>
+    ensures { IsValueOf b result }
+{
+    match b {
+        Some(b) => Some(Value::new(ValueKind::Lit(Literal::Bool(b)), None)),
+        None => None,
+    }
+}
+
+// The value, where the expression stands.
+fn standing_at(mut value: Value, e: &Expr) -> Value
+    ensures what { result.what ≡ value.what }
+    ensures place { result.loc ≡ expr_loc e.now }
+{
+    value.loc = e.source_loc().copied();
+    value
+}
+
+// The record of these values under these keys.
+fn record_value(alloc: Global, keys: Vec<RcStr>, values: Vec<Value>) -> Result<Value, AllocError>
+    requires { (length keys.items ≡ length values.items) × IsStrictlySortedBy key_order keys.items }
+    ensures { IfOk result (λ v. v.what
+        ≡ record_represented (represented_fields_of (under (texts_of keys.items) (whats values.items)))) }
+{
+    let fields = fields_of(alloc, keys, values)?;
+    Ok(Value::record(alloc, fields, None)?)
+}
+
+// The map of the values under the keys, in turn.
+fn fields_of(
+    alloc: Global,
+    keys: Vec<RcStr>,
+    values: Vec<Value>,
+) -> Result<BTreeMap<RcStr, Value>, AllocError>
+    ensures { IfOk result (λ m. IsFromIterResult key_order (zip keys.items values.items) m) }
+{
+    keys.into_iter().zip(values).collect(alloc)
+}
+
+// What was made, unless memory is wanting.
+fn made(value: Result<Value, AllocError>) -> Option<Value>
+    ensures { IfSome result (λ v. value ≡ Ok v) }
+{
+    match value {
+        Ok(value) => Some(value),
+        Err(_) => None,
+    }
+}
