@@ -16,7 +16,7 @@ use Rattle.cedar_model.specs.Responses.{Decided, decides, errs_with, decided, de
 use Rattle.cedar_model.specs.Rules.{StoredCalls, Runs, Meets, joined, bool_or_failure, binary_of_parts, binary_beside, beside_residual, is_part}
 use Rattle.cedar_values.specs.Residuals.{partial_view}
 use Rattle.cedar_interpreter.specs.Promises.{IsPromised}
-use Rattle.cedar_interpreter.specs.Reads.{as_stored, none_resolved, operator_value}
+use Rattle.cedar_interpreter.proofs.ReadLaws.{as_stored, none_resolved, operator_value}
 use Rattle.cedar_interpreter.specs.Settings.{given_for}
 use Rattle.cedar_evaluator.specs.declared.evaluator.Evaluator.{Evaluator}
 use Rattle.cedar_evaluator.specs.Evaluations.{variables_of, setting_of, calls_in}

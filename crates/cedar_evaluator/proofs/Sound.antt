@@ -19,7 +19,8 @@ use Rattle.cedar_extensions.specs.StoredLaws.{calls_functional, calls_meet_no_li
 use Rattle.cedar_interpreter.specs.declared.evaluation.Mapper.{Mapper}
 use Rattle.cedar_interpreter.specs.declared.evaluation.Mapper.TheVariants as mappers
 use Rattle.cedar_interpreter.specs.Settings.{mapper_view}
-use Rattle.cedar_interpreter.specs.Promises.{IsPromised, promised}
+use Rattle.cedar_interpreter.specs.Promises.{IsPromised}
+use Rattle.cedar_interpreter.proofs.Promised.{promised}
 use Rattle.cedar_evaluator.specs.declared.evaluator.Evaluator.{Evaluator}
 use Rattle.cedar_evaluator.specs.Evaluations.{setting_of, calls_in}
 use Rattle.cedar_evaluator.specs.Variables.{context_of}

@@ -1,1 +1,15 @@
 pub mod Seen
+pub mod Requests
+pub mod Types
+pub mod BooleanLaws
+pub mod KeptLaws
+pub mod ReadLaws
+pub mod Operands
+pub mod StoredLaws
+pub mod PartsLaws
+pub mod Laws
+pub mod ContinuationLaws
+pub mod DirectLaws
+pub mod DirectEvaluatorLaws
+pub mod ElementLaws
+pub mod Promised

@@ -3,7 +3,7 @@ use Rattle.std.specs.Prelude.{◌≡◌, Option, None}
 use Rattle.cedar_model.specs.Terms.{Text, Variable, principal, action, resource, context}
 use Rattle.cedar_model.specs.Values.{Represented}
 use Rattle.cedar_model.specs.Settings as model
-use Rattle.cedar_model.specs.Settings.{unknown_entry, absent_context, RequestPart, Setting, variable_part}
+use Rattle.cedar_model.specs.Settings.{RequestPart, Setting, variable_part}
 use Rattle.cedar_values.specs.declared.partial_value.PartialValue.{PartialValue}
 use Rattle.cedar_values.specs.Residuals.{partial_view}
 use Rattle.cedar_values.specs.Sound.{Placed}
@@ -55,13 +55,3 @@ evaluation_setting r e =
 -- what the stored functions may answer
 abbrev pub calls_in : {X : Type 0} {F : X → Type 0} {g : _} → Evaluation X F g → StoredCalls
 calls_in e = calls_of e.given.now.extensions.now
-
--- some request
-abbrev pub some_request : RequestPart
-some_request =
-    record {
-      principal_entry = unknown_entry None;
-      action_entry = unknown_entry None;
-      resource_entry = unknown_entry None;
-      context_part = absent_context;
-    }

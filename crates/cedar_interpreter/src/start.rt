@@ -13,7 +13,7 @@ ghost use Rattle.cedar_operators.specs.Operands.{unknown_term};
 ghost use Rattle.cedar_interpreter.specs.Settings.{given_for};
 ghost use Rattle.cedar_interpreter.specs.Tasks.{Gives};
 ghost use Rattle.cedar_interpreter.specs.Continuations.{StartsIn, StartsAt};
-ghost use Rattle.cedar_interpreter.specs.PartsLaws.{IsTaken, IsNextPart};
+ghost use Rattle.cedar_interpreter.specs.Parts.{IsTaken, IsNextPart};
 ghost use Rattle.cedar_interpreter.specs.Elements.{IsPartTaken, NextStands, SetNext};
 
 use crate::answers::{answered, done, loc_of, or_want, pair_of_copies};

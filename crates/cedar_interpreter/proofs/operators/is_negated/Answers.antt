@@ -6,7 +6,7 @@ use Rattle.cedar_model.specs.Operators.{unary_answer}
 use Rattle.cedar_model.specs.Rules.{on_part}
 use Rattle.cedar_names.specs.Leaves.{unary_view}
 use Rattle.cedar_values.specs.Residuals.{partial_view}
-use Rattle.cedar_interpreter.specs.Booleans.{negates}
+use Rattle.cedar_interpreter.proofs.BooleanLaws.{negates}
 use Rattle.cedar_interpreter.proofs.operators.is_negated.Goals as goal
 
 pub returns-in-Some-clause-negated : goal.returns-in-Some-clause-negated

@@ -1,5 +1,5 @@
 use Rattle.std.proofs.Common.{◌∙◌}
-use Rattle.cedar_interpreter.specs.Types.{decided_type}
+use Rattle.cedar_interpreter.proofs.Types.{decided_type}
 use Rattle.cedar_interpreter.proofs.stored.same_type.Goals as goal
 
 pub returns : goal.returns

@@ -4,10 +4,11 @@ use Rattle.cedar_expressions.specs.View.{expr_loc}
 use Rattle.cedar_values.specs.Residuals.{residual_term}
 use Rattle.cedar_errors.specs.Answers.{AnswersWith}
 use Rattle.cedar_interpreter.specs.Settings.{mapper_view}
-use Rattle.cedar_interpreter.specs.Stored.{remapped, value_stays, failure_stays}
+use Rattle.cedar_interpreter.specs.Stored.{remapped}
+use Rattle.cedar_interpreter.proofs.StoredLaws.{value_stays, failure_stays}
 use Rattle.cedar_interpreter.specs.Tasks.{Gives}
-use Rattle.cedar_interpreter.specs.PartsLaws.{no_fail}
-use Rattle.cedar_interpreter.specs.Laws.{or_want_gives}
+use Rattle.cedar_interpreter.proofs.PartsLaws.{no_fail}
+use Rattle.cedar_interpreter.proofs.Laws.{or_want_gives}
 use Rattle.cedar_interpreter.proofs.stored.stored_in.Goals as goal
 
 pub returns-in-Ok-Residual : goal.returns-in-Ok-Residual

@@ -2,7 +2,7 @@ use Rattle.std.proofs.Common.{ap, ◌∙◌, subst, Some}
 use Rattle.cedar_expressions.specs.View.{view}
 use Rattle.cedar_interpreter.specs.Settings.{evaluation_setting, calls_in}
 use Rattle.cedar_interpreter.specs.Direct.{IsDirectBool}
-use Rattle.cedar_interpreter.specs.DirectEvaluators.{true_and_direct, false_and_direct}
+use Rattle.cedar_interpreter.proofs.DirectEvaluatorLaws.{true_and_direct, false_and_direct}
 use Rattle.cedar_interpreter.proofs.direct_evaluators.EvaluatorAbove.and.Goals as goal
 
 pub returns-in-Some-true : goal.returns-in-Some-true

@@ -4,7 +4,7 @@ use Rattle.cedar_model.specs.Terms.{variable}
 use Rattle.cedar_names.specs.Leaves.{variable_view}
 use Rattle.cedar_expressions.specs.View.{view}
 use Rattle.cedar_interpreter.specs.Settings.{evaluation_setting, calls_in}
-use Rattle.cedar_interpreter.specs.DirectEvaluators.{attribute_at}
+use Rattle.cedar_interpreter.proofs.DirectEvaluatorLaws.{attribute_at}
 use Rattle.cedar_interpreter.proofs.direct_evaluators.EvaluatorAbove.attribute.Goals as goal
 
 pub returns-in-Some : goal.returns-in-Some

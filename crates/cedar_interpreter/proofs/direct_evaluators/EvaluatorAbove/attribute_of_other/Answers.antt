@@ -1,7 +1,7 @@
 use Rattle.std.specs.Rc.{rc_str_bytes}
 use Rattle.cedar_expressions.specs.View.{view}
 use Rattle.cedar_interpreter.specs.Settings.{evaluation_setting, calls_in}
-use Rattle.cedar_interpreter.specs.Direct.{attribute_direct, value_found}
+use Rattle.cedar_interpreter.proofs.DirectLaws.{attribute_direct, value_found}
 use Rattle.cedar_interpreter.proofs.direct_evaluators.EvaluatorAbove.attribute_of_other.Goals as goal
 
 pub returns-in-Some : goal.returns-in-Some

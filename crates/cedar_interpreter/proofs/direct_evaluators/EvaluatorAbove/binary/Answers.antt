@@ -1,11 +1,11 @@
 use Rattle.std.proofs.Common.{◌≡◌, subst, IfSome}
 use Rattle.cedar_names.specs.Leaves.{binary_view}
-use Rattle.cedar_interpreter.specs.Operands.{values_alike}
+use Rattle.cedar_interpreter.proofs.Operands.{values_alike}
 use Rattle.cedar_model.specs.Failures.{answers_value}
 use Rattle.cedar_expressions.specs.View.{view}
 use Rattle.cedar_interpreter.specs.Settings.{evaluation_setting, calls_in}
-use Rattle.cedar_interpreter.specs.Direct.{value_found}
-use Rattle.cedar_interpreter.specs.DirectEvaluators.{operands_direct}
+use Rattle.cedar_interpreter.proofs.DirectLaws.{value_found}
+use Rattle.cedar_interpreter.proofs.DirectEvaluatorLaws.{operands_direct}
 use Rattle.cedar_interpreter.proofs.direct_evaluators.EvaluatorAbove.binary.Goals as goal
 
 pub returns-in-Some-evaluate : goal.returns-in-Some-evaluate

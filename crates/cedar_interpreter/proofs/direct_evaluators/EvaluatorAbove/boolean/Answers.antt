@@ -1,6 +1,6 @@
 use Rattle.cedar_expressions.specs.View.{view}
 use Rattle.cedar_interpreter.specs.Settings.{evaluation_setting, calls_in}
-use Rattle.cedar_interpreter.specs.Direct.{bool_direct}
+use Rattle.cedar_interpreter.proofs.DirectLaws.{bool_direct}
 use Rattle.cedar_interpreter.proofs.direct_evaluators.EvaluatorAbove.boolean.Goals as goal
 
 pub returns : goal.returns

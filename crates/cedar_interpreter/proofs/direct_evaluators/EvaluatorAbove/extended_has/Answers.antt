@@ -2,8 +2,8 @@ use Rattle.std.specs.Rc.{rc_str_bytes}
 use Rattle.cedar_names.specs.Leaves.{texts_view}
 use Rattle.cedar_expressions.specs.View.{view}
 use Rattle.cedar_interpreter.specs.Settings.{evaluation_setting, calls_in}
-use Rattle.cedar_interpreter.specs.Direct.{value_found}
-use Rattle.cedar_interpreter.specs.DirectEvaluators.{path_direct}
+use Rattle.cedar_interpreter.proofs.DirectLaws.{value_found}
+use Rattle.cedar_interpreter.proofs.DirectEvaluatorLaws.{path_direct}
 use Rattle.cedar_interpreter.proofs.direct_evaluators.EvaluatorAbove.extended_has.Goals as goal
 
 pub returns-in-Some : goal.returns-in-Some

@@ -2,7 +2,7 @@ use Rattle.std.proofs.Common.{ap, ◌∙◌, subst, Some}
 use Rattle.cedar_expressions.specs.View.{view}
 use Rattle.cedar_interpreter.specs.Settings.{evaluation_setting, calls_in}
 use Rattle.cedar_interpreter.specs.Direct.{IsDirectBool}
-use Rattle.cedar_interpreter.specs.DirectEvaluators.{true_guard_direct, false_guard_direct}
+use Rattle.cedar_interpreter.proofs.DirectEvaluatorLaws.{true_guard_direct, false_guard_direct}
 use Rattle.cedar_interpreter.proofs.direct_evaluators.EvaluatorAbove.guarded.Goals as goal
 
 pub returns-in-Some-true : goal.returns-in-Some-true

@@ -2,12 +2,12 @@ use Rattle.std.proofs.Common.{◌≡◌, subst, IfSome}
 use Rattle.std.specs.Rc.{rc_str_bytes}
 use Rattle.cedar_model.specs.Terms.{has_attribute}
 use Rattle.cedar_model.specs.Rules.{has_part}
-use Rattle.cedar_interpreter.specs.Operands.{tested_alike}
+use Rattle.cedar_interpreter.proofs.Operands.{tested_alike}
 use Rattle.cedar_model.specs.Failures.{answers_value, value}
 use Rattle.cedar_expressions.specs.View.{view}
 use Rattle.cedar_interpreter.specs.Settings.{evaluation_setting, calls_in}
-use Rattle.cedar_interpreter.specs.Direct.{value_found}
-use Rattle.cedar_interpreter.specs.DirectEvaluators.{part_direct}
+use Rattle.cedar_interpreter.proofs.DirectLaws.{value_found}
+use Rattle.cedar_interpreter.proofs.DirectEvaluatorLaws.{part_direct}
 use Rattle.cedar_interpreter.proofs.direct_evaluators.EvaluatorAbove.has.Goals as goal
 
 pub returns-in-Some : goal.returns-in-Some

@@ -3,8 +3,8 @@ use Rattle.cedar_model.specs.Rules.{is_part}
 use Rattle.cedar_names.specs.Names.{type_text}
 use Rattle.cedar_expressions.specs.View.{view}
 use Rattle.cedar_interpreter.specs.Settings.{evaluation_setting, calls_in}
-use Rattle.cedar_interpreter.specs.Direct.{value_found}
-use Rattle.cedar_interpreter.specs.DirectEvaluators.{part_direct}
+use Rattle.cedar_interpreter.proofs.DirectLaws.{value_found}
+use Rattle.cedar_interpreter.proofs.DirectEvaluatorLaws.{part_direct}
 use Rattle.cedar_interpreter.proofs.direct_evaluators.EvaluatorAbove.is_of.Goals as goal
 
 pub returns-in-Some : goal.returns-in-Some

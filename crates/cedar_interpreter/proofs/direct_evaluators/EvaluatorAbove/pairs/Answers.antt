@@ -6,7 +6,8 @@ use Rattle.cedar_expressions.specs.View.{view, terms_view}
 use Rattle.cedar_restricted_evaluator.specs.Keys.{texts_of}
 use Rattle.cedar_restricted_evaluator.proofs.Collected.{names_under, name_added, keys_in_order}
 use Rattle.cedar_interpreter.specs.Settings.{evaluation_setting, calls_in}
-use Rattle.cedar_interpreter.specs.DirectEvaluators.{parts_under, more_so_far, all_so_far}
+use Rattle.cedar_interpreter.specs.DirectEvaluators.{parts_under}
+use Rattle.cedar_interpreter.proofs.DirectEvaluatorLaws.{more_so_far, all_so_far}
 use Rattle.cedar_interpreter.proofs.direct_evaluators.EvaluatorAbove.pairs.Goals as goal
 
 pub pairs-preserved : goal.pairs-preserved

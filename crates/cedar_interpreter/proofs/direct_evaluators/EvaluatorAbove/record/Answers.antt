@@ -4,7 +4,8 @@ use Rattle.cedar_model.specs.Sets.{represented_fields_of}
 use Rattle.cedar_values.specs.Sound.{whats}
 use Rattle.cedar_restricted_evaluator.specs.Keys.{texts_of, under}
 use Rattle.cedar_interpreter.specs.Settings.{evaluation_setting, calls_in}
-use Rattle.cedar_interpreter.specs.DirectEvaluators.{HasDirectPairs, made_of, record_direct}
+use Rattle.cedar_interpreter.specs.DirectEvaluators.{HasDirectPairs}
+use Rattle.cedar_interpreter.proofs.DirectEvaluatorLaws.{made_of, record_direct}
 use Rattle.cedar_interpreter.proofs.direct_evaluators.EvaluatorAbove.record.Goals as goal
 
 pub returns-in-Ok-Some : goal.returns-in-Ok-Some

@@ -3,7 +3,8 @@ use Rattle.cedar_model.specs.Values.{set_represented}
 use Rattle.cedar_model.specs.Sets.{canonical_set}
 use Rattle.cedar_values.specs.Sound.{whats}
 use Rattle.cedar_interpreter.specs.Settings.{evaluation_setting, calls_in}
-use Rattle.cedar_interpreter.specs.DirectEvaluators.{HasDirectParts, made_of, set_direct}
+use Rattle.cedar_interpreter.specs.DirectEvaluators.{HasDirectParts}
+use Rattle.cedar_interpreter.proofs.DirectEvaluatorLaws.{made_of, set_direct}
 use Rattle.cedar_interpreter.proofs.direct_evaluators.EvaluatorAbove.set.Goals as goal
 
 pub returns-in-Ok-Some : goal.returns-in-Ok-Some

@@ -1,6 +1,6 @@
 use Rattle.std.proofs.Common.{◌≡◌, ◌≤◌, length, drop}
 use Rattle.cedar_expressions.specs.View.{terms_view}
-use Rattle.cedar_interpreter.specs.DirectEvaluators.{AreSoFar}
+use Rattle.cedar_interpreter.proofs.DirectEvaluatorLaws.{AreSoFar}
 use Rattle.cedar_interpreter.proofs.direct_evaluators.EvaluatorAbove.values.Given as goal
 
 abbrev pub invariant-parts : goal.invariant-parts

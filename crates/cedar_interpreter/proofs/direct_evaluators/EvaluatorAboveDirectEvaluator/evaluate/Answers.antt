@@ -6,7 +6,8 @@ use Rattle.cedar_expressions.specs.declared.expr.Expr.{Expr}
 use Rattle.cedar_expressions.specs.View.{view, kind_view, terms_view}
 use Rattle.cedar_expressions.proofs.Levels as levels
 use Rattle.cedar_interpreter.specs.Settings.{evaluation_setting, calls_in}
-use Rattle.cedar_interpreter.specs.Direct.{IsDirectValue, direct_above, literal_direct}
+use Rattle.cedar_interpreter.specs.Direct.{IsDirectValue}
+use Rattle.cedar_interpreter.proofs.DirectLaws.{direct_above, literal_direct}
 use Rattle.cedar_interpreter.proofs.direct_evaluators.EvaluatorAboveDirectEvaluator.evaluate.Goals as goal
 
 pub returns-in-Lit : goal.returns-in-Lit

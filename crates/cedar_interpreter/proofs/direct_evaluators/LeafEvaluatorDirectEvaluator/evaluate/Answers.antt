@@ -2,7 +2,7 @@ use Rattle.std.proofs.Common.{suc, sym, ap, ◌∙◌, arith}
 use Rattle.cedar_expressions.specs.View.{view, kind_view}
 use Rattle.cedar_expressions.proofs.Levels as levels
 use Rattle.cedar_interpreter.specs.Settings.{evaluation_setting, calls_in}
-use Rattle.cedar_interpreter.specs.Direct.{direct_above, literal_direct}
+use Rattle.cedar_interpreter.proofs.DirectLaws.{direct_above, literal_direct}
 use Rattle.cedar_interpreter.proofs.direct_evaluators.LeafEvaluatorDirectEvaluator.evaluate.Goals as goal
 
 pub returns-in-Lit : goal.returns-in-Lit

@@ -6,8 +6,8 @@ use Rattle.cedar_expressions.specs.View.{expr_loc}
 use Rattle.cedar_values.specs.Residuals.{partial_view, residual_term}
 use Rattle.cedar_interpreter.specs.declared.frame.Pending.TheVariants as pendings
 use Rattle.cedar_interpreter.specs.Settings.{evaluation_setting, calls_in}
-use Rattle.cedar_interpreter.specs.Stored.{part_read}
-use Rattle.cedar_interpreter.specs.Laws.{passed_again}
+use Rattle.cedar_interpreter.proofs.StoredLaws.{part_read}
+use Rattle.cedar_interpreter.proofs.Laws.{passed_again}
 use Rattle.cedar_interpreter.proofs.evaluation.Evaluation.after_container.Goals as goal
 
 pub returns-in-Some : goal.returns-in-Some

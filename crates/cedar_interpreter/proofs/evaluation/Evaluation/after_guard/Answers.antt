@@ -1,7 +1,7 @@
 use Rattle.cedar_model.specs.Failures.{answers}
 use Rattle.cedar_values.specs.Residuals.{partial_view}
 use Rattle.cedar_interpreter.specs.declared.frame.Pending.TheVariants as pendings
-use Rattle.cedar_interpreter.specs.Continuations.{or_want_at}
+use Rattle.cedar_interpreter.proofs.ContinuationLaws.{or_want_at}
 use Rattle.cedar_interpreter.proofs.evaluation.Evaluation.after_guard.Goals as goal
 
 pub returns-in-None : goal.returns-in-None

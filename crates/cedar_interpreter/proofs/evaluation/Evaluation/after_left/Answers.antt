@@ -5,9 +5,9 @@ use Rattle.cedar_expressions.specs.View.{view}
 use Rattle.cedar_values.specs.Residuals.{partial_view}
 use Rattle.cedar_interpreter.specs.declared.frame.Pending.TheVariants as pendings
 use Rattle.cedar_interpreter.specs.Settings.{evaluation_setting, calls_in}
-use Rattle.cedar_interpreter.specs.Laws.{waiting_continues}
-use Rattle.cedar_interpreter.specs.Continuations.{continues_in}
-use Rattle.cedar_interpreter.specs.Direct.{direct_continues}
+use Rattle.cedar_interpreter.proofs.Laws.{waiting_continues}
+use Rattle.cedar_interpreter.proofs.ContinuationLaws.{continues_in}
+use Rattle.cedar_interpreter.proofs.DirectLaws.{direct_continues}
 use Rattle.cedar_interpreter.proofs.evaluation.Evaluation.after_left.Goals as goal
 
 pub returns-in-Some : goal.returns-in-Some

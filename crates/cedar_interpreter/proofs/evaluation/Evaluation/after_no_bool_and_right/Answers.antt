@@ -3,7 +3,7 @@ use Rattle.cedar_expressions.specs.View.{expr_loc}
 use Rattle.cedar_values.specs.Residuals.{partial_view}
 use Rattle.cedar_interpreter.specs.declared.frame.Pending.TheVariants as pendings
 use Rattle.cedar_interpreter.specs.Settings.{evaluation_setting, calls_in}
-use Rattle.cedar_interpreter.specs.Laws.{gives_continues}
+use Rattle.cedar_interpreter.proofs.Laws.{gives_continues}
 use Rattle.cedar_interpreter.proofs.evaluation.Evaluation.after_no_bool_and_right.Goals as goal
 
 pub returns : goal.returns

@@ -5,7 +5,7 @@ use Rattle.cedar_values.specs.Residuals.{partial_view}
 use Rattle.cedar_interpreter.specs.declared.frame.Pending.TheVariants as pendings
 use Rattle.cedar_interpreter.specs.Settings.{evaluation_setting, calls_in}
 use Rattle.cedar_interpreter.specs.Tasks.{Continues}
-use Rattle.cedar_interpreter.specs.Laws.{gives_continues}
+use Rattle.cedar_interpreter.proofs.Laws.{gives_continues}
 use Rattle.cedar_interpreter.proofs.evaluation.Evaluation.after_operand.Goals as goal
 
 pub returns-else-is_negated : goal.returns-else-is_negated

@@ -5,11 +5,12 @@ use Rattle.cedar_frames.specs.declared.machine.Step.TheVariants.{Done}
 use Rattle.cedar_expressions.specs.View.{view}
 use Rattle.cedar_values.specs.Residuals.{partial_view}
 use Rattle.cedar_interpreter.specs.declared.frame.Pending.TheVariants as pendings
-use Rattle.cedar_interpreter.specs.Booleans.{part_bool, or_true}
+use Rattle.cedar_interpreter.specs.Booleans.{part_bool}
+use Rattle.cedar_interpreter.proofs.BooleanLaws.{or_true}
 use Rattle.cedar_interpreter.specs.Settings.{evaluation_setting, calls_in}
 use Rattle.cedar_interpreter.specs.Tasks.{Uses}
-use Rattle.cedar_interpreter.specs.Continuations.{continues_in, or_want_at}
-use Rattle.cedar_interpreter.specs.Direct.{or_right_side}
+use Rattle.cedar_interpreter.proofs.ContinuationLaws.{continues_in, or_want_at}
+use Rattle.cedar_interpreter.proofs.DirectLaws.{or_right_side}
 use Rattle.cedar_interpreter.proofs.evaluation.Evaluation.after_or_left.Goals as goal
 
 pub returns-in-Some-false : goal.returns-in-Some-false

@@ -2,7 +2,8 @@ use Rattle.std.proofs.Common.{sym, ap, ◌≡◌, ◌∙◌, subst, Some, false}
 use Rattle.cedar_model.specs.Terms.{bool_literal, literal, either}
 use Rattle.cedar_model.specs.Failures.{answers}
 use Rattle.cedar_values.specs.Residuals.{partial_view}
-use Rattle.cedar_interpreter.specs.Booleans.{part_bool, joins}
+use Rattle.cedar_interpreter.specs.Booleans.{part_bool}
+use Rattle.cedar_interpreter.proofs.BooleanLaws.{joins}
 use Rattle.cedar_interpreter.proofs.evaluation.Evaluation.after_or_right.Goals as goal
 
 pub returns-in-Some : goal.returns-in-Some

@@ -3,8 +3,8 @@ use Rattle.cedar_expressions.specs.View.{expr_loc}
 use Rattle.cedar_extensions.specs.Extensions.{extensions_view, calls_of}
 use Rattle.cedar_restricted_evaluator.specs.Frames as restricted
 use Rattle.cedar_restricted_evaluator.specs.Elements.{SetGoesOn}
-use Rattle.cedar_interpreter.specs.Elements.{taken_stands}
-use Rattle.cedar_interpreter.specs.Continuations.{parts_lead_in}
+use Rattle.cedar_interpreter.proofs.ElementLaws.{taken_stands}
+use Rattle.cedar_interpreter.proofs.ContinuationLaws.{parts_lead_in}
 use Rattle.cedar_interpreter.proofs.evaluation.Evaluation.after_part.Goals as goal
 
 pub returns-clause-leads : goal.returns-clause-leads

@@ -1,12 +1,12 @@
 use Rattle.std.proofs.Common.{◌∙◌}
 use Rattle.std.specs.Rc.{rc_str_bytes}
-use Rattle.cedar_interpreter.specs.Operands.{tested_alike}
+use Rattle.cedar_interpreter.proofs.Operands.{tested_alike}
 use Rattle.cedar_model.specs.Failures.{answers}
 use Rattle.cedar_expressions.specs.View.{expr_loc}
 use Rattle.cedar_values.specs.Residuals.{partial_view}
 use Rattle.cedar_interpreter.specs.declared.frame.Pending.TheVariants as pendings
 use Rattle.cedar_interpreter.specs.Settings.{evaluation_setting, calls_in}
-use Rattle.cedar_interpreter.specs.Laws.{gives_continues}
+use Rattle.cedar_interpreter.proofs.Laws.{gives_continues}
 use Rattle.cedar_interpreter.proofs.evaluation.Evaluation.after_tested.Goals as goal
 
 pub returns : goal.returns

@@ -2,7 +2,7 @@ use Rattle.cedar_model.specs.Failures.{answers}
 use Rattle.cedar_expressions.specs.View.{view}
 use Rattle.cedar_values.specs.Residuals.{partial_view}
 use Rattle.cedar_interpreter.specs.declared.frame.Pending.TheVariants as pendings
-use Rattle.cedar_interpreter.specs.Continuations.{or_want_at}
+use Rattle.cedar_interpreter.proofs.ContinuationLaws.{or_want_at}
 use Rattle.cedar_interpreter.proofs.evaluation.Evaluation.after_then.Goals as goal
 
 pub returns : goal.returns

@@ -10,8 +10,8 @@ use Rattle.cedar_values.specs.Residuals.{partial_view}
 use Rattle.cedar_operators.specs.StoredResiduals.{on_path_of, path_residual_of}
 use Rattle.cedar_interpreter.specs.declared.frame.Pending.TheVariants as pendings
 use Rattle.cedar_interpreter.specs.Settings.{evaluation_setting, calls_in}
-use Rattle.cedar_interpreter.specs.Reads.{path_as_stored}
-use Rattle.cedar_interpreter.specs.Laws.{gives_continues, walked_continues}
+use Rattle.cedar_interpreter.proofs.ReadLaws.{path_as_stored}
+use Rattle.cedar_interpreter.proofs.Laws.{gives_continues, walked_continues}
 use Rattle.cedar_interpreter.proofs.evaluation.Evaluation.after_walked.Goals as goal
 
 pub returns-in-Some : goal.returns-in-Some

@@ -6,8 +6,8 @@ use Rattle.cedar_expressions.specs.View.{expr_loc}
 use Rattle.cedar_values.specs.Residuals.{partial_view, residual_term}
 use Rattle.cedar_interpreter.specs.declared.frame.Pending.TheVariants as pendings
 use Rattle.cedar_interpreter.specs.Settings.{evaluation_setting, calls_in}
-use Rattle.cedar_interpreter.specs.Reads.{as_stored, as_read}
-use Rattle.cedar_interpreter.specs.Laws.{gives_continues, passed_again}
+use Rattle.cedar_interpreter.proofs.ReadLaws.{as_stored, as_read}
+use Rattle.cedar_interpreter.proofs.Laws.{gives_continues, passed_again}
 use Rattle.cedar_interpreter.proofs.evaluation.Evaluation.applied.Goals as goal
 
 pub returns-in-Some : goal.returns-in-Some

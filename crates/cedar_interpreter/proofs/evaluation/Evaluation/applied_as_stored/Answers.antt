@@ -2,7 +2,7 @@ use Rattle.std.proofs.Common.{subst}
 use Rattle.cedar_names.specs.Leaves.{binary_view}
 use Rattle.cedar_expressions.specs.View.{expr_loc}
 use Rattle.cedar_values.specs.Residuals.{partial_view}
-use Rattle.cedar_interpreter.specs.Operands.{parts_alike}
+use Rattle.cedar_interpreter.proofs.Operands.{parts_alike}
 use Rattle.cedar_interpreter.specs.Settings.{evaluation_setting}
 use Rattle.cedar_interpreter.specs.Tasks.{Gives}
 use Rattle.cedar_interpreter.proofs.evaluation.Evaluation.applied_as_stored.Goals as goal

@@ -9,8 +9,9 @@ use Rattle.cedar_operators.specs.Operands.{over}
 use Rattle.cedar_partial_operators.specs.Parts.{projection, ProjectsTo}
 use Rattle.cedar_interpreter.specs.declared.frame.Pending.TheVariants as pendings
 use Rattle.cedar_interpreter.specs.Settings.{evaluation_setting, calls_in}
-use Rattle.cedar_interpreter.specs.Stored.{remapped, stored_uses, part_uses}
-use Rattle.cedar_interpreter.specs.Laws.{gives_continues, passed_again}
+use Rattle.cedar_interpreter.specs.Stored.{remapped}
+use Rattle.cedar_interpreter.proofs.StoredLaws.{stored_uses, part_uses}
+use Rattle.cedar_interpreter.proofs.Laws.{gives_continues, passed_again}
 use Rattle.cedar_interpreter.proofs.evaluation.Evaluation.attribute_as_stored.Goals as goal
 
 pub returns-in-Answer : goal.returns-in-Answer

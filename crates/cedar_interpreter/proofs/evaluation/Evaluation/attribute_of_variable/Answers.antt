@@ -5,7 +5,7 @@ use Rattle.cedar_model.specs.Failures.{answers}
 use Rattle.cedar_names.specs.Leaves.{variable_view}
 use Rattle.cedar_values.specs.Residuals.{partial_view}
 use Rattle.cedar_interpreter.specs.Settings.{evaluation_setting, calls_in}
-use Rattle.cedar_interpreter.specs.Direct.{attribute_direct, value_found}
+use Rattle.cedar_interpreter.proofs.DirectLaws.{attribute_direct, value_found}
 use Rattle.cedar_interpreter.proofs.evaluation.Evaluation.attribute_of_variable.Goals as goal
 
 pub returns-in-Value : goal.returns-in-Value

@@ -2,7 +2,7 @@ use Rattle.std.proofs.Common.{ℕ, sym, ap, ◌∙◌}
 use Rattle.cedar_model.specs.Settings.{RequestPart}
 use Rattle.cedar_expressions.specs.Nodes.{parts_below, kind_parts}
 use Rattle.cedar_expressions.proofs.NodeLevels.{kind_node-Set}
-use Rattle.cedar_interpreter.specs.Elements.{set_next, no_set_next}
+use Rattle.cedar_interpreter.proofs.ElementLaws.{set_next, no_set_next}
 use Rattle.cedar_model.specs.Terms.{literal, slot, if_then_else, both, either, unary, call, set_of, record_of}
 use Rattle.cedar_names.specs.Names.{name_text}
 use Rattle.cedar_names.specs.Leaves.{literal_view, slot_view, unary_view}
@@ -10,7 +10,7 @@ use Rattle.cedar_expressions.specs.View.{view, terms_view, fields_view, expr_loc
 use Rattle.cedar_expressions.proofs.Levels as levels
 use Rattle.cedar_interpreter.specs.Settings.{evaluation_setting, calls_in}
 use Rattle.cedar_interpreter.specs.Tasks.{Starts}
-use Rattle.cedar_interpreter.specs.Continuations.{starts_in}
+use Rattle.cedar_interpreter.proofs.ContinuationLaws.{starts_in}
 use Rattle.cedar_interpreter.proofs.Seen.{seen, starts_seen}
 use Rattle.cedar_interpreter.proofs.evaluation.Evaluation.begin.Goals as goal
 

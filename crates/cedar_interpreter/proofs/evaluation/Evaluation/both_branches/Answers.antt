@@ -6,7 +6,7 @@ use Rattle.cedar_expressions.specs.View.{view, expr_loc}
 use Rattle.cedar_values.specs.Residuals.{residual_term}
 use Rattle.cedar_interpreter.specs.declared.frame.Pending.TheVariants as pendings
 use Rattle.cedar_interpreter.specs.Settings.{evaluation_setting, calls_in}
-use Rattle.cedar_interpreter.specs.Laws.{gives_continues}
+use Rattle.cedar_interpreter.proofs.Laws.{gives_continues}
 use Rattle.cedar_interpreter.proofs.evaluation.Evaluation.both_branches.Goals as goal
 
 pub returns-in-Ok : goal.returns-in-Ok

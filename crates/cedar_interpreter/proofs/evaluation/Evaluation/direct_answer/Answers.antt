@@ -1,7 +1,7 @@
 use Rattle.std.proofs.Common.{◌≤◌, arith}
 use Rattle.cedar_expressions.specs.View.{view}
 use Rattle.cedar_interpreter.specs.Settings.{evaluation_setting, calls_in}
-use Rattle.cedar_interpreter.specs.Direct.{boxed_direct}
+use Rattle.cedar_interpreter.proofs.DirectLaws.{boxed_direct}
 use Rattle.cedar_interpreter.proofs.evaluation.Evaluation.direct_answer.Goals as goal
 
 pub returns-then-is_tried : goal.returns-then-is_tried

@@ -4,7 +4,7 @@ use Rattle.cedar_expressions.specs.View.{expr_loc}
 use Rattle.cedar_errors.specs.Failures.{failure_of}
 use Rattle.cedar_interpreter.specs.Settings.{evaluation_setting, calls_in}
 use Rattle.cedar_interpreter.specs.Tasks.{Continues}
-use Rattle.cedar_interpreter.specs.Laws.{IsPassedOn, passed_continues}
+use Rattle.cedar_interpreter.proofs.Laws.{IsPassedOn, passed_continues}
 use Rattle.cedar_interpreter.proofs.evaluation.Evaluation.failed.Goals as goal
 
 pub returns-in-Passed : goal.returns-in-Passed

@@ -1,7 +1,7 @@
 use Rattle.cedar_model.specs.Failures.{fails}
 use Rattle.cedar_errors.specs.Failures.{failure_of}
 use Rattle.cedar_interpreter.specs.declared.frame.Pending.TheVariants as pendings
-use Rattle.cedar_interpreter.specs.Continuations.{or_want_at}
+use Rattle.cedar_interpreter.proofs.ContinuationLaws.{or_want_at}
 use Rattle.cedar_interpreter.proofs.evaluation.Evaluation.failed_then.Goals as goal
 
 pub returns : goal.returns

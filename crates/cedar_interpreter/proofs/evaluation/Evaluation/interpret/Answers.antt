@@ -5,7 +5,8 @@ use Rattle.cedar_errors.specs.Answers.{partial_answer}
 use Rattle.cedar_extensions.specs.StoredLaws.{calls_functional, calls_meet_no_limit}
 use Rattle.cedar_interpreter.specs.Settings.{evaluation_setting, calls_in}
 use Rattle.cedar_restricted_evaluator.specs.Elements.{answer_for}
-use Rattle.cedar_interpreter.specs.Promises.{IsPromised, RunsIn, meets_promised}
+use Rattle.cedar_interpreter.specs.Promises.{IsPromised, RunsIn}
+use Rattle.cedar_interpreter.proofs.Promised.{meets_promised}
 use Rattle.cedar_interpreter.proofs.evaluation.Evaluation.interpret.Goals as goal
 
 pub returns-in-Ok-clause-runs : goal.returns-in-Ok-clause-runs

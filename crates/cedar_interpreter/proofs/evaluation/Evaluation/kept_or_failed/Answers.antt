@@ -2,9 +2,11 @@ use Rattle.std.proofs.Common.{sym, subst}
 use Rattle.cedar_model.specs.Failures.{fails}
 use Rattle.cedar_expressions.specs.View.{expr_loc}
 use Rattle.cedar_errors.specs.Failures.{failure_of}
-use Rattle.cedar_interpreter.specs.Elements.{TaskWaits, failed_next}
-use Rattle.cedar_interpreter.specs.Kept.{ordinary_no_want}
-use Rattle.cedar_interpreter.specs.Continuations.{LeadsIn, failure_leads_in, parts_failure_in}
+use Rattle.cedar_interpreter.specs.Elements.{TaskWaits}
+use Rattle.cedar_interpreter.proofs.ElementLaws.{failed_next}
+use Rattle.cedar_interpreter.proofs.KeptLaws.{ordinary_no_want}
+use Rattle.cedar_interpreter.specs.Continuations.{LeadsIn}
+use Rattle.cedar_interpreter.proofs.ContinuationLaws.{failure_leads_in, parts_failure_in}
 use Rattle.cedar_interpreter.proofs.evaluation.Evaluation.kept_or_failed.Goals as goal
 
 pub returns-in-Parts-clause-leads : goal.returns-in-Parts-clause-leads

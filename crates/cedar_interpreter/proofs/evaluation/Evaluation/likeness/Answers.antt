@@ -6,8 +6,8 @@ use Rattle.cedar_model.specs.Rules.{Runs, on_part}
 use Rattle.cedar_names.specs.Leaves.{pattern_view}
 use Rattle.cedar_expressions.specs.View.{view}
 use Rattle.cedar_interpreter.specs.Settings.{evaluation_setting, calls_in}
-use Rattle.cedar_interpreter.specs.Continuations.{starts_in}
-use Rattle.cedar_interpreter.specs.Direct.{direct_gives}
+use Rattle.cedar_interpreter.proofs.ContinuationLaws.{starts_in}
+use Rattle.cedar_interpreter.proofs.DirectLaws.{direct_gives}
 use Rattle.cedar_interpreter.proofs.evaluation.Evaluation.likeness.Goals as goal
 
 pub returns-in-Some : goal.returns-in-Some

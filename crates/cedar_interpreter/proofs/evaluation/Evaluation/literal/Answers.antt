@@ -6,7 +6,7 @@ use Rattle.cedar_expressions.specs.View.{expr_loc}
 use Rattle.cedar_values.specs.declared.partial_value.PartialValue.TheVariants as partials
 use Rattle.cedar_values.specs.Residuals.{partial_view}
 use Rattle.cedar_interpreter.specs.Settings.{evaluation_setting, calls_in}
-use Rattle.cedar_interpreter.specs.Laws.{gives_starts}
+use Rattle.cedar_interpreter.proofs.Laws.{gives_starts}
 use Rattle.cedar_interpreter.proofs.evaluation.Evaluation.literal.Goals as goal
 
 pub returns-in-Some : goal.returns-in-Some

@@ -5,7 +5,7 @@ use Rattle.cedar_frames.specs.declared.machine.Step.TheVariants.{Done}
 use Rattle.cedar_expressions.specs.View.{view}
 use Rattle.cedar_interpreter.specs.declared.frame.Pending.TheVariants as pendings
 use Rattle.cedar_interpreter.specs.Settings.{evaluation_setting, calls_in}
-use Rattle.cedar_interpreter.specs.Direct.{right_given, awaited}
+use Rattle.cedar_interpreter.proofs.DirectLaws.{right_given, awaited}
 use Rattle.cedar_interpreter.proofs.evaluation.Evaluation.other_right_of_or.Goals as goal
 
 pub returns-in-Some : goal.returns-in-Some

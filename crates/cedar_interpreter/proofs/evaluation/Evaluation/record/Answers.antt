@@ -1,6 +1,6 @@
 use Rattle.cedar_expressions.specs.View.{expr_loc}
 use Rattle.cedar_interpreter.specs.Settings.{evaluation_setting, calls_in}
-use Rattle.cedar_interpreter.specs.PartsLaws.{parts_start}
+use Rattle.cedar_interpreter.proofs.PartsLaws.{parts_start}
 use Rattle.cedar_interpreter.proofs.evaluation.Evaluation.record.Goals as goal
 
 pub returns : goal.returns

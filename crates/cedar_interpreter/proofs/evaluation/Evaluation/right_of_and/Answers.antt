@@ -5,8 +5,8 @@ use Rattle.cedar_frames.specs.declared.machine.Step.TheVariants.{Done}
 use Rattle.cedar_expressions.specs.View.{view}
 use Rattle.cedar_values.specs.Residuals.{partial_view}
 use Rattle.cedar_interpreter.specs.declared.frame.Pending.TheVariants as pendings
-use Rattle.cedar_interpreter.specs.Booleans.{part_is_bool}
-use Rattle.cedar_interpreter.specs.Direct.{literal_right}
+use Rattle.cedar_interpreter.proofs.BooleanLaws.{part_is_bool}
+use Rattle.cedar_interpreter.proofs.DirectLaws.{literal_right}
 use Rattle.cedar_interpreter.proofs.evaluation.Evaluation.right_of_and.Goals as goal
 
 pub returns-in-Some-true : goal.returns-in-Some-true

@@ -1,7 +1,7 @@
 use Rattle.cedar_expressions.specs.View.{expr_loc}
 use Rattle.cedar_interpreter.specs.Settings.{evaluation_setting, calls_in}
-use Rattle.cedar_interpreter.specs.PartsLaws.{parts_start}
-use Rattle.cedar_interpreter.specs.Elements.{taken_stands}
+use Rattle.cedar_interpreter.proofs.PartsLaws.{parts_start}
+use Rattle.cedar_interpreter.proofs.ElementLaws.{taken_stands}
 use Rattle.cedar_interpreter.proofs.evaluation.Evaluation.set.Goals as goal
 
 pub returns-clause-starts : goal.returns-clause-starts

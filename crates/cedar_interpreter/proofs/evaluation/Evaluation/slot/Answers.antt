@@ -4,7 +4,7 @@ use Rattle.cedar_names.specs.Leaves.{slot_view}
 use Rattle.cedar_expressions.specs.View.{expr_loc}
 use Rattle.cedar_layers.specs.Policies.{slots_view}
 use Rattle.cedar_interpreter.specs.Settings.{evaluation_setting, calls_in}
-use Rattle.cedar_interpreter.specs.Laws.{gives_starts, or_want_gives}
+use Rattle.cedar_interpreter.proofs.Laws.{gives_starts, or_want_gives}
 use Rattle.cedar_interpreter.proofs.evaluation.Evaluation.slot.Goals as goal
 
 pub returns : goal.returns

@@ -4,7 +4,8 @@ use Rattle.cedar_frames.specs.declared.machine.Step.TheVariants.{Done}
 use Rattle.cedar_interpreter.specs.declared.stopped.Stopped.TheVariants as stops
 use Rattle.cedar_interpreter.specs.Endings.{stopped_failure}
 use Rattle.cedar_interpreter.specs.Elements.{TaskContinues}
-use Rattle.cedar_interpreter.specs.Continuations.{LeadsIn, limit_leads_in, want_leads_in}
+use Rattle.cedar_interpreter.specs.Continuations.{LeadsIn}
+use Rattle.cedar_interpreter.proofs.ContinuationLaws.{limit_leads_in, want_leads_in}
 use Rattle.cedar_interpreter.proofs.evaluation.Evaluation.stopped.Goals as goal
 
 pub returns-in-Memory-clause-leads : goal.returns-in-Memory-clause-leads

@@ -7,8 +7,8 @@ use Rattle.cedar_expressions.specs.View.{view}
 use Rattle.cedar_values.specs.Residuals.{partial_view}
 use Rattle.cedar_interpreter.specs.declared.frame.Pending.TheVariants as pendings
 use Rattle.cedar_interpreter.specs.Settings.{evaluation_setting, calls_in}
-use Rattle.cedar_interpreter.specs.Continuations.{starts_in, continues_in, value_leads_in}
-use Rattle.cedar_interpreter.specs.Direct.{direct_starts}
+use Rattle.cedar_interpreter.proofs.ContinuationLaws.{starts_in, continues_in, value_leads_in}
+use Rattle.cedar_interpreter.proofs.DirectLaws.{direct_starts}
 use Rattle.cedar_interpreter.proofs.evaluation.Evaluation.tested.Goals as goal
 
 pub returns-in-Some : goal.returns-in-Some

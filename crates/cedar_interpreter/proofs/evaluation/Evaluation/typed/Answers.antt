@@ -5,8 +5,8 @@ use Rattle.cedar_model.specs.Rules.{Runs, is_part}
 use Rattle.cedar_names.specs.Names.{type_text}
 use Rattle.cedar_expressions.specs.View.{view}
 use Rattle.cedar_interpreter.specs.Settings.{evaluation_setting, calls_in}
-use Rattle.cedar_interpreter.specs.Continuations.{starts_in}
-use Rattle.cedar_interpreter.specs.Direct.{direct_gives}
+use Rattle.cedar_interpreter.proofs.ContinuationLaws.{starts_in}
+use Rattle.cedar_interpreter.proofs.DirectLaws.{direct_gives}
 use Rattle.cedar_interpreter.proofs.evaluation.Evaluation.typed.Goals as goal
 
 pub returns-in-Some : goal.returns-in-Some

@@ -7,7 +7,7 @@ use Rattle.cedar_names.specs.Leaves.{type_view}
 use Rattle.cedar_expressions.specs.View.{expr_loc}
 use Rattle.cedar_interpreter.specs.Settings.{evaluation_setting, calls_in, mapper_view}
 use Rattle.cedar_interpreter.specs.Tasks.{Starts}
-use Rattle.cedar_interpreter.specs.Laws.{gives_starts, or_want_gives}
+use Rattle.cedar_interpreter.proofs.Laws.{gives_starts, or_want_gives}
 use Rattle.cedar_interpreter.proofs.evaluation.Evaluation.unknown.Goals as goal
 
 pub returns : goal.returns

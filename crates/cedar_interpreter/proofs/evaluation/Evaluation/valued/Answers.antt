@@ -1,7 +1,8 @@
 use Rattle.std.proofs.Common.{sym, subst, Ok}
 use Rattle.cedar_model.specs.Failures.{answers}
 use Rattle.cedar_values.specs.Residuals.{partial_view}
-use Rattle.cedar_interpreter.specs.Continuations.{LeadsIn, value_leads_in}
+use Rattle.cedar_interpreter.specs.Continuations.{LeadsIn}
+use Rattle.cedar_interpreter.proofs.ContinuationLaws.{value_leads_in}
 use Rattle.cedar_interpreter.specs.Elements.{TaskWaits, TaskContinues}
 use Rattle.cedar_interpreter.proofs.evaluation.Evaluation.valued.Goals as goal
 

@@ -5,7 +5,7 @@ use Rattle.cedar_names.specs.Leaves.{variable_view}
 use Rattle.cedar_expressions.specs.View.{expr_loc}
 use Rattle.cedar_values.specs.Residuals.{partial_view}
 use Rattle.cedar_interpreter.specs.Settings.{evaluation_setting, calls_in}
-use Rattle.cedar_interpreter.specs.Laws.{gives_starts, gives_placed}
+use Rattle.cedar_interpreter.proofs.Laws.{gives_starts, gives_placed}
 use Rattle.cedar_interpreter.proofs.evaluation.Evaluation.variable.Goals as goal
 
 pub returns-in-Ok : goal.returns-in-Ok

@@ -1,7 +1,7 @@
 use Rattle.std.proofs.Common.{sym, ap, ◌∙◌}
 use Rattle.cedar_model.specs.Rules.{kept}
 use Rattle.cedar_expressions.specs.View.{view}
-use Rattle.cedar_interpreter.specs.Kept.{keeps_original}
+use Rattle.cedar_interpreter.proofs.KeptLaws.{keeps_original}
 use Rattle.cedar_interpreter.proofs.failed.Failed.original.Goals as goal
 
 pub returns : goal.returns

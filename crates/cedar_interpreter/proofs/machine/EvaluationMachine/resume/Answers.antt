@@ -1,7 +1,7 @@
 use Rattle.std.proofs.Common.{◌≤◌, suc, arith}
 use Rattle.cedar_interpreter.specs.Settings.{Speaks, evaluation_setting, calls_in}
-use Rattle.cedar_interpreter.specs.Laws.{resume_right, left_fewer}
-use Rattle.cedar_interpreter.specs.Elements.{both_resume, continues_standing}
+use Rattle.cedar_interpreter.proofs.Laws.{resume_right, left_fewer}
+use Rattle.cedar_interpreter.proofs.ElementLaws.{both_resume, continues_standing}
 use Rattle.cedar_interpreter.proofs.machine.EvaluationMachine.resume.Goals as goal
 
 pub returns-clause-right : goal.returns-clause-right

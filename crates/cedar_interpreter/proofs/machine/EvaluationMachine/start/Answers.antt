@@ -2,8 +2,9 @@ use Rattle.std.proofs.Common.{◌≤◌, suc, refl, subst, arith}
 use Rattle.cedar_expressions.specs.View.{view, expr_loc}
 use Rattle.cedar_interpreter.specs.Settings.{Speaks, evaluation_setting, calls_in}
 use Rattle.cedar_interpreter.specs.Continuations.{StartsIn}
-use Rattle.cedar_interpreter.specs.Laws.{start_right, below_any}
-use Rattle.cedar_interpreter.specs.Elements.{NextStands, both_resume}
+use Rattle.cedar_interpreter.proofs.Laws.{start_right, below_any}
+use Rattle.cedar_interpreter.specs.Elements.{NextStands}
+use Rattle.cedar_interpreter.proofs.ElementLaws.{both_resume}
 use Rattle.cedar_interpreter.proofs.machine.EvaluationMachine.start.Goals as goal
 
 pub returns-clause-right : goal.returns-clause-right

@@ -1,17 +1,17 @@
 -- The laws of sets, records and calls, whose parts are evaluated one after another.
-use Rattle.std.specs.Prelude.{◌≡◌, ◌≢◌, ◌<◌, ℕ, suc, [], length, drop, Option, Ok, Err}
+use Rattle.std.specs.Prelude.{◌≡◌, ◌≢◌, ◌<◌, ℕ, suc, [], length, drop, Option, Ok}
 use Rattle.std.proofs.Common.{refl, sym, ap, ◌∙◌, subst}
 use Rattle.std.specs.declared.alloc.Global.{Global}
 use Rattle.std.specs.declared.boxed.Box.{Box}
 use Rattle.cedar_model.specs.Terms.{Term}
 use Rattle.cedar_model.specs.Failures as model
-use Rattle.cedar_model.specs.Failures.{Failure, Answer, answers, fails, out_of_memory}
+use Rattle.cedar_model.specs.Failures.{Failure, Answer, answers, fails}
 use Rattle.cedar_model.specs.World as world
 use Rattle.cedar_model.specs.Settings.{Setting}
 use Rattle.cedar_model.specs.Rules.{StoredCalls, Rule, Runs, Parts}
 use Rattle.cedar_names.specs.declared.names.Loc.{Loc}
 use Rattle.cedar_expressions.specs.declared.expr.Expr.{Expr}
-use Rattle.cedar_expressions.specs.View.{view, terms_view, expr_loc}
+use Rattle.cedar_expressions.specs.View.{view, terms_view}
 use Rattle.cedar_values.specs.declared.partial_value.PartialValue.{PartialValue}
 use Rattle.cedar_values.specs.Residuals.{partial_view}
 use Rattle.cedar_frames.specs.declared.machine.Step.TheVariants.{Done, Wait}
@@ -24,31 +24,15 @@ use Rattle.cedar_restricted_evaluator.specs.Parts.{whole_term, HasKeys, count, A
 use Rattle.cedar_restricted_evaluator.specs.Frames as restricted
 use Rattle.cedar_restricted_evaluator.specs.Frames.{NextPart, Reads, Continued, GoesOn, HasRead, parts_left, left_of}
 use Rattle.cedar_restricted_evaluator.specs.Laws.{goes_on_fewer, grown_read, literal_runs}
-use Rattle.cedar_restricted_evaluator.specs.Steps.{so_far_none, so_far_all, so_far_fails, whole_fails, whole_answers, none_left}
+use Rattle.cedar_restricted_evaluator.specs.Steps.{so_far_none, so_far_all, whole_answers, none_left}
 use Rattle.cedar_interpreter.specs.declared.frame.Task.TheVariants as tasks
 use Rattle.cedar_interpreter.specs.declared.frame.Task.{Task}
-use Rattle.cedar_interpreter.specs.declared.stopped.Stopped.TheVariants as stops
 use Rattle.cedar_interpreter.specs.Endings.{ending_answer}
-use Rattle.cedar_interpreter.specs.Tasks.{Next, StandsAt, WaitsForPart, WaitsFor, Starts, LeftFewer, task_left}
+use Rattle.cedar_interpreter.specs.Tasks.{Next, WaitsForPart, WaitsFor, Starts, LeftFewer, task_left}
+use Rattle.cedar_interpreter.specs.Parts.{IsTakenAs, IsTaken}
 
 pub no_fail : (p : model.PartialValue) (e : Failure) → answers p ≢ fails e
 no_fail p e h = cc
-
--- a set, a record or a call waits for this part
-abbrev pub IsTakenAs : PartsFrame → Expr → Task → Expr → Type 0
-IsTakenAs f c (tasks.Parts g) d = (g.value ≡ f) × (d ≡ c)
-IsTakenAs f c (tasks.Other p) d = ⊥
-
--- and stands at this place, unless memory is wanting
-abbrev pub IsNextPart : Option Loc → PartsFrame → Expr → Next → Type 0
-IsNextPart l f c (Wait g d) = IsTakenAs f c g.task d.value × (expr_loc g.whole.value ≡ l)
-IsNextPart l f c (Done o) = o ≡ Err stops.Memory
-
--- the next part, or the answer, taken over for the whole at this place
-abbrev pub IsTaken : Option Loc → NextPart → Next → Type 0
-IsTaken l (Wait f c) n = IsNextPart l f c n
-IsTaken l (Done r) (Done o) = (ending_answer o ≢ fails out_of_memory → ending_answer o ≡ partial_answer r) × StandsAt l o
-IsTaken l (Done r) (Wait g d) = ⊥
 
 module _ (s : Setting) (calls : StoredCalls) (k : ℕ) (t : Term) (here : Option Loc) where
   abbrev May : Term → Answer → Type 0
@@ -100,13 +84,6 @@ module _ (s : Setting) (calls : StoredCalls) (k : ℕ) (t : Term) (here : Option
   parts_start loc (Done r) (Wait g d) b taken = absurd taken
 
   module _ (f : PartsFrame) (c : Term) (w : WaitsForPart s calls k f t c) where
-    -- the failure of a part is the whole's
-    pub parts_fail : (e : Failure) → Runs s calls k c (fails e) → Runs s calls (suc k) t (fails e)
-    parts_fail e h =
-        let items = f.parts.value.items in
-        let all : Parts May (terms_view items) (Err e) = so_far_fails May (terms_view items) _ w.next.0 c w.read.0 e w.read.2 w.next.1 h in
-        subst (λ u. Runs s calls (suc k) u (fails e)) w.term (whole_fails s calls May f.whole items e f.keys all)
-
     continued : (p : PartialValue) (x : NextPart) (n : Next) → Runs s calls k c (answers (partial_view p)) → Continued s.extensions calls f p x → IsTaken here x n → Starts s calls k here t n
     continued p x n gives h taken =
         let read : HasRead May f.parts h.answers = grown_read May s.extensions calls f p x c w.next.0 (literal_runs s calls k c (partial_view p) gives) w.read w.next.1 gives h in
