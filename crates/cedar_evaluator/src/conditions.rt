@@ -1,4 +1,5 @@
-//! What a policy's condition decides. A scope whose parts compare entities that are at hand is decided at once, by reference.
+//! What a policy's condition decides. A scope whose parts compare entities that are at hand is decided at once, by
+//! reference.
 ghost use Rattle.std.specs.Prelude.{◌≡◌, ◌≢◌, ℕ, ◌≤◌, suc, true, IfOk, IfSome};
 ghost use Rattle.cedar_model.specs.Terms.{Term, bool_literal, entity_literal, literal, variable, both, binary, is_of_type};
 ghost use Rattle.cedar_model.specs.Values.{plain_represented};
@@ -31,8 +32,8 @@ use either::{Either, Left};
 use std::alloc::Global;
 
 impl<'e, 'f> Evaluator<'e, 'f> {
-    // What the policy's condition decides: by its scope, where that is decided at once, and then by its clause alone; else by its
-    // parts one after another. A scope is decided with four levels, and the condition has one more.
+    // What the policy's condition decides: by its scope, where that is decided at once, and then by its clause alone; else
+    // by its parts one after another. A scope is decided with four levels, and the condition has one more.
     pub(crate) fn decide_condition(
         &self,
         alloc: Global,
@@ -159,7 +160,7 @@ impl<'e, 'f> Evaluator<'e, 'f> {
             (uid_name other.now)))) → IfSome result (λ b. AnswersFrom self.now 2 (binary (binary_view op) (variable
             (variable_view var)) t) (answers_bool b)) }
     {
-        match entity_at_hand(self.given_for(var)) {
+        match entity_at_hand(self.given.given_for(var)) {
             Some(uid) => match op {
                 BinaryOp::Eq => Some(uid == other),
                 BinaryOp::In => self.known.is_in(var, uid, other),
@@ -176,20 +177,8 @@ impl<'e, 'f> Evaluator<'e, 'f> {
     {
         match e.expr_kind() {
             ExprKind::Lit(literal) => entity_in_literal(literal),
-            ExprKind::Var(var) => entity_at_hand(self.given_for(*var)),
+            ExprKind::Var(var) => entity_at_hand(self.given.given_for(*var)),
             _ => None,
-        }
-    }
-
-    // What is given for the variable.
-    fn given_for(&self, var: Var) -> &PartialValue
-        ensures { result.now ≡ given_for self.now.given (variable_view var) }
-    {
-        match var {
-            Var::Principal => &self.given.principal,
-            Var::Action => &self.given.action,
-            Var::Resource => &self.given.resource,
-            Var::Context => &self.given.context,
         }
     }
 }
@@ -244,13 +233,13 @@ pub(crate) fn joined_to_true(
     ensures place { IfOk result (λ p. partial_loc p ≡ loc) }
 {
     match answer {
-        Ok(part) => placed(true_and(alloc, part), loc),
+        Ok(part) => answer_at(true_and(alloc, part), loc),
         Err(error) => Err(with_enclosing_loc(error, loc)),
     }
 }
 
 // The answer at this location; an error, if it has none.
-pub(crate) fn placed(
+pub(crate) fn answer_at(
     answer: Result<PartialValue, EvaluationError>,
     loc: Option<Loc>,
 ) -> Result<PartialValue, EvaluationError>

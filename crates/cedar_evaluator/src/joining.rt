@@ -11,7 +11,7 @@ ghost use Rattle.cedar_evaluator.specs.Decisions.{PartlyDecidesBy, IfLeaves};
 ghost use Rattle.cedar_evaluator.specs.Evaluations.{IsPromisedOf};
 ghost use Rattle.cedar_evaluator.specs.Direct.{RunsWith};
 
-use crate::conditions::{joined_to_true, placed, with_enclosing_loc};
+use crate::conditions::{answer_at, joined_to_true, with_enclosing_loc};
 use crate::evaluator::{Evaluator, decided_by};
 use cedar_errors::evaluator::err::EvaluationError;
 use cedar_interpreter::Evaluation;
@@ -80,7 +80,7 @@ impl<'e, 'f> Evaluator<'e, 'f> {
         ensures { RunsWith self.now (slots_view slots.now) levels (view e.now) (partial_answer result) }
     {
         match self.direct_part(e) {
-            Some(b) => placed(Ok(bool_part(b)), e.source_loc().copied()),
+            Some(b) => answer_at(Ok(bool_part(b)), e.source_loc().copied()),
             None => {
                 let evaluation = Evaluation {
                     given: &self.given,
@@ -134,7 +134,7 @@ impl<'e, 'f> Evaluator<'e, 'f> {
     {
         match bool_in(left) {
             Some(true) => joined_to_true(alloc, self.part(alloc, right, slots, levels), loc),
-            Some(false) => placed(Ok(bool_part(false)), loc),
+            Some(false) => answer_at(Ok(bool_part(false)), loc),
             None => Err(with_enclosing_loc(type_error(alloc, Type::Bool, left), loc)),
         }
     }
@@ -156,7 +156,7 @@ impl<'e, 'f> Evaluator<'e, 'f> {
         ensures place { IfOk result (λ p. partial_loc p ≡ loc) }
     {
         match best(alloc, self.part(alloc, right, slots, levels), right) {
-            Ok(kept) => placed(residual_and(alloc, left, kept), loc),
+            Ok(kept) => answer_at(residual_and(alloc, left, kept), loc),
             Err(error) => {
                 drop(left);
                 Err(with_enclosing_loc(error, loc))

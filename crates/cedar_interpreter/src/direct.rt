@@ -1,5 +1,5 @@
-//! What is evaluated directly, without a turn of the loop: the value of an expression that is low, of operators on literals and known
-//! variables.
+//! What is evaluated directly, without a turn of the loop: the value of an expression that is low, of operators on literals
+//! and known variables.
 ghost use Rattle.std.specs.Prelude.{◌≡◌, ◌≤◌, true, IfSome};
 ghost use Rattle.std.specs.Rc.{rc_str_bytes};
 ghost use Rattle.cedar_model.specs.Terms as Terms;
@@ -8,7 +8,8 @@ ghost use Rattle.cedar_model.specs.Values.{plain_represented};
 ghost use Rattle.cedar_names.specs.Leaves.{literal_view, variable_view};
 ghost use Rattle.cedar_expressions.specs.View.{view, expr_loc};
 ghost use Rattle.cedar_errors.specs.Answers.{partial_answer};
-ghost use Rattle.cedar_interpreter.specs.Direct.{IsBoxOf, IsBoolOf, IsPlaced, HasDirectValue, HasDirectValueIn, HasDirectAnswerIn, HasDirectBoolIn};
+ghost use Rattle.cedar_interpreter.specs.Direct.{IsBoxOf, IsBoolOf, IsPlaced, HasDirectValue};
+ghost use Rattle.cedar_interpreter.specs.Direct.{HasDirectValueIn, HasDirectAnswerIn, HasDirectBoolIn};
 
 use crate::direct_evaluators::{DirectEvaluator, EvaluatorAbove, LeafEvaluator};
 use crate::evaluation::Evaluation;
@@ -79,7 +80,7 @@ impl<'e, 'g, 'f> Evaluation<'e, 'g, 'f> {
     pub(crate) fn value_of_variable(&self, var: Var) -> Option<Value>
         ensures { HasDirectValue self.now 1 (Terms.variable (variable_view var)) result }
     {
-        match self.given_for(var) {
+        match self.given.given_for(var) {
             PartialValue::Value(value) => match value.clone() {
                 Ok(value) => Some(value),
                 Err(_) => None,
@@ -98,7 +99,7 @@ impl<'e, 'g, 'f> Evaluation<'e, 'g, 'f> {
         ensures { HasDirectValue self.now 2
             (Terms.get_attribute (Terms.variable (variable_view var)) (rc_str_bytes attr.now)) result }
     {
-        match self.given_for(var) {
+        match self.given.given_for(var) {
             PartialValue::Value(value) => {
                 value_in(attribute_of(alloc, self.given.entities, value, attr, None))
             }

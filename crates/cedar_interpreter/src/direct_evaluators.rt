@@ -270,7 +270,8 @@ impl<T: DirectEvaluator> EvaluatorAbove<T> {
         expr: &Expr,
         attr: &RcStr,
     ) -> Option<Value>
-        ensures { HasDirectValueAbove within.now T.height (Terms.get_attribute (view expr.now) (rc_str_bytes attr.now)) result }
+        ensures { HasDirectValueAbove within.now T.height
+            (Terms.get_attribute (view expr.now) (rc_str_bytes attr.now)) result }
     {
         match variable_in(expr) {
             Some(var) => within.attribute_of_variable(alloc, var, attr),
@@ -286,7 +287,8 @@ impl<T: DirectEvaluator> EvaluatorAbove<T> {
         expr: &Expr,
         attr: &RcStr,
     ) -> Option<Value>
-        ensures { HasDirectValueAbove within.now T.height (Terms.get_attribute (view expr.now) (rc_str_bytes attr.now)) result }
+        ensures { HasDirectValueAbove within.now T.height
+            (Terms.get_attribute (view expr.now) (rc_str_bytes attr.now)) result }
     {
         match self.below.evaluate(within, alloc, expr) {
             Some(value) => {
@@ -304,7 +306,8 @@ impl<T: DirectEvaluator> EvaluatorAbove<T> {
         expr: &Expr,
         attr: &RcStr,
     ) -> Option<Value>
-        ensures { HasDirectValueAbove within.now T.height (Terms.has_attribute (view expr.now) (rc_str_bytes attr.now)) result }
+        ensures { HasDirectValueAbove within.now T.height
+            (Terms.has_attribute (view expr.now) (rc_str_bytes attr.now)) result }
     {
         match self.below.evaluate(within, alloc, expr) {
             Some(value) => {
@@ -342,7 +345,8 @@ impl<T: DirectEvaluator> EvaluatorAbove<T> {
         expr: &Expr,
         pattern: &Pattern,
     ) -> Option<Value>
-        ensures { HasDirectValueAbove within.now T.height (Terms.like (view expr.now) (pattern_view pattern.now)) result }
+        ensures { HasDirectValueAbove within.now T.height
+            (Terms.like (view expr.now) (pattern_view pattern.now)) result }
     {
         match self.below.evaluate(within, alloc, expr) {
             Some(value) => value_in(like_of_part(alloc, PartialValue::Value(value), pattern)),
@@ -358,7 +362,8 @@ impl<T: DirectEvaluator> EvaluatorAbove<T> {
         expr: &Expr,
         entity_type: &EntityType,
     ) -> Option<Value>
-        ensures { HasDirectValueAbove within.now T.height (Terms.is_of_type (view expr.now) (type_text entity_type.now)) result }
+        ensures { HasDirectValueAbove within.now T.height
+            (Terms.is_of_type (view expr.now) (type_text entity_type.now)) result }
     {
         match self.below.evaluate(within, alloc, expr) {
             Some(value) => value_in(is_of_part(alloc, PartialValue::Value(value), entity_type)),

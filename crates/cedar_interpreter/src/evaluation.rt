@@ -5,6 +5,7 @@ ghost use Rattle.cedar_interpreter.specs.declared.evaluation.Resolution.TheVaria
 use cedar_extensions::Extensions;
 use cedar_layers::expressions::SlotEnv;
 use cedar_layers::policies::Entities;
+use cedar_names::Var;
 use cedar_values::{PartialValue, Value};
 use std::collections::HashMap;
 use std::rc::RcStr;
@@ -58,6 +59,23 @@ pub struct Given<'g, 'f> {
     pub mapper: Mapper<'g>,
     /// What reading a stored residual answers.
     pub resolution: Resolution,
+}
+
+impl<'g, 'f> Given<'g, 'f> {
+    ghost use Rattle.cedar_names.specs.Leaves.{variable_view};
+    ghost use Rattle.cedar_interpreter.specs.Settings.{given_for};
+
+    /// What is given for the variable.
+    pub fn given_for(&self, var: Var) -> &PartialValue
+        ensures { result.now ≡ given_for self.now (variable_view var) }
+    {
+        match var {
+            Var::Principal => &self.principal,
+            Var::Action => &self.action,
+            Var::Resource => &self.resource,
+            Var::Context => &self.context,
+        }
+    }
 }
 
 /// An evaluation of an expression: what it is given, and the entities of slots.

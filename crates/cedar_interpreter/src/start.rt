@@ -10,7 +10,6 @@ ghost use Rattle.cedar_names.specs.Leaves.{unary_view, binary_view, pattern_view
 ghost use Rattle.cedar_expressions.specs.View.{view, terms_view, fields_view, extended_has_of, call_of, expr_loc};
 ghost use Rattle.cedar_layers.specs.Policies.{slots_view};
 ghost use Rattle.cedar_operators.specs.Operands.{unknown_term};
-ghost use Rattle.cedar_interpreter.specs.Settings.{given_for};
 ghost use Rattle.cedar_interpreter.specs.Tasks.{Gives};
 ghost use Rattle.cedar_interpreter.specs.Continuations.{StartsIn, StartsAt};
 ghost use Rattle.cedar_interpreter.specs.Parts.{IsTaken, IsNextPart};
@@ -91,21 +90,9 @@ impl<'e, 'g, 'f> Evaluation<'e, 'g, 'f> {
     fn variable(&self, alloc: Global, whole: &SharedExpr, var: Var) -> Next
         ensures { (levels : ℕ) → StartsIn self.now levels whole.now (Terms.variable (variable_view var)) result }
     {
-        match self.given_for(var).clone() {
+        match self.given.given_for(var).clone() {
             Ok(part) => done(alloc, whole, part),
             Err(_) => Step::Done(Err(Stopped::Memory)),
-        }
-    }
-
-    // What is given for the variable.
-    pub(crate) fn given_for(&self, var: Var) -> &PartialValue
-        ensures { result.now ≡ given_for self.now.given.now (variable_view var) }
-    {
-        match var {
-            Var::Principal => &self.given.principal,
-            Var::Action => &self.given.action,
-            Var::Resource => &self.given.resource,
-            Var::Context => &self.given.context,
         }
     }
 

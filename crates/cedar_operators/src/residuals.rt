@@ -60,8 +60,11 @@ pub fn residual_has(
     Ok(PartialValue::Residual(ResidualExpr::new(expr)))
 }
 
-// What is held, and the answer beside it.
-fn beside<H: Drop, T: Drop>(held: H, answer: Result<T, AllocError>) -> Result<(H, T), AllocError>
+/// What is held, and the answer beside it. Refuses only where that is refused.
+pub fn beside<H: Drop, T: Drop>(
+    held: H,
+    answer: Result<T, AllocError>,
+) -> Result<(H, T), AllocError>
     ensures held { IfOk result (λ p. p.0 ≡ held) }
     ensures answer { IfOk result (λ p. answer ≡ Ok p.1) }
 {

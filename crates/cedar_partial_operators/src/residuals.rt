@@ -1,5 +1,5 @@
 //! Residuals: an operator around what is not known. None stands at a location.
-ghost use Rattle.std.specs.Prelude.{◌≡◌, true, false, Ok, IfOk};
+ghost use Rattle.std.specs.Prelude.{true, false};
 ghost use Rattle.cedar_model.specs.Terms.{unary, both, either, literal, bool_literal, like, is_of_type};
 ghost use Rattle.cedar_model.specs.Failures.{answers_residual};
 ghost use Rattle.cedar_names.specs.Names.{type_text};
@@ -11,7 +11,8 @@ use cedar_errors::evaluator::err::EvaluationError;
 use cedar_layers::expressions::{
     EntityType, Expr, Literal, PartialValue, Pattern, ResidualExpr, UnaryOp,
 };
-use std::alloc::{AllocError, Global};
+use cedar_operators::residuals::beside;
+use std::alloc::Global;
 
 // The operator on the residual.
 pub(crate) fn residual_unary(
@@ -71,13 +72,4 @@ pub(crate) fn residual_is(
     let (part, entity_type) = beside(part, entity_type.clone())?;
     let expr = Expr::is_entity_type(alloc, part.into_expr(), entity_type)?;
     Ok(PartialValue::Residual(ResidualExpr::new(expr)))
-}
-
-// What is held, and the answer beside it.
-fn beside<H: Drop, T: Drop>(held: H, answer: Result<T, AllocError>) -> Result<(H, T), AllocError>
-    ensures held { IfOk result (λ p. p.0 ≡ held) }
-    ensures answer { IfOk result (λ p. answer ≡ Ok p.1) }
-{
-    let answer = answer?;
-    Ok((held, answer))
 }

@@ -14,8 +14,8 @@ use Rattle.cedar_evaluator.proofs.evaluator.Evaluator.beside_residual.Goals as g
 pub returns-in-Ok-clause-answer : goal.returns-in-Ok-clause-answer
 returns-in-Ok-clause-answer g c t h =
     kept_right (setting_of c.args.self.now (slots_view c.args.slots.now)) (calls_in c.args.self.now) c.args.levels t (view c.args.right.now) (residual_term c.args.left)
-    (partial_answer c.part.result) (h (not_wanting _)) c.part.ensures (view c.in-Ok.kept) (partial_answer c.placed.result) c.in-Ok.ensures
-    (λ ok. c.placed.ensures.answer ∙ c.residual_and.ensures (λ w. ok (c.placed.ensures.answer ∙ w)))
+    (partial_answer c.part.result) (h (not_wanting _)) c.part.ensures (view c.in-Ok.kept) (partial_answer c.answer_at.result) c.in-Ok.ensures
+    (λ ok. c.answer_at.ensures.answer ∙ c.residual_and.ensures (λ w. ok (c.answer_at.ensures.answer ∙ w)))
 
 pub returns-in-Err-clause-answer : goal.returns-in-Err-clause-answer
 returns-in-Err-clause-answer g c t h =

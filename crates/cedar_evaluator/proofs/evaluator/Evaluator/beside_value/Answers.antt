@@ -17,8 +17,8 @@ returns-in-Some-true-clause-answer g c t h =
 pub returns-in-Some-false-clause-answer : goal.returns-in-Some-false-clause-answer
 returns-in-Some-false-clause-answer g c t h =
     false_left (setting_of c.args.self.now (slots_view c.args.slots.now)) (calls_in c.args.self.now) c.args.levels t (view c.args.right.now) c.args.left.now.what (h (not_wanting _))
-    (partial_answer c.placed.result)
-    (sym c.bool_in.ensures ∙ (c.in-Some-false.is ∙ ap Some c.in-Some-false.field-0-test)) (c.placed.ensures.answer ∙ ap answers c.bool_part.ensures)
+    (partial_answer c.answer_at.result)
+    (sym c.bool_in.ensures ∙ (c.in-Some-false.is ∙ ap Some c.in-Some-false.field-0-test)) (c.answer_at.ensures.answer ∙ ap answers c.bool_part.ensures)
 
 pub returns-in-None-clause-answer : goal.returns-in-None-clause-answer
 returns-in-None-clause-answer g c t h =
