@@ -241,7 +241,7 @@ impl<'e, 'f> Evaluator<'e, 'f> {
         ensures place { IfLeaves result (λ e. expr_loc e ≡ policy_location policy.now) }
         ensures unknown { IfLeaves result (λ e. has_unknown (view e) ≡ true) }
     {
-        self.decide(alloc, policy)
+        self.decide_condition(alloc, policy)
     }
 
     /// Whether the policy's condition is true. A condition of another value than a boolean is a `TypeError` that expects `Bool`;
