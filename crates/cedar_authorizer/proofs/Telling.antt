@@ -14,7 +14,7 @@ use Rattle.cedar_model.specs.Chains.{has_effect, is_true, is_residual, rows_of}
 use Rattle.cedar_model.specs.Authorizations.{Authorized}
 use Rattle.cedar_model.specs.Reports.{trues, residuals, concretized}
 use Rattle.cedar_model.proofs.Configured.{configured_by}
-use Rattle.cedar_interpreter.proofs.BooleanLaws.{is_bool}
+use Rattle.cedar_interpreter.specs.Booleans.{is_bool}
 use Rattle.cedar_layers.specs.Policies.{PolicyView, condition_term, decides_as, first_repeated, first_repeated_after}
 use Rattle.cedar_layers.specs.declared.policies.policy_set.PolicySet.{PolicySet}
 use Rattle.cedar_responses.specs.declared.partial_response.PartialResponse.{PartialResponse}

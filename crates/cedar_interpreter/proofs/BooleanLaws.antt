@@ -7,17 +7,7 @@ use Rattle.cedar_model.specs.Outcomes.{bool_of}
 use Rattle.cedar_model.specs.Operators.{unary_answer, expecting}
 use Rattle.cedar_model.specs.Failures.{PartialValue, value, residual, Answer, answers, answers_bool, wrong_type}
 use Rattle.cedar_model.specs.Rules.{MayAnswer, AfterGuard, TakesBranch, AfterAndLeft, AndLeft, AfterOrLeft, OrLeft, joined, bool_or_failure, on_part}
-use Rattle.cedar_interpreter.specs.Booleans.{part_bool}
-
-pub is_bool : (v : Represented) (b : Bool) → bool_of (abstract_value v) ≡ Some b → answers (value v) ≡ answers_bool b
-unfolding bool_of
-is_bool (plain_represented (bool_literal c)) b h = cc
-is_bool (plain_represented (long_literal n)) b h = absurd (cc)
-is_bool (plain_represented (text_literal t)) b h = absurd (cc)
-is_bool (plain_represented (entity_literal e)) b h = absurd (cc)
-is_bool (set_represented vs) b h = absurd (cc)
-is_bool (record_represented fs) b h = absurd (cc)
-is_bool (extension_represented t k f ts) b h = absurd (cc)
+use Rattle.cedar_interpreter.specs.Booleans.{part_bool, is_bool}
 
 pub part_is_bool : (p : PartialValue) (b : Bool) → part_bool p ≡ Some b → answers p ≡ answers_bool b
 part_is_bool (value v) b h = is_bool v b h

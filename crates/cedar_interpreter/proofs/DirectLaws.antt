@@ -22,8 +22,8 @@ use Rattle.cedar_interpreter.specs.declared.frame.Pending.{Pending}
 use Rattle.cedar_interpreter.specs.declared.frame.Pending.TheVariants as pendings
 use Rattle.cedar_interpreter.specs.declared.frame.Task.TheVariants as tasks
 use Rattle.cedar_interpreter.specs.Endings.{ending_answer}
-use Rattle.cedar_interpreter.specs.Booleans.{part_bool}
-use Rattle.cedar_interpreter.proofs.BooleanLaws.{is_bool, and_true, or_false}
+use Rattle.cedar_interpreter.specs.Booleans.{part_bool, is_bool}
+use Rattle.cedar_interpreter.proofs.BooleanLaws.{and_true, or_false}
 use Rattle.cedar_interpreter.specs.Settings.{Speaks, evaluation_setting, calls_in}
 use Rattle.cedar_interpreter.proofs.Requests.{some_request}
 use Rattle.cedar_interpreter.specs.Tasks.{SharedExpr, Next, Uses, WaitsFor, WaitsAgain, Gives, pending_left}
