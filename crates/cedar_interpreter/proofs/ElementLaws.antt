@@ -1,5 +1,5 @@
 -- Where elements stand, from one frame to the next.
-use Rattle.std.specs.Prelude.{◌≡◌, ◌≢◌, ℕ, zero, suc, true, List, Option, Ok, Err}
+use Rattle.std.specs.Prelude.{◌≡◌, ◌≢◌, ℕ, zero, suc, List, Option, Ok, Err}
 use Rattle.std.proofs.Common.{sym, ◌∙◌, subst}
 use Rattle.cedar_model.specs.Terms.{Term, Terms, set_of}
 use Rattle.cedar_model.specs.Failures.{Failure, fails, out_of_memory}
@@ -24,7 +24,7 @@ use Rattle.cedar_interpreter.specs.Endings.{Ending}
 use Rattle.cedar_interpreter.specs.Tasks.{SharedExpr, Next, Gives}
 use Rattle.cedar_interpreter.specs.Parts.{IsTaken, IsTakenAs}
 use Rattle.cedar_interpreter.proofs.PartsLaws.{no_fail}
-use Rattle.cedar_interpreter.specs.Frames.{IsRight, FrameWaits, ends_all}
+use Rattle.cedar_interpreter.specs.Frames.{IsRight, FrameWaits}
 use Rattle.cedar_interpreter.specs.Elements.{EndingStands, TaskWaits, SetNext, NextStands, FrameStands, PartStands, TaskContinues, IsPartTaken}
 
 taken_waits : (es : List Expr) (f : PartsFrame) (c : Expr) (task : Task) (d : Expr) → SetWaits es f c → IsTakenAs f c task d → TaskWaits es task d
@@ -94,8 +94,3 @@ module _ (Says : RequestPart → Type 0) (setting : RequestPart → Setting) (ca
       TaskContinues f.task o n → NextStands p.value n
   continues_standing k f p c o n (waits, stands) right more =
       λ ts is. more (parts_of p.value) c.value (stands ts is) (part_stands k c o right)
-
--- an answer that ends all is no value
-pub ended_stands : (p : SharedExpr) (o : Ending) → ends_all o ≡ true → EndingStands p o
-ended_stands p (Ok b) ends = absurd (cc)
-ended_stands p (Err e) ends = λ n. tt

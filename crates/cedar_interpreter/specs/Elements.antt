@@ -1,5 +1,5 @@
 -- Where the elements of an evaluated set stand, over the frames of an evaluation.
-use Rattle.std.specs.Prelude.{◌≡◌, ℕ, List, Ok, Err, IfOk}
+use Rattle.std.specs.Prelude.{◌≡◌, ℕ, true, List, Ok, Err, IfOk}
 use Rattle.cedar_model.specs.Terms.{Terms, set_of}
 use Rattle.cedar_expressions.specs.declared.expr.Expr.{Expr}
 use Rattle.cedar_expressions.specs.View.{view, expr_loc}
@@ -14,6 +14,7 @@ use Rattle.cedar_interpreter.specs.declared.frame.Task.{Task}
 use Rattle.cedar_interpreter.specs.declared.frame.Task.TheVariants as tasks
 use Rattle.cedar_interpreter.specs.Endings.{Ending}
 use Rattle.cedar_interpreter.specs.Tasks.{SharedExpr, Next}
+use Rattle.cedar_interpreter.specs.Frames.{ends_all}
 
 -- ---- what stands where
 
@@ -63,3 +64,8 @@ IsPartTaken (Done (Ok p)) (Wait f c) = ⊥
 IsPartTaken (Done (Err e)) (Done o) = IfOk o (λ b. ⊥)
 IsPartTaken (Done (Err e)) (Wait f c) = Unit {0}
 IsPartTaken (Wait g d) n = Unit {0}
+
+-- an answer that ends all is no value
+pub ended_stands : (p : SharedExpr) (o : Ending) → ends_all o ≡ true → EndingStands p o
+ended_stands p (Ok b) ends = absurd (cc)
+ended_stands p (Err e) ends = λ n. tt

@@ -8,8 +8,7 @@ ghost use Rattle.cedar_interpreter.specs.Endings.{ending_answer, stopped_failure
 ghost use Rattle.cedar_interpreter.specs.Settings.{Speaks, evaluation_setting, calls_in};
 ghost use Rattle.cedar_interpreter.specs.Continuations.{LeadsIn};
 ghost use Rattle.cedar_interpreter.specs.Frames.{IsRight, FrameWaits, left_of, ends_all};
-ghost use Rattle.cedar_interpreter.specs.Elements.{EndingStands, FrameStands, TaskContinues};
-ghost use Rattle.cedar_interpreter.proofs.ElementLaws.{ended_stands};
+ghost use Rattle.cedar_interpreter.specs.Elements.{EndingStands, FrameStands, TaskContinues, ended_stands};
 ghost use Rattle.cedar_interpreter.specs.Laws.{right_limit, right_want, right_upward, limit_ends, some_left, some_most};
 
 use crate::answers::passed_on;
