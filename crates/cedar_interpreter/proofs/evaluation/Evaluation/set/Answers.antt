@@ -6,7 +6,7 @@ use Rattle.cedar_interpreter.proofs.evaluation.Evaluation.set.Goals as goal
 
 pub returns-clause-starts : goal.returns-clause-starts
 returns-clause-starts g c r k =
-    parts_start (evaluation_setting r c.args.self.now) (calls_in c.args.self.now) k _ (expr_loc c.args.whole.now.value) c.loc_of.result c.set-next.result c.first_part.result c.set-next.ensures.starts c.first_part.ensures.taken
+    parts_start (evaluation_setting r c.args.self.now) (calls_in c.args.self.now) k _ (expr_loc c.args.whole.now.value) c.loc_of.result c.set-next.result c.first_part.result c.set-next.ensures.begins c.first_part.ensures.taken
 
 pub returns-clause-elements : goal.returns-clause-elements
 returns-clause-elements g c =
