@@ -1,0 +1,210 @@
+#![tactic(auto, using(crate::proofs::Building::building))]
+//! Sets, records and calls.
+ghost use Rattle.std.specs.Prelude.{◌≡◌, ◌++◌, ◌∷◌, [], map, IfOk, OnOk, Some, option_map};
+ghost use Rattle.cedar_expressions.specs.View.{view, fields_view};
+ghost use Rattle.cedar_expressions.specs.Records.{fields_in_order, put_field};
+ghost use Rattle.cedar_builder.specs.Building.{term_in, terms_of_all, fields_of_all, Builds, Makes};
+ghost use Rattle.cedar_builder.specs.Building.{set_term, record_term, call_term, entity_term, entity_terms};
+
+use super::ExprBuilder;
+use super::leaves::entity_literal;
+use crate::parts::together;
+use cedar_expressions::Expr;
+use cedar_names::Name;
+use std::alloc::{AllocError, Global};
+use std::collections::BTreeMap;
+use std::rc::RcStr;
+
+/// The set of these parts, in this order: `[a, b]`.
+pub fn set<const N: usize>(alloc: Global, parts: [ExprBuilder; N]) -> ExprBuilder
+    ensures { Builds result (option_map set_term (terms_of_all parts.entry)) }
+{
+    ExprBuilder {
+        alloc,
+        built: set_of_parts(alloc, parts),
+    }
+}
+
+/// The record of these parts under their keys: `{a: x, "b c": y}`. The keys are taken as they stand. A part whose key comes again
+/// takes the place of the one before.
+pub fn record<const N: usize>(alloc: Global, fields: [(&str, ExprBuilder); N]) -> ExprBuilder
+    ensures { Builds result (option_map record_term (fields_of_all fields.entry)) }
+{
+    ExprBuilder {
+        alloc,
+        built: record_of_fields(alloc, fields),
+    }
+}
+
+/// A call of the extension function of this name on these arguments: `name(a, b)`, or `a.name(b)` where the function is a method.
+/// The name is taken as it stands.
+pub fn call<const N: usize>(alloc: Global, name: &str, args: [ExprBuilder; N]) -> ExprBuilder
+    ensures { Builds result (option_map (call_term name.now) (terms_of_all args.entry)) }
+{
+    ExprBuilder {
+        alloc,
+        built: call_of_parts(alloc, name, args),
+    }
+}
+
+fn set_of_parts<const N: usize>(
+    alloc: Global,
+    parts: [ExprBuilder; N],
+) -> Result<Expr, AllocError>
+    ensures { Makes result (option_map set_term (terms_of_all parts.entry)) }
+{
+    let parts = parts_of(alloc, parts)?;
+    let made = Expr::set(alloc, parts)?;
+    Ok(made)
+}
+
+fn record_of_fields<const N: usize>(
+    alloc: Global,
+    fields: [(&str, ExprBuilder); N],
+) -> Result<Expr, AllocError>
+    ensures { Makes result (option_map record_term (fields_of_all fields.entry)) }
+{
+    let fields = fields_of(alloc, fields)?;
+    let made = Expr::record_map(alloc, fields)?;
+    Ok(made)
+}
+
+fn call_of_parts<const N: usize>(
+    alloc: Global,
+    name: &str,
+    args: [ExprBuilder; N],
+) -> Result<Expr, AllocError>
+    ensures { Makes result (option_map (call_term name.now) (terms_of_all args.entry)) }
+{
+    let (args, name) = together(parts_of(alloc, args), RcStr::from_str(alloc, name))?;
+    let made = Expr::call_extension_fn(alloc, Name::new(name, None), args)?;
+    Ok(made)
+}
+
+// ---- parts
+
+// The expressions of these parts.
+fn parts_of<const N: usize>(
+    alloc: Global,
+    parts: [ExprBuilder; N],
+) -> Result<Vec<Expr>, AllocError>
+    ensures { IfOk result (λ v. terms_of_all parts.entry ≡ Some (map view v.items)) }
+{
+    match Vec::from_array(alloc, parts) {
+        Ok(parts) => each_part(alloc, parts),
+        Err(_) => Err(AllocError),
+    }
+}
+
+fn each_part(alloc: Global, parts: Vec<ExprBuilder>) -> Result<Vec<Expr>, AllocError>
+    ensures { IfOk result (λ v. terms_of_all parts.items ≡ Some (map view v.items)) }
+{
+    let mut made: Vec<Expr> = Vec::new(alloc);
+    'parts: for part in parts {
+        put_part(&mut made, part.expr())?;
+    }
+    Ok(made)
+}
+
+fn put_part(made: &mut Vec<Expr>, part: Result<Expr, AllocError>) -> Result<(), AllocError>
+    ensures { OnOk result (option_map (λ t. map view made.old.items ++ t ∷ []) (term_in part) ≡ Some (map view made.new.items)) }
+{
+    let part = part?;
+    match made.push(part) {
+        Ok(()) => Ok(()),
+        Err(_) => Err(AllocError),
+    }
+}
+
+// ---- fields
+
+// The expressions of these fields, under their keys.
+fn fields_of<const N: usize>(
+    alloc: Global,
+    fields: [(&str, ExprBuilder); N],
+) -> Result<BTreeMap<RcStr, Expr>, AllocError>
+    ensures { IfOk result (λ m. option_map fields_in_order (fields_of_all fields.entry) ≡ Some (fields_view m.entries)) }
+{
+    match Vec::from_array(alloc, fields) {
+        Ok(fields) => each_field(alloc, fields),
+        Err(_) => Err(AllocError),
+    }
+}
+
+fn each_field(
+    alloc: Global,
+    fields: Vec<(&str, ExprBuilder)>,
+) -> Result<BTreeMap<RcStr, Expr>, AllocError>
+    ensures { IfOk result (λ m. option_map fields_in_order (fields_of_all fields.entry.items) ≡ Some (fields_view m.entries)) }
+{
+    let mut made: BTreeMap<RcStr, Expr> = BTreeMap::new(alloc);
+    'fields: for (key, part) in fields {
+        put_part_under(alloc, &mut made, key, part.expr())?;
+    }
+    Ok(made)
+}
+
+fn put_part_under(
+    alloc: Global,
+    made: &mut BTreeMap<RcStr, Expr>,
+    key: &str,
+    part: Result<Expr, AllocError>,
+) -> Result<(), AllocError>
+    ensures { OnOk result
+        (option_map (put_field (fields_view made.old.entries) key.now) (term_in part) ≡ Some (fields_view made.new.entries)) }
+{
+    let (key, part) = together(RcStr::from_str(alloc, key), part)?;
+    drop(made.insert(key, part)?);
+    Ok(())
+}
+
+// ---- entities
+
+/// The set of the literals of these entities, each its type and its id, in this order.
+pub(crate) fn entity_set<const N: usize>(
+    alloc: Global,
+    entities: [(&str, &str); N],
+) -> Result<Expr, AllocError>
+    ensures { Makes result (Some (set_term (entity_terms entities.entry))) }
+{
+    let literals = entity_literals(alloc, entities)?;
+    let made = Expr::set(alloc, literals)?;
+    Ok(made)
+}
+
+fn entity_literals<const N: usize>(
+    alloc: Global,
+    entities: [(&str, &str); N],
+) -> Result<Vec<Expr>, AllocError>
+    ensures { IfOk result (λ v. map view v.items ≡ entity_terms entities.entry) }
+{
+    match Vec::from_array(alloc, entities) {
+        Ok(entities) => each_entity(alloc, entities),
+        Err(_) => Err(AllocError),
+    }
+}
+
+fn each_entity(alloc: Global, entities: Vec<(&str, &str)>) -> Result<Vec<Expr>, AllocError>
+    ensures { IfOk result (λ v. map view v.items ≡ entity_terms entities.entry.items) }
+{
+    let mut made: Vec<Expr> = Vec::new(alloc);
+    'entities: for (ty, id) in entities {
+        put_entity(alloc, &mut made, ty, id)?;
+    }
+    Ok(made)
+}
+
+fn put_entity(
+    alloc: Global,
+    made: &mut Vec<Expr>,
+    ty: &str,
+    id: &str,
+) -> Result<(), AllocError>
+    ensures { OnOk result (map view made.new.items ≡ map view made.old.items ++ entity_term ty.now id.now ∷ []) }
+{
+    let literal = entity_literal(alloc, ty, id)?;
+    match made.push(literal) {
+        Ok(()) => Ok(()),
+        Err(_) => Err(AllocError),
+    }
+}
