@@ -1,8 +1,8 @@
 -- Which expression a builder of one stands for.
-use Rattle.std.specs.Prelude.{◌≡◌, ℕ, List, [], ◌∷◌, map, Option, None, Some, option_map, Result, Ok, Err, IfOk}
+use Rattle.std.specs.Prelude.{◌≡◌, ℕ, List, [], ◌∷◌, Option, None, Some, option_map, Result, Ok, Err, IfOk}
 use Rattle.std.specs.Borrow.{Bor}
 use Rattle.std.specs.declared.alloc.AllocError.{AllocError}
-use Rattle.cedar_model.specs.Terms.{Text, EntityName, Term, Terms, literal, entity_literal, binary, in_operator, both, is_of_type, call, set_of, record_of, terms_of}
+use Rattle.cedar_model.specs.Terms.{Text, Term, binary, in_operator, both, is_of_type, call, set_of, record_of, terms_of}
 use Rattle.cedar_expressions.specs.Records.{fields_in_order}
 use Rattle.cedar_expressions.specs.declared.expr.Expr.{Expr}
 use Rattle.cedar_expressions.specs.View.{view}
@@ -35,11 +35,7 @@ Makes r what = IfOk r (λ e. what ≡ Some (view e))
 abbrev pub Builds : ExprBuilder → Option Term → Type 0
 Builds b what = Makes b.built what
 
--- ---- entities and types
-
--- the literal of the entity of this type with this id
-abbrev pub entity_term : Text → Text → Term
-entity_term ty id = literal (entity_literal (record { type_name = ty; id = id }))
+-- ---- types
 
 -- `t is ty && t in u`
 abbrev pub is_of_type_in : Text → Term → Term → Term
@@ -60,10 +56,6 @@ Named = Bor (List ℕ) × ExprBuilder
 abbrev pub fields_of_all : List Named → Option (List (Text × Term))
 fields_of_all [] = Some []
 fields_of_all (f ∷ fs) = of_two (λ t ts. (f.0.now, t) ∷ ts) (term_of f.1) (fields_of_all fs)
-
--- the literals of entities, each given by its type and its id
-abbrev pub entity_terms : List (Bor (List ℕ) × Bor (List ℕ)) → List Term
-entity_terms = map (λ p. entity_term p.0.now p.1.now)
 
 -- the set of these parts
 abbrev pub set_term : List Term → Term

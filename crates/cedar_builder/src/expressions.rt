@@ -1,8 +1,8 @@
 #![tactic(auto, using(crate::proofs::Building::building))]
 //! Expressions in the making.
-ghost use Rattle.std.specs.Prelude.{◌≡◌, IfOk, Some};
+ghost use Rattle.std.specs.Prelude.{◌≡◌, Some};
 ghost use Rattle.cedar_expressions.specs.View.{view};
-ghost use Rattle.cedar_builder.specs.Building.{term_of};
+ghost use Rattle.cedar_builder.specs.Building.{term_of, term_in};
 
 mod leaves;
 mod lists;
@@ -11,12 +11,9 @@ mod patterns;
 
 use cedar_expressions::Expr;
 pub use leaves::{
-    action, boolean, context, entity, long, principal, resource, text, uid, unknown,
+    action, boolean, context, entity, long, principal, resource, slot, text, uid, unknown,
     unknown_with_type,
 };
-pub(crate) use leaves::entity_literal;
-pub(crate) use lists::entity_set;
-pub(crate) use operators::both_of;
 pub use lists::{call, record, set};
 pub use operators::if_then_else;
 use std::alloc::{AllocError, Global};
@@ -24,8 +21,8 @@ use std::alloc::{AllocError, Global};
 /// An expression in the making: what was said so far, or that memory was wanting on the way.
 #[derive(Drop)]
 pub struct ExprBuilder {
-    alloc: Global,
-    built: Result<Expr, AllocError>,
+    pub(crate) alloc: Global,
+    pub(crate) built: Result<Expr, AllocError>,
 }
 
 /// This expression, as it is. It takes no memory.
@@ -41,7 +38,7 @@ pub fn expr(alloc: Global, expr: Expr) -> ExprBuilder
 impl ExprBuilder {
     /// The expression that was said. Refuses only for want of memory, which was wanting on the way.
     pub fn expr(self) -> Result<Expr, AllocError>
-        ensures { IfOk result (λ e. term_of self ≡ Some (view e)) }
+        ensures { term_in result ≡ term_of self }
     {
         let ExprBuilder { alloc: _, built } = self;
         built

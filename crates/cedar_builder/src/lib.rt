@@ -14,6 +14,6 @@ mod policies;
 
 pub use expressions::{
     ExprBuilder, action, boolean, call, context, entity, expr, if_then_else, long, principal,
-    record, resource, set, text, uid, unknown, unknown_with_type,
+    record, resource, set, slot, text, uid, unknown, unknown_with_type,
 };
 pub use policies::{PolicyBuilder, forbid, permit};

@@ -93,7 +93,7 @@ impl PolicyBuilder {
         let PolicyBuilder { alloc, parts } = self;
         PolicyBuilder {
             alloc,
-            parts: with_condition(alloc, parts, condition.expr()),
+            parts: with_condition(alloc, parts, condition.built),
         }
     }
 

@@ -1,16 +1,16 @@
 #![tactic(auto, using(crate::proofs::Building::building))]
 //! Expressions without parts: variables, literals, unknowns.
 ghost use Rattle.std.specs.Prelude.{◌≡◌, IfOk, None, Some};
-ghost use Rattle.cedar_model.specs.Terms.{variable, principal, action, resource, context, literal, unknown};
+ghost use Rattle.cedar_model.specs.Terms.{variable, principal, action, resource, context, literal, slot, unknown};
 ghost use Rattle.cedar_model.specs.Terms.{bool_literal, long_literal, text_literal, entity_literal};
-ghost use Rattle.cedar_names.specs.Leaves.{type_view};
+ghost use Rattle.cedar_names.specs.Leaves.{slot_view, type_view};
 ghost use Rattle.cedar_names.specs.Names.{uid_name};
 ghost use Rattle.cedar_expressions.specs.View.{view};
 ghost use Rattle.cedar_builder.specs.Building.{term_of, Builds, Makes};
 
 use super::{ExprBuilder, expr};
 use cedar_expressions::Expr;
-use cedar_names::{EntityUID, Literal, Type, Unknown, Var};
+use cedar_names::{EntityUID, Literal, SlotId, Type, Unknown, Var};
 use std::alloc::{AllocError, Global};
 use std::rc::RcStr;
 
@@ -40,6 +40,13 @@ pub fn context(alloc: Global) -> ExprBuilder
     ensures { term_of result ≡ Some (variable context) }
 {
     expr(alloc, Expr::var(Var::Context))
+}
+
+/// `?principal` or `?resource`, which stands in the scope of a template. It takes no memory.
+pub fn slot(alloc: Global, slot_id: SlotId) -> ExprBuilder
+    ensures { term_of result ≡ Some (slot (slot_view slot_id)) }
+{
+    expr(alloc, Expr::slot(slot_id))
 }
 
 /// `true` or `false`. It takes no memory.
@@ -77,7 +84,7 @@ pub fn entity(alloc: Global, ty: &str, id: &str) -> ExprBuilder
     }
 }
 
-pub(crate) fn entity_literal(alloc: Global, ty: &str, id: &str) -> Result<Expr, AllocError>
+fn entity_literal(alloc: Global, ty: &str, id: &str) -> Result<Expr, AllocError>
     ensures { Makes result (Some (literal (entity_literal (record { type_name = ty.now; id = id.now })))) }
 {
     let uid = EntityUID::of(alloc, ty, id)?;

@@ -4,10 +4,9 @@ ghost use Rattle.std.specs.Prelude.{◌≡◌, ◌++◌, ◌∷◌, [], map, IfO
 ghost use Rattle.cedar_expressions.specs.View.{view, fields_view};
 ghost use Rattle.cedar_expressions.specs.Records.{fields_in_order, put_field};
 ghost use Rattle.cedar_builder.specs.Building.{term_in, terms_of_all, fields_of_all, Builds, Makes};
-ghost use Rattle.cedar_builder.specs.Building.{set_term, record_term, call_term, entity_term, entity_terms};
+ghost use Rattle.cedar_builder.specs.Building.{set_term, record_term, call_term};
 
 use super::ExprBuilder;
-use super::leaves::entity_literal;
 use crate::parts::together;
 use cedar_expressions::Expr;
 use cedar_names::Name;
@@ -47,10 +46,7 @@ pub fn call<const N: usize>(alloc: Global, name: &str, args: [ExprBuilder; N]) -
     }
 }
 
-fn set_of_parts<const N: usize>(
-    alloc: Global,
-    parts: [ExprBuilder; N],
-) -> Result<Expr, AllocError>
+fn set_of_parts<const N: usize>(alloc: Global, parts: [ExprBuilder; N]) -> Result<Expr, AllocError>
     ensures { Makes result (option_map set_term (terms_of_all parts.entry)) }
 {
     let parts = parts_of(alloc, parts)?;
@@ -84,10 +80,7 @@ fn call_of_parts<const N: usize>(
 // ---- parts
 
 // The expressions of these parts.
-fn parts_of<const N: usize>(
-    alloc: Global,
-    parts: [ExprBuilder; N],
-) -> Result<Vec<Expr>, AllocError>
+fn parts_of<const N: usize>(alloc: Global, parts: [ExprBuilder; N]) -> Result<Vec<Expr>, AllocError>
     ensures { IfOk result (λ v. terms_of_all parts.entry ≡ Some (map view v.items)) }
 {
     match Vec::from_array(alloc, parts) {
@@ -101,7 +94,7 @@ fn each_part(alloc: Global, parts: Vec<ExprBuilder>) -> Result<Vec<Expr>, AllocE
 {
     let mut made: Vec<Expr> = Vec::new(alloc);
     'parts: for part in parts {
-        put_part(&mut made, part.expr())?;
+        put_part(&mut made, part.built)?;
     }
     Ok(made)
 }
@@ -139,7 +132,7 @@ fn each_field(
 {
     let mut made: BTreeMap<RcStr, Expr> = BTreeMap::new(alloc);
     'fields: for (key, part) in fields {
-        put_part_under(alloc, &mut made, key, part.expr())?;
+        put_part_under(alloc, &mut made, key, part.built)?;
     }
     Ok(made)
 }
@@ -156,55 +149,4 @@ fn put_part_under(
     let (key, part) = together(RcStr::from_str(alloc, key), part)?;
     drop(made.insert(key, part)?);
     Ok(())
-}
-
-// ---- entities
-
-/// The set of the literals of these entities, each its type and its id, in this order.
-pub(crate) fn entity_set<const N: usize>(
-    alloc: Global,
-    entities: [(&str, &str); N],
-) -> Result<Expr, AllocError>
-    ensures { Makes result (Some (set_term (entity_terms entities.entry))) }
-{
-    let literals = entity_literals(alloc, entities)?;
-    let made = Expr::set(alloc, literals)?;
-    Ok(made)
-}
-
-fn entity_literals<const N: usize>(
-    alloc: Global,
-    entities: [(&str, &str); N],
-) -> Result<Vec<Expr>, AllocError>
-    ensures { IfOk result (λ v. map view v.items ≡ entity_terms entities.entry) }
-{
-    match Vec::from_array(alloc, entities) {
-        Ok(entities) => each_entity(alloc, entities),
-        Err(_) => Err(AllocError),
-    }
-}
-
-fn each_entity(alloc: Global, entities: Vec<(&str, &str)>) -> Result<Vec<Expr>, AllocError>
-    ensures { IfOk result (λ v. map view v.items ≡ entity_terms entities.entry.items) }
-{
-    let mut made: Vec<Expr> = Vec::new(alloc);
-    'entities: for (ty, id) in entities {
-        put_entity(alloc, &mut made, ty, id)?;
-    }
-    Ok(made)
-}
-
-fn put_entity(
-    alloc: Global,
-    made: &mut Vec<Expr>,
-    ty: &str,
-    id: &str,
-) -> Result<(), AllocError>
-    ensures { OnOk result (map view made.new.items ≡ map view made.old.items ++ entity_term ty.now id.now ∷ []) }
-{
-    let literal = entity_literal(alloc, ty, id)?;
-    match made.push(literal) {
-        Ok(()) => Ok(()),
-        Err(_) => Err(AllocError),
-    }
 }

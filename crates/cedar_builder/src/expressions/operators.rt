@@ -253,11 +253,7 @@ pub fn if_then_else(
     }
 }
 
-fn unary_of(
-    alloc: Global,
-    op: UnaryOp,
-    part: Result<Expr, AllocError>,
-) -> Result<Expr, AllocError>
+fn unary_of(alloc: Global, op: UnaryOp, part: Result<Expr, AllocError>) -> Result<Expr, AllocError>
     ensures { Makes result (option_map (unary (unary_view op)) (term_in part)) }
 {
     let part = part?;
@@ -278,7 +274,7 @@ fn binary_of(
     Ok(made)
 }
 
-pub(crate) fn both_of(
+fn both_of(
     alloc: Global,
     left: Result<Expr, AllocError>,
     right: Result<Expr, AllocError>,
@@ -340,11 +336,7 @@ fn has_attribute_of(
     Ok(made)
 }
 
-fn of_type(
-    alloc: Global,
-    part: Result<Expr, AllocError>,
-    ty: &str,
-) -> Result<Expr, AllocError>
+fn of_type(alloc: Global, part: Result<Expr, AllocError>, ty: &str) -> Result<Expr, AllocError>
     ensures { Makes result (option_map (λ t. is_of_type t ty.now) (term_in part)) }
 {
     let (part, name) = together(part, RcStr::from_str(alloc, ty))?;

@@ -27,11 +27,7 @@ impl ExprBuilder {
     }
 }
 
-fn like_of(
-    alloc: Global,
-    part: Result<Expr, AllocError>,
-    pattern: &str,
-) -> Result<Expr, AllocError>
+fn like_of(alloc: Global, part: Result<Expr, AllocError>, pattern: &str) -> Result<Expr, AllocError>
     ensures { Makes result (option_map (λ t. like t (pattern_said (chars pattern.now))) (term_in part)) }
 {
     let (part, elems) = together(part, elems_of(alloc, pattern))?;
@@ -52,11 +48,7 @@ fn elems_of(alloc: Global, pattern: &str) -> Result<Vec<PatternElem>, AllocError
 }
 
 // Puts the part that the character is behind these, unless it is a `\` that stands before another character; whether it is one.
-fn put(
-    elems: &mut Vec<PatternElem>,
-    character: char,
-    is_escaped: bool,
-) -> Result<bool, AllocError>
+fn put(elems: &mut Vec<PatternElem>, character: char, is_escaped: bool) -> Result<bool, AllocError>
     ensures { IfOk result (λ next. (rest : List ℕ) → map part_view elems.new.items ++ pattern_behind next rest
         ≡ map part_view elems.old.items ++ pattern_behind is_escaped (character ∷ rest)) }
 {

@@ -63,11 +63,7 @@ fn annotated(
 }
 
 // The annotations with this text under the key.
-fn with_text(
-    annotations: Annotations,
-    key: RcStr,
-    value: RcStr,
-) -> Result<Annotations, AllocError>
+fn with_text(annotations: Annotations, key: RcStr, value: RcStr) -> Result<Annotations, AllocError>
     ensures { IfOk result (λ a. annotations_view a
         ≡ put_text (annotations_view annotations) (rc_str_bytes key) (rc_str_bytes value)) }
 {

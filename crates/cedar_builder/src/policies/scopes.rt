@@ -1,37 +1,40 @@
 #![tactic(auto, using(crate::proofs::Saying::saying))]
 //! The scope of a policy in the making: what its principal, its action and its resource must be.
-ghost use Rattle.std.specs.Prelude.{◌≡◌, Some};
+ghost use Rattle.std.specs.Prelude.{◌≡◌, Some, option_map};
 ghost use Rattle.cedar_model.specs.Terms.{binary, variable, is_of_type};
 ghost use Rattle.cedar_model.specs.Terms.{principal, action, resource, eq_operator, in_operator};
-ghost use Rattle.cedar_builder.specs.Building.{term_in, of_two, entity_term, entity_terms, is_of_type_in, set_term};
+ghost use Rattle.cedar_builder.specs.Building.{term_of, term_in, of_two, is_of_type_in};
 ghost use Rattle.cedar_builder.specs.Saying.{said, said_in, Says, SaysIn, with_principal, with_action, with_resource};
 
 mod constraints;
 
 use super::{PolicyBuilder, PolicyParts};
+use crate::expressions::ExprBuilder;
 use crate::parts::together;
 use cedar_expressions::Expr;
 use cedar_names::{BinaryOp, Var};
-use constraints::{compared, in_set, typed, typed_in};
+use constraints::{compared, typed, typed_in};
 use std::alloc::AllocError;
 
-/// Names of types are taken as they stand, and a constraint that is said again takes the place of the one before.
+/// The scope. What a variable is compared with is a literal of an entity (`entity`, `uid`), for `action_in` also a `set` of such,
+/// and in a template a `slot`; any other expression is taken as well, and then no scope of Cedar's text can say the constraint.
+/// Names of types are taken as they stand. A constraint that is said again takes the place of the one before.
 impl PolicyBuilder {
-    /// `principal == ty::"id"`
-    pub fn principal_eq(self, ty: &str, id: &str) -> PolicyBuilder
-        ensures { Says result (of_two with_principal (said self)
-            (Some (binary eq_operator (variable principal) (entity_term ty.now id.now)))) }
+    /// `principal == uid`
+    pub fn principal_eq(self, uid: ExprBuilder) -> PolicyBuilder
+        ensures { Says result
+            (of_two with_principal (said self) (option_map (binary eq_operator (variable principal)) (term_of uid))) }
     {
-        let constraint = compared(self.alloc, Var::Principal, BinaryOp::Eq, ty, id);
+        let constraint = compared(self.alloc, Var::Principal, BinaryOp::Eq, uid.built);
         self.with_principal(constraint)
     }
 
-    /// `principal in ty::"id"`
-    pub fn principal_in(self, ty: &str, id: &str) -> PolicyBuilder
-        ensures { Says result (of_two with_principal (said self)
-            (Some (binary in_operator (variable principal) (entity_term ty.now id.now)))) }
+    /// `principal in uid`
+    pub fn principal_in(self, uid: ExprBuilder) -> PolicyBuilder
+        ensures { Says result
+            (of_two with_principal (said self) (option_map (binary in_operator (variable principal)) (term_of uid))) }
     {
-        let constraint = compared(self.alloc, Var::Principal, BinaryOp::In, ty, id);
+        let constraint = compared(self.alloc, Var::Principal, BinaryOp::In, uid.built);
         self.with_principal(constraint)
     }
 
@@ -43,57 +46,48 @@ impl PolicyBuilder {
         self.with_principal(constraint)
     }
 
-    /// `principal is ty in group_ty::"id"`
-    pub fn principal_is_in(self, ty: &str, group_ty: &str, id: &str) -> PolicyBuilder
-        ensures { Says result (of_two with_principal (said self)
-            (Some (is_of_type_in ty.now (variable principal) (entity_term group_ty.now id.now)))) }
+    /// `principal is ty in uid`
+    pub fn principal_is_in(self, ty: &str, uid: ExprBuilder) -> PolicyBuilder
+        ensures { Says result
+            (of_two with_principal (said self) (option_map (is_of_type_in ty.now (variable principal)) (term_of uid))) }
     {
-        let constraint = typed_in(self.alloc, Var::Principal, ty, group_ty, id);
+        let constraint = typed_in(self.alloc, Var::Principal, ty, uid.built);
         self.with_principal(constraint)
     }
 
-    /// `action == ty::"id"`
-    pub fn action_eq(self, ty: &str, id: &str) -> PolicyBuilder
-        ensures { Says result (of_two with_action (said self)
-            (Some (binary eq_operator (variable action) (entity_term ty.now id.now)))) }
+    /// `action == uid`
+    pub fn action_eq(self, uid: ExprBuilder) -> PolicyBuilder
+        ensures { Says result
+            (of_two with_action (said self) (option_map (binary eq_operator (variable action)) (term_of uid))) }
     {
-        let constraint = compared(self.alloc, Var::Action, BinaryOp::Eq, ty, id);
+        let constraint = compared(self.alloc, Var::Action, BinaryOp::Eq, uid.built);
         self.with_action(constraint)
     }
 
-    /// `action in ty::"id"`
-    pub fn action_in(self, ty: &str, id: &str) -> PolicyBuilder
-        ensures { Says result (of_two with_action (said self)
-            (Some (binary in_operator (variable action) (entity_term ty.now id.now)))) }
+    /// `action in uid`, or `action in [uid, ..]`, of a set.
+    pub fn action_in(self, uid: ExprBuilder) -> PolicyBuilder
+        ensures { Says result
+            (of_two with_action (said self) (option_map (binary in_operator (variable action)) (term_of uid))) }
     {
-        let constraint = compared(self.alloc, Var::Action, BinaryOp::In, ty, id);
+        let constraint = compared(self.alloc, Var::Action, BinaryOp::In, uid.built);
         self.with_action(constraint)
     }
 
-    /// `action in [ty::"id", ..]`, of these types and ids.
-    pub fn action_in_set<const N: usize>(self, actions: [(&str, &str); N]) -> PolicyBuilder
-        ensures { Says result (of_two with_action (said self)
-            (Some (binary in_operator (variable action) (set_term (entity_terms actions.entry))))) }
+    /// `resource == uid`
+    pub fn resource_eq(self, uid: ExprBuilder) -> PolicyBuilder
+        ensures { Says result
+            (of_two with_resource (said self) (option_map (binary eq_operator (variable resource)) (term_of uid))) }
     {
-        let constraint = in_set(self.alloc, Var::Action, actions);
-        self.with_action(constraint)
-    }
-
-    /// `resource == ty::"id"`
-    pub fn resource_eq(self, ty: &str, id: &str) -> PolicyBuilder
-        ensures { Says result (of_two with_resource (said self)
-            (Some (binary eq_operator (variable resource) (entity_term ty.now id.now)))) }
-    {
-        let constraint = compared(self.alloc, Var::Resource, BinaryOp::Eq, ty, id);
+        let constraint = compared(self.alloc, Var::Resource, BinaryOp::Eq, uid.built);
         self.with_resource(constraint)
     }
 
-    /// `resource in ty::"id"`
-    pub fn resource_in(self, ty: &str, id: &str) -> PolicyBuilder
-        ensures { Says result (of_two with_resource (said self)
-            (Some (binary in_operator (variable resource) (entity_term ty.now id.now)))) }
+    /// `resource in uid`
+    pub fn resource_in(self, uid: ExprBuilder) -> PolicyBuilder
+        ensures { Says result
+            (of_two with_resource (said self) (option_map (binary in_operator (variable resource)) (term_of uid))) }
     {
-        let constraint = compared(self.alloc, Var::Resource, BinaryOp::In, ty, id);
+        let constraint = compared(self.alloc, Var::Resource, BinaryOp::In, uid.built);
         self.with_resource(constraint)
     }
 
@@ -105,12 +99,12 @@ impl PolicyBuilder {
         self.with_resource(constraint)
     }
 
-    /// `resource is ty in group_ty::"id"`
-    pub fn resource_is_in(self, ty: &str, group_ty: &str, id: &str) -> PolicyBuilder
-        ensures { Says result (of_two with_resource (said self)
-            (Some (is_of_type_in ty.now (variable resource) (entity_term group_ty.now id.now)))) }
+    /// `resource is ty in uid`
+    pub fn resource_is_in(self, ty: &str, uid: ExprBuilder) -> PolicyBuilder
+        ensures { Says result
+            (of_two with_resource (said self) (option_map (is_of_type_in ty.now (variable resource)) (term_of uid))) }
     {
-        let constraint = typed_in(self.alloc, Var::Resource, ty, group_ty, id);
+        let constraint = typed_in(self.alloc, Var::Resource, ty, uid.built);
         self.with_resource(constraint)
     }
 

@@ -1,44 +1,27 @@
 #![tactic(auto, using(crate::proofs::Building::building))]
 //! The constraints that a scope can have.
-ghost use Rattle.std.specs.Prelude.{◌≡◌, IfOk, Some};
+ghost use Rattle.std.specs.Prelude.{◌≡◌, IfOk, Some, option_map};
 ghost use Rattle.cedar_model.specs.Terms.{binary, variable, is_of_type, in_operator};
 ghost use Rattle.cedar_names.specs.Leaves.{variable_view, binary_view};
-ghost use Rattle.cedar_builder.specs.Building.{entity_term, entity_terms, is_of_type_in, set_term, Makes};
+ghost use Rattle.cedar_builder.specs.Building.{term_in, is_of_type_in, Makes};
 
-use crate::expressions::{entity_literal, entity_set};
 use crate::parts::together;
 use cedar_expressions::Expr;
 use cedar_names::{BinaryOp, EntityType, Name, Var};
 use std::alloc::{AllocError, Global};
 use std::rc::RcStr;
 
-/// The operator on the variable and the entity of this type with this id.
+/// The operator on the variable and another part.
 pub(crate) fn compared(
     alloc: Global,
     var: Var,
     op: BinaryOp,
-    ty: &str,
-    id: &str,
+    other: Result<Expr, AllocError>,
 ) -> Result<Expr, AllocError>
-    ensures { Makes result
-        (Some (binary (binary_view op) (variable (variable_view var)) (entity_term ty.now id.now))) }
+    ensures { Makes result (option_map (binary (binary_view op) (variable (variable_view var))) (term_in other)) }
 {
-    let entity = entity_literal(alloc, ty, id)?;
-    let made = Expr::binary_app(alloc, op, Expr::var(var), entity)?;
-    Ok(made)
-}
-
-/// That the variable is in the set of these entities.
-pub(crate) fn in_set<const N: usize>(
-    alloc: Global,
-    var: Var,
-    entities: [(&str, &str); N],
-) -> Result<Expr, AllocError>
-    ensures { Makes result
-        (Some (binary in_operator (variable (variable_view var)) (set_term (entity_terms entities.entry)))) }
-{
-    let set = entity_set(alloc, entities)?;
-    let made = Expr::binary_app(alloc, BinaryOp::In, Expr::var(var), set)?;
+    let other = other?;
+    let made = Expr::binary_app(alloc, op, Expr::var(var), other)?;
     Ok(made)
 }
 
@@ -52,18 +35,16 @@ pub(crate) fn typed(alloc: Global, var: Var, ty: &str) -> Result<Expr, AllocErro
     Ok(made)
 }
 
-/// That it is of this type and in an entity.
+/// That it is of this type and in another part.
 pub(crate) fn typed_in(
     alloc: Global,
     var: Var,
     ty: &str,
-    group_ty: &str,
-    id: &str,
+    other: Result<Expr, AllocError>,
 ) -> Result<Expr, AllocError>
-    ensures { Makes result
-        (Some (is_of_type_in ty.now (variable (variable_view var)) (entity_term group_ty.now id.now))) }
+    ensures { Makes result (option_map (is_of_type_in ty.now (variable (variable_view var))) (term_in other)) }
 {
-    let is_in = compared(alloc, var, BinaryOp::In, group_ty, id);
+    let is_in = compared(alloc, var, BinaryOp::In, other);
     let (is, is_in) = together(typed(alloc, var, ty), is_in)?;
     let made = Expr::and(alloc, is, is_in)?;
     Ok(made)
