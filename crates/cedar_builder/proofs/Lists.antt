@@ -1,11 +1,12 @@
 -- Lists of parts, which are put behind one another in turn.
 use Rattle.std.proofs.Common.{◌≡◌, List, [], ◌∷◌, ◌++◌, append_assoc, Option, None, Some, option_map, Result, Ok, Err, Global, refl, sym, ap, ◌∙◌}
 use Rattle.std.specs.declared.alloc.AllocError.{AllocError}
+use Rattle.std.specs.declared.rc.RcStr.{RcStr}
 use Rattle.cedar_model.specs.Terms.{Text, Term, Fields}
 use Rattle.cedar_expressions.specs.declared.expr.Expr.{Expr}
 use Rattle.cedar_expressions.specs.Records.{put_field, put_fields}
 use Rattle.cedar_expressions.specs.View.{view}
-use Rattle.cedar_builder.specs.Building.{term_in, of_two}
+use Rattle.cedar_builder.specs.Building.{term_in, field_in, of_two}
 
 some_same : {A : Type 0} {x y : A} → Some x ≡ Some y → x ≡ y
 some_same h = cc
@@ -22,8 +23,9 @@ part_put old new (Ok e) (Some ts) h =
 part_put old new (Err x) rest h = absurd (none_some h)
 
 -- one field more
-pub field_put : (old new : Fields) (key : Text) (r : Result Expr AllocError) (rest : Option (List (Text × Term))) → option_map (put_field old key) (term_in r) ≡ Some new
-    → option_map (put_fields new) rest ≡ option_map (put_fields old) (of_two (λ t ts. (key, t) ∷ ts) (term_in r) rest)
-field_put old new key (Ok e) None h = refl
-field_put old new key (Ok e) (Some ts) h = ap (λ (fs : Fields). Some (put_fields fs ts)) (sym (some_same h))
-field_put old new key (Err x) rest h = absurd (none_some h)
+pub field_put : (old new : Fields) (r : Result (RcStr Global × Expr) AllocError) (rest : Option (List (Text × Term)))
+    → option_map (λ f. put_field old f.0 f.1) (field_in r) ≡ Some new
+    → option_map (put_fields new) rest ≡ option_map (put_fields old) (of_two ◌∷◌ (field_in r) rest)
+field_put old new (Ok p) None h = refl
+field_put old new (Ok p) (Some ts) h = ap (λ (fs : Fields). Some (put_fields fs ts)) (sym (some_same h))
+field_put old new (Err x) rest h = absurd (none_some h)

@@ -1,12 +1,15 @@
 -- Which expression a builder of one stands for.
-use Rattle.std.specs.Prelude.{◌≡◌, ℕ, List, [], ◌∷◌, Option, None, Some, option_map, Result, Ok, Err, IfOk}
-use Rattle.std.specs.Borrow.{Bor}
+use Rattle.std.specs.Prelude.{◌≡◌, List, [], ◌∷◌, Option, None, Some, option_map, Result, Ok, Err, IfOk}
+use Rattle.std.specs.Rc.{rc_str_bytes}
 use Rattle.std.specs.declared.alloc.AllocError.{AllocError}
+use Rattle.std.specs.declared.alloc.Global.{Global}
+use Rattle.std.specs.declared.rc.RcStr.{RcStr}
 use Rattle.cedar_model.specs.Terms.{Text, Term, binary, in_operator, both, is_of_type, call, set_of, record_of, terms_of}
 use Rattle.cedar_expressions.specs.Records.{fields_in_order}
 use Rattle.cedar_expressions.specs.declared.expr.Expr.{Expr}
 use Rattle.cedar_expressions.specs.View.{view}
 use Rattle.cedar_builder.specs.declared.expressions.ExprBuilder.{ExprBuilder}
+use Rattle.cedar_builder.specs.declared.expressions.lists.FieldBuilder.{FieldBuilder}
 
 -- the term of what was made, if memory was not wanting
 abbrev pub term_in : Result Expr AllocError → Option Term
@@ -48,14 +51,26 @@ abbrev pub terms_of_all : List ExprBuilder → Option (List Term)
 terms_of_all [] = Some []
 terms_of_all (b ∷ bs) = of_two ◌∷◌ (term_of b) (terms_of_all bs)
 
--- a key and its part
-abbrev pub Named : Type 0
-Named = Bor (List ℕ) × ExprBuilder
+-- a term under a key
+abbrev pub under : Text → Term → Text × Term
+under k t = (k, t)
 
--- the same under their keys
-abbrev pub fields_of_all : List Named → Option (List (Text × Term))
+-- the key and the term of a field, if memory was not wanting
+abbrev pub field_in : Result (RcStr Global × Expr) AllocError → Option (Text × Term)
+field_in (Ok p) = Some (under (rc_str_bytes p.0) (view p.1))
+field_in (Err x) = None
+
+abbrev pub field_of : FieldBuilder → Option (Text × Term)
+field_of f = field_in f.built
+
+-- this field was said, or memory was wanting
+abbrev pub BuildsField : FieldBuilder → Option (Text × Term) → Type 0
+BuildsField f what = IfOk f.built (λ p. what ≡ Some (under (rc_str_bytes p.0) (view p.1)))
+
+-- all fields, if memory was wanting for none
+abbrev pub fields_of_all : List FieldBuilder → Option (List (Text × Term))
 fields_of_all [] = Some []
-fields_of_all (f ∷ fs) = of_two (λ t ts. (f.0.now, t) ∷ ts) (term_of f.1) (fields_of_all fs)
+fields_of_all (f ∷ fs) = of_two ◌∷◌ (field_of f) (fields_of_all fs)
 
 -- the set of these parts
 abbrev pub set_term : List Term → Term

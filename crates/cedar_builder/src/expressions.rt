@@ -14,7 +14,7 @@ pub use leaves::{
     action, boolean, context, entity, long, principal, resource, slot, text, uid, unknown,
     unknown_with_type,
 };
-pub use lists::{call, record, set};
+pub use lists::{FieldBuilder, call, field, record, set};
 pub use operators::if_then_else;
 use std::alloc::{AllocError, Global};
 

@@ -13,7 +13,7 @@ mod parts;
 mod policies;
 
 pub use expressions::{
-    ExprBuilder, action, boolean, call, context, entity, expr, if_then_else, long, principal,
-    record, resource, set, slot, text, uid, unknown, unknown_with_type,
+    ExprBuilder, FieldBuilder, action, boolean, call, context, entity, expr, field, if_then_else,
+    long, principal, record, resource, set, slot, text, uid, unknown, unknown_with_type,
 };
 pub use policies::{PolicyBuilder, forbid, permit};

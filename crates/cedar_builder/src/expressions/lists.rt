@@ -3,7 +3,9 @@
 ghost use Rattle.std.specs.Prelude.{◌≡◌, ◌++◌, ◌∷◌, [], map, IfOk, OnOk, Some, option_map};
 ghost use Rattle.cedar_expressions.specs.View.{view, fields_view};
 ghost use Rattle.cedar_expressions.specs.Records.{fields_in_order, put_field};
-ghost use Rattle.cedar_builder.specs.Building.{term_in, terms_of_all, fields_of_all, Builds, Makes};
+ghost use Rattle.std.specs.Rc.{rc_str_bytes};
+ghost use Rattle.cedar_builder.specs.Building.{term_of, term_in, terms_of_all, field_in, fields_of_all};
+ghost use Rattle.cedar_builder.specs.Building.{Builds, BuildsField, Makes, under};
 ghost use Rattle.cedar_builder.specs.Building.{set_term, record_term, call_term};
 
 use super::ExprBuilder;
@@ -24,15 +26,41 @@ pub fn set<const N: usize>(alloc: Global, parts: [ExprBuilder; N]) -> ExprBuilde
     }
 }
 
-/// The record of these parts under their keys: `{a: x, "b c": y}`. The keys are taken as they stand. A part whose key comes again
-/// takes the place of the one before.
-pub fn record<const N: usize>(alloc: Global, fields: [(&str, ExprBuilder); N]) -> ExprBuilder
+/// The record of these fields: `{a: x, "b c": y}`. A field whose key comes again takes the place of the one before.
+pub fn record<const N: usize>(alloc: Global, fields: [FieldBuilder; N]) -> ExprBuilder
     ensures { Builds result (option_map record_term (fields_of_all fields.entry)) }
 {
     ExprBuilder {
         alloc,
         built: record_of_fields(alloc, fields),
     }
+}
+
+/// A field of a record in the making: a part under a key, or that memory was wanting on the way.
+#[derive(Drop)]
+pub struct FieldBuilder {
+    pub(crate) built: Result<(RcStr, Expr), AllocError>,
+}
+
+/// The field of this part under this key, which is taken as it stands.
+pub fn field(key: &str, part: ExprBuilder) -> FieldBuilder
+    ensures { BuildsField result (option_map (under key.now) (term_of part)) }
+{
+    let ExprBuilder { alloc, built } = part;
+    FieldBuilder {
+        built: keyed(alloc, key, built),
+    }
+}
+
+fn keyed(
+    alloc: Global,
+    key: &str,
+    part: Result<Expr, AllocError>,
+) -> Result<(RcStr, Expr), AllocError>
+    ensures { IfOk result (λ p. option_map (under key.now) (term_in part) ≡ Some (under (rc_str_bytes p.0) (view p.1))) }
+{
+    let (key, part) = together(RcStr::from_str(alloc, key), part)?;
+    Ok((key, part))
 }
 
 /// A call of the extension function of this name on these arguments: `name(a, b)`, or `a.name(b)` where the function is a method.
@@ -56,7 +84,7 @@ fn set_of_parts<const N: usize>(alloc: Global, parts: [ExprBuilder; N]) -> Resul
 
 fn record_of_fields<const N: usize>(
     alloc: Global,
-    fields: [(&str, ExprBuilder); N],
+    fields: [FieldBuilder; N],
 ) -> Result<Expr, AllocError>
     ensures { Makes result (option_map record_term (fields_of_all fields.entry)) }
 {
@@ -114,7 +142,7 @@ fn put_part(made: &mut Vec<Expr>, part: Result<Expr, AllocError>) -> Result<(), 
 // The expressions of these fields, under their keys.
 fn fields_of<const N: usize>(
     alloc: Global,
-    fields: [(&str, ExprBuilder); N],
+    fields: [FieldBuilder; N],
 ) -> Result<BTreeMap<RcStr, Expr>, AllocError>
     ensures { IfOk result (λ m. option_map fields_in_order (fields_of_all fields.entry) ≡ Some (fields_view m.entries)) }
 {
@@ -124,29 +152,24 @@ fn fields_of<const N: usize>(
     }
 }
 
-fn each_field(
-    alloc: Global,
-    fields: Vec<(&str, ExprBuilder)>,
-) -> Result<BTreeMap<RcStr, Expr>, AllocError>
-    ensures { IfOk result (λ m. option_map fields_in_order (fields_of_all fields.entry.items) ≡ Some (fields_view m.entries)) }
+fn each_field(alloc: Global, fields: Vec<FieldBuilder>) -> Result<BTreeMap<RcStr, Expr>, AllocError>
+    ensures { IfOk result (λ m. option_map fields_in_order (fields_of_all fields.items) ≡ Some (fields_view m.entries)) }
 {
     let mut made: BTreeMap<RcStr, Expr> = BTreeMap::new(alloc);
-    'fields: for (key, part) in fields {
-        put_part_under(alloc, &mut made, key, part.built)?;
+    'fields: for field in fields {
+        put_field(&mut made, field.built)?;
     }
     Ok(made)
 }
 
-fn put_part_under(
-    alloc: Global,
+fn put_field(
     made: &mut BTreeMap<RcStr, Expr>,
-    key: &str,
-    part: Result<Expr, AllocError>,
+    field: Result<(RcStr, Expr), AllocError>,
 ) -> Result<(), AllocError>
     ensures { OnOk result
-        (option_map (put_field (fields_view made.old.entries) key.now) (term_in part) ≡ Some (fields_view made.new.entries)) }
+        (option_map (λ f. put_field (fields_view made.old.entries) f.0 f.1) (field_in field) ≡ Some (fields_view made.new.entries)) }
 {
-    let (key, part) = together(RcStr::from_str(alloc, key), part)?;
+    let (key, part) = field?;
     drop(made.insert(key, part)?);
     Ok(())
 }

@@ -1,4 +1,4 @@
-use Rattle.std.proofs.Common.{◌≡◌, [], ◌++◌, map, append-nil, ap, sym, ◌∙◌, subst}
+use Rattle.std.proofs.Common.{◌≡◌, [], ◌++◌, map, append-nil, ap, sym, ◌∙◌, subst, rules}
 use Rattle.std.proofs.lemmas.List.{nil_from_length}
 use Rattle.std.proofs.lemmas.Str.{IsUtf8-past_char, chars_past_char, chars-nil}
 use Rattle.std.specs.Str.{chars, IsUtf8}
@@ -8,10 +8,12 @@ use Rattle.cedar_builder.proofs.Patterns.{pattern_behind-nil}
 use Rattle.cedar_builder.proofs.expressions.patterns.elems_of.Goals as goal
 
 pub characters-init : goal.characters-init
-characters-init c = record {
-  utf8 = subst IsUtf8 (sym c.chars.ensures.rest) c.utf8.pattern;
-  same = ap (λ t. pattern_said (chars t)) c.chars.ensures.rest;
-}
+characters-init c =
+    let start : c.into_iter-character-iterator.result.rest.now ≡ c.args.pattern.now = search rules in
+    record {
+      utf8 = subst IsUtf8 (sym start) c.utf8.pattern;
+      same = ap (λ t. pattern_said (chars t)) start;
+    }
 
 pub characters-preserved : goal.characters-preserved
 characters-preserved c =
