@@ -1,5 +1,5 @@
 -- What follows for builders whose parts are builders.
-use Rattle.std.proofs.Common.{◌≡◌, Option, Some, option_map, Result, Ok, Err, IfOk, refl, sym, ap, ◌∙◌}
+use Rattle.std.proofs.Common.{Option, option_map, Result, Ok, Err, ap, ◌∙◌}
 use Rattle.std.specs.declared.alloc.AllocError.{AllocError}
 use Rattle.cedar_model.specs.Terms.{Term}
 use Rattle.cedar_expressions.specs.declared.expr.Expr.{Expr}

@@ -1,5 +1,5 @@
 -- The pattern that a text says, character by character.
-use Rattle.std.proofs.Common.{◌≡◌, ℕ, ◌==◌, Bool, true, false, cond, List, [], ◌∷◌, ◌++◌, append_assoc, append-nil, refl, sym, ap, ◌∙◌, ne_eqb}
+use Rattle.std.proofs.Common.{◌≡◌, ℕ, ◌==◌, Bool, true, false, cond, List, [], ◌∷◌, ◌++◌, append_assoc, refl, sym, ap, ◌∙◌, ne_eqb}
 use Rattle.cedar_model.specs.Terms.{PatternPart, character, wildcard}
 use Rattle.cedar_builder.specs.Patterns.{pattern_behind}
 

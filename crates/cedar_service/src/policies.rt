@@ -26,7 +26,9 @@ fn editors(alloc: Global) -> Result<Policy, AllocError> {
 
 // permit(principal, action, resource) when { resource.owner == principal };
 fn owner(alloc: Global) -> Result<Policy, AllocError> {
-    permit(alloc, "owner").when(resource(alloc).attr("owner").is_eq(principal(alloc))).policy()
+    permit(alloc, "owner")
+        .when(resource(alloc).attr("owner").is_eq(principal(alloc)))
+        .policy()
 }
 
 // forbid(principal, action == Action::"edit", resource) when { resource.hasTag("sealed") };
@@ -41,5 +43,7 @@ fn sealed(alloc: Global) -> Result<Policy, AllocError> {
 // It errs where the document does not say whether it is public.
 fn public(alloc: Global) -> Result<Policy, AllocError> {
     let is_open = call(alloc, "isOpen", [context(alloc).attr("hour")]);
-    permit(alloc, "public").when(resource(alloc).attr("public").and(is_open)).policy()
+    permit(alloc, "public")
+        .when(resource(alloc).attr("public").and(is_open))
+        .policy()
 }

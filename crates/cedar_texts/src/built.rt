@@ -65,7 +65,8 @@ fn put_if_read_as_other(answer: &mut Answer, policy: &Policy, id: PolicyID, text
 }
 
 fn are_equal(policy: &Policy, read: &Policy) -> bool {
-    policy.id() == read.id() && policy.effect() == read.effect()
+    policy.id() == read.id()
+        && policy.effect() == read.effect()
         && **policy.annotations_rc() == **read.annotations_rc()
         && policy.principal_constraint() == read.principal_constraint()
         && policy.action_constraint() == read.action_constraint()

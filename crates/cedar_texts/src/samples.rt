@@ -1,7 +1,8 @@
 //! Policies that are made in code, under the names that rows ask for.
 use cedar_builder::{
-    ExprBuilder, PolicyBuilder, action, boolean, call, context, entity, expr, field, forbid, if_then_else,
-    long, permit, principal, record, resource, set, slot, text, uid, unknown, unknown_with_type,
+    ExprBuilder, PolicyBuilder, action, boolean, call, context, entity, expr, field, forbid,
+    if_then_else, long, permit, principal, record, resource, set, slot, text, uid, unknown,
+    unknown_with_type,
 };
 use cedar_expressions::Expr;
 use cedar_names::{EntityUID, Literal, SlotId, Type};
@@ -54,7 +55,10 @@ fn principal_and_resource(alloc: Global) -> PolicyBuilder {
 }
 
 fn principal_is(alloc: Global) -> PolicyBuilder {
-    let actions = [entity(alloc, "Action", "view"), entity(alloc, "Action", "edit")];
+    let actions = [
+        entity(alloc, "Action", "view"),
+        entity(alloc, "Action", "edit"),
+    ];
     forbid(alloc, "policy")
         .principal_is("App::User")
         .action_in(set(alloc, actions))
@@ -92,7 +96,12 @@ fn clauses(alloc: Global) -> PolicyBuilder {
 
 fn literals(alloc: Global) -> ExprBuilder {
     let named = uid_literal(alloc, EntityUID::of(alloc, "User", "bob"));
-    let all = [boolean(alloc, false), long(alloc, -5), text(alloc, "a*\n"), named];
+    let all = [
+        boolean(alloc, false),
+        long(alloc, -5),
+        text(alloc, "a*\n"),
+        named,
+    ];
     set(alloc, all).contains(expr(alloc, Expr::val(Literal::Long(7))))
 }
 
@@ -104,9 +113,15 @@ fn uid_literal(alloc: Global, named: Result<EntityUID, AllocError>) -> ExprBuild
 }
 
 fn comparisons(alloc: Global) -> ExprBuilder {
-    let a = long(alloc, 1).less(long(alloc, 2)).and(long(alloc, 3).lesseq(long(alloc, 4)));
-    let b = long(alloc, 5).greater(long(alloc, 6)).and(long(alloc, 7).greatereq(long(alloc, 8)));
-    let c = principal(alloc).is_eq(resource(alloc)).and(action(alloc).noteq(context(alloc)));
+    let a = long(alloc, 1)
+        .less(long(alloc, 2))
+        .and(long(alloc, 3).lesseq(long(alloc, 4)));
+    let b = long(alloc, 5)
+        .greater(long(alloc, 6))
+        .and(long(alloc, 7).greatereq(long(alloc, 8)));
+    let c = principal(alloc)
+        .is_eq(resource(alloc))
+        .and(action(alloc).noteq(context(alloc)));
     a.or(b).or(c)
 }
 
@@ -116,16 +131,24 @@ fn numbers(alloc: Global) -> ExprBuilder {
 }
 
 fn sets(alloc: Global) -> ExprBuilder {
-    let a = context(alloc).attr("a").contains_all(set(alloc, [long(alloc, 1)]));
-    let b = context(alloc).attr("b").contains_any(context(alloc).attr("c"));
+    let a = context(alloc)
+        .attr("a")
+        .contains_all(set(alloc, [long(alloc, 1)]));
+    let b = context(alloc)
+        .attr("b")
+        .contains_any(context(alloc).attr("c"));
     a.and(b).and(set(alloc, []).is_empty().not())
 }
 
 fn entities(alloc: Global) -> ExprBuilder {
-    let a = principal(alloc).is_in(resource(alloc)).and(principal(alloc).is_entity_type("User"));
+    let a = principal(alloc)
+        .is_in(resource(alloc))
+        .and(principal(alloc).is_entity_type("User"));
     let b = resource(alloc).is_in_entity_type("Doc", entity(alloc, "Folder", "f"));
     let c = resource(alloc).has_tag(text(alloc, "t"));
-    let d = resource(alloc).get_tag(text(alloc, "t")).is_eq(text(alloc, "x"));
+    let d = resource(alloc)
+        .get_tag(text(alloc, "t"))
+        .is_eq(text(alloc, "x"));
     a.or(b).or(c.and(d))
 }
 
@@ -136,7 +159,9 @@ fn attributes(alloc: Global) -> ExprBuilder {
         field("b", long(alloc, 2)),
     ];
     let all = record(alloc, fields);
-    all.attr("a c").is_eq(context(alloc).attr("d").attr("e f")).and(context(alloc).has_attr("g"))
+    all.attr("a c")
+        .is_eq(context(alloc).attr("d").attr("e f"))
+        .and(context(alloc).has_attr("g"))
 }
 
 fn like(alloc: Global) -> ExprBuilder {
@@ -144,7 +169,11 @@ fn like(alloc: Global) -> ExprBuilder {
 }
 
 fn conditional(alloc: Global) -> ExprBuilder {
-    let open = call(alloc, "isOpen", [context(alloc).attr("hour"), long(alloc, 9)]);
+    let open = call(
+        alloc,
+        "isOpen",
+        [context(alloc).attr("hour"), long(alloc, 9)],
+    );
     if_then_else(open, boolean(alloc, true), call(alloc, "App::never", []))
 }
 

@@ -1,4 +1,4 @@
-use Rattle.std.proofs.Common.{◌≡◌, ◌∙◌}
+use Rattle.std.proofs.Common.{◌∙◌}
 use Rattle.cedar_builder.proofs.Saying.{policy_made}
 use Rattle.cedar_builder.proofs.policies.policy_of.Goals as goal
 

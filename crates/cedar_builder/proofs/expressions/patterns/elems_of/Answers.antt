@@ -1,8 +1,9 @@
-use Rattle.std.proofs.Common.{◌≡◌, [], ◌++◌, map, append-nil, ap, sym, ◌∙◌, subst, rules}
+use Rattle.std.proofs.Common.{◌≡◌, List, [], ◌++◌, map, append-nil, ap, sym, ◌∙◌, subst, rules}
 use Rattle.std.proofs.lemmas.List.{nil_from_length}
 use Rattle.std.proofs.lemmas.Str.{IsUtf8-past_char, chars_past_char, chars-nil}
 use Rattle.std.specs.Str.{chars, IsUtf8}
 use Rattle.cedar_names.specs.Leaves.{part_view}
+use Rattle.cedar_names.specs.declared.pattern.PatternElem.{PatternElem}
 use Rattle.cedar_builder.specs.Patterns.{pattern_behind, pattern_said}
 use Rattle.cedar_builder.proofs.Patterns.{pattern_behind-nil}
 use Rattle.cedar_builder.proofs.expressions.patterns.elems_of.Goals as goal
@@ -12,7 +13,8 @@ characters-init c =
     let start : c.into_iter-character-iterator.result.rest.now ≡ c.args.pattern.now = search rules in
     record {
       utf8 = subst IsUtf8 (sym start) c.utf8.pattern;
-      same = ap (λ t. pattern_said (chars t)) start;
+      same = ap (λ (es : List PatternElem). map part_view es ++ pattern_said (chars c.into_iter-character-iterator.result.rest.now)) c.new-elems.ensures.items
+          ∙ ap (λ t. pattern_said (chars t)) start;
     }
 
 pub characters-preserved : goal.characters-preserved

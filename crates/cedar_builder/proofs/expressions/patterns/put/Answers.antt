@@ -1,6 +1,6 @@
 use Rattle.std.proofs.Common.{◌≡◌, map, arith}
 use Rattle.cedar_names.specs.Leaves.{part_view}
-use Rattle.cedar_builder.proofs.Patterns.{put_escaped, put_slash, put_star, put_plain}
+use Rattle.cedar_builder.proofs.Patterns.{put_escaped, put_slash}
 use Rattle.cedar_builder.proofs.expressions.patterns.put.Goals as goal
 
 pub returns-in_ok-push : goal.returns-in_ok-push

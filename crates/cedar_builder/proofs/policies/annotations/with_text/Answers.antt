@@ -1,4 +1,4 @@
-use Rattle.std.proofs.Common.{◌≡◌, ap, ◌∙◌}
+use Rattle.std.proofs.Common.{ap, ◌∙◌}
 use Rattle.cedar_builder.proofs.Saying.{texts_under, put_text-entries}
 use Rattle.cedar_builder.proofs.policies.annotations.with_text.Goals as goal
 
