@@ -6,5 +6,6 @@ pub mod Extensions
 pub mod Authorizer
 pub mod Parser
 pub mod Writing
+pub mod Builder
 pub mod Types
 pub mod Lemmas

@@ -7,6 +7,7 @@
 
 pub mod ast;
 pub mod authorizer;
+pub mod builder;
 pub mod entities;
 pub mod evaluator;
 pub mod extensions;

@@ -1,5 +1,5 @@
 //! Names, entities and texts.
-use cedar_policy_core::ast::{EntityType, EntityUID, Expr, Literal, Name, Value};
+use cedar_policy_core::ast::{EntityType, EntityUID, Literal, Name, Value};
 use std::alloc::{AllocError, Global};
 use std::collections::BTreeMap;
 use std::rc::{Rc, RcStr};
@@ -18,16 +18,6 @@ pub fn uid(alloc: Global, type_name: &str, id: &str) -> Result<EntityUID, AllocE
 /// The same, as a literal.
 pub fn entity(alloc: Global, type_name: &str, id: &str) -> Result<Literal, AllocError> {
     Ok(Literal::EntityUID(Rc::new(alloc, uid(alloc, type_name, id)?)?))
-}
-
-/// The same, as an expression.
-pub fn entity_expr(alloc: Global, type_name: &str, id: &str) -> Result<Expr, AllocError> {
-    Ok(Expr::val(entity(alloc, type_name, id)?))
-}
-
-/// A text, as an expression.
-pub fn text_expr(alloc: Global, text: &str) -> Result<Expr, AllocError> {
-    Ok(Expr::val(Literal::String(RcStr::from_str(alloc, text)?)))
 }
 
 /// A text, as a value.

@@ -4,11 +4,13 @@
 #![tactic(auto)]
 
 mod answer;
+mod built;
 mod json;
 mod places;
 mod policies;
 mod questions;
 mod rows;
+mod samples;
 mod signs;
 mod trees;
 mod written;

@@ -8,8 +8,10 @@
 //! - `policies`: the policies and templates, or why each policy that can't be read can't;
 //! - `policy-places`: where they stand, and where the nodes of their three constraints and their condition do;
 //! - `policy`: the only policy;
+//! - `built`: the policy of this name that is made in code (`samples`), written in Cedar's own syntax;
 //! - `json QUESTION`: what `json` has of texts in JSON.
 use crate::answer::Answer;
+use crate::built::ask_built;
 use crate::json::ask_json;
 use crate::places::put_places;
 use crate::policies::{put_policies, put_policy};
@@ -38,6 +40,7 @@ pub fn ask(answer: &mut Answer, question: &str, text: &str) {
         "policies" => ask_policies(answer, Shown::Tree, text),
         "policy-places" => ask_policies(answer, Shown::Places, text),
         "policy" => ask_policy(answer, text),
+        "built" => ask_built(answer, text),
         _ => ask_more(answer, question, text),
     }
 }

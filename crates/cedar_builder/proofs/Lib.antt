@@ -1,0 +1,4 @@
+pub mod Building
+pub mod Lists
+pub mod Patterns
+pub mod Saying
