@@ -9,10 +9,10 @@
 //!   those of the setting);
 //! - of the ids of policies and the steps behind them: `chain LIMIT` (what is known after the last step, which is the same by
 //!   `authorize_in_steps` and by one `reauthorize` a step), `in-steps LIMIT` and `one-by-one LIMIT` (by the first, and by the
-//!   second alone), and, in the place of a limit, `get ID`, `request`, `readers` and `mode` (what these answer of it, the last of a
-//!   copy too);
-//! - of the notes that a response is made of and the steps behind them: `made`, `made readers`, `made request`, `made mode` and
-//!   `made get ID`;
+//!   second alone), and, in the place of a limit, `get ID`, `request`, `readers`, `unknowns` and `mode` (what these answer of it, the
+//!   last of a copy too);
+//! - of the notes that a response is made of and the steps behind them: `made`, `made readers`, `made request`, `made unknowns`,
+//!   `made mode` and `made get ID`;
 //! - of a step: `context-with LIMIT` (the context of the setting with its values);
 //! - of the arguments of the program of the built-in rows, `run` and, where no function is stored, `run-without-functions`; of a
 //!   row, `step-refused`; of a number of writes, `failing-output memory` and `failing-output pipe`, the statuses where the writer
