@@ -33,6 +33,11 @@ Says memory_is_wrapped t = Unit {0}
 abbrev pub error_members : Text → Text → List (Text × Json)
 error_members id message = (codes "policyId", string id) ∷ (codes "message", string message) ∷ []
 
+-- what an error says stands at `message` behind the members before
+abbrev pub AddsMessage : Failure → List (Text × Json) → List (Text × Json) → Type 0
+AddsMessage f before after =
+    (message : Text) × Says f message × (after ≡ before ++ (codes "message", string message) ∷ [])
+
 -- the members of an error stand behind those before
 abbrev pub AddsError : Text × Failure → List (Text × Json) → List (Text × Json) → Type 0
 AddsError e before after = (message : Text) × Says e.1 message × (after ≡ before ++ error_members e.0 message)

@@ -1,15 +1,15 @@
 #![tactic(auto, using(cedar_json_writing::proofs::Trees::trees))]
 //! The errors of policies.
 ghost use Rattle.std.specs.Prelude.{◌≡◌, ◌∷◌, [], ◌++◌, codes, IfOk, OnOk, string_bytes};
-ghost use Rattle.json.specs.Json.{Json};
+ghost use Rattle.json.specs.Json.{string};
 ghost use Rattle.cedar_layers.specs.Policies.{policy_id_text};
 ghost use Rattle.cedar_errors.specs.Failures.{failure_of};
 ghost use Rattle.cedar_responses.specs.Responses.{error_view, errors_view};
 ghost use Rattle.cedar_json_writing.specs.Trees.{json_view, members_seen};
-ghost use Rattle.cedar_json_responses.specs.Errors.{Says, AddsError, IsErrorJson, AreErrorsJson};
+ghost use Rattle.cedar_json_responses.specs.Errors.{Says, AddsMessage, AddsError, IsErrorJson, AreErrorsJson};
 
 use crate::ids::id_text;
-use crate::texts::put_text_member;
+use crate::texts::put_string_member;
 use cedar_errors::evaluator::err::EvaluationError;
 use cedar_json_writing::{JsonValue, put_item, put_member};
 use cedar_layers::policies::PolicyID;
@@ -64,10 +64,34 @@ fn put_evaluation_error(
     ensures { OnOk result (AddsError (policy_id_text id.now, failure_of error.now)
         (members_seen members.old.items) (members_seen members.new.items)) }
 {
+    put_policy_id(alloc, id, members)?;
+    put_message(alloc, error, members)?;
+    Ok(())
+}
+
+fn put_policy_id(
+    alloc: Global,
+    id: &PolicyID,
+    members: &mut Vec<(RcStr, JsonValue)>,
+) -> Result<(), AllocError>
+    ensures { OnOk result (members_seen members.new.items
+        ≡ members_seen members.old.items ++ (codes "policyId", string (policy_id_text id.now)) ∷ []) }
+{
     let id = id_text(alloc, id)?;
-    put_text_member(alloc, "policyId", id.as_str(), members)?;
+    put_string_member(alloc, "policyId", &id, members)?;
+    Ok(())
+}
+
+fn put_message(
+    alloc: Global,
+    error: &EvaluationError,
+    members: &mut Vec<(RcStr, JsonValue)>,
+) -> Result<(), AllocError>
+    ensures { OnOk result
+        (AddsMessage (failure_of error.now) (members_seen members.old.items) (members_seen members.new.items)) }
+{
     let message = message_of(alloc, error)?;
-    put_text_member(alloc, "message", message.as_str(), members)?;
+    put_string_member(alloc, "message", &message, members)?;
     Ok(())
 }
 

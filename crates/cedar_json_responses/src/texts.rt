@@ -1,5 +1,5 @@
 //! Texts in JSON.
-ghost use Rattle.std.specs.Prelude.{◌≡◌, [], ◌∷◌, ◌++◌, map, OnOk};
+ghost use Rattle.std.specs.Prelude.{◌≡◌, [], ◌∷◌, ◌++◌, map, OnOk, string_bytes};
 ghost use Rattle.json.specs.Json.{string};
 ghost use Rattle.cedar_json_writing.specs.Trees.{json_view, members_seen};
 
@@ -33,5 +33,19 @@ pub(crate) fn put_text_member(
 {
     let text = text_to_json(alloc, text)?;
     put_member(alloc, key, text, members)?;
+    Ok(())
+}
+
+/// The same of a `String`.
+pub(crate) fn put_string_member(
+    alloc: Global,
+    key: &str,
+    text: &String,
+    members: &mut Vec<(RcStr, JsonValue)>,
+) -> Result<(), AllocError>
+    ensures { OnOk result (members_seen members.new.items
+        ≡ members_seen members.old.items ++ (key.now, string (string_bytes text.now)) ∷ []) }
+{
+    put_text_member(alloc, key, text.as_str(), members)?;
     Ok(())
 }

@@ -18,6 +18,7 @@
 
 pub mod deep;
 pub mod described;
+pub mod documents;
 pub mod evaluated;
 pub mod operated;
 pub mod stored;
