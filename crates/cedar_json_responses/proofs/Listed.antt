@@ -1,9 +1,11 @@
 -- Lists that are written one by one.
-use Rattle.std.proofs.Common.{◌≡◌, List, [], ◌∷◌, ◌++◌, append_assoc, append-nil, sym, ap, subst, ◌∙◌}
-use Rattle.std.specs.Prelude.{codes}
-use Rattle.json.specs.Json.{Json, string}
+use Rattle.std.proofs.Common.{◌≡◌, ℕ, ◌+◌, ◌<◌, List, [], ◌∷◌, ◌++◌, length, get_or, drop, append_assoc, append-nil, sym, ap, subst, ◌∙◌}
+use Rattle.std.proofs.lemmas.List.{drop_more}
+use Rattle.json.specs.Json.{Json}
 use Rattle.cedar_model.specs.Terms.{Text}
 use Rattle.cedar_model.specs.Failures.{Failure}
+use Rattle.cedar_responses.specs.declared.err.AuthorizationError.{AuthorizationError}
+use Rattle.cedar_responses.specs.Responses.{error_view, errors_view}
 use Rattle.cedar_json_responses.specs.Errors.{AreEachError, IsErrorJson}
 
 -- one more is written, and is no longer left
@@ -15,17 +17,16 @@ one_more {Y} done after all left rest y is more whole =
 pub no_more : {Y : Type 0} (done all left : List Y) → left ≡ [] → done ++ left ≡ all → done ≡ all
 no_more {Y} done all left is whole = sym (append-nil done) ∙ ap (λ (a : List Y). done ++ a) (sym is) ∙ whole
 
--- ---- members
-
-abbrev Member : Type 0
-Member = Text × Json
-
 -- two puts, one behind the other
 pub two_put : {Y : Type 0} (before one after xs ys : List Y) → one ≡ before ++ xs → after ≡ one ++ ys → after ≡ before ++ (xs ++ ys)
 two_put {Y} before one after xs ys first second =
     second ∙ ap (λ (a : List Y). a ++ ys) first ∙ append_assoc before xs ys
 
 -- ---- errors
+
+-- those from one on
+pub errors_drop : (es : List AuthorizationError) (i : ℕ) (e : AuthorizationError) → i < length es → e ≡ get_or es i e → errors_view (drop i es) ≡ error_view e ∷ errors_view (drop (i + 1) es)
+errors_drop es i e h is = rw (drop_more es i e h, ← is)
 
 -- those that are left, with one more
 pub error_left : (e : Text × Failure) (es rest : List (Text × Failure)) (j : Json) (all : List (Text × Failure)) (done after : List Json) → es ≡ e ∷ rest

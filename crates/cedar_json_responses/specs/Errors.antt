@@ -2,8 +2,7 @@
 use Rattle.std.specs.Prelude.{◌≡◌, List, [], ◌∷◌, ◌++◌, codes}
 use Rattle.json.specs.Json.{Json, string, array}
 use Rattle.json.specs.Value.{items_of}
-use Rattle.cedar_model.specs.Terms.{Text, EntityName, Slot, ValueType, UnaryOperator, BinaryOperator, Term}
-use Rattle.cedar_model.specs.Values.{Represented}
+use Rattle.cedar_model.specs.Terms.{Text}
 use Rattle.cedar_model.specs.Failures.{Failure, entity_is_missing, entity_attribute_is_missing}
 use Rattle.cedar_model.specs.Failures.{record_attribute_is_missing, function_is_missing, type_is_wrong}
 use Rattle.cedar_model.specs.Failures.{arguments_are_miscounted, binary_overflow, unary_overflow, slot_is_unlinked}

@@ -27,24 +27,37 @@ pub fn put_known(
         ++ known_members (request_view response.now.request.value) (rows_view response.now)) }
 {
     put_decision(alloc, response.decision(), members)?;
-    put_bounds(alloc, response, members)?;
+    put_must(alloc, response, members)?;
+    put_may(alloc, response, members)?;
     put_residuals(alloc, response, members)?;
-    put_open(alloc, response, members)?;
+    put_unknowns(alloc, response, members)?;
+    put_entities(alloc, response, members)?;
     Ok(())
 }
 
-// The ids of the policies that must and that may determine the decision.
-fn put_bounds(
+// The ids of the policies that must determine the decision.
+fn put_must(
     alloc: Global,
     response: &PartialResponse,
     members: &mut Vec<(RcStr, JsonValue)>,
 ) -> Result<(), AllocError>
     ensures { OnOk result (members_seen members.new.items ≡ members_seen members.old.items
-        ++ (codes "mustBeDetermining", texts_json (ids (must_determine (rows_view response.now))))
-        ∷ (codes "mayBeDetermining", texts_json (ids (may_determine (rows_view response.now)))) ∷ []) }
+        ++ (codes "mustBeDetermining", texts_json (ids (must_determine (rows_view response.now)))) ∷ []) }
 {
     let must = must_to_json(alloc, response)?;
     put_member(alloc, "mustBeDetermining", must, members)?;
+    Ok(())
+}
+
+// Of those that may.
+fn put_may(
+    alloc: Global,
+    response: &PartialResponse,
+    members: &mut Vec<(RcStr, JsonValue)>,
+) -> Result<(), AllocError>
+    ensures { OnOk result (members_seen members.new.items ≡ members_seen members.old.items
+        ++ (codes "mayBeDetermining", texts_json (ids (may_determine (rows_view response.now)))) ∷ []) }
+{
     let may = may_to_json(alloc, response)?;
     put_member(alloc, "mayBeDetermining", may, members)?;
     Ok(())
@@ -85,19 +98,30 @@ fn residuals_to_json(alloc: Global, response: &PartialResponse) -> Result<JsonVa
     Ok(residuals)
 }
 
-// The unknowns that are left, and the entities that a store lacked.
-fn put_open(
+// The unknowns that are left.
+fn put_unknowns(
     alloc: Global,
     response: &PartialResponse,
     members: &mut Vec<(RcStr, JsonValue)>,
 ) -> Result<(), AllocError>
     ensures { OnOk result (members_seen members.new.items ≡ members_seen members.old.items
-        ++ (codes "unknowns", unknowns_json (request_view response.now.request.value) (rows_view response.now))
-        ∷ (codes "missingEntities", entities_json (request_view response.now.request.value) (rows_view response.now))
-        ∷ []) }
+        ++ (codes "unknowns", unknowns_json (request_view response.now.request.value) (rows_view response.now)) ∷ []) }
 {
     let unknowns = unknowns_to_json(alloc, response)?;
     put_member(alloc, "unknowns", unknowns, members)?;
+    Ok(())
+}
+
+// The entities that a store lacked.
+fn put_entities(
+    alloc: Global,
+    response: &PartialResponse,
+    members: &mut Vec<(RcStr, JsonValue)>,
+) -> Result<(), AllocError>
+    ensures { OnOk result (members_seen members.new.items ≡ members_seen members.old.items
+        ++ (codes "missingEntities", entities_json (request_view response.now.request.value) (rows_view response.now))
+        ∷ []) }
+{
     let entities = entities_to_json(alloc, response)?;
     put_member(alloc, "missingEntities", entities, members)?;
     Ok(())

@@ -8,5 +8,5 @@ use Rattle.cedar_json_responses.proofs.errors.errors_to_json.Given as goal
 -- what is written is all, once those that are left stand behind it
 abbrev pub invariant-errors : goal.invariant-errors
 invariant-errors l =
-    (js : List Json) → AreEachError (errors_view (drop l.error-index l.error-items)) js
+    (js : List Json) → AreEachError (errors_view (drop l.error-index l.fn.errors)) js
     → AreEachError (errors_view l.fn.errors) (map json_view l.items.items ++ js)

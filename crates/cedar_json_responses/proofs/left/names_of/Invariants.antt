@@ -7,5 +7,5 @@ use Rattle.cedar_json_responses.proofs.left.names_of.Given as goal
 -- those that are left lead where all do
 abbrev pub invariant-unknowns : goal.invariant-unknowns
 invariant-unknowns l =
-    names_behind (asked_each (drop l.unknown-index l.unknown-items)) (map rc_str_bytes l.names.keys)
+    names_behind (asked_each (drop l.unknown-index l.fn.unknowns)) (map rc_str_bytes l.names.keys)
     ≡ names_once (asked_each l.fn.unknowns)

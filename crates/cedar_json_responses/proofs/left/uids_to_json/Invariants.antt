@@ -8,5 +8,5 @@ use Rattle.cedar_json_responses.proofs.left.uids_to_json.Given as goal
 -- those that are written, and those that are left
 abbrev pub invariant-uids : goal.invariant-uids
 invariant-uids l =
-    map json_view l.items.items ++ map string (map printed_entity (map uid_name (drop l.uid-index l.uid-items)))
+    map json_view l.items.items ++ map string (map printed_entity (map uid_name (drop l.uid-index l.fn.uids)))
     ≡ map string (map printed_entity (map uid_name l.fn.uids))
