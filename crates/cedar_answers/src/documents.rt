@@ -1,17 +1,12 @@
 //! Answers as JSON.
 use crate::asked::{Source, Step};
-use crate::decisions::Printed;
-use crate::left::{missing_entities, unknown_names};
 use crate::places::place_of;
 use crate::stages::Stages;
-use cedar_authorizer::authorizer::{
-    AuthorizationError, Decision, PartialResponse, ReportedPolicies, Response,
-};
-use cedar_errors::evaluator::err::EvaluationError;
+use cedar_authorizer::authorizer::{AuthorizationError, PartialResponse, Response};
+use cedar_json_responses::{decision_to_json, put_error, put_known};
 use cedar_json_writing::{JsonValue, put_item, put_member, text_to_json};
-use cedar_layers::expressions::{EntityUID, Loc};
-use cedar_layers::policies::{Policy, PolicyID, PolicySet};
-use cedar_writing::policy_to_cedar;
+use cedar_layers::expressions::Loc;
+use cedar_layers::policies::{PolicyID, PolicySet};
 use std::alloc::{AllocError, Global};
 use std::rc::RcStr;
 
@@ -23,7 +18,8 @@ pub(crate) fn response_document(
     response: &Response,
 ) -> Result<JsonValue, AllocError> {
     let mut members: Vec<(RcStr, JsonValue)> = Vec::new(alloc);
-    put_decision(alloc, Some(response.decision), &mut members)?;
+    let decision = decision_to_json(alloc, Some(response.decision))?;
+    put_member(alloc, "decision", decision, &mut members)?;
     put_reasons(alloc, policies, response, &mut members)?;
     put_errors(alloc, source, &response.diagnostics.errors, &mut members)?;
     Ok(JsonValue::Object(members))
@@ -66,10 +62,7 @@ fn stage_document(
 ) -> Result<JsonValue, AllocError> {
     let mut members: Vec<(RcStr, JsonValue)> = Vec::new(alloc);
     put_step(alloc, step, &mut members)?;
-    put_decision(alloc, response.decision(), &mut members)?;
-    put_bounds(alloc, response, &mut members)?;
-    put_residuals(alloc, response, &mut members)?;
-    put_unknowns(alloc, response, &mut members)?;
+    put_known(alloc, response, &mut members)?;
     put_errors(alloc, source, &response.errors, &mut members)?;
     Ok(JsonValue::Object(members))
 }
@@ -108,19 +101,6 @@ fn put_text(
     put_member(alloc, key, text, members)
 }
 
-// The decision, or `null`, at `decision`.
-fn put_decision(
-    alloc: Global,
-    decision: Option<Decision>,
-    members: &mut Vec<(RcStr, JsonValue)>,
-) -> Result<(), AllocError> {
-    match decision {
-        Some(Decision::Allow) => put_text(alloc, "decision", "allow", members),
-        Some(Decision::Deny) => put_text(alloc, "decision", "deny", members),
-        None => put_member(alloc, "decision", JsonValue::Null, members),
-    }
-}
-
 // The ids of the policies that determined the decision, in the order of the text, at `reason`.
 fn put_reasons(
     alloc: Global,
@@ -138,110 +118,8 @@ fn put_reasons(
 }
 
 fn put_id(alloc: Global, id: &PolicyID, ids: &mut Vec<JsonValue>) -> Result<(), AllocError> {
-    let text = id_text(alloc, id)?;
+    let text = format!(in alloc; "{id}")?;
     put_item(text_to_json(alloc, text.as_str())?, ids)
-}
-
-fn id_text(alloc: Global, id: &PolicyID) -> Result<String, AllocError> {
-    format!(in alloc; "{id}")
-}
-
-// The ids of the policies that must and that may determine the decision.
-fn put_bounds(
-    alloc: Global,
-    response: &PartialResponse,
-    members: &mut Vec<(RcStr, JsonValue)>,
-) -> Result<(), AllocError> {
-    let must = ids_of(alloc, response.must_be_determining())?;
-    put_member(alloc, "mustBeDetermining", must, members)?;
-    let may = ids_of(alloc, response.may_be_determining())?;
-    put_member(alloc, "mayBeDetermining", may, members)
-}
-
-fn ids_of(alloc: Global, policies: ReportedPolicies<'_>) -> Result<JsonValue, AllocError> {
-    let mut ids: Vec<JsonValue> = Vec::new(alloc);
-    'policies: for policy in policies {
-        put_id_of(alloc, &policy?, &mut ids)?;
-    }
-    Ok(JsonValue::Array(ids))
-}
-
-fn put_id_of(alloc: Global, policy: &Policy, ids: &mut Vec<JsonValue>) -> Result<(), AllocError> {
-    put_id(alloc, policy.id(), ids)
-}
-
-// What is left of each policy, as Cedar's text under its id, at `residuals`.
-fn put_residuals(
-    alloc: Global,
-    response: &PartialResponse,
-    members: &mut Vec<(RcStr, JsonValue)>,
-) -> Result<(), AllocError> {
-    let mut residuals: Vec<(RcStr, JsonValue)> = Vec::new(alloc);
-    'policies: for policy in response.nontrivial_residuals() {
-        put_residual(alloc, &policy?, &mut residuals)?;
-    }
-    put_member(alloc, "residuals", JsonValue::Object(residuals), members)
-}
-
-fn put_residual(
-    alloc: Global,
-    policy: &Policy,
-    residuals: &mut Vec<(RcStr, JsonValue)>,
-) -> Result<(), AllocError> {
-    let id = id_text(alloc, policy.id())?;
-    let text = policy_to_cedar(alloc, policy)?;
-    put_text(alloc, id.as_str(), text.as_str(), residuals)
-}
-
-// The names of the unknowns that are left, at `unknowns`, and the entities that a store lacked, at `missingEntities`.
-fn put_unknowns(
-    alloc: Global,
-    response: &PartialResponse,
-    members: &mut Vec<(RcStr, JsonValue)>,
-) -> Result<(), AllocError> {
-    let names = names_document(alloc, response)?;
-    put_member(alloc, "unknowns", names, members)?;
-    let entities = entities_document(alloc, response)?;
-    put_member(alloc, "missingEntities", entities, members)
-}
-
-fn names_document(alloc: Global, response: &PartialResponse) -> Result<JsonValue, AllocError> {
-    let names = unknown_names(alloc, response)?;
-    let items = texts_of(alloc, &names);
-    drop(names);
-    items
-}
-
-fn texts_of(alloc: Global, names: &[RcStr]) -> Result<JsonValue, AllocError> {
-    let mut items: Vec<JsonValue> = Vec::new(alloc);
-    'names: for name in names {
-        put_item(text_to_json(alloc, name.as_str())?, &mut items)?;
-    }
-    Ok(JsonValue::Array(items))
-}
-
-fn entities_document(alloc: Global, response: &PartialResponse) -> Result<JsonValue, AllocError> {
-    let entities = missing_entities(alloc, response)?;
-    let texts = entity_texts(alloc, &entities);
-    drop(entities);
-    texts
-}
-
-fn entity_texts(alloc: Global, entities: &[EntityUID]) -> Result<JsonValue, AllocError> {
-    let mut texts: Vec<JsonValue> = Vec::new(alloc);
-    'entities: for entity in entities {
-        put_entity(alloc, entity, &mut texts)?;
-    }
-    Ok(JsonValue::Array(texts))
-}
-
-fn put_entity(
-    alloc: Global,
-    entity: &EntityUID,
-    texts: &mut Vec<JsonValue>,
-) -> Result<(), AllocError> {
-    let text = format!(in alloc; "{entity}")?;
-    put_item(text_to_json(alloc, text.as_str())?, texts)
 }
 
 // The errors, each with its place in the text of the policies, at `errors`.
@@ -253,35 +131,22 @@ fn put_errors(
 ) -> Result<(), AllocError> {
     let mut items: Vec<JsonValue> = Vec::new(alloc);
     'errors: for error in errors {
-        put_error(alloc, source, error, &mut items)?;
+        put_error_item(alloc, source, error, &mut items)?;
     }
     put_member(alloc, "errors", JsonValue::Array(items), members)
 }
 
-fn put_error(
+fn put_error_item(
     alloc: Global,
     source: Source<'_>,
     error: &AuthorizationError,
     items: &mut Vec<JsonValue>,
 ) -> Result<(), AllocError> {
-    let AuthorizationError::PolicyEvaluationError { id, error } = error;
-    let item = error_document(alloc, source, id, error)?;
-    put_item(item, items)
-}
-
-fn error_document(
-    alloc: Global,
-    source: Source<'_>,
-    id: &PolicyID,
-    error: &EvaluationError,
-) -> Result<JsonValue, AllocError> {
     let mut members: Vec<(RcStr, JsonValue)> = Vec::new(alloc);
-    let id = id_text(alloc, id)?;
-    put_text(alloc, "policyId", id.as_str(), &mut members)?;
-    let message = format!(in alloc; "{error}")?;
-    put_text(alloc, "message", message.as_str(), &mut members)?;
+    put_error(alloc, error, &mut members)?;
+    let AuthorizationError::PolicyEvaluationError { id: _, error } = error;
     put_place(alloc, source, error.source_loc().copied(), &mut members)?;
-    Ok(JsonValue::Object(members))
+    put_item(JsonValue::Object(members), items)
 }
 
 // The line and the column of the place, at `line` and `column`, if the place is known.

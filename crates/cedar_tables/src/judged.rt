@@ -1,5 +1,6 @@
 //! What policies decide, and what a policy holds.
 use crate::answers::described::describe;
+use crate::answers::documents::put_response;
 use crate::levels::{Asked, Shortage, answer_within, met_in};
 use crate::notation::answer::Answer;
 use crate::notation::policies::{policies, policy, policy_set};
@@ -77,6 +78,7 @@ fn put_decided(answer: &mut Answer, kind: &str, response: &Response) {
             put_decision(answer, response);
             put_extensions(answer, &response.diagnostics.errors);
         }
+        "decide-json" => put_response(answer, response),
         _ => put_is_copied(answer, response),
     }
 }

@@ -1,5 +1,7 @@
 //! What is known of policies, and what becomes of that in steps.
 use crate::answers::described::kind;
+use crate::answers::documents::put_partial_response;
+use crate::answers::unknowns::put_unknowns;
 use crate::judged::{put_decision, put_named};
 use crate::levels::{Asked, Shortage, answer_within, met_in};
 use crate::notation::answer::Answer;
@@ -111,6 +113,8 @@ fn asked_and_limit(argument: &str) -> (&str, &str) {
         ("request", _) => (argument, ""),
         ("readers", _) => (argument, ""),
         ("mode", _) => (argument, ""),
+        ("unknowns", _) => (argument, ""),
+        ("json", _) => (argument, ""),
         (_, _) => ("", argument),
     }
 }
@@ -382,6 +386,8 @@ fn put_asked(answer: &mut Answer, asked: &str, response: &PartialResponse) {
         ("get", id) => put_got(answer, response, id),
         ("readers", _) => put_readers(answer, response),
         ("mode", _) => put_modes(answer, response),
+        ("unknowns", _) => put_unknowns(answer, response),
+        ("json", _) => put_partial_response(answer, response),
         ("request", _) => answer.show(response.request.as_ref()),
         (_, _) => {
             put_concrete(answer, response);

@@ -15,7 +15,7 @@
 //! - of a name and a type: `together`, whether a function of that name that takes that type can be used beside the function `make`,
 //!   which takes a text, and `together in-one` the same in one extension; of keys: `collected`, how many pairs they make;
 //! - of the pairs of a context: `context pairs LIMIT`, `context record LIMIT`, `context converted LIMIT` and `context residual
-//!   LIMIT`; of an expression: `context expression LIMIT`.
+//!   LIMIT`, and of values under their names `context of`; of an expression: `context expression LIMIT`.
 
 pub mod contexts;
 pub mod expressions;

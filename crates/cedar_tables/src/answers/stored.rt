@@ -1,13 +1,14 @@
 //! What a request and a store hold.
 use crate::answers::evaluated::place_of;
+use crate::answers::unknowns::{put_unknown, put_unknowns};
 use crate::notation::answer::Answer;
-use crate::notation::leaves::{name, uid};
+use crate::notation::leaves::{name, place, uid};
 use crate::notation::settings::value_named;
 use crate::notation::unanswered::Unanswered;
-use crate::notation::{Parts, both, mapped, or_memory};
+use crate::notation::{Parts, both, headed, mapped, or_memory};
 use cedar_errors::extensions::ExtensionFunctionLookupError;
 use cedar_extensions::Extensions;
-use cedar_layers::expressions::{EntityUID, Name, PartialValue, Type, Unknown, Value, Var};
+use cedar_layers::expressions::{EntityUID, Loc, Name, PartialValue, Type, Value, Var};
 use cedar_layers::policies::{Dereference, Entities, Entity};
 use cedar_requests::{Context, EntityUIDEntry, Request, RequestType};
 use std::alloc::{AllocError, Global};
@@ -22,6 +23,7 @@ pub fn ask_request(answer: &mut Answer, request: &Request, name: &str) {
         "resource" => put_entry(answer, request.resource(), Var::Resource),
         "text" => answer.show(request),
         "type" => put_types(answer, request),
+        "unknowns" => put_unknowns(answer, request),
         _ => match request.context() {
             Some(context) => put_context(answer, context),
             None => answer.put("no context"),
@@ -173,6 +175,65 @@ pub fn ask_made_entity(answer: &mut Answer, words: &str) {
     }
 }
 
+/// What a request has that is made of three entities, each with its place if it is written, and of the context of this one:
+/// `User::"a" 1-2 / Action::"view" / Photo::"p"`.
+pub fn ask_made_request(answer: &mut Answer, setting: &Request, words: &str) {
+    match setting.context() {
+        Some(context) => match context.clone() {
+            Ok(copy) => put_request_in(answer, copy, words),
+            Err(_) => answer.lack_memory(),
+        },
+        None => answer.refuse("no context"),
+    }
+}
+
+fn put_request_in(answer: &mut Answer, context: Context, words: &str) {
+    let (principal, others) = split(words);
+    let (action, resource) = split(others);
+    let alloc = answer.alloc;
+    match both(
+        placed_uid(alloc, principal),
+        both(placed_uid(alloc, action), placed_uid(alloc, resource)),
+    ) {
+        Ok((principal, (action, resource))) => {
+            let request = Request::of(principal, action, resource, context);
+            put_request(answer, &request);
+            drop(request);
+        }
+        Err(why) => {
+            drop(context);
+            answer.fail(why);
+        }
+    }
+}
+
+// The entity, named at the place that is written behind it, if one is.
+fn placed_uid(alloc: Global, written: &str) -> Result<EntityUID, Unanswered> {
+    let (name, ends) = headed(written);
+    let place = place(ends)?;
+    let named = uid(alloc, name)?;
+    let placed = placed_as(&named, place);
+    drop(named);
+    Ok(placed?)
+}
+
+fn placed_as(uid: &EntityUID, place: Option<Loc>) -> Result<EntityUID, AllocError> {
+    let ty = uid.entity_type().clone()?;
+    let id: RcStr = uid.eid().clone()?;
+    Ok(EntityUID::new(ty, id, place))
+}
+
+// The three entities of the request with their places, and its text.
+fn put_request(answer: &mut Answer, request: &Request) {
+    put_entry(answer, request.principal(), Var::Principal);
+    answer.put("; ");
+    put_entry(answer, request.action(), Var::Action);
+    answer.put("; ");
+    put_entry(answer, request.resource(), Var::Resource);
+    answer.put("; ");
+    answer.show(request);
+}
+
 fn split(words: &str) -> (&str, &str) {
     match words.split_once(" / ") {
         Some(both) => both,
@@ -207,20 +268,12 @@ fn put_found(answer: &mut Answer, entities: &Entities, uid: &EntityUID) {
     match entities.entity(answer.alloc, uid) {
         Ok(Dereference::NoSuchEntity) => answer.put("no such entity"),
         Ok(Dereference::Residual(unknown)) => {
+            answer.put("unknown ");
             put_unknown(answer, &unknown);
             drop(unknown);
         }
         Ok(Dereference::Data(entity)) => put_entity(answer, entity),
         Err(_) => answer.lack_memory(),
-    }
-}
-
-fn put_unknown(answer: &mut Answer, unknown: &Unknown) {
-    answer.put("unknown ");
-    answer.show(&unknown.name);
-    if let Some(ty) = &unknown.type_annotation {
-        answer.put(" of type ");
-        answer.show(ty);
     }
 }
 

@@ -1,14 +1,15 @@
 //! What is answered of contexts that are made of restricted expressions: what they hold, or why there is none.
 //!
-//! Pairs are written `b = unknown("x"); a = [1]`, in that order: names and restricted expressions. `none` is no pair.
+//! Pairs are written `b = unknown("x"); a = [1]`, in that order: names and restricted expressions, or values. `none` is no pair.
 use crate::levels::{Asked, Shortage, answer_within, met_by};
 use crate::notation::answer::Answer;
 use crate::notation::expressions::restricted;
 use crate::notation::shown::is_equal;
 use crate::notation::unanswered::Unanswered;
-use crate::notation::{named, pair};
+use crate::notation::values::value;
+use crate::notation::{add, named, pair};
 use cedar_extensions::Extensions;
-use cedar_layers::expressions::{Expr, ExpressionConstructionError, PartialValue};
+use cedar_layers::expressions::{Expr, ExpressionConstructionError, PartialValue, Value};
 use cedar_requests::{Context, ContextCreationError};
 use cedar_restricted_expressions::RestrictedExpr;
 use std::alloc::{AllocError, Global};
@@ -25,11 +26,35 @@ pub fn ask(
 ) {
     match kind {
         "expression" => of_text(answer, extensions, limit_text, written),
+        "of" => of_values(answer, written),
         _ => match pairs(answer.alloc, written) {
             Ok(pairs) => of_pairs(answer, extensions, kind, limit_text, pairs),
             Err(why) => answer.fail(why),
         },
     }
+}
+
+// The context of these values under their names.
+fn of_values(answer: &mut Answer, written: &str) {
+    match named_values(answer.alloc, written) {
+        Ok(pairs) => {
+            let made = Context::of(answer.alloc, pairs);
+            put_made(answer, &made);
+            drop(made);
+        }
+        Err(why) => answer.fail(why),
+    }
+}
+
+fn named_values(alloc: Global, written: &str) -> Result<Vec<(&str, Value)>, Unanswered> {
+    let mut pairs: Vec<(&str, Value)> = Vec::new(alloc);
+    'pairs: for written in written.split("; ") {
+        if written != "none" {
+            let (name, text) = named(written)?;
+            add(&mut pairs, (name, value(alloc, text)?))?;
+        }
+    }
+    Ok(pairs)
 }
 
 fn of_pairs(

@@ -1,0 +1,4 @@
+pub mod Texts
+pub mod Errors
+pub mod Responses
+pub mod Reading
