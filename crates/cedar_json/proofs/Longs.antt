@@ -1,18 +1,20 @@
 -- Texts that write longs.
-use Rattle.std.proofs.Common.{◌≡◌, ◌≤◌, ℕ, ℤ, pos, negsuc, Bool, true, false, cond, ◌&&◌, [], ◌∷◌, length, Option, Some, None, MatchOption, refl, sym, ap, ◌∙◌, FitsSigned, w64, leb, le-leb, leb-true, lt-ltb, ltb-true, nat_lt, arith, ok_or}
+use Rattle.std.proofs.Common.{◌≡◌, ◌≤◌, ℕ, ℤ, pos, negsuc, Bool, true, false, cond, ◌&&◌, [], ◌∷◌, length, Option, Some, None, MatchOption, refl, sym, ap, ◌∙◌, FitsSigned, w64, leb, le-leb, leb-true, lt-ltb, ltb-true, nat_lt, arith, ok_or, Ok}
 use Rattle.std.specs.List.{list_all}
 use Rattle.std.specs.Option.{option_and_then}
 use Rattle.std.specs.Str.Parse.{AllDigits, IsNumeral, without_leading_sign, signed_digits_value, ParsesSigned}
 use Rattle.std.specs.Char.{digit_value}
 use Rattle.cedar_model.specs.Terms.{Text}
 use Rattle.cedar_model.specs.Outcomes.{is_long}
+use Rattle.std.specs.Fmt.{signed_decimal}
+use Rattle.std.proofs.lemmas.Fmt.{parse-signed_decimal}
 use Rattle.cedar_json.specs.Numbers.{is_digit, are_digits, is_long_text, long_of_text}
 
 no_more : (n : ℕ) (b : Bool) → leb n 9223372036854775807 ≡ b → (n ≤ 9223372036854775807 → ⊥) → leb n 9223372036854775807 ≡ false
 no_more n true e f = absurd (f (leb-true n 9223372036854775807 e))
 no_more n false e f = e
 
-fits_long : (n : ℤ) → FitsSigned w64 n → is_long n ≡ true
+pub fits_long : (n : ℤ) → FitsSigned w64 n → is_long n ≡ true
 unfolding is_long
 fits_long (pos n) f = le-leb n 9223372036854775807 (omega (arith, f.sfits))
 fits_long (negsuc n) f = le-leb n 9223372036854775807 (omega (arith, f.sfits))
@@ -65,3 +67,27 @@ read_text t (Some n) h =
 pub long_parsed : (o : Option Text) (r : Option ℤ) → MatchOption o (r ≡ None) (λ t. ParsesSigned w64 10 t (ok_or r t)) → r ≡ option_and_then long_of_text o
 long_parsed None r h = h
 long_parsed (Some t) r h = read_text t r h
+
+-- the long that a text writes is what `parse` reads in it
+parsed : (t : Text) (b : Bool) → is_long_text t ≡ b → ParsesSigned w64 10 t (ok_or (cond b (Some (signed_digits_value 10 t)) None) t)
+parsed t true e = (writes_long t e, refl)
+parsed t false e = λ h. true_is_not (sym (long_written t h) ∙ e)
+  where
+    true_is_not : true ≡ false → ⊥
+    true_is_not f = absurd (cc)
+
+some_of_ok : (o : Option ℤ) (z : ℤ) (t : Text) → ok_or o t ≡ Ok z → o ≡ Some z
+some_of_ok (Some n) z t h = cc
+some_of_ok None z t h = absurd (cc)
+
+-- a long is read in what is written of it
+pub long_read : (z : ℤ) → is_long z ≡ true → long_of_text (signed_decimal z) ≡ Some z
+unfolding is_long
+long_read (pos n) h =
+    let t = signed_decimal (pos n) in
+    some_of_ok (long_of_text t) (pos n) t (parse-signed_decimal w64 (pos n) t (ok_or (long_of_text t) t) (long_fits (pos n) h)
+    (omega (arith, leb-true n 9223372036854775807 h)) refl (parsed t (is_long_text t) refl))
+long_read (negsuc n) h =
+    let t = signed_decimal (negsuc n) in
+    some_of_ok (long_of_text t) (negsuc n) t (parse-signed_decimal w64 (negsuc n) t (ok_or (long_of_text t) t) (long_fits (negsuc n) h)
+    (omega (arith, leb-true n 9223372036854775807 h)) refl (parsed t (is_long_text t) refl))

@@ -1,2 +1,4 @@
 pub mod Trees
 pub mod Written
+pub mod ReadBack
+pub mod Ordered

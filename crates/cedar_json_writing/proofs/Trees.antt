@@ -38,3 +38,7 @@ pub ruleset trees = (view_null, view_bool, view_long, view_string, view_array, v
 pub on_ok : {E : Type 0} (P : Type 0) (r : Result (Unit {0}) E) → P → OnOk r P
 on_ok P (Ok u) h = h
 on_ok P (Err e) h = tt
+
+pub held : {X E : Type 0} (P : Type 0) (r : Result X E) → P → OnOk r P
+held P (Ok x) h = h
+held P (Err e) h = tt

@@ -1,7 +1,9 @@
 //! Contexts.
-ghost use Rattle.std.specs.Prelude.{◌≡◌, IfOk};
+ghost use Rattle.std.specs.Prelude.{◌≡◌, Ok, IfOk};
 ghost use Rattle.cedar_values.specs.Residuals.{partial_term};
 ghost use Rattle.cedar_requests.specs.Contexts.{context_part_value};
+ghost use Rattle.cedar_json.specs.Said.{said};
+ghost use Rattle.cedar_json_writing.specs.ReadBack.{HasJson};
 ghost use Rattle.cedar_json_writing.specs.Trees.{json_view};
 ghost use Rattle.cedar_json_writing.specs.Written.{written};
 
@@ -12,9 +14,11 @@ use cedar_restricted_expressions::RestrictedExpr;
 use std::alloc::{AllocError, Global};
 
 /// The context in Cedar's JSON: the object of its values or, where an unknown stands in one, of its restricted
-/// expressions. Refuses only for want of memory.
+/// expressions. It reads back as `expr_to_json` says. Refuses only for want of memory.
 pub fn context_to_json(alloc: Global, context: &Context) -> Result<JsonValue, AllocError>
-    ensures { IfOk result (λ j. json_view j ≡ written (partial_term (context_part_value context.now))) }
+    ensures written { IfOk result (λ j. json_view j ≡ written (partial_term (context_part_value context.now))) }
+    ensures reads_back { IfOk result (λ j. HasJson (partial_term (context_part_value context.now))
+        → said (json_view j) ≡ Ok (partial_term (context_part_value context.now))) }
 {
     let copy: Context = context.clone()?;
     let record = RestrictedExpr::try_from(copy)?;

@@ -1,11 +1,15 @@
 #![tactic(auto, using(cedar_expressions::proofs::Levels::levels, crate::proofs::Trees::trees))]
 //! Expressions and values.
-ghost use Rattle.std.specs.Prelude.{◌≡◌, IfOk};
+ghost use Rattle.std.specs.Prelude.{◌≡◌, true, Ok, IfOk, OnOk};
 ghost use Rattle.std.specs.Rc.{rc_str_bytes};
+ghost use Rattle.cedar_model.specs.Outcomes.{is_long};
+ghost use Rattle.cedar_model.specs.Terms.{long_literal, record_of};
 ghost use Rattle.cedar_model.specs.Values.{expression_of};
 ghost use Rattle.cedar_names.specs.Names.{uid_name};
 ghost use Rattle.cedar_names.specs.Leaves.{literal_view};
 ghost use Rattle.cedar_expressions.specs.View.{view, terms_view, fields_view};
+ghost use Rattle.cedar_json.specs.Said.{said};
+ghost use Rattle.cedar_json_writing.specs.ReadBack.{HasJson, LiteralIsKept, IsKept, AreKept};
 ghost use Rattle.cedar_json_writing.specs.Trees.{json_view, items_view, members_view};
 ghost use Rattle.cedar_json_writing.specs.Written as writes;
 
@@ -17,9 +21,12 @@ use std::alloc::{AllocError, Global};
 use std::collections::BTreeMap;
 use std::rc::RcStr;
 
-/// The value in Cedar's JSON. Refuses only for want of memory.
+/// The value in Cedar's JSON, which reads back as the same value where types and functions have names and no attribute
+/// has a reserved key. Refuses only for want of memory.
 pub fn value_to_json(alloc: Global, value: &Value) -> Result<JsonValue, AllocError>
-    ensures { IfOk result (λ j. json_view j ≡ writes.written (expression_of value.now.what)) }
+    ensures written { IfOk result (λ j. json_view j ≡ writes.written (expression_of value.now.what)) }
+    ensures reads_back { IfOk result (λ j. HasJson (expression_of value.now.what)
+        → said (json_view j) ≡ Ok (expression_of value.now.what)) }
 {
     let expr: Expr = value.to_expr(alloc)?;
     let json = expr_to_json(alloc, &expr);
@@ -27,17 +34,37 @@ pub fn value_to_json(alloc: Global, value: &Value) -> Result<JsonValue, AllocErr
     json
 }
 
-/// The restricted expression in Cedar's JSON. What is no restricted expression, at any depth, is `null`. Refuses only
-/// for want of memory.
-#[cycle(written)]
+/// The restricted expression in Cedar's JSON, which reads back as the same expression where types and functions have
+/// names, no attribute has a reserved key and no unknown an annotation. What is no restricted expression, at any depth,
+/// is `null`. Refuses only for want of memory.
 pub fn expr_to_json(alloc: Global, expr: &Expr) -> Result<JsonValue, AllocError>
-    ensures { IfOk result (λ j. json_view j ≡ writes.written (view expr.now)) }
+    ensures written { IfOk result (λ j. json_view j ≡ writes.written (view expr.now)) }
+    ensures reads_back { IfOk result (λ j. HasJson (view expr.now) → said (json_view j) ≡ Ok (view expr.now)) }
+{
+    restricted_to_json(alloc, expr)
+}
+
+/// The record of these restricted expressions under their keys, in Cedar's JSON, which reads back as `expr_to_json`
+/// says. Refuses only for want of memory.
+pub fn record_to_json(alloc: Global, pairs: &BTreeMap<RcStr, Expr>) -> Result<JsonValue, AllocError>
+    ensures written { IfOk result (λ j. json_view j ≡ writes.written_record (fields_view pairs.now.entries)) }
+    ensures reads_back { IfOk result (λ j. HasJson (record_of (fields_view pairs.now.entries))
+        → said (json_view j) ≡ Ok (record_of (fields_view pairs.now.entries))) }
+{
+    pairs_to_json(alloc, pairs)
+}
+
+// The expression in JSON; and what its type keeps, at any depth.
+#[cycle(written)]
+fn restricted_to_json(alloc: Global, expr: &Expr) -> Result<JsonValue, AllocError>
+    ensures written { IfOk result (λ j. json_view j ≡ writes.written (view expr.now)) }
+    ensures kept { OnOk result (IsKept (view expr.now)) }
 {
     match expr.expr_kind() {
         ExprKind::Lit(literal) => literal_to_json(alloc, literal),
         ExprKind::Unknown(unknown) => unknown_to_json(alloc, &unknown.name),
         ExprKind::Set(parts) => set_to_json(alloc, parts),
-        ExprKind::Record(pairs) => record_to_json(alloc, pairs),
+        ExprKind::Record(pairs) => pairs_to_json(alloc, pairs),
         ExprKind::ExtensionFunctionApp { fn_name, args } => {
             call_to_json(alloc, fn_name.text(), args)
         }
@@ -71,14 +98,22 @@ pub fn expr_to_json(alloc: Global, expr: &Expr) -> Result<JsonValue, AllocError>
 }
 
 fn literal_to_json(alloc: Global, literal: &Literal) -> Result<JsonValue, AllocError>
-    ensures { IfOk result (λ j. json_view j ≡ writes.written_literal (literal_view literal.now)) }
+    ensures kept { OnOk result (LiteralIsKept (literal_view literal.now)) }
+    ensures written { IfOk result (λ j. json_view j ≡ writes.written_literal (literal_view literal.now)) }
 {
     match literal {
         Literal::Bool(flag) => Ok(JsonValue::Bool(*flag)),
-        Literal::Long(long) => Ok(JsonValue::Long(*long)),
+        Literal::Long(long) => Ok(long_of(*long)),
         Literal::String(text) => text_of(text),
         Literal::EntityUID(uid) => entity_to_json(alloc, uid),
     }
+}
+
+fn long_of(long: i64) -> JsonValue
+    ensures kept { is_long long ≡ true }
+    ensures written { json_view result ≡ writes.written_literal (long_literal long) }
+{
+    JsonValue::Long(long)
 }
 
 fn text_of(text: &RcStr) -> Result<JsonValue, AllocError>
@@ -153,13 +188,14 @@ fn call_object(
 
 #[cycle(written)]
 fn call_to_json(alloc: Global, name: &RcStr, args: &[Expr]) -> Result<JsonValue, AllocError>
-    ensures { IfOk result (λ j. json_view j
+    ensures kept { OnOk result (AreKept (terms_view args.now)) }
+    ensures written { IfOk result (λ j. json_view j
         ≡ writes.written_call (rc_str_bytes name.now) (writes.written_items (terms_view args.now))) }
 {
     let function = text_of(name)?;
     if args.len() == 1 {
         let arg = &args[0];
-        let argument = expr_to_json(alloc, arg)?;
+        let argument = restricted_to_json(alloc, arg)?;
         call_object(alloc, function, "arg", argument)
     } else {
         let arguments = set_to_json(alloc, args)?;
@@ -169,24 +205,25 @@ fn call_to_json(alloc: Global, name: &RcStr, args: &[Expr]) -> Result<JsonValue,
 
 #[cycle(written)]
 fn set_to_json(alloc: Global, parts: &[Expr]) -> Result<JsonValue, AllocError>
-    ensures { IfOk result (λ j. json_view j ≡ writes.written_set (terms_view parts.now)) }
+    ensures kept { OnOk result (AreKept (terms_view parts.now)) }
+    ensures written { IfOk result (λ j. json_view j ≡ writes.written_set (terms_view parts.now)) }
 {
     let mut items: Vec<JsonValue> = Vec::new(alloc);
     'parts: for part in parts {
-        let item = expr_to_json(alloc, part)?;
+        let item = restricted_to_json(alloc, part)?;
         put_item(item, &mut items)?;
     }
     Ok(JsonValue::Array(items))
 }
 
-/// The record of these restricted expressions under their keys, in Cedar's JSON. Refuses only for want of memory.
 #[cycle(written)]
-pub fn record_to_json(alloc: Global, pairs: &BTreeMap<RcStr, Expr>) -> Result<JsonValue, AllocError>
-    ensures { IfOk result (λ j. json_view j ≡ writes.written_record (fields_view pairs.now.entries)) }
+fn pairs_to_json(alloc: Global, pairs: &BTreeMap<RcStr, Expr>) -> Result<JsonValue, AllocError>
+    ensures kept { OnOk result (IsKept (record_of (fields_view pairs.now.entries))) }
+    ensures written { IfOk result (λ j. json_view j ≡ writes.written_record (fields_view pairs.now.entries)) }
 {
     let mut members: Vec<(RcStr, JsonValue)> = Vec::new(alloc);
     'pairs: for (key, part) in pairs.iter() {
-        let member = expr_to_json(alloc, part)?;
+        let member = restricted_to_json(alloc, part)?;
         put_member(alloc, key.as_str(), member, &mut members)?;
     }
     Ok(JsonValue::Object(members))

@@ -4,8 +4,8 @@
 //! array of its elements in their order, a record an object; an extension value, or the call of a function, is
 //! `{"__extn": {"fn": "ip", "arg": "10.0.0.1"}}`, with `"args": [..]` for more or fewer arguments than one; and an
 //! unknown is `{"__extn": {"fn": "unknown", "arg": "x"}}`.
-//! It is what the reader of Cedar's JSON takes, where the names of types and functions are names, no attribute has a
-//! reserved key, and unknowns have no annotation; that it reads back as the same is not proved.
+//! What Cedar's JSON holds reads back as the same: a restricted expression in which types and functions have names, no
+//! function is named `unknown`, no attribute has a reserved key, and no unknown has an annotation.
 #![tactic(auto)]
 
 mod contexts;
