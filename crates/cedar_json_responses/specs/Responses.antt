@@ -70,7 +70,8 @@ unknowns_json request rows = texts_json (names_once (others_asked (left_open req
 abbrev pub entities_json : RequestPart → List Row → Json
 entities_json request rows = texts_json (map printed_entity (entities_asked (left_open request rows)))
 
--- the decision, the ids of the policies that must and that may determine it, what is left of policies, and what hangs open
+-- the decision, the ids of the policies that must and that may determine it, what is left of policies, and on which
+-- unknowns and entities that hangs
 abbrev pub known_members : RequestPart → List Row → List (Text × Json)
 known_members request rows =
     (codes "decision", decision_json (given_decision rows))

@@ -35,8 +35,8 @@ pub(crate) fn put_decision(
     decision: Option<Decision>,
     members: &mut Vec<(RcStr, JsonValue)>,
 ) -> Result<(), AllocError>
-    ensures { OnOk result (members_seen members.new.items
-        ≡ members_seen members.old.items ++ (codes "decision", decision_json (option_map decision_view decision)) ∷ []) }
+    ensures { OnOk result (members_seen members.new.items ≡ members_seen members.old.items
+        ++ (codes "decision", decision_json (option_map decision_view decision)) ∷ []) }
 {
     let decision = decision_to_json(alloc, decision)?;
     put_member(alloc, "decision", decision, members)?;
