@@ -102,7 +102,11 @@ fn literals(alloc: Global) -> ExprBuilder {
         text(alloc, "a*\n"),
         named,
     ];
-    set(alloc, all).contains(expr(alloc, Expr::val(Literal::Long(7))))
+    set(alloc, all).contains(seven(alloc))
+}
+
+fn seven(alloc: Global) -> ExprBuilder {
+    expr(alloc, Expr::val(Literal::Long(7)))
 }
 
 fn uid_literal(alloc: Global, named: Result<EntityUID, AllocError>) -> ExprBuilder {
@@ -113,55 +117,89 @@ fn uid_literal(alloc: Global, named: Result<EntityUID, AllocError>) -> ExprBuild
 }
 
 fn comparisons(alloc: Global) -> ExprBuilder {
-    let a = long(alloc, 1)
-        .less(long(alloc, 2))
-        .and(long(alloc, 3).lesseq(long(alloc, 4)));
-    let b = long(alloc, 5)
-        .greater(long(alloc, 6))
-        .and(long(alloc, 7).greatereq(long(alloc, 8)));
-    let c = principal(alloc)
-        .is_eq(resource(alloc))
-        .and(action(alloc).noteq(context(alloc)));
-    a.or(b).or(c)
+    below(alloc).or(above(alloc)).or(equal_or_not(alloc))
+}
+
+fn below(alloc: Global) -> ExprBuilder {
+    let less = long(alloc, 1).less(long(alloc, 2));
+    less.and(long(alloc, 3).lesseq(long(alloc, 4)))
+}
+
+fn above(alloc: Global) -> ExprBuilder {
+    let greater = long(alloc, 5).greater(long(alloc, 6));
+    greater.and(long(alloc, 7).greatereq(long(alloc, 8)))
+}
+
+fn equal_or_not(alloc: Global) -> ExprBuilder {
+    let equal = principal(alloc).is_eq(resource(alloc));
+    equal.and(action(alloc).noteq(context(alloc)))
 }
 
 fn numbers(alloc: Global) -> ExprBuilder {
-    let sum = long(alloc, 1).add(long(alloc, 2)).mul(long(alloc, 3));
-    sum.sub(long(alloc, 4).neg()).is_eq(long(alloc, 13))
+    product(alloc)
+        .sub(long(alloc, 4).neg())
+        .is_eq(long(alloc, 13))
+}
+
+fn product(alloc: Global) -> ExprBuilder {
+    long(alloc, 1).add(long(alloc, 2)).mul(long(alloc, 3))
 }
 
 fn sets(alloc: Global) -> ExprBuilder {
-    let a = context(alloc)
+    has_all(alloc)
+        .and(has_any(alloc))
+        .and(set(alloc, []).is_empty().not())
+}
+
+fn has_all(alloc: Global) -> ExprBuilder {
+    context(alloc)
         .attr("a")
-        .contains_all(set(alloc, [long(alloc, 1)]));
-    let b = context(alloc)
+        .contains_all(set(alloc, [long(alloc, 1)]))
+}
+
+fn has_any(alloc: Global) -> ExprBuilder {
+    context(alloc)
         .attr("b")
-        .contains_any(context(alloc).attr("c"));
-    a.and(b).and(set(alloc, []).is_empty().not())
+        .contains_any(context(alloc).attr("c"))
 }
 
 fn entities(alloc: Global) -> ExprBuilder {
-    let a = principal(alloc)
+    in_or_is(alloc).or(is_in_folder(alloc)).or(tags(alloc))
+}
+
+fn in_or_is(alloc: Global) -> ExprBuilder {
+    principal(alloc)
         .is_in(resource(alloc))
-        .and(principal(alloc).is_entity_type("User"));
-    let b = resource(alloc).is_in_entity_type("Doc", entity(alloc, "Folder", "f"));
-    let c = resource(alloc).has_tag(text(alloc, "t"));
-    let d = resource(alloc)
-        .get_tag(text(alloc, "t"))
-        .is_eq(text(alloc, "x"));
-    a.or(b).or(c.and(d))
+        .and(principal(alloc).is_entity_type("User"))
+}
+
+fn is_in_folder(alloc: Global) -> ExprBuilder {
+    resource(alloc).is_in_entity_type("Doc", entity(alloc, "Folder", "f"))
+}
+
+fn tags(alloc: Global) -> ExprBuilder {
+    let has = resource(alloc).has_tag(text(alloc, "t"));
+    has.and(
+        resource(alloc)
+            .get_tag(text(alloc, "t"))
+            .is_eq(text(alloc, "x")),
+    )
 }
 
 fn attributes(alloc: Global) -> ExprBuilder {
+    let equal = fields(alloc)
+        .attr("a c")
+        .is_eq(context(alloc).attr("d").attr("e f"));
+    equal.and(context(alloc).has_attr("g"))
+}
+
+fn fields(alloc: Global) -> ExprBuilder {
     let fields = [
         field("b", long(alloc, 1)),
         field("a c", text(alloc, "x")),
         field("b", long(alloc, 2)),
     ];
-    let all = record(alloc, fields);
-    all.attr("a c")
-        .is_eq(context(alloc).attr("d").attr("e f"))
-        .and(context(alloc).has_attr("g"))
+    record(alloc, fields)
 }
 
 fn like(alloc: Global) -> ExprBuilder {
