@@ -66,6 +66,10 @@ module _ {A : Type 0} (xs : List A) (n : ℕ) where
       by (inl h) = absurd (none_is_not_some (sym e ∙ h.2.1))
       by (inr h) = drop_all n xs h.0
 
+-- what holds by an evaluator of a setting, of functions and levels that are these
+pub holds_alike : {s z : Setting} {calls others : StoredCalls} {levels limit : ℕ} (P : Setting → StoredCalls → ℕ → Type 0) → s ≡ z → calls ≡ others → levels ≡ limit → P z others limit → P s calls levels
+holds_alike {s = s} {calls = calls} {levels = levels} P e f n h = subst (λ q. P s calls q) (sym n) (subst (λ q. P s q _) (sym f) (subst (λ q. P q _ _) (sym e) h))
+
 -- ---- the loop
 
 -- the policies before those that are left are noted; those that are left are false, but some, and no two have one id
