@@ -1,6 +1,6 @@
 -- The run of a set of policies that looks at some of them, where the others are false.
-use Rattle.std.specs.Prelude.{◌≡◌, ℕ, ◌+◌, Bool, true, false, ◌||◌, List, [], ◌∷◌, Option, Some, None, slice_get}
-use Rattle.std.proofs.Common.{inl, inr, refl, sym, ap, ◌∙◌, subst, arith, drop, suc}
+use Rattle.std.specs.Prelude.{◌≡◌, ◌⊎◌, ℕ, ◌+◌, ◌<◌, ◌≤◌, Bool, true, false, ◌||◌, List, [], ◌∷◌, length, map, Option, Some, None, slice_get}
+use Rattle.std.proofs.Common.{inl, inr, refl, sym, ap, ◌∙◌, subst, arith, drop, get_or, suc}
 use Rattle.std.proofs.Math.Seq.{drop-cons}
 use Rattle.std.proofs.lemmas.List.{drop_all}
 use Rattle.std.proofs.lemmas.Option.{slice_get_cases, slice_get_within, get_or_from_slice_get}
@@ -62,13 +62,14 @@ module _ {A : Type 0} (xs : List A) (n : ℕ) where
   none_at : slice_get xs n ≡ None → drop n xs ≡ []
   none_at e = by ((slice_get_cases xs n).1)
     where
-      by : _ → drop n xs ≡ []
-      by (inl h) = absurd (none_is_not_some (sym e ∙ h.2.1))
+      by : ((x : A) × (n < length xs) × (slice_get xs n ≡ Some x) × (get_or xs n x ≡ x)) ⊎ ((length xs ≤ n) × (slice_get xs n ≡ None)) → drop n xs ≡ []
+      by (inl h) = absurd (none_is_not_some (sym e ∙ h.2))
       by (inr h) = drop_all n xs h.0
 
 -- what holds by an evaluator of a setting, of functions and levels that are these
 pub holds_alike : {s z : Setting} {calls others : StoredCalls} {levels limit : ℕ} (P : Setting → StoredCalls → ℕ → Type 0) → s ≡ z → calls ≡ others → levels ≡ limit → P z others limit → P s calls levels
-holds_alike {s = s} {calls = calls} {levels = levels} P e f n h = subst (λ q. P s calls q) (sym n) (subst (λ q. P s q _) (sym f) (subst (λ q. P q _ _) (sym e) h))
+holds_alike {s = s} {calls = calls} {others = others} {limit = limit} P e f n h =
+    subst (λ q. P s calls q) (sym n) (subst (λ q. P s q limit) (sym f) (subst (λ q. P q others limit) (sym e) h))
 
 -- ---- the loop
 
@@ -94,15 +95,15 @@ module _ (mode : ErrorHandling) (s : Setting) (calls : StoredCalls) (levels : �
   }
 
   module _ (all left rest some : List layers.Policy) (p : layers.Policy) (first : left ≡ p ∷ rest) (old new : Sheet) (before : IsRunSoFar mode s calls levels all old left some) where
-    abbrev id : Text
-    id = (policy_view p).id
+    abbrev own : Text
+    own = (policy_view p).id
 
     others_here : AreFalseBut s calls levels (p ∷ rest) some
     others_here = subst (λ l. AreFalseBut s calls levels l some) first before.others
 
-    apart_behind : first_repeated_after (id ∷ []) (ids_of rest) ≡ None
+    apart_behind : first_repeated_after (own ∷ []) (ids_of rest) ≡ None
     apart_behind =
-        seen_later (is_seen id []) id _ (subst (λ l. first_repeated (ids_of l) ≡ None) first before.apart)
+        seen_later (is_seen own []) own _ (subst (λ l. first_repeated (ids_of l) ≡ None) first before.apart)
 
     one_more : (later : List layers.Policy) (o : Outcome) → ComesOutBy (λ a. Runs (with_slots s (policy_view p).slots) calls levels (condition_term (policy_view p)) a) (outcome_view o) → IsLeftAt (policy_location p) o
         → sheet_view new ≡ noting mode (sheet_view old) (policy_view p) o → AreFalseBut s calls levels rest later → IsRunSoFar mode s calls levels all new rest later
@@ -110,30 +111,30 @@ module _ (mode : ErrorHandling) (s : Setting) (calls : StoredCalls) (levels : �
       noted = noted_more mode s calls levels (deciding_these all) old new (policy_view p) o (deciding_these rest) (deciding_these left) (ap deciding_these first) before.noted out noted;
       placed = one_placed mode all left rest old new p o first before.placed stands noted;
       others = others;
-      apart = repeated_weaker (id ∷ []) [] (ids_of rest) (weaker_front [] id) apart_behind;
+      apart = repeated_weaker (own ∷ []) [] (ids_of rest) (weaker_front [] own) apart_behind;
     }
 
     -- the first of some is not behind a policy of its id
-    not_behind : (q : layers.Policy) (later : List layers.Policy) → text_eq id (policy_view q).id ≡ true → AreFalseBut s calls levels rest (q ∷ later) → ⊥
+    not_behind : (q : layers.Policy) (later : List layers.Policy) → text_eq own (policy_view q).id ≡ true → AreFalseBut s calls levels rest (q ∷ later) → ⊥
     not_behind q later same h =
         let t = (policy_view q).id in
-        let unseen : (text_eq t id || false) ≡ false =
-        seen_first (is_seen t (id ∷ [])) t _ (others_apart (IsFalse s calls levels) (id ∷ []) (deciding_these rest) (deciding_these (q ∷ later)) h apart_behind) in
-        let seen : text_eq t id ≡ true = ap (text_eq t) (same_text _ _ (sym same)) ∙ text_eq-self t in
+        let unseen : (text_eq t own || false) ≡ false =
+        seen_first (is_seen t (own ∷ [])) t _ (others_apart (IsFalse s calls levels) (own ∷ []) (deciding_these rest) (deciding_these (q ∷ later)) h apart_behind) in
+        let seen : text_eq t own ≡ true = ap (text_eq t) (same_text _ _ (sym same)) ∙ text_eq-self t in
         true_is_not_false (sym (ap (λ b. b || false) seen) ∙ unseen)
 
-    looked : (q : layers.Policy) (later : List layers.Policy) → text_eq id (policy_view q).id ≡ true → AreFalseBut s calls levels (p ∷ rest) (q ∷ later) → AreFalseBut s calls levels rest later
+    looked : (q : layers.Policy) (later : List layers.Policy) → text_eq own (policy_view q).id ≡ true → AreFalseBut s calls levels (p ∷ rest) (q ∷ later) → AreFalseBut s calls levels rest later
     looked q later same (inl h) = absurd (not_behind q later same h.1)
     looked q later same (inr h) =
         subst (AreAllBut (IsFalse s calls levels) (deciding_these rest)) (sym (same_tail h.1)) h.2
 
-    passed : (later : List layers.Policy) → ((q : layers.Policy) (qs : List layers.Policy) → later ≡ q ∷ qs → text_eq id (policy_view q).id ≡ false) → AreFalseBut s calls levels (p ∷ rest) later
+    passed : (later : List layers.Policy) → ((q : layers.Policy) (qs : List layers.Policy) → later ≡ q ∷ qs → text_eq own (policy_view q).id ≡ false) → AreFalseBut s calls levels (p ∷ rest) later
         → IsFalse s calls levels (decides_as (policy_view p)) × AreFalseBut s calls levels rest later
     passed later other (inl h) = h
     passed [] other (inr h) = absurd (nil_is_not_cons h.1)
     passed (q ∷ qs) other (inr h) =
-        let same : (policy_view q).id ≡ id = ap (λ (r : Policy). r.id) (same_head h.1) in
-        absurd (true_is_not_false (sym (ap (text_eq id) same ∙ text_eq-self id) ∙ other q qs refl))
+        let same : (policy_view q).id ≡ own = ap (λ (r : Policy). r.id) (same_head h.1) in
+        absurd (true_is_not_false (sym (ap (text_eq own) same ∙ text_eq-self own) ∙ other q qs refl))
 
   module _ (all left rest : List layers.Policy) (xs : List layers.Policy) (n : ℕ) (p : layers.Policy) (first : left ≡ p ∷ rest) (old new : Sheet) (before : IsRunSoFar mode s calls levels all old left (drop n xs)) where
     -- a policy of the next one's id
