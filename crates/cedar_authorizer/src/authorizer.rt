@@ -39,10 +39,10 @@ pub use cedar_responses::{
 };
 use cedar_values::Value;
 use either::{Left, Right};
+use sheets::first_sheet;
 use std::alloc::{AllocError, Global};
 use std::collections::{HashMap, HashSet};
 use std::rc::{Rc, RcStr};
-use sheets::first_sheet;
 pub use steps::Reauthorize;
 use steps::take_steps;
 use telling::told_sheet;

@@ -34,23 +34,6 @@ pub(super) fn first_sheet(
     ensures places { IfOk result (ResidualsAreNoted (stored_policies policies.now)) }
 {
     let within = policies_within_reach(alloc, authorizer, request, policies, entities)?;
-    let evaluator = evaluator_for(alloc, authorizer, request, entities)?;
-    let sheet = run(alloc, authorizer.error_handling, &evaluator, policies, within);
-    drop(evaluator);
-    sheet
-}
-
-// The evaluator of the request over the store, as the authorizer is configured, where no unknown has a value.
-pub(super) fn evaluator_for<'e, 'f>(
-    alloc: Global,
-    authorizer: &'e Authorizer<'f>,
-    request: &Request,
-    entities: &'e Entities,
-) -> Result<Evaluator<'e, 'f>, AllocError>
-    ensures setting { IfOk result (λ e. setting_of e no_slots ≡ asked authorizer.now request.now entities.now) }
-    ensures calls { IfOk result (λ e. calls_in e ≡ (configuration authorizer.now).calls) }
-    ensures limit { IfOk result (λ e. evaluations.limit_of e ≡ (configuration authorizer.now).levels) }
-{
     let evaluator = Evaluator::new(
         alloc,
         request.clone()?,
@@ -58,7 +41,16 @@ pub(super) fn evaluator_for<'e, 'f>(
         &authorizer.extensions,
         authorizer.limit,
     )?;
-    Ok(evaluator.with_resolution(authorizer.resolution))
+    let evaluator = evaluator.with_resolution(authorizer.resolution);
+    let sheet = run(
+        alloc,
+        authorizer.error_handling,
+        &evaluator,
+        policies,
+        within,
+    );
+    drop(evaluator);
+    sheet
 }
 
 // How each policy comes out by this evaluator, in their order; those that are not within reach, if that is known, are false.

@@ -14,7 +14,6 @@ ghost use Rattle.cedar_authorizer.specs.Responding.{deciding};
 ghost use Rattle.cedar_authorizer.specs.Telling.{tells_nothing, noting_what_tells, IsToldRun, IsToldBy, deciding_these};
 
 use super::reaching::policies_within_reach;
-use super::sheets::evaluator_for;
 use super::{Authorizer, outcome_of};
 use cedar_evaluator::evaluator::Evaluator;
 use cedar_evaluator::request::Request;
@@ -35,8 +34,21 @@ pub(super) fn told_sheet(
         (deciding policies.now)) }
 {
     let within = policies_within_reach(alloc, authorizer, request, policies, entities)?;
-    let evaluator = evaluator_for(alloc, authorizer, request, entities)?;
-    let sheet = tell(alloc, authorizer.error_handling, &evaluator, policies, within);
+    let evaluator = Evaluator::new(
+        alloc,
+        request.clone()?,
+        entities,
+        &authorizer.extensions,
+        authorizer.limit,
+    )?;
+    let evaluator = evaluator.with_resolution(authorizer.resolution);
+    let sheet = tell(
+        alloc,
+        authorizer.error_handling,
+        &evaluator,
+        policies,
+        within,
+    );
     drop(evaluator);
     sheet
 }

@@ -10,15 +10,15 @@ policies-init g c =
     run_none _ _ _ _ c.args.policies.now c.new-sheet.result _ _ c.new-sheet.ensures
     (sym (ap policies_left c.into_iter-policy-iterator.ensures.into_iter_gives ∙ c.policies-policy-items.ensures.whole)) c.requires
 
-pub policies-preserved : goal.policies-preserved
-policies-preserved g c =
+pub policies-preserved-then-is_at : goal.policies-preserved-then-is_at
+policies-preserved-then-is_at g c =
     let z = c.in_ok-outcome.ensures.outcome in
     run_looked _ _ _ _ _ _ _ (map (λ p. p.now) c.args.within.now) c.policies.next c.in-Some.policy.now c.in-Some.ensures.steps c.policies.sheet c.place.new.self c.policies.invariant
     c.in_ok-outcome.outcome (sym c.is_at.ensures ∙ c.if-is_at.true) (z.0, z.1.runs, z.2, z.3) c.in_ok-outcome.ensures.place c.in_ok-place.ensures
 
-pub policies-preserved-else-is_at : goal.policies-preserved-else-is_at
-policies-preserved-else-is_at g c =
-    run_past _ _ _ _ _ _ _ (map (λ p. p.now) c.args.within.now) c.policies.next c.in-Some.policy.now c.in-Some.ensures.steps c.policies.sheet c.place-2.new.self c.policies.invariant
+pub policies-preserved : goal.policies-preserved
+policies-preserved g c =
+    run_past _ _ _ _ _ _ _ (map (λ p. p.now) c.args.within.now) c.policies.next c.in-Some.policy.now c.in-Some.ensures.steps c.policies.sheet c.place-else-is_at.new.self c.policies.invariant
     (sym c.is_at.ensures ∙ c.if-is_at.false) c.in_ok-place-2.ensures
 
 pub returns-clause-run : goal.returns-clause-run
