@@ -8,6 +8,7 @@ pub mod Outcomes
 pub mod Deciding
 pub mod Telling
 pub mod Reaching
+pub mod Within
 pub mod Same
 pub mod Left
 pub mod Low

@@ -310,7 +310,7 @@ others_false s calls levels es enough covered (p ∷ ps) qs (inr h) =
 
 -- ---- entities that are covered
 
-text_eq-self : (t : Text) → text_eq t t ≡ true
+pub text_eq-self : (t : Text) → text_eq t t ≡ true
 text_eq-self [] = refl
 text_eq-self (b ∷ bs) = and_from _ _ (eq-eqb b b refl) (text_eq-self bs)
 

@@ -1,10 +1,13 @@
 -- Entities that a request asks about, with all that they are in, and the policies that they reach.
-use Rattle.std.specs.Prelude.{◌≡◌, Bool, true, List}
-use Rattle.cedar_model.specs.Terms.{EntityName}
+use Rattle.std.specs.Prelude.{◌≡◌, ℕ, Bool, true, false, List, Option, None, Some}
+use Rattle.cedar_model.specs.Terms.{Text, EntityName}
+use Rattle.cedar_model.specs.Outcomes.{text_eq}
 use Rattle.cedar_model.specs.Settings.{Entry, known_entry, unknown_entry, RequestPart, Store, Setting, Found, found, not_there}
 use Rattle.cedar_model.specs.Settings.{not_known, look_up, is_among}
+use Rattle.cedar_model.specs.Rules.{StoredCalls}
 use Rattle.cedar_model.specs.Configurations.{Configuration}
 use Rattle.cedar_layers.specs.declared.policies.policy.Policy.{Policy}
+use Rattle.cedar_layers.specs.Policies.{policy_view}
 use Rattle.cedar_layers.specs.Scopes.{AreAllBut}
 use Rattle.cedar_authorizer.specs.Telling.{IsFalse, deciding_these}
 
@@ -41,5 +44,14 @@ abbrev pub Covers : Entry → Store → List EntityName → List EntityName → 
 Covers entry store old new b = Grows old new × (b ≡ true → IsEntryCovered store new entry)
 
 -- of all policies these are left, and the others are false
+abbrev pub AreFalseBut : Setting → StoredCalls → ℕ → List Policy → List Policy → Type 0
+AreFalseBut s calls levels all some = AreAllBut (IsFalse s calls levels) (deciding_these all) (deciding_these some)
+
+-- by an authorizer that is configured so
 abbrev pub OthersAreFalse : Configuration → Setting → List Policy → List Policy → Type 0
-OthersAreFalse c s all some = AreAllBut (IsFalse s c.calls c.levels) (deciding_these all) (deciding_these some)
+OthersAreFalse c s all some = AreFalseBut s c.calls c.levels all some
+
+-- whether it is a policy of this id
+abbrev pub is_of_id : Text → Option Policy → Bool
+is_of_id t None = false
+is_of_id t (Some p) = text_eq t (policy_view p).id

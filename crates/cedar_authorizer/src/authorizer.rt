@@ -22,7 +22,7 @@ ghost use Rattle.cedar_authorizer.specs.Responding.{deciding};
 ghost use Rattle.cedar_authorizer.specs.Wanting.{is_of_memory};
 ghost use Rattle.cedar_authorizer.specs.Running.{errors_of, request_of, IsRun, StandsInCompletions};
 ghost use Rattle.cedar_authorizer.specs.Running.{IsDeepEnough, IsConcreteRun};
-ghost use Rattle.cedar_authorizer.specs.Running.{ComesOutBy, IsNotedRun, IsNotedBy, KeepsSheet};
+ghost use Rattle.cedar_authorizer.specs.Running.{ComesOutBy, IsNotedRun, KeepsSheet};
 ghost use Rattle.cedar_authorizer.specs.Running.{ResidualsStand, ResidualsAreNoted, IsLeftAt};
 
 use cedar_errors::extensions::ExtensionFunctionLookupError;
@@ -39,6 +39,7 @@ pub use cedar_responses::{
 };
 use cedar_values::Value;
 use either::{Left, Right};
+use sheets::first_sheet;
 use std::alloc::{AllocError, Global};
 use std::collections::{HashMap, HashSet};
 use std::rc::{Rc, RcStr};
@@ -48,6 +49,7 @@ use telling::told_sheet;
 
 pub mod laws;
 mod reaching;
+mod sheets;
 mod steps;
 mod telling;
 
@@ -234,29 +236,6 @@ impl<'f> Authorizer<'f> {
         let response = self.is_authorized_core(alloc, request, policies, entities)?;
         take_steps(alloc, response, self, steps)
     }
-}
-
-// How each policy comes out, in their order, where no unknown has a value.
-fn first_sheet(
-    alloc: Global,
-    authorizer: &Authorizer<'_>,
-    request: &Request,
-    policies: &PolicySet,
-    entities: &Entities,
-) -> Result<Sheet, AllocError>
-    ensures run { IfOk result (IsNotedBy (configuration authorizer.now) (asked authorizer.now request.now entities.now)
-        (deciding policies.now)) }
-    ensures places { IfOk result (ResidualsAreNoted (stored_policies policies.now)) }
-{
-    let evaluator = Evaluator::new(
-        alloc,
-        request.clone()?,
-        entities,
-        &authorizer.extensions,
-        authorizer.limit,
-    )?;
-    let evaluator = evaluator.with_resolution(authorizer.resolution);
-    run_all(alloc, authorizer.error_handling, &evaluator, policies)
 }
 
 // How each policy comes out by this evaluator, in their order.

@@ -1,13 +1,15 @@
 //! The run of policies whose response is made concrete. A policy that is false without an error tells nothing there, so it is not
 //! noted.
-ghost use Rattle.std.specs.Prelude.{◌≡◌, IfOk, OnOk, map};
+ghost use Rattle.std.specs.Prelude.{◌≡◌, IfOk, IfSome, OnOk, map};
 ghost use Rattle.cedar_model.specs.Agreement.{no_slots};
 ghost use Rattle.cedar_decisions.specs.Decisions.{mode_view};
 ghost use Rattle.cedar_layers.specs.Policies.{policy_view};
+ghost use Rattle.cedar_layers.specs.PolicySets.{stored_policies};
 ghost use Rattle.cedar_evaluator.specs.Evaluations.{setting_of, calls_in};
 ghost use Rattle.cedar_evaluator.specs.Evaluations as evaluations;
 ghost use Rattle.cedar_responses.specs.Sheets.{sheet_view, outcome_view};
 ghost use Rattle.cedar_authorizer.specs.Configured.{configuration, asked};
+ghost use Rattle.cedar_authorizer.specs.Reaching.{AreFalseBut};
 ghost use Rattle.cedar_authorizer.specs.Responding.{deciding};
 ghost use Rattle.cedar_authorizer.specs.Telling.{tells_nothing, noting_what_tells, IsToldRun, IsToldBy, deciding_these};
 
@@ -31,61 +33,46 @@ pub(super) fn told_sheet(
     ensures { IfOk result (IsToldBy (configuration authorizer.now) (asked authorizer.now request.now entities.now)
         (deciding policies.now)) }
 {
-    match policies_within_reach(alloc, authorizer, request, policies, entities)? {
-        Some(within) => sheet_of_these(alloc, authorizer, request, &within, entities),
-        None => sheet_of_all(alloc, authorizer, request, policies, entities),
+    let within = policies_within_reach(alloc, authorizer, request, policies, entities)?;
+    let evaluator = Evaluator::new(
+        alloc,
+        request.clone()?,
+        entities,
+        &authorizer.extensions,
+        authorizer.limit,
+    )?;
+    let evaluator = evaluator.with_resolution(authorizer.resolution);
+    let sheet = tell(
+        alloc,
+        authorizer.error_handling,
+        &evaluator,
+        policies,
+        within,
+    );
+    drop(evaluator);
+    sheet
+}
+
+// The same by this evaluator, where the policies that are not within reach, if that is known, are false.
+fn tell(
+    alloc: Global,
+    mode: ErrorHandling,
+    evaluator: &Evaluator<'_, '_>,
+    policies: &PolicySet,
+    within: Option<Vec<&Policy>>,
+) -> Result<Sheet, AllocError>
+    requires { IfSome within (λ v. AreFalseBut (setting_of evaluator.now no_slots) (calls_in evaluator.now)
+        (evaluations.limit_of evaluator.now) (stored_policies policies.now) (map (λ p. p.now) v.items)) }
+    ensures { IfOk result (IsToldRun (mode_view mode) (setting_of evaluator.now no_slots) (calls_in evaluator.now)
+        (evaluations.limit_of evaluator.now) (deciding policies.now)) }
+{
+    match within {
+        Some(within) => tell_these(alloc, mode, evaluator, &within),
+        None => tell_all(alloc, mode, evaluator, policies),
     }
 }
 
 // The same of these policies.
-fn sheet_of_these(
-    alloc: Global,
-    authorizer: &Authorizer<'_>,
-    request: &Request,
-    policies: &[&Policy],
-    entities: &Entities,
-) -> Result<Sheet, AllocError>
-    ensures { IfOk result (IsToldBy (configuration authorizer.now) (asked authorizer.now request.now entities.now)
-        (deciding_these (map (λ p. p.now) policies.now))) }
-{
-    let evaluator = Evaluator::new(
-        alloc,
-        request.clone()?,
-        entities,
-        &authorizer.extensions,
-        authorizer.limit,
-    )?;
-    let evaluator = evaluator.with_resolution(authorizer.resolution);
-    let sheet = tell_these(alloc, authorizer.error_handling, &evaluator, policies);
-    drop(evaluator);
-    sheet
-}
-
-// The same, of all.
-fn sheet_of_all(
-    alloc: Global,
-    authorizer: &Authorizer<'_>,
-    request: &Request,
-    policies: &PolicySet,
-    entities: &Entities,
-) -> Result<Sheet, AllocError>
-    ensures { IfOk result (IsToldBy (configuration authorizer.now) (asked authorizer.now request.now entities.now)
-        (deciding policies.now)) }
-{
-    let evaluator = Evaluator::new(
-        alloc,
-        request.clone()?,
-        entities,
-        &authorizer.extensions,
-        authorizer.limit,
-    )?;
-    let evaluator = evaluator.with_resolution(authorizer.resolution);
-    let sheet = tell_all(alloc, authorizer.error_handling, &evaluator, policies);
-    drop(evaluator);
-    sheet
-}
-
-// The same of these policies by this evaluator.
 fn tell_these(
     alloc: Global,
     mode: ErrorHandling,
@@ -103,7 +90,7 @@ fn tell_these(
     Ok(sheet)
 }
 
-// The same of all by this evaluator.
+// The same of all.
 fn tell_all(
     alloc: Global,
     mode: ErrorHandling,

@@ -1,18 +1,29 @@
-use Rattle.std.proofs.Common.{sym, subst, map}
+use Rattle.std.proofs.Common.{ap, ◌∙◌, map, None}
 use Rattle.std.specs.Option.{IfSome}
 use Rattle.std.proofs.lemmas.Result.{IfOk-weaker}
+use Rattle.cedar_model.specs.Agreement.{no_slots}
 use Rattle.cedar_layers.specs.PolicySets.{stored_policies}
-use Rattle.cedar_authorizer.specs.Configured.{configuration, asked}
-use Rattle.cedar_authorizer.specs.Reaching.{OthersAreFalse}
-use Rattle.cedar_authorizer.specs.Responding.{deciding}
-use Rattle.cedar_authorizer.proofs.Telling.{told_of_all}
+use Rattle.cedar_layers.specs.Stores.{store_view}
+use Rattle.cedar_evaluator.specs.Evaluations.{setting_for, resolving}
+use Rattle.cedar_extensions.specs.Extensions.{extensions_view, calls_of}
+use Rattle.cedar_authorizer.specs.Configured.{extensions_of, resolution_of}
+use Rattle.cedar_authorizer.specs.Reaching.{AreFalseBut}
+use Rattle.cedar_authorizer.proofs.Telling.{told_alike}
+use Rattle.cedar_authorizer.proofs.Within.{holds_alike}
 use Rattle.cedar_authorizer.proofs.authorizer.telling.told_sheet.Goals as goal
 
-pub returns-in-Some : goal.returns-in-Some
-returns-in-Some g c =
-    let a = c.args.authorizer.now in
-    let s = asked a c.args.request.now c.args.entities.now in
-    let all = stored_policies c.args.policies.now in
-    let of_within : OthersAreFalse (configuration a) s all (map (λ p. p.now) c.in-Some.within.items) = subst (λ o. IfSome o (λ v. OthersAreFalse (configuration a) s all (map (λ p. p.now) v.items))) c.in-Some.is c.in_ok-within.ensures in
-    let reached : OthersAreFalse (configuration a) s all (map (λ p. p.now) c.deref.result.now) = subst (λ ps. OthersAreFalse (configuration a) s all (map (λ p. p.now) ps)) (sym c.deref.ensures.value) of_within in
-    IfOk-weaker c.sheet_of_these.result _ _ (λ z h. told_of_all _ s (configuration a).calls (configuration a).levels (deciding c.args.policies.now) _ z reached h) c.sheet_of_these.ensures
+pub tell-sheet-requires : goal.tell-sheet-requires
+tell-sheet-requires g c =
+    let e = c.in_ok-evaluator.ensures in
+    let k = c.with_resolution-evaluator.ensures in
+    let q = resolution_of c.args.authorizer.now in
+    let same = k.setting no_slots ∙ ap (resolving q) (e.setting no_slots) ∙ ap (λ r. setting_for r (store_view c.args.entities.now) (extensions_view (extensions_of c.args.authorizer.now)) (λ n. None) q no_slots) c.in_ok-clone.ensures.cases.0 in
+    holds_alike (λ s calls levels. IfSome c.in_ok-within.within (λ v. AreFalseBut s calls levels (stored_policies c.args.policies.now) (map (λ p. p.now) v.items))) same (ap calls_of (k.extensions ∙ e.extensions)) (k.limit ∙ e.limit) c.in_ok-within.ensures
+
+pub returns : goal.returns
+returns g c =
+    let e = c.in_ok-evaluator.ensures in
+    let k = c.with_resolution-evaluator.ensures in
+    let q = resolution_of c.args.authorizer.now in
+    let same = k.setting no_slots ∙ ap (resolving q) (e.setting no_slots) ∙ ap (λ r. setting_for r (store_view c.args.entities.now) (extensions_view (extensions_of c.args.authorizer.now)) (λ n. None) q no_slots) c.in_ok-clone.ensures.cases.0 in
+    IfOk-weaker c.tell-sheet.result _ _ (λ z h. told_alike _ _ _ _ _ _ _ _ z same (ap calls_of (k.extensions ∙ e.extensions)) (k.limit ∙ e.limit) h) c.tell-sheet.ensures
