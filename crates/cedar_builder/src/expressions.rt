@@ -17,12 +17,25 @@ pub use leaves::{
 pub use lists::{FieldBuilder, call, field, record, set};
 pub use operators::if_then_else;
 use std::alloc::{AllocError, Global};
+use std::marker::Model;
 
 /// An expression in the making: what was said so far, or that memory was wanting on the way.
 #[derive(Drop)]
 pub struct ExprBuilder {
     pub(crate) alloc: Global,
     pub(crate) built: Result<Expr, AllocError>,
+}
+
+impl Model for ExprBuilder {
+    ghost use Rattle.std.specs.Coded.{codes};
+    ghost use Rattle.cedar_expressions.specs.contracts.expr.Expr as expressions;
+    ghost use Rattle.cedar_builder.specs.Fields.{ExprFields};
+
+    ghost Value = { ExprFields };
+
+    ghost coded = { Prim.hlevel (codes, expressions.the_row.coded) };
+
+    ghost view = { λ a. record { built = a.built } };
 }
 
 /// This expression, as it is. It takes no memory.

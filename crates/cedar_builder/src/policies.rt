@@ -18,6 +18,7 @@ use cedar_expressions::Expr;
 use cedar_layers::policies::{Annotations, Effect, Policy, PolicyID};
 use cedar_names::{Literal, SlotEnv};
 use std::alloc::{AllocError, Global};
+use std::marker::Model;
 use std::rc::RcStr;
 
 /// A policy in the making: what was said so far, or that memory was wanting on the way.
@@ -25,6 +26,19 @@ use std::rc::RcStr;
 pub struct PolicyBuilder {
     alloc: Global,
     parts: Result<PolicyParts, AllocError>,
+}
+
+impl Model for PolicyBuilder {
+    ghost use Rattle.std.specs.Coded.{codes};
+    ghost use Rattle.std_collections.specs.Layout.BTreeMap.{btree_map_code};
+    ghost use Rattle.cedar_expressions.specs.contracts.expr.Expr as expressions;
+    ghost use Rattle.cedar_builder.specs.PolicyFields.{PolicyFields};
+
+    ghost Value = { PolicyFields };
+
+    ghost coded = { Prim.hlevel (codes, btree_map_code, expressions.the_row.coded) };
+
+    ghost view = { λ a. record { parts = a.parts } };
 }
 
 // What was said of a policy. Where no clause was said, it has no condition.

@@ -4,7 +4,7 @@ ghost use Rattle.std.specs.Prelude.{◌≡◌, ◌++◌, ◌∷◌, [], map, IfO
 ghost use Rattle.cedar_expressions.specs.View.{view, fields_view};
 ghost use Rattle.cedar_expressions.specs.Records.{fields_in_order, put_field};
 ghost use Rattle.std.specs.Rc.{rc_str_bytes};
-ghost use Rattle.cedar_builder.specs.Building.{term_of, term_in, terms_of_all, field_in, fields_of_all};
+ghost use Rattle.cedar_builder.specs.Building.{term_of, term_in, terms_of_all, field_in, field_of, fields_of_all};
 ghost use Rattle.cedar_builder.specs.Building.{Builds, BuildsField, Makes, under};
 ghost use Rattle.cedar_builder.specs.Building.{set_term, record_term, call_term};
 
@@ -14,6 +14,7 @@ use cedar_expressions::Expr;
 use cedar_names::Name;
 use std::alloc::{AllocError, Global};
 use std::collections::BTreeMap;
+use std::marker::Model;
 use std::rc::RcStr;
 
 /// The set of these parts, in this order: `[a, b]`.
@@ -42,6 +43,18 @@ pub struct FieldBuilder {
     pub(crate) built: Result<(RcStr, Expr), AllocError>,
 }
 
+impl Model for FieldBuilder {
+    ghost use Rattle.std.specs.Coded.{codes};
+    ghost use Rattle.cedar_expressions.specs.contracts.expr.Expr as expressions;
+    ghost use Rattle.cedar_builder.specs.Fields.{KeyedFields};
+
+    ghost Value = { KeyedFields };
+
+    ghost coded = { Prim.hlevel (codes, expressions.the_row.coded) };
+
+    ghost view = { λ a. record { built = a.built } };
+}
+
 /// The field of this part under this key, which is taken as it stands.
 pub fn field(key: &str, part: ExprBuilder) -> FieldBuilder
     ensures { BuildsField result (option_map (under key.now) (term_of part)) }
@@ -57,7 +70,8 @@ fn keyed(
     key: &str,
     part: Result<Expr, AllocError>,
 ) -> Result<(RcStr, Expr), AllocError>
-    ensures { IfOk result (λ p. option_map (under key.now) (term_in part) ≡ Some (under (rc_str_bytes p.0) (view p.1))) }
+    ensures { IfOk result (λ p.
+        option_map (under key.now) (term_in part) ≡ Some (under (rc_str_bytes p.0) (view p.1))) }
 {
     let (key, part) = together(RcStr::from_str(alloc, key), part)?;
     Ok((key, part))
@@ -122,13 +136,22 @@ fn each_part(alloc: Global, parts: Vec<ExprBuilder>) -> Result<Vec<Expr>, AllocE
 {
     let mut made: Vec<Expr> = Vec::new(alloc);
     'parts: for part in parts {
-        put_part(&mut made, part.built)?;
+        put_part(&mut made, part)?;
     }
     Ok(made)
 }
 
-fn put_part(made: &mut Vec<Expr>, part: Result<Expr, AllocError>) -> Result<(), AllocError>
-    ensures { OnOk result (option_map (λ t. map view made.old.items ++ t ∷ []) (term_in part) ≡ Some (map view made.new.items)) }
+fn put_part(made: &mut Vec<Expr>, part: ExprBuilder) -> Result<(), AllocError>
+    ensures { OnOk result
+        (option_map (λ t. map view made.old.items ++ t ∷ []) (term_of part) ≡ Some (map view made.new.items)) }
+{
+    put_expr(made, part.built)?;
+    Ok(())
+}
+
+fn put_expr(made: &mut Vec<Expr>, part: Result<Expr, AllocError>) -> Result<(), AllocError>
+    ensures { OnOk result
+        (option_map (λ t. map view made.old.items ++ t ∷ []) (term_in part) ≡ Some (map view made.new.items)) }
 {
     let part = part?;
     match made.push(part) {
@@ -144,7 +167,8 @@ fn fields_of<const N: usize>(
     alloc: Global,
     fields: [FieldBuilder; N],
 ) -> Result<BTreeMap<RcStr, Expr>, AllocError>
-    ensures { IfOk result (λ m. option_map fields_in_order (fields_of_all fields.entry) ≡ Some (fields_view m.entries)) }
+    ensures { IfOk result (λ m.
+        option_map fields_in_order (fields_of_all fields.entry) ≡ Some (fields_view m.entries)) }
 {
     match Vec::from_array(alloc, fields) {
         Ok(fields) => each_field(alloc, fields),
@@ -153,21 +177,32 @@ fn fields_of<const N: usize>(
 }
 
 fn each_field(alloc: Global, fields: Vec<FieldBuilder>) -> Result<BTreeMap<RcStr, Expr>, AllocError>
-    ensures { IfOk result (λ m. option_map fields_in_order (fields_of_all fields.items) ≡ Some (fields_view m.entries)) }
+    ensures { IfOk result (λ m.
+        option_map fields_in_order (fields_of_all fields.items) ≡ Some (fields_view m.entries)) }
 {
     let mut made: BTreeMap<RcStr, Expr> = BTreeMap::new(alloc);
     'fields: for field in fields {
-        put_field(&mut made, field.built)?;
+        put_field(&mut made, field)?;
     }
     Ok(made)
 }
 
-fn put_field(
+fn put_field(made: &mut BTreeMap<RcStr, Expr>, field: FieldBuilder) -> Result<(), AllocError>
+    ensures { OnOk result
+        (option_map (λ f. put_field (fields_view made.old.entries) f.0 f.1) (field_of field)
+        ≡ Some (fields_view made.new.entries)) }
+{
+    put_keyed(made, field.built)?;
+    Ok(())
+}
+
+fn put_keyed(
     made: &mut BTreeMap<RcStr, Expr>,
     field: Result<(RcStr, Expr), AllocError>,
 ) -> Result<(), AllocError>
     ensures { OnOk result
-        (option_map (λ f. put_field (fields_view made.old.entries) f.0 f.1) (field_in field) ≡ Some (fields_view made.new.entries)) }
+        (option_map (λ f. put_field (fields_view made.old.entries) f.0 f.1) (field_in field)
+        ≡ Some (fields_view made.new.entries)) }
 {
     let (key, part) = field?;
     drop(made.insert(key, part)?);

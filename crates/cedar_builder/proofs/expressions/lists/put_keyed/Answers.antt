@@ -7,7 +7,7 @@ use Rattle.cedar_expressions.specs.Records.{put_field}
 use Rattle.cedar_expressions.specs.View.{fields_view}
 use Rattle.cedar_expressions.proofs.Records.{put_field-entries}
 use Rattle.cedar_builder.specs.Building.{field_in}
-use Rattle.cedar_builder.proofs.expressions.lists.put_field.Goals as goal
+use Rattle.cedar_builder.proofs.expressions.lists.put_keyed.Goals as goal
 
 pub returns : goal.returns
 returns c =
