@@ -24,15 +24,7 @@ use Rattle.cedar_reauthorization.specs.Policies.{unless_repeated, all_once}
 use Rattle.cedar_authorizer.specs.Running.{IsRun}
 use Rattle.cedar_authorizer.specs.Steps.{response_said, IsDecidedAgain, IsStep}
 use Rattle.cedar_model.proofs.Configured.{configured_by}
-
-ok_inj : {A B : Type 0} {x y : A} → ◌≡◌ {A = Result A B} (Ok x) (Ok y) → x ≡ y
-ok_inj e = cc
-
-err_inj : {A B : Type 0} {x y : B} → ◌≡◌ {A = Result A B} (Err x) (Err y) → x ≡ y
-err_inj e = cc
-
-err_is_not_ok : {A B : Type 0} {x : A} {y : B} → ◌≡◌ {A = Result A B} (Err y) (Ok x) → ⊥
-err_is_not_ok e = cc
+use Rattle.cedar_model.proofs.Injections.{ok_inj, err_inj, err_is_not_ok}
 
 -- ---- the policies
 

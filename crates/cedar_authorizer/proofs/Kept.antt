@@ -14,9 +14,7 @@ use Rattle.cedar_requests.proofs.Soundness.{request_is_sound}
 use Rattle.cedar_authorizer.specs.declared.authorizer.Authorizer.{Authorizer}
 use Rattle.cedar_authorizer.specs.Configured.{configuration, extensions_of, asked}
 use Rattle.cedar_authorizer.specs.Steps.{ValuesByName, step_by, under}
-
-none_is : (v : Represented) → None ≡ Some v → ⊥
-none_is v e = cc
+use Rattle.cedar_model.proofs.Injections.{none_is_not_some}
 
 pub request_sound : (r : Request) → IsSoundContext (request_view r).context_part
 request_sound r = request_is_sound r
@@ -30,7 +28,7 @@ pub asked_sound : {X : Type 0} {F : X → Type 0} {g : _} (a : Authorizer X F g)
 asked_sound a request entities = record {
   context_sound = request_is_sound request;
   stored_sound = store_is_sound entities;
-  mapped_sound = λ n v e. absurd (none_is v e);
+  mapped_sound = λ n v e. absurd (none_is_not_some e);
   answers_sound = calls_sound (extensions_of a);
 }
 

@@ -17,6 +17,7 @@ use Rattle.cedar_model.proofs.Carried.{IsBoolOrLimit, literal_always, clause_alw
 use Rattle.cedar_model.proofs.Concrete.{residual_same}
 use Rattle.cedar_model.proofs.Stepping.{taken}
 use Rattle.cedar_model.proofs.Configured.{configured_by, in_step}
+use Rattle.cedar_model.proofs.Injections.{ok_inj, ok_is_not_err}
 
 -- ---- rows of which nothing is left
 
@@ -100,12 +101,6 @@ module _ (mode : ErrorHandling) (s : Setting) (calls : StoredCalls) (levels : �
 
 -- ---- chains
 
-ok_inj : {A B : Type 0} {x y : A} → ◌≡◌ {A = Result A B} (Ok x) (Ok y) → x ≡ y
-ok_inj e = cc
-
-err_is_not_ok : {A B : Type 0} {x : A} {y : B} → ◌≡◌ {A = Result A B} (Ok x) (Err y) → ⊥
-err_is_not_ok e = cc
-
 module _ (mode : ErrorHandling) (s : Setting) (calls : StoredCalls) (levels : ℕ) where
   pub none_left : (steps : List ChainStep) (r last : Response) → ChainOf (configured_by calls mode s levels) r steps last → HaveNoResidual r.rows → HaveNoResidual last.rows
   none_left [] r last h none = subst (λ (x : Response). HaveNoResidual x.rows) (sym (ok_inj h)) none
@@ -115,7 +110,7 @@ module _ (mode : ErrorHandling) (s : Setting) (calls : StoredCalls) (levels : �
       on (Ok next) leads g k =
           let t = taken mode (in_step s step) calls levels step.mapping step.store r next g in
           leads next k (none_carried mode (at_step s.extensions step.resolution next.request step.store step.mapping) calls levels r.rows next.rows next.errors none t.runs)
-      on (Err e) leads g k = absurd (err_is_not_ok k)
+      on (Err e) leads g k = absurd (ok_is_not_err k)
 
       by : (b : Bool) → ((next : Response) → ChainOf (configured_by calls mode s levels) next steps last → HaveNoResidual next.rows → HaveNoResidual last.rows) → MatchBool b (◌≡◌ {A = Result Response Refusal} (Ok last) (Ok r)) ((y : Result Response Refusal) × Steps (configured_by calls mode (in_step s step) levels) step.mapping step.store r y × MatchResult y (λ next. ChainOf (configured_by calls mode s levels) next steps last) (λ e. ◌≡◌ {A = Result Response Refusal} (Ok last) (Err e))) → HaveNoResidual last.rows
       by true leads k = subst (λ (x : Response). HaveNoResidual x.rows) (sym (ok_inj k)) none

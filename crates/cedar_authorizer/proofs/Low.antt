@@ -25,6 +25,7 @@ use Rattle.cedar_model.proofs.Needs.{need_bounded}
 use Rattle.cedar_model.proofs.StepNeeds.{step_need_bounded}
 use Rattle.cedar_model.proofs.Stepping.{Taken, taken}
 use Rattle.cedar_model.proofs.Configured.{configured_by}
+use Rattle.cedar_model.proofs.Injections.{some_inj, ok_inj, err_is_not_ok, none_is_not_some}
 
 -- ---- errors of a run
 
@@ -88,15 +89,6 @@ module _ (mode : ErrorHandling) (s : Setting) (calls : StoredCalls) (no_limit : 
 
 -- ---- the run of a step
 
-some_inj : {A : Type 0} {x y : A} → Some x ≡ Some y → x ≡ y
-some_inj e = cc
-
-ok_inj : {A B : Type 0} {x y : A} → ◌≡◌ {A = Result A B} (Ok x) (Ok y) → x ≡ y
-ok_inj e = cc
-
-err_is_not_ok : {A B : Type 0} {x : A} {y : B} → ◌≡◌ {A = Result A B} (Err y) (Ok x) → ⊥
-err_is_not_ok e = cc
-
 -- the map leaves the context as it was, or it is a record of the map
 data Mapped (o : Option Represented) (c d : ContextPart) : Type 0 where
   as_it_was : c ≡ d → Mapped o c d
@@ -114,9 +106,6 @@ mapped (Some (extension_represented t k f ts)) c d e = absurd (err_is_not_ok e)
 
 too_deep_twice : (n k h b : ℕ) → n < k + (b + b) → k ≤ h → h + (b + b) ≤ n → ⊥
 too_deep_twice n k h b above low enough = omega (arith, above, low, enough)
-
-none_is : (v : Represented) → None ≡ Some v → ⊥
-none_is v e = cc
 
 -- the answer that a context is
 context_answer : (a : Answer) (d : ContextPart) → IsContext a (Ok d) → a ≡ answers (context_value d)
@@ -166,8 +155,8 @@ module _ (mode : ErrorHandling) (s : Setting) (calls : StoredCalls) (levels : �
     deep_after : (r new : RequestPart) → IsSoundContext r.context_part → IsContextNoHigher m b r.context_part → ContextFollows (without_map (at_step s.extensions s.resolution r store m)) calls m r.context_part new.context_part
         → (t : Term) → height t ≤ h → Exceeds (at_step s.extensions s.resolution new store m) calls t levels → ⊥
     deep_after r new good no_higher f t k met =
-        too_deep_twice levels (height t) h b (step_need_bounded (without_map (at_step s.extensions s.resolution r store m)) calls m b (λ n v e. absurd (none_is v e))
-        record { context_sound = good; stored_sound = sound.stored_sound; mapped_sound = λ n v e. absurd (none_is v e); answers_sound = sound.answers_sound }
+        too_deep_twice levels (height t) h b (step_need_bounded (without_map (at_step s.extensions s.resolution r store m)) calls m b (λ n v e. absurd (none_is_not_some e))
+        record { context_sound = good; stored_sound = sound.stored_sound; mapped_sound = λ n v e. absurd (none_is_not_some e); answers_sound = sound.answers_sound }
         sound.mapped_sound
         record { context_low = no_higher; stored_low = low.stored_low; mapped_low = low.mapped_low; answers_low = low.answers_low }
         no_limit new f levels t met) k enough

@@ -21,18 +21,10 @@ use Rattle.cedar_layers.proofs.Stores.{entity_eq-true}
 use Rattle.cedar_layers.specs.Scopes.{compares, is_entity_variable, literal_entity, compared_entity, is_truth, IsBoundTo, IsBoundElsewhere, AreAllBut, AreWithinReach}
 use Rattle.cedar_authorizer.specs.Reaching.{IsFoundCovered, IsEntityCovered, IsEntryCovered, AreCovered, IsCoveredBy, Covers}
 use Rattle.cedar_authorizer.specs.Telling.{IsFalse, deciding_these}
-
-none_is_not_some : {A : Type 0} {x : A} → None ≡ Some x → ⊥
-none_is_not_some e = cc
-
-some_inj : {A : Type 0} {x y : A} → Some x ≡ Some y → x ≡ y
-some_inj e = cc
+use Rattle.cedar_model.proofs.Injections.{some_inj, none_is_not_some, false_is_not_true}
 
 true_is_not_false : {b : Bool} → b ≡ true → b ≡ false → ⊥
 true_is_not_false h g = cc
-
-false_is_not_true : false ≡ true → ⊥
-false_is_not_true e = cc
 
 -- ---- what a scope's part is
 

@@ -30,15 +30,13 @@ use Rattle.cedar_authorizer.proofs.Noting.{IsNotedSoFar, noted_none, noted_more,
 use Rattle.cedar_authorizer.proofs.Placed.{ArePlacedSoFar, none_placed, one_placed}
 use Rattle.cedar_authorizer.proofs.Reaching.{text_eq-self}
 use Rattle.cedar_authorizer.proofs.Telling.{others_apart}
+use Rattle.cedar_model.proofs.Injections.{none_is_not_some}
 
 abbrev ids_of : List layers.Policy → List Text
 ids_of ps = map (λ (p : Policy). p.id) (deciding_these ps)
 
 true_is_not_false : true ≡ false → ⊥
 true_is_not_false e = cc
-
-none_is_not_some : {A : Type 0} {x : A} → None ≡ Some x → ⊥
-none_is_not_some e = cc
 
 nil_is_not_cons : {A : Type 0} {x : A} {xs : List A} → [] ≡ x ∷ xs → ⊥
 nil_is_not_cons e = cc

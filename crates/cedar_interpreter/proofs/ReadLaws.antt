@@ -24,9 +24,7 @@ use Rattle.cedar_operators.specs.StoredResiduals.{path_residual, read_or, next_i
 use Rattle.cedar_operators.specs.Operands.{over}
 use Rattle.cedar_operators.proofs.Stored.{stored_as_is}
 use Rattle.cedar_interpreter.specs.Reads.{resolved_in, part_path}
-
-some_inj : {A : Type 0} {x y : A} → Some x ≡ Some y → x ≡ y
-some_inj e = cc
+use Rattle.cedar_model.proofs.Injections.{some_inj}
 
 -- the step walks on to this value, or stops
 abbrev IsStep : Option Represented → Step → Type 0

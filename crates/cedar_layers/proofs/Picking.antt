@@ -8,18 +8,13 @@ use Rattle.cedar_layers.specs.declared.policies.policy.Policy.{Policy}
 use Rattle.cedar_layers.specs.declared.policies.scope_index.ScopeIndex.{ScopeIndex}
 use Rattle.cedar_layers.specs.Policies.{policy_view}
 use Rattle.cedar_layers.specs.Scopes.{AreAllBut, IsBoundElsewhere, AreWithinReach, has_position, ArePlaced, ReachesAll, ArePicked}
+use Rattle.cedar_model.proofs.Injections.{some_inj, none_is_not_some}
 
 -- what is left of a list behind so many
 abbrev pub after : {A : Type 0} → ℕ → List A → List A
 after zero xs = xs
 after (suc n) [] = []
 after (suc n) (x ∷ xs) = after n xs
-
-pub some_inj : {A : Type 0} {x y : A} → Some x ≡ Some y → x ≡ y
-some_inj e = cc
-
-pub none_is_not_some : {A : Type 0} {x : A} → None ≡ Some x → ⊥
-none_is_not_some e = cc
 
 module _ {A : Type 0} (Such : A → Type 0) where
   -- the one at this position is such, and may be left out

@@ -25,12 +25,7 @@ use Rattle.cedar_layers.specs.Mapped.{IsSoundMapping}
 use Rattle.cedar_layers.specs.Parts.{parts_view, is_restricted_part, are_restricted_parts}
 use Rattle.cedar_layers.specs.Stores.{entity_view, store_view}
 use Rattle.cedar_layers.proofs.Parts.{option_map-lookup, restricted_at}
-
-none_is_not_some : {A : Type 0} {x : A} → None ≡ Some x → ⊥
-none_is_not_some e = cc
-
-some_inj : {A : Type 0} {x y : A} → Some x ≡ Some y → x ≡ y
-some_inj e = cc
+use Rattle.cedar_model.proofs.Injections.{some_inj, none_is_not_some}
 
 -- ---- maps of values
 

@@ -26,6 +26,7 @@ use Rattle.cedar_model.specs.Settings.{Store, Setting, missing_entity, Found, fo
 use Rattle.cedar_model.specs.Operators
 use Rattle.cedar_model.specs.Rules
 use Rattle.cedar_model.specs.Alike.{erased, erased_each, erased_at, AreAlikeParts, AreAlike}
+use Rattle.cedar_model.proofs.Injections.{some_inj}
 
 pub alike-parts-refl : (p : PartialValue) → AreAlikeParts p p
 alike-parts-refl (value v) = refl
@@ -184,9 +185,6 @@ fields-erased (record_of fs) = refl
 pub alike_fields : (r q : Term) → erased r ≡ erased q
     → option_map erased_at (Rules.fields_of_record r) ≡ option_map erased_at (Rules.fields_of_record q)
 alike_fields r q e = sym (fields-erased r) ∙ ap Rules.fields_of_record e ∙ fields-erased q
-
-some_inj : {A : Type 0} {x y : A} → Some x ≡ Some y → x ≡ y
-some_inj e = cc
 
 part_if : (b : Bool) (t : Term) (o : Option Term)
     → cond b (Some (erased t)) (option_map erased o) ≡ option_map erased (cond b (Some t) o)

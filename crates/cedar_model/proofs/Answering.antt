@@ -32,6 +32,7 @@ use Rattle.cedar_model.proofs.Resolving.{IsStored, none_read, each_stored, attri
 use Rattle.cedar_model.proofs.Resolving.{beside_is_stored}
 use Rattle.cedar_model.proofs.Unread as unread
 use Rattle.cedar_model.proofs.Unread.{IsNoResidual}
+use Rattle.cedar_model.proofs.Injections.{false_is_not_true}
 
 by_equal : (a b : Answer) → a ≡ b → IsNoResidual b → IsNoResidual a
 by_equal a b e h = subst IsNoResidual (sym e) h
@@ -160,12 +161,9 @@ module _ (ans : Functions) (calls : Rules.StoredCalls) (agree : Agreement.Agrees
     abbrev pub IsPlain : Term → Type 0
     IsPlain t = Agreement.IsKnown ans t × (is_restricted t ≡ true)
 
-    false_isn't : false ≡ true → ⊥
-    false_isn't h = cc
-
     and_true : (a b : Bool) → (a && b) ≡ true → (a ≡ true) × (b ≡ true)
     and_true true b h = (refl, h)
-    and_true false b h = absurd (false_isn't h)
+    and_true false b h = absurd (false_is_not_true h)
 
     module _ (G : Rules.MayAnswer) (ih : (t : Term) (x : Answer) → IsPlain t → G t x → IsNoResidual x) where
       plain_each : (ts : Terms) → Agreement.AreKnown ans ts → are_restricted ts ≡ true → EachGood G IsPlain ih ts
@@ -188,18 +186,18 @@ module _ (ans : Functions) (calls : Rules.StoredCalls) (agree : Agreement.Agrees
           by_equal a _ e (set_values r (parts_values G IsPlain ih ts r (plain_each ts k.0 k.1) g))
       plain_rule (record_of fs) a k (r, g, e) =
           by_equal a _ e (record_values r (field_parts_values G IsPlain ih fs r (plain_each_at fs k.0 k.1) g))
-      plain_rule (variable v) a k r = absurd (false_isn't k.1)
-      plain_rule (slot i) a k r = absurd (false_isn't k.1)
-      plain_rule (if_then_else x y z) a k r = absurd (false_isn't k.1)
-      plain_rule (both x y) a k r = absurd (false_isn't k.1)
-      plain_rule (either x y) a k r = absurd (false_isn't k.1)
-      plain_rule (unary op x) a k r = absurd (false_isn't k.1)
-      plain_rule (binary op x y) a k r = absurd (false_isn't k.1)
-      plain_rule (get_attribute x l) a k r = absurd (false_isn't k.1)
-      plain_rule (has_attribute x l) a k r = absurd (false_isn't k.1)
-      plain_rule (extended_has x l ls) a k r = absurd (false_isn't k.1)
-      plain_rule (like x p) a k r = absurd (false_isn't k.1)
-      plain_rule (is_of_type x t) a k r = absurd (false_isn't k.1)
+      plain_rule (variable v) a k r = absurd (false_is_not_true k.1)
+      plain_rule (slot i) a k r = absurd (false_is_not_true k.1)
+      plain_rule (if_then_else x y z) a k r = absurd (false_is_not_true k.1)
+      plain_rule (both x y) a k r = absurd (false_is_not_true k.1)
+      plain_rule (either x y) a k r = absurd (false_is_not_true k.1)
+      plain_rule (unary op x) a k r = absurd (false_is_not_true k.1)
+      plain_rule (binary op x y) a k r = absurd (false_is_not_true k.1)
+      plain_rule (get_attribute x l) a k r = absurd (false_is_not_true k.1)
+      plain_rule (has_attribute x l) a k r = absurd (false_is_not_true k.1)
+      plain_rule (extended_has x l ls) a k r = absurd (false_is_not_true k.1)
+      plain_rule (like x p) a k r = absurd (false_is_not_true k.1)
+      plain_rule (is_of_type x t) a k r = absurd (false_is_not_true k.1)
 
     pub plain_runs : (n : ℕ) (t : Term) (a : Answer) → IsPlain t → Rules.Runs s calls n t a → IsNoResidual a
     plain_runs zero t a k r = by_equal a limit r tt
@@ -341,7 +339,7 @@ module _ (ans : Functions) (calls : Rules.StoredCalls) (agree : Agreement.Agrees
     unknown_values : (n : Text) (t : Option ValueType) (o : Option Represented) → is_some o ≡ true
         → IsNoResidual (Operators.mapped o n t)
     unfolding Operators.mapped Operators.typed_value
-    unknown_values n t None h = absurd (false_isn't s h)
+    unknown_values n t None h = absurd (false_is_not_true h)
     unknown_values n None (Some v) h = tt
     unknown_values n (Some t) (Some v) h = by (type_eq (value_type (abstract_value v)) t)
       where

@@ -9,9 +9,7 @@ use Rattle.cedar_model.specs.Outcomes.{ErrorKind, Outcome, gives, errs, and_then
 use Rattle.cedar_model.specs.World.{World, Slots, Extensions, Functions}
 use Rattle.cedar_model.specs.Meaning
 use Rattle.cedar_model.specs.Agreement.{outcome_value, HaveSameOutcome, no_slots}
-
-some_inj : {A : Type 0} {x y : A} → Some x ≡ Some y → x ≡ y
-some_inj e = cc
+use Rattle.cedar_model.proofs.Injections.{some_inj}
 
 -- ---- the same outcome
 

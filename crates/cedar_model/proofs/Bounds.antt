@@ -19,6 +19,7 @@ use Rattle.cedar_model.specs.Reports.{some_row, ids, trues, residuals}
 use Rattle.cedar_model.specs.ReportLaws
 use Rattle.cedar_model.proofs.Counting
 use Rattle.cedar_model.proofs.Standing.{errs_isn't}
+use Rattle.cedar_model.proofs.Injections.{some_inj, none_is_not_some}
 
 -- ---- a row that stands
 
@@ -124,12 +125,6 @@ module _ (ft fr pt pr : Bool) where
   abbrev given : Option Decision
   given = cond ft (Some deny) (cond (not (pt || pr)) (Some deny) (cond fr None (cond pt (Some allow) None)))
 
-none_isn't : {A : Type 0} {x : A} → None ≡ Some x → ⊥
-none_isn't h = cc
-
-some_inj : {A : Type 0} {x y : A} → Some x ≡ Some y → x ≡ y
-some_inj e = cc
-
 deny_with : (sf sp : Bool) → sf ≡ true → cond sf deny (cond sp allow deny) ≡ deny
 deny_with true sp h = refl
 deny_with false sp h = absurd (cc)
@@ -158,15 +153,15 @@ given_decides false fr false false sf sp a b c e d h =
     by : (false ≡ true) ⊎ (false ≡ true) → ⊥
     by (inl k) = cc
     by (inr k) = cc
-given_decides false true true pr sf sp a b c e d h = absurd (none_isn't h)
-given_decides false true false true sf sp a b c e d h = absurd (none_isn't h)
+given_decides false true true pr sf sp a b c e d h = absurd (none_is_not_some h)
+given_decides false true false true sf sp a b c e d h = absurd (none_is_not_some h)
 given_decides false false true pr sf sp a b c e d h =
     allow_with sf sp (not_true sf (λ k. by (b k))) (c refl) ∙ some_inj h
   where
     by : (false ≡ true) ⊎ (false ≡ true) → ⊥
     by (inl k) = cc
     by (inr k) = cc
-given_decides false false false true sf sp a b c e d h = absurd (none_isn't h)
+given_decides false false false true sf sp a b c e d h = absurd (none_is_not_some h)
 
 -- ---- the law
 

@@ -19,6 +19,7 @@ use Rattle.cedar_model.proofs.Binds.{same_bool_bind}
 use Rattle.cedar_model.proofs.Conjunction.{step_is_bool}
 use Rattle.cedar_model.proofs.Standing.{answer_stands, counted_true, counted_false, errs_isn't, recorded, with_slots_done}
 use Rattle.cedar_model.proofs.Soundness.{sound_stands, runs_sound}
+use Rattle.cedar_model.proofs.Injections.{some_inj}
 
 -- ---- conditions are bools or errors
 
@@ -64,9 +65,6 @@ condition_is_bool X ans w slots (set_of ts) h = absurd h
 condition_is_bool X ans w slots (record_of fs) h = absurd h
 
 -- ---- the same outcome stands alike
-
-some_inj : {A : Type 0} {x y : A} → Some x ≡ Some y → x ≡ y
-some_inj e = cc
 
 verdict_same : (o p : Outcome) → HaveSameOutcome o p → verdict o ≡ verdict p
 unfolding outcome_value verdict

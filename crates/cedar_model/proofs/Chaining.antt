@@ -23,12 +23,7 @@ use Rattle.cedar_model.proofs.Limits.{goes_on, first_has_none}
 use Rattle.cedar_model.proofs.Bounds
 use Rattle.cedar_model.proofs.Concrete.{concrete_is_defined}
 use Rattle.cedar_model.proofs.Configured.{configured_by, in_step}
-
-ok_inj : {A B : Type 0} {x y : A} → ◌≡◌ {A = Result A B} (Ok x) (Ok y) → x ≡ y
-ok_inj e = cc
-
-none_is : (v : Represented) → None ≡ Some v → ⊥
-none_is v e = cc
+use Rattle.cedar_model.proofs.Injections.{ok_inj, none_is_not_some}
 
 module _ (mode : ErrorHandling) (calls : StoredCalls) (ans : Functions) (w : World) (s : Setting) (levels : ℕ)
     (agree : Agreement.AgreesWithFunctions ans calls) (faithful : Agreement.AnswerFaithfully s.extensions ans calls)
@@ -60,8 +55,8 @@ module _ (mode : ErrorHandling) (calls : StoredCalls) (ans : Functions) (w : Wor
 
   pub no_map_completes : Headline.CompletesMap s.extensions ans w Chains.no_values
   no_map_completes = record {
-    map_agrees = λ n v e. absurd (none_is v e);
-    mapped_values_are_faithful = λ n v e. absurd (none_is v e);
+    map_agrees = λ n v e. absurd (none_is_not_some e);
+    mapped_values_are_faithful = λ n v e. absurd (none_is_not_some e);
   }
 
   pub chain_stands : (r last : Response) (steps : List ChainStep) → CompletesRequest r.request

@@ -26,15 +26,7 @@ use Rattle.cedar_model.proofs.Written.{written_means, written_fits}
 use Rattle.cedar_model.proofs.Soundness.{sound_stands, runs_sound}
 use Rattle.cedar_model.proofs.Stepping
 use Rattle.cedar_model.proofs.Configured.{configured_by}
-
-some_inj : {A : Type 0} {x y : A} → Some x ≡ Some y → x ≡ y
-some_inj e = cc
-
-ok_inj : {A B : Type 0} {x y : A} → ◌≡◌ {A = Result A B} (Ok x) (Ok y) → x ≡ y
-ok_inj e = cc
-
-err_is_not_ok : {A B : Type 0} {x : A} {y : B} → ◌≡◌ {A = Result A B} (Err y) (Ok x) → ⊥
-err_is_not_ok e = cc
+use Rattle.cedar_model.proofs.Injections.{some_inj, ok_inj, err_is_not_ok, none_is_not_some}
 
 gives_inj : {u v : AbstractValue} → gives u ≡ gives v → u ≡ v
 gives_inj e = cc
@@ -308,19 +300,16 @@ module _ (mode : ErrorHandling) (ans : Functions) (calls : Rules.StoredCalls)
     agreement = record {
       request_agrees = done.agreement.request_agrees;
       store_agrees = done.agreement.store_agrees;
-      map_agrees = λ n v e. absurd (none_is v e);
+      map_agrees = λ n v e. absurd (none_is_not_some e);
       context_fits = done.agreement.context_fits;
       store_fits = done.agreement.store_fits;
     };
     values = record {
       context_faithful = done.values.context_faithful;
       store_faithful = done.values.store_faithful;
-      map_faithful = λ n v e. absurd (none_is v e);
+      map_faithful = λ n v e. absurd (none_is_not_some e);
     };
   }
-    where
-      none_is : (v : Represented) → None ≡ Some v → ⊥
-      none_is v e = cc
 
   abbrev GoodContext : ContextPart → Type 0
   GoodContext c = Good s.extensions ans w m done.agreement.map_agrees done.values.map_faithful c

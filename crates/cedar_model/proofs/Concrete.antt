@@ -22,9 +22,7 @@ use Rattle.cedar_model.specs.Reports.{some_row, ids, trues, residuals, judged_ro
 use Rattle.cedar_model.specs.ReportLaws
 use Rattle.cedar_model.proofs.Bounds
 use Rattle.cedar_model.proofs.Counting.{is_open}
-
-none_isn't : {A : Type 0} {x : A} → None ≡ Some x → ⊥
-none_isn't h = cc
+use Rattle.cedar_model.proofs.Injections.{none_is_not_some}
 
 -- ---- a given decision is the concrete one
 
@@ -33,10 +31,10 @@ given_by : (ft pt pr fr : Bool) (d : Decision) → cond ft (Some deny)
     → cond (pt && not ft) allow deny ≡ d
 given_by true true pr fr d h = cc
 given_by true false pr fr d h = cc
-given_by false true pr true d h = absurd (none_isn't h)
+given_by false true pr true d h = absurd (none_is_not_some h)
 given_by false true pr false d h = cc
-given_by false false true true d h = absurd (none_isn't h)
-given_by false false true false d h = absurd (none_isn't h)
+given_by false false true true d h = absurd (none_is_not_some h)
+given_by false false true false d h = absurd (none_is_not_some h)
 given_by false false false fr d h = cc
 
 given_beside : (ft pt pr fr : Bool) (d : Decision) → cond ft (Some deny)
@@ -44,10 +42,10 @@ given_beside : (ft pt pr fr : Bool) (d : Decision) → cond ft (Some deny)
     → cond (pt && not (ft || fr)) allow deny ≡ d
 given_beside true true pr fr d h = cc
 given_beside true false pr fr d h = cc
-given_beside false true pr true d h = absurd (none_isn't h)
+given_beside false true pr true d h = absurd (none_is_not_some h)
 given_beside false true pr false d h = cc
-given_beside false false true true d h = absurd (none_isn't h)
-given_beside false false true false d h = absurd (none_isn't h)
+given_beside false false true true d h = absurd (none_is_not_some h)
+given_beside false false true false d h = absurd (none_is_not_some h)
 given_beside false false false fr d h = cc
 
 pub given_is_concrete : ReportLaws.GivenIsConcrete

@@ -26,6 +26,7 @@ use Rattle.cedar_model.specs.Operators
 use Rattle.cedar_model.specs.Rules
 use Rattle.cedar_model.specs.Alike.{erased, erased_at, AreAlikeParts, AreAlike}
 use Rattle.cedar_model.proofs.Alike as alike
+use Rattle.cedar_model.proofs.Injections.{some_inj}
 
 -- ---- records
 
@@ -54,9 +55,6 @@ field_part_then_alike k p q (Err e) (Err f) h g = g
 -- the record of the pairs, without representations
 abbrev abstract_pairs : List (Text × Represented) → AbstractFields
 abstract_pairs vs = abstract_fields (represented_fields_of vs)
-
-some_inj : {A : Type 0} {x y : A} → Some x ≡ Some y → x ≡ y
-some_inj e = cc
 
 add_value_at_alike : (k l : Text) (p q : PartialValue) (o z : Option (List (Text × Represented))) → k ≡ l
     → AreAlikeParts p q → option_map abstract_pairs o ≡ option_map abstract_pairs z

@@ -7,9 +7,7 @@ use Rattle.cedar_model.specs.Terms.{record_of, Terms, no_terms, one_term, Fields
 use Rattle.cedar_model.specs.Restricted.{Feature, Disallowed, disallowed, or_else, first_disallowed}
 use Rattle.cedar_model.specs.Restricted.{first_disallowed_of, first_disallowed_at, feature_of, IsPartOf, IsPartBelow}
 use Rattle.cedar_model.specs.Restricted.{IsPartOfEach, IsPartAt}
-
-some_inj : {A : Type 0} {x y : A} → Some x ≡ Some y → x ≡ y
-some_inj e = cc
+use Rattle.cedar_model.proofs.Injections.{some_inj}
 
 abbrev Right : Term → Disallowed → Type 0
 Right t d = IsPartOf d.part t × (feature_of d.part ≡ Some d.feature)

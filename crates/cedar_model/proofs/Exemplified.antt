@@ -19,6 +19,7 @@ use Rattle.cedar_model.specs.Examples.{some_calls}
 use Rattle.cedar_model.specs.LevelLaws.{FunctionsAnswer}
 use Rattle.cedar_model.proofs.Computed.{meaning_opened}
 use Rattle.cedar_model.proofs.Total.{total}
+use Rattle.cedar_model.proofs.Injections.{some_inj, none_is_not_some}
 
 -- all that chains compute with
 unfoldable pub chain_opened : Unit {0}
@@ -97,16 +98,10 @@ abbrev pub EachPair : {A : Type 0} → (Text → A → Type 0) → List (Text ×
 EachPair Such [] = Unit {0}
 EachPair Such (p ∷ ps) = Such p.0 p.1 × EachPair Such ps
 
-some_inj : {A : Type 0} {x y : A} → Some x ≡ Some y → x ≡ y
-some_inj e = cc
-
-none_isn't : {A : Type 0} {x : A} → None ≡ Some x → ⊥
-none_isn't e = cc
-
 pub at_each : {A : Type 0} (Such : Text → A → Type 0) (ps : List (Text × A)) → EachPair Such ps → (n : Text) (v : A)
     → part_at n ps ≡ Some v → Such n v
 unfolding part_at
-at_each Such [] h n v e = absurd (none_isn't e)
+at_each Such [] h n v e = absurd (none_is_not_some e)
 at_each Such (p ∷ ps) h n v e = by (text_eq n p.0) refl e (at_each Such ps h.1 n v)
   where
     by : (b : Bool) → text_eq n p.0 ≡ b → cond b (Some p.1) (part_at n ps) ≡ Some v

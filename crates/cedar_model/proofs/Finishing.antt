@@ -34,15 +34,7 @@ use Rattle.cedar_model.proofs.Completions.{concrete_parts}
 use Rattle.cedar_model.proofs.Concrete.{concrete_is_defined, residual_same}
 use Rattle.cedar_model.proofs.Stepping.{taken}
 use Rattle.cedar_model.proofs.Configured.{configured_by}
-
-ok_inj : {A B : Type 0} {x y : A} → ◌≡◌ {A = Result A B} (Ok x) (Ok y) → x ≡ y
-ok_inj e = cc
-
-err_is_not_ok : {A B : Type 0} {x : A} {y : B} → ◌≡◌ {A = Result A B} (Err y) (Ok x) → ⊥
-err_is_not_ok e = cc
-
-false_isn't : false ≡ true → ⊥
-false_isn't h = cc
+use Rattle.cedar_model.proofs.Injections.{ok_inj, err_is_not_ok, false_is_not_true}
 
 none_isn't_named : {A : Type 0} (o : Option A) → o ≡ None → is_some o ≡ true → ⊥
 none_isn't_named None e h = cc
@@ -50,11 +42,11 @@ none_isn't_named (Some x) e h = cc
 
 and_true : (a b : Bool) → (a && b) ≡ true → (a ≡ true) × (b ≡ true)
 and_true true b h = (refl, h)
-and_true false b h = absurd (false_isn't h)
+and_true false b h = absurd (false_is_not_true h)
 
 and_intro : (a b : Bool) → a ≡ true → b ≡ true → (a && b) ≡ true
 and_intro true b h k = k
-and_intro false b h k = absurd (false_isn't h)
+and_intro false b h k = absurd (false_is_not_true h)
 
 module _ (ans : Functions) (m : Mapping) where
   -- ---- entries
@@ -134,7 +126,7 @@ module _ (ans : Functions) (m : Mapping) where
         → Agreement.IsKnown ans (Chains.value_for o (unknown n t))
         × (is_restricted (Chains.value_for o (unknown n t)) ≡ true)
     unfolding Chains.value_for
-    value_plain n t None e h = absurd (false_isn't h)
+    value_plain n t None e h = absurd (false_is_not_true h)
     value_plain n t (Some v) e h = plain n v e
 
     mutual
@@ -147,18 +139,18 @@ module _ (ans : Functions) (m : Mapping) where
       substituted_plain (call f ts) k h = let z = substituted_each_plain ts k.1 h in ((k.0, z.0), z.1)
       substituted_plain (set_of ts) k h = substituted_each_plain ts k h
       substituted_plain (record_of fs) k h = substituted_at_plain fs k h
-      substituted_plain (variable v) k h = absurd (false_isn't h)
-      substituted_plain (slot i) k h = absurd (false_isn't h)
-      substituted_plain (if_then_else x y z) k h = absurd (false_isn't h)
-      substituted_plain (both x y) k h = absurd (false_isn't h)
-      substituted_plain (either x y) k h = absurd (false_isn't h)
-      substituted_plain (unary op x) k h = absurd (false_isn't h)
-      substituted_plain (binary op x y) k h = absurd (false_isn't h)
-      substituted_plain (get_attribute x l) k h = absurd (false_isn't h)
-      substituted_plain (has_attribute x l) k h = absurd (false_isn't h)
-      substituted_plain (extended_has x l ls) k h = absurd (false_isn't h)
-      substituted_plain (like x p) k h = absurd (false_isn't h)
-      substituted_plain (is_of_type x t) k h = absurd (false_isn't h)
+      substituted_plain (variable v) k h = absurd (false_is_not_true h)
+      substituted_plain (slot i) k h = absurd (false_is_not_true h)
+      substituted_plain (if_then_else x y z) k h = absurd (false_is_not_true h)
+      substituted_plain (both x y) k h = absurd (false_is_not_true h)
+      substituted_plain (either x y) k h = absurd (false_is_not_true h)
+      substituted_plain (unary op x) k h = absurd (false_is_not_true h)
+      substituted_plain (binary op x y) k h = absurd (false_is_not_true h)
+      substituted_plain (get_attribute x l) k h = absurd (false_is_not_true h)
+      substituted_plain (has_attribute x l) k h = absurd (false_is_not_true h)
+      substituted_plain (extended_has x l ls) k h = absurd (false_is_not_true h)
+      substituted_plain (like x p) k h = absurd (false_is_not_true h)
+      substituted_plain (is_of_type x t) k h = absurd (false_is_not_true h)
 
       substituted_each_plain : (ts : Terms) → Progress.AreNamed ans m ts → are_restricted ts ≡ true
           → Agreement.AreKnown ans (Chains.substituted_each m ts)

@@ -11,6 +11,7 @@ use Rattle.cedar_model.specs.Failures.{value, residual, Answer, answers, fails}
 use Rattle.cedar_model.specs.Rules.{StoredCalls}
 use Rattle.cedar_model.specs.Agreement.{failure_answer, function_answer, AgreesWithFunctions}
 use Rattle.cedar_model.specs.Alike.{AreAlike, AreFunctional}
+use Rattle.cedar_model.proofs.Injections.{some_inj}
 
 -- what the answer is, by what it is seen as
 abbrev IsSeen : Answer → FunctionAnswer → Type 0
@@ -42,9 +43,6 @@ seen_unknown n t (function_asks m u) h =
     let p : n ≡ m = cc in
     let q : t ≡ u = cc in
     λ i. answers (residual (unknown (p i) (q i)))
-
-some_inj : {A : Type 0} {x y : A} → Some x ≡ Some y → x ≡ y
-some_inj e = cc
 
 seen : (a : Answer) (b : FunctionAnswer) → function_answer a ≡ Some b → IsSeen a b
 unfolding function_answer

@@ -29,6 +29,7 @@ use Rattle.cedar_model.specs.Examples.{some_calls, some_extensions, user}
 use Rattle.cedar_model.proofs.Computed.{opened, meaning_opened, some_answer}
 use Rattle.cedar_model.proofs.Total.{total}
 use Rattle.cedar_model.proofs.Printed.{come_back}
+use Rattle.cedar_model.proofs.Injections.{none_is_not_some}
 
 -- an answer that computes, with any functions that answer
 pub computed_with : (s : Setting) (calls : Rules.StoredCalls) (callable : FunctionsAnswer calls s.extensions.arity)
@@ -79,9 +80,6 @@ is_part : (b : Bool) (p : PartialValue) → cond b (Some the_part) None ≡ Some
 is_part true p e = cc
 is_part false p e = absurd (cc)
 
-none_is : {A : Type 0} (p : A) → None ≡ Some p → ⊥
-none_is p e = cc
-
 at_attributes : (P : PartialValue → Type 0) → P the_part → (k : Text) (p : PartialValue) →
     part_at k Instances.waiting_facts.attributes ≡ Some p → P p
 unfolding part_at
@@ -90,7 +88,7 @@ at_attributes P h k p e = subst P (is_part (text_eq k (codes "f")) p e) h
 at_tags : (P : PartialValue → Type 0) (k : Text) (p : PartialValue) →
     part_at k Instances.waiting_facts.tags ≡ Some p → P p
 unfolding part_at
-at_tags P k p e = absurd (none_is p e)
+at_tags P k p e = absurd (none_is_not_some e)
 
 -- the one stored part is such
 stored_such : (is_partial : Bool) (P : PartialValue → Type 0) → P the_part →
@@ -125,7 +123,7 @@ unfolding Instances.value_of_unknown unquoted id_here with_byte read_entity
 named_u n true e v f =
     subst (λ k. Instances.completing.sigma k ≡ abstract_value v) (sym (text_is n (codes "u") e))
     (ap abstract_value (is_seven true v f))
-named_u n false e v f = absurd (none_is v f)
+named_u n false e v f = absurd (none_is_not_some f)
 
 pub completes : (is_partial : Bool) → IsCompletion Instances.asked Instances.completing (Instances.waiting is_partial)
 unfolding meaning_opened Instances.value_of_unknown unquoted id_here with_byte read_entity
@@ -199,7 +197,7 @@ functions_answer = (
     no_limit false false e = cc
 
 pub none_must : Instances.NoFunctionMustAnswer
-none_must = (λ f vs e. absurd (none_is (length vs) e), λ f vs e. e)
+none_must = (λ f vs e. absurd (none_is_not_some e), λ f vs e. e)
 
 -- ---- soundness and heights
 
@@ -265,14 +263,14 @@ unfolding opened substituted value_for
 projected_four = (
   record {
     context_sound = tt;
-    stored_sound = λ e x k p g. absurd (none_is x g);
+    stored_sound = λ e x k p g. absurd (none_is_not_some g);
     mapped_sound =
         λ n v e. subst IsSound (is_nested (text_eq n (codes "x")) v e) ((tt, tt), (((tt, tt), (tt, tt)), tt));
     answers_sound = λ f vs p e. subst IsSoundPart (bool_low (λ n. None) f vs p e) tt;
   },
   record {
     context_low = omega arith;
-    stored_low = λ e x k p g. absurd (none_is x g);
+    stored_low = λ e x k p g. absurd (none_is_not_some g);
     mapped_low =
         λ n v e. subst (λ w. height (expression_of w) ≤ 3) (is_nested (text_eq n (codes "x")) v e) (omega arith);
     answers_low =
@@ -290,8 +288,8 @@ unfolding opened substituted value_for
 loop_needs_more = (
   record {
     context_low = omega arith;
-    stored_low = λ e x k p g. absurd (none_is x g);
-    mapped_low = λ n v e. absurd (none_is v e);
+    stored_low = λ e x k p g. absurd (none_is_not_some g);
+    mapped_low = λ n v e. absurd (none_is_not_some e);
     answers_low =
         λ f vs p e. subst (λ q. substituted_height (λ n. None) q ≤ 4) (bool_low (λ n. None) f vs p e) (omega arith);
   },
@@ -311,15 +309,15 @@ unfolding opened substituted value_for
 context_grows = (
   record {
     context_sound = refl;
-    stored_sound = λ e x k p g. absurd (none_is x g);
-    mapped_sound = λ n v e. absurd (none_is v e);
+    stored_sound = λ e x k p g. absurd (none_is_not_some g);
+    mapped_sound = λ n v e. absurd (none_is_not_some e);
     answers_sound = λ f vs p e. subst IsSoundPart (nested_only f vs p e)
         ((tt, tt), (((tt, tt), (((tt, tt), (tt, tt)), tt)), tt));
   },
   record {
     context_low = omega arith;
-    stored_low = λ e x k p g. absurd (none_is x g);
-    mapped_low = λ n v e. absurd (none_is v e);
+    stored_low = λ e x k p g. absurd (none_is_not_some g);
+    mapped_low = λ n v e. absurd (none_is_not_some e);
     answers_low = λ f vs p e. subst (λ q. substituted_height (λ n. None) q ≤ 4) (nested_only f vs p e) (omega arith);
   },
   (

@@ -25,6 +25,7 @@ use Rattle.cedar_model.proofs.Chained.{sorted_is}
 use Rattle.cedar_model.proofs.Stepping.{taken}
 use Rattle.cedar_model.proofs.Counting
 use Rattle.cedar_model.proofs.Configured.{configured_by}
+use Rattle.cedar_model.proofs.Injections.{none_is_not_some, false_is_not_true}
 
 -- ---- a row
 
@@ -56,9 +57,6 @@ false_is_false skip e = refl
 false_is_false forbid_on_error permit = refl
 false_is_false forbid_on_error forbid = refl
 
-false_isn't : false ≡ true → ⊥
-false_isn't h = cc
-
 module _ (calls : Rules.StoredCalls) (s : Setting) (levels : ℕ) where
   abbrev Carries : Term → Answer → Type 0
   Carries c a =
@@ -78,15 +76,15 @@ module _ (calls : Rules.StoredCalls) (s : Setting) (levels : ℕ) where
     λ k. ap (λ z. is_true (Responses.counted_report mode e (Responses.reported_of (Responses.decided z))))
         (always true a g h)
         ∙ true_is_true mode e,
-    λ k. absurd (false_isn't k),
+    λ k. absurd (false_is_not_true k),
   )
   keeps_report mode e (reported_false x) a g h = (
-    λ k. absurd (false_isn't k),
+    λ k. absurd (false_is_not_true k),
     λ k. ap (λ z. is_false
         (Responses.counted_report mode e (Responses.reported_of (Responses.decided z)))) (always false a g h)
         ∙ false_is_false mode e,
   )
-  keeps_report mode e (reported_residual t) a g h = (λ k. absurd (false_isn't k), λ k. absurd (false_isn't k))
+  keeps_report mode e (reported_residual t) a g h = (λ k. absurd (false_is_not_true k), λ k. absurd (false_is_not_true k))
 
 -- ---- rows in the order of the run
 
@@ -114,8 +112,8 @@ run_keeps mode s calls levels (q ∷ qs) rows errors none (a, rest, later, g, m,
 
 and_imp : (a b b' c : Bool) → (b ≡ true → b' ≡ true) → ((a && b) && c) ≡ true → ((a && b') && c) ≡ true
 and_imp true true b' c f h = ap (λ z. z && c) (f refl) ∙ h
-and_imp true false b' c f h = absurd (false_isn't h)
-and_imp false b b' c f h = absurd (false_isn't h)
+and_imp true false b' c f h = absurd (false_is_not_true h)
+and_imp false b b' c f h = absurd (false_is_not_true h)
 
 module _ (f : Text → Bool) (e : Effect) where
   forward : (such such' : Reported → Bool) → ((o o' : Reported) → KeepsReport o o' → such o ≡ true → such' o' ≡ true)
@@ -149,20 +147,20 @@ open_was : (o o' : Reported) → KeepsReport o o' → Counting.is_open o' ≡ tr
 unfolding Counting.is_open is_true is_false
 open_was reported_true o' h k = refl
 open_was (reported_residual t) o' h k = refl
-open_was (reported_false e) reported_true h k = absurd (false_isn't (h.1 refl))
-open_was (reported_false e) (reported_false e') h k = absurd (false_isn't k)
-open_was (reported_false e) (reported_residual t) h k = absurd (false_isn't (h.1 refl))
+open_was (reported_false e) reported_true h k = absurd (false_is_not_true (h.1 refl))
+open_was (reported_false e) (reported_false e') h k = absurd (false_is_not_true k)
+open_was (reported_false e) (reported_residual t) h k = absurd (false_is_not_true (h.1 refl))
 
 -- a residual row was residual
 residual_was : (o o' : Reported) → KeepsReport o o' → is_residual o' ≡ true → is_residual o ≡ true
 unfolding is_true is_false is_residual
 residual_was (reported_residual t) o' h k = refl
-residual_was reported_true reported_true h k = absurd (false_isn't k)
-residual_was reported_true (reported_false e) h k = absurd (false_isn't k)
-residual_was reported_true (reported_residual t) h k = absurd (false_isn't (h.0 refl))
-residual_was (reported_false e) reported_true h k = absurd (false_isn't k)
-residual_was (reported_false e) (reported_false e') h k = absurd (false_isn't k)
-residual_was (reported_false e) (reported_residual t) h k = absurd (false_isn't (h.1 refl))
+residual_was reported_true reported_true h k = absurd (false_is_not_true k)
+residual_was reported_true (reported_false e) h k = absurd (false_is_not_true k)
+residual_was reported_true (reported_residual t) h k = absurd (false_is_not_true (h.0 refl))
+residual_was (reported_false e) reported_true h k = absurd (false_is_not_true k)
+residual_was (reported_false e) (reported_false e') h k = absurd (false_is_not_true k)
+residual_was (reported_false e) (reported_residual t) h k = absurd (false_is_not_true (h.1 refl))
 
 true_is_open : (o : Reported) → is_true o ≡ true → Counting.is_open o ≡ true
 unfolding is_true Counting.is_open
@@ -185,9 +183,6 @@ open_of_true f e (r ∷ rs) h =
 abbrev given : Bool → Bool → Bool → Bool → Option Decision
 given ft fr pt pr = cond ft (Some deny) (cond (not (pt || pr)) (Some deny) (cond fr None (cond pt (Some allow) None)))
 
-none_isn't : {A : Type 0} {x : A} → None ≡ Some x → ⊥
-none_isn't h = cc
-
 not_true : (b : Bool) → (b ≡ true → ⊥) → b ≡ false
 not_true true h = absurd (h refl)
 not_true false h = refl
@@ -208,18 +203,18 @@ decision_stays true fr pt pr ft' fr' pt' pr' a b c e g i d h =
     (cond fr' None (cond pt' (Some allow) None)))) ∙ h
 decision_stays false fr false false ft' fr' pt' pr' a b c e g i d h =
     let np : pt' ≡ false = not_true pt' (λ k. neither (e k)) in
-    let nr : pr' ≡ false = not_true pr' (λ k. false_isn't (i k)) in
+    let nr : pr' ≡ false = not_true pr' (λ k. false_is_not_true (i k)) in
     (λ j. cond ft' (Some deny) (cond (not (np j || nr j)) (Some deny) (cond fr' None (cond pt' (Some allow) None))))
     ∙ denied ft'
     ∙ h
-decision_stays false true true pr ft' fr' pt' pr' a b c e g i d h = absurd (none_isn't h)
-decision_stays false true false true ft' fr' pt' pr' a b c e g i d h = absurd (none_isn't h)
+decision_stays false true true pr ft' fr' pt' pr' a b c e g i d h = absurd (none_is_not_some h)
+decision_stays false true false true ft' fr' pt' pr' a b c e g i d h = absurd (none_is_not_some h)
 decision_stays false false true pr ft' fr' pt' pr' a b c e g i d h =
     let nf : ft' ≡ false = not_true ft' (λ k. neither (c k)) in
-    let nr : fr' ≡ false = not_true fr' (λ k. false_isn't (g k)) in
+    let nr : fr' ≡ false = not_true fr' (λ k. false_is_not_true (g k)) in
     (λ j. cond (nf j) (Some deny) (cond (not (b refl j || pr')) (Some deny)
     (cond (nr j) None (cond (b refl j) (Some allow) None)))) ∙ h
-decision_stays false false false true ft' fr' pt' pr' a b c e g i d h = absurd (none_isn't h)
+decision_stays false false false true ft' fr' pt' pr' a b c e g i d h = absurd (none_is_not_some h)
 
 -- ---- lists of rows
 
@@ -324,11 +319,11 @@ module _ (old new : List Row) (kept : AllKeep (Chains.rows_by permit old ++ Chai
       → has_text t (ids (cond (ft || fr) (trues forbid old) (trues permit old))) ≡ true
       → has_text t (ids (cond (ft' || fr') (trues forbid new) (trues permit new))) ≡ true
   must_by t true fr true fr' a b c h = text_stays t forbid h
-  must_by t true fr false fr' a b c h = absurd (false_isn't (a h))
+  must_by t true fr false fr' a b c h = absurd (false_is_not_true (a h))
   must_by t false true true fr' a b c h = text_stays t forbid h
-  must_by t false true false fr' a b c h = absurd (false_isn't (a h))
+  must_by t false true false fr' a b c h = absurd (false_is_not_true (a h))
   must_by t false false true fr' a b c h = absurd (neither (b refl))
-  must_by t false false false true a b c h = absurd (false_isn't (c refl))
+  must_by t false false false true a b c h = absurd (false_is_not_true (c refl))
   must_by t false false false false a b c h = text_stays t permit h
 
   must_stays : Within (ids (Reports.must_determine old)) (ids (Reports.must_determine new))
@@ -346,7 +341,7 @@ module _ (old new : List Row) (kept : AllKeep (Chains.rows_by permit old ++ Chai
       → (has_text t (ids (trues forbid old)) ≡ true) ⊎ (has_text t (ids (residuals forbid old)) ≡ true)
       → has_text t (ids (may ft old)) ≡ true
   may_forbids t true a h = has_append t (trues forbid old) (residuals forbid old) h
-  may_forbids t false a (inl h) = absurd (false_isn't (a h))
+  may_forbids t false a (inl h) = absurd (false_is_not_true (a h))
   may_forbids t false a (inr h) =
       has_append t (trues permit old) (residuals permit old ++ residuals forbid old)
       (inr (has_append t (residuals permit old) (residuals forbid old) (inr h)))
@@ -354,7 +349,7 @@ module _ (old new : List Row) (kept : AllKeep (Chains.rows_by permit old ++ Chai
   may_permits : (t : Text) (ft : Bool) → ft ≡ false
       → (has_text t (ids (trues permit old)) ≡ true) ⊎ (has_text t (ids (residuals permit old)) ≡ true)
       → has_text t (ids (may ft old)) ≡ true
-  may_permits t true a h = absurd (false_isn't (sym a))
+  may_permits t true a h = absurd (false_is_not_true (sym a))
   may_permits t false a (inl h) = has_append t (trues permit old) (residuals permit old ++ residuals forbid old) (inl h)
   may_permits t false a (inr h) =
       has_append t (trues permit old) (residuals permit old ++ residuals forbid old)

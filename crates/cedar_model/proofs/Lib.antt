@@ -1,3 +1,4 @@
+pub mod Injections
 pub mod Resolving
 pub mod MoreLevels
 pub mod Alike

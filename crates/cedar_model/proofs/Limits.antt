@@ -14,6 +14,7 @@ use Rattle.cedar_model.specs.Chains.{ChainStep, Response}
 use Rattle.cedar_model.specs.Authorizations.{HaveNoLimit}
 use Rattle.cedar_model.proofs.Determined.{kind_of_limit}
 use Rattle.cedar_model.proofs.Configured.{configured_by, in_step}
+use Rattle.cedar_model.proofs.Injections.{ok_inj, ok_is_not_err}
 
 -- ---- the test
 
@@ -67,12 +68,6 @@ none_has (e ∷ es) h = (
 
 -- ---- a chain
 
-ok_inj : {A B : Type 0} {x y : A} → ◌≡◌ {A = Result A B} (Ok x) (Ok y) → x ≡ y
-ok_inj e = cc
-
-err_is_not_ok : {A B : Type 0} {x : A} {y : B} → ◌≡◌ {A = Result A B} (Ok x) (Err y) → ⊥
-err_is_not_ok e = cc
-
 module _ (mode : ErrorHandling) (s : Setting) (calls : StoredCalls) (levels : ℕ) where
   abbrev Chain : Response → List ChainStep → Response → Type 0
   Chain = Chains.ChainOf (configured_by calls mode s levels)
@@ -96,7 +91,7 @@ module _ (mode : ErrorHandling) (s : Setting) (calls : StoredCalls) (levels : �
           → (next : Response) × Chains.StepsTo (configured_by calls mode (in_step s step) levels) step.mapping step.store r next
           × Chain next steps last
       on (Ok next) g k = (next, g, k)
-      on (Err e) g k = absurd (err_is_not_ok k)
+      on (Err e) g k = absurd (ok_is_not_err k)
 
       by : (b : Bool) → Chains.has_limit r.errors ≡ b → GoesOn b r step steps last → HaveNoLimit r.errors
           × ((next : Response) × Chains.StepsTo (configured_by calls mode (in_step s step) levels) step.mapping step.store r next

@@ -36,13 +36,14 @@ use Rattle.cedar_model.specs.Depth.{IsNoHigher, IsContextNoHigher, IsWithin, sub
 use Rattle.cedar_model.proofs.Operands as operands
 use Rattle.cedar_model.proofs.Operands.{Facts, AllAnswer, AllPart}
 use Rattle.cedar_model.proofs.Projection.{record_is}
-use Rattle.cedar_model.proofs.RecordParts.{both_first, both_second, some_inj, projectable_part, restricted_part}
+use Rattle.cedar_model.proofs.RecordParts.{both_first, both_second, projectable_part, restricted_part}
 use Rattle.cedar_model.proofs.RecordParts.{part_such}
 use Rattle.cedar_model.proofs.RestrictedAnswers.{reads_nothing, substituted_at_restricted}
 use Rattle.cedar_model.proofs.Resolving as resolving
 use Rattle.cedar_model.proofs.Resolving.{IsStored, each_stored, attribute_is_stored, beside_is_stored}
 use Rattle.cedar_model.proofs.Heights as heights
 use Rattle.cedar_model.proofs.Heights.{sound_known, value_plain, positive, lower}
+use Rattle.cedar_model.proofs.Injections.{some_inj, none_is_not_some}
 
 abbrev AnyFailure : Failure → Type 0
 AnyFailure e = Unit {0}
@@ -874,19 +875,16 @@ module _ (m : Mapping) where
     restricted_low n t a p g =
         runs_low bare calls b within record {
           context_sound = tt;
-          stored_sound = λ e x k q f. absurd (none_is x f);
+          stored_sound = λ e x k q f. absurd (none_is_not_some f);
           mapped_sound = mapped_sound;
           answers_sound = answers_sound;
         } record {
           context_low = tt;
-          stored_low = λ e x k q f. absurd (none_is x f);
+          stored_low = λ e x k q f. absurd (none_is_not_some f);
           mapped_low = mapped_low;
           answers_low = answers_low;
         } (λ d. absurd (isn't_deep d)) n t a (reads_nothing s bare calls refl refl n t a p g)
       where
-        none_is : (x : StoredEntity) → None ≡ Some x → ⊥
-        none_is x e = cc
-
         isn't_deep : shallow ≡ deep → ⊥
         isn't_deep e = cc
 

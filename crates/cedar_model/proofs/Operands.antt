@@ -22,6 +22,7 @@ use Rattle.cedar_model.specs.Settings.{StoredEntity, Setting, missing_entity, pa
 use Rattle.cedar_model.specs.Settings.{not_known, found_in, look_up}
 use Rattle.cedar_model.specs.Agreement.{EachStored}
 use Rattle.cedar_model.specs.Operators
+use Rattle.cedar_model.proofs.Injections.{some_inj}
 
 module _ (V : Represented → Type 0) (R : Term → Type 0) where
   abbrev pub AllPart : PartialValue → Type 0
@@ -173,9 +174,6 @@ module _ (s : Setting) (V0 V : Represented → Type 0) (R : Term → Type 0) (E 
   in_all not_known e w g = h.in_missing e w g
   in_all not_there e w g = expecting_all (entities_of (abstract_value w)) _ _ (entities_all _ _) (λ es. bool_all _)
   in_all (found x) e w g = expecting_all (entities_of (abstract_value w)) _ _ (entities_all _ _) (λ es. bool_all _)
-
-  some_inj : {A : Type 0} {x y : A} → Some x ≡ Some y → x ≡ y
-  some_inj e = cc
 
   -- what is found stands in the store
   found_is : (e : EntityName) (x : StoredEntity) → look_up s.store e ≡ found x → s.store.entity e ≡ Some x

@@ -7,6 +7,7 @@ use Rattle.cedar_model.specs.Terms.{Text, EntityName}
 use Rattle.cedar_model.specs.Outcomes.{escaped}
 use Rattle.cedar_model.specs.Settings.{printed_entity}
 use Rattle.cedar_model.specs.Printing.{unquoted, id_here, with_byte, read_entity}
+use Rattle.cedar_model.proofs.Injections.{false_is_not_true}
 
 -- the id as it prints, after its first quote
 abbrev quoted : Text → Text
@@ -21,11 +22,7 @@ not_colon b e = by (b == 58) refl
 
     by : (c : Bool) → (b == 58) ≡ c → c ≡ false
     by false f = refl
-    by true f = absurd (no (colon (eqb-true b 58 f)))
-      where
-        no : false ≡ true → ⊥
-        no g = cc
-
+    by true f = absurd (false_is_not_true (colon (eqb-true b 58 f)))
 neither_first : (b c : Bool) → (b || c) ≡ false → b ≡ false
 neither_first true c e = e
 neither_first false c e = refl

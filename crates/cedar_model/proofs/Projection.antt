@@ -14,9 +14,7 @@ use Rattle.cedar_model.specs.Meaning
 use Rattle.cedar_model.specs.Operators
 use Rattle.cedar_model.specs.Rules
 use Rattle.cedar_model.specs.Agreement.{no_slots, Fits, FitEachAt}
-
-some_inj : {A : Type 0} {x y : A} → Some x ≡ Some y → x ≡ y
-some_inj e = cc
+use Rattle.cedar_model.proofs.Injections.{some_inj}
 
 and_first : (b c : Bool) → (b && c) ≡ true → b ≡ true
 and_first true c e = refl

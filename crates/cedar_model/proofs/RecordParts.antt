@@ -7,9 +7,7 @@ use Rattle.cedar_model.specs.Outcomes.{text_eq}
 use Rattle.cedar_model.specs.Operators.{term_at}
 use Rattle.cedar_model.specs.Rules.{fields_of_record}
 use Rattle.cedar_model.proofs.Projection.{record_is}
-
-pub some_inj : {A : Type 0} {x y : A} → Some x ≡ Some y → x ≡ y
-some_inj e = cc
+use Rattle.cedar_model.proofs.Injections.{some_inj, none_is_not_some}
 
 pub both_first : (b c : Bool) → (b && c) ≡ true → b ≡ true
 both_first true c e = refl
@@ -19,15 +17,12 @@ pub both_second : (b c : Bool) → (b && c) ≡ true → c ≡ true
 both_second true c e = e
 both_second false c e = absurd (cc)
 
-none_is : (part : Term) → None ≡ Some part → ⊥
-none_is part e = cc
-
 -- a fact of the part under a key, from the fact of each part
 pub part_such : (Such : Term → Type 0) (Each : Fields → Type 0) → ((l : Text) (t : Term) (fs : Fields) →
     Each (one_field l t fs) → Such t × Each fs) → (k : Text) (fs : Fields) (part : Term) → Each fs →
     term_at k fs ≡ Some part → Such part
 unfolding term_at
-part_such Such Each split k no_fields part h e = absurd (none_is part e)
+part_such Such Each split k no_fields part h e = absurd (none_is_not_some e)
 part_such Such Each split k (one_field l t fs) part h e =
     by (text_eq k l) e (split l t fs h).0 (λ f. part_such Such Each split k fs part (split l t fs h).1 f)
   where

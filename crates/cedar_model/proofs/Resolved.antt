@@ -20,6 +20,7 @@ use Rattle.cedar_model.specs.Resolutions
 use Rattle.cedar_model.proofs.Computed.{opened, some_answer}
 use Rattle.cedar_model.proofs.Instanced.{computed_with}
 use Rattle.cedar_model.proofs.Total.{total}
+use Rattle.cedar_model.proofs.Injections.{some_inj, none_is_not_some}
 
 module _ (r : Resolution) (is_partial : Bool) (m : Text → Option Represented) where
   abbrev answer_at : ℕ → Term → Answer
@@ -185,12 +186,6 @@ deepest_only : (f : Text) (vs : List Represented) (p : PartialValue) → Resolut
     → value Resolutions.deepest_set ≡ p
 deepest_only f vs p e = cc
 
-some_inj : {A : Type 0} {x y : A} → Some x ≡ Some y → x ≡ y
-some_inj e = cc
-
-none_is : {A : Type 0} {x : A} → None ≡ Some x → ⊥
-none_is e = cc
-
 -- the one stored part is such
 only_part : (Such : PartialValue → Type 0) → Such (residual Resolutions.nested_residual)
     → EachStored Such (Resolutions.nesting Resolutions.no_context).store
@@ -198,12 +193,12 @@ unfolding part_at
 only_part Such h e x k p f =
     subst (λ z. (part_at k z.attributes ≡ Some p → Such p) × (part_at k z.tags ≡ Some p → Such p)) (some_inj f) (
       by (text_eq k (codes "r")),
-      λ g. absurd (none_is g),
+      λ g. absurd (none_is_not_some g),
     )
   where
     by : (b : Bool) → cond b (Some (residual Resolutions.nested_residual)) None ≡ Some p → Such p
     by true g = subst Such (some_inj g) h
-    by false g = absurd (none_is g)
+    by false g = absurd (none_is_not_some g)
 
 pub residuals_grow : Resolutions.StoredResidualsGrow
 unfolding opened substituted value_for
@@ -211,14 +206,14 @@ residuals_grow = (
   record {
     context_sound = tt;
     stored_sound = only_part IsSoundPart refl;
-    mapped_sound = λ n v e. absurd (none_is e);
+    mapped_sound = λ n v e. absurd (none_is_not_some e);
     answers_sound = λ f vs p e. subst IsSoundPart (deepest_only f vs p e)
         ((tt, tt), (((tt, tt), (((tt, tt), (((tt, tt), (tt, tt)), tt)), tt)), tt));
   },
   record {
     context_low = omega arith;
     stored_low = only_part (λ p. substituted_height (λ n. None) p ≤ 5) (omega arith);
-    mapped_low = λ n v e. absurd (none_is e);
+    mapped_low = λ n v e. absurd (none_is_not_some e);
     answers_low = λ f vs p e. subst (λ q. substituted_height (λ n. None) q ≤ 5) (deepest_only f vs p e) (omega arith);
   },
   refl,
@@ -236,7 +231,7 @@ unsound_grow = (
   record {
     context_sound = refl;
     stored_sound = only_part IsSoundPart refl;
-    mapped_sound = λ n v e. absurd (none_is e);
+    mapped_sound = λ n v e. absurd (none_is_not_some e);
     answers_sound = λ f vs p e. subst IsSoundPart (deepest_only f vs p e)
         ((tt, tt), (((tt, tt), (((tt, tt), (((tt, tt), (tt, tt)), tt)), tt)), tt));
   },

@@ -13,9 +13,7 @@ use Rattle.cedar_model.specs.Settings.{not_known, found_in, look_up}
 use Rattle.cedar_model.specs.Operators
 use Rattle.cedar_model.specs.Rules
 use Rattle.cedar_model.specs.Agreement.{EachStored, IsValue}
-
-some_inj : {A : Type 0} {x y : A} → Some x ≡ Some y → x ≡ y
-some_inj e = cc
+use Rattle.cedar_model.proofs.Injections.{some_inj}
 
 -- ---- where it stands
 

@@ -42,9 +42,7 @@ use Rattle.cedar_model.proofs.StoredMeans
 use Rattle.cedar_model.proofs.Binds
 use Rattle.cedar_model.proofs.Written
 use Rattle.cedar_model.proofs.Projection
-
-some_inj : {A : Type 0} {x y : A} → Some x ≡ Some y → x ≡ y
-some_inj e = cc
+use Rattle.cedar_model.proofs.Injections.{some_inj}
 
 -- an error of a meaning's kind stands for an error
 abbrev Loose : FailureKind → Option AbstractValue → Type 0

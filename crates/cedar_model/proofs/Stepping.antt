@@ -8,6 +8,7 @@ use Rattle.cedar_model.specs.Responses
 use Rattle.cedar_model.specs.Refusals
 use Rattle.cedar_model.specs.Chains
 use Rattle.cedar_model.proofs.Configured.{configured_by}
+use Rattle.cedar_model.proofs.Injections.{ok_inj}
 
 module _ (mode : ErrorHandling) (s : Setting) (calls : Rules.StoredCalls) (levels : ℕ) (m : Chains.Mapping)
     (store : Store)
@@ -25,9 +26,6 @@ module _ (mode : ErrorHandling) (s : Setting) (calls : Rules.StoredCalls) (level
     pub request_is : new.request ≡ Chains.with_context request context
     pub runs : Responses.RunOf mode (Chains.at_step s.extensions s.resolution new.request store m) calls levels
         (Chains.all_residuals old.rows) new.rows new.errors
-
-  ok_inj : {A B : Type 0} {x y : A} → ◌≡◌ {A = Result A B} (Ok x) (Ok y) → x ≡ y
-  ok_inj e = cc
 
   pub taken : Chains.StepsTo (configured_by calls mode s levels) m store old new → Taken
   taken h = by_mode (Chains.is_same_mode mode old.mode) h

@@ -17,9 +17,7 @@ use Rattle.cedar_model.specs.Settings.{look_up}
 use Rattle.cedar_model.specs.Operators
 use Rattle.cedar_model.specs.Agreement.{no_slots, AgreesAt, AgreesWithFound, AgreesWithStore}
 use Rattle.cedar_model.proofs.Resolving.{residual_is}
-
-some_inj : {A : Type 0} {x y : A} → Some x ≡ Some y → x ≡ y
-some_inj e = cc
+use Rattle.cedar_model.proofs.Injections.{some_inj}
 
 entity_is : (v : AbstractValue) (e : EntityName) → entity_of v ≡ Some e → v ≡ plain (entity_literal e)
 unfolding entity_of

@@ -20,6 +20,7 @@ use Rattle.cedar_model.specs.ChainExamples.{an_entity, a_number, empty_context}
 use Rattle.cedar_model.specs.StoredChains
 use Rattle.cedar_model.proofs.Exemplified
 use Rattle.cedar_model.proofs.TwoSteps.{functional, faithful}
+use Rattle.cedar_model.proofs.Injections.{some_inj, none_is_not_some}
 
 -- ---- the responses
 
@@ -194,12 +195,6 @@ ends_shallow = (Ok middle, first_step, (Ok (last shallow), shallow_step, refl))
 
 -- ---- what is stored and mapped
 
-some_inj : {A : Type 0} {x y : A} → Some x ≡ Some y → x ≡ y
-some_inj e = cc
-
-none_is : {A : Type 0} {x : A} → None ≡ Some x → ⊥
-none_is e = cc
-
 -- the one stored part is such
 each_stored : (Such : PartialValue → Type 0) → Such (residual the_set)
     → Agreement.EachStored Such StoredChains.set_store
@@ -212,7 +207,7 @@ each_stored Such h e x k p f = by (entity_eq e some_entity) f
           Exemplified.at_each (λ n q. Such q) StoredChains.set_facts.attributes (h, tt) k p,
           Exemplified.at_each (λ n q. Such q) [] tt k p,
         )
-    by false g = absurd (none_is g)
+    by false g = absurd (none_is_not_some g)
 
 -- so is each value of a map
 each_named : (variable_name : Text) (Such : Text → Represented → Type 0)

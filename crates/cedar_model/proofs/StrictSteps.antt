@@ -16,6 +16,7 @@ use Rattle.cedar_model.specs.ChainExamples.{strict_world, step_by}
 use Rattle.cedar_model.proofs.Exemplified
 use Rattle.cedar_model.proofs.Configured.{configured_by}
 use Rattle.cedar_model.proofs.TwoSteps.{functional, faithful}
+use Rattle.cedar_model.proofs.Injections.{none_is_not_some}
 
 abbrev pub s : Setting
 s = setting_of known_request
@@ -104,11 +105,8 @@ chained = (Ok denied, is_denied, refl)
 
 -- ---- the world
 
-none_is : (x : StoredEntity) → None ≡ Some x → ⊥
-none_is x e = cc
-
 nothing_stored : (Such : PartialValue → Type 0) → Agreement.EachStored Such empty_store
-nothing_stored Such e x k p h = absurd (none_is x h)
+nothing_stored Such e x k p h = absurd (none_is_not_some h)
 
 store_completes : Headline.CompletesStore s.extensions some_functions strict_world empty_store
 unfolding Exemplified.chain_opened

@@ -20,6 +20,7 @@ use Rattle.cedar_model.specs.World.{World, Slots, Extensions, Functions}
 use Rattle.cedar_model.specs.Meaning
 use Rattle.cedar_model.specs.Operators
 use Rattle.cedar_model.specs.Agreement
+use Rattle.cedar_model.proofs.Injections.{some_inj}
 
 -- what is known fits every world
 module _ (ans : Functions) (w : World) where
@@ -121,9 +122,6 @@ module _ (X : Extensions) (ans : Functions) where
   pub set_faithful : (vs : List Represented) → Agreement.AllFaithful X ans vs
       → Agreement.IsFaithful X ans (set_represented (canonical_set vs))
   set_faithful vs f = (IsStrictlyInOrder-canonical_set vs, insert_each_faithful vs no_represented f tt)
-
-  some_inj : {A : Type 0} {x y : A} → Some x ≡ Some y → x ≡ y
-  some_inj e = cc
 
   pub part_faithful : (fs : RepresentedFields) (k : Text) (v : Represented) → Agreement.AreFaithfulAt X ans fs
       → Operators.represented_at k fs ≡ Some v → Agreement.IsFaithful X ans v

@@ -13,12 +13,7 @@ use Rattle.cedar_model.specs.Chains.{Mapping, with_context, SubstitutesTo}
 use Rattle.cedar_model.proofs.Completions.{concrete_parts}
 use Rattle.cedar_reauthorization.specs.Concretizations.{IsWithValues, AfterMap, IsResidualNoHigher}
 use Rattle.cedar_reauthorization.proofs.Contexts.{low_mapped, context_evaluates_nothing}
-
-err_is_not_ok : {A B : Type 0} {x : A} {y : B} → ◌≡◌ {A = Result A B} (Err y) (Ok x) → ⊥
-err_is_not_ok e = cc
-
-some_inj : {A : Type 0} {x y : A} → Some x ≡ Some y → x ≡ y
-some_inj e = cc
+use Rattle.cedar_model.proofs.Injections.{some_inj, err_inj, err_is_not_ok}
 
 -- ---- one part, and then the others
 
@@ -95,9 +90,6 @@ unfolding unless_refused
 unless_it (Ok y) next e h k = k y
 unless_it (Err z) next e h k = λ w. h (ap Err (err_inj w))
   where
-    err_inj : {A B : Type 0} {x y : B} → ◌≡◌ {A = Result A B} (Err x) (Err y) → x ≡ y
-    err_inj e = cc
-
 -- the map evaluates nothing
 request_evaluates_nothing : (m : Mapping) (r : RequestPart) (f : Failure)
     → concrete_request m r ≢ Err (context_fails f)

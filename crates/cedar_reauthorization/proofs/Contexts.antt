@@ -23,18 +23,7 @@ use Rattle.cedar_reauthorization.specs.declared.err.ConcretizationError.{Concret
 use Rattle.cedar_reauthorization.specs.declared.err.ConcretizationError.TheVariants as concretizations
 use Rattle.cedar_reauthorization.specs.Errors.{refusal_of, IsValueRefusal, IsUnwrappedRefusal}
 use Rattle.cedar_reauthorization.specs.Concretizations.{fields_in, IsResidualNoHigher}
-
-some_inj : {A : Type 0} {x y : A} → Some x ≡ Some y → x ≡ y
-some_inj e = cc
-
-ok_inj : {A B : Type 0} {x y : A} → ◌≡◌ {A = Result A B} (Ok x) (Ok y) → x ≡ y
-ok_inj e = cc
-
-err_is_not_ok : {A B : Type 0} {x : A} {y : B} → ◌≡◌ {A = Result A B} (Err y) (Ok x) → ⊥
-err_is_not_ok e = cc
-
-err_inj : {A B : Type 0} {x y : B} → ◌≡◌ {A = Result A B} (Err x) (Err y) → x ≡ y
-err_inj e = cc
+use Rattle.cedar_model.proofs.Injections.{some_inj, ok_inj, err_inj, err_is_not_ok}
 
 fails_inj : {e f : Failure} → context_fails e ≡ context_fails f → e ≡ f
 fails_inj h = cc

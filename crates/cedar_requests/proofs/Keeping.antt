@@ -32,9 +32,7 @@ use Rattle.cedar_requests.specs.declared.context.pairs.ContextPairs.TheVariants 
 use Rattle.cedar_requests.specs.declared.context.pairs.ResidualPairs.{ResidualPairs}
 use Rattle.cedar_requests.specs.Contexts.{context_part_value, pairs_view, residual_fields}
 use Rattle.cedar_requests.specs.Substitutions.{context_answer, CompletesContext, KeepsCompletions}
-
-some_inj : {A : Type 0} {x y : A} → Some x ≡ Some y → x ≡ y
-some_inj e = cc
+use Rattle.cedar_model.proofs.Injections.{some_inj, none_is_not_some}
 
 gives_inj : {u v : AbstractValue} → gives u ≡ gives v → u ≡ v
 gives_inj e = cc
@@ -180,9 +178,6 @@ module _ (x : Extensions) (ans : Functions) (w : World) (fs : Fields) where
   own_bare : IsBare x own
   own_bare = record { no_map = refl; has_extensions = refl }
 
-  none_is : {A : Type 0} {y : A} → None ≡ Some y → ⊥
-  none_is e = cc
-
   own_completes : field_meanings x ans (with_store w nothing_stored) no_slots fs ≡ Ok w.context_record
       → FitEachAt ans (with_store w nothing_stored) fs → IsCompletion ans (with_store w nothing_stored) own
   unfolding found_in
@@ -195,14 +190,14 @@ module _ (x : Extensions) (ans : Functions) (w : World) (fs : Fields) where
         context_agrees = agrees;
       };
       store_agrees = λ e. refl;
-      map_agrees = λ n v e. absurd (none_is e);
+      map_agrees = λ n v e. absurd (none_is_not_some e);
       context_fits = fits;
-      store_fits = λ d y k p e. absurd (none_is e);
+      store_fits = λ d y k p e. absurd (none_is_not_some e);
     };
     values = record {
       context_faithful = tt;
-      store_faithful = λ d y k p e. absurd (none_is e);
-      map_faithful = λ n v e. absurd (none_is e);
+      store_faithful = λ d y k p e. absurd (none_is_not_some e);
+      map_faithful = λ n v e. absurd (none_is_not_some e);
     };
   }
 

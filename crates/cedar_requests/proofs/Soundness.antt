@@ -17,6 +17,7 @@ use Rattle.cedar_requests.specs.declared.request.Request.{Request}
 use Rattle.cedar_requests.specs.Contexts.{pairs_view, context_view}
 use Rattle.cedar_requests.specs.Requests.{context_given, request_view}
 use Rattle.cedar_requests.specs.Substitutions.{values_for}
+use Rattle.cedar_model.proofs.Injections.{some_inj, none_is_not_some}
 
 -- ---- contexts and requests
 
@@ -39,14 +40,8 @@ request_is_sound r = given_context_is_sound r.context
 
 -- ---- maps of values
 
-some_inj : {A : Type 0} {x y : A} → Some x ≡ Some y → x ≡ y
-some_inj e = cc
-
-none_is : {A : Type 0} {y : A} → None ≡ Some y → ⊥
-none_is e = cc
-
 found_is_sound : (o : Option Placed) (v : Represented) → option_map (λ (p : Placed). p.what) o ≡ Some v → IsSound v
-found_is_sound None v h = absurd (none_is h)
+found_is_sound None v h = absurd (none_is_not_some h)
 found_is_sound (Some p) v h = subst IsSound (some_inj h) p.sound
 
 -- each value that a map has for an unknown is sound

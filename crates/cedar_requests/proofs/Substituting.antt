@@ -28,9 +28,7 @@ use Rattle.cedar_requests.specs.declared.context.pairs.ResidualPairs.{ResidualPa
 use Rattle.cedar_requests.specs.Contexts.{context_part_value, pairs_view, residual_fields}
 use Rattle.cedar_requests.specs.Substitutions.{values_for, context_answer, IsSubstituted}
 use Rattle.cedar_requests.specs.Substitutions.{IsSubstitutedWithin}
-
-some_inj : {A : Type 0} {x y : A} → Some x ≡ Some y → x ≡ y
-some_inj e = cc
+use Rattle.cedar_model.proofs.Injections.{some_inj}
 
 -- ---- values of a map are sound, so that the record stays restricted
 
