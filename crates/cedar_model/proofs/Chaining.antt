@@ -1,8 +1,7 @@
 -- The headline, by induction on the steps: each response's request is completed by the world, and what it reports
 -- stands.
-use Rattle.std.specs.Prelude.{◌≡◌, ℕ, List, [], ◌∷◌, Some, None, Result, Ok}
+use Rattle.std.specs.Prelude.{ℕ, List, [], ◌∷◌}
 use Rattle.std.proofs.Common.{sym, subst}
-use Rattle.cedar_model.specs.Values.{Represented}
 use Rattle.cedar_model.specs.World.{World, Functions}
 use Rattle.cedar_model.specs.Policies.{ErrorHandling}
 use Rattle.cedar_model.specs.Settings.{RequestPart, Resolution, Setting, Store}

@@ -1,6 +1,6 @@
 -- Progress: where the map names every unknown, the next request is known, and no policy leaves a residual.
 use Rattle.std.specs.Prelude.{◌≡◌, ℕ, Bool, true, false, cond, ◌&&◌, List, [], ◌∷◌, ◌++◌, map, Option, Some, None}
-use Rattle.std.specs.Prelude.{Result, Ok, Err, is_some, codes}
+use Rattle.std.specs.Prelude.{Ok, Err, is_some, codes}
 use Rattle.std.proofs.Common.{refl, sym, ◌∙◌, subst}
 use Rattle.cedar_model.specs.Terms.{Text, EntityName, ValueType, Term, literal, variable, slot, unknown, if_then_else}
 use Rattle.cedar_model.specs.Terms.{both, either, unary, binary, call, get_attribute, has_attribute, extended_has}

@@ -11,6 +11,10 @@ pub mod Decisions
 pub mod Binds
 pub mod Written
 pub mod Projection
+pub mod SoundAnswers
+pub mod SoundOperands
+pub mod SoundAttributes
+pub mod SoundParts
 pub mod Soundness
 pub mod RecordParts
 pub mod Printed

@@ -24,7 +24,7 @@ use Rattle.cedar_model.specs.Failures.{Failure, FailureKind, of_meaning, of_resi
 use Rattle.cedar_model.specs.Failures.{failure_kind, PartialValue, value, residual, Answer, answers, answers_bool}
 use Rattle.cedar_model.specs.Failures.{fails, wrong_type, limit, part_expression}
 use Rattle.cedar_model.specs.Settings.{Entry, known_entry, unknown_entry, ContextPart, absent_context, known_context}
-use Rattle.cedar_model.specs.Settings.{residual_context, Resolution, shallow, deep, Setting, StoredEntity}
+use Rattle.cedar_model.specs.Settings.{residual_context, Resolution, shallow, deep, Setting}
 use Rattle.cedar_model.specs.Settings.{missing_entity}
 use Rattle.cedar_model.specs.Settings.{type_annotation, entry_part, context_value, variable_part}
 use Rattle.cedar_model.specs.Operators

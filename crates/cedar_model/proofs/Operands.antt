@@ -22,7 +22,6 @@ use Rattle.cedar_model.specs.Settings.{StoredEntity, Setting, missing_entity, pa
 use Rattle.cedar_model.specs.Settings.{not_known, found_in, look_up}
 use Rattle.cedar_model.specs.Agreement.{EachStored}
 use Rattle.cedar_model.specs.Operators
-use Rattle.cedar_model.proofs.Injections.{some_inj}
 
 module _ (V : Represented → Type 0) (R : Term → Type 0) where
   abbrev pub AllPart : PartialValue → Type 0

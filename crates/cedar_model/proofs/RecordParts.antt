@@ -1,5 +1,5 @@
 -- A part of a record: it is projectable or restricted where the record is.
-use Rattle.std.specs.Prelude.{◌≡◌, Bool, true, false, cond, ◌&&◌, Some, None}
+use Rattle.std.specs.Prelude.{◌≡◌, Bool, true, false, cond, ◌&&◌, Some}
 use Rattle.std.proofs.Common.{refl, ap, sym, ◌∙◌, subst}
 use Rattle.cedar_model.specs.Terms.{Text, Term, Fields, no_fields, one_field}
 use Rattle.cedar_model.specs.Shapes.{is_projectable, are_projectable_at, is_restricted, are_restricted_at}

@@ -1,11 +1,11 @@
 -- A chain where an erring forbid counts, and a world that completes it.
-use Rattle.std.specs.Prelude.{◌≡◌, true, false, [], ◌∷◌, Some, None, Ok, codes}
+use Rattle.std.specs.Prelude.{◌≡◌, true, false, [], ◌∷◌, Ok, codes}
 use Rattle.std.proofs.Common.{refl}
 use Rattle.cedar_model.specs.Terms.{bool_literal}
 use Rattle.cedar_model.specs.Values.{plain_represented, abstract_value}
 use Rattle.cedar_model.specs.Failures.{PartialValue}
 use Rattle.cedar_model.specs.Policies.{forbid_on_error}
-use Rattle.cedar_model.specs.Settings.{Setting, StoredEntity}
+use Rattle.cedar_model.specs.Settings.{Setting}
 use Rattle.cedar_model.specs.Agreement
 use Rattle.cedar_model.specs.Chains
 use Rattle.cedar_model.specs.Chains.{Mapping, Response}
