@@ -25,6 +25,9 @@ pub mod Operands
 pub mod PartLimits
 pub mod Reached
 pub mod Heights
+pub mod LowParts
+pub mod LowOperands
+pub mod LowLayers
 pub mod LowAnswers
 pub mod Needs
 pub mod RestrictedAnswers

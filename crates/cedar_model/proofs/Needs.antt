@@ -18,8 +18,9 @@ use Rattle.cedar_model.proofs.RecordParts.{both_first, both_second, restricted_p
 use Rattle.cedar_model.proofs.Heights as heights
 use Rattle.cedar_model.proofs.Heights.{positive}
 use Rattle.cedar_model.proofs.Resolving.{IsStored}
+use Rattle.cedar_model.proofs.LowParts.{LowAnswer, part_of_record}
 use Rattle.cedar_model.proofs.LowAnswers as lows
-use Rattle.cedar_model.proofs.LowAnswers.{part_of_record, runs_low}
+use Rattle.cedar_model.proofs.LowAnswers.{runs_low}
 
 module _ (s : Setting) (calls : Rules.StoredCalls) (answered : FunctionsMeetNoLimit calls) where
   -- ---- restricted expressions
@@ -75,7 +76,7 @@ module _ (s : Setting) (calls : Rules.StoredCalls) (answered : FunctionsMeetNoLi
 
   module _ (b : ℕ) (sound : IsGivenSound calls s) (low : IsNoHigher calls s s.map b) (read : s.resolution ≡ deep →
       (n : ℕ) (t : Term) → IsStored s.store t → (x : Answer) → Rules.Runs s calls n t x →
-      lows.LowAnswer s.map b x) where
+      LowAnswer s.map b x) where
     module _ (n : ℕ) where
       abbrev Below : Term → Type 0
       Below t = (n < height t + b) × LevelsBelow n t
