@@ -27,7 +27,6 @@ use Rattle.cedar_extensions.specs.declared.errors.ExtensionInitializationError.T
 
 first_repeated-append : (seen xs ys : List Text) → first_repeated_after seen (xs ++ ys)
     ≡ option_or (first_repeated_after seen xs) (first_repeated_after (seen ++ xs) ys)
-unfolding first_repeated_after
 first_repeated-append seen [] ys = ap (λ (s : List Text). first_repeated_after s ys) (sym (append-nil seen))
 first_repeated-append seen (x ∷ xs) ys = by (list_any (text_eq x) seen) (first_repeated-append (seen ++ x ∷ []) xs ys)
   where
@@ -60,7 +59,6 @@ module _ {K : Type 0} (eq : K → K → Bool) (text : K → Text) (same : (a b :
 
   none_after : (seen ks : List K) → AllByRecursion (λ k. list_any (eq k) seen ≡ false) ks → IsDistinct eq ks
       → first_repeated_after (map text seen) (map text ks) ≡ None
-  unfolding first_repeated_after
   none_after seen [] h d = refl
   none_after seen (k ∷ ks) h d =
       ap (λ (b : Bool). if b then Some (text k) else first_repeated_after (map text seen ++ text k ∷ []) (map text ks))
@@ -96,7 +94,6 @@ module _ {K : Type 0} (eq : K → K → Bool) (text : K → Text) (same : (a b :
   -- and the text of one more that is equal to one of them does
   pub one_again : (ks : List K) (k x : K) (more : List Text) → IsDistinct eq ks → find (eq k) ks ≡ Some x
       → first_repeated (map text ks ++ text k ∷ more) ≡ Some (text x)
-  unfolding first_repeated_after
   one_again ks k x more d e =
       let f : (list_any (eq k) ks ≡ true) × (text k ≡ text x) = found_same k x ks e in
       first_repeated-append [] (map text ks) (text k ∷ more)

@@ -1,13 +1,12 @@
 -- Policies as plain data.
 use Rattle.std.specs.Prelude.{◌≡◌, Bool, true, false, if◌then◌else◌, List, [], ◌∷◌, ◌++◌, map, Option, None, Some, option_map}
-use Rattle.std.specs.List.{list_any}
 use Rattle.std.specs.Map.{lookup}
 use Rattle.std.specs.Rc.{rc_str_bytes}
 use Rattle.std.specs.declared.hash.BuildHasherDefault.{BuildHasherDefault}
 use Rattle.std.specs.declared.hash.FoldHasher.{FoldHasher}
 use Rattle.std.specs.HashMap.{HashMap}
+pub use Rattle.cedar_model.specs.Refusals.{first_repeated, first_repeated_after}
 use Rattle.cedar_model.specs.Terms.{Text, Slot, principal_slot, resource_slot, literal, bool_literal, Term, both}
-use Rattle.cedar_model.specs.Outcomes.{text_eq}
 use Rattle.cedar_model.specs.World.{Slots}
 use Rattle.cedar_model.specs.Policies as model
 use Rattle.cedar_model.specs.Agreement.{no_slots}
@@ -146,15 +145,6 @@ pub record IsCondition (p : ConditionParts) (l : Option Loc) (e : Expr) : Type 0
 -- the ids of policies, in order
 abbrev pub policy_ids : List PolicyView → List Text
 policy_ids ps = map (λ p. p.id) ps
-
--- the first text of a list that comes again, or that is among those seen before
-abbrev pub first_repeated_after : List Text → List Text → Option Text
-first_repeated_after seen [] = None
-first_repeated_after seen (t ∷ ts) = if list_any (text_eq t) seen then Some t else first_repeated_after (seen ++ t ∷ []) ts
-
--- the first text of a list that comes again
-abbrev pub first_repeated : List Text → Option Text
-first_repeated ts = first_repeated_after [] ts
 
 -- the first id of policies that comes again
 abbrev pub first_repeated_id : List Policy → Option Text

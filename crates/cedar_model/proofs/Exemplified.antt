@@ -26,7 +26,7 @@ unfoldable pub chain_opened : Unit {0}
 unfolding meaning_opened Responses.reported_of Responses.decided Responses.decided_bool Responses.error_of
     Responses.with_error Responses.clause_of Chains.value_for Chains.substituted Chains.rows_of Chains.has_effect
     Chains.is_true Chains.is_false Chains.is_residual Chains.is_limit Chains.has_limit Chains.is_same_mode
-    Responses.counted_report Policies.counted_verdict Refusals.first_repeated_after Refusals.typed_entry
+    Responses.counted_report Policies.counted_verdict Refusals.typed_entry
     Refusals.entry_beside Refusals.entry_by Refusals.concrete_entry Refusals.context_beside Refusals.context_by
     Refusals.concrete_context Refusals.unless_refused Reports.some_row Reports.is_errored Reports.policy_with_id
     Policies.verdict Policies.is_satisfied_by Policies.some_satisfied Policies.satisfied_ids

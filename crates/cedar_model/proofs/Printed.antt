@@ -23,6 +23,7 @@ not_colon b e = by (b == 58) refl
     by : (c : Bool) → (b == 58) ≡ c → c ≡ false
     by false f = refl
     by true f = absurd (false_is_not_true (colon (eqb-true b 58 f)))
+
 neither_first : (b c : Bool) → (b || c) ≡ false → b ≡ false
 neither_first true c e = e
 neither_first false c e = refl

@@ -25,7 +25,8 @@ pub data Refusal : Type 0 where
 
 -- ---- ids
 
-unfoldable pub first_repeated_after : List Text → List Text → Option Text
+-- the first text of a list that comes again, or that is among those seen before
+abbrev pub first_repeated_after : List Text → List Text → Option Text
 first_repeated_after seen [] = None
 first_repeated_after seen (t ∷ ts) =
     if list_any (text_eq t) seen then Some t else first_repeated_after (seen ++ t ∷ []) ts

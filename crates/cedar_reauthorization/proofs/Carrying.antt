@@ -21,22 +21,16 @@ use Rattle.cedar_reauthorization.specs.Policies.{unless_repeated, all_once}
 
 -- ---- ids
 
-same_repeated : (seen ts : List Text) → steps.first_repeated_after seen ts ≡ first_repeated_after seen ts
-unfolding steps.first_repeated_after
-same_repeated seen [] = refl
-same_repeated seen (t ∷ ts) =
-    ap (λ (o : Option Text). if list_any (text_eq t) seen then Some t else o) (same_repeated (seen ++ t ∷ []) ts)
-
 same_ids : (ps : List PolicyView) → map (λ (p : model.Policy). p.id) (map decides_as ps) ≡ policy_ids ps
 same_ids [] = refl
 same_ids (p ∷ ps) = ap (λ ts. p.id ∷ ts) (same_ids ps)
 
 -- the first id that comes again among policies is so among these, as far as they decide
 pub repeated_id : (ps : List PolicyView) (qs : List model.Policy) → map decides_as ps ≡ qs
-    → steps.first_repeated (map (λ (p : model.Policy). p.id) qs) ≡ first_repeated (policy_ids ps)
+    → first_repeated (map (λ (p : model.Policy). p.id) qs) ≡ first_repeated (policy_ids ps)
 repeated_id ps qs e =
-    ap (λ (l : List model.Policy). steps.first_repeated (map (λ (p : model.Policy). p.id) l)) (sym e)
-    ∙ same_repeated [] _ ∙ ap first_repeated (same_ids ps)
+    ap (λ (l : List model.Policy). first_repeated (map (λ (p : model.Policy). p.id) l)) (sym e)
+    ∙ ap first_repeated (same_ids ps)
 
 -- ---- policies
 
