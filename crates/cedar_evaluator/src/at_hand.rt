@@ -11,7 +11,7 @@ ghost use Rattle.cedar_evaluator.specs.Known.{known_for, known_view, within, IsK
 
 use cedar_layers::expressions::{EntityUID, PartialValue, Var};
 use cedar_layers::policies::{Dereference, Entities, Entity};
-use cedar_operators::typed::entity_in;
+use cedar_values::entity_in;
 use std::alloc::{AllocError, Global};
 
 // What is known of an entity.

@@ -18,11 +18,11 @@ ghost use Rattle.cedar_operators.specs.StoredResiduals.{next_in, next_found, val
 
 use crate::attributes::{Container, container_in};
 use crate::residuals::path;
-use crate::typed::{entity_in, text_in};
 use cedar_layers::expressions::{
     BinaryOp, EntityUID, Expr, FirstRest, PartialValue, ResidualExpr, Value,
 };
 use cedar_layers::policies::Entities;
+use cedar_values::{entity_in, text_in};
 use std::alloc::{AllocError, Global};
 use std::rc::{Rc, RcStr};
 

@@ -18,6 +18,7 @@ ghost use Rattle.cedar_errors.specs.Answers.{value_answer, partial_answer, Fails
 use crate::failures::{entity_expected, type_error};
 use cedar_errors::evaluator::err::EvaluationError;
 use cedar_layers::expressions::{EntityUID, Literal, PartialValue, Set, Type, Value, ValueKind};
+use cedar_values::{entity_in, text_in};
 use std::alloc::Global;
 use std::rc::{Rc, RcStr};
 
@@ -138,24 +139,6 @@ pub(crate) fn get_as_string(alloc: Global, value: &Value) -> Result<&RcStr, Eval
     }
 }
 
-#[tactic(auto, unfolding(cedar_model::specs::Outcomes::text_of))]
-#[inline(always)]
-pub(crate) fn text_in(value: &Value) -> Option<&RcStr>
-    ensures { option_map rc_str_bytes (option_copied result) ≡ text_of (abstract_value value.now.what) }
-{
-    match value.value_kind() {
-        ValueKind::Lit(literal) => match literal {
-            Literal::Bool(_) => None,
-            Literal::Long(_) => None,
-            Literal::String(x) => Some(x),
-            Literal::EntityUID(_) => None,
-        },
-        ValueKind::Set(_) => None,
-        ValueKind::Record(_) => None,
-        ValueKind::ExtensionValue(_) => None,
-    }
-}
-
 // The entity, or a type error that expects one.
 #[tactic(auto, unfolding(cedar_model::specs::Outcomes::entity_of))]
 #[inline(always)]
@@ -168,26 +151,6 @@ pub(crate) fn get_as_entity(alloc: Global, value: &Value) -> Result<&Rc<EntityUI
     match entity_in(value) {
         Some(x) => Ok(x),
         None => Err(entity_expected(alloc, value)),
-    }
-}
-
-/// The entity, if the value is one.
-#[tactic(auto, unfolding(cedar_model::specs::Outcomes::entity_of))]
-#[inline(always)]
-pub fn entity_in(value: &Value) -> Option<&Rc<EntityUID>>
-    ensures { option_map (λ (u : Rc EntityUID Global). uid_name u.value) (option_copied result) ≡ entity_of
-        (abstract_value value.now.what) }
-{
-    match value.value_kind() {
-        ValueKind::Lit(literal) => match literal {
-            Literal::Bool(_) => None,
-            Literal::Long(_) => None,
-            Literal::String(_) => None,
-            Literal::EntityUID(x) => Some(x),
-        },
-        ValueKind::Set(_) => None,
-        ValueKind::Record(_) => None,
-        ValueKind::ExtensionValue(_) => None,
     }
 }
 

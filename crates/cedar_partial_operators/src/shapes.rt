@@ -9,7 +9,7 @@ ghost use Rattle.cedar_expressions.specs.View.{view, fields_view};
 ghost use Rattle.cedar_values.specs.Residuals.{partial_view};
 
 use cedar_layers::expressions::{EntityType, Expr, ExprKind, PartialValue, Type, Unknown};
-use cedar_operators::typed::entity_in;
+use cedar_values::entity_in;
 use std::collections::BTreeMap;
 use std::rc::RcStr;
 

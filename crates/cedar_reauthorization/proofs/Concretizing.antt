@@ -89,7 +89,7 @@ unless_it : {A B : Type 0} (x : Result A Refusal) (next : A → Result B Refusal
 unfolding unless_refused
 unless_it (Ok y) next e h k = k y
 unless_it (Err z) next e h k = λ w. h (ap Err (err_inj w))
-  where
+
 -- the map evaluates nothing
 request_evaluates_nothing : (m : Mapping) (r : RequestPart) (f : Failure)
     → concrete_request m r ≢ Err (context_fails f)

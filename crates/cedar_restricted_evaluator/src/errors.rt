@@ -1,4 +1,4 @@
-//! Errors of an evaluation: where they are put, the one of a residual that is left, and those that end all.
+//! Errors of an evaluation: the one of a residual that is left, and those that end all.
 ghost use Rattle.std.specs.Prelude.{◌≡◌};
 ghost use Rattle.cedar_model.specs.Failures.{residual_is_left};
 ghost use Rattle.cedar_values.specs.Residuals.{residual_term};
@@ -9,18 +9,6 @@ use cedar_errors::evaluator::err::{EvaluationError, evaluation_errors};
 use cedar_names::Loc;
 use cedar_values::ResidualExpr;
 use evaluation_errors::NonValueError;
-
-// The error, at this location if it has none.
-#[inline(always)]
-pub(crate) fn with_enclosing_loc(error: EvaluationError, loc: Option<Loc>) -> EvaluationError
-    ensures { failure_of result ≡ failure_of error }
-{
-    if error.source_loc().is_none() {
-        error.with_maybe_source_loc(loc)
-    } else {
-        error
-    }
-}
 
 // The error that this residual is left, at the residual's location.
 #[cold]

@@ -9,7 +9,7 @@ ghost use Rattle.cedar_restricted_evaluator.specs.Frames.{Waits, IsRight, left_o
 ghost use Rattle.cedar_restricted_evaluator.specs.Elements.{AnswerStands, FrameStands, ended_stands};
 ghost use Rattle.cedar_restricted_evaluator.specs.Laws.{right_limit, right_want, right_upward, limit_ends, some_left, some_most};
 
-use crate::errors::{is_final, with_enclosing_loc};
+use crate::errors::is_final;
 use crate::parts::{NextPart, PartsFrame};
 use cedar_errors::evaluator::err::{EvaluationError, evaluation_errors};
 use cedar_expressions::{Expr, ExprKind};
@@ -114,7 +114,7 @@ impl<'x, 'f> Restricted<'x, 'f> {
         let mut stack = Stack::new(alloc, limit);
         match interpret_on(self, alloc, &mut stack, expr) {
             Ok(answer) => Ok(answer),
-            Err(error) => Err(with_enclosing_loc(error, last_loc(stack.frames()))),
+            Err(error) => Err(error.with_enclosing_loc(last_loc(stack.frames()))),
         }
     }
 }

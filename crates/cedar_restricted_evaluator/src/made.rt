@@ -114,8 +114,12 @@ fn called(
     }
 }
 
-// The record of these values under these keys.
-fn record_value(alloc: Global, keys: Vec<RcStr>, values: Vec<Value>) -> Result<Value, AllocError>
+/// The record of these values under these keys. Refuses only for want of memory.
+pub fn record_value(
+    alloc: Global,
+    keys: Vec<RcStr>,
+    values: Vec<Value>,
+) -> Result<Value, AllocError>
     requires { (length keys.items ≡ length values.items) × IsStrictlySortedBy key_order keys.items }
     ensures { IfOk result
         (λ v. v.what ≡ record_represented (represented_fields_of (under (texts_of keys.items) (whats values.items)))) }

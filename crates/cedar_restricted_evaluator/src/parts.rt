@@ -7,7 +7,6 @@ ghost use Rattle.cedar_restricted_evaluator.specs.Parts.{HasKeys, HasKeys-prop, 
 ghost use Rattle.cedar_restricted_evaluator.specs.declared.whole.Whole.TheVariants as wholes;
 
 use crate::answers::Answers;
-use crate::errors::with_enclosing_loc;
 use crate::literals::answers_with;
 use crate::made::whole_of;
 use crate::whole::Whole;
@@ -148,7 +147,7 @@ impl PartsFrame {
             Err(error) => {
                 let place = self.loc;
                 drop(self);
-                Step::Done(Err(with_enclosing_loc(error, place)))
+                Step::Done(Err(error.with_enclosing_loc(place)))
             }
         }
     }
@@ -189,7 +188,7 @@ impl PartsFrame {
         } else {
             match whole_of(alloc, extensions, whole, answers) {
                 Ok(answer) => Step::Done(Ok(answer.with_maybe_source_loc(loc))),
-                Err(error) => Step::Done(Err(with_enclosing_loc(error, loc))),
+                Err(error) => Step::Done(Err(error.with_enclosing_loc(loc))),
             }
         }
     }

@@ -7,4 +7,4 @@ mod value;
 
 pub use extension_value::{ExtensionValue, Representation};
 pub use partial_value::{PartialValue, ResidualExpr};
-pub use value::{Set, Value, ValueKind};
+pub use value::{Set, Value, ValueKind, entity_in, text_in};

@@ -4,12 +4,14 @@ ghost use Rattle.std.specs.Prelude.{◌≡◌};
 mod hashes;
 mod literals;
 mod order;
+mod readers;
 mod sets;
 mod texts;
 mod written;
 
 use crate::extension_value::ExtensionValue;
 use cedar_names::{Literal, Loc, Type};
+pub use readers::{entity_in, text_in};
 use std::alloc::{AllocError, Global};
 use std::collections::BTreeMap;
 use std::marker::Model;

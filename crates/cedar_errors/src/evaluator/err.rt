@@ -125,6 +125,18 @@ impl EvaluationError {
         }
     }
 
+    /// The same error, at this location if it has none.
+    #[inline(always)]
+    pub fn with_enclosing_loc(self, loc: Option<Loc>) -> EvaluationError
+        ensures { failure_of result ≡ failure_of self }
+    {
+        if self.source_loc().is_none() {
+            self.with_maybe_source_loc(loc)
+        } else {
+            self
+        }
+    }
+
     /// The same error at this location, or at no known location.
     pub fn with_maybe_source_loc(self, source_loc: Option<Loc>) -> EvaluationError
         ensures { result ≡ error_at self source_loc }

@@ -17,9 +17,9 @@ ghost use Rattle.cedar_reauthorization.specs.Concretizations.{concrete_loc};
 use super::refusals::{is_there_already, type_is_other, value_is_wrong};
 use super::value_for;
 use crate::err::ConcretizationError;
-use cedar_names::{EntityType, EntityUID, Literal, Var};
+use cedar_names::{EntityType, EntityUID, Var};
 use cedar_requests::EntityUIDEntry;
-use cedar_values::{Value, ValueKind};
+use cedar_values::{Value, entity_in};
 use std::alloc::Global;
 use std::collections::HashMap;
 use std::rc::{Rc, RcStr};
@@ -117,23 +117,4 @@ fn is_same_type(a: &EntityType, b: &EntityType) -> bool
     ensures { result ≡ text_eq (type_text a.now) (type_text b.now) }
 {
     a == b
-}
-
-// The entity, if the value is one.
-#[tactic(auto, unfolding(cedar_model::specs::Outcomes::entity_of))]
-fn entity_in(value: &Value) -> Option<&Rc<EntityUID>>
-    ensures { option_map (λ (u : Rc EntityUID Global). uid_name u.value) (option_copied result)
-        ≡ entity_of (abstract_value value.now.what) }
-{
-    match value.value_kind() {
-        ValueKind::Lit(literal) => match literal {
-            Literal::Bool(_) => None,
-            Literal::Long(_) => None,
-            Literal::String(_) => None,
-            Literal::EntityUID(x) => Some(x),
-        },
-        ValueKind::Set(_) => None,
-        ValueKind::Record(_) => None,
-        ValueKind::ExtensionValue(_) => None,
-    }
 }
