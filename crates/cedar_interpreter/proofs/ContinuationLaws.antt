@@ -97,7 +97,7 @@ parts_failure_in e levels w f x n gives = (
 
 pub parts_lead_in : {X : Type 0} {F : X → Type 0} {g : _} (e : Evaluation X F g) (levels : ℕ) (w : SharedExpr)
     (f : Box PartsFrame Global) (p : PartialValue) (x : NextPart) (n : Next) →
-    restricted.GoesOn (extensions_view e.given.now.extensions.now) (calls_in e) f.value (Ok p) x →
+    restricted.ContinuesParts (extensions_view e.given.now.extensions.now) (calls_in e) f.value (Ok p) x →
     IsTaken (expr_loc w.value) x n → LeadsIn e levels w (tasks.Parts f) (answers (partial_view p)) n
 parts_lead_in e levels w f p x n goes taken = (
   λ r k speaks low. parts_lead (evaluation_setting r e) (calls_in e) k (expr_loc w.value) f p x n goes taken,

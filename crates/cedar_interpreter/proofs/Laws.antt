@@ -244,7 +244,7 @@ module _ (s : Setting) (calls : StoredCalls) (k : ℕ) (l : Option Loc) where
   pub limit_leads : (task : Task) → Leads s calls k l task limit (Done (Err stops.Limit))
   limit_leads task t c waits meets = (λ ok. limit_upward calls s k task t c waits (meets limit_no_want), tt)
 
-  pub parts_lead : (f : Box PartsFrame Global) (p : PartialValue) (x : NextPart) (n : Next) → restricted.GoesOn s.extensions calls f.value (Ok p) x → IsTaken l x n → Leads s calls k l (tasks.Parts f) (answers (partial_view p)) n
+  pub parts_lead : (f : Box PartsFrame Global) (p : PartialValue) (x : NextPart) (n : Next) → restricted.ContinuesParts s.extensions calls f.value (Ok p) x → IsTaken l x n → Leads s calls k l (tasks.Parts f) (answers (partial_view p)) n
   parts_lead f p x n goes taken t c waits meets = parts_continue s calls k t l f.value c waits p x n (meets (no_fail (partial_view p) out_of_memory)) goes taken
 
   pub failed_leads : (f : Box PartsFrame Global) (e : model.Failure) (n : Next) → Gives l n (fails e) → Leads s calls k l (tasks.Parts f) (fails e) n

@@ -22,7 +22,7 @@ use Rattle.cedar_restricted_evaluator.specs.Evaluations.{partial_answer}
 use Rattle.cedar_restricted_evaluator.specs.Parts as shapes
 use Rattle.cedar_restricted_evaluator.specs.Parts.{whole_term, HasKeys, count, Are}
 use Rattle.cedar_restricted_evaluator.specs.Frames as restricted
-use Rattle.cedar_restricted_evaluator.specs.Frames.{NextPart, Reads, Continued, GoesOn, HasRead, parts_left, left_of}
+use Rattle.cedar_restricted_evaluator.specs.Frames.{NextPart, Reads, Continued, ContinuesParts, HasRead, parts_left, left_of}
 use Rattle.cedar_restricted_evaluator.specs.Laws.{goes_on_fewer, grown_read, literal_runs}
 use Rattle.cedar_restricted_evaluator.specs.Steps.{so_far_none, so_far_all, whole_answers, none_left}
 use Rattle.cedar_interpreter.specs.declared.frame.Task.TheVariants as tasks
@@ -72,7 +72,7 @@ module _ (s : Setting) (calls : StoredCalls) (k : ℕ) (t : Term) (here : Option
       ([], none, subst (λ n. shapes.SoFar May (terms_view ps.value.items) (terms_view (drop n ps.value.items)) []) (sym zero_count) (so_far_none May (terms_view ps.value.items)))
 
   -- an expression that starts
-  pub parts_start : (loc : Option Loc) (x : NextPart) (n : Next) → restricted.Begins s.extensions calls t loc x → IsTaken here x n → Starts s calls k here t n
+  pub parts_start : (loc : Option Loc) (x : NextPart) (n : Next) → restricted.StartsParts s.extensions calls t loc x → IsTaken here x n → Starts s calls k here t n
   parts_start loc (Wait f c) n b taken =
       reads_right b.whole b.parts b.answers loc (Wait f c) n b.term b.keys (begun_read b.parts b.answers b.none.0 b.none.1) b.reads taken
   parts_start loc (Done r) (Done o) (b, l) taken = (
@@ -90,7 +90,7 @@ module _ (s : Setting) (calls : StoredCalls) (k : ℕ) (t : Term) (here : Option
         reads_right f.whole f.parts h.answers f.loc x n w.term f.keys read h.reads taken
 
     -- with the answer of the next part
-    pub parts_continue : (p : PartialValue) (x : NextPart) (n : Next) → Runs s calls k c (answers (partial_view p)) → GoesOn s.extensions calls f (Ok p) x → IsTaken here x n → Starts s calls k here t n
+    pub parts_continue : (p : PartialValue) (x : NextPart) (n : Next) → Runs s calls k c (answers (partial_view p)) → ContinuesParts s.extensions calls f (Ok p) x → IsTaken here x n → Starts s calls k here t n
     parts_continue p (Wait g d) n gives h taken = continued p (Wait g d) n gives h taken
     parts_continue p (Done r) (Done o) gives (h, l) (taken, place) =
         (λ ok. (continued p (Done r) (Done o) gives (h (λ i. ok (taken ok ∙ i))) (taken, place)).0 ok, place)
@@ -101,7 +101,7 @@ taken_fewer f h c (tasks.Parts g) d fewer (same, part) = subst (λ y. left_of y 
 taken_fewer f h c (tasks.Other p) d fewer taken = absurd taken
 
 -- a frame that waits again has fewer parts left
-pub parts_fewer : (X : world.Extensions) (calls : StoredCalls) (l : Option Loc) (f : Box PartsFrame Global) (p : PartialValue) (x : NextPart) (n : Next) → GoesOn X calls f.value (Ok p) x → IsTaken l x n → LeftFewer (tasks.Parts f) n
+pub parts_fewer : (X : world.Extensions) (calls : StoredCalls) (l : Option Loc) (f : Box PartsFrame Global) (p : PartialValue) (x : NextPart) (n : Next) → ContinuesParts X calls f.value (Ok p) x → IsTaken l x n → LeftFewer (tasks.Parts f) n
 parts_fewer X calls l f p (Wait h c) (Wait g d) goes (taken, place) =
     taken_fewer f.value h c g.task d.value (goes_on_fewer X calls f.value (Ok p) (Wait h c) goes) taken
 parts_fewer X calls l f p (Wait h c) (Done o) goes taken = tt

@@ -25,7 +25,7 @@ use Rattle.cedar_restricted_evaluator.specs.declared.whole.Whole.TheVariants as 
 use Rattle.cedar_restricted_evaluator.specs.Parts.{count, Are}
 use Rattle.cedar_restricted_evaluator.specs.Literals.{IsOfLiteral, AreOfLiterals, AreBehind}
 use Rattle.cedar_restricted_evaluator.specs.Evaluations.{ends_all}
-use Rattle.cedar_restricted_evaluator.specs.Frames.{NextPart, IsRight, Waits}
+use Rattle.cedar_restricted_evaluator.specs.Frames.{NextPart, IsRight, WaitsForParts}
 
 -- ---- elements
 
@@ -255,8 +255,8 @@ ended_stands t (Err e) ends = λ n. tt
 
 -- a step that leads to right answers, and whose elements stand
 pub both_lead : (x : world.Extensions) (calls : StoredCalls) (k : ℕ) (t : Expr) (s : NextPart) →
-    Resumes (IsRight x calls) (Waits x calls) k t s → StepStands t s →
-    Resumes (λ j e r. IsRight x calls j e r × AnswerStands e r) (λ j f e c. Waits x calls j f e c × FrameStands f e c) k t s
+    Resumes (IsRight x calls) (WaitsForParts x calls) k t s → StepStands t s →
+    Resumes (λ j e r. IsRight x calls j e r × AnswerStands e r) (λ j f e c. WaitsForParts x calls j f e c × FrameStands f e c) k t s
 both_lead x calls k t (Done r) right stands = (right, set_answered t r stands)
 both_lead x calls k t (Wait f c) waits stands = (waits, stands)
 

@@ -67,9 +67,9 @@ pub record Begun (x : world.Extensions) (calls : StoredCalls) (t : Term) (loc : 
   pub reads : Reads x calls whole parts answers loc s
 
 -- unless memory is wanting
-abbrev pub Begins : world.Extensions → StoredCalls → Term → Option Loc → NextPart → Type 0
-Begins x calls t loc (Wait f c) = Begun x calls t loc (Wait f c)
-Begins x calls t loc (Done r) = (partial_answer r ≢ fails out_of_memory → Begun x calls t loc (Done r)) ×
+abbrev pub StartsParts : world.Extensions → StoredCalls → Term → Option Loc → NextPart → Type 0
+StartsParts x calls t loc (Wait f c) = Begun x calls t loc (Wait f c)
+StartsParts x calls t loc (Done r) = (partial_answer r ≢ fails out_of_memory → Begun x calls t loc (Done r)) ×
     IfOk r (λ p. partial_loc p ≡ loc)
 
 -- with one more answer, and those of the literals that follow its part, which are their values
@@ -84,13 +84,13 @@ pub record Continued (x : world.Extensions) (calls : StoredCalls) (f : PartsFram
   pub reads : Reads x calls f.whole f.parts answers f.loc s
 
 -- with the next answer: the next part, or the whole, unless memory is wanting; an error is the whole's
-abbrev pub GoesOn : world.Extensions → StoredCalls → PartsFrame → Result PartialValue EvaluationError → NextPart →
+abbrev pub ContinuesParts : world.Extensions → StoredCalls → PartsFrame → Result PartialValue EvaluationError → NextPart →
     Type 0
-GoesOn x calls f (Ok p) (Wait g c) = Continued x calls f p (Wait g c)
-GoesOn x calls f (Ok p) (Done r) = (partial_answer r ≢ fails out_of_memory → Continued x calls f p (Done r)) ×
+ContinuesParts x calls f (Ok p) (Wait g c) = Continued x calls f p (Wait g c)
+ContinuesParts x calls f (Ok p) (Done r) = (partial_answer r ≢ fails out_of_memory → Continued x calls f p (Done r)) ×
     IfOk r (λ q. partial_loc q ≡ f.loc)
-GoesOn x calls f (Err e) (Wait g c) = ⊥
-GoesOn x calls f (Err e) (Done r) = partial_answer r ≡ fails (failure_of e)
+ContinuesParts x calls f (Err e) (Wait g c) = ⊥
+ContinuesParts x calls f (Err e) (Done r) = partial_answer r ≡ fails (failure_of e)
 
 -- ---- right answers
 
@@ -101,7 +101,7 @@ HasRead May parts answers =
     SoFar May (terms_view parts.value.items) (parts_left parts answers) ps
 
 -- in the frame the expression waits for its part, where parts have so many levels
-pub record Waits (x : world.Extensions) (calls : StoredCalls) (k : ℕ) (f : PartsFrame) (t c : Expr) : Type 0 where
+pub record WaitsForParts (x : world.Extensions) (calls : StoredCalls) (k : ℕ) (f : PartsFrame) (t c : Expr) : Type 0 where
   pub term : whole_term f.whole (terms_view f.parts.value.items) ≡ view t
   pub place : f.loc ≡ expr_loc t
   pub next : IsNext f.parts f.answers c
@@ -115,7 +115,7 @@ pub record IsRight (x : world.Extensions) (calls : StoredCalls) (k : ℕ) (t : E
 
 -- the next step of an expression leads to right answers
 abbrev pub Leads : world.Extensions → StoredCalls → ℕ → Expr → NextPart → Type 0
-Leads x calls k t s = Resumes (IsRight x calls) (Waits x calls) k t s
+Leads x calls k t s = Resumes (IsRight x calls) (WaitsForParts x calls) k t s
 
 -- how many parts have not answered yet, the one that the frame waits for included
 abbrev pub left_of : PartsFrame → ℕ

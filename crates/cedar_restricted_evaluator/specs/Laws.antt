@@ -27,7 +27,7 @@ use Rattle.cedar_restricted_evaluator.specs.Evaluations.{partial_answer, Answers
 use Rattle.cedar_restricted_evaluator.specs.Evaluations.{want_error}
 use Rattle.cedar_restricted_evaluator.specs.Parts as shapes
 use Rattle.cedar_restricted_evaluator.specs.Parts.{whole_term, HasKeys, count, Are, Makes}
-use Rattle.cedar_restricted_evaluator.specs.Frames.{NextPart, Reads, Begun, Begins, Continued, GoesOn, HasRead, IsNext, Waits}
+use Rattle.cedar_restricted_evaluator.specs.Frames.{NextPart, Reads, Begun, StartsParts, Continued, ContinuesParts, HasRead, IsNext, WaitsForParts}
 use Rattle.cedar_restricted_evaluator.specs.Frames.{IsRight, left_of, parts_left, parts_behind}
 use Rattle.cedar_restricted_evaluator.specs.Frames as frames
 use Rattle.cedar_restricted_evaluator.specs.Literals.{literals_then, literal_answers, AreBehind, Behind, behind}
@@ -50,7 +50,7 @@ module _ (x : world.Extensions) (calls : StoredCalls) (k : ℕ) (t : Expr) where
       whole_term whole (terms_view parts.value.items) ≡ view t → HasKeys whole (length parts.value.items) → loc ≡
       expr_loc t →
       (is_restricted (view t) ≡ true → HasRead (Runs (bare x) calls k) parts a) → Reads x calls whole parts a loc s →
-      Resumes (IsRight x calls) (Waits x calls) k t s
+      Resumes (IsRight x calls) (WaitsForParts x calls) k t s
   reads_right whole parts a loc (Wait f c) term keys place read (w, p, b, l, n) = record {
     term = ap (λ y. whole_term y (terms_view f.parts.value.items)) w ∙
         ap (λ y. whole_term whole (terms_view y.value.items)) p ∙ term;
@@ -88,14 +88,14 @@ module _ (x : world.Extensions) (calls : StoredCalls) (k : ℕ) (t : Expr) where
   )
 
   begun_right : (loc : Option Loc) (s : NextPart) → loc ≡ expr_loc t → Begun x calls (view t) loc s →
-      Resumes (IsRight x calls) (Waits x calls) k t s
+      Resumes (IsRight x calls) (WaitsForParts x calls) k t s
   begun_right loc s place b =
       reads_right b.whole b.parts b.answers loc s b.term b.keys place
       (λ is_r. begun_read b.parts b.answers b.none.0 b.none.1) b.reads
 
   -- an expression that begins
-  pub begins_right : (loc : Option Loc) (s : NextPart) → loc ≡ expr_loc t → Begins x calls (view t) loc s →
-      Resumes (IsRight x calls) (Waits x calls) k t s
+  pub begins_right : (loc : Option Loc) (s : NextPart) → loc ≡ expr_loc t → StartsParts x calls (view t) loc s →
+      Resumes (IsRight x calls) (WaitsForParts x calls) k t s
   begins_right loc (Wait f c) place b = begun_right loc (Wait f c) place b
   begins_right loc (Done r) place (b, l) = record {
     answer = λ is_r ok. (begun_right loc (Done r) place (b ok)).answer is_r ok;
@@ -138,7 +138,7 @@ IsRightFailure x calls k c e =
     is_restricted (view c) ≡ true → fails e ≢ fails out_of_memory → Runs (bare x) calls k (view c) (fails e)
 
 module _ (x : world.Extensions) (calls : StoredCalls) (k : ℕ) (f : PartsFrame) (t c : Expr)
-    (w : Waits x calls k f t c) where
+    (w : WaitsForParts x calls k f t c) where
   part_restricted : is_restricted (view t) ≡ true → is_restricted (view c) ≡ true
   part_restricted is_r =
       let items = f.parts.value.items in
@@ -174,13 +174,13 @@ module _ (x : world.Extensions) (calls : StoredCalls) (k : ℕ) (f : PartsFrame)
       (literal_runs (bare x) calls k (view c) (partial_view p) gives) (w.read is_r) w.next.1 gives more
 
   continued_right : (p : PartialValue) (s : NextPart) → IsRight x calls k c (Ok p) → Continued x calls f p s →
-      Resumes (IsRight x calls) (Waits x calls) k t s
+      Resumes (IsRight x calls) (WaitsForParts x calls) k t s
   continued_right p s right more =
       reads_right x calls k t f.whole f.parts more.answers f.loc s
       w.term f.keys w.place (continued_read p s right more) more.reads
 
   pub goes_on_right : (y : Result PartialValue EvaluationError) (s : NextPart) → IsRight x calls k c y →
-      GoesOn x calls f y s → Resumes (IsRight x calls) (Waits x calls) k t s
+      ContinuesParts x calls f y s → Resumes (IsRight x calls) (WaitsForParts x calls) k t s
   goes_on_right (Ok p) (Wait g d) right more = continued_right p (Wait g d) right more
   goes_on_right (Ok p) (Done r) right (more, l) = record {
     answer = λ is_r ok. (continued_right p (Done r) right (more ok)).answer is_r ok;
@@ -201,7 +201,7 @@ pub limit_ends : ends_all (Err limit_error) ≡ true
 limit_ends = refl
 
 pub right_upward : (x : world.Extensions) (calls : StoredCalls) (k : ℕ) (f : PartsFrame) (t c : Expr)
-    (a : Result PartialValue EvaluationError) → ends_all a ≡ true → Waits x calls k f t c → IsRight x calls k c a →
+    (a : Result PartialValue EvaluationError) → ends_all a ≡ true → WaitsForParts x calls k f t c → IsRight x calls k c a →
     IsRight x calls (suc k) t a
 right_upward x calls k f t c (Ok p) ends w right = absurd (cc)
 right_upward x calls k f t c (Err e) ends w right =
@@ -226,7 +226,7 @@ fewer_after len before after more h is = omega (arith, h, is)
 
 -- with whatever is stored
 module _ (x : world.Extensions) (calls : StoredCalls) where
-  pub goes_on_fewer : (f : PartsFrame) (y : Result PartialValue EvaluationError) (s : NextPart) → GoesOn x calls f y s →
+  pub goes_on_fewer : (f : PartsFrame) (y : Result PartialValue EvaluationError) (s : NextPart) → ContinuesParts x calls f y s →
       Fewer left_of f s
   goes_on_fewer f (Ok p) (Done r) more = tt
   goes_on_fewer f (Ok p) (Wait g c) more =
@@ -242,7 +242,7 @@ module _ (x : world.Extensions) (calls : StoredCalls) where
 
   pub begins : (whole : Whole) (parts : frames.Parts) (a : Answers) (loc : Option Loc) (t : Term) (s : NextPart) →
       whole_term whole (terms_view parts.value.items) ≡ t → HasKeys whole (length parts.value.items) →
-      Are a [] × (count a ≡ 0) → Reads x calls whole parts a loc s → Begins x calls t loc s
+      Are a [] × (count a ≡ 0) → Reads x calls whole parts a loc s → StartsParts x calls t loc s
   begins whole parts a loc t (Wait f c) term keys none reads =
       record { whole = whole; parts = parts; answers = a; term = term; keys = keys; none = none; reads = reads }
   begins whole parts a loc t (Done r) term keys none reads = (
@@ -253,7 +253,7 @@ module _ (x : world.Extensions) (calls : StoredCalls) where
   pub continues : (f : PartsFrame) (p : PartialValue) (one a : Answers) (s : NextPart) →
       ((ps : List model.PartialValue) → Are f.answers ps → Are one (ps ++ partial_view p ∷ [])) → count one ≡
       suc (count f.answers) → AreBehind f.parts.value.items one a →
-      Reads x calls f.whole f.parts a f.loc s → GoesOn x calls f (Ok p) s
+      Reads x calls f.whole f.parts a f.loc s → ContinuesParts x calls f (Ok p) s
   continues f p one a s one_more counted follow reads = goes_on s reads
     where
       items : List Expr
@@ -278,7 +278,7 @@ module _ (x : world.Extensions) (calls : StoredCalls) where
         reads = h;
       }
 
-      goes_on : (y : NextPart) → Reads x calls f.whole f.parts a f.loc y → GoesOn x calls f (Ok p) y
+      goes_on : (y : NextPart) → Reads x calls f.whole f.parts a f.loc y → ContinuesParts x calls f (Ok p) y
       goes_on (Wait g c) h = continued (Wait g c) h
       goes_on (Done r) h = (λ ok. continued (Done r) h, h.1)
 

@@ -5,7 +5,7 @@ ghost use Rattle.cedar_errors.specs.declared.evaluator.err.EvaluationError.TheVa
 ghost use Rattle.cedar_extensions.specs.Extensions.{extensions_view, calls_of};
 ghost use Rattle.cedar_frames.specs.Frames.{Resumes, Fewer, Below};
 ghost use Rattle.cedar_restricted_evaluator.specs.Evaluations.{ends_all, limit_error, want_error};
-ghost use Rattle.cedar_restricted_evaluator.specs.Frames.{Waits, IsRight, left_of};
+ghost use Rattle.cedar_restricted_evaluator.specs.Frames.{WaitsForParts, IsRight, left_of};
 ghost use Rattle.cedar_restricted_evaluator.specs.Elements.{AnswerStands, FrameStands, ended_stands};
 ghost use Rattle.cedar_restricted_evaluator.specs.Laws.{right_limit, right_want, right_upward, limit_ends, some_left, some_most};
 
@@ -37,7 +37,7 @@ impl<'x, 'f> Machine for Restricted<'x, 'f> {
         IsRight (extensions_view s.extensions.now) (calls_of s.extensions.now) k t a × AnswerStands t a };
 
     ghost waits = { λ s k f t c.
-        Waits (extensions_view s.extensions.now) (calls_of s.extensions.now) k f t c × FrameStands f t c };
+        WaitsForParts (extensions_view s.extensions.now) (calls_of s.extensions.now) k f t c × FrameStands f t c };
 
     ghost left_of = { left_of };
 

@@ -40,7 +40,7 @@ impl PartsFrame {
     ghost use Rattle.cedar_model.specs.Terms.{set_of, record_of, call};
     ghost use Rattle.cedar_names.specs.Names.{name_text};
     ghost use Rattle.cedar_extensions.specs.Extensions.{extensions_view, calls_of};
-    ghost use Rattle.cedar_restricted_evaluator.specs.Frames.{Begins, GoesOn, Reads};
+    ghost use Rattle.cedar_restricted_evaluator.specs.Frames.{StartsParts, ContinuesParts, Reads};
     ghost use Rattle.cedar_restricted_evaluator.specs.Elements.{FirstStand, SetLeads, SetGoesOn};
 
     /// A set at this location, before any part has answered.
@@ -50,7 +50,7 @@ impl PartsFrame {
         parts: &Rc<Vec<Expr>>,
         loc: Option<Loc>,
     ) -> NextPart
-        ensures begins { Begins (extensions_view extensions.now) (calls_of extensions.now)
+        ensures begins { StartsParts (extensions_view extensions.now) (calls_of extensions.now)
             (set_of (terms_view parts.now.value.items)) loc result }
         ensures elements { SetLeads parts.now.value.items result }
     {
@@ -76,7 +76,7 @@ impl PartsFrame {
         args: &Rc<Vec<Expr>>,
         loc: Option<Loc>,
     ) -> NextPart
-        ensures { Begins (extensions_view extensions.now) (calls_of extensions.now)
+        ensures { StartsParts (extensions_view extensions.now) (calls_of extensions.now)
             (call (name_text fn_name.now) (terms_view args.now.value.items)) loc result }
     {
         match fn_name.clone() {
@@ -102,7 +102,7 @@ impl PartsFrame {
         pairs: &BTreeMap<RcStr, Expr>,
         loc: Option<Loc>,
     ) -> NextPart
-        ensures { Begins (extensions_view extensions.now) (calls_of extensions.now)
+        ensures { StartsParts (extensions_view extensions.now) (calls_of extensions.now)
             (record_of (fields_view pairs.now.entries)) loc result }
     {
         match keys_and_parts(alloc, pairs) {
@@ -131,7 +131,7 @@ impl PartsFrame {
         extensions: &Extensions<'_>,
         answer: Result<PartialValue, EvaluationError>,
     ) -> NextPart
-        ensures goes_on { GoesOn (extensions_view extensions.now) (calls_of extensions.now) self answer result }
+        ensures goes_on { ContinuesParts (extensions_view extensions.now) (calls_of extensions.now) self answer result }
         ensures elements { SetGoesOn self answer result }
     {
         match answer {

@@ -12,8 +12,8 @@ returns-clause-leads g c levels =
     let stored = c.args.self.now.given.now.extensions.now in
     let x = c.answered.result in
     parts_lead_in c.args.self.now levels c.args.whole c.args.frame c.args.value.value x c.taken.result
-    (subst (λ f. restricted.GoesOn (extensions_view stored) (calls_of stored) f (Ok c.args.value.value) x) c.into_inner-parts.ensures
-    (subst (λ p. restricted.GoesOn (extensions_view stored) (calls_of stored) c.into_inner-parts.result (Ok p) x) c.into_inner-part.ensures c.answered.ensures.goes_on))
+    (subst (λ f. restricted.ContinuesParts (extensions_view stored) (calls_of stored) f (Ok c.args.value.value) x) c.into_inner-parts.ensures
+    (subst (λ p. restricted.ContinuesParts (extensions_view stored) (calls_of stored) c.into_inner-parts.result (Ok p) x) c.into_inner-part.ensures c.answered.ensures.goes_on))
     c.taken.ensures.taken
 
 pub returns-clause-elements : goal.returns-clause-elements

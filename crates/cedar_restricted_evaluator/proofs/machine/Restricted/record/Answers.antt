@@ -1,6 +1,6 @@
 use Rattle.std.proofs.Common.{◌∙◌, subst, sym}
 use Rattle.cedar_extensions.specs.Extensions.{extensions_view, calls_of}
-use Rattle.cedar_restricted_evaluator.specs.Frames.{Begins}
+use Rattle.cedar_restricted_evaluator.specs.Frames.{StartsParts}
 use Rattle.cedar_restricted_evaluator.specs.Laws.{begins_right}
 use Rattle.cedar_restricted_evaluator.proofs.machine.Restricted.record.Goals as goal
 
@@ -8,5 +8,5 @@ pub returns : goal.returns
 returns g c k =
     let x = extensions_view c.args.self.now.extensions.now in
     let calls = calls_of c.args.self.now.extensions.now in
-    let begun = subst (λ t. Begins x calls t c.copied.result c.record.result) (sym c.requires) c.record.ensures in
+    let begun = subst (λ t. StartsParts x calls t c.copied.result c.record.result) (sym c.requires) c.record.ensures in
     begins_right x calls k c.args.e.now c.copied.result c.record.result (c.copied.ensures ∙ c.source_loc.ensures) begun

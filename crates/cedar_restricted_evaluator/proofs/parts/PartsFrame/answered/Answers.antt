@@ -3,7 +3,7 @@ use Rattle.cedar_expressions.specs.View.{expr_loc}
 use Rattle.cedar_values.specs.Residuals.{IfValue}
 use Rattle.cedar_extensions.specs.Extensions.{extensions_view, calls_of}
 use Rattle.cedar_restricted_evaluator.specs.Literals.{AreBehind}
-use Rattle.cedar_restricted_evaluator.specs.Frames.{GoesOn}
+use Rattle.cedar_restricted_evaluator.specs.Frames.{ContinuesParts}
 use Rattle.cedar_restricted_evaluator.specs.Elements.{ElementsStand, FirstStand, SetLeads, first_with, first_behind}
 use Rattle.cedar_restricted_evaluator.specs.Laws.{continues}
 use Rattle.cedar_restricted_evaluator.proofs.parts.PartsFrame.answered.Goals as goal
@@ -18,7 +18,7 @@ returns-in-Ok-answers_with-clause-goes_on g c =
     let here : c.as_slice.result.now ≡ f.parts.value.items =
     c.as_slice.ensures.value ∙ ap (λ v. v.items) c.deref.ensures in
     let follow = subst (λ es. AreBehind es grown.one a) here grown.follow in
-    subst (λ y. GoesOn x calls f y c.read.result) (sym c.in-Ok.is)
+    subst (λ y. ContinuesParts x calls f y c.read.result) (sym c.in-Ok.is)
     (continues x calls f c.in-Ok.part grown.one a c.read.result grown.answers grown.counted follow
     c.read.ensures.reads)
 
