@@ -94,5 +94,5 @@ abbrev pub IsCreatedOfPairs : world.Extensions → StoredCalls → ℕ → List 
 IsCreatedOfPairs x calls n ps r = (s : Setting) → IsBare x s → IsOfPairs s calls n ps r
 
 -- an expression that is no higher than the limit never meets it
-abbrev pub MeetsNoLimit : ℕ → Term → Result Context ContextCreationError → Type 0
-MeetsNoLimit n t r = height t ≤ n → IfErr r (λ e. ¬ (IsAtLimit e))
+abbrev pub IsCreatedWithinLimit : ℕ → Term → Result Context ContextCreationError → Type 0
+IsCreatedWithinLimit n t r = height t ≤ n → IfErr r (λ e. ¬ (IsAtLimit e))

@@ -20,7 +20,7 @@ ghost use Rattle.cedar_requests.specs.Substitutions.{context_answer};
 ghost use Rattle.cedar_requests.specs.declared.context.pairs.ContextPairs.TheVariants.{Residual};
 ghost use Rattle.cedar_requests.specs.Errors.{NamesAt};
 ghost use Rattle.cedar_requests.specs.Creations.{is_record, record_of_pairs, IsRecordPart, IsNoRecord, IsOfRecord};
-ghost use Rattle.cedar_requests.specs.Creations.{IsCreated, IsCreatedOfPairs, MeetsNoLimit};
+ghost use Rattle.cedar_requests.specs.Creations.{IsCreated, IsCreatedOfPairs, IsCreatedWithinLimit};
 
 use super::Context;
 use super::pairs::{ContextPairs, ResidualPairs};
@@ -50,7 +50,7 @@ impl Context {
         ensures created { IsCreated (extensions_view extensions.now) (calls_of extensions.now) limit
             (borrowed_term expr.entry) result }
         ensures place { IfErr result (NamesAt (borrowed_loc expr.entry)) }
-        ensures low { MeetsNoLimit limit (borrowed_term expr.entry) result }
+        ensures low { IsCreatedWithinLimit limit (borrowed_term expr.entry) result }
     {
         if is_record(expr.as_ref()) {
             of_record(alloc, expr, extensions, limit)
@@ -70,7 +70,7 @@ impl Context {
     ) -> Result<Context, ContextCreationError>
         ensures created { IsCreatedOfPairs (extensions_view extensions.now) (calls_of extensions.now) limit
             (pairs_in pairs.items) result }
-        ensures low { MeetsNoLimit limit (record_of_pairs (pairs_in pairs.items)) result }
+        ensures low { IsCreatedWithinLimit limit (record_of_pairs (pairs_in pairs.items)) result }
     {
         match RestrictedExpr::record(alloc, pairs) {
             Ok(record) => {
@@ -103,7 +103,7 @@ fn of_record(
     requires { is_record (borrowed_term expr) ≡ true }
     ensures created { (s : Setting) → IsBare (extensions_view extensions.now) s →
         IsOfRecord s (calls_of extensions.now) limit (borrowed_term expr.entry) result }
-    ensures low { MeetsNoLimit limit (borrowed_term expr.entry) result }
+    ensures low { IsCreatedWithinLimit limit (borrowed_term expr.entry) result }
 {
     match evaluated(alloc, expr, extensions, limit) {
         Ok(context) => Ok(context),
