@@ -7,10 +7,16 @@ ghost use Rattle.std.specs.Rc.{rc_str_bytes};
 ghost use Rattle.cedar_model.specs.Terms as Terms;
 ghost use Rattle.cedar_model.specs.Sets.{represented_fields_of};
 ghost use Rattle.cedar_model.specs.Values.{record_represented};
+ghost use Rattle.cedar_model.specs.Failures.{answers_value};
+ghost use Rattle.cedar_model.specs.Settings.{Setting};
+ghost use Rattle.cedar_model.specs.Operators.{binary_answer};
 ghost use Rattle.cedar_names.specs.Names.{type_text};
 ghost use Rattle.cedar_names.specs.Leaves.{unary_view, binary_view, pattern_view, variable_view};
 ghost use Rattle.cedar_expressions.specs.View.{view, expr_loc, terms_view, fields_view, extended_has_of};
 ghost use Rattle.cedar_values.specs.Sound.{whats};
+ghost use Rattle.cedar_layers.specs.Stores.{store_view};
+ghost use Rattle.cedar_extensions.specs.Extensions.{extensions_view};
+ghost use Rattle.cedar_operators.specs.Operands.{given};
 ghost use Rattle.cedar_restricted_evaluator.specs.Keys.{key_order, texts_of, under};
 ghost use Rattle.cedar_interpreter.specs.Direct.{IsValueOf, HasDirectValue, HasDirectBool, HasDirectValueAbove};
 ghost use Rattle.cedar_interpreter.specs.DirectEvaluators.{HasDirectParts, HasDirectPairs, some_above};
@@ -21,6 +27,7 @@ use cedar_expressions::{Expr, ExprKind};
 use cedar_names::{BinaryOp, EntityType, FirstRest, Literal, Pattern, UnaryOp, Var};
 use cedar_operators::attributes::attribute_of;
 use cedar_operators::binary::binary_app;
+use cedar_operators::operators::of_longs;
 use cedar_partial_operators::attributes::{extended_has_of_part, has_of_part};
 use cedar_partial_operators::unary::{is_of_part, like_of_part, unary_of_part};
 use cedar_values::{PartialValue, Value, ValueKind};
@@ -251,11 +258,7 @@ impl<T: DirectEvaluator> EvaluatorAbove<T> {
     {
         match self.below.evaluate(within, alloc, left) {
             Some(left) => match self.below.evaluate(within, alloc, right) {
-                Some(right) => {
-                    let entities = within.given.entities;
-                    let extensions = within.given.extensions;
-                    value_in(binary_app(alloc, entities, extensions, op, left, right, None))
-                }
+                Some(right) => applied(within, alloc, op, left, right),
                 None => None,
             },
             None => None,
@@ -449,6 +452,31 @@ fn variable_in(e: &Expr) -> Option<Var>
     match e.expr_kind() {
         ExprKind::Var(var) => Some(*var),
         _ => None,
+    }
+}
+
+// What an operator makes of two values: of two longs at once.
+fn applied(
+    within: &Evaluation<'_, '_, '_>,
+    alloc: Global,
+    op: BinaryOp,
+    left: Value,
+    right: Value,
+) -> Option<Value>
+    ensures { (s : Setting) → IfSome result (λ v. answers_value v.what ≡ binary_answer (given s
+        (store_view within.now.given.now.entities.now) (extensions_view within.now.given.now.extensions.now))
+        (binary_view op) left.what right.what) }
+{
+    match of_longs(op, &left, &right) {
+        Some(value) => {
+            drop((left, right));
+            Some(value)
+        }
+        None => {
+            let entities = within.given.entities;
+            let extensions = within.given.extensions;
+            value_in(binary_app(alloc, entities, extensions, op, left, right, None))
+        }
     }
 }
 

@@ -1,14 +1,17 @@
 -- Longs: what fits 64 bits, and how two compare.
 use Rattle.std.proofs.Common.{int_cmp, ◌≡◌, ◌≤◌, ℤ, pos, negsuc, ℕ, leb, Bool, true, false, true≢false, cond, [], Some, None, is_some, refl, sym, ap, ◌∙◌, FitsSigned, w64, le-leb, leb-true, arith}
-use Rattle.cedar_model.specs.Terms.{long_literal, long_type, BinaryOperator, eq_operator, less_operator, less_eq_operator, add_operator, sub_operator, mul_operator, in_operator, contains_operator, contains_all_operator, contains_any_operator, get_tag_operator, has_tag_operator}
+use Rattle.std.specs.Ordering.{is_eq, is_lt, is_le}
+use Rattle.cedar_model.specs.Terms.{bool_literal, long_literal, text_literal, entity_literal, long_type, BinaryOperator, eq_operator, less_operator, less_eq_operator, add_operator, sub_operator, mul_operator, in_operator, contains_operator, contains_all_operator, contains_any_operator, get_tag_operator, has_tag_operator}
 use Rattle.cedar_model.specs.Settings.{Setting}
-use Rattle.cedar_model.specs.Values.{Represented, AbstractValue, plain, set_value, record_value, extension_value, plain_represented}
+use Rattle.cedar_model.specs.Values.{Represented, AbstractValue, plain, set_value, record_value, extension_value, plain_represented, abstract_value}
+use Rattle.cedar_model.specs.Keys.{value_eq}
 use Rattle.cedar_model.specs.Outcomes.{long_of, is_long}
 use Rattle.cedar_model.specs.World.{Extensions}
 use Rattle.cedar_model.specs.Meaning.{order_of, extension_order, comparison}
-use Rattle.cedar_model.specs.Failures.{Failure, fails, answers_value, wrong_type}
+use Rattle.cedar_model.specs.Failures.{Failure, fails, answers_value, answers_bool, wrong_type}
 use Rattle.cedar_model.specs.Operators.{long_answer, overloaded_type, order_failure, comparison_failure, arithmetic_answer, binary_answer}
 use Rattle.cedar_operators.specs.Operands.{is_arithmetic, arithmetic_of}
+use Rattle.cedar_operators.proofs.Expecting.{goes_on}
 
 no_more : (n : ℕ) (b : Bool) → leb n 9223372036854775807 ≡ b → (n ≤ 9223372036854775807 → ⊥) → leb n 9223372036854775807 ≡ false
 no_more n true e f = absurd (f (leb-true n 9223372036854775807 e))
@@ -96,3 +99,30 @@ arithmetic_is_operation s contains_all_operator v w h = absurd (cc)
 arithmetic_is_operation s contains_any_operator v w h = absurd (cc)
 arithmetic_is_operation s get_tag_operator v w h = absurd (cc)
 arithmetic_is_operation s has_tag_operator v w h = absurd (cc)
+
+-- ---- what two longs answer
+
+long_is : (v : AbstractValue) (n : ℤ) → long_of v ≡ Some n → v ≡ plain (long_literal n)
+unfolding long_of
+long_is (plain (bool_literal b)) n h = absurd (cc)
+long_is (plain (long_literal m)) n h = cc
+long_is (plain (text_literal t)) n h = absurd (cc)
+long_is (plain (entity_literal e)) n h = absurd (cc)
+long_is (set_value vs) n h = absurd (cc)
+long_is (record_value fs) n h = absurd (cc)
+long_is (extension_value t k) n h = absurd (cc)
+
+module _ (s : Setting) (v w : Represented) (m n : ℤ) (left : long_of (abstract_value v) ≡ Some m)
+    (right : long_of (abstract_value w) ≡ Some n) where
+  pub equal_longs : answers_bool (is_eq (int_cmp m n)) ≡ binary_answer s eq_operator v w
+  unfolding binary_answer
+  equal_longs =
+      λ i. answers_bool (value_eq (sym (long_is (abstract_value v) m left) i) (sym (long_is (abstract_value w) n right) i))
+
+  pub less_longs : answers_bool (is_lt (int_cmp m n)) ≡ binary_answer s less_operator v w
+  unfolding binary_answer
+  less_longs = goes_on _ _ _ _ _ (longs_ordered s.extensions (abstract_value v) (abstract_value w) m n left right) refl
+
+  pub less_eq_longs : answers_bool (is_le (int_cmp m n)) ≡ binary_answer s less_eq_operator v w
+  unfolding binary_answer
+  less_eq_longs = goes_on _ _ _ _ _ (longs_ordered s.extensions (abstract_value v) (abstract_value w) m n left right) refl

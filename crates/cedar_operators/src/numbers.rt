@@ -1,16 +1,19 @@
 //! Longs: arithmetic within 64 bits.
-ghost use Rattle.std.specs.Prelude.{◌≡◌, true, FitsSigned};
+ghost use Rattle.std.specs.Prelude.{◌≡◌, true, Some, IfSome, FitsSigned};
 ghost use Rattle.std.specs.Int.{w64};
 ghost use Rattle.std.specs.Option.{SomeIff};
 ghost use Rattle.cedar_model.specs.Terms.{neg_operator};
+ghost use Rattle.cedar_model.specs.Values.{Represented, abstract_value};
+ghost use Rattle.cedar_model.specs.Outcomes.{long_of};
 ghost use Rattle.cedar_model.specs.Failures as Failures;
-ghost use Rattle.cedar_model.specs.Operators.{arithmetic_answer, unary_answer};
+ghost use Rattle.cedar_model.specs.Settings.{Setting};
+ghost use Rattle.cedar_model.specs.Operators.{arithmetic_answer, unary_answer, binary_answer};
 ghost use Rattle.cedar_names.specs.Leaves.{binary_view};
 ghost use Rattle.cedar_errors.specs.Failures.{failure_of};
 ghost use Rattle.cedar_errors.specs.Answers.{Answers};
 ghost use Rattle.cedar_operators.specs.Operands.{is_arithmetic, arithmetic_of};
 
-use crate::typed::{get_as_long, long_value};
+use crate::typed::{bool_value, get_as_long, long_value};
 use cedar_errors::evaluator::err::{EvaluationError, evaluation_errors};
 use cedar_layers::expressions::{BinaryOp, Loc, UnaryOp, Value};
 use evaluation_errors::{BinaryOpOverflowError, IntegerOverflowError, UnaryOpOverflowError};
@@ -71,6 +74,39 @@ pub(crate) fn arithmetic(
             drop((a, b));
             Err(error)
         }
+    }
+}
+
+// A relation or arithmetic of two longs: nothing of another operator, and where the result needs more than 64 bits.
+pub(crate) fn of_two_longs(op: BinaryOp, m: i64, n: i64) -> Option<Value>
+    ensures { (s : Setting) (v w : Represented) → long_of (abstract_value v) ≡ Some m → long_of (abstract_value w) ≡ Some n →
+        IfSome result (λ x. Failures.answers_value x.what ≡ binary_answer s (binary_view op) v w) }
+{
+    match op {
+        BinaryOp::Eq => Some(bool_value(m.cmp(&n).is_eq())),
+        BinaryOp::Less => Some(bool_value(m.cmp(&n).is_lt())),
+        BinaryOp::LessEq => Some(bool_value(m.cmp(&n).is_le())),
+        BinaryOp::Add => computed(op, m, n),
+        BinaryOp::Sub => computed(op, m, n),
+        BinaryOp::Mul => computed(op, m, n),
+        BinaryOp::In => None,
+        BinaryOp::Contains => None,
+        BinaryOp::ContainsAll => None,
+        BinaryOp::ContainsAny => None,
+        BinaryOp::GetTag => None,
+        BinaryOp::HasTag => None,
+    }
+}
+
+// Arithmetic of two longs, where the result fits 64 bits.
+fn computed(op: BinaryOp, m: i64, n: i64) -> Option<Value>
+    requires { is_arithmetic (binary_view op) ≡ true }
+    ensures { (s : Setting) (v w : Represented) → long_of (abstract_value v) ≡ Some m → long_of (abstract_value w) ≡ Some n →
+        IfSome result (λ x. Failures.answers_value x.what ≡ binary_answer s (binary_view op) v w) }
+{
+    match checked(op, m, n) {
+        Some(k) => Some(long_value(k)),
+        None => None,
     }
 }
 

@@ -1,6 +1,7 @@
 //! Operators on one value, and the relations and the arithmetic of two.
-ghost use Rattle.std.specs.Prelude.{◌≡◌, true};
+ghost use Rattle.std.specs.Prelude.{◌≡◌, true, IfSome};
 ghost use Rattle.cedar_model.specs.Terms.{not_operator, is_empty_operator};
+ghost use Rattle.cedar_model.specs.Failures.{answers_value};
 ghost use Rattle.cedar_model.specs.Settings.{Setting};
 ghost use Rattle.cedar_model.specs.Operators.{unary_answer, binary_answer, like_answer, is_answer};
 ghost use Rattle.cedar_names.specs.Names.{type_text};
@@ -9,9 +10,9 @@ ghost use Rattle.cedar_errors.specs.Answers.{Answers};
 ghost use Rattle.cedar_extensions.specs.Extensions.{extensions_view};
 ghost use Rattle.cedar_operators.specs.Operands.{with_extensions, is_relation, is_arithmetic};
 
-use crate::numbers::{arithmetic, negated};
+use crate::numbers::{arithmetic, negated, of_two_longs};
 use crate::order::order;
-use crate::typed::{bool_value, get_as_bool, get_as_entity, get_as_set, get_as_string};
+use crate::typed::{bool_value, get_as_bool, get_as_entity, get_as_set, get_as_string, long_in};
 use cedar_errors::evaluator::err::EvaluationError;
 use cedar_extensions::Extensions;
 use cedar_layers::expressions::{BinaryOp, EntityType, Loc, Pattern, UnaryOp, Value};
@@ -83,6 +84,21 @@ pub fn binary_arith(
     ensures { (s : Setting) → Answers result (binary_answer s (binary_view op) a.what b.what) }
 {
     arithmetic(alloc, op, a, b, loc)
+}
+
+/// What `==`, `<`, `<=`, `+`, `-` or `*` of two longs answers, at no known location, without a look at their types' other rules.
+/// There is none for another operator, where a value is no long, and where the result needs more than 64 bits.
+pub fn of_longs(op: BinaryOp, a: &Value, b: &Value) -> Option<Value>
+    ensures { (s : Setting) → IfSome result (λ v. answers_value v.what ≡ binary_answer s (binary_view op) a.now.what
+        b.now.what) }
+{
+    match long_in(a) {
+        Some(m) => match long_in(b) {
+            Some(n) => of_two_longs(op, m, n),
+            None => None,
+        },
+        None => None,
+    }
 }
 
 /// `value like pattern`: whether the text is one of the pattern's. A type error where it is no text.

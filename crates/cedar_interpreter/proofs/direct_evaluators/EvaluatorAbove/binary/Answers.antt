@@ -4,14 +4,13 @@ use Rattle.cedar_interpreter.proofs.Operands.{values_alike}
 use Rattle.cedar_model.specs.Failures.{answers_value}
 use Rattle.cedar_expressions.specs.View.{view}
 use Rattle.cedar_interpreter.specs.Settings.{evaluation_setting, calls_in}
-use Rattle.cedar_interpreter.proofs.DirectLaws.{value_found}
 use Rattle.cedar_interpreter.proofs.DirectEvaluatorLaws.{operands_direct}
 use Rattle.cedar_interpreter.proofs.direct_evaluators.EvaluatorAbove.binary.Goals as goal
 
 pub returns-in-Some-evaluate : goal.returns-in-Some-evaluate
 returns-in-Some-evaluate g c r k speaks low =
     let s = evaluation_setting r c.args.within.now in
-    operands_direct s (calls_in c.args.within.now) k (binary_view c.args.op) (view c.args.left.now) (view c.args.right.now) c.in-Some.left.what c.in-Some-evaluate.right.what c.value_in.result
+    operands_direct s (calls_in c.args.within.now) k (binary_view c.args.op) (view c.args.left.now) (view c.args.right.now) c.in-Some.left.what c.in-Some-evaluate.right.what c.applied.result
     (c.in-Some.ensures r k speaks low) (c.in-Some-evaluate.ensures r k speaks low)
-    (subst (λ b. IfSome c.value_in.result (λ v. answers_value v.what ≡ b)) (values_alike s (binary_view c.args.op) c.in-Some.left.what c.in-Some-evaluate.right.what)
-    (value_found c.binary_app.result c.value_in.result _ c.value_in.ensures (c.binary_app.ensures s)))
+    (subst (λ b. IfSome c.applied.result (λ v. answers_value v.what ≡ b)) (values_alike s (binary_view c.args.op) c.in-Some.left.what c.in-Some-evaluate.right.what)
+    (c.applied.ensures s))
