@@ -4,11 +4,12 @@ use Rattle.std.specs.List.{AllZip}
 use Rattle.std.specs.Rc.{rc_str_bytes}
 use Rattle.std.specs.declared.rc.RcStr.{RcStr}
 use Rattle.cedar_model.specs.Terms.{one_field}
-use Rattle.cedar_model.specs.Values.{one_represented_at}
+use Rattle.cedar_model.specs.Values.{one_represented_at, expression_of}
 use Rattle.cedar_expressions.specs.declared.expr.Expr.{Expr}
 use Rattle.cedar_expressions.specs.View.{view, fields_view, expr_loc}
 use Rattle.cedar_expressions.specs.Nodes.{parts_of}
 use Rattle.cedar_values.specs.Sound.{Placed, whats_at}
+use Rattle.cedar_requests.specs.Walks.{value_attribute}
 
 abbrev pub ValuePair : Type 0
 ValuePair = RcStr Global × Placed
@@ -39,6 +40,15 @@ locs-copied [] [] h = refl
 locs-copied [] (f ∷ fs) h = absurd h
 locs-copied (e ∷ es) [] h = absurd h
 locs-copied (e ∷ es) (f ∷ fs) h = λ i. (h.0.1 i).loc ∷ locs-copied es fs h.1 i
+
+-- and a walk gives the same of them
+pub attributes-copied : (es fs : List ValuePair) → AllZip IsCopy es fs
+    → map value_attribute fs ≡ map value_attribute es
+attributes-copied [] [] h = refl
+attributes-copied [] (f ∷ fs) h = absurd h
+attributes-copied (e ∷ es) [] h = absurd h
+attributes-copied (e ∷ es) (f ∷ fs) h =
+    λ i. (h.0.0 i, (expression_of (h.0.1 i).what, (h.0.1 i).loc)) ∷ attributes-copied es fs h.1 i
 
 -- the terms are the same under the same names
 pub fields_view-copied : (es fs : List ExprPair) → AllZip IsExprCopy es fs → fields_view fs ≡ fields_view es

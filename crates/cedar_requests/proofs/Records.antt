@@ -13,17 +13,11 @@ use Rattle.cedar_model.specs.Rules.{StoredCalls, Runs, fields_of_record, fields_
 use Rattle.cedar_model.specs.Rules.{record_of_parts}
 use Rattle.cedar_model.specs.Rules.{values_of_field_parts}
 use Rattle.cedar_expressions.specs.View.{fields_view}
-use Rattle.cedar_values.specs.Sound.{whats_at}
-use Rattle.cedar_requests.specs.Contexts.{ValueMap, ExprMap}
+use Rattle.cedar_requests.specs.Contexts.{ExprMap}
 use Rattle.cedar_requests.specs.Creations.{is_record, IsRecordPart}
-use Rattle.cedar_requests.proofs.Copies.{IsCopy, IsExprCopy, whats_at-copied, fields_view-copied}
+use Rattle.cedar_requests.proofs.Copies.{IsExprCopy, fields_view-copied}
 
 -- what was shared is taken out, or copied
-pub whats_at-unshared : (m x : ValueMap) → (x ≡ m) ⊎ AllZip IsCopy m.entries x.entries → whats_at x.entries
-    ≡ whats_at m.entries
-whats_at-unshared m x (inl e) = ap (λ (n : ValueMap). whats_at n.entries) e
-whats_at-unshared m x (inr h) = whats_at-copied m.entries x.entries h
-
 pub fields_view-unshared : (m x : ExprMap) → (x ≡ m) ⊎ AllZip IsExprCopy m.entries x.entries → fields_view x.entries
     ≡ fields_view m.entries
 fields_view-unshared m x (inl e) = ap (λ (n : ExprMap). fields_view n.entries) e

@@ -12,14 +12,12 @@ use Rattle.cedar_names.specs.declared.names.Loc.{Loc}
 use Rattle.cedar_expressions.specs.declared.expr.Expr.{Expr}
 use Rattle.cedar_expressions.specs.View.{fields_view, expr_loc}
 use Rattle.cedar_values.specs.Compared.{partial_eq}
-use Rattle.cedar_values.specs.Sound.{Placed, whats_at}
+use Rattle.cedar_values.specs.Sound.{whats_at}
+pub use Rattle.cedar_requests.specs.ContextValues.{ValueMap, value_locs}
 use Rattle.cedar_requests.specs.declared.context.Context.{Context}
 use Rattle.cedar_requests.specs.declared.context.pairs.ContextPairs.{ContextPairs}
 use Rattle.cedar_requests.specs.declared.context.pairs.ContextPairs.TheVariants as kinds
 use Rattle.cedar_requests.specs.declared.context.pairs.ResidualPairs.{ResidualPairs}
-
-abbrev pub ValueMap : Type 0
-ValueMap = BTreeMap (RcStr Global) Placed Global
 
 abbrev pub ExprMap : Type 0
 ExprMap = BTreeMap (RcStr Global) Expr Global
@@ -45,7 +43,7 @@ pairs_view (kinds.Residual r) = residual_context (residual_fields r)
 
 -- where the values or expressions stand
 abbrev pub pairs_locs : ContextPairs → List (Option Loc)
-pairs_locs (kinds.Values m) = map (λ p. p.1.loc) m.entries
+pairs_locs (kinds.Values m) = value_locs m
 pairs_locs (kinds.Residual r) = residual_locs r
 
 -- their terms under their names: a value is written as its expression

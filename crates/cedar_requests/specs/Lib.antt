@@ -1,3 +1,4 @@
+pub mod ContextValues
 pub mod Contexts
 pub mod Named
 pub mod LeftPairs

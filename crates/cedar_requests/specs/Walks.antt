@@ -1,5 +1,6 @@
 -- The walk over the attributes of a context.
-use Rattle.std.specs.Prelude.{◌≡◌, List, [], ◌∷◌, map, Option, Some, None, Result, Ok, Err}
+use Rattle.std.specs.Prelude.{◌≡◌, ◌-◌, List, [], ◌∷◌, map, length, drop}
+use Rattle.std.specs.Prelude.{Option, Some, None, Result, Ok, Err}
 use Rattle.std.specs.Rc.{rc_str_bytes}
 use Rattle.std.specs.declared.alloc.AllocError.{AllocError}
 use Rattle.std.specs.declared.alloc.Global.{Global}
@@ -16,6 +17,7 @@ use Rattle.cedar_requests.specs.declared.context.Context.{Context}
 use Rattle.cedar_requests.specs.declared.context.pairs.ContextPairs.{ContextPairs}
 use Rattle.cedar_requests.specs.declared.context.pairs.ContextPairs.TheVariants as kinds
 use Rattle.cedar_requests.specs.declared.context.walk.IntoIter.{IntoIter}
+use Rattle.cedar_requests.specs.declared.context.walk.LackingIter.{LackingIter}
 use Rattle.cedar_requests.specs.declared.context.walk.PairsIter.{PairsIter}
 use Rattle.cedar_requests.specs.declared.context.walk.PairsIter.TheVariants as walks
 use Rattle.cedar_requests.specs.declared.context.walk.ResidualIter.{ResidualIter}
@@ -53,8 +55,13 @@ attribute_names = map (λ a. a.0)
 abbrev pub exprs_left : ResidualIter → List Attribute
 exprs_left r = map expr_attribute r.pairs
 
+-- of values that can't be copied, the last so many
+abbrev pub lacking_left : LackingIter → List Attribute
+lacking_left s = drop (length s.values.value.entries - s.left) (map value_attribute s.values.value.entries)
+
 abbrev pub pairs_left : PairsIter → List Attribute
 pairs_left (walks.Values ps) = map value_attribute ps
+pairs_left (walks.Lacking s) = lacking_left s
 pairs_left (walks.Residual r) = exprs_left r
 
 abbrev pub attributes_left : IntoIter → List Attribute
@@ -66,3 +73,8 @@ abbrev pub GivesAttribute : List Attribute → Option (Result (RcStr Global × R
 GivesAttribute before None after = (before ≡ []) × (after ≡ [])
 GivesAttribute before (Some (Ok a)) after = before ≡ attribute_given a ∷ after
 GivesAttribute before (Some (Err e)) after = (a : Attribute) × (before ≡ a ∷ after)
+
+-- the first of what was left is passed; then the others are left
+abbrev pub PassesOne : List Attribute → Option AllocError → List Attribute → Type 0
+PassesOne before None after = (before ≡ []) × (after ≡ [])
+PassesOne before (Some e) after = (a : Attribute) × (before ≡ a ∷ after)

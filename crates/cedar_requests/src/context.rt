@@ -9,6 +9,7 @@ mod named;
 pub(crate) mod pairs;
 mod substitution;
 mod texts;
+pub(crate) mod values;
 mod walk;
 
 use cedar_expressions::Expr;
@@ -18,6 +19,7 @@ use std::alloc::Global;
 use std::collections::BTreeMap;
 use std::marker::Model;
 use std::rc::RcStr;
+use values::ContextValues;
 pub use walk::IntoIter;
 
 /// The context of a request: a record of values, or a record of restricted expressions of which one or more hold an
@@ -60,13 +62,14 @@ impl Context {
     }
 
     /// The context of these attributes with their values. It takes no memory: `alloc` is for the expressions that the
-    /// context is walked as.
+    /// context is walked as, and for copies. Each copy of this context copies its values once; copies of that copy share
+    /// them, as do those of every context that is made by another call.
     pub fn from_values(alloc: Global, pairs: BTreeMap<RcStr, Value>) -> Context
         ensures view { context_view result ≡ known_context (whats_at pairs.entries) }
         ensures map { context_values result ≡ Some pairs }
     {
         Context {
-            pairs: ContextPairs::Values(pairs),
+            pairs: ContextPairs::Values(ContextValues::new(pairs)),
             alloc,
         }
     }
@@ -83,7 +86,7 @@ impl Context {
         ensures { option_copied result ≡ context_values self.now }
     {
         match &self.pairs {
-            ContextPairs::Values(pairs) => Some(pairs),
+            ContextPairs::Values(values) => Some(values.as_map()),
             ContextPairs::Residual(_) => None,
         }
     }

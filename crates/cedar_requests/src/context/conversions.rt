@@ -1,15 +1,18 @@
 //! The partial value and the restricted expression that a context is.
 ghost use Rattle.std.specs.Prelude.{◌≡◌, None, IfOk};
+ghost use Rattle.cedar_model.specs.Values.{record_represented};
+ghost use Rattle.cedar_values.specs.Sound.{whats_at};
 ghost use Rattle.cedar_values.specs.Residuals.{partial_view, partial_loc, partial_term};
 ghost use Rattle.cedar_restricted_expressions.specs.Views.{restricted_term, restricted_loc};
 ghost use Rattle.cedar_requests.specs.Contexts.{context_part_value};
 
 use super::Context;
 use super::pairs::ContextPairs;
+use super::values::ContextValues;
 use cedar_expressions::Expr;
 use cedar_restricted_expressions::RestrictedExpr;
-use cedar_values::{PartialValue, ResidualExpr, Value};
-use std::alloc::AllocError;
+use cedar_values::{PartialValue, ResidualExpr, Value, ValueKind};
+use std::alloc::{AllocError, Global};
 
 /// The record of the context's values, or the residual of its expressions, at no location.
 impl TryFrom<Context> for PartialValue {
@@ -22,8 +25,8 @@ impl TryFrom<Context> for PartialValue {
     fn try_from(context: Context) -> Result<PartialValue, AllocError> {
         let alloc = context.alloc;
         match context.pairs {
-            ContextPairs::Values(pairs) => {
-                let value = Value::record(alloc, pairs, None)?;
+            ContextPairs::Values(values) => {
+                let value = shared_record(alloc, values)?;
                 Ok(PartialValue::Value(value))
             }
             ContextPairs::Residual(residual) => {
@@ -45,8 +48,8 @@ impl TryFrom<Context> for RestrictedExpr {
     fn try_from(context: Context) -> Result<RestrictedExpr, AllocError> {
         let alloc = context.alloc;
         match context.pairs {
-            ContextPairs::Values(pairs) => {
-                let record = Value::record(alloc, pairs, None)?;
+            ContextPairs::Values(values) => {
+                let record = shared_record(alloc, values)?;
                 Ok(RestrictedExpr::try_from_value(alloc, record)?)
             }
             ContextPairs::Residual(residual) => {
@@ -55,4 +58,13 @@ impl TryFrom<Context> for RestrictedExpr {
             }
         }
     }
+}
+
+// The record of the values, at no location: it shares them.
+fn shared_record(alloc: Global, values: ContextValues) -> Result<Value, AllocError>
+    ensures what { IfOk result (λ v. v.what ≡ record_represented (whats_at values.entries)) }
+    ensures loc { IfOk result (λ v. v.loc ≡ None) }
+{
+    let shared = values.into_shared(alloc)?;
+    Ok(Value::new(ValueKind::Record(shared), None))
 }

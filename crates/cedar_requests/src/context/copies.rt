@@ -1,9 +1,9 @@
 //! Copies of contexts.
-ghost use Rattle.std.specs.Prelude.{◌≡◌};
+ghost use Rattle.std.specs.Prelude.{◌≡◌, IfOk};
 
 use super::Context;
 use super::pairs::{ContextPairs, ResidualPairs};
-use std::alloc::AllocError;
+use std::alloc::{AllocError, Global};
 
 impl Clone for Context {
     ghost use Rattle.cedar_requests.specs.Contexts.{context_view, context_locs};
@@ -11,7 +11,7 @@ impl Clone for Context {
     ghost is_clone = { λ c copy. (context_view copy ≡ context_view c) × (context_locs copy ≡ context_locs c) };
 
     fn clone(&self) -> Result<Context, AllocError> {
-        let pairs = self.pairs.clone()?;
+        let pairs = self.pairs.copied(self.alloc)?;
         Ok(Context {
             pairs,
             alloc: self.alloc,
@@ -19,14 +19,16 @@ impl Clone for Context {
     }
 }
 
-impl Clone for ContextPairs {
+impl ContextPairs {
     ghost use Rattle.cedar_requests.specs.Contexts.{pairs_view, pairs_locs};
 
-    ghost is_clone = { λ p copy. (pairs_view copy ≡ pairs_view p) × (pairs_locs copy ≡ pairs_locs p) };
-
-    fn clone(&self) -> Result<ContextPairs, AllocError> {
+    // The same pairs. Values are shared by all further copies.
+    fn copied(&self, alloc: Global) -> Result<ContextPairs, AllocError>
+        ensures view { IfOk result (λ p. pairs_view p ≡ pairs_view self.now) }
+        ensures locs { IfOk result (λ p. pairs_locs p ≡ pairs_locs self.now) }
+    {
         match self {
-            ContextPairs::Values(pairs) => Ok(ContextPairs::Values(pairs.clone()?)),
+            ContextPairs::Values(values) => Ok(ContextPairs::Values(values.copied(alloc)?)),
             ContextPairs::Residual(residual) => Ok(ContextPairs::Residual(residual.clone()?)),
         }
     }

@@ -5,7 +5,7 @@ ghost use Rattle.cedar_model.specs.Values.{record_represented};
 ghost use Rattle.cedar_model.specs.Shapes.{is_restricted};
 ghost use Rattle.cedar_model.specs.Failures.{value};
 ghost use Rattle.cedar_model.specs.Failures as model;
-ghost use Rattle.cedar_model.specs.Settings.{Setting};
+ghost use Rattle.cedar_model.specs.Settings.{Setting, known_context};
 ghost use Rattle.cedar_model.specs.Rules.{fields_of_record, Meets};
 ghost use Rattle.cedar_model.specs.Agreement.{height};
 ghost use Rattle.cedar_model.specs.Restricted.{IsSoundPart};
@@ -15,7 +15,7 @@ ghost use Rattle.cedar_values.specs.Residuals.{partial_view, residual_term};
 ghost use Rattle.cedar_extensions.specs.Extensions.{extensions_view, calls_of};
 ghost use Rattle.cedar_restricted_evaluator.specs.Evaluations.{IsBare, IsAnswerWithin};
 ghost use Rattle.cedar_restricted_expressions.specs.Views.{borrowed_term, borrowed_loc, pairs_in};
-ghost use Rattle.cedar_requests.specs.Contexts.{context_part_value, context_pairs, residual_fields};
+ghost use Rattle.cedar_requests.specs.Contexts.{context_view, context_part_value, context_pairs, residual_fields};
 ghost use Rattle.cedar_requests.specs.Substitutions.{context_answer};
 ghost use Rattle.cedar_requests.specs.declared.context.pairs.ContextPairs.TheVariants.{Residual};
 ghost use Rattle.cedar_requests.specs.Errors.{NamesAt};
@@ -24,6 +24,7 @@ ghost use Rattle.cedar_requests.specs.Creations.{IsCreated, IsCreatedOfPairs, Is
 
 use super::Context;
 use super::pairs::{ContextPairs, ResidualPairs};
+use super::values::ContextValues;
 use crate::errors::{ContextCreationError, context_creation_errors};
 use cedar_errors::evaluator::err::EvaluationError;
 use cedar_expressions::{Expr, ExprKind};
@@ -79,6 +80,16 @@ impl Context {
                 context
             }
             Err(error) => Err(ContextCreationError::from(error.with_context("in context"))),
+        }
+    }
+
+    // The context of these values, which its copies share.
+    pub(super) fn of_shared(alloc: Global, values: Rc<BTreeMap<RcStr, Value>>) -> Context
+        ensures { context_view result ≡ known_context (whats_at values.value.entries) }
+    {
+        Context {
+            pairs: ContextPairs::Values(ContextValues::of_shared(values)),
+            alloc,
         }
     }
 
@@ -156,22 +167,22 @@ fn of_part(alloc: Global, part: PartialValue) -> Result<Context, AllocError>
     ensures { IfOk result (λ c. context_part_value c ≡ partial_view part) }
 {
     match part {
-        PartialValue::Value(value) => Ok(Context::from_values(alloc, values_in(value)?)),
+        PartialValue::Value(value) => Ok(Context::of_shared(alloc, values_in(value)?)),
         PartialValue::Residual(residual) => Ok(Context::of_residual(alloc, pairs_of(residual)?)),
     }
 }
 
-// The values of the record.
-fn values_in(whole: Value) -> Result<BTreeMap<RcStr, Value>, AllocError>
+// The values of the record, shared.
+fn values_in(whole: Value) -> Result<Rc<BTreeMap<RcStr, Value>>, AllocError>
     requires { IsRecordPart (value whole.what) }
-    ensures { IfOk result (λ m. record_represented (whats_at m.entries) ≡ whole.what) }
+    ensures { IfOk result (λ m. record_represented (whats_at m.value.entries) ≡ whole.what) }
 {
-    let shared = shared_values(&whole)?;
+    let shared = shared_values(&whole);
     drop(whole);
-    Ok(Rc::unwrap_or_clone(shared)?)
+    Ok(shared?)
 }
 
-// The values of the record, shared.
+// The same of a value that is lent.
 fn shared_values(whole: &Value) -> Result<Rc<BTreeMap<RcStr, Value>>, AllocError>
     requires { IsRecordPart (value whole.now.what) }
     ensures { IfOk result (λ m. record_represented (whats_at m.value.entries) ≡ whole.now.what) }

@@ -15,8 +15,8 @@ impl PartialEq for Context {
 
     fn eq(&self, other: &Context) -> bool {
         match &self.pairs {
-            ContextPairs::Values(pairs) => match &other.pairs {
-                ContextPairs::Values(other_pairs) => pairs == other_pairs,
+            ContextPairs::Values(values) => match &other.pairs {
+                ContextPairs::Values(other_values) => values.as_map() == other_values.as_map(),
                 ContextPairs::Residual(_) => false,
             },
             ContextPairs::Residual(residual) => match &other.pairs {

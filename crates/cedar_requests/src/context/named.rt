@@ -13,9 +13,9 @@ use super::Context;
 use crate::errors::ContextCreationError;
 use cedar_expressions::ExpressionConstructionError;
 use cedar_values::Value;
-use std::alloc::Global;
+use std::alloc::{AllocError, Global};
 use std::collections::BTreeMap;
-use std::rc::RcStr;
+use std::rc::{Rc, RcStr};
 
 impl Context {
     /// The context of these values under their names. Refuses the first name that comes again with
@@ -27,10 +27,21 @@ impl Context {
         ensures refused { IfErr result (IsRefusalOfNamed pairs.entry.items) }
     {
         match values_of(alloc, pairs) {
-            Ok(values) => Ok(Context::from_values(alloc, values)),
+            Ok(values) => match shared_by(alloc, values) {
+                Ok(context) => Ok(context),
+                Err(error) => Err(ContextCreationError::Memory(error)),
+            },
             Err(error) => Err(error),
         }
     }
+}
+
+// The context of these values, which its copies share.
+fn shared_by(alloc: Global, values: BTreeMap<RcStr, Value>) -> Result<Context, AllocError>
+    ensures { IfOk result (λ c. context_view c ≡ known_context (whats_at values.entries)) }
+{
+    let shared = Rc::new(alloc, values)?;
+    Ok(Context::of_shared(alloc, shared))
 }
 
 // The values under their names.

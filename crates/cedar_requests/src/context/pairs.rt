@@ -4,8 +4,8 @@ ghost use Rattle.cedar_model.specs.Shapes.{are_restricted_at, have_unknown_at};
 ghost use Rattle.cedar_expressions.specs.View.{fields_view};
 ghost use mathlib.Core.Bool.{Bool-set};
 
+use super::values::ContextValues;
 use cedar_expressions::Expr;
-use cedar_values::Value;
 use std::collections::BTreeMap;
 use std::marker::Model;
 use std::rc::RcStr;
@@ -14,7 +14,7 @@ use std::rc::RcStr;
 #[derive(Debug, Drop)]
 pub enum ContextPairs {
     /// Values.
-    Values(BTreeMap<RcStr, Value>),
+    Values(ContextValues),
     /// Restricted expressions of which one or more hold an unknown.
     Residual(ResidualPairs),
 }
@@ -50,7 +50,7 @@ impl ContextPairs {
         ensures { result ≡ length (context_keys (pairs_view self.now)) }
     {
         match self {
-            ContextPairs::Values(pairs) => pairs.len(),
+            ContextPairs::Values(values) => values.as_map().len(),
             ContextPairs::Residual(residual) => residual.pairs.len(),
         }
     }

@@ -80,7 +80,7 @@ fn show_pairs<W: fmt::Write>(
     ensures { WritesOnOk W.write_str_gives f.old result (shown_fields bound bound true (pairs_terms pairs.now)) f.new }
 {
     match pairs {
-        ContextPairs::Values(values) => show_values(values, bound, f),
+        ContextPairs::Values(values) => show_values(values.as_map(), bound, f),
         ContextPairs::Residual(residual) => show_exprs(residual.as_map(), bound, f),
     }
 }

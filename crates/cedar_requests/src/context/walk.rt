@@ -1,5 +1,5 @@
 //! The walk over the attributes of a context, in the order of their names.
-ghost use Rattle.std.specs.Prelude.{◌≡◌, true, map, length, IfOk};
+ghost use Rattle.std.specs.Prelude.{◌≡◌, ◌≤◌, true, map, length, IfOk};
 ghost use Rattle.cedar_model.specs.Shapes.{are_restricted_at};
 ghost use Rattle.cedar_expressions.specs.View.{fields_view};
 ghost use Rattle.cedar_requests.specs.Contexts.{residual_map};
@@ -7,15 +7,17 @@ ghost use mathlib.Core.Bool.{Bool-set};
 
 use super::Context;
 use super::pairs::{ContextPairs, ResidualPairs};
+use super::values::ContextValues;
 use cedar_expressions::Expr;
 use cedar_restricted_expressions::RestrictedExpr;
 use cedar_values::Value;
 use std::alloc::{AllocError, Global};
-use std::collections::btree_map;
-use std::rc::RcStr;
+use std::collections::{BTreeMap, btree_map};
+use std::rc::{Rc, RcStr};
 
 /// The attributes of a context with their expressions, in the order of their names: a value is written as its
-/// expression. Where memory is wanting for that, an `Err` stands in the attribute's place, and the walk goes on.
+/// expression. Where memory is wanting for that, an `Err` stands in the attribute's place, and the walk goes on; so
+/// it does in the place of each attribute where other contexts share the values and memory is wanting for a copy.
 #[derive(Drop)]
 pub struct IntoIter {
     pairs: PairsIter,
@@ -25,7 +27,16 @@ pub struct IntoIter {
 #[derive(Drop)]
 enum PairsIter {
     Values(btree_map::IntoIter<RcStr, Value>),
+    Lacking(LackingIter),
     Residual(ResidualIter),
+}
+
+// Values that others share, of which there was no memory for a copy: so many are left.
+#[derive(Drop)]
+struct LackingIter {
+    values: Rc<BTreeMap<RcStr, Value>>,
+    left: usize,
+    ghost within: { left ≤ length values.value.entries },
 }
 
 // Restricted expressions under their names.
@@ -51,8 +62,8 @@ impl IntoIterator for Context {
     fn into_iter(self) -> IntoIter {
         let alloc = self.alloc;
         match self.pairs {
-            ContextPairs::Values(pairs) => IntoIter {
-                pairs: PairsIter::Values(pairs.into_iter()),
+            ContextPairs::Values(values) => IntoIter {
+                pairs: PairsIter::of_values(values),
                 alloc,
             },
             ContextPairs::Residual(residual) => IntoIter {
@@ -79,11 +90,59 @@ impl Iterator for IntoIter {
                 Some((name, value)) => Some(IntoIter::written(self.alloc, name, value)),
                 None => None,
             },
+            PairsIter::Lacking(values) => match values.next() {
+                Some(error) => Some(Err(error)),
+                None => None,
+            },
             PairsIter::Residual(residual) => match residual.next() {
                 Some(attribute) => Some(Ok(attribute)),
                 None => None,
             },
         }
+    }
+}
+
+impl PairsIter {
+    ghost use Rattle.std.specs.Cmp.Lexicographic.{slice_cmp};
+    ghost use Rattle.std.specs.List.Sorted.{IsStrictlySortedBy};
+    ghost use Rattle.std.specs.Ordering.{nat_cmp};
+    ghost use Rattle.cedar_requests.specs.Walks.{attribute_names, value_attribute, pairs_left};
+
+    // The walk over these values.
+    fn of_values(values: ContextValues) -> PairsIter
+        ensures attributes { pairs_left result ≡ map value_attribute values.entries }
+        ensures in_order { IsStrictlySortedBy (slice_cmp nat_cmp) (attribute_names (pairs_left result)) }
+    {
+        match values.into_map() {
+            Ok(values) => PairsIter::Values(values.into_iter()),
+            Err(shared) => PairsIter::Lacking(LackingIter::new(shared)),
+        }
+    }
+}
+
+impl LackingIter {
+    ghost use Rattle.std.specs.Cmp.Lexicographic.{slice_cmp};
+    ghost use Rattle.std.specs.List.Sorted.{IsStrictlySortedBy};
+    ghost use Rattle.std.specs.Ordering.{nat_cmp};
+    ghost use Rattle.cedar_requests.specs.Walks.{attribute_names, value_attribute, lacking_left, PassesOne};
+
+    fn new(values: Rc<BTreeMap<RcStr, Value>>) -> LackingIter
+        ensures attributes { lacking_left result ≡ map value_attribute values.value.entries }
+        ensures in_order { IsStrictlySortedBy (slice_cmp nat_cmp) (attribute_names (lacking_left result)) }
+    {
+        let left = values.as_ref().len();
+        LackingIter { values, left }
+    }
+
+    // Passes an attribute, and answers that memory is wanting.
+    fn next(&mut self) -> Option<AllocError>
+        ensures { PassesOne (lacking_left self.old) result (lacking_left self.new) }
+    {
+        if self.left == 0 {
+            return None;
+        }
+        self.left -= 1;
+        Some(AllocError)
     }
 }
 
