@@ -27,7 +27,7 @@ use cedar_layers::expressions::{
     BinaryOp, EntityType, EntityUID, Expr, ExprKind, Literal, Loc, PartialValue, Var,
 };
 use cedar_layers::policies::Policy;
-use cedar_partial_operators::connectives::true_and;
+use cedar_partial_operators::connectives::{Connective, joined_right};
 use either::{Either, Left};
 use std::alloc::Global;
 
@@ -233,7 +233,7 @@ pub(crate) fn joined_to_true(
     ensures place { IfOk result (λ p. partial_loc p ≡ loc) }
 {
     match answer {
-        Ok(part) => answer_at(true_and(alloc, part), loc),
+        Ok(part) => answer_at(joined_right(alloc, Connective::And, part), loc),
         Err(error) => Err(with_enclosing_loc(error, loc)),
     }
 }

@@ -19,7 +19,7 @@ use cedar_layers::expressions::{Expr, Loc, PartialValue, ResidualExpr, SlotEnv, 
 use cedar_layers::policies::Policy;
 use cedar_operators::failures::type_error;
 use cedar_operators::typed::{bool_in, bool_part};
-use cedar_partial_operators::connectives::{best, residual_and};
+use cedar_partial_operators::connectives::{Connective, best, residual_connective};
 use either::Either;
 use std::alloc::Global;
 
@@ -156,7 +156,7 @@ impl<'e, 'f> Evaluator<'e, 'f> {
         ensures place { IfOk result (λ p. partial_loc p ≡ loc) }
     {
         match best(alloc, self.part(alloc, right, slots, levels), right) {
-            Ok(kept) => answer_at(residual_and(alloc, left, kept), loc),
+            Ok(kept) => answer_at(residual_connective(alloc, Connective::And, left, kept), loc),
             Err(error) => {
                 drop(left);
                 Err(with_enclosing_loc(error, loc))

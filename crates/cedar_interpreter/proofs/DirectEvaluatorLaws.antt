@@ -6,13 +6,13 @@ use Rattle.std.specs.declared.alloc.AllocError.{AllocError}
 use Rattle.std.specs.declared.alloc.Global.{Global}
 use Rattle.std.specs.declared.rc.RcStr.{RcStr}
 use Rattle.std.specs.declared.vec.Vec.{Vec}
-use Rattle.cedar_model.specs.Terms.{Text, Term, Terms, get_attribute, extended_has, no_terms, one_term, BinaryOperator, binary, set_of, record_of, bool_literal, literal, if_then_else, both, either}
+use Rattle.cedar_model.specs.Terms.{Text, Term, Terms, get_attribute, extended_has, no_terms, one_term, BinaryOperator, binary, set_of, record_of, bool_literal, if_then_else}
 use Rattle.cedar_model.specs.Values.{Represented, set_represented, record_represented, plain_represented}
 use Rattle.cedar_model.specs.Sets.{canonical_set, represented_fields_of}
 use Rattle.cedar_model.specs.Failures.{Answer, value, answers_value, answers_bool}
 use Rattle.cedar_model.specs.Operators.{binary_answer, path_answer}
 use Rattle.cedar_model.specs.Settings.{RequestPart, Setting}
-use Rattle.cedar_model.specs.Rules.{StoredCalls, Parts, Runs, beside_residual, binary_beside, binary_of_parts, AfterAndLeft, AfterOrLeft, on_part}
+use Rattle.cedar_model.specs.Rules.{StoredCalls, Parts, Runs, beside_residual, binary_beside, binary_of_parts, on_part}
 use Rattle.cedar_expressions.specs.declared.expr.Expr.{Expr}
 use Rattle.cedar_expressions.specs.View.{view, terms_view, fields_view}
 use Rattle.cedar_values.specs.Sound.{Placed, whats}
@@ -23,11 +23,15 @@ use Rattle.cedar_restricted_evaluator.specs.Parts.{SoFar, all_values}
 use Rattle.cedar_restricted_evaluator.specs.Steps.{so_far_none, so_far_more, so_far_all, whole_answers}
 use Rattle.cedar_restricted_evaluator.proofs.Collected.{names_under, views_under, fields_of_all, value_added}
 use Rattle.cedar_model.specs.Outcomes.{bool_of}
-use Rattle.cedar_interpreter.proofs.BooleanLaws.{guard_true, guard_false, and_true, and_false, or_true, or_false}
+use Rattle.cedar_interpreter.proofs.BooleanLaws.{guard_true, guard_false, leaves_right, decides}
 use Rattle.cedar_interpreter.proofs.Laws.{literal_joined}
 use Rattle.cedar_interpreter.specs.declared.evaluation.Evaluation.{Evaluation}
 use Rattle.cedar_interpreter.specs.Settings.{Speaks, evaluation_setting, calls_in}
 use Rattle.cedar_operators.specs.StoredResiduals.{path_residual}
+use Rattle.cedar_partial_operators.specs.declared.connectives.Connective.{Connective}
+use Rattle.cedar_partial_operators.specs.Connectives.{deciding, neutral, joined_terms, beside_neutral}
+use Rattle.cedar_interpreter.specs.Tasks.{AfterLeftSide}
+use Rattle.cedar_interpreter.proofs.DirectLaws.{side_runs}
 use Rattle.cedar_interpreter.proofs.ReadLaws.{as_stored, none_resolved, operator_value, path_as_stored, path_value}
 use Rattle.cedar_interpreter.specs.Direct.{IsDirectValue, IsDirectBool, IsValueOf}
 use Rattle.cedar_interpreter.specs.DirectEvaluators.{parts_under}
@@ -65,43 +69,24 @@ module _ (s : Setting) (calls : StoredCalls) (k : ℕ) (t u : Term) where
   false_guard_direct d (Some v) runs direct =
       (answers_bool false, runs, guard_false (Runs s calls k) (value (plain_represented (bool_literal false))) d u (answers_value v.what) refl direct)
 
-  pub true_and_direct : (b : Option Bool) (o : Option Placed) → Runs s calls k t (answers_bool true) → IsDirectBool s calls k u b → IsValueOf b o → IsDirectValue s calls (suc k) (both t u) o
+  -- a left side that does not decide
+  pub right_direct : (c : Connective) (b : Option Bool) (o : Option Placed) → Runs s calls k t (answers_bool (neutral c)) → IsDirectBool s calls k u b → IsValueOf b o → IsDirectValue s calls (suc k) (joined_terms c t u) o
   unfolding bool_of
-  true_and_direct b None runs direct is = tt
-  true_and_direct None (Some v) runs direct is = absurd is
-  true_and_direct (Some b) (Some v) runs direct is = (
-    answers_bool true,
-    runs,
-    and_true (Runs s calls k) (value (plain_represented (bool_literal true))) u (answers_bool b) (answers_value v.what) refl direct (ap answers_value is ∙ literal_joined (both (literal (bool_literal true))) b),
-  )
+  right_direct c b None runs direct is = tt
+  right_direct c None (Some v) runs direct is = absurd is
+  right_direct c (Some b) (Some v) runs direct is =
+      side_runs s calls k c t u (answers_bool (neutral c)) (answers_value v.what) runs
+      (leaves_right (Runs s calls k) c (value (plain_represented (bool_literal (neutral c)))) u (answers_bool b) (answers_value v.what) refl direct
+      (ap answers_value is ∙ literal_joined (beside_neutral c) b))
 
-  pub false_and_direct : (o : Option Placed) → Runs s calls k t (answers_bool false) → IsValueOf (Some false) o → IsDirectValue s calls (suc k) (both t u) o
+  -- one that decides
+  pub left_direct : (c : Connective) (o : Option Placed) → Runs s calls k t (answers_bool (deciding c)) → IsValueOf (Some (deciding c)) o → IsDirectValue s calls (suc k) (joined_terms c t u) o
   unfolding bool_of
-  false_and_direct None runs is = tt
-  false_and_direct (Some v) runs is = (
-    answers_bool false,
-    runs,
-    subst (AfterAndLeft (Runs s calls k) (answers_bool false) u) (sym (ap answers_value is)) (and_false (Runs s calls k) (value (plain_represented (bool_literal false))) u refl),
-  )
-
-  pub false_or_direct : (b : Option Bool) (o : Option Placed) → Runs s calls k t (answers_bool false) → IsDirectBool s calls k u b → IsValueOf b o → IsDirectValue s calls (suc k) (either t u) o
-  unfolding bool_of
-  false_or_direct b None runs direct is = tt
-  false_or_direct None (Some v) runs direct is = absurd is
-  false_or_direct (Some b) (Some v) runs direct is = (
-    answers_bool false,
-    runs,
-    or_false (Runs s calls k) (value (plain_represented (bool_literal false))) u (answers_bool b) (answers_value v.what) refl direct (ap answers_value is ∙ literal_joined (either (literal (bool_literal false))) b),
-  )
-
-  pub true_or_direct : (o : Option Placed) → Runs s calls k t (answers_bool true) → IsValueOf (Some true) o → IsDirectValue s calls (suc k) (either t u) o
-  unfolding bool_of
-  true_or_direct None runs is = tt
-  true_or_direct (Some v) runs is = (
-    answers_bool true,
-    runs,
-    subst (AfterOrLeft (Runs s calls k) (answers_bool true) u) (sym (ap answers_value is)) (or_true (Runs s calls k) (value (plain_represented (bool_literal true))) u refl),
-  )
+  left_direct c None runs is = tt
+  left_direct c (Some v) runs is =
+      side_runs s calls k c t u (answers_bool (deciding c)) (answers_value v.what) runs
+      (subst (AfterLeftSide (Runs s calls k) c (answers_bool (deciding c)) u) (sym (ap answers_value is))
+      (decides (Runs s calls k) c (value (plain_represented (bool_literal (deciding c)))) u refl))
 
 -- what was made, if it was
 pub made_of : (m : Result Placed AllocError) (o : Option Placed) (P : Placed → Type 0) → IfOk m P → IfSome o (λ v. m ≡ Ok v) → IfSome o P

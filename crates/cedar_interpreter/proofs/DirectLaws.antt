@@ -4,7 +4,7 @@ use Rattle.std.specs.Prelude.{Option, Some, None, Result, IfSome}
 use Rattle.std.proofs.Common.{refl, sym, ap, ◌∙◌, subst, arith}
 use Rattle.std.specs.declared.alloc.Global.{Global}
 use Rattle.std.specs.declared.boxed.Box.{Box}
-use Rattle.cedar_model.specs.Terms.{Text, Literal, Term, bool_literal, literal, both, either, get_attribute}
+use Rattle.cedar_model.specs.Terms.{Text, Literal, Term, bool_literal, literal, get_attribute}
 use Rattle.cedar_model.specs.Values.{Represented, plain_represented}
 use Rattle.cedar_model.specs.Failures.{Answer, value, answers, answers_value, answers_bool, out_of_memory}
 use Rattle.cedar_model.specs.Operators.{attribute_answer, attribute_residual}
@@ -21,19 +21,24 @@ use Rattle.cedar_interpreter.specs.declared.evaluation.Evaluation.{Evaluation}
 use Rattle.cedar_interpreter.specs.declared.frame.Pending.{Pending}
 use Rattle.cedar_interpreter.specs.declared.frame.Pending.TheVariants as pendings
 use Rattle.cedar_interpreter.specs.declared.frame.Task.TheVariants as tasks
-use Rattle.cedar_interpreter.specs.Endings.{ending_answer}
+use Rattle.cedar_interpreter.specs.declared.boxed_residual.BoxedResidual.{BoxedResidual}
+use Rattle.cedar_interpreter.specs.Endings.{ending_answer, boxed_answer}
 use Rattle.cedar_interpreter.specs.Booleans.{part_bool, is_bool}
-use Rattle.cedar_interpreter.proofs.BooleanLaws.{and_true, or_false}
+use Rattle.cedar_interpreter.proofs.BooleanLaws.{leaves_right, keeps_right}
 use Rattle.cedar_interpreter.specs.Settings.{Speaks, evaluation_setting, calls_in}
 use Rattle.cedar_interpreter.proofs.Requests.{some_request}
-use Rattle.cedar_interpreter.specs.Tasks.{SharedExpr, Next, Uses, WaitsFor, WaitsAgain, Gives, pending_left}
+use Rattle.cedar_interpreter.specs.Tasks.{SharedExpr, Next, AfterLeftSide, Uses, WaitsFor, WaitsAgain, Gives, pending_left}
 use Rattle.cedar_interpreter.proofs.Laws.{continues_through, fewer_through, continues_placed, continues_fewer}
 use Rattle.cedar_interpreter.proofs.Laws.{gives_starts, gives_placed, literal_joined}
 use Rattle.cedar_interpreter.proofs.PartsLaws.{no_fail}
 use Rattle.cedar_errors.specs.declared.evaluator.err.EvaluationError.{EvaluationError}
 use Rattle.cedar_errors.specs.Answers.{partial_answer, AnswersWith}
 use Rattle.cedar_operators.specs.Operands.{over}
+use Rattle.cedar_partial_operators.specs.declared.connectives.Connective.{Connective}
+use Rattle.cedar_partial_operators.specs.declared.connectives.Connective.TheVariants as connectives
+use Rattle.cedar_partial_operators.specs.Connectives.{neutral, joined_terms, beside_neutral}
 use Rattle.cedar_partial_operators.specs.Parts.{projection}
+use Rattle.cedar_values.specs.Residuals.{partial_view}
 use Rattle.cedar_interpreter.proofs.ReadLaws.{none_resolved, attribute_value}
 use Rattle.cedar_interpreter.proofs.StoredLaws.{of_value, value_stays, part_stored}
 use Rattle.cedar_interpreter.specs.Continuations.{ContinuesAt, StartsIn, ContinuesIn, LeadsIn}
@@ -152,54 +157,44 @@ literal_right e levels w p c n b seen gives =
     right_given e levels w p c n b
     (λ r k speaks low. subst (λ t. Runs (evaluation_setting r e) (calls_in e) (suc k) t (answers_bool b)) (sym seen) refl) gives
 
-module _ {X : Type 0} {F : X → Type 0} {g : _} (e : Evaluation X F g) (levels : ℕ) (w right : SharedExpr)
-    (p : model.PartialValue) where
-  -- a true left side of `&&`
-  pub and_right_side : (n : Next) → part_bool p ≡ Some true → IsRightSide e levels w pendings.AndRight right n →
-      ContinuesIn e levels w (pendings.AndLeft right) (answers p) n
-  and_right_side (Done o) is (b, runs, (gives, place)) = (
-    λ r k speaks low. (
-      λ ok. and_true (Runs (evaluation_setting r e) (calls_in e) (suc k)) p (view right.value) (answers_bool b)
-          (ending_answer o) is (runs r k speaks low) (gives ok ∙ literal_joined (both (literal (bool_literal true))) b),
-      place,
-    ),
+-- beside a left side that does not decide
+pub right_side_read : {X : Type 0} {F : X → Type 0} {g : _} (e : Evaluation X F g) (levels : ℕ) (w right : SharedExpr) (c : Connective)
+    (p : model.PartialValue) (n : Next) → part_bool p ≡ Some (neutral c) → IsRightSide e levels w (pendings.RightSide c) right n →
+    ContinuesIn e levels w (pendings.LeftSide c right) (answers p) n
+right_side_read e levels w right c p (Done o) is (b, runs, (gives, place)) = (
+  λ r k speaks low. (
+    λ ok. leaves_right (Runs (evaluation_setting r e) (calls_in e) (suc k)) c p (view right.value) (answers_bool b)
+        (ending_answer o) is (runs r k speaks low) (gives ok ∙ literal_joined (beside_neutral c) b),
     place,
-    tt,
-  )
-  and_right_side (Wait f d) is (task, part, place) =
-      continues_in e levels w (pendings.AndLeft right) (answers p) (Wait f d)
-      (λ r k. (
-        subst (λ x. WaitsAgain (evaluation_setting r e) (calls_in e) k (pendings.AndLeft right) (answers p) x (view d.value))
-            (sym task)
-            (subst (λ c. WaitsAgain (evaluation_setting r e) (calls_in e) k (pendings.AndLeft right) (answers p)
-            (tasks.Other pendings.AndRight) (view c.value)) (sym part) (
-              omega arith,
-              λ y a runs uses. and_true (Runs (evaluation_setting r e) (calls_in e) k) p (view right.value) y a is runs uses,
-            )),
-        place,
-      ))
+  ),
+  place,
+  tt,
+)
+right_side_read e levels w right c p (Wait f d) is (task, part, place) =
+    continues_in e levels w (pendings.LeftSide c right) (answers p) (Wait f d)
+    (λ r k. (
+      subst (λ x. WaitsAgain (evaluation_setting r e) (calls_in e) k (pendings.LeftSide c right) (answers p) x (view d.value))
+          (sym task)
+          (subst (λ y. WaitsAgain (evaluation_setting r e) (calls_in e) k (pendings.LeftSide c right) (answers p)
+          (tasks.Other (pendings.RightSide c)) (view y.value)) (sym part) (
+            omega arith,
+            λ y a runs uses. leaves_right (Runs (evaluation_setting r e) (calls_in e) k) c p (view right.value) y a is runs uses,
+          )),
+      place,
+    ))
 
-  -- a false left side of `||`
-  pub or_right_side : (n : Next) → part_bool p ≡ Some false → IsRightSide e levels w pendings.OrRight right n →
-      ContinuesIn e levels w (pendings.OrLeft right) (answers p) n
-  or_right_side (Done o) is (b, runs, (gives, place)) = (
-    λ r k speaks low. (
-      λ ok. or_false (Runs (evaluation_setting r e) (calls_in e) (suc k)) p (view right.value) (answers_bool b)
-          (ending_answer o) is (runs r k speaks low) (gives ok ∙ literal_joined (either (literal (bool_literal false))) b),
-      place,
-    ),
-    place,
-    tt,
-  )
-  or_right_side (Wait f d) is (task, part, place) =
-      continues_in e levels w (pendings.OrLeft right) (answers p) (Wait f d)
-      (λ r k. (
-        subst (λ x. WaitsAgain (evaluation_setting r e) (calls_in e) k (pendings.OrLeft right) (answers p) x (view d.value))
-            (sym task)
-            (subst (λ c. WaitsAgain (evaluation_setting r e) (calls_in e) k (pendings.OrLeft right) (answers p)
-            (tasks.Other pendings.OrRight) (view c.value)) (sym part) (
-              omega arith,
-              λ y a runs uses. or_false (Runs (evaluation_setting r e) (calls_in e) k) p (view right.value) y a is runs uses,
-            )),
-        place,
-      ))
+-- ---- both sides
+
+-- what the rules make of the left side is the answer of both
+pub side_runs : (s : Setting) (calls : StoredCalls) (k : ℕ) (c : Connective) (t u : Term) (x a : Answer) → Runs s calls k t x →
+    AfterLeftSide (Runs s calls k) c x u a → Runs s calls (suc k) (joined_terms c t u) a
+side_runs s calls k connectives.And t u x a runs after = (x, runs, after)
+side_runs s calls k connectives.Or t u x a runs after = (x, runs, after)
+
+-- beside a residual left side the right one is waited for
+pub kept_continues : (s : Setting) (calls : StoredCalls) (k : ℕ) (c : Connective) (b : BoxedResidual) (right : SharedExpr) →
+    WaitsAgain s calls k (pendings.LeftSide c right) (boxed_answer b.part) (tasks.Other (pendings.KeptRightSide c b right)) (view right.value)
+kept_continues s calls k c b right = (
+  omega arith,
+  λ y a runs uses. keeps_right (Runs s calls k) c (partial_view b.part.value) (view right.value) y a b.residual runs uses,
+)

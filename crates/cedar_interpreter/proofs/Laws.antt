@@ -15,6 +15,7 @@ use Rattle.cedar_values.specs.declared.partial_value.PartialValue.{PartialValue}
 use Rattle.cedar_values.specs.Residuals.{partial_view}
 use Rattle.cedar_frames.specs.declared.machine.Step.TheVariants.{Done, Wait}
 use Rattle.cedar_frames.specs.Frames.{Resumes, Fewer, Below}
+use Rattle.cedar_partial_operators.specs.declared.connectives.Connective.TheVariants as connectives
 use Rattle.cedar_restricted_evaluator.specs.declared.parts.PartsFrame.{PartsFrame}
 use Rattle.cedar_restricted_evaluator.specs.Frames as restricted
 use Rattle.cedar_restricted_evaluator.specs.Frames.{NextPart}
@@ -187,12 +188,9 @@ IsPassedOn pendings.Passed = Unit {0}
 IsPassedOn (pendings.Guard t e) = Unit {0}
 IsPassedOn (pendings.Then f) = ⊥
 IsPassedOn (pendings.Else f) = ⊥
-IsPassedOn (pendings.AndLeft r) = Unit {0}
-IsPassedOn pendings.AndRight = Unit {0}
-IsPassedOn (pendings.AndKept l r) = ⊥
-IsPassedOn (pendings.OrLeft r) = Unit {0}
-IsPassedOn pendings.OrRight = Unit {0}
-IsPassedOn (pendings.OrKept l r) = ⊥
+IsPassedOn (pendings.LeftSide c r) = Unit {0}
+IsPassedOn (pendings.RightSide c) = Unit {0}
+IsPassedOn (pendings.KeptRightSide c l r) = ⊥
 IsPassedOn (pendings.Unary op) = Unit {0}
 IsPassedOn (pendings.BinaryLeft op r) = Unit {0}
 IsPassedOn (pendings.BinaryRight op l) = Unit {0}
@@ -213,12 +211,10 @@ passed_on s May pendings.Passed e h = refl
 passed_on s May (pendings.Guard t u) e h = refl
 passed_on s May (pendings.Then f) e h = absurd h
 passed_on s May (pendings.Else f) e h = absurd h
-passed_on s May (pendings.AndLeft r) e h = refl
-passed_on s May pendings.AndRight e h = refl
-passed_on s May (pendings.AndKept l r) e h = absurd h
-passed_on s May (pendings.OrLeft r) e h = refl
-passed_on s May pendings.OrRight e h = refl
-passed_on s May (pendings.OrKept l r) e h = absurd h
+passed_on s May (pendings.LeftSide connectives.And r) e h = refl
+passed_on s May (pendings.LeftSide connectives.Or r) e h = refl
+passed_on s May (pendings.RightSide c) e h = refl
+passed_on s May (pendings.KeptRightSide c l r) e h = absurd h
 passed_on s May (pendings.Unary op) e h = refl
 passed_on s May (pendings.BinaryLeft op r) e h = refl
 passed_on s May (pendings.BinaryRight op l) e h = resolved May s.resolution (fails e)
@@ -280,12 +276,9 @@ few_pending pendings.Passed = omega arith
 few_pending (pendings.Guard t e) = omega arith
 few_pending (pendings.Then f) = omega arith
 few_pending (pendings.Else f) = omega arith
-few_pending (pendings.AndLeft r) = omega arith
-few_pending pendings.AndRight = omega arith
-few_pending (pendings.AndKept l r) = omega arith
-few_pending (pendings.OrLeft r) = omega arith
-few_pending pendings.OrRight = omega arith
-few_pending (pendings.OrKept l r) = omega arith
+few_pending (pendings.LeftSide c r) = omega arith
+few_pending (pendings.RightSide c) = omega arith
+few_pending (pendings.KeptRightSide c l r) = omega arith
 few_pending (pendings.Unary op) = omega arith
 few_pending (pendings.BinaryLeft op r) = omega arith
 few_pending (pendings.BinaryRight op l) = omega arith

@@ -7,6 +7,7 @@ use Rattle.cedar_model.specs.Failures.{Answer, value, fails, limit, out_of_memor
 use Rattle.cedar_model.specs.Settings.{RequestPart, Store, Resolution, shallow, deep, Setting}
 use Rattle.cedar_model.specs.Rules.{MayAnswer, StoredCalls, Parts, Runs, Resolves, AtPath, best, best_of_kind, joined, on_part, beside_residual, binary_beside, has_part, is_part}
 use Rattle.cedar_expressions.specs.View.{view, terms_view}
+use Rattle.cedar_partial_operators.specs.declared.connectives.Connective.TheVariants as connectives
 use Rattle.cedar_restricted_evaluator.specs.declared.parts.PartsFrame.{PartsFrame}
 use Rattle.cedar_restricted_evaluator.specs.Steps.{so_far_fails, whole_fails}
 use Rattle.cedar_interpreter.specs.declared.frame.Frame.{Frame}
@@ -38,12 +39,10 @@ uses_limit s May pendings.Passed = refl
 uses_limit s May (pendings.Guard t e) = refl
 uses_limit s May (pendings.Then f) = refl
 uses_limit s May (pendings.Else f) = refl
-uses_limit s May (pendings.AndLeft r) = refl
-uses_limit s May pendings.AndRight = refl
-uses_limit s May (pendings.AndKept l r) = refl
-uses_limit s May (pendings.OrLeft r) = refl
-uses_limit s May pendings.OrRight = refl
-uses_limit s May (pendings.OrKept l r) = refl
+uses_limit s May (pendings.LeftSide connectives.And r) = refl
+uses_limit s May (pendings.LeftSide connectives.Or r) = refl
+uses_limit s May (pendings.RightSide c) = refl
+uses_limit s May (pendings.KeptRightSide c l r) = refl
 uses_limit s May (pendings.Unary op) = refl
 uses_limit s May (pendings.BinaryLeft op r) = refl
 uses_limit s May (pendings.BinaryRight op l) = resolved May s.resolution limit
@@ -87,12 +86,9 @@ some_pending pendings.Passed = omega arith
 some_pending (pendings.Guard t e) = omega arith
 some_pending (pendings.Then f) = omega arith
 some_pending (pendings.Else f) = omega arith
-some_pending (pendings.AndLeft r) = omega arith
-some_pending pendings.AndRight = omega arith
-some_pending (pendings.AndKept l r) = omega arith
-some_pending (pendings.OrLeft r) = omega arith
-some_pending pendings.OrRight = omega arith
-some_pending (pendings.OrKept l r) = omega arith
+some_pending (pendings.LeftSide c r) = omega arith
+some_pending (pendings.RightSide c) = omega arith
+some_pending (pendings.KeptRightSide c l r) = omega arith
 some_pending (pendings.Unary op) = omega arith
 some_pending (pendings.BinaryLeft op r) = omega arith
 some_pending (pendings.BinaryRight op l) = omega arith

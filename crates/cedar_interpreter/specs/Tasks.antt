@@ -5,7 +5,7 @@ use Rattle.std.specs.declared.alloc.Global.{Global}
 use Rattle.std.specs.declared.rc.Rc.{Rc}
 use Rattle.std.specs.Rc.{rc_str_bytes}
 use Rattle.std.specs.declared.rc.RcStr.{RcStr}
-use Rattle.cedar_model.specs.Terms.{Text, Terms, one_term, Term, bool_literal, literal, if_then_else, both, either, unary, like}
+use Rattle.cedar_model.specs.Terms.{Text, Terms, one_term, Term, if_then_else, unary, like}
 use Rattle.cedar_model.specs.Failures.{Answer, fails, out_of_memory, answers_residual}
 use Rattle.cedar_model.specs.Operators.{unary_answer, like_answer}
 use Rattle.cedar_model.specs.Settings.{Setting}
@@ -16,12 +16,16 @@ use Rattle.cedar_names.specs.declared.names.Loc.{Loc}
 use Rattle.cedar_names.specs.declared.types.FirstRest.{FirstRest}
 use Rattle.cedar_expressions.specs.declared.expr.Expr.{Expr}
 use Rattle.cedar_expressions.specs.View.{view, terms_view, expr_loc}
-use Rattle.cedar_values.specs.Residuals.{partial_view, partial_loc, residual_term}
+use Rattle.cedar_values.specs.Residuals.{partial_view, partial_loc, partial_term, residual_term}
+use Rattle.cedar_partial_operators.specs.declared.connectives.Connective.{Connective}
+use Rattle.cedar_partial_operators.specs.declared.connectives.Connective.TheVariants as connectives
+use Rattle.cedar_partial_operators.specs.Connectives.{joined_terms, beside_neutral}
 use Rattle.cedar_frames.specs.declared.machine.Step.{Step}
 use Rattle.cedar_frames.specs.declared.machine.Step.TheVariants.{Done, Wait}
 use Rattle.cedar_restricted_evaluator.specs.declared.parts.PartsFrame.{PartsFrame}
 use Rattle.cedar_restricted_evaluator.specs.Parts.{whole_term}
 use Rattle.cedar_restricted_evaluator.specs.Frames.{HasRead, parts_left, left_of}
+use Rattle.cedar_interpreter.specs.declared.boxed_residual.BoxedResidual.{BoxedResidual}
 use Rattle.cedar_interpreter.specs.declared.frame.Frame.{Frame}
 use Rattle.cedar_interpreter.specs.declared.frame.Pending.{Pending}
 use Rattle.cedar_interpreter.specs.declared.frame.Pending.TheVariants as pendings
@@ -42,7 +46,16 @@ Next = Step Frame SharedExpr Ending
 abbrev pub StandsAt : Option Loc → Ending → Type 0
 StandsAt l o = IfOk o (λ v. partial_loc v.value ≡ l)
 
+-- the term of a residual in a box
+abbrev pub boxed_term : BoxedResidual → Term
+boxed_term b = partial_term (partial_view b.part.value)
+
 -- ---- what is done with the answer of a part
+
+-- what the rules do with the answer of a left side, before this right one
+abbrev pub AfterLeftSide : MayAnswer → Connective → Answer → Term → Answer → Type 0
+AfterLeftSide May connectives.And x t a = AfterAndLeft May x t a
+AfterLeftSide May connectives.Or x t a = AfterOrLeft May x t a
 
 -- what the rules do with a part's answer, where `May` says what parts may answer
 abbrev pub Uses : Setting → MayAnswer → Pending → Answer → Answer → Type 0
@@ -55,14 +68,10 @@ Uses s May (pendings.Then f) x a =
 Uses s May (pendings.Else f) x a =
     AfterBest (best x (view f.value.else_expr.value))
     (λ e c. c ≡ answers_residual (if_then_else (residual_term f.value.guard) (view f.value.then_expr) e)) a
-Uses s May (pendings.AndLeft r) x a = AfterAndLeft May x (view r.value) a
-Uses s May pendings.AndRight x a = a ≡ joined (both (literal (bool_literal true))) x
-Uses s May (pendings.AndKept l r) x a =
-    AfterBest (best x (view r.value)) (λ t b. b ≡ answers_residual (both (residual_term l.value) t)) a
-Uses s May (pendings.OrLeft r) x a = AfterOrLeft May x (view r.value) a
-Uses s May pendings.OrRight x a = a ≡ joined (either (literal (bool_literal false))) x
-Uses s May (pendings.OrKept l r) x a =
-    AfterBest (best x (view r.value)) (λ t b. b ≡ answers_residual (either (residual_term l.value) t)) a
+Uses s May (pendings.LeftSide c r) x a = AfterLeftSide May c x (view r.value) a
+Uses s May (pendings.RightSide c) x a = a ≡ joined (beside_neutral c) x
+Uses s May (pendings.KeptRightSide c l r) x a =
+    AfterBest (best x (view r.value)) (λ t b. b ≡ answers_residual (joined_terms c (boxed_term l) t)) a
 Uses s May (pendings.Unary op) x a = a ≡ on_part (unary_answer (unary_view op)) (unary (unary_view op)) x
 Uses s May (pendings.BinaryLeft op r) x a = AfterLeft May s (binary_view op) x (view r.value) a
 Uses s May (pendings.BinaryRight op l) x a =
@@ -141,12 +150,9 @@ pending_left pendings.Passed = 1
 pending_left (pendings.Guard t e) = 3
 pending_left (pendings.Then f) = 2
 pending_left (pendings.Else f) = 1
-pending_left (pendings.AndLeft r) = 2
-pending_left pendings.AndRight = 1
-pending_left (pendings.AndKept l r) = 1
-pending_left (pendings.OrLeft r) = 2
-pending_left pendings.OrRight = 1
-pending_left (pendings.OrKept l r) = 1
+pending_left (pendings.LeftSide c r) = 2
+pending_left (pendings.RightSide c) = 1
+pending_left (pendings.KeptRightSide c l r) = 1
 pending_left (pendings.Unary op) = 1
 pending_left (pendings.BinaryLeft op r) = 3
 pending_left (pendings.BinaryRight op l) = 2

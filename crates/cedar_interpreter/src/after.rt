@@ -11,11 +11,13 @@ ghost use Rattle.cedar_interpreter.specs.Endings.{boxed_answer};
 ghost use Rattle.cedar_interpreter.specs.declared.frame.Pending.TheVariants as pendings;
 
 use crate::answers::{or_want, passed_on, put_at};
+use crate::boxed_residual::BoxedResidual;
 use crate::evaluation::Evaluation;
 use crate::failed::Failed;
 use crate::frame::{FirstBranch, Next, Pending, SecondBranch, SharedExpr};
 use cedar_expressions::Expr;
-use cedar_values::{PartialValue, ResidualExpr};
+use cedar_partial_operators::connectives::Connective;
+use cedar_values::PartialValue;
 use std::alloc::{AllocError, Global};
 use std::rc::Rc;
 
@@ -32,23 +34,24 @@ impl<'e, 'g, 'f> Evaluation<'e, 'g, 'f> {
         ensures { ContinuesIn self.now levels whole pending (boxed_answer answer) result }
     {
         match pending {
-            Pending::Passed => put_at(alloc, &whole, answer),
+            Pending::Passed => put_at(&whole, answer),
             Pending::Guard {
                 then_expr,
                 else_expr,
             } => self.after_guard(alloc, whole, then_expr, else_expr, answer),
             Pending::Then(first) => self.after_then(alloc, whole, first, answer),
             Pending::Else(second) => self.after_else(alloc, whole, second, answer),
-            Pending::AndLeft { right } => self.after_and_left(alloc, whole, right, answer, levels),
-            Pending::AndRight => self.after_and_right(alloc, whole, answer),
-            Pending::AndKept { left, right } => {
-                self.after_and_kept(alloc, whole, left, right, answer)
+            Pending::LeftSide { connective, right } => {
+                self.after_left_side(alloc, whole, connective, right, answer, levels)
             }
-            Pending::OrLeft { right } => self.after_or_left(alloc, whole, right, answer, levels),
-            Pending::OrRight => self.after_or_right(alloc, whole, answer),
-            Pending::OrKept { left, right } => {
-                self.after_or_kept(alloc, whole, left, right, answer)
+            Pending::RightSide(connective) => {
+                self.after_right_side(alloc, whole, connective, answer)
             }
+            Pending::KeptRightSide {
+                connective,
+                left,
+                right,
+            } => self.after_kept_right_side(alloc, whole, connective, left, right, answer),
             Pending::Unary(op) => self.after_operand(alloc, &whole, op, answer),
             Pending::BinaryLeft { op, right } => {
                 self.after_left(alloc, &whole, op, &right, answer, levels)
@@ -96,38 +99,23 @@ impl<'e, 'g, 'f> Evaluation<'e, 'g, 'f> {
         self.both_branches(alloc, whole, second, kept)
     }
 
-    // `&&` beside a residual left side, after the right.
+    // `&&` or `||` beside a residual left side, after the right.
     #[cold]
     #[inline(never)]
-    fn after_and_kept(
+    fn after_kept_right_side(
         &self,
         alloc: Global,
         whole: SharedExpr,
-        left: Box<ResidualExpr>,
+        connective: Connective,
+        left: BoxedResidual,
         right: Rc<Expr>,
         answer: Box<PartialValue>,
     ) -> Next
-        ensures { ContinuesAt self.now whole (pendings.AndKept left right) (boxed_answer answer) result }
+        ensures { ContinuesAt self.now whole (pendings.KeptRightSide connective left right)
+            (boxed_answer answer) result }
     {
         let kept = kept_part(alloc, answer);
-        self.kept_conjunction(alloc, whole, left, right, kept)
-    }
-
-    // `||` beside a residual left side, after the right.
-    #[cold]
-    #[inline(never)]
-    fn after_or_kept(
-        &self,
-        alloc: Global,
-        whole: SharedExpr,
-        left: Box<ResidualExpr>,
-        right: Rc<Expr>,
-        answer: Box<PartialValue>,
-    ) -> Next
-        ensures { ContinuesAt self.now whole (pendings.OrKept left right) (boxed_answer answer) result }
-    {
-        let kept = kept_part(alloc, answer);
-        self.kept_disjunction(alloc, whole, left, right, kept)
+        self.both_sides(alloc, whole, connective, left, right, kept)
     }
 
     // What comes next of what waited, after this error: beside a residual the part's original is kept, elsewhere it is
@@ -146,23 +134,24 @@ impl<'e, 'g, 'f> Evaluation<'e, 'g, 'f> {
         match pending {
             Pending::Then(first) => self.failed_then(alloc, whole, first, failed),
             Pending::Else(second) => self.failed_else(alloc, whole, second, failed),
-            Pending::AndKept { left, right } => {
+            Pending::KeptRightSide {
+                connective,
+                left,
+                right,
+            } => {
                 let kept = original_of(failed, &right);
-                self.kept_conjunction(alloc, whole, left, right, kept)
-            }
-            Pending::OrKept { left, right } => {
-                let kept = original_of(failed, &right);
-                self.kept_disjunction(alloc, whole, left, right, kept)
+                self.both_sides(alloc, whole, connective, left, right, kept)
             }
             Pending::Passed => passed_on(alloc, &whole, (), failed),
             Pending::Guard {
                 then_expr,
                 else_expr,
             } => passed_on(alloc, &whole, (then_expr, else_expr), failed),
-            Pending::AndLeft { right } => passed_on(alloc, &whole, right, failed),
-            Pending::AndRight => passed_on(alloc, &whole, (), failed),
-            Pending::OrLeft { right } => passed_on(alloc, &whole, right, failed),
-            Pending::OrRight => passed_on(alloc, &whole, (), failed),
+            Pending::LeftSide {
+                connective: _,
+                right,
+            } => passed_on(alloc, &whole, right, failed),
+            Pending::RightSide(_) => passed_on(alloc, &whole, (), failed),
             Pending::Unary(op) => passed_on(alloc, &whole, op, failed),
             Pending::BinaryLeft { op: _, right } => passed_on(alloc, &whole, right, failed),
             Pending::BinaryRight { op: _, left } => passed_on(alloc, &whole, left, failed),

@@ -10,7 +10,6 @@ ghost use Rattle.cedar_interpreter.specs.Tasks.{Gives, IsOrWant};
 ghost use Rattle.cedar_interpreter.specs.Booleans.{part_bool};
 ghost use Rattle.cedar_interpreter.specs.Elements.{IsBoxed};
 
-use crate::boxed::boxed;
 use crate::failed::Failed;
 use crate::frame::{Next, SharedExpr};
 use crate::stopped::Stopped;
@@ -58,7 +57,7 @@ pub(crate) fn answered_in(
     match answer {
         Ok(value) => {
             drop(mem::replace(&mut *operand, value));
-            put_at(alloc, whole, operand)
+            put_at(whole, operand)
         }
         Err(error) => Step::Done(Err(Stopped::of(alloc, error, loc_of(whole)))),
     }
@@ -79,21 +78,21 @@ pub(crate) fn done(alloc: Global, whole: &SharedExpr, part: PartialValue) -> Nex
     ensures boxed { IsBoxed part result }
 {
     match Box::new(alloc, part) {
-        Ok(part) => put_at(alloc, whole, part),
+        Ok(part) => put_at(whole, part),
         Err(_) => Step::Done(Err(Stopped::Memory)),
     }
 }
 
 // This answer, where the whole stands.
 #[inline(always)]
-pub(crate) fn put_at(alloc: Global, whole: &SharedExpr, mut part: Box<PartialValue>) -> Next
+pub(crate) fn put_at(whole: &SharedExpr, mut part: Box<PartialValue>) -> Next
     ensures answer { Gives (expr_loc whole.now.value) result (answers (partial_view part.value)) }
     ensures boxed { IsBoxed part.value result }
 {
     if is_value_put(&mut part, whole) {
         Step::Done(Ok(part))
     } else {
-        residual_at(alloc, whole, part)
+        residual_at(whole, part)
     }
 }
 
@@ -129,20 +128,16 @@ fn is_value_put(part: &mut PartialValue, whole: &SharedExpr) -> bool
     }
 }
 
-// A residual, where the whole stands.
+// A residual, where the whole stands: in its box.
 #[cold]
 #[inline(never)]
-fn residual_at(alloc: Global, whole: &SharedExpr, part: Box<PartialValue>) -> Next
+fn residual_at(whole: &SharedExpr, mut part: Box<PartialValue>) -> Next
     ensures answer { Gives (expr_loc whole.now.value) result (answers (partial_view part.value)) }
     ensures boxed { IsBoxed part.value result }
 {
-    match boxed(
-        alloc,
-        Box::into_inner(part).with_maybe_source_loc(loc_of(whole)),
-    ) {
-        Ok(part) => Step::Done(Ok(part)),
-        Err(_) => Step::Done(Err(Stopped::Memory)),
-    }
+    let placed = taken_out(&mut part).with_maybe_source_loc(loc_of(whole));
+    drop(mem::replace(&mut *part, placed));
+    Step::Done(Ok(part))
 }
 
 // The error that came, which ends what waited too, where the whole stands if it stands nowhere.

@@ -26,17 +26,15 @@ pub(crate) fn boxed_with<A: Drop, B: Drop>(
     Ok((held, beside))
 }
 
-// The one in a box, and the shared one twice.
-pub(crate) fn boxed_beside<A: Drop, B: Drop>(
-    alloc: Global,
-    boxed: A,
+// What is held, the shared one beside it, and that once more.
+pub(crate) fn copied_beside<A: Drop, B: Drop>(
+    held: A,
     shared: Rc<B>,
-) -> Result<(Box<A>, Rc<B>, Rc<B>), AllocError>
-    ensures boxed { IfOk result (λ p. p.0.value ≡ boxed) }
+) -> Result<(A, Rc<B>, Rc<B>), AllocError>
+    ensures held { IfOk result (λ p. p.0 ≡ held) }
     ensures shared { IfOk result (λ p. p.1 ≡ shared) }
     ensures again { IfOk result (λ p. p.2.value ≡ shared.value) }
 {
     let again = shared.clone()?;
-    let boxed = Box::new(alloc, boxed)?;
-    Ok((boxed, shared, again))
+    Ok((held, shared, again))
 }

@@ -18,6 +18,7 @@ ghost use Rattle.cedar_layers.specs.Stores.{store_view};
 ghost use Rattle.cedar_extensions.specs.Extensions.{extensions_view};
 ghost use Rattle.cedar_operators.specs.Operands.{given};
 ghost use Rattle.cedar_restricted_evaluator.specs.Keys.{key_order, texts_of, under};
+ghost use Rattle.cedar_partial_operators.specs.Connectives.{joined_terms};
 ghost use Rattle.cedar_interpreter.specs.Direct.{IsValueOf, HasDirectValue, HasDirectBool, HasDirectValueAbove};
 ghost use Rattle.cedar_interpreter.specs.DirectEvaluators.{HasDirectParts, HasDirectPairs, some_above};
 
@@ -29,6 +30,7 @@ use cedar_operators::attributes::attribute_of;
 use cedar_operators::binary::binary_app;
 use cedar_operators::operators::of_longs;
 use cedar_partial_operators::attributes::{extended_has_of_part, has_of_part};
+use cedar_partial_operators::connectives::Connective;
 use cedar_partial_operators::unary::{is_of_part, like_of_part, unary_of_part};
 use cedar_values::{PartialValue, Value, ValueKind};
 use std::alloc::{AllocError, Global};
@@ -131,8 +133,10 @@ impl<T: DirectEvaluator> DirectEvaluator for EvaluatorAbove<T> {
                 then_expr,
                 else_expr,
             } => self.guarded(within, alloc, test_expr, then_expr, else_expr),
-            ExprKind::And { left, right } => self.and(within, alloc, left, right),
-            ExprKind::Or { left, right } => self.or(within, alloc, left, right),
+            ExprKind::And { left, right } => {
+                self.sides(within, alloc, Connective::And, left, right)
+            }
+            ExprKind::Or { left, right } => self.sides(within, alloc, Connective::Or, left, right),
             ExprKind::UnaryApp { op, arg } => self.unary(within, alloc, *op, arg),
             ExprKind::BinaryApp { op, arg1, arg2 } => self.binary(within, alloc, *op, arg1, arg2),
             ExprKind::GetAttr { expr, attr } => self.attribute(within, alloc, expr, attr),
@@ -187,36 +191,26 @@ impl<T: DirectEvaluator> EvaluatorAbove<T> {
         }
     }
 
-    // `&&` of what has values.
-    fn and(
+    // `&&` or `||` of what has values.
+    fn sides(
         &self,
         within: &Evaluation<'_, '_, '_>,
         alloc: Global,
+        connective: Connective,
         left: &Expr,
         right: &Expr,
     ) -> Option<Value>
-        ensures { HasDirectValueAbove within.now T.height (Terms.both (view left.now) (view right.now)) result }
+        ensures { HasDirectValueAbove within.now T.height
+            (joined_terms connective (view left.now) (view right.now)) result }
     {
         match self.boolean(within, alloc, left) {
-            Some(true) => value_of(self.boolean(within, alloc, right)),
-            Some(false) => value_of(Some(false)),
-            None => None,
-        }
-    }
-
-    // `||` of what has values.
-    fn or(
-        &self,
-        within: &Evaluation<'_, '_, '_>,
-        alloc: Global,
-        left: &Expr,
-        right: &Expr,
-    ) -> Option<Value>
-        ensures { HasDirectValueAbove within.now T.height (Terms.either (view left.now) (view right.now)) result }
-    {
-        match self.boolean(within, alloc, left) {
-            Some(true) => value_of(Some(true)),
-            Some(false) => value_of(self.boolean(within, alloc, right)),
+            Some(b) => {
+                if connective.is_decided_by(b) {
+                    value_of(Some(b))
+                } else {
+                    value_of(self.boolean(within, alloc, right))
+                }
+            }
             None => None,
         }
     }

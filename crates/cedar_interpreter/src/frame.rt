@@ -1,8 +1,10 @@
 //! Frames: an expression that waits for the answer of a part, and what is to be done with it.
+use crate::boxed_residual::BoxedResidual;
 use crate::stopped::Stopped;
 use cedar_expressions::Expr;
 use cedar_frames::Step;
 use cedar_names::{BinaryOp, EntityType, FirstRest, Pattern, UnaryOp};
+use cedar_partial_operators::connectives::Connective;
 use cedar_restricted_evaluator::PartsFrame;
 use cedar_values::{PartialValue, ResidualExpr};
 use std::rc::{Rc, RcStr};
@@ -40,26 +42,17 @@ pub enum Pending {
     Then(Box<FirstBranch>),
     /// It is that of the second branch beside a residual guard, after what is kept of the first.
     Else(Box<SecondBranch>),
-    /// It is the left side of `&&`.
-    AndLeft {
+    /// It is the left side of `&&` or `||`.
+    LeftSide {
+        connective: Connective,
         right: Rc<Expr>,
     },
-    /// It is the right side of `true && ..`.
-    AndRight,
-    /// It is the right side of `&&` beside a residual left side.
-    AndKept {
-        left: Box<ResidualExpr>,
-        right: Rc<Expr>,
-    },
-    /// It is the left side of `||`.
-    OrLeft {
-        right: Rc<Expr>,
-    },
-    /// It is the right side of `false || ..`.
-    OrRight,
-    /// It is the right side of `||` beside a residual left side.
-    OrKept {
-        left: Box<ResidualExpr>,
+    /// It is the right side of `true && ..` or `false || ..`.
+    RightSide(Connective),
+    /// It is the right side of `&&` or `||` beside a residual left side.
+    KeptRightSide {
+        connective: Connective,
+        left: BoxedResidual,
         right: Rc<Expr>,
     },
     /// It is the operand of this operator.

@@ -4,6 +4,7 @@
 mod after;
 mod answers;
 mod boxed;
+mod boxed_residual;
 mod connectives;
 mod direct;
 mod direct_evaluators;
@@ -19,6 +20,7 @@ mod start;
 mod stopped;
 mod stored;
 
+pub use boxed_residual::BoxedResidual;
 pub use evaluation::{Evaluation, Given, Mapper, Resolution};
 pub use failed::Failed;
 pub use frame::{FirstBranch, Frame, Next, Pending, SecondBranch, SharedExpr, Task};

@@ -52,7 +52,7 @@ impl<'e, 'g, 'f> Evaluation<'e, 'g, 'f> {
         ensures { ContinuesAt self.now whole.now (pendings.Unary op) (boxed_answer operand) result }
     {
         if is_negated(op, &mut operand) {
-            put_at(alloc, whole, operand)
+            put_at(whole, operand)
         } else {
             self.after_other_operand(alloc, whole, op, operand)
         }

@@ -28,6 +28,7 @@ use cedar_layers::expressions::SlotEnv;
 use cedar_names::{
     BinaryOp, EntityType, FirstRest, Literal, Name, Pattern, SlotId, Type, UnaryOp, Unknown, Var,
 };
+use cedar_partial_operators::connectives::Connective;
 use cedar_partial_operators::unary::{is_of_part, like_of_part};
 use cedar_restricted_evaluator::{NextPart, PartsFrame};
 use cedar_values::{PartialValue, Value, ValueKind};
@@ -53,8 +54,8 @@ impl<'e, 'g, 'f> Evaluation<'e, 'g, 'f> {
                 then_expr,
                 else_expr,
             } => self.branches(whole, test_expr, then_expr, else_expr),
-            ExprKind::And { left, right } => self.conjunction(whole, left, right),
-            ExprKind::Or { left, right } => self.disjunction(whole, left, right),
+            ExprKind::And { left, right } => self.sides(whole, Connective::And, left, right),
+            ExprKind::Or { left, right } => self.sides(whole, Connective::Or, left, right),
             ExprKind::UnaryApp { op, arg } => self.operand(whole, *op, arg),
             ExprKind::BinaryApp { op, arg1, arg2 } => {
                 self.operands(alloc, whole, *op, arg1, arg2, levels)

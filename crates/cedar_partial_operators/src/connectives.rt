@@ -1,46 +1,79 @@
-//! The right side of `&&` and `||`, and best effort.
-ghost use Rattle.std.specs.Prelude.{◌≡◌, true, false};
-ghost use Rattle.cedar_model.specs.Terms.{both, either, if_then_else, literal, bool_literal};
+//! `&&`, `||` and `if` beside residuals, and best effort. No residual that is made here stands at a location.
+ghost use Rattle.std.specs.Prelude.{◌≡◌, ◌||◌, true, false, IfOk};
+ghost use Rattle.cedar_model.specs.Terms.{if_then_else};
 ghost use Rattle.cedar_model.specs.Values.{abstract_value};
 ghost use Rattle.cedar_model.specs.Outcomes.{bool_of};
 ghost use Rattle.cedar_model.specs.Failures.{answers, answers_residual, failure_kind};
+ghost use Rattle.cedar_model.specs.Shapes.{has_unknown};
 ghost use Rattle.cedar_model.specs.Rules as Rules;
 ghost use Rattle.cedar_model.specs.Rules.{joined, bool_or_failure, best_of_kind};
 ghost use Rattle.cedar_expressions.specs.View.{view};
 ghost use Rattle.cedar_values.specs.Residuals.{partial_view, residual_term};
 ghost use Rattle.cedar_errors.specs.Answers.{partial_answer, AnswersWith};
 ghost use Rattle.cedar_errors.specs.Failures.{failure_of};
+ghost use Rattle.cedar_partial_operators.specs.Connectives.{deciding, neutral, joined_terms, beside_neutral};
 ghost use Rattle.cedar_partial_operators.specs.Parts.{IsBest, is_handed_up};
 
 use crate::binary::into_expr;
-use crate::residuals::{false_or_residual, true_and_residual};
 use cedar_errors::evaluator::err::EvaluationError;
-use cedar_layers::expressions::{Expr, PartialValue, ResidualExpr, Type, Value};
+use cedar_layers::expressions::{Expr, Literal, PartialValue, ResidualExpr, Type, Value};
 use cedar_operators::failures::type_error;
 use cedar_operators::typed::{bool_in, bool_part};
-use std::alloc::Global;
+use std::alloc::{AllocError, Global};
 
-/// `true && part`: a boolean as it is, a `TypeError` that expects one for another value, and `true && part` itself of
-/// a residual, which may be no boolean. The result is at no location.
-#[tactic(auto, unfolding(cedar_model::specs::Rules::joined))]
-pub fn true_and(alloc: Global, part: PartialValue) -> Result<PartialValue, EvaluationError>
-    ensures { AnswersWith result (joined (both (literal (bool_literal true))) (answers (partial_view part))) }
-{
-    match part {
-        PartialValue::Value(value) => {
-            let answer = as_bool(alloc, &value);
-            drop(value);
-            answer
+/// `&&` or `||`.
+#[derive(Debug, Clone, Copy, PartialEq, Eq)]
+pub enum Connective {
+    /// `left && right`: false on the left decides.
+    And,
+    /// `left || right`: true on the left decides.
+    Or,
+}
+
+impl Connective {
+    /// Whether this boolean on the left decides.
+    #[inline(always)]
+    pub fn is_decided_by(self, left: bool) -> bool
+        ensures decided { result ≡ true → left ≡ deciding self }
+        ensures undecided { result ≡ false → left ≡ neutral self }
+    {
+        match self {
+            Connective::And => !left,
+            Connective::Or => left,
         }
-        PartialValue::Residual(residual) => true_and_residual(alloc, residual),
+    }
+
+    // The boolean on the left that leaves the right side.
+    fn neutral(self) -> bool
+        ensures { result ≡ neutral self }
+    {
+        match self {
+            Connective::And => true,
+            Connective::Or => false,
+        }
+    }
+
+    // The expression of both sides, at no location.
+    fn around(self, alloc: Global, left: Expr, right: Expr) -> Result<Expr, AllocError>
+        ensures view { IfOk result (λ e. view e ≡ joined_terms self (view left) (view right)) }
+        ensures unknown { IfOk result (λ e. has_unknown (view e) ≡ has_unknown (view left) || has_unknown (view right)) }
+    {
+        match self {
+            Connective::And => Ok(Expr::and(alloc, left, right)?),
+            Connective::Or => Ok(Expr::or(alloc, left, right)?),
+        }
     }
 }
 
-/// `false || part`: a boolean as it is, a `TypeError` that expects one for another value, and `false || part` itself
-/// of a residual, which may be no boolean. The result is at no location.
+/// `true && part`, or `false || part`: a boolean as it is, a `TypeError` that expects one for another value, and the
+/// whole itself of a residual, which may be no boolean. The result is at no location.
 #[tactic(auto, unfolding(cedar_model::specs::Rules::joined))]
-pub fn false_or(alloc: Global, part: PartialValue) -> Result<PartialValue, EvaluationError>
-    ensures { AnswersWith result (joined (either (literal (bool_literal false))) (answers (partial_view part))) }
+pub fn joined_right(
+    alloc: Global,
+    connective: Connective,
+    part: PartialValue,
+) -> Result<PartialValue, EvaluationError>
+    ensures { AnswersWith result (joined (beside_neutral connective) (answers (partial_view part))) }
 {
     match part {
         PartialValue::Value(value) => {
@@ -48,7 +81,7 @@ pub fn false_or(alloc: Global, part: PartialValue) -> Result<PartialValue, Evalu
             drop(value);
             answer
         }
-        PartialValue::Residual(residual) => false_or_residual(alloc, residual),
+        PartialValue::Residual(residual) => residual_right(alloc, connective, residual),
     }
 }
 
@@ -63,29 +96,30 @@ fn as_bool(alloc: Global, value: &Value) -> Result<PartialValue, EvaluationError
     }
 }
 
-/// `left && right`, of a residual left side and what is kept of the right side, at no location. Refuses only for want
-/// of memory.
-pub fn residual_and(
+// `true && part`, or `false || part`
+fn residual_right(
     alloc: Global,
-    left: ResidualExpr,
-    right: Expr,
+    connective: Connective,
+    part: ResidualExpr,
 ) -> Result<PartialValue, EvaluationError>
-    ensures { AnswersWith result (answers_residual (both (residual_term left) (view right))) }
+    ensures { AnswersWith result (answers_residual (beside_neutral connective (residual_term part))) }
 {
-    let expr = Expr::and(alloc, left.into_expr(), right)?;
+    let left = Expr::val(Literal::Bool(connective.neutral()));
+    let expr = connective.around(alloc, left, part.into_expr())?;
     Ok(PartialValue::Residual(ResidualExpr::new(expr)))
 }
 
-/// `left || right`, of a residual left side and what is kept of the right side, at no location. Refuses only for want
-/// of memory.
-pub fn residual_or(
+/// `left && right`, or `left || right`, of a residual left side and what is kept of the right side, at no location.
+/// Refuses only for want of memory.
+pub fn residual_connective(
     alloc: Global,
+    connective: Connective,
     left: ResidualExpr,
     right: Expr,
 ) -> Result<PartialValue, EvaluationError>
-    ensures { AnswersWith result (answers_residual (either (residual_term left) (view right))) }
+    ensures { AnswersWith result (answers_residual (joined_terms connective (residual_term left) (view right))) }
 {
-    let expr = Expr::or(alloc, left.into_expr(), right)?;
+    let expr = connective.around(alloc, left.into_expr(), right)?;
     Ok(PartialValue::Residual(ResidualExpr::new(expr)))
 }
 

@@ -1,6 +1,5 @@
 //! Residuals: an operator around what is not known. None stands at a location.
-ghost use Rattle.std.specs.Prelude.{true, false};
-ghost use Rattle.cedar_model.specs.Terms.{unary, both, either, literal, bool_literal, like, is_of_type};
+ghost use Rattle.cedar_model.specs.Terms.{unary, like, is_of_type};
 ghost use Rattle.cedar_model.specs.Failures.{answers_residual};
 ghost use Rattle.cedar_names.specs.Names.{type_text};
 ghost use Rattle.cedar_names.specs.Leaves.{unary_view, pattern_view};
@@ -8,9 +7,7 @@ ghost use Rattle.cedar_values.specs.Residuals.{residual_term};
 ghost use Rattle.cedar_errors.specs.Answers.{AnswersWith};
 
 use cedar_errors::evaluator::err::EvaluationError;
-use cedar_layers::expressions::{
-    EntityType, Expr, Literal, PartialValue, Pattern, ResidualExpr, UnaryOp,
-};
+use cedar_layers::expressions::{EntityType, Expr, PartialValue, Pattern, ResidualExpr, UnaryOp};
 use cedar_operators::residuals::beside;
 use std::alloc::Global;
 
@@ -23,28 +20,6 @@ pub(crate) fn residual_unary(
     ensures { AnswersWith result (answers_residual (unary (unary_view op) (residual_term part))) }
 {
     let expr = Expr::unary_app(alloc, op, part.into_expr())?;
-    Ok(PartialValue::Residual(ResidualExpr::new(expr)))
-}
-
-// `true && part`
-pub(crate) fn true_and_residual(
-    alloc: Global,
-    part: ResidualExpr,
-) -> Result<PartialValue, EvaluationError>
-    ensures { AnswersWith result (answers_residual (both (literal (bool_literal true)) (residual_term part))) }
-{
-    let expr = Expr::and(alloc, Expr::val(Literal::Bool(true)), part.into_expr())?;
-    Ok(PartialValue::Residual(ResidualExpr::new(expr)))
-}
-
-// `false || part`
-pub(crate) fn false_or_residual(
-    alloc: Global,
-    part: ResidualExpr,
-) -> Result<PartialValue, EvaluationError>
-    ensures { AnswersWith result (answers_residual (either (literal (bool_literal false)) (residual_term part))) }
-{
-    let expr = Expr::or(alloc, Expr::val(Literal::Bool(false)), part.into_expr())?;
     Ok(PartialValue::Residual(ResidualExpr::new(expr)))
 }
 

@@ -15,7 +15,7 @@ pub returns-in-Ok-clause-answer : goal.returns-in-Ok-clause-answer
 returns-in-Ok-clause-answer g c t h =
     kept_right (setting_of c.args.self.now (slots_view c.args.slots.now)) (calls_in c.args.self.now) c.args.levels t (view c.args.right.now) (residual_term c.args.left)
     (partial_answer c.part.result) (h (not_wanting _)) c.part.ensures (view c.in-Ok.kept) (partial_answer c.answer_at.result) c.in-Ok.ensures
-    (λ ok. c.answer_at.ensures.answer ∙ c.residual_and.ensures (λ w. ok (c.answer_at.ensures.answer ∙ w)))
+    (λ ok. c.answer_at.ensures.answer ∙ c.residual_connective.ensures (λ w. ok (c.answer_at.ensures.answer ∙ w)))
 
 pub returns-in-Err-clause-answer : goal.returns-in-Err-clause-answer
 returns-in-Err-clause-answer g c t h =

@@ -72,10 +72,10 @@ returns-in-If g c r k speaks low =
 
 pub returns-in-And : goal.returns-in-And
 returns-in-And g c r k speaks low =
-    direct_above (evaluation_setting r c.args.within.now) (calls_in c.args.within.now) g.T.DirectEvaluator.height k _ (view c.args.e.now) c.and.result (λ j some. rw (c.deref-in-And.ensures, c.deref-in-And-2.ensures) at c.and.ensures r j speaks some) low
+    direct_above (evaluation_setting r c.args.within.now) (calls_in c.args.within.now) g.T.DirectEvaluator.height k _ (view c.args.e.now) c.sides.result (λ j some. rw (c.deref-in-And.ensures, c.deref-in-And-2.ensures) at c.sides.ensures r j speaks some) low
     (sym (levels.kind_view-And _ _) ∙ sym (ap kind_view c.in-And.is) ∙ c.expr_kind.ensures.view)
 
 pub returns-in-Or : goal.returns-in-Or
 returns-in-Or g c r k speaks low =
-    direct_above (evaluation_setting r c.args.within.now) (calls_in c.args.within.now) g.T.DirectEvaluator.height k _ (view c.args.e.now) c.or.result (λ j some. rw (c.deref-in-Or.ensures, c.deref-in-Or-2.ensures) at c.or.ensures r j speaks some) low
+    direct_above (evaluation_setting r c.args.within.now) (calls_in c.args.within.now) g.T.DirectEvaluator.height k _ (view c.args.e.now) c.sides-in-Or.result (λ j some. rw (c.deref-in-Or.ensures, c.deref-in-Or-2.ensures) at c.sides-in-Or.ensures r j speaks some) low
     (sym (levels.kind_view-Or _ _) ∙ sym (ap kind_view c.in-Or.is) ∙ c.expr_kind.ensures.view)

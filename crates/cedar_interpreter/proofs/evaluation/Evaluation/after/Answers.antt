@@ -31,35 +31,21 @@ returns-in-Else g c =
     subst (λ p. ContinuesIn c.args.self.now c.args.levels c.args.whole p (answers (partial_view c.args.answer.value)) c.after_else.result) (sym c.in-Else.is)
     (continues_in c.args.self.now c.args.levels c.args.whole (pendings.Else c.in-Else.second) (answers (partial_view c.args.answer.value)) c.after_else.result c.after_else.ensures)
 
-pub returns-in-AndLeft : goal.returns-in-AndLeft
-returns-in-AndLeft g c =
-    subst (λ p. ContinuesIn c.args.self.now c.args.levels c.args.whole p (answers (partial_view c.args.answer.value)) c.after_and_left.result) (sym c.in-AndLeft.is)
-    c.after_and_left.ensures
+pub returns-in-LeftSide : goal.returns-in-LeftSide
+returns-in-LeftSide g c =
+    subst (λ p. ContinuesIn c.args.self.now c.args.levels c.args.whole p (answers (partial_view c.args.answer.value)) c.after_left_side.result) (sym c.in-LeftSide.is)
+    c.after_left_side.ensures
 
-pub returns-in-AndRight : goal.returns-in-AndRight
-returns-in-AndRight g c =
-    subst (λ p. ContinuesIn c.args.self.now c.args.levels c.args.whole p (answers (partial_view c.args.answer.value)) c.after_and_right.result) (sym c.in-AndRight.is)
-    (continues_in c.args.self.now c.args.levels c.args.whole pendings.AndRight (answers (partial_view c.args.answer.value)) c.after_and_right.result c.after_and_right.ensures)
+pub returns-in-RightSide : goal.returns-in-RightSide
+returns-in-RightSide g c =
+    subst (λ p. ContinuesIn c.args.self.now c.args.levels c.args.whole p (answers (partial_view c.args.answer.value)) c.after_right_side.result) (sym c.in-RightSide.is)
+    (continues_in c.args.self.now c.args.levels c.args.whole (pendings.RightSide c.in-RightSide.connective) (answers (partial_view c.args.answer.value)) c.after_right_side.result c.after_right_side.ensures)
 
-pub returns-in-AndKept : goal.returns-in-AndKept
-returns-in-AndKept g c =
-    subst (λ p. ContinuesIn c.args.self.now c.args.levels c.args.whole p (answers (partial_view c.args.answer.value)) c.after_and_kept.result) (sym c.in-AndKept.is)
-    (continues_in c.args.self.now c.args.levels c.args.whole (pendings.AndKept c.in-AndKept.left c.in-AndKept.right) (answers (partial_view c.args.answer.value)) c.after_and_kept.result c.after_and_kept.ensures)
-
-pub returns-in-OrLeft : goal.returns-in-OrLeft
-returns-in-OrLeft g c =
-    subst (λ p. ContinuesIn c.args.self.now c.args.levels c.args.whole p (answers (partial_view c.args.answer.value)) c.after_or_left.result) (sym c.in-OrLeft.is)
-    c.after_or_left.ensures
-
-pub returns-in-OrRight : goal.returns-in-OrRight
-returns-in-OrRight g c =
-    subst (λ p. ContinuesIn c.args.self.now c.args.levels c.args.whole p (answers (partial_view c.args.answer.value)) c.after_or_right.result) (sym c.in-OrRight.is)
-    (continues_in c.args.self.now c.args.levels c.args.whole pendings.OrRight (answers (partial_view c.args.answer.value)) c.after_or_right.result c.after_or_right.ensures)
-
-pub returns-in-OrKept : goal.returns-in-OrKept
-returns-in-OrKept g c =
-    subst (λ p. ContinuesIn c.args.self.now c.args.levels c.args.whole p (answers (partial_view c.args.answer.value)) c.after_or_kept.result) (sym c.in-OrKept.is)
-    (continues_in c.args.self.now c.args.levels c.args.whole (pendings.OrKept c.in-OrKept.left c.in-OrKept.right) (answers (partial_view c.args.answer.value)) c.after_or_kept.result c.after_or_kept.ensures)
+pub returns-in-KeptRightSide : goal.returns-in-KeptRightSide
+returns-in-KeptRightSide g c =
+    let p = c.in-KeptRightSide in
+    subst (λ p. ContinuesIn c.args.self.now c.args.levels c.args.whole p (answers (partial_view c.args.answer.value)) c.after_kept_right_side.result) (sym p.is)
+    (continues_in c.args.self.now c.args.levels c.args.whole (pendings.KeptRightSide p.connective p.left p.right) (answers (partial_view c.args.answer.value)) c.after_kept_right_side.result c.after_kept_right_side.ensures)
 
 pub returns-in-Unary : goal.returns-in-Unary
 returns-in-Unary g c =

@@ -36,13 +36,13 @@ returns-in-If-clause-starts g c =
 
 pub returns-in-And-clause-starts : goal.returns-in-And-clause-starts
 returns-in-And-clause-starts g c =
-    starts_seen c.args.self.now c.args.levels c.args.whole.now c.conjunction.result (seen (levels.kind_view-And _ _) c.in-And.is c.expr_kind.ensures.view)
-    (starts_in c.args.self.now c.args.levels c.args.whole.now (both (view c.in-And.left.value) (view c.in-And.right.value)) c.conjunction.result c.conjunction.ensures)
+    starts_seen c.args.self.now c.args.levels c.args.whole.now c.sides.result (seen (levels.kind_view-And _ _) c.in-And.is c.expr_kind.ensures.view)
+    (starts_in c.args.self.now c.args.levels c.args.whole.now (both (view c.in-And.left.value) (view c.in-And.right.value)) c.sides.result c.sides.ensures)
 
 pub returns-in-Or-clause-starts : goal.returns-in-Or-clause-starts
 returns-in-Or-clause-starts g c =
-    starts_seen c.args.self.now c.args.levels c.args.whole.now c.disjunction.result (seen (levels.kind_view-Or _ _) c.in-Or.is c.expr_kind.ensures.view)
-    (starts_in c.args.self.now c.args.levels c.args.whole.now (either (view c.in-Or.left.value) (view c.in-Or.right.value)) c.disjunction.result c.disjunction.ensures)
+    starts_seen c.args.self.now c.args.levels c.args.whole.now c.sides-in-Or.result (seen (levels.kind_view-Or _ _) c.in-Or.is c.expr_kind.ensures.view)
+    (starts_in c.args.self.now c.args.levels c.args.whole.now (either (view c.in-Or.left.value) (view c.in-Or.right.value)) c.sides-in-Or.result c.sides-in-Or.ensures)
 
 pub returns-in-UnaryApp-clause-starts : goal.returns-in-UnaryApp-clause-starts
 returns-in-UnaryApp-clause-starts g c =
@@ -126,11 +126,11 @@ returns-in-If-clause-elements g c =
 
 pub returns-in-And-clause-elements : goal.returns-in-And-clause-elements
 returns-in-And-clause-elements g c =
-    no_set_next c.args.e.now _ c.conjunction.result (seen (levels.kind_view-And _ _) c.in-And.is c.expr_kind.ensures.view) (λ ts is. cc)
+    no_set_next c.args.e.now _ c.sides.result (seen (levels.kind_view-And _ _) c.in-And.is c.expr_kind.ensures.view) (λ ts is. cc)
 
 pub returns-in-Or-clause-elements : goal.returns-in-Or-clause-elements
 returns-in-Or-clause-elements g c =
-    no_set_next c.args.e.now _ c.disjunction.result (seen (levels.kind_view-Or _ _) c.in-Or.is c.expr_kind.ensures.view) (λ ts is. cc)
+    no_set_next c.args.e.now _ c.sides-in-Or.result (seen (levels.kind_view-Or _ _) c.in-Or.is c.expr_kind.ensures.view) (λ ts is. cc)
 
 pub returns-in-UnaryApp-clause-elements : goal.returns-in-UnaryApp-clause-elements
 returns-in-UnaryApp-clause-elements g c =

@@ -15,21 +15,13 @@ pub returns-in-Guard : goal.returns-in-Guard
 returns-in-Guard g c r k =
     passed_continues (evaluation_setting r c.args.self.now) (calls_in c.args.self.now) k (expr_loc c.args.whole.value) c.args.pending (failure_of c.args.failed.value.error) c.passed_on-in-Guard.result (subst IsPassedOn (sym c.in-Guard.is) tt) c.passed_on-in-Guard.ensures
 
-pub returns-in-AndLeft : goal.returns-in-AndLeft
-returns-in-AndLeft g c r k =
-    passed_continues (evaluation_setting r c.args.self.now) (calls_in c.args.self.now) k (expr_loc c.args.whole.value) c.args.pending (failure_of c.args.failed.value.error) c.passed_on-in-AndLeft.result (subst IsPassedOn (sym c.in-AndLeft.is) tt) c.passed_on-in-AndLeft.ensures
+pub returns-in-LeftSide : goal.returns-in-LeftSide
+returns-in-LeftSide g c r k =
+    passed_continues (evaluation_setting r c.args.self.now) (calls_in c.args.self.now) k (expr_loc c.args.whole.value) c.args.pending (failure_of c.args.failed.value.error) c.passed_on-in-LeftSide.result (subst IsPassedOn (sym c.in-LeftSide.is) tt) c.passed_on-in-LeftSide.ensures
 
-pub returns-in-AndRight : goal.returns-in-AndRight
-returns-in-AndRight g c r k =
-    passed_continues (evaluation_setting r c.args.self.now) (calls_in c.args.self.now) k (expr_loc c.args.whole.value) c.args.pending (failure_of c.args.failed.value.error) c.passed_on-in-AndRight.result (subst IsPassedOn (sym c.in-AndRight.is) tt) c.passed_on-in-AndRight.ensures
-
-pub returns-in-OrLeft : goal.returns-in-OrLeft
-returns-in-OrLeft g c r k =
-    passed_continues (evaluation_setting r c.args.self.now) (calls_in c.args.self.now) k (expr_loc c.args.whole.value) c.args.pending (failure_of c.args.failed.value.error) c.passed_on-in-OrLeft.result (subst IsPassedOn (sym c.in-OrLeft.is) tt) c.passed_on-in-OrLeft.ensures
-
-pub returns-in-OrRight : goal.returns-in-OrRight
-returns-in-OrRight g c r k =
-    passed_continues (evaluation_setting r c.args.self.now) (calls_in c.args.self.now) k (expr_loc c.args.whole.value) c.args.pending (failure_of c.args.failed.value.error) c.passed_on-in-OrRight.result (subst IsPassedOn (sym c.in-OrRight.is) tt) c.passed_on-in-OrRight.ensures
+pub returns-in-RightSide : goal.returns-in-RightSide
+returns-in-RightSide g c r k =
+    passed_continues (evaluation_setting r c.args.self.now) (calls_in c.args.self.now) k (expr_loc c.args.whole.value) c.args.pending (failure_of c.args.failed.value.error) c.passed_on-in-RightSide.result (subst IsPassedOn (sym c.in-RightSide.is) tt) c.passed_on-in-RightSide.ensures
 
 pub returns-in-Unary : goal.returns-in-Unary
 returns-in-Unary g c r k =
@@ -71,12 +63,7 @@ pub returns-in-Else : goal.returns-in-Else
 returns-in-Else g c r k =
     subst (λ p. Continues (evaluation_setting r c.args.self.now) (calls_in c.args.self.now) k (expr_loc c.args.whole.value) p (fails (failure_of c.args.failed.value.error)) c.failed_else.result) (sym c.in-Else.is) (c.failed_else.ensures r k)
 
-pub returns-in-AndKept : goal.returns-in-AndKept
-returns-in-AndKept g c r k =
+pub returns-in-KeptRightSide : goal.returns-in-KeptRightSide
+returns-in-KeptRightSide g c r k =
     let x = fails (failure_of c.args.failed.value.error) in
-    subst (λ p. Continues (evaluation_setting r c.args.self.now) (calls_in c.args.self.now) k (expr_loc c.args.whole.value) p x c.kept_conjunction.result) (sym c.in-AndKept.is) (c.kept_conjunction.ensures x c.original_of-kept.ensures r k)
-
-pub returns-in-OrKept : goal.returns-in-OrKept
-returns-in-OrKept g c r k =
-    let x = fails (failure_of c.args.failed.value.error) in
-    subst (λ p. Continues (evaluation_setting r c.args.self.now) (calls_in c.args.self.now) k (expr_loc c.args.whole.value) p x c.kept_disjunction.result) (sym c.in-OrKept.is) (c.kept_disjunction.ensures x c.original_of-kept-in-OrKept.ensures r k)
+    subst (λ p. Continues (evaluation_setting r c.args.self.now) (calls_in c.args.self.now) k (expr_loc c.args.whole.value) p x c.both_sides.result) (sym c.in-KeptRightSide.is) (c.both_sides.ensures x c.original_of-kept.ensures r k)
