@@ -19,10 +19,9 @@ ghost use Rattle.cedar_evaluator.specs.Decisions.{partly_decided, PartlyDecidesB
 ghost use Rattle.cedar_evaluator.specs.Evaluations.{IsPromisedOf};
 ghost use Rattle.cedar_evaluator.specs.Direct.{scope_term, AnswersFrom};
 
-use crate::at_hand::entity_at_hand;
 use crate::evaluator::{Evaluator, decided_by};
 use cedar_errors::evaluator::err::EvaluationError;
-use cedar_interpreter::Evaluation;
+use cedar_interpreter::{Evaluation, entity_at_hand};
 use cedar_layers::expressions::{
     BinaryOp, EntityType, EntityUID, Expr, ExprKind, Literal, Loc, PartialValue, Var,
 };
@@ -163,7 +162,7 @@ impl<'e, 'f> Evaluator<'e, 'f> {
         match entity_at_hand(self.given.given_for(var)) {
             Some(uid) => match op {
                 BinaryOp::Eq => Some(uid == other),
-                BinaryOp::In => self.known.is_in(var, uid, other),
+                BinaryOp::In => self.given.known.is_in(var, uid, other),
                 _ => None,
             },
             None => None,

@@ -312,6 +312,23 @@ impl<T: DirectEvaluator> EvaluatorAbove<T> {
         ensures { HasDirectValueAbove within.now T.height
             (Terms.has_attribute (view expr.now) (rc_str_bytes attr.now)) result }
     {
+        match variable_in(expr) {
+            Some(var) => within.variable_has(alloc, var, attr),
+            None => self.other_has(within, alloc, expr, attr),
+        }
+    }
+
+    // The same of what is no variable.
+    fn other_has(
+        &self,
+        within: &Evaluation<'_, '_, '_>,
+        alloc: Global,
+        expr: &Expr,
+        attr: &RcStr,
+    ) -> Option<Value>
+        ensures { HasDirectValueAbove within.now T.height
+            (Terms.has_attribute (view expr.now) (rc_str_bytes attr.now)) result }
+    {
         match self.below.evaluate(within, alloc, expr) {
             Some(value) => {
                 let part = PartialValue::Value(value);

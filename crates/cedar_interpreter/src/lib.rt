@@ -3,6 +3,7 @@
 
 mod after;
 mod answers;
+mod at_hand;
 mod boxed;
 mod connectives;
 mod direct;
@@ -18,7 +19,9 @@ mod residuals;
 mod start;
 mod stopped;
 mod stored;
+mod variables;
 
+pub use at_hand::{Known, KnownEntities, entity_at_hand};
 pub use evaluation::{Evaluation, Given, Mapper, Resolution};
 pub use failed::Failed;
 pub use frame::{FirstBranch, Frame, Next, Pending, SecondBranch, SharedExpr, Task};
