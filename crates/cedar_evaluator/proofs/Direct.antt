@@ -15,12 +15,14 @@ use Rattle.cedar_model.specs.Operators.{binary_answer, in_found, expecting}
 use Rattle.cedar_model.specs.Responses.{Decided, decides, errs_with, decided, decided_bool}
 use Rattle.cedar_model.specs.Rules.{StoredCalls, Runs, Meets, joined, bool_or_failure, binary_of_parts, binary_beside, beside_residual, is_part}
 use Rattle.cedar_values.specs.Residuals.{partial_view}
+use Rattle.cedar_layers.specs.Stores.{store_view}
 use Rattle.cedar_interpreter.specs.Promises.{IsPromised}
 use Rattle.cedar_interpreter.proofs.ReadLaws.{as_stored, none_resolved, operator_value}
 use Rattle.cedar_interpreter.specs.Settings.{given_for}
 use Rattle.cedar_evaluator.specs.declared.evaluator.Evaluator.{Evaluator}
 use Rattle.cedar_evaluator.specs.Evaluations.{variables_of, setting_of, calls_in}
-use Rattle.cedar_evaluator.specs.Known.{within, known_view, known_for}
+use Rattle.cedar_interpreter.specs.Known.{within, known_view, known_for}
+use Rattle.cedar_interpreter.proofs.Looked.{known_within, known_of_variable}
 use Rattle.cedar_evaluator.specs.Direct.{AnswersAt, AnswersFrom}
 use Rattle.cedar_evaluator.proofs.Requests.{says}
 use Rattle.cedar_evaluator.proofs.Sound.{evaluator_promised}
@@ -238,12 +240,12 @@ module _ {X : Type 0} {F : X → Type 0} {g : _} (v : Evaluator X F g) (x : Vari
       (variable_direct v x (plain_represented (entity_literal d)) is) direct (λ slots. equal_answered (setting_of v slots) d e)
 
   -- and one that is in it, or is not
-  pub in_direct : (r : Option Bool) → r ≡ within (known_view (known_for v.known x)) d e →
+  pub in_direct : (r : Option Bool) → r ≡ within (known_view (known_for v.given.known x)) d e →
       IfSome r (λ b. AnswersFrom v 2 (binary in_operator (variable x) t) (answers_bool b))
   in_direct (Some b) that =
       compared_direct v (variable x) t in_operator (plain_represented (entity_literal d)) (plain_represented (entity_literal e)) b
       (variable_direct v x (plain_represented (entity_literal d)) is) direct
-      (λ slots. in_answered (setting_of v slots) d e b (v.known_of_store x d e b is (sym that)))
+      (λ slots. in_answered (setting_of v slots) d e b (known_within (store_view v.given.entities.now) (partial_view (given_for v.given x)) (known_for v.given.known x) d e b (known_of_variable v.given x) is (sym that)))
   in_direct None that = tt
 
 module _ {X : Type 0} {F : X → Type 0} {g : _} (v : Evaluator X F g) (slots : Slots) (n : ℕ) (t : Term) where

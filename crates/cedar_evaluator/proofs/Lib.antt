@@ -1,6 +1,5 @@
 pub mod Requests
 pub mod Sound
 pub mod Knowing
-pub mod Looked
 pub mod Direct
 pub mod Joined

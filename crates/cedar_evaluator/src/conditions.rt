@@ -19,10 +19,9 @@ ghost use Rattle.cedar_evaluator.specs.Decisions.{partly_decided, PartlyDecidesB
 ghost use Rattle.cedar_evaluator.specs.Evaluations.{IsPromisedOf};
 ghost use Rattle.cedar_evaluator.specs.Direct.{scope_term, AnswersFrom};
 
-use crate::at_hand::entity_at_hand;
 use crate::evaluator::{Evaluator, decided_by};
 use cedar_errors::evaluator::err::EvaluationError;
-use cedar_interpreter::Evaluation;
+use cedar_interpreter::{Evaluation, entity_at_hand};
 use cedar_layers::expressions::{
     BinaryOp, EntityType, EntityUID, Expr, ExprKind, Literal, Loc, PartialValue, Var,
 };
@@ -163,7 +162,7 @@ impl<'e, 'f> Evaluator<'e, 'f> {
         match entity_at_hand(self.given.given_for(var)) {
             Some(uid) => match op {
                 BinaryOp::Eq => Some(uid == other),
-                BinaryOp::In => self.known.is_in(var, uid, other),
+                BinaryOp::In => self.given.known.is_in(var, uid, other),
                 _ => None,
             },
             None => None,
@@ -234,7 +233,7 @@ pub(crate) fn joined_to_true(
 {
     match answer {
         Ok(part) => answer_at(joined_right(alloc, Connective::And, part), loc),
-        Err(error) => Err(with_enclosing_loc(error, loc)),
+        Err(error) => Err(error.with_enclosing_loc(loc)),
     }
 }
 
@@ -248,17 +247,6 @@ pub(crate) fn answer_at(
 {
     match answer {
         Ok(part) => Ok(part.with_maybe_source_loc(loc)),
-        Err(error) => Err(with_enclosing_loc(error, loc)),
-    }
-}
-
-// The error, at this location if it has none.
-pub(crate) fn with_enclosing_loc(error: EvaluationError, loc: Option<Loc>) -> EvaluationError
-    ensures { failure_of result ≡ failure_of error }
-{
-    if error.source_loc().is_none() {
-        error.with_maybe_source_loc(loc)
-    } else {
-        error
+        Err(error) => Err(error.with_enclosing_loc(loc)),
     }
 }

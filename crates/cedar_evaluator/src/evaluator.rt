@@ -15,18 +15,15 @@ ghost use Rattle.cedar_restricted_evaluator.specs.Evaluations.{only_values};
 ghost use Rattle.cedar_restricted_evaluator.specs.Elements.{ElementsStand};
 ghost use Rattle.cedar_interpreter.specs.Settings.{given_for};
 ghost use Rattle.cedar_evaluator.specs.Decisions.{decision_of, partly_decided, IfLeaves};
-ghost use Rattle.cedar_evaluator.specs.Known.{AreKnownOf};
 ghost use Rattle.cedar_evaluator.specs.Variables.{are_of_request};
 ghost use Rattle.cedar_layers.specs.Stores.{store_view};
-ghost use Rattle.std.proofs.Props.{props};
 ghost use mathlib.Core.Bool.{Bool-set};
 
-use crate::at_hand::{KnownEntities, known_in};
 use crate::request::Request;
 pub use cedar_errors::evaluator::err::{EvaluationError, evaluation_errors};
 use cedar_extensions::Extensions;
 pub use cedar_interpreter::Resolution;
-use cedar_interpreter::{Evaluation, Given, Mapper};
+use cedar_interpreter::{Evaluation, Given, KnownEntities, Mapper};
 use cedar_layers::expressions::{Expr, PartialValue, SlotEnv, Value};
 use cedar_layers::policies::{Entities, Policy};
 use cedar_operators::failures::non_value;
@@ -43,10 +40,8 @@ use std::rc::RcStr;
 pub struct Evaluator<'e, 'f> {
     pub(crate) given: Given<'e, 'f>,
     pub(crate) limit: usize,
-    pub(crate) known: KnownEntities<'e>,
     ghost of_request: { are_of_request (λ v. partial_view (given_for given v)) ≡ true } by { Bool-set _ _ },
     ghost context_restricted: { is_restricted_part (partial_view given.context) ≡ true } by { Bool-set _ _ },
-    ghost known_of_store: { AreKnownOf (store_view given.entities.now) (λ v. partial_view (given_for given v)) known } by { Prim.hlevel props },
 }
 
 impl<'e, 'f> Evaluator<'e, 'f> {
@@ -78,14 +73,7 @@ impl<'e, 'f> Evaluator<'e, 'f> {
         ensures limit { IfOk result (λ v. limit_of v ≡ limit) }
     {
         let (principal, action, resource, context) = request.variable_values(alloc)?;
-        let principal_known = known_in(alloc, entities, &principal)?;
-        let action_known = known_in(alloc, entities, &action)?;
-        let resource_known = known_in(alloc, entities, &resource)?;
-        let known = KnownEntities {
-            principal: principal_known,
-            action: action_known,
-            resource: resource_known,
-        };
+        let known = KnownEntities::of(alloc, entities, &principal, &action, &resource)?;
         Ok(Evaluator {
             given: Given {
                 principal,
@@ -96,9 +84,9 @@ impl<'e, 'f> Evaluator<'e, 'f> {
                 extensions,
                 mapper: Mapper::Empty,
                 resolution: Resolution::Shallow,
+                known,
             },
             limit,
-            known,
         })
     }
 
@@ -109,11 +97,7 @@ impl<'e, 'f> Evaluator<'e, 'f> {
         ensures extensions { extensions_given result ≡ extensions_given self.entry }
         ensures limit { limit_of result ≡ limit_of self.entry }
     {
-        let Evaluator {
-            given,
-            limit,
-            known,
-        } = self;
+        let Evaluator { given, limit } = self;
         let Given {
             principal,
             action,
@@ -123,6 +107,7 @@ impl<'e, 'f> Evaluator<'e, 'f> {
             extensions,
             mapper: _,
             resolution,
+            known,
         } = given;
         Evaluator {
             given: Given {
@@ -134,9 +119,9 @@ impl<'e, 'f> Evaluator<'e, 'f> {
                 extensions,
                 mapper: Mapper::Values(mapper),
                 resolution,
+                known,
             },
             limit,
-            known,
         }
     }
 
@@ -147,11 +132,7 @@ impl<'e, 'f> Evaluator<'e, 'f> {
         ensures extensions { extensions_given result ≡ extensions_given self.entry }
         ensures limit { limit_of result ≡ limit_of self.entry }
     {
-        let Evaluator {
-            given,
-            limit,
-            known,
-        } = self;
+        let Evaluator { given, limit } = self;
         let Given {
             principal,
             action,
@@ -161,6 +142,7 @@ impl<'e, 'f> Evaluator<'e, 'f> {
             extensions,
             mapper,
             resolution: _,
+            known,
         } = given;
         Evaluator {
             given: Given {
@@ -172,9 +154,9 @@ impl<'e, 'f> Evaluator<'e, 'f> {
                 extensions,
                 mapper,
                 resolution,
+                known,
             },
             limit,
-            known,
         }
     }
 

@@ -11,7 +11,7 @@ ghost use Rattle.cedar_evaluator.specs.Decisions.{PartlyDecidesBy, IfLeaves};
 ghost use Rattle.cedar_evaluator.specs.Evaluations.{IsPromisedOf};
 ghost use Rattle.cedar_evaluator.specs.Direct.{RunsWith};
 
-use crate::conditions::{answer_at, joined_to_true, with_enclosing_loc};
+use crate::conditions::{answer_at, joined_to_true};
 use crate::evaluator::{Evaluator, decided_by};
 use cedar_errors::evaluator::err::EvaluationError;
 use cedar_interpreter::Evaluation;
@@ -113,7 +113,7 @@ impl<'e, 'f> Evaluator<'e, 'f> {
             Ok(PartialValue::Residual(residual)) => {
                 self.beside_residual(alloc, residual, right, slots, levels, loc)
             }
-            Err(error) => Err(with_enclosing_loc(error, loc)),
+            Err(error) => Err(error.with_enclosing_loc(loc)),
         }
     }
 
@@ -135,7 +135,7 @@ impl<'e, 'f> Evaluator<'e, 'f> {
         match bool_in(left) {
             Some(true) => joined_to_true(alloc, self.part(alloc, right, slots, levels), loc),
             Some(false) => answer_at(Ok(bool_part(false)), loc),
-            None => Err(with_enclosing_loc(type_error(alloc, Type::Bool, left), loc)),
+            None => Err(type_error(alloc, Type::Bool, left).with_enclosing_loc(loc)),
         }
     }
 
@@ -159,7 +159,7 @@ impl<'e, 'f> Evaluator<'e, 'f> {
             Ok(kept) => answer_at(residual_connective(alloc, Connective::And, left, kept), loc),
             Err(error) => {
                 drop(left);
-                Err(with_enclosing_loc(error, loc))
+                Err(error.with_enclosing_loc(loc))
             }
         }
     }

@@ -1,7 +1,6 @@
 //! Requests, and the evaluator: what an expression or a policy's condition means for a request.
 #![tactic(auto)]
 
-mod at_hand;
 mod conditions;
 pub mod evaluator;
 mod joining;

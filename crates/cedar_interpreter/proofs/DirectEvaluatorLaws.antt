@@ -6,7 +6,7 @@ use Rattle.std.specs.declared.alloc.AllocError.{AllocError}
 use Rattle.std.specs.declared.alloc.Global.{Global}
 use Rattle.std.specs.declared.rc.RcStr.{RcStr}
 use Rattle.std.specs.declared.vec.Vec.{Vec}
-use Rattle.cedar_model.specs.Terms.{Text, Term, Terms, get_attribute, extended_has, no_terms, one_term, BinaryOperator, binary, set_of, record_of, bool_literal, if_then_else}
+use Rattle.cedar_model.specs.Terms.{Text, Term, Terms, extended_has, no_terms, one_term, BinaryOperator, binary, set_of, record_of, bool_literal, if_then_else}
 use Rattle.cedar_model.specs.Values.{Represented, set_represented, record_represented, plain_represented}
 use Rattle.cedar_model.specs.Sets.{canonical_set, represented_fields_of}
 use Rattle.cedar_model.specs.Failures.{Answer, value, answers_value, answers_bool}
@@ -41,11 +41,11 @@ abbrev pub AreSoFar : {X : Type 0} {F : X → Type 0} {g : _} → Evaluation X F
 AreSoFar e h all rest vs =
     (r : RequestPart) (k : ℕ) → Speaks r e → h ≤ k → SoFar (Runs (evaluation_setting r e) (calls_in e) k) all rest (all_values (whats vs))
 
--- an attribute of a variable, where parts have a level
-pub attribute_at : (s : Setting) (calls : StoredCalls) (h k : ℕ) (t u : Term) (key : Text) (o : Option Placed) →
-    ((j : ℕ) → IsDirectValue s calls (suc (suc j)) (get_attribute u key) o) → 1 ≤ h → h ≤ k → t ≡ u → IsDirectValue s calls (suc k) (get_attribute t key) o
-attribute_at s calls h zero t u key o direct some low is = absurd (omega (arith, some, low))
-attribute_at s calls h (suc j) t u key o direct some low is = subst (λ x. IsDirectValue s calls (suc (suc j)) (get_attribute x key) o) (sym is) (direct j)
+-- what is read of a variable, where parts have a level
+pub read_at : (s : Setting) (calls : StoredCalls) (h k : ℕ) (t u : Term) (read : Term → Term) (o : Option Placed) →
+    ((j : ℕ) → IsDirectValue s calls (suc (suc j)) (read u) o) → 1 ≤ h → h ≤ k → t ≡ u → IsDirectValue s calls (suc k) (read t) o
+read_at s calls h zero t u read o direct some low is = absurd (omega (arith, some, low))
+read_at s calls h (suc j) t u read o direct some low is = subst (λ x. IsDirectValue s calls (suc (suc j)) (read x) o) (sym is) (direct j)
 
 -- where the rules make the whole's answer of that of its one part
 pub part_direct : (s : Setting) (calls : StoredCalls) (j : ℕ) (u t : Term) (f : Answer → Answer) (w : Represented) (o : Option Placed) →

@@ -4,12 +4,12 @@ use Rattle.std.specs.Prelude.{Option, Some, None, Result, IfSome}
 use Rattle.std.proofs.Common.{refl, sym, ap, ◌∙◌, subst, arith}
 use Rattle.std.specs.declared.alloc.Global.{Global}
 use Rattle.std.specs.declared.boxed.Box.{Box}
-use Rattle.cedar_model.specs.Terms.{Text, Literal, Term, bool_literal, literal, get_attribute}
+use Rattle.cedar_model.specs.Terms.{Text, Literal, Term, bool_literal, literal, get_attribute, has_attribute}
 use Rattle.cedar_model.specs.Values.{Represented, plain_represented}
 use Rattle.cedar_model.specs.Failures.{Answer, value, answers, answers_value, answers_bool, out_of_memory}
-use Rattle.cedar_model.specs.Operators.{attribute_answer, attribute_residual}
+use Rattle.cedar_model.specs.Operators.{attribute_answer, attribute_residual, has_answer}
 use Rattle.cedar_model.specs.Settings.{Setting}
-use Rattle.cedar_model.specs.Rules.{StoredCalls, Runs}
+use Rattle.cedar_model.specs.Rules.{StoredCalls, Runs, has_part}
 use Rattle.cedar_expressions.specs.View.{view, expr_loc}
 use Rattle.cedar_values.specs.Sound.{Placed}
 use Rattle.cedar_values.specs.declared.partial_value.PartialValue.{PartialValue}
@@ -56,6 +56,12 @@ pub literal_direct : (s : Setting) (calls : StoredCalls) (j : ℕ) (l : Literal)
 literal_direct s calls j l None is = tt
 literal_direct s calls j l (Some v) is = ap answers_value is
 
+-- what answers a part that is this value
+pub value_direct : (s : Setting) (calls : StoredCalls) (k : ℕ) (t : Term) (p : model.PartialValue) (o : Option Placed) → Runs s calls k t (answers p) →
+    IfSome o (λ v. p ≡ value v.what) → IsDirectValue s calls k t o
+value_direct s calls k t p None runs is = tt
+value_direct s calls k t p (Some v) runs is = subst (λ q. Runs s calls k t (answers q)) is runs
+
 -- the value that a call answered
 pub value_found : (x : Result PartialValue EvaluationError) (o : Option Placed) (b : Answer) → IfSome o (λ v. partial_answer x ≡ answers_value v.what) →
     AnswersWith x b → IfSome o (λ v. answers_value v.what ≡ b)
@@ -76,6 +82,14 @@ attribute_direct s calls j t w k (Some a) runs found = (
       (none_resolved s.resolution (attribute_residual s.store w k) (attribute_value s s.store w k a.what found))
       (value_stays s.map a.what (attribute_answer (over s s.store) w k) found ∙ sym (of_value s w k)),
 )
+
+-- whether what has a value has an attribute
+pub has_direct : (s : Setting) (calls : StoredCalls) (j : ℕ) (t : Term) (w : Represented) (k : Text) (o : Option Placed) →
+    Runs s calls j t (answers_value w) → IfSome o (λ a. answers_value a.what ≡ has_answer s w k) →
+    IsDirectValue s calls (suc j) (has_attribute t k) o
+unfolding has_part
+has_direct s calls j t w k None runs found = tt
+has_direct s calls j t w k (Some a) runs found = (answers_value w, runs, found)
 
 -- a direct value, in a box, as a boolean, or at a place
 pub boxed_direct : (s : Setting) (calls : StoredCalls) (k : ℕ) (t : Term) (o : Option Placed) (b : Option (Box PartialValue Global)) →

@@ -1,5 +1,6 @@
 pub mod Seen
 pub mod Requests
+pub mod Looked
 pub mod Types
 pub mod BooleanLaws
 pub mod KeptLaws
@@ -10,6 +11,7 @@ pub mod PartsLaws
 pub mod Laws
 pub mod ContinuationLaws
 pub mod DirectLaws
+pub mod KnownLaws
 pub mod DirectEvaluatorLaws
 pub mod ElementLaws
 pub mod Promised

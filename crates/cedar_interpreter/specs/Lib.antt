@@ -1,3 +1,4 @@
+pub mod Known
 pub mod Settings
 pub mod Endings
 pub mod Tasks

@@ -1,11 +1,9 @@
 //! What is evaluated directly, without a turn of the loop: the value of an expression that is low, of operators on literals
 //! and known variables.
 ghost use Rattle.std.specs.Prelude.{◌≡◌, ◌≤◌, true, IfSome};
-ghost use Rattle.std.specs.Rc.{rc_str_bytes};
-ghost use Rattle.cedar_model.specs.Terms as Terms;
 ghost use Rattle.cedar_model.specs.Failures.{answers_value};
 ghost use Rattle.cedar_model.specs.Values.{plain_represented};
-ghost use Rattle.cedar_names.specs.Leaves.{literal_view, variable_view};
+ghost use Rattle.cedar_names.specs.Leaves.{literal_view};
 ghost use Rattle.cedar_expressions.specs.View.{view, expr_loc};
 ghost use Rattle.cedar_errors.specs.Answers.{partial_answer};
 ghost use Rattle.cedar_interpreter.specs.Direct.{IsBoxOf, IsBoolOf, IsPlaced, HasDirectValue};
@@ -15,12 +13,10 @@ use crate::direct_evaluators::{DirectEvaluator, EvaluatorAbove, LeafEvaluator};
 use crate::evaluation::Evaluation;
 use cedar_errors::evaluator::err::EvaluationError;
 use cedar_expressions::Expr;
-use cedar_names::{Literal, Loc, Var};
-use cedar_operators::attributes::attribute_of;
+use cedar_names::{Literal, Loc};
 use cedar_operators::typed::bool_in;
 use cedar_values::{PartialValue, Value, ValueKind};
 use std::alloc::Global;
-use std::rc::RcStr;
 
 impl<'e, 'g, 'f> Evaluation<'e, 'g, 'f> {
     // The value of the part, if it is evaluated directly, where so many levels are left for the whole: in a box.
@@ -74,37 +70,6 @@ impl<'e, 'g, 'f> Evaluation<'e, 'g, 'f> {
         ensures { HasDirectValue self.now 5 (view part.now) result }
     {
         highest().evaluate(self, alloc, part)
-    }
-
-    // The value of the variable, if it is known.
-    pub(crate) fn value_of_variable(&self, var: Var) -> Option<Value>
-        ensures { HasDirectValue self.now 1 (Terms.variable (variable_view var)) result }
-    {
-        match self.given.given_for(var) {
-            PartialValue::Value(value) => match value.clone() {
-                Ok(value) => Some(value),
-                Err(_) => None,
-            },
-            PartialValue::Residual(_) => None,
-        }
-    }
-
-    // The value of an attribute of a variable, if the variable is known and has it.
-    pub(crate) fn attribute_of_variable(
-        &self,
-        alloc: Global,
-        var: Var,
-        attr: &RcStr,
-    ) -> Option<Value>
-        ensures { HasDirectValue self.now 2
-            (Terms.get_attribute (Terms.variable (variable_view var)) (rc_str_bytes attr.now)) result }
-    {
-        match self.given.given_for(var) {
-            PartialValue::Value(value) => {
-                value_in(attribute_of(alloc, self.given.entities, value, attr, None))
-            }
-            PartialValue::Residual(_) => None,
-        }
     }
 }
 

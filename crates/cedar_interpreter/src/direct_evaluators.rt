@@ -1,23 +1,16 @@
 //! Direct evaluators: the values of low expressions, without a turn of the loop.
-ghost use Rattle.std.specs.Prelude.{◌≡◌, ◌≤◌, ℕ, suc, Ok, length, IfOk, IfSome};
-ghost use Rattle.std.specs.BTreeMap.{IsFromIterResult};
-ghost use Rattle.std.specs.List.{zip};
-ghost use Rattle.std.specs.List.Sorted.{IsStrictlySortedBy};
+ghost use Rattle.std.specs.Prelude.{◌≡◌, ◌≤◌, ℕ, suc, Ok, IfSome};
 ghost use Rattle.std.specs.Rc.{rc_str_bytes};
 ghost use Rattle.cedar_model.specs.Terms as Terms;
-ghost use Rattle.cedar_model.specs.Sets.{represented_fields_of};
-ghost use Rattle.cedar_model.specs.Values.{record_represented};
 ghost use Rattle.cedar_model.specs.Failures.{answers_value};
 ghost use Rattle.cedar_model.specs.Settings.{Setting};
 ghost use Rattle.cedar_model.specs.Operators.{binary_answer};
 ghost use Rattle.cedar_names.specs.Names.{type_text};
 ghost use Rattle.cedar_names.specs.Leaves.{unary_view, binary_view, pattern_view, variable_view};
 ghost use Rattle.cedar_expressions.specs.View.{view, expr_loc, terms_view, fields_view, extended_has_of};
-ghost use Rattle.cedar_values.specs.Sound.{whats};
 ghost use Rattle.cedar_layers.specs.Stores.{store_view};
 ghost use Rattle.cedar_extensions.specs.Extensions.{extensions_view};
 ghost use Rattle.cedar_operators.specs.Operands.{given};
-ghost use Rattle.cedar_restricted_evaluator.specs.Keys.{key_order, texts_of, under};
 ghost use Rattle.cedar_partial_operators.specs.Connectives.{joined_terms};
 ghost use Rattle.cedar_interpreter.specs.Direct.{IsValueOf, HasDirectValue, HasDirectBool, HasDirectValueAbove};
 ghost use Rattle.cedar_interpreter.specs.DirectEvaluators.{HasDirectParts, HasDirectPairs, some_above};
@@ -32,10 +25,11 @@ use cedar_operators::operators::of_longs;
 use cedar_partial_operators::attributes::{extended_has_of_part, has_of_part};
 use cedar_partial_operators::connectives::Connective;
 use cedar_partial_operators::unary::{is_of_part, like_of_part, unary_of_part};
+use cedar_restricted_evaluator::record_value;
 use cedar_values::{PartialValue, Value, ValueKind};
 use std::alloc::{AllocError, Global};
 use std::collections::BTreeMap;
-use std::rc::{Rc, RcStr};
+use std::rc::RcStr;
 
 /// What evaluates directly expressions that are no higher than so many levels.
 pub(crate) trait DirectEvaluator {
@@ -306,6 +300,23 @@ impl<T: DirectEvaluator> EvaluatorAbove<T> {
         ensures { HasDirectValueAbove within.now T.height
             (Terms.has_attribute (view expr.now) (rc_str_bytes attr.now)) result }
     {
+        match variable_in(expr) {
+            Some(var) => within.variable_has(alloc, var, attr),
+            None => self.other_has(within, alloc, expr, attr),
+        }
+    }
+
+    // The same of what is no variable.
+    fn other_has(
+        &self,
+        within: &Evaluation<'_, '_, '_>,
+        alloc: Global,
+        expr: &Expr,
+        attr: &RcStr,
+    ) -> Option<Value>
+        ensures { HasDirectValueAbove within.now T.height
+            (Terms.has_attribute (view expr.now) (rc_str_bytes attr.now)) result }
+    {
         match self.below.evaluate(within, alloc, expr) {
             Some(value) => {
                 let part = PartialValue::Value(value);
@@ -491,27 +502,6 @@ fn standing_at(mut value: Value, e: &Expr) -> Value
 {
     value.loc = e.source_loc().copied();
     value
-}
-
-// The record of these values under these keys.
-fn record_value(alloc: Global, keys: Vec<RcStr>, values: Vec<Value>) -> Result<Value, AllocError>
-    requires { (length keys.items ≡ length values.items) × IsStrictlySortedBy key_order keys.items }
-    ensures { IfOk result (λ v. v.what
-        ≡ record_represented (represented_fields_of (under (texts_of keys.items) (whats values.items)))) }
-{
-    let fields = fields_of(alloc, keys, values)?;
-    Ok(Value::record(alloc, fields, None)?)
-}
-
-// The map of the values under the keys, in turn.
-fn fields_of(
-    alloc: Global,
-    keys: Vec<RcStr>,
-    values: Vec<Value>,
-) -> Result<BTreeMap<RcStr, Value>, AllocError>
-    ensures { IfOk result (λ m. IsFromIterResult key_order (zip keys.items values.items) m) }
-{
-    keys.into_iter().zip(values).collect(alloc)
 }
 
 // What was made, unless memory is wanting.

@@ -1,7 +1,11 @@
 //! What an evaluation is given: variables, store, slots, extensions, values for unknowns, and the resolution.
 ghost use Rattle.std.specs.Prelude.{◌≡◌};
+ghost use Rattle.cedar_values.specs.Residuals.{partial_view};
+ghost use Rattle.cedar_layers.specs.Stores.{store_view};
+ghost use Rattle.cedar_interpreter.specs.Known.{IsKnownOf, IsKnownOf-prop};
 ghost use Rattle.cedar_interpreter.specs.declared.evaluation.Resolution.TheVariants as resolutions;
 
+use crate::at_hand::KnownEntities;
 use cedar_extensions::Extensions;
 use cedar_layers::expressions::SlotEnv;
 use cedar_layers::policies::Entities;
@@ -59,6 +63,12 @@ pub struct Given<'g, 'f> {
     pub mapper: Mapper<'g>,
     /// What reading a stored residual answers.
     pub resolution: Resolution,
+    /// What the store has of the entities that principal, action and resource stand for; `KnownEntities::nothing()` where nobody
+    /// looked them up.
+    pub known: KnownEntities<'g>,
+    ghost principal_known: { IsKnownOf (store_view entities.now) (partial_view principal) known.principal } by { IsKnownOf-prop _ _ _ },
+    ghost action_known: { IsKnownOf (store_view entities.now) (partial_view action) known.action } by { IsKnownOf-prop _ _ _ },
+    ghost resource_known: { IsKnownOf (store_view entities.now) (partial_view resource) known.resource } by { IsKnownOf-prop _ _ _ },
 }
 
 impl<'g, 'f> Given<'g, 'f> {

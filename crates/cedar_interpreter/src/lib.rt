@@ -3,6 +3,7 @@
 
 mod after;
 mod answers;
+mod at_hand;
 mod boxed;
 mod boxed_residual;
 mod connectives;
@@ -19,7 +20,9 @@ mod residuals;
 mod start;
 mod stopped;
 mod stored;
+mod variables;
 
+pub use at_hand::{Known, KnownEntities, entity_at_hand};
 pub use boxed_residual::BoxedResidual;
 pub use evaluation::{Evaluation, Given, Mapper, Resolution};
 pub use failed::Failed;

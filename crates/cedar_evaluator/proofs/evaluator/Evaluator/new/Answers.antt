@@ -4,7 +4,6 @@ use Rattle.cedar_extensions.specs.Extensions.{extensions_view}
 use Rattle.cedar_requests.specs.Requests.{request_view}
 use Rattle.cedar_model.specs.Settings.{shallow}
 use Rattle.cedar_evaluator.specs.Evaluations.{setting_for}
-use Rattle.cedar_evaluator.proofs.Looked.{known_of_all}
 use Rattle.cedar_evaluator.proofs.Sound.{context_is_restricted}
 use Rattle.cedar_requests.proofs.Soundness.{request_is_sound}
 use Rattle.cedar_evaluator.proofs.Requests.{four_of_request, four_that_request}
@@ -16,8 +15,6 @@ invariant_of-result g c =
     record {
       of_request = four_of_request (request_view c.args.request) _ _ _ _ said.principal said.action said.resource said.context;
       context_restricted = context_is_restricted (request_view c.args.request) _ (request_is_sound c.args.request) said.context;
-      known_of_store = known_of_all (store_view c.args.entities.now) _ _ _ _
-          c.in_ok-principal_known.ensures c.in_ok-action_known.ensures c.in_ok-resource_known.ensures;
     }
 
 pub returns-clause-setting : goal.returns-clause-setting

@@ -4,8 +4,8 @@ use Rattle.cedar_model.specs.Values.{plain_represented}
 use Rattle.cedar_model.specs.Failures.{value}
 use Rattle.cedar_names.specs.Names.{uid_name}
 use Rattle.cedar_values.specs.Residuals.{partial_view}
-use Rattle.cedar_evaluator.proofs.Looked.{entity_is}
-use Rattle.cedar_evaluator.proofs.at_hand.entity_at_hand.Goals as goal
+use Rattle.cedar_interpreter.proofs.Looked.{entity_is}
+use Rattle.cedar_interpreter.proofs.at_hand.entity_at_hand.Goals as goal
 
 pub returns-in-Some : goal.returns-in-Some
 returns-in-Some c =

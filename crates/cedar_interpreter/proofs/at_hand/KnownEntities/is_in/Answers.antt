@@ -2,9 +2,9 @@ use Rattle.std.proofs.Common.{sym, ap, ◌∙◌}
 use Rattle.cedar_names.specs.declared.names.Var.{Var}
 use Rattle.cedar_names.specs.Names.{uid_name}
 use Rattle.cedar_names.specs.Leaves.{variable_view}
-use Rattle.cedar_evaluator.specs.Known.{known_for, known_view, within}
-use Rattle.cedar_evaluator.proofs.Looked.{within_nothing}
-use Rattle.cedar_evaluator.proofs.at_hand.KnownEntities.is_in.Goals as goal
+use Rattle.cedar_interpreter.specs.Known.{known_for, known_view, within}
+use Rattle.cedar_interpreter.proofs.Looked.{within_nothing}
+use Rattle.cedar_interpreter.proofs.at_hand.KnownEntities.is_in.Goals as goal
 
 pub returns-in-Context : goal.returns-in-Context
 returns-in-Context c =

@@ -1,10 +1,10 @@
 use Rattle.std.proofs.Common.{sym, ap, ◌∙◌}
 use Rattle.cedar_names.specs.Names.{uid_name}
 use Rattle.cedar_layers.specs.Stores.{entity_view}
-use Rattle.cedar_evaluator.specs.declared.at_hand.Known.{Known}
-use Rattle.cedar_evaluator.specs.Known.{known_view, within}
-use Rattle.cedar_evaluator.proofs.Looked.{within_itself, within_ancestors, within_lacking, within_nothing}
-use Rattle.cedar_evaluator.proofs.at_hand.is_in.Goals as goal
+use Rattle.cedar_interpreter.specs.declared.at_hand.Known.{Known}
+use Rattle.cedar_interpreter.specs.Known.{known_view, within}
+use Rattle.cedar_interpreter.proofs.Looked.{within_itself, within_ancestors, within_lacking, within_nothing}
+use Rattle.cedar_interpreter.proofs.at_hand.is_in.Goals as goal
 
 pub returns-then-eq : goal.returns-then-eq
 returns-then-eq c =

@@ -1,0 +1,32 @@
+use Rattle.std.proofs.Common.{zero, suc, sym, ap, ◌∙◌, arith}
+use Rattle.std.specs.Rc.{rc_str_bytes}
+use Rattle.cedar_model.specs.Terms.{variable}
+use Rattle.cedar_model.specs.Failures.{answers}
+use Rattle.cedar_names.specs.Leaves.{variable_view}
+use Rattle.cedar_values.specs.Residuals.{partial_view}
+use Rattle.cedar_layers.specs.Stores.{entity_view}
+use Rattle.cedar_interpreter.specs.Known.{known_view, known_for}
+use Rattle.cedar_interpreter.specs.Settings.{given_for, evaluation_setting, calls_in}
+use Rattle.cedar_interpreter.proofs.KnownLaws.{stored_has_direct, lacking_has_direct}
+use Rattle.cedar_interpreter.proofs.Looked.{known_of_variable}
+use Rattle.cedar_interpreter.proofs.evaluation.Evaluation.variable_has.Goals as goal
+
+pub returns-in-Stored : goal.returns-in-Stored
+returns-in-Stored g c r zero speaks low = absurd (omega (arith, low))
+returns-in-Stored g c r (suc zero) speaks low = absurd (omega (arith, low))
+returns-in-Stored g c r (suc (suc k)) speaks low =
+    let e = c.args.self.now in
+    let x = variable_view c.args.var in
+    stored_has_direct (evaluation_setting r e) (calls_in e) (suc k) (variable x) (partial_view (given_for e.given.now x)) (rc_str_bytes c.args.attr.now) (known_for e.given.now.known x)
+    (ap answers (speaks x)) (known_of_variable e.given.now x) (entity_view c.in-Stored.entity.now) c.bool_value.result c.is_stored.result
+    (sym c.known_for.ensures ∙ ap known_view c.in-Stored.is) c.bool_value.ensures c.is_stored.ensures
+
+pub returns-in-Lacking : goal.returns-in-Lacking
+returns-in-Lacking g c r zero speaks low = absurd (omega (arith, low))
+returns-in-Lacking g c r (suc zero) speaks low = absurd (omega (arith, low))
+returns-in-Lacking g c r (suc (suc k)) speaks low =
+    let e = c.args.self.now in
+    let x = variable_view c.args.var in
+    lacking_has_direct (evaluation_setting r e) (calls_in e) (suc k) (variable x) (partial_view (given_for e.given.now x)) (rc_str_bytes c.args.attr.now) (known_for e.given.now.known x)
+    (ap answers (speaks x)) (known_of_variable e.given.now x) c.bool_value-in-Lacking.result
+    (sym c.known_for.ensures ∙ ap known_view c.in-Lacking.is) c.bool_value-in-Lacking.ensures
