@@ -12,7 +12,6 @@ ghost use Rattle.cedar_names.specs.Leaves.{literal_view, variable_view, binary_v
 ghost use Rattle.cedar_expressions.specs.View.{view, expr_loc};
 ghost use Rattle.cedar_values.specs.Residuals.{partial_loc};
 ghost use Rattle.cedar_errors.specs.Answers.{partial_answer, AnswersWith};
-ghost use Rattle.cedar_errors.specs.Failures.{failure_of};
 ghost use Rattle.cedar_layers.specs.Policies.{policy_view, policy_location};
 ghost use Rattle.cedar_interpreter.specs.Settings.{given_for};
 ghost use Rattle.cedar_evaluator.specs.Decisions.{partly_decided, PartlyDecidesBy, IfLeaves};
