@@ -10,7 +10,14 @@ use Rattle.cedar_evaluator.proofs.Requests.{four_of_request, four_that_request}
 use Rattle.cedar_evaluator.proofs.evaluator.Evaluator.new.Goals as goal
 
 pub invariant_of-result : goal.invariant_of-result
-invariant_of-result g c =
+invariant_of-result g c = record {
+  principal_known = c.in_ok-known.ensures.principal;
+  action_known = c.in_ok-known.ensures.action;
+  resource_known = c.in_ok-known.ensures.resource;
+}
+
+pub invariant_of-result-2 : goal.invariant_of-result-2
+invariant_of-result-2 g c =
     let said = c.in_ok-principal.ensures in
     record {
       of_request = four_of_request (request_view c.args.request) _ _ _ _ said.principal said.action said.resource said.context;
