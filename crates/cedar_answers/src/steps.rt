@@ -4,7 +4,7 @@ use crate::policies::LEVELS;
 use crate::refusal::{Refusal, told, unread_json};
 use crate::stores::store_of;
 use cedar_authorizer::authorizer::{
-    AuthorizationError, Authorizer, PartialResponse, ReauthorizationError, Reauthorize,
+    AuthorizationError, Authorizer, PartialResponse, ReauthorizationError,
 };
 use cedar_evaluator::request::Context;
 use cedar_extensions::Extensions;

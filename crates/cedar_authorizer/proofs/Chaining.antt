@@ -14,9 +14,9 @@ use Rattle.cedar_model.proofs.Chaining as chaining
 use Rattle.cedar_model.proofs.Concrete as concrete
 use Rattle.cedar_model.proofs.Configured.{configured_by}
 use Rattle.cedar_requests.specs.Requests.{request_view}
-use Rattle.cedar_responses.specs.declared.partial_response.PartialResponse.{PartialResponse}
-use Rattle.cedar_responses.specs.Rows.{rows_view}
-use Rattle.cedar_reauthorization.specs.declared.err.ReauthorizationError.{ReauthorizationError}
+use Rattle.cedar_authorizer.specs.declared.responses.partial_response.PartialResponse.{PartialResponse}
+use Rattle.cedar_authorizer.specs.responses.Rows.{rows_view}
+use Rattle.cedar_authorizer.specs.declared.reauthorization.err.ReauthorizationError.{ReauthorizationError}
 use Rattle.cedar_authorizer.specs.Headline.{LeadsTo, IsTakenFurther, IsHeadline, LeavesNothing, IsChain}
 use Rattle.cedar_authorizer.specs.Running.{errors_of, request_of, IsRun}
 use Rattle.cedar_authorizer.specs.Steps.{step_answer, response_said, Says, IsStep}

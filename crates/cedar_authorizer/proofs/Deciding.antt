@@ -24,9 +24,10 @@ use Rattle.cedar_model.proofs.Exactly as exactly
 use Rattle.cedar_model.proofs.Recorded.{run_recordable}
 use Rattle.cedar_model.proofs.Standing as standing
 use Rattle.cedar_model.proofs.Configured.{configured_by}
-use Rattle.cedar_responses.specs.declared.partial_response.PartialResponse.{PartialResponse}
-use Rattle.cedar_responses.specs.Rows.{mode_of, located_view, rows_view}
-use Rattle.cedar_responses.proofs.Rows.{trues_permit, falses_permit, residuals_permit, trues_forbid, falses_forbid, residuals_forbid, chosen_rows}
+use Rattle.cedar_authorizer.specs.declared.responses.partial_response.PartialResponse.{PartialResponse}
+use Rattle.cedar_authorizer.specs.responses.Rows.{mode_of, located_view, rows_view}
+use Rattle.cedar_authorizer.proofs.Rows.{trues_permit, falses_permit, residuals_permit, trues_forbid, falses_forbid}
+use Rattle.cedar_authorizer.proofs.Rows.{residuals_forbid, chosen_rows}
 use Rattle.cedar_authorizer.specs.Responding.{IsKnownResponse, IsKnownRun, MeetsNoLimit, OwnWorldCompletesCall}
 use Rattle.cedar_authorizer.specs.Running.{errors_of, HoldsRows, IsRun, StandsInCompletions, IsDeepEnough, IsConcreteRun}
 use Rattle.cedar_authorizer.proofs.Low.{run_is_deep}

@@ -12,8 +12,8 @@ use Rattle.cedar_model.specs.Responses.{Reported}
 use Rattle.cedar_model.specs.Chains.{has_effect}
 use Rattle.cedar_layers.specs.declared.policies.policy.PolicyID.{PolicyID}
 use Rattle.cedar_layers.specs.Policies.{policy_id_text, first_repeated, first_repeated_after}
-use Rattle.cedar_responses.specs.Kept.{is_same_id, kept}
-use Rattle.cedar_responses.specs.Rows.{Located, located_of}
+use Rattle.cedar_authorizer.specs.responses.Kept.{is_same_id, kept}
+use Rattle.cedar_authorizer.specs.responses.Rows.{Located, located_of}
 
 -- ---- texts
 

@@ -11,16 +11,16 @@ use Rattle.cedar_model.specs.Refusals.{Refusal, id_comes_again, first_repeated, 
 use Rattle.cedar_model.specs.Chains.{Mapping, Response, all_residuals, at_step, with_context, is_same_mode, AfterRequest, AfterIds, AfterMode, Steps}
 use Rattle.cedar_requests.specs.declared.request.Request.{Request}
 use Rattle.cedar_requests.specs.Requests.{request_view}
-use Rattle.cedar_responses.specs.declared.partial_response.PartialResponse.{PartialResponse}
-use Rattle.cedar_responses.specs.Responses.{errors_view}
-use Rattle.cedar_responses.specs.Rows.{mode_of}
-use Rattle.cedar_reauthorization.specs.declared.err.ConcretizationError.{ConcretizationError}
-use Rattle.cedar_reauthorization.specs.declared.err.ReauthorizationError.{ReauthorizationError}
-use Rattle.cedar_reauthorization.specs.declared.err.ReauthorizationError.TheVariants as reauthorizations
+use Rattle.cedar_authorizer.specs.declared.responses.partial_response.PartialResponse.{PartialResponse}
+use Rattle.cedar_authorizer.specs.responses.Responses.{errors_view}
+use Rattle.cedar_authorizer.specs.responses.Rows.{mode_of}
+use Rattle.cedar_authorizer.specs.declared.reauthorization.err.ConcretizationError.{ConcretizationError}
+use Rattle.cedar_authorizer.specs.declared.reauthorization.err.ReauthorizationError.{ReauthorizationError}
+use Rattle.cedar_authorizer.specs.declared.reauthorization.err.ReauthorizationError.TheVariants as reauthorizations
 use Rattle.std.specs.declared.alloc.AllocError.{AllocError}
-use Rattle.cedar_reauthorization.specs.Errors.{refusal_of, step_refusal, IsRequestRefusal, IsUnwrapped}
-use Rattle.cedar_reauthorization.specs.Concretizations.{AfterMap, IsConcrete}
-use Rattle.cedar_reauthorization.specs.Policies.{unless_repeated, all_once}
+use Rattle.cedar_authorizer.specs.reauthorization.Errors.{refusal_of, step_refusal, IsRequestRefusal, IsUnwrapped}
+use Rattle.cedar_authorizer.specs.reauthorization.Concretizations.{AfterMap, IsConcrete}
+use Rattle.cedar_authorizer.specs.reauthorization.Policies.{unless_repeated, all_once}
 use Rattle.cedar_authorizer.specs.Running.{IsRun}
 use Rattle.cedar_authorizer.specs.Steps.{response_said, IsDecidedAgain, IsStep}
 use Rattle.cedar_model.proofs.Configured.{configured_by}

@@ -16,3 +16,15 @@ pub mod Joined
 pub mod Stepped
 pub mod Chaining
 pub mod Limits
+pub mod Concretes
+pub mod Copies
+pub mod Getting
+pub mod Naming
+pub mod Noted
+pub mod Promised
+pub mod Rows
+pub mod Walks
+pub mod Carrying
+pub mod Concretizing
+pub mod Contexts
+pub mod Unwrapped

@@ -3,8 +3,8 @@ use Rattle.std.specs.Prelude.{◌≡◌, Bool, true, false, ◌||◌, List, [], 
 use Rattle.std.proofs.Common.{refl, ap, ◌∙◌}
 use Rattle.cedar_model.specs.Failures.{failure_kind}
 use Rattle.cedar_model.specs.Chains.{is_limit, has_limit}
-use Rattle.cedar_responses.specs.declared.err.AuthorizationError.{AuthorizationError}
-use Rattle.cedar_responses.specs.Responses.{error_view, errors_view}
+use Rattle.cedar_authorizer.specs.declared.responses.err.AuthorizationError.{AuthorizationError}
+use Rattle.cedar_authorizer.specs.responses.Responses.{error_view, errors_view}
 
 -- whether the policy met the limit
 abbrev pub met_limit : AuthorizationError → Bool

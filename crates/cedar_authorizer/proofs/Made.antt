@@ -5,8 +5,8 @@ use Rattle.std.specs.declared.vec.IntoIter.{IntoIter}
 use Rattle.std.proofs.Common.{ap, ◌∙◌}
 use Rattle.std.proofs.IntoIterSteps.{All-taken, takes}
 use Rattle.cedar_layers.specs.declared.policies.policy.PolicyID.{PolicyID}
-use Rattle.cedar_responses.specs.declared.err.AuthorizationError.{AuthorizationError}
-use Rattle.cedar_responses.specs.Kept.{kept, Keeps, Gives}
+use Rattle.cedar_authorizer.specs.declared.responses.err.AuthorizationError.{AuthorizationError}
+use Rattle.cedar_authorizer.specs.responses.Kept.{kept, Keeps, Gives}
 
 pub kept_items : {V : Type 0} (it : IntoIter (PolicyID × V) Global) (items entries : List (PolicyID × V)) → it.rest.items ≡ items → Keeps takes it entries → entries ≡ kept items
 kept_items it items entries r (pairs, d, e) = e ∙ ap kept (All-taken it pairs d ∙ r)

@@ -14,15 +14,17 @@ use Rattle.cedar_layers.specs.declared.policies.policy.PolicyID.{PolicyID}
 use Rattle.cedar_layers.specs.Policies.{PolicyView, policy_id_text, condition_term, decides_as, policy_ids, first_repeated}
 use Rattle.cedar_layers.specs.declared.policies.policy_set.PolicySet.{PolicySet}
 use Rattle.cedar_layers.specs.PolicySets.{policies_view}
-use Rattle.cedar_responses.specs.declared.partial_response.PartialResponse.{PartialResponse}
-use Rattle.cedar_responses.specs.declared.sheet.Outcome.{Outcome}
-use Rattle.cedar_responses.specs.declared.sheet.Sheet.{Sheet}
-use Rattle.cedar_responses.specs.Kept.{kept}
-use Rattle.cedar_responses.specs.Responses.{errors_view}
-use Rattle.cedar_responses.specs.Rows.{mode_of, Located, located_true, located_false, located_residual, rows_in, located_of}
-use Rattle.cedar_responses.specs.Sheets.{Noted, outcome_view, placed_row, sheet_view, sorted, nothing_noted, noted_also}
-use Rattle.cedar_responses.proofs.Noted.{sorted_none, sorted_more}
-use Rattle.cedar_responses.proofs.Rows.{rows_of_located}
+use Rattle.cedar_authorizer.specs.declared.responses.partial_response.PartialResponse.{PartialResponse}
+use Rattle.cedar_authorizer.specs.declared.responses.sheet.Outcome.{Outcome}
+use Rattle.cedar_authorizer.specs.declared.responses.sheet.Sheet.{Sheet}
+use Rattle.cedar_authorizer.specs.responses.Kept.{kept}
+use Rattle.cedar_authorizer.specs.responses.Responses.{errors_view}
+use Rattle.cedar_authorizer.specs.responses.Rows.{mode_of, Located, located_true, located_false, located_residual}
+use Rattle.cedar_authorizer.specs.responses.Rows.{rows_in, located_of}
+use Rattle.cedar_authorizer.specs.responses.Sheets.{Noted, outcome_view, placed_row, sheet_view, sorted, nothing_noted}
+use Rattle.cedar_authorizer.specs.responses.Sheets.{noted_also}
+use Rattle.cedar_authorizer.proofs.Noted.{sorted_none, sorted_more}
+use Rattle.cedar_authorizer.proofs.Rows.{rows_of_located}
 use Rattle.cedar_authorizer.specs.Responding.{deciding}
 use Rattle.cedar_authorizer.specs.Running.{HoldsRows, IsRun, ComesOutBy, IsNotedRun, KeepsSheet}
 use Rattle.cedar_authorizer.proofs.Distinct.{located_ids, picked_distinct, pair_ids, kept_whole}

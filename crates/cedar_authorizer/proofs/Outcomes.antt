@@ -12,8 +12,8 @@ use Rattle.cedar_expressions.specs.View.{view, expr_loc}
 use Rattle.either.specs.declared.Either.{Either}
 use Rattle.either.specs.declared.Either.TheVariants.{Left, Right}
 use Rattle.cedar_evaluator.specs.Decisions.{PartlyDecidesBy, IfLeaves}
-use Rattle.cedar_responses.specs.declared.sheet.Outcome.{Outcome}
-use Rattle.cedar_responses.specs.Sheets.{outcome_view}
+use Rattle.cedar_authorizer.specs.declared.responses.sheet.Outcome.{Outcome}
+use Rattle.cedar_authorizer.specs.responses.Sheets.{outcome_view}
 use Rattle.cedar_authorizer.specs.Running.{ComesOutBy}
 
 -- an answer that decides something else than want of memory is no want of memory

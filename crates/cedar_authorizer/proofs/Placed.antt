@@ -8,12 +8,13 @@ use Rattle.cedar_model.specs.Chains.{has_effect, is_residual}
 use Rattle.cedar_model.proofs.Concrete.{residual_same}
 use Rattle.cedar_layers.specs.declared.policies.policy.Policy as layers
 use Rattle.cedar_layers.specs.Policies.{policy_view, policy_location}
-use Rattle.cedar_responses.specs.declared.partial_response.PartialResponse.{PartialResponse}
-use Rattle.cedar_responses.specs.declared.sheet.Outcome.{Outcome}
-use Rattle.cedar_responses.specs.declared.sheet.Outcome.TheVariants as outcomes
-use Rattle.cedar_responses.specs.declared.sheet.Sheet.{Sheet}
-use Rattle.cedar_responses.specs.Rows.{Located, clause_loc, located_of, residual_rows}
-use Rattle.cedar_responses.specs.Sheets.{Noted, sheet_view, nothing_noted, noted_also, outcome_view, placed_row}
+use Rattle.cedar_authorizer.specs.declared.responses.partial_response.PartialResponse.{PartialResponse}
+use Rattle.cedar_authorizer.specs.declared.responses.sheet.Outcome.{Outcome}
+use Rattle.cedar_authorizer.specs.declared.responses.sheet.Outcome.TheVariants as outcomes
+use Rattle.cedar_authorizer.specs.declared.responses.sheet.Sheet.{Sheet}
+use Rattle.cedar_authorizer.specs.responses.Rows.{Located, clause_loc, located_of, residual_rows}
+use Rattle.cedar_authorizer.specs.responses.Sheets.{Noted, sheet_view, nothing_noted, noted_also, outcome_view}
+use Rattle.cedar_authorizer.specs.responses.Sheets.{placed_row}
 use Rattle.cedar_authorizer.specs.Running.{StandsAtPolicy, ResidualsStand, ResidualsAreNoted, IsLeftAt}
 
 -- the policies before those that are left are placed

@@ -28,12 +28,13 @@ use Rattle.cedar_model.proofs.Keeping.{nothing_taken_back}
 use Rattle.cedar_model.proofs.Recorded.{run_recordable}
 use Rattle.cedar_model.proofs.Stepping.{taken}
 use Rattle.cedar_model.proofs.Configured.{configured_by}
-use Rattle.cedar_responses.specs.declared.partial_response.PartialResponse.{PartialResponse}
-use Rattle.cedar_responses.specs.Rows.{rows_view}
-use Rattle.cedar_responses.proofs.Rows.{trues_permit, falses_permit, residuals_permit, trues_forbid, falses_forbid, residuals_forbid}
-use Rattle.cedar_reauthorization.specs.declared.err.ReauthorizationError.{ReauthorizationError}
-use Rattle.cedar_reauthorization.specs.Errors.{step_refusal}
-use Rattle.cedar_reauthorization.specs.Concretizations.{IsResidualNoHigher}
+use Rattle.cedar_authorizer.specs.declared.responses.partial_response.PartialResponse.{PartialResponse}
+use Rattle.cedar_authorizer.specs.responses.Rows.{rows_view}
+use Rattle.cedar_authorizer.proofs.Rows.{trues_permit, falses_permit, residuals_permit, trues_forbid, falses_forbid}
+use Rattle.cedar_authorizer.proofs.Rows.{residuals_forbid}
+use Rattle.cedar_authorizer.specs.declared.reauthorization.err.ReauthorizationError.{ReauthorizationError}
+use Rattle.cedar_authorizer.specs.reauthorization.Errors.{step_refusal}
+use Rattle.cedar_authorizer.specs.reauthorization.Concretizations.{IsResidualNoHigher}
 use Rattle.cedar_authorizer.specs.Running.{HoldsRows}
 use Rattle.cedar_authorizer.specs.Steps.{step_answer, IsStep, KeepsWhatStands, TakesNothingBack, Finishes, IsDeepEnough}
 use Rattle.cedar_authorizer.proofs.Deciding.{rows_sorted}

@@ -17,11 +17,11 @@ use Rattle.cedar_model.proofs.Configured.{configured_by}
 use Rattle.cedar_interpreter.specs.Booleans.{is_bool}
 use Rattle.cedar_layers.specs.Policies.{PolicyView, condition_term, decides_as, first_repeated, first_repeated_after}
 use Rattle.cedar_layers.specs.declared.policies.policy_set.PolicySet.{PolicySet}
-use Rattle.cedar_responses.specs.declared.partial_response.PartialResponse.{PartialResponse}
-use Rattle.cedar_responses.specs.declared.sheet.Outcome.{Outcome}
-use Rattle.cedar_responses.specs.declared.sheet.Sheet.{Sheet}
-use Rattle.cedar_responses.specs.Rows.{mode_of, rows_view}
-use Rattle.cedar_responses.specs.Sheets.{outcome_view, sheet_view, nothing_noted, noting}
+use Rattle.cedar_authorizer.specs.declared.responses.partial_response.PartialResponse.{PartialResponse}
+use Rattle.cedar_authorizer.specs.declared.responses.sheet.Outcome.{Outcome}
+use Rattle.cedar_authorizer.specs.declared.responses.sheet.Sheet.{Sheet}
+use Rattle.cedar_authorizer.specs.responses.Rows.{mode_of, rows_view}
+use Rattle.cedar_authorizer.specs.responses.Sheets.{outcome_view, sheet_view, nothing_noted, noting}
 use Rattle.cedar_authorizer.specs.Responding.{deciding}
 use Rattle.cedar_authorizer.specs.Running.{errors_of, IsConcreteRun, ComesOutBy, KeepsSheet}
 use Rattle.cedar_layers.specs.Scopes.{AreAllBut}

@@ -17,10 +17,10 @@ use Rattle.cedar_layers.specs.declared.policies.policy_set.PolicySet.{PolicySet}
 use Rattle.cedar_layers.specs.Policies.{policy_view, policy_location, condition_term, decides_as, first_repeated, first_repeated_after}
 use Rattle.cedar_layers.specs.PolicySets.{stored_policies}
 use Rattle.cedar_layers.specs.Scopes.{AreAllBut}
-use Rattle.cedar_responses.specs.declared.sheet.Outcome.{Outcome}
-use Rattle.cedar_responses.specs.declared.sheet.Outcome.TheVariants as outcomes
-use Rattle.cedar_responses.specs.declared.sheet.Sheet.{Sheet}
-use Rattle.cedar_responses.specs.Sheets.{outcome_view, sheet_view, nothing_noted, noting}
+use Rattle.cedar_authorizer.specs.declared.responses.sheet.Outcome.{Outcome}
+use Rattle.cedar_authorizer.specs.declared.responses.sheet.Outcome.TheVariants as outcomes
+use Rattle.cedar_authorizer.specs.declared.responses.sheet.Sheet.{Sheet}
+use Rattle.cedar_authorizer.specs.responses.Sheets.{outcome_view, sheet_view, nothing_noted, noting}
 use Rattle.cedar_authorizer.specs.Responding.{deciding}
 use Rattle.cedar_authorizer.specs.Running.{ComesOutBy, IsLeftAt}
 use Rattle.cedar_authorizer.specs.Telling.{IsFalse, deciding_these}

@@ -14,8 +14,8 @@ use Rattle.cedar_model.specs.Headline.{Premises, Headline}
 use Rattle.cedar_layers.specs.declared.policies.entities.Entities.{Entities}
 use Rattle.cedar_layers.specs.Stores.{store_view}
 use Rattle.cedar_requests.specs.Substitutions.{values_for}
-use Rattle.cedar_responses.specs.declared.partial_response.PartialResponse.{PartialResponse}
-use Rattle.cedar_responses.specs.Rows.{rows_view}
+use Rattle.cedar_authorizer.specs.declared.responses.partial_response.PartialResponse.{PartialResponse}
+use Rattle.cedar_authorizer.specs.responses.Rows.{rows_view}
 use Rattle.cedar_authorizer.specs.Running.{errors_of}
 use Rattle.cedar_authorizer.specs.Steps.{Says, ValuesByName}
 

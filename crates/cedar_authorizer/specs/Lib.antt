@@ -1,3 +1,5 @@
+pub mod responses
+pub mod reauthorization
 pub mod Configured
 pub mod Responding
 pub mod Running

@@ -17,15 +17,16 @@ use Rattle.cedar_expressions.specs.View.{expr_loc}
 use Rattle.cedar_layers.specs.declared.policies.policy.Policy as layers
 use Rattle.cedar_layers.specs.Policies.{policy_view, policy_location}
 use Rattle.cedar_requests.specs.declared.request.Request.{Request}
-use Rattle.cedar_responses.specs.declared.partial_response.PartialResponse.{PartialResponse}
-use Rattle.cedar_responses.specs.declared.sheet.Outcome.{Outcome}
-use Rattle.cedar_responses.specs.declared.sheet.Outcome.TheVariants as outcomes
-use Rattle.cedar_responses.specs.declared.sheet.Sheet.{Sheet}
-use Rattle.cedar_responses.specs.Kept.{kept}
-use Rattle.cedar_responses.specs.Responses.{errors_view}
-use Rattle.cedar_responses.specs.Rows.{Located, clause_loc, true_rows, false_rows, residual_rows, rows_in, rows_view}
-use Rattle.cedar_responses.specs.Rows.{mode_of}
-use Rattle.cedar_responses.specs.Sheets.{sheet_view, sorted}
+use Rattle.cedar_authorizer.specs.declared.responses.partial_response.PartialResponse.{PartialResponse}
+use Rattle.cedar_authorizer.specs.declared.responses.sheet.Outcome.{Outcome}
+use Rattle.cedar_authorizer.specs.declared.responses.sheet.Outcome.TheVariants as outcomes
+use Rattle.cedar_authorizer.specs.declared.responses.sheet.Sheet.{Sheet}
+use Rattle.cedar_authorizer.specs.responses.Kept.{kept}
+use Rattle.cedar_authorizer.specs.responses.Responses.{errors_view}
+use Rattle.cedar_authorizer.specs.responses.Rows.{Located, clause_loc, true_rows, false_rows, residual_rows, rows_in}
+use Rattle.cedar_authorizer.specs.responses.Rows.{rows_view}
+use Rattle.cedar_authorizer.specs.responses.Rows.{mode_of}
+use Rattle.cedar_authorizer.specs.responses.Sheets.{sheet_view, sorted}
 
 -- ---- responses
 

@@ -9,8 +9,8 @@ use Rattle.cedar_model.specs.Policies.{ErrorHandling, skip, forbid_on_error}
 use Rattle.cedar_model.specs.Reordering.{IsReordering}
 use Rattle.cedar_model.specs.Authorizations.{IsExactResponse}
 use Rattle.cedar_decisions.specs.declared.decision.Decision.TheVariants.{Allow, Deny}
-use Rattle.cedar_responses.specs.declared.response.Response.{Response}
-use Rattle.cedar_responses.specs.Responses.{has_id, response_view}
+use Rattle.cedar_authorizer.specs.declared.responses.response.Response.{Response}
+use Rattle.cedar_authorizer.specs.responses.Responses.{has_id, response_view}
 
 -- the same decision for the same reasons
 abbrev pub AnswersAlike : Response → Response → Type 0

@@ -26,11 +26,11 @@ use Rattle.cedar_layers.specs.Policies.{PolicyView, decides_as}
 use Rattle.cedar_layers.specs.Stores.{store_view}
 use Rattle.cedar_requests.specs.Requests.{request_view}
 use Rattle.cedar_requests.specs.Substitutions.{values_for}
-use Rattle.cedar_responses.specs.declared.partial_response.PartialResponse.{PartialResponse}
-use Rattle.cedar_responses.specs.Rows.{mode_of, rows_view}
-use Rattle.cedar_reauthorization.specs.declared.err.ReauthorizationError.{ReauthorizationError}
-use Rattle.cedar_reauthorization.specs.Concretizations.{IsConcrete}
-use Rattle.cedar_reauthorization.specs.Errors.{step_answer_by}
+use Rattle.cedar_authorizer.specs.declared.responses.partial_response.PartialResponse.{PartialResponse}
+use Rattle.cedar_authorizer.specs.responses.Rows.{mode_of, rows_view}
+use Rattle.cedar_authorizer.specs.declared.reauthorization.err.ReauthorizationError.{ReauthorizationError}
+use Rattle.cedar_authorizer.specs.reauthorization.Concretizations.{IsConcrete}
+use Rattle.cedar_authorizer.specs.reauthorization.Errors.{step_answer_by}
 use Rattle.cedar_authorizer.specs.Running.{errors_of, request_of, HoldsRows, IsRun}
 
 -- what a response says, as the model has it, with its rows in the order of its six maps

@@ -9,9 +9,9 @@ use Rattle.cedar_model.specs.Configurations.{Configuration}
 use Rattle.cedar_layers.specs.declared.policies.policy.Policy as layers
 use Rattle.cedar_layers.specs.Policies.{PolicyView, policy_view, decides_as}
 use Rattle.cedar_layers.specs.Scopes.{AreAllBut}
-use Rattle.cedar_responses.specs.declared.sheet.Outcome.{Outcome}
-use Rattle.cedar_responses.specs.declared.sheet.Sheet.{Sheet}
-use Rattle.cedar_responses.specs.Sheets.{Noted, outcome_view, noting}
+use Rattle.cedar_authorizer.specs.declared.responses.sheet.Outcome.{Outcome}
+use Rattle.cedar_authorizer.specs.declared.responses.sheet.Sheet.{Sheet}
+use Rattle.cedar_authorizer.specs.responses.Sheets.{Noted, outcome_view, noting}
 use Rattle.cedar_authorizer.specs.Running.{IsNotedRun}
 
 -- the policy's condition is false within the levels

@@ -13,10 +13,10 @@ ghost use Rattle.cedar_layers.specs.PolicySets.{stored_policies};
 ghost use Rattle.cedar_errors.specs.Failures.{failure_of};
 ghost use Rattle.cedar_evaluator.specs.Evaluations.{setting_of, calls_in, IsPromisedOf};
 ghost use Rattle.cedar_evaluator.specs.Evaluations as evaluations;
-ghost use Rattle.cedar_responses.specs.Responses.{response_view};
-ghost use Rattle.cedar_responses.specs.Rows.{rows_view};
-ghost use Rattle.cedar_responses.specs.Rows as rows;
-ghost use Rattle.cedar_responses.specs.Sheets.{outcome_view};
+ghost use Rattle.cedar_authorizer.specs.responses.Responses.{response_view};
+ghost use Rattle.cedar_authorizer.specs.responses.Rows.{rows_view};
+ghost use Rattle.cedar_authorizer.specs.responses.Rows as rows;
+ghost use Rattle.cedar_authorizer.specs.responses.Sheets.{outcome_view};
 ghost use Rattle.cedar_authorizer.specs.Configured.{configuration, asked};
 ghost use Rattle.cedar_authorizer.specs.Responding.{deciding};
 ghost use Rattle.cedar_authorizer.specs.Wanting.{is_of_memory};
@@ -25,25 +25,24 @@ ghost use Rattle.cedar_authorizer.specs.Running.{IsDeepEnough, IsConcreteRun};
 ghost use Rattle.cedar_authorizer.specs.Running.{ComesOutBy, IsNotedRun, KeepsSheet};
 ghost use Rattle.cedar_authorizer.specs.Running.{ResidualsStand, ResidualsAreNoted, IsLeftAt};
 
+pub use crate::reauthorization::{ConcretizationError, ReauthorizationError};
+pub use crate::responses::{
+    AuthorizationError, Decision, Diagnostics, ErrorHandling, ErrorState, PartialResponse,
+    ReportedIds, ReportedPolicies, Response,
+};
+use crate::responses::{Outcome, Sheet};
 use cedar_errors::extensions::ExtensionFunctionLookupError;
 pub use cedar_evaluator::evaluator::Resolution;
 use cedar_evaluator::evaluator::{EvaluationError, Evaluator};
 use cedar_evaluator::request::Request;
 use cedar_extensions::Extensions;
 use cedar_layers::policies::{Entities, Policy, PolicyID, PolicySet};
-pub use cedar_reauthorization::{ConcretizationError, ReauthorizationError};
-use cedar_responses::shared::{Outcome, Sheet};
-pub use cedar_responses::{
-    AuthorizationError, Decision, Diagnostics, ErrorHandling, ErrorState, PartialResponse,
-    ReportedIds, ReportedPolicies, Response,
-};
 use cedar_values::Value;
 use either::{Left, Right};
 use sheets::first_sheet;
 use std::alloc::{AllocError, Global};
 use std::collections::{HashMap, HashSet};
 use std::rc::{Rc, RcStr};
-pub use steps::Reauthorize;
 use steps::take_steps;
 use telling::told_sheet;
 
@@ -55,8 +54,8 @@ mod telling;
 
 /// Why a policy was skipped, and why a response could not be taken further.
 pub mod err {
-    pub use cedar_reauthorization::{ConcretizationError, ReauthorizationError};
-    pub use cedar_responses::AuthorizationError;
+    pub use crate::reauthorization::{ConcretizationError, ReauthorizationError};
+    pub use crate::responses::AuthorizationError;
 }
 
 /// How policies came out, effect by effect, as plain data.
@@ -86,7 +85,7 @@ pub struct Authorizer<'f> {
 
 impl<'f> Authorizer<'f> {
     ghost use Rattle.std.specs.Prelude.{IfErr};
-    ghost use Rattle.cedar_reauthorization.specs.Errors.{IsUnwrapped};
+    ghost use Rattle.cedar_authorizer.specs.reauthorization.Errors.{IsUnwrapped};
     ghost use Rattle.cedar_authorizer.specs.Steps.{step_answer};
     ghost use Rattle.cedar_authorizer.specs.Configured.{extensions_of, limit_of, mode_of, resolution_of};
     ghost use Rattle.cedar_authorizer.specs.Responding.{IsKnownResponse, IsKnownRun, MeetsNoLimit};

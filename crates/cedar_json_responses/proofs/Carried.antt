@@ -10,8 +10,8 @@ use Rattle.cedar_names.specs.declared.names.Loc.{Loc}
 use Rattle.cedar_layers.specs.declared.policies.policy.Policy.{Policy}
 use Rattle.cedar_layers.specs.Policies.{PolicyView, policy_view}
 use Rattle.cedar_writing.specs.Policies.{policy_text}
-use Rattle.cedar_responses.specs.Rows.{Located, rows_in}
-use Rattle.cedar_responses.specs.Readers.{IsCarriedOn}
+use Rattle.cedar_authorizer.specs.responses.Rows.{Located, rows_in}
+use Rattle.cedar_authorizer.specs.responses.Readers.{IsCarriedOn}
 use Rattle.cedar_json_responses.specs.Reading.{AddsId, AddsResidual, policy_ids, policy_member, policy_members}
 use Rattle.cedar_json_responses.specs.Responses.{residual_member}
 use Rattle.cedar_json_responses.proofs.Listed.{one_more}

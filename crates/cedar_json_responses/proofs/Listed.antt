@@ -4,8 +4,8 @@ use Rattle.std.proofs.lemmas.List.{drop_more}
 use Rattle.json.specs.Json.{Json}
 use Rattle.cedar_model.specs.Terms.{Text}
 use Rattle.cedar_model.specs.Failures.{Failure}
-use Rattle.cedar_responses.specs.declared.err.AuthorizationError.{AuthorizationError}
-use Rattle.cedar_responses.specs.Responses.{error_view, errors_view}
+use Rattle.cedar_authorizer.specs.declared.responses.err.AuthorizationError.{AuthorizationError}
+use Rattle.cedar_authorizer.specs.responses.Responses.{error_view, errors_view}
 use Rattle.cedar_json_responses.specs.Errors.{AreEachError, IsErrorJson}
 
 -- one more is written, and is no longer left

@@ -4,16 +4,16 @@ ghost use Rattle.std.specs.Prelude.{◌≡◌, ◌∷◌, [], ◌++◌, codes, I
 ghost use Rattle.json.specs.Json.{string};
 ghost use Rattle.cedar_layers.specs.Policies.{policy_id_text};
 ghost use Rattle.cedar_errors.specs.Failures.{failure_of};
-ghost use Rattle.cedar_responses.specs.Responses.{error_view, errors_view};
+ghost use Rattle.cedar_authorizer.specs.responses.Responses.{error_view, errors_view};
 ghost use Rattle.cedar_json_writing.specs.Trees.{json_view, members_seen};
 ghost use Rattle.cedar_json_responses.specs.Errors.{Says, AddsMessage, AddsError, IsErrorJson, AreErrorsJson};
 
 use crate::ids::id_text;
 use crate::texts::put_string_member;
+use cedar_authorizer::authorizer::AuthorizationError;
 use cedar_errors::evaluator::err::EvaluationError;
 use cedar_json_writing::{JsonValue, put_item, put_member};
 use cedar_layers::policies::PolicyID;
-use cedar_responses::AuthorizationError;
 use std::alloc::{AllocError, Global};
 use std::rc::RcStr;
 

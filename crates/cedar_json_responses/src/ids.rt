@@ -4,15 +4,15 @@ ghost use Rattle.std.specs.Prelude.{◌≡◌, [], ◌∷◌, ◌++◌, map, IfO
 ghost use Rattle.json.specs.Json.{string};
 ghost use Rattle.cedar_layers.specs.Policies.{policy_id_text, policy_view};
 ghost use Rattle.cedar_model.specs.Policies as model;
-ghost use Rattle.cedar_responses.specs.Readers.{policies_left};
+ghost use Rattle.cedar_authorizer.specs.responses.Readers.{policies_left};
 ghost use Rattle.cedar_json_writing.specs.Trees.{json_view};
 ghost use Rattle.cedar_json_responses.specs.Texts.{texts_json};
 ghost use Rattle.cedar_json_responses.specs.Reading.{AddsId, policy_ids};
 
 use crate::texts::put_text;
+use cedar_authorizer::authorizer::ReportedPolicies;
 use cedar_json_writing::JsonValue;
 use cedar_layers::policies::{Policy, PolicyID};
-use cedar_responses::ReportedPolicies;
 use std::alloc::{AllocError, Global};
 use std::collections::HashSet;
 

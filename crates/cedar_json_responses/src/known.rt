@@ -2,7 +2,7 @@
 ghost use Rattle.std.specs.Prelude.{◌≡◌, [], ◌∷◌, ◌++◌, codes, IfOk, OnOk};
 ghost use Rattle.cedar_model.specs.Reports.{ids, must_determine, may_determine};
 ghost use Rattle.cedar_requests.specs.Requests.{request_view};
-ghost use Rattle.cedar_responses.specs.Rows.{rows_view};
+ghost use Rattle.cedar_authorizer.specs.responses.Rows.{rows_view};
 ghost use Rattle.cedar_json_writing.specs.Trees.{json_view, members_seen};
 ghost use Rattle.cedar_json_responses.specs.Texts.{texts_json};
 ghost use Rattle.cedar_json_responses.specs.Responses.{known_members, residuals_json, unknowns_json, entities_json};
@@ -11,8 +11,8 @@ use crate::decisions::put_decision;
 use crate::ids::policy_ids_to_json;
 use crate::left::{entities_to_json, unknowns_to_json};
 use crate::residuals::policies_to_json;
+use cedar_authorizer::authorizer::PartialResponse;
 use cedar_json_writing::{JsonValue, put_member};
-use cedar_responses::PartialResponse;
 use std::alloc::{AllocError, Global};
 use std::rc::RcStr;
 

@@ -6,16 +6,16 @@ ghost use Rattle.json.specs.Json.{string};
 ghost use Rattle.cedar_model.specs.Settings.{printed_entity};
 ghost use Rattle.cedar_names.specs.Names.{uid_name};
 ghost use Rattle.cedar_requests.specs.Requests.{request_view};
-ghost use Rattle.cedar_responses.specs.Rows.{rows_view};
+ghost use Rattle.cedar_authorizer.specs.responses.Rows.{rows_view};
 ghost use Rattle.cedar_unknowns.specs.Occurrences.{asked_each};
 ghost use Rattle.cedar_json_writing.specs.Trees.{json_view};
 ghost use Rattle.cedar_json_responses.specs.Texts.{texts_json, text_once, names_once};
 ghost use Rattle.cedar_json_responses.specs.Responses.{unknowns_json, entities_json};
 
 use crate::texts::put_text;
+use cedar_authorizer::authorizer::PartialResponse;
 use cedar_json_writing::JsonValue;
 use cedar_names::{EntityUID, Unknown};
-use cedar_responses::PartialResponse;
 use cedar_unknowns::Unknowns;
 use indexmap::IndexSet;
 use std::alloc::{AllocError, Global};

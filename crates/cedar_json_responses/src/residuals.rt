@@ -4,16 +4,16 @@ ghost use Rattle.std.specs.Prelude.{◌≡◌, [], ◌∷◌, ◌++◌, map, IfO
 ghost use Rattle.json.specs.Json.{string};
 ghost use Rattle.cedar_layers.specs.Policies.{policy_view};
 ghost use Rattle.cedar_writing.specs.Policies.{policy_text};
-ghost use Rattle.cedar_responses.specs.Readers.{policies_left};
+ghost use Rattle.cedar_authorizer.specs.responses.Readers.{policies_left};
 ghost use Rattle.cedar_json_writing.specs.Trees.{json_view, members_seen};
 ghost use Rattle.cedar_json_responses.specs.Texts.{object_of};
 ghost use Rattle.cedar_json_responses.specs.Reading.{AddsResidual, policy_members};
 
 use crate::ids::id_text;
 use crate::texts::put_text_member;
+use cedar_authorizer::authorizer::ReportedPolicies;
 use cedar_json_writing::JsonValue;
 use cedar_layers::policies::Policy;
-use cedar_responses::ReportedPolicies;
 use cedar_writing::policy_to_cedar;
 use std::alloc::{AllocError, Global};
 use std::rc::RcStr;

@@ -1,8 +1,8 @@
 //! The authorizer, what it answers, and why it does not.
 pub use cedar_authorizer::authorizer::{
     AuthorizationError, Authorizer, ConcretizationError, Decision, Diagnostics, ErrorHandling,
-    ErrorState, EvaluationResponse, PartialResponse, ReauthorizationError, Reauthorize,
-    ReportedIds, ReportedPolicies, Resolution, Response, laws,
+    ErrorState, EvaluationResponse, PartialResponse, ReauthorizationError, ReportedIds,
+    ReportedPolicies, Resolution, Response, laws,
 };
 
 /// Why a policy was skipped, and why a response could not be taken further.

@@ -13,15 +13,15 @@ use crate::notation::{add, both, headed};
 use crate::steps::{Step, mapping, sheet, steps};
 use cedar_authorizer::authorizer::{
     AuthorizationError, Authorizer, ConcretizationError, Decision, ErrorHandling, PartialResponse,
-    ReauthorizationError, Reauthorize, ReportedIds, ReportedPolicies, Response,
+    ReauthorizationError, ReportedIds, ReportedPolicies, Response,
 };
+use cedar_authorizer::responses::Sheet;
 use cedar_built_in_rows::lines::decision_text;
 use cedar_evaluator::evaluator::EvaluationError;
 use cedar_extensions::Extensions;
 use cedar_layers::expressions::Value;
 use cedar_layers::policies::{Entities, Policy, PolicyID, PolicySet};
 use cedar_requests::{Context, Request};
-use cedar_responses::shared::Sheet;
 use indexmap::IndexMap;
 use std::alloc::{AllocError, Global};
 use std::collections::HashMap;

@@ -1,9 +1,10 @@
 -- The unknowns of a response's rows are those of its residuals.
 use Rattle.std.proofs.Common.{◌≡◌, List, [], ◌∷◌, ◌++◌, append_assoc, refl, sym, ap, ◌∙◌}
 use Rattle.cedar_model.specs.Policies.{Effect, permit, forbid}
-use Rattle.cedar_responses.specs.declared.partial_response.PartialResponse.{PartialResponse}
-use Rattle.cedar_responses.specs.Rows.{TrueEntry, FalseEntry, ResidualEntry, Located, true_rows, false_rows, residual_rows}
-use Rattle.cedar_responses.specs.Rows.{located_view, rows_in, rows_view}
+use Rattle.cedar_authorizer.specs.declared.responses.partial_response.PartialResponse.{PartialResponse}
+use Rattle.cedar_authorizer.specs.responses.Rows.{TrueEntry, FalseEntry, ResidualEntry, Located, true_rows, false_rows}
+use Rattle.cedar_authorizer.specs.responses.Rows.{residual_rows}
+use Rattle.cedar_authorizer.specs.responses.Rows.{located_view, rows_in, rows_view}
 use Rattle.cedar_expressions.specs.View.{view}
 use Rattle.cedar_unknowns.specs.Occurrences.{Asked, occurrences, report_occurrences, row_occurrences}
 use Rattle.cedar_unknowns.specs.Residuals.{entry_occurrences}

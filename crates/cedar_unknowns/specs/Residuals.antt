@@ -1,7 +1,7 @@
 -- The unknowns of what is left of policies, as a response keeps it.
 use Rattle.std.specs.Prelude.{List, [], ◌∷◌, ◌++◌}
 use Rattle.cedar_expressions.specs.View.{view}
-use Rattle.cedar_responses.specs.Rows.{ResidualEntry}
+use Rattle.cedar_authorizer.specs.responses.Rows.{ResidualEntry}
 use Rattle.cedar_unknowns.specs.Occurrences.{Asked, occurrences}
 
 -- those of the residuals of a map, in its order

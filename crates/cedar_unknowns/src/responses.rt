@@ -1,15 +1,15 @@
 #![tactic(auto, using(crate::proofs::Noted::noting, crate::proofs::Rows::rows))]
 //! The unknowns of what is left of policies.
 ghost use Rattle.std.specs.Prelude.{◌≡◌, OnOk};
-ghost use Rattle.cedar_responses.specs.Rows.{rows_view};
+ghost use Rattle.cedar_authorizer.specs.responses.Rows.{rows_view};
 ghost use Rattle.cedar_unknowns.specs.Occurrences.{asked_each, noted_each, row_occurrences};
 ghost use Rattle.cedar_unknowns.specs.Residuals.{entry_occurrences};
 
 use crate::noting::note_unknowns;
+use cedar_authorizer::authorizer::PartialResponse;
 use cedar_expressions::Expr;
 use cedar_layers::policies::{Annotations, PolicyID};
 use cedar_names::Unknown;
-use cedar_responses::PartialResponse;
 use indexmap::{IndexMap, IndexSet};
 use std::alloc::AllocError;
 use std::rc::Rc;

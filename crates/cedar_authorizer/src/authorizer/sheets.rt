@@ -14,11 +14,10 @@ ghost use Rattle.cedar_authorizer.specs.Running.{IsNotedBy, IsNotedRun, Residual
 
 use super::reaching::policies_within_reach;
 use super::{Authorizer, outcome_of, run_all};
+use crate::responses::{ErrorHandling, Outcome, Sheet};
 use cedar_evaluator::evaluator::Evaluator;
 use cedar_evaluator::request::Request;
 use cedar_layers::policies::{Entities, Policy, PolicySet};
-use cedar_responses::ErrorHandling;
-use cedar_responses::shared::{Outcome, Sheet};
 use std::alloc::{AllocError, Global};
 
 // How each policy comes out, in their order, where no unknown has a value.

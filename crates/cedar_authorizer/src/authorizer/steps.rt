@@ -8,10 +8,11 @@ ghost use Rattle.cedar_decisions.specs.Decisions.{mode_view};
 ghost use Rattle.cedar_names.specs.declared.names.Loc.{Loc};
 ghost use Rattle.cedar_requests.specs.Requests.{request_view};
 ghost use Rattle.cedar_requests.specs.Substitutions.{values_for};
-ghost use Rattle.cedar_responses.specs.Responses.{error_view, errors_view};
-ghost use Rattle.cedar_reauthorization.specs.Concretizations.{entity_locs, concrete_locs, IsResidualNoHigher};
-ghost use Rattle.cedar_reauthorization.specs.Errors.{step_refusal, IsUnwrapped};
-ghost use Rattle.cedar_responses.specs.Rows as rows;
+ghost use Rattle.cedar_authorizer.specs.responses.Responses.{error_view, errors_view};
+ghost use Rattle.cedar_authorizer.specs.reauthorization.Concretizations.{entity_locs, concrete_locs};
+ghost use Rattle.cedar_authorizer.specs.reauthorization.Concretizations.{IsResidualNoHigher};
+ghost use Rattle.cedar_authorizer.specs.reauthorization.Errors.{step_refusal, IsUnwrapped};
+ghost use Rattle.cedar_authorizer.specs.responses.Rows as rows;
 ghost use Rattle.cedar_authorizer.specs.Configured.{configuration, limit_of, mode_of, resolution_of};
 ghost use Rattle.cedar_authorizer.specs.Headline.{steps_view, IsTakenFurther};
 ghost use Rattle.cedar_authorizer.specs.Responding.{deciding};
@@ -21,26 +22,17 @@ ghost use Rattle.cedar_authorizer.specs.Steps.{KeepsWhatStands};
 ghost use Rattle.cedar_authorizer.specs.Steps.{TakesNothingBack, Finishes, IsDeepEnough};
 
 use super::{Authorizer, response_of, run_all};
+use crate::reauthorization::{ReauthorizationError, concretize_request, residual_policies};
+use crate::responses::{AuthorizationError, ErrorHandling, PartialResponse, Sheet};
 use cedar_evaluator::evaluator::{EvaluationError, Evaluator};
 use cedar_evaluator::request::Request;
 use cedar_layers::policies::{Entities, PolicySet};
-use cedar_reauthorization::ReauthorizationError;
-use cedar_reauthorization::shared::{concretize_request, residual_policies};
-use cedar_responses::shared::Sheet;
-use cedar_responses::{AuthorizationError, ErrorHandling, PartialResponse};
 use cedar_values::Value;
 use std::alloc::{AllocError, Global};
 use std::collections::HashMap;
 use std::rc::{Rc, RcStr};
 
-/// What can be taken further: a partial response.
-pub trait Reauthorize {
-    /// What it says, as rows, errors and the request.
-    ghost said: { Self → Response };
-
-    /// Where its request names principal, action and resource.
-    ghost places: { Self → Option Loc × Option Loc × Option Loc };
-
+impl PartialResponse {
     /// The response that follows by the map's values for unknowns, over this store. All policies are decided again, each with
     /// what was reported of it as its condition: the satisfied permits, those that are not, the residual ones, and then the
     /// forbids. Refuses, in this order: with `ErrorHandlingConflict`, before anything is allocated, where the response and the
@@ -53,71 +45,37 @@ pub trait Reauthorize {
     /// Do not take a response further whose errors hold the recursion limit: a forbid that met it is not known to be false, but
     /// the next step carries it on as false, so that a decision may be given that is not so. `Authorizer::authorize_in_steps`
     /// stops there.
-    fn reauthorize(
+    pub fn reauthorize(
         &self,
         alloc: Global,
         map: &HashMap<RcStr, Value>,
         authorizer: &Authorizer<'_>,
         entities: &Entities,
     ) -> Result<PartialResponse, ReauthorizationError>
-        ensures conflict { IsConflict (mode_of authorizer.now) (said self.now).mode (step_answer result) }
+        ensures conflict { IsConflict (mode_of authorizer.now) (response_said self.now).mode (step_answer result) }
         ensures step { IfSome (step_answer result)
-            (IsStep (configuration authorizer.now) (step_by map.now entities.now) (said self.now)) }
+            (IsStep (configuration authorizer.now) (step_by map.now entities.now) (response_said self.now)) }
         ensures memory { IfErr result IsUnwrapped }
-        ensures places { IfOk result (λ r.
-            entity_locs (request_of r) ≡ concrete_locs (values_for map.now.entries) (places self.now)) }
+        ensures places { IfOk result (λ r. entity_locs (request_of r)
+            ≡ concrete_locs (values_for map.now.entries) (entity_locs (request_of self.now))) }
         ensures stands { IfOk result
-            (KeepsWhatStands (configuration authorizer.now) (step_by map.now entities.now) (said self.now)) }
+            (KeepsWhatStands (configuration authorizer.now) (step_by map.now entities.now) (response_said self.now)) }
         ensures kept { IfOk result
-            (TakesNothingBack (configuration authorizer.now) (step_by map.now entities.now) (said self.now)) }
+            (TakesNothingBack (configuration authorizer.now) (step_by map.now entities.now) (response_said self.now)) }
         ensures finishes { IfOk result
-            (Finishes (configuration authorizer.now) (step_by map.now entities.now) (said self.now)) }
+            (Finishes (configuration authorizer.now) (step_by map.now entities.now) (response_said self.now)) }
         ensures deep_enough { IfSome (step_answer result)
-            (IsDeepEnough (configuration authorizer.now) (step_by map.now entities.now) (said self.now)) };
-}
-
-impl Reauthorize for PartialResponse {
-    ghost said = { response_said };
-
-    ghost places = { λ r. entity_locs r.request.value };
-
-    fn reauthorize(
-        &self,
-        alloc: Global,
-        map: &HashMap<RcStr, Value>,
-        authorizer: &Authorizer<'_>,
-        entities: &Entities,
-    ) -> Result<PartialResponse, ReauthorizationError> {
-        reauthorized(alloc, self, map, authorizer, entities)
-    }
-}
-
-// The response taken further, where both handle errors in the same way.
-fn reauthorized(
-    alloc: Global,
-    response: &PartialResponse,
-    map: &HashMap<RcStr, Value>,
-    authorizer: &Authorizer<'_>,
-    entities: &Entities,
-) -> Result<PartialResponse, ReauthorizationError>
-    ensures conflict { IsConflict (mode_of authorizer.now) (rows.mode_of response.now) (step_answer result) }
-    ensures step { IfSome (step_answer result)
-        (IsStep (configuration authorizer.now) (step_by map.now entities.now) (response_said response.now)) }
-    ensures memory { IfErr result IsUnwrapped }
-    ensures places { IfOk result (λ r. entity_locs r.request.value
-        ≡ concrete_locs (values_for map.now.entries) (entity_locs response.now.request.value)) }
-    ensures low { IsResidualNoHigher (values_for map.now.entries) (limit_of authorizer.now)
-        (request_view response.now.request.value).context_part
-        → IfErr result (λ e. step_refusal e ≢ Some (context_fails recursion_limit)) }
-{
-    let mode = response.error_handling();
-    if is_same_mode(authorizer.error_handling, mode) {
-        in_same_mode(alloc, response, map, authorizer, entities)
-    } else {
-        Err(ReauthorizationError::ErrorHandlingConflict {
-            response: mode,
-            authorizer: authorizer.error_handling,
-        })
+            (IsDeepEnough (configuration authorizer.now) (step_by map.now entities.now) (response_said self.now)) }
+    {
+        let mode = self.error_handling();
+        if is_same_mode(authorizer.error_handling, mode) {
+            in_same_mode(alloc, self, map, authorizer, entities)
+        } else {
+            Err(ReauthorizationError::ErrorHandlingConflict {
+                response: mode,
+                authorizer: authorizer.error_handling,
+            })
+        }
     }
 }
 
@@ -134,7 +92,7 @@ fn is_same_mode(one: ErrorHandling, other: ErrorHandling) -> bool
     }
 }
 
-// The policies of the response, decided again, if both handle errors in the same way.
+// The policies of the response, decided again, where both handle errors in the same way.
 fn in_same_mode(
     alloc: Global,
     response: &PartialResponse,
@@ -142,8 +100,8 @@ fn in_same_mode(
     authorizer: &Authorizer<'_>,
     entities: &Entities,
 ) -> Result<PartialResponse, ReauthorizationError>
-    ensures step { is_same_mode (mode_of authorizer.now) (rows.mode_of response.now) ≡ true →
-        IfSome (step_answer result)
+    requires { is_same_mode (mode_of authorizer.now) (rows.mode_of response.now) ≡ true }
+    ensures step { IfSome (step_answer result)
         (IsStep (configuration authorizer.now) (step_by map.now entities.now) (response_said response.now)) }
     ensures memory { IfErr result IsUnwrapped }
     ensures places { IfOk result (λ r. entity_locs r.request.value
@@ -168,7 +126,7 @@ fn in_same_mode(
 }
 
 // The same, where the policies are made.
-#[tactic(auto, using(crate::proofs::Joined::memory_unwrapped, cedar_reauthorization::proofs::Unwrapped::request_unwrapped))]
+#[tactic(auto, using(crate::proofs::Joined::memory_unwrapped, crate::proofs::Unwrapped::request_unwrapped))]
 fn with_policies(
     alloc: Global,
     request: &Request,
@@ -287,7 +245,7 @@ fn take_step(
     ensures step { IfSome (step_answer result)
         (IsStep (configuration authorizer.now) (step_by map.now entities.now) (response_said response)) }
 {
-    let next = reauthorized(alloc, &response, map, authorizer, entities);
+    let next = response.reauthorize(alloc, map, authorizer, entities);
     drop(response);
     next
 }

@@ -7,7 +7,7 @@ ghost use Rattle.cedar_layers.specs.Policies.{policy_view};
 ghost use Rattle.cedar_layers.specs.PolicySets.{stored_policies};
 ghost use Rattle.cedar_evaluator.specs.Evaluations.{setting_of, calls_in};
 ghost use Rattle.cedar_evaluator.specs.Evaluations as evaluations;
-ghost use Rattle.cedar_responses.specs.Sheets.{sheet_view, outcome_view};
+ghost use Rattle.cedar_authorizer.specs.responses.Sheets.{sheet_view, outcome_view};
 ghost use Rattle.cedar_authorizer.specs.Configured.{configuration, asked};
 ghost use Rattle.cedar_authorizer.specs.Reaching.{AreFalseBut};
 ghost use Rattle.cedar_authorizer.specs.Responding.{deciding};
@@ -15,11 +15,10 @@ ghost use Rattle.cedar_authorizer.specs.Telling.{tells_nothing, noting_what_tell
 
 use super::reaching::policies_within_reach;
 use super::{Authorizer, outcome_of};
+use crate::responses::{ErrorHandling, Outcome, Sheet};
 use cedar_evaluator::evaluator::Evaluator;
 use cedar_evaluator::request::Request;
 use cedar_layers::policies::{Entities, Policy, PolicySet};
-use cedar_responses::ErrorHandling;
-use cedar_responses::shared::{Outcome, Sheet};
 use std::alloc::{AllocError, Global};
 
 // How each policy comes out that tells something, in their order, where no unknown has a value.

@@ -1,8 +1,8 @@
 //! Responses as JSON.
 use crate::notation::answer::Answer;
+use cedar_authorizer::authorizer::{PartialResponse, Response};
 use cedar_json_responses::{partial_response_to_json, response_to_json};
 use cedar_json_writing::JsonValue;
-use cedar_responses::{PartialResponse, Response};
 use std::alloc::AllocError;
 
 /// The JSON of the response.

@@ -3,7 +3,7 @@ use Rattle.std.proofs.lemmas.List.{drop_all}
 use Rattle.json.specs.Json.{Json}
 use Rattle.cedar_model.specs.Terms.{Text}
 use Rattle.cedar_model.specs.Failures.{Failure}
-use Rattle.cedar_responses.specs.Responses.{error_view, errors_view}
+use Rattle.cedar_authorizer.specs.responses.Responses.{error_view, errors_view}
 use Rattle.cedar_json_writing.specs.Trees.{json_view}
 use Rattle.cedar_json_writing.proofs.Trees.{view_array}
 use Rattle.cedar_json_responses.specs.Errors.{AreEachError}

@@ -1,6 +1,6 @@
 use Rattle.std.proofs.Common.{List, ◌++◌, map, drop}
 use Rattle.json.specs.Json.{Json}
-use Rattle.cedar_responses.specs.Responses.{errors_view}
+use Rattle.cedar_authorizer.specs.responses.Responses.{errors_view}
 use Rattle.cedar_json_writing.specs.Trees.{json_view}
 use Rattle.cedar_json_responses.specs.Errors.{AreEachError}
 use Rattle.cedar_json_responses.proofs.errors.errors_to_json.Given as goal

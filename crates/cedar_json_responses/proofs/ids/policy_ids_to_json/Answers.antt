@@ -1,8 +1,8 @@
 use Rattle.std.proofs.Common.{List, map, ap, ◌∙◌}
 use Rattle.json.specs.Json.{string, array}
 use Rattle.json.specs.Value.{items_of}
-use Rattle.cedar_responses.specs.Rows.{Located}
-use Rattle.cedar_responses.specs.Readers.{left}
+use Rattle.cedar_authorizer.specs.responses.Rows.{Located}
+use Rattle.cedar_authorizer.specs.responses.Readers.{left}
 use Rattle.cedar_json_writing.proofs.Trees.{view_array}
 use Rattle.cedar_json_responses.specs.Reading.{policy_ids}
 use Rattle.cedar_json_responses.proofs.Listed.{no_more}

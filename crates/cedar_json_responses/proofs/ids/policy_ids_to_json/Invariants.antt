@@ -1,6 +1,6 @@
 use Rattle.std.proofs.Common.{◌≡◌, ◌++◌, map}
 use Rattle.json.specs.Json.{string}
-use Rattle.cedar_responses.specs.Readers.{policies_left}
+use Rattle.cedar_authorizer.specs.responses.Readers.{policies_left}
 use Rattle.cedar_json_writing.specs.Trees.{json_view}
 use Rattle.cedar_json_responses.specs.Reading.{policy_ids}
 use Rattle.cedar_json_responses.proofs.ids.policy_ids_to_json.Given as goal

@@ -1,6 +1,6 @@
 use Rattle.std.proofs.Common.{ap, ◌∙◌}
 use Rattle.cedar_model.specs.Reports.{must_determine}
-use Rattle.cedar_responses.specs.Rows.{rows_view}
+use Rattle.cedar_authorizer.specs.responses.Rows.{rows_view}
 use Rattle.cedar_json_responses.specs.Texts.{texts_json}
 use Rattle.cedar_json_responses.specs.Reading.{policy_ids}
 use Rattle.cedar_json_responses.proofs.Carried.{ids_carried}

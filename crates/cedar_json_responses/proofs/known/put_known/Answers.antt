@@ -4,7 +4,7 @@ use Rattle.cedar_model.specs.Terms.{Text}
 use Rattle.cedar_model.specs.Policies.{Decision}
 use Rattle.cedar_model.specs.Reports.{ids, given_decision, must_determine, may_determine}
 use Rattle.cedar_requests.specs.Requests.{request_view}
-use Rattle.cedar_responses.specs.Rows.{rows_view}
+use Rattle.cedar_authorizer.specs.responses.Rows.{rows_view}
 use Rattle.cedar_json_writing.specs.Trees.{members_seen}
 use Rattle.cedar_json_responses.specs.Texts.{texts_json}
 use Rattle.cedar_json_responses.specs.Responses.{decision_json, residuals_json, unknowns_json, entities_json}

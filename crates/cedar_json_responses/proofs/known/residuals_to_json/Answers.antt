@@ -1,7 +1,7 @@
 use Rattle.std.proofs.Common.{◌++◌, ap, ◌∙◌}
 use Rattle.cedar_model.specs.Policies.{permit, forbid}
 use Rattle.cedar_model.specs.Reports.{residuals}
-use Rattle.cedar_responses.specs.Rows.{rows_view}
+use Rattle.cedar_authorizer.specs.responses.Rows.{rows_view}
 use Rattle.cedar_json_responses.specs.Texts.{object_of}
 use Rattle.cedar_json_responses.specs.Reading.{policy_members}
 use Rattle.cedar_json_responses.proofs.Carried.{members_carried}

@@ -1,6 +1,6 @@
 use Rattle.std.proofs.Common.{List, ap, ◌∙◌}
-use Rattle.cedar_responses.specs.Rows.{Located}
-use Rattle.cedar_responses.specs.Readers.{left}
+use Rattle.cedar_authorizer.specs.responses.Rows.{Located}
+use Rattle.cedar_authorizer.specs.responses.Readers.{left}
 use Rattle.cedar_json_writing.proofs.Trees.{view_object}
 use Rattle.cedar_json_responses.specs.Texts.{object_of}
 use Rattle.cedar_json_responses.specs.Reading.{policy_members}

@@ -1,5 +1,5 @@
 use Rattle.std.proofs.Common.{◌≡◌, ◌++◌}
-use Rattle.cedar_responses.specs.Readers.{policies_left}
+use Rattle.cedar_authorizer.specs.responses.Readers.{policies_left}
 use Rattle.cedar_json_writing.specs.Trees.{members_seen}
 use Rattle.cedar_json_responses.specs.Reading.{policy_members}
 use Rattle.cedar_json_responses.proofs.residuals.policies_to_json.Given as goal

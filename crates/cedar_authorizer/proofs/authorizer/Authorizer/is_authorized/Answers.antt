@@ -1,7 +1,7 @@
 use Rattle.std.proofs.Common.{refl}
 use Rattle.std.proofs.lemmas.Result.{IfOk-weaker}
 use Rattle.cedar_extensions.specs.Extensions.{calls_of}
-use Rattle.cedar_responses.specs.Responses.{response_view}
+use Rattle.cedar_authorizer.specs.responses.Responses.{response_view}
 use Rattle.cedar_authorizer.specs.Configured.{extensions_of, limit_of, mode_of, asked}
 use Rattle.cedar_authorizer.specs.Responding.{deciding}
 use Rattle.cedar_authorizer.proofs.Deciding.{known_response, no_limit, own_world_completes_call}

@@ -1,6 +1,6 @@
 use Rattle.std.proofs.Common.{◌≡◌, drop}
 use Rattle.cedar_model.specs.Chains.{has_limit}
-use Rattle.cedar_responses.specs.Responses.{errors_view}
+use Rattle.cedar_authorizer.specs.responses.Responses.{errors_view}
 use Rattle.cedar_authorizer.proofs.authorizer.steps.has_limit.Given as goal
 
 abbrev pub invariant-errors : goal.invariant-errors

@@ -1,7 +1,7 @@
 use Rattle.std.proofs.Common.{◌≡◌, suc, ◌+◌, ◌∷◌, drop, ap, sym, ◌∙◌, subst, arith}
 use Rattle.std.proofs.Math.Seq.{drop-cons}
 use Rattle.std.proofs.lemmas.List.{drop_all}
-use Rattle.cedar_reauthorization.specs.Errors.{step_refusal}
+use Rattle.cedar_authorizer.specs.reauthorization.Errors.{step_refusal}
 use Rattle.cedar_authorizer.specs.Configured.{configuration, resolution_of}
 use Rattle.cedar_authorizer.specs.Headline.{step_view, steps_view}
 use Rattle.cedar_authorizer.proofs.Chaining.{AreTaken, none_taken, stops_with, ends_with, one_taken, refused_with}

@@ -3,7 +3,7 @@ use Rattle.cedar_extensions.specs.Extensions.{calls_of}
 use Rattle.cedar_layers.specs.Stores.{store_view}
 use Rattle.cedar_requests.specs.Requests.{request_view}
 use Rattle.cedar_requests.specs.Substitutions.{values_for}
-use Rattle.cedar_reauthorization.specs.Concretizations.{IsConcrete}
+use Rattle.cedar_authorizer.specs.reauthorization.Concretizations.{IsConcrete}
 use Rattle.cedar_authorizer.specs.Configured.{configuration, extensions_of, limit_of, mode_of}
 use Rattle.cedar_authorizer.specs.Responding.{deciding}
 use Rattle.cedar_authorizer.specs.Steps.{step_by, under, IsDecidedAgain}

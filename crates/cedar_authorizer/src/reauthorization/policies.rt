@@ -1,0 +1,42 @@
+//! The policies of a partial response that are decided again.
+ghost use Rattle.std.specs.Prelude.{◌≡◌, map, IfErr, IfOk, IfSome};
+ghost use Rattle.cedar_model.specs.Chains.{all_residuals};
+ghost use Rattle.cedar_layers.specs.Policies.{policy_view, decides_as};
+ghost use Rattle.cedar_authorizer.specs.responses.Rows.{rows_view};
+ghost use Rattle.cedar_authorizer.specs.reauthorization.Errors.{step_answer_by, IsUnwrapped};
+ghost use Rattle.cedar_authorizer.specs.reauthorization.Policies.{set_policies, all_once};
+
+use crate::reauthorization::err::ReauthorizationError;
+use crate::responses::PartialResponse;
+use cedar_layers::policies::{Policy, PolicySet};
+use std::alloc::{AllocError, Global};
+
+/// The set of every policy of the response, permits first: the satisfied ones, those that are not satisfied, and the
+/// residual ones, each with what is reported of it as its clause. Refuses the first id that comes again with
+/// `PolicySetError`, or for want of memory with `Memory` alone.
+pub fn residual_policies(
+    alloc: Global,
+    response: &PartialResponse,
+) -> Result<PolicySet, ReauthorizationError>
+    ensures set { IfSome (step_answer_by set_policies result)
+        (λ a. a ≡ all_once (all_residuals (rows_view response.now))) }
+    ensures memory { IfErr result IsUnwrapped }
+{
+    let policies = carried(alloc, response)?;
+    match PolicySet::try_from_iter(alloc, policies) {
+        Ok(set) => Ok(set),
+        Err(error) => Err(ReauthorizationError::from(error)),
+    }
+}
+
+// Every policy of the response.
+fn carried(alloc: Global, response: &PartialResponse) -> Result<Vec<Policy>, AllocError>
+    ensures { IfOk result (λ v. map decides_as (map policy_view v.items)
+        ≡ all_residuals (rows_view response.now)) }
+{
+    let mut policies = Vec::new(alloc);
+    'policies: for policy in response.all_residuals() {
+        policies.push(policy?)?;
+    }
+    Ok(policies)
+}

@@ -1,4 +1,0 @@
-pub mod Carrying
-pub mod Concretizing
-pub mod Contexts
-pub mod Unwrapped

@@ -1,9 +1,0 @@
-use Rattle.std.proofs.Common.{◌≡◌, ◌++◌}
-use Rattle.cedar_model.specs.Chains.{all_residuals}
-use Rattle.cedar_responses.specs.Rows.{rows_view}
-use Rattle.cedar_responses.specs.Readers.{left}
-use Rattle.cedar_reauthorization.proofs.Carrying.{decided, carried_on}
-use Rattle.cedar_reauthorization.proofs.policies.carried.Given as goal
-
-abbrev pub invariant-policies : goal.invariant-policies
-invariant-policies l = decided l.policies.items ++ carried_on (left l.policy-iterator) ≡ all_residuals (rows_view l.response)

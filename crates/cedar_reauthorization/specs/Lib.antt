@@ -1,3 +1,0 @@
-pub mod Errors
-pub mod Concretizations
-pub mod Policies

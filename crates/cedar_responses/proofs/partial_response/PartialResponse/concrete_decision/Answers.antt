@@ -1,7 +1,0 @@
-use Rattle.cedar_responses.specs.Rows.{mode_of, rows_view}
-use Rattle.cedar_responses.proofs.Concretes.{decided_concretely}
-use Rattle.cedar_responses.proofs.partial_response.PartialResponse.concrete_decision.Goals as goal
-
-pub returns : goal.returns
-returns c =
-    decided_concretely (mode_of c.args.self.now) (rows_view c.args.self.now) _ _ _ _ c.has_true_permit.ensures c.has_true_forbid.ensures c.has_residual_forbid.ensures c.decide_concretely.ensures

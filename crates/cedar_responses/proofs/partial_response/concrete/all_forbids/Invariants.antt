@@ -1,8 +1,0 @@
-use Rattle.cedar_responses.proofs.Naming.{AreNamedSoFar}
-use Rattle.cedar_responses.specs.Concrete.{id_texts}
-use Rattle.cedar_responses.specs.Readers.{entry_ids}
-use Rattle.cedar_responses.proofs.partial_response.concrete.all_forbids.Given as goal
-
--- the ids so far and those that are still to come
-abbrev pub invariant-residuals : goal.invariant-residuals
-invariant-residuals l = AreNamedSoFar (id_texts l.fn.forbids.entries) (entry_ids l.fn.residual_forbids.entries) l.ids.keys l.id-iterator
