@@ -28,3 +28,4 @@ pub mod Carrying
 pub mod Concretizing
 pub mod Contexts
 pub mod Unwrapped
+pub mod Wanting

@@ -15,7 +15,7 @@ use Rattle.cedar_layers.specs.Policies.{PolicyView, policy_id_text, condition_te
 use Rattle.cedar_layers.specs.declared.policies.policy_set.PolicySet.{PolicySet}
 use Rattle.cedar_layers.specs.PolicySets.{policies_view}
 use Rattle.cedar_authorizer.specs.declared.responses.partial_response.PartialResponse.{PartialResponse}
-use Rattle.cedar_authorizer.specs.declared.responses.sheet.Outcome.{Outcome}
+use Rattle.cedar_authorizer.specs.declared.responses.sheet.ConditionOutcome.{ConditionOutcome}
 use Rattle.cedar_authorizer.specs.declared.responses.sheet.Sheet.{Sheet}
 use Rattle.cedar_authorizer.specs.responses.Kept.{kept}
 use Rattle.cedar_authorizer.specs.responses.Responses.{errors_view}
@@ -25,7 +25,7 @@ use Rattle.cedar_authorizer.specs.responses.Sheets.{Noted, outcome_view, placed_
 use Rattle.cedar_authorizer.specs.responses.Sheets.{noted_also}
 use Rattle.cedar_authorizer.proofs.Noted.{sorted_none, sorted_more}
 use Rattle.cedar_authorizer.proofs.Rows.{rows_of_located}
-use Rattle.cedar_authorizer.specs.Responding.{deciding}
+use Rattle.cedar_authorizer.specs.Responding.{considered}
 use Rattle.cedar_authorizer.specs.Running.{HoldsRows, IsRun, ComesOutBy, IsNotedRun, KeepsSheet}
 use Rattle.cedar_authorizer.proofs.Distinct.{located_ids, picked_distinct, pair_ids, kept_whole}
 use Rattle.cedar_authorizer.proofs.Runs.{run_more, run_ids}
@@ -50,7 +50,7 @@ module _ (mode : ErrorHandling) (s : Setting) (calls : StoredCalls) (levels : �
   row_for : PolicyView → Decided → Row
   row_for p d = record { id = p.id; effect = p.effect; annotations = p.annotations; reported = counted_report mode p.effect (reported_of d) }
 
-  pub noted_run : (done : List Policy) (old new : Sheet) (p : PolicyView) (o : Outcome) → IsNotedRun mode s calls levels done old → ComesOutBy (λ a. Runs (with_slots s p.slots) calls levels (condition_term p) a) (outcome_view o) → sheet_view new ≡ noted_also (sheet_view old) (placed_row mode p o) (error_of (outcome_view o)) → IsNotedRun mode s calls levels (done ++ decides_as p ∷ []) new
+  pub noted_run : (done : List Policy) (old new : Sheet) (p : PolicyView) (o : ConditionOutcome) → IsNotedRun mode s calls levels done old → ComesOutBy (λ a. Runs (with_slots s p.slots) calls levels (condition_term p) a) (outcome_view o) → sheet_view new ≡ noted_also (sheet_view old) (placed_row mode p o) (error_of (outcome_view o)) → IsNotedRun mode s calls levels (done ++ decides_as p ∷ []) new
   unfolding row_for
   noted_run done old new p o before (a, runs, found, out) placed =
       let ls = before.located in
@@ -68,7 +68,7 @@ module _ (mode : ErrorHandling) (s : Setting) (calls : StoredCalls) (levels : �
         noted = placed ∙ ap (λ (n : Noted). noted_also n l e) before.noted ∙ sym (sorted_more ls errors l e);
       }
 
-  pub noted_more : (all : List Policy) (old new : Sheet) (p : PolicyView) (o : Outcome) (rest left : List Policy) → left ≡ decides_as p ∷ rest → IsNotedSoFar mode s calls levels all old left → ComesOutBy (λ a. Runs (with_slots s p.slots) calls levels (condition_term p) a) (outcome_view o) → sheet_view new ≡ noted_also (sheet_view old) (placed_row mode p o) (error_of (outcome_view o)) → IsNotedSoFar mode s calls levels all new rest
+  pub noted_more : (all : List Policy) (old new : Sheet) (p : PolicyView) (o : ConditionOutcome) (rest left : List Policy) → left ≡ decides_as p ∷ rest → IsNotedSoFar mode s calls levels all old left → ComesOutBy (λ a. Runs (with_slots s p.slots) calls levels (condition_term p) a) (outcome_view o) → sheet_view new ≡ noted_also (sheet_view old) (placed_row mode p o) (error_of (outcome_view o)) → IsNotedSoFar mode s calls levels all new rest
   noted_more all old new p o rest left e before out placed = record {
     done = before.done ++ decides_as p ∷ [];
     run = noted_run before.done old new p o before.run out placed;
@@ -120,7 +120,7 @@ ids_deciding [] = refl
 ids_deciding (p ∷ ps) = ap (λ (ts : List Text). p.id ∷ ts) (ids_deciding ps)
 
 -- no two policies of a set have one id
-pub set_ids_apart : (policies : PolicySet) → first_repeated (map (λ (p : Policy). p.id) (deciding policies)) ≡ None
+pub set_ids_apart : (policies : PolicySet) → first_repeated (map (λ (p : Policy). p.id) (considered policies)) ≡ None
 set_ids_apart policies = ap first_repeated (ids_deciding (policies_view policies)) ∙ policies.distinct
 
 -- what a response keeps of a run on a sheet is that run, where no two policies have one id
@@ -138,15 +138,15 @@ is_run_of mode s calls levels ps sheet r distinct on is_in k =
     }
 
 -- of the policies of a set it is
-pub is_run : (mode : ErrorHandling) (s : Setting) (calls : StoredCalls) (levels : ℕ) (policies : PolicySet) (sheet : Sheet) (r : PartialResponse) → IsNotedRun mode s calls levels (deciding policies) sheet → mode_of r ≡ mode → KeepsSheet sheet r → IsRun (configured_by calls mode s levels) s (deciding policies) r
+pub is_run : (mode : ErrorHandling) (s : Setting) (calls : StoredCalls) (levels : ℕ) (policies : PolicySet) (sheet : Sheet) (r : PartialResponse) → IsNotedRun mode s calls levels (considered policies) sheet → mode_of r ≡ mode → KeepsSheet sheet r → IsRun (configured_by calls mode s levels) s (considered policies) r
 is_run mode s calls levels policies sheet r on is_in k =
-    is_run_of mode s calls levels (deciding policies) sheet r (set_ids_apart policies) on is_in k
+    is_run_of mode s calls levels (considered policies) sheet r (set_ids_apart policies) on is_in k
 
 -- the residual policies of the run of a set are those that are on the sheet
-module _ (mode : ErrorHandling) (s : Setting) (calls : StoredCalls) (levels : ℕ) (policies : PolicySet) (sheet : Sheet) (r : PartialResponse) (on : IsNotedRun mode s calls levels (deciding policies) sheet) (k : KeepsSheet sheet r) where
+module _ (mode : ErrorHandling) (s : Setting) (calls : StoredCalls) (levels : ℕ) (policies : PolicySet) (sheet : Sheet) (r : PartialResponse) (on : IsNotedRun mode s calls levels (considered policies) sheet) (k : KeepsSheet sheet r) where
   apart : first_repeated (located_ids on.located) ≡ None
   apart =
-      ap first_repeated (rows_located on.located ∙ run_ids mode s calls levels (deciding policies) (rows_in on.located) on.errors on.run ∙ ids_deciding (policies_view policies)) ∙ policies.distinct
+      ap first_repeated (rows_located on.located ∙ run_ids mode s calls levels (considered policies) (rows_in on.located) on.errors on.run ∙ ids_deciding (policies_view policies)) ∙ policies.distinct
 
   pub residual_permits_are : r.residual_permits.entries ≡ sheet.residual_permits.items
   residual_permits_are = whole on.located apart permit is_residual (located_residual permit) (λ e. refl) _ _ k.residual_permits (ap (λ (n : Noted). n.residual_permits) on.noted)

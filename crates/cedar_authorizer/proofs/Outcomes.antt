@@ -12,7 +12,7 @@ use Rattle.cedar_expressions.specs.View.{view, expr_loc}
 use Rattle.either.specs.declared.Either.{Either}
 use Rattle.either.specs.declared.Either.TheVariants.{Left, Right}
 use Rattle.cedar_evaluator.specs.Decisions.{PartlyDecidesBy, IfLeaves}
-use Rattle.cedar_authorizer.specs.declared.responses.sheet.Outcome.{Outcome}
+use Rattle.cedar_authorizer.specs.declared.responses.sheet.ConditionOutcome.{ConditionOutcome}
 use Rattle.cedar_authorizer.specs.responses.Sheets.{outcome_view}
 use Rattle.cedar_authorizer.specs.Running.{ComesOutBy}
 
@@ -33,7 +33,7 @@ module _ (May : Answer → Type 0) where
   left_out x e f is same by =
       subst (λ (y : Expr). ComesOutBy May (leaves (view y))) (sym same) (came_out May (leaves (view e)) (λ (h : leaves (view e) ≡ errs_with out_of_memory). cc) (subst (λ (y : Either Bool Expr). PartlyDecidesBy May (Ok y)) is by))
 
-  pub failed_out : (e : EvaluationError) (r : Result Outcome AllocError) → PartlyDecidesBy May (Err e) → IfOk r (λ o. failure_of e ≢ out_of_memory) → IfOk r (λ o. outcome_view o ≡ errs_with (failure_of e)) → IfOk r (λ o. ComesOutBy May (outcome_view o))
+  pub failed_out : (e : EvaluationError) (r : Result ConditionOutcome AllocError) → PartlyDecidesBy May (Err e) → IfOk r (λ o. failure_of e ≢ out_of_memory) → IfOk r (λ o. outcome_view o ≡ errs_with (failure_of e)) → IfOk r (λ o. ComesOutBy May (outcome_view o))
   failed_out e (Ok o) by ok is =
       subst (ComesOutBy May) (sym is) (came_out May (errs_with (failure_of e)) (λ h. let f : failure_of e ≡ out_of_memory = cc in ok f) by)
   failed_out e (Err x) by ok is = tt

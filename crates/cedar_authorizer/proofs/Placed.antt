@@ -9,8 +9,8 @@ use Rattle.cedar_model.proofs.Concrete.{residual_same}
 use Rattle.cedar_layers.specs.declared.policies.policy.Policy as layers
 use Rattle.cedar_layers.specs.Policies.{policy_view, policy_location}
 use Rattle.cedar_authorizer.specs.declared.responses.partial_response.PartialResponse.{PartialResponse}
-use Rattle.cedar_authorizer.specs.declared.responses.sheet.Outcome.{Outcome}
-use Rattle.cedar_authorizer.specs.declared.responses.sheet.Outcome.TheVariants as outcomes
+use Rattle.cedar_authorizer.specs.declared.responses.sheet.ConditionOutcome.{ConditionOutcome}
+use Rattle.cedar_authorizer.specs.declared.responses.sheet.ConditionOutcome.TheVariants as outcomes
 use Rattle.cedar_authorizer.specs.declared.responses.sheet.Sheet.{Sheet}
 use Rattle.cedar_authorizer.specs.responses.Rows.{Located, clause_loc, located_of, residual_rows}
 use Rattle.cedar_authorizer.specs.responses.Sheets.{Noted, sheet_view, nothing_noted, noted_also, outcome_view}
@@ -37,7 +37,7 @@ first_of_rest : (p : layers.Policy) (rest : List layers.Policy) → Contains (p 
 first_of_rest p rest = (0, omega arith, refl)
 
 -- a row that is residual stands at its policy
-residual_stands : (mode : ErrorHandling) (q : layers.Policy) (o : Outcome) → IsLeftAt (policy_location q) o → is_residual (reported_of (outcome_view o)) ≡ true → clause_loc (placed_row mode (policy_view q) o) ≡ policy_location q
+residual_stands : (mode : ErrorHandling) (q : layers.Policy) (o : ConditionOutcome) → IsLeftAt (policy_location q) o → is_residual (reported_of (outcome_view o)) ≡ true → clause_loc (placed_row mode (policy_view q) o) ≡ policy_location q
 unfolding reported_of is_residual
 residual_stands mode q (outcomes.Decided true) h e = absurd (cc)
 residual_stands mode q (outcomes.Decided false) h e = absurd (cc)
@@ -49,13 +49,13 @@ kept_if all true true l h = All-cons (StandsAtPolicy all) l [] (h refl) (All-nil
 kept_if all true false l h = All-nil (StandsAtPolicy all)
 kept_if all false c l h = All-nil (StandsAtPolicy all)
 
-one_stands : (mode : ErrorHandling) (all : List layers.Policy) (p : layers.Policy) (o : Outcome) (e : Effect) → Contains all p → IsLeftAt (policy_location p) o → All (StandsAtPolicy all) (located_of e is_residual (placed_row mode (policy_view p) o ∷ []))
+one_stands : (mode : ErrorHandling) (all : List layers.Policy) (p : layers.Policy) (o : ConditionOutcome) (e : Effect) → Contains all p → IsLeftAt (policy_location p) o → All (StandsAtPolicy all) (located_of e is_residual (placed_row mode (policy_view p) o ∷ []))
 unfolding located_of
 one_stands mode all p o e among left =
     kept_if all (has_effect e (policy_view p).effect) (is_residual (counted_report mode (policy_view p).effect (reported_of (outcome_view o)))) (placed_row mode (policy_view p) o)
     (λ is. record { policy = p; among = among; id_is = refl; stands = residual_stands mode p o left (sym (residual_same mode (policy_view p).effect (reported_of (outcome_view o))) ∙ is) })
 
-pub one_placed : (mode : ErrorHandling) (all left rest : List layers.Policy) (old new : Sheet) (p : layers.Policy) (o : Outcome) → left ≡ p ∷ rest → ArePlacedSoFar all left old → IsLeftAt (policy_location p) o
+pub one_placed : (mode : ErrorHandling) (all left rest : List layers.Policy) (old new : Sheet) (p : layers.Policy) (o : ConditionOutcome) → left ≡ p ∷ rest → ArePlacedSoFar all left old → IsLeftAt (policy_location p) o
     → sheet_view new ≡ noted_also (sheet_view old) (placed_row mode (policy_view p) o) (error_of (outcome_view o)) → ArePlacedSoFar all rest new
 one_placed mode all left rest old new p o e before stands noted =
     let same : all ≡ before.done ++ (p ∷ rest) = before.same ∙ ap (λ (ls : List layers.Policy). before.done ++ ls) e in

@@ -36,7 +36,7 @@ use Rattle.cedar_authorizer.specs.declared.reauthorization.err.ReauthorizationEr
 use Rattle.cedar_authorizer.specs.reauthorization.Errors.{step_refusal}
 use Rattle.cedar_authorizer.specs.reauthorization.Concretizations.{IsResidualNoHigher}
 use Rattle.cedar_authorizer.specs.Running.{HoldsRows}
-use Rattle.cedar_authorizer.specs.Steps.{step_answer, IsStep, KeepsWhatStands, TakesNothingBack, Finishes, IsDeepEnough}
+use Rattle.cedar_authorizer.specs.Steps.{step_answer, IsStep, KeepsWhatStands, TakesNothingBack, Finishes, StepIsDeepEnough}
 use Rattle.cedar_authorizer.proofs.Deciding.{rows_sorted}
 use Rattle.cedar_authorizer.proofs.Low.{step_is_deep}
 use Rattle.cedar_authorizer.proofs.Same.{SameRows, same_decision, same_must, same_may, none_residual}
@@ -119,12 +119,12 @@ module _ (mode : ErrorHandling) (s : Setting) (calls : StoredCalls) (levels : �
 
   pub answered_low : FunctionsMeetNoLimit calls → IsGivenSound calls (at_step s.extensions s.resolution old.request store m) → (result : Result PartialResponse ReauthorizationError) → IfSome (step_answer result) (IsStep (configured_by calls mode s levels) (m, store) old)
       → (IsResidualNoHigher m levels old.request.context_part → IfErr result (λ e. step_refusal e ≢ Some (context_fails recursion_limit)))
-      → IfSome (step_answer result) (IsDeepEnough (configured_by calls mode s levels) (m, store) old)
+      → IfSome (step_answer result) (StepIsDeepEnough (configured_by calls mode s levels) (m, store) old)
   answered_low no_limit sound (Ok r) (new, step, says) refused =
       λ b h low conditions enough. subst HaveNoLimit says.errors_are (step_is_deep mode s calls levels m store no_limit b h old sound low enough new step conditions)
   answered_low no_limit sound (Err e) is refused = by (step_refusal e) refl
     where
-      by : (o : Option Refusal) → step_refusal e ≡ o → IfSome (option_map {U = Result PartialResponse Refusal} Err o) (IsDeepEnough (configured_by calls mode s levels) (m, store) old)
+      by : (o : Option Refusal) → step_refusal e ≡ o → IfSome (option_map {U = Result PartialResponse Refusal} Err o) (StepIsDeepEnough (configured_by calls mode s levels) (m, store) old)
       by None g = tt
       by (Some x) g =
           λ b h low conditions enough w. refused (low_context b levels old.request.context_part (low_enough b h levels enough) low.context_low) (g ∙ ap Some w)

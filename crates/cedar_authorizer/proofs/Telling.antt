@@ -18,11 +18,11 @@ use Rattle.cedar_interpreter.specs.Booleans.{is_bool}
 use Rattle.cedar_layers.specs.Policies.{PolicyView, condition_term, decides_as, first_repeated, first_repeated_after}
 use Rattle.cedar_layers.specs.declared.policies.policy_set.PolicySet.{PolicySet}
 use Rattle.cedar_authorizer.specs.declared.responses.partial_response.PartialResponse.{PartialResponse}
-use Rattle.cedar_authorizer.specs.declared.responses.sheet.Outcome.{Outcome}
+use Rattle.cedar_authorizer.specs.declared.responses.sheet.ConditionOutcome.{ConditionOutcome}
 use Rattle.cedar_authorizer.specs.declared.responses.sheet.Sheet.{Sheet}
 use Rattle.cedar_authorizer.specs.responses.Rows.{mode_of, rows_view}
 use Rattle.cedar_authorizer.specs.responses.Sheets.{outcome_view, sheet_view, nothing_noted, noting}
-use Rattle.cedar_authorizer.specs.Responding.{deciding}
+use Rattle.cedar_authorizer.specs.Responding.{considered}
 use Rattle.cedar_authorizer.specs.Running.{errors_of, IsConcreteRun, ComesOutBy, KeepsSheet}
 use Rattle.cedar_layers.specs.Scopes.{AreAllBut}
 use Rattle.cedar_authorizer.specs.Telling.{IsFalse, IsToldRun, tells_nothing, noting_what_tells}
@@ -106,7 +106,7 @@ module _ (mode : ErrorHandling) (s : Setting) (calls : StoredCalls) (levels : �
   false_out p (errs_with f) e out = absurd (cc)
   false_out p (leaves t) e out = absurd (cc)
 
-  pub told_run : (done : List Policy) (old new : Sheet) (p : PolicyView) (o : Outcome) → IsToldRun mode s calls levels done old → ComesOutBy (λ a. Runs (with_slots s p.slots) calls levels (condition_term p) a) (outcome_view o) → sheet_view new ≡ noting_what_tells mode (sheet_view old) p o → IsToldRun mode s calls levels (done ++ decides_as p ∷ []) new
+  pub told_run : (done : List Policy) (old new : Sheet) (p : PolicyView) (o : ConditionOutcome) → IsToldRun mode s calls levels done old → ComesOutBy (λ a. Runs (with_slots s p.slots) calls levels (condition_term p) a) (outcome_view o) → sheet_view new ≡ noting_what_tells mode (sheet_view old) p o → IsToldRun mode s calls levels (done ++ decides_as p ∷ []) new
   told_run done old new p o before out placed = by (tells_nothing (outcome_view o)) refl
     where
       by : (b : Bool) → tells_nothing (outcome_view o) ≡ b → IsToldRun mode s calls levels (done ++ decides_as p ∷ []) new
@@ -126,7 +126,7 @@ module _ (mode : ErrorHandling) (s : Setting) (calls : StoredCalls) (levels : �
         noted = noted_run mode s calls levels before.telling old new p o before.noted out (placed ∙ ap (λ (b : Bool). cond b (sheet_view old) (noting mode (sheet_view old) p o)) e);
       }
 
-  pub told_more : (all : List Policy) (old new : Sheet) (p : PolicyView) (o : Outcome) (rest left : List Policy) → left ≡ decides_as p ∷ rest → IsToldSoFar mode s calls levels all old left → ComesOutBy (λ a. Runs (with_slots s p.slots) calls levels (condition_term p) a) (outcome_view o) → sheet_view new ≡ noting_what_tells mode (sheet_view old) p o → IsToldSoFar mode s calls levels all new rest
+  pub told_more : (all : List Policy) (old new : Sheet) (p : PolicyView) (o : ConditionOutcome) (rest left : List Policy) → left ≡ decides_as p ∷ rest → IsToldSoFar mode s calls levels all old left → ComesOutBy (λ a. Runs (with_slots s p.slots) calls levels (condition_term p) a) (outcome_view o) → sheet_view new ≡ noting_what_tells mode (sheet_view old) p o → IsToldSoFar mode s calls levels all new rest
   told_more all old new p o rest left e before out placed = record {
     done = before.done ++ decides_as p ∷ [];
     run = told_run before.done old new p o before.run out placed;
@@ -236,13 +236,13 @@ module _ (mode : ErrorHandling) (s : Setting) (calls : StoredCalls) (levels : �
       }
 
   -- a run that is told of a set, made concrete, is the run of all
-  pub told_concrete : (policies : PolicySet) (sheet : Sheet) (p : PartialResponse) (r : Authorized) → IsToldRun mode s calls levels (deciding policies) sheet → mode_of p ≡ mode → KeepsSheet sheet p
-      → r ≡ concretized (mode_of p) (rows_view p) (errors_of p) → IsConcreteRun (configured_by calls mode s levels) s (deciding policies) r
+  pub told_concrete : (policies : PolicySet) (sheet : Sheet) (p : PartialResponse) (r : Authorized) → IsToldRun mode s calls levels (considered policies) sheet → mode_of p ≡ mode → KeepsSheet sheet p
+      → r ≡ concretized (mode_of p) (rows_view p) (errors_of p) → IsConcreteRun (configured_by calls mode s levels) s (considered policies) r
   told_concrete policies sheet p r told is_in keeps e =
       let apart : first_repeated (map (λ (q : Policy). q.id) told.telling) ≡ None =
-      others_apart (IsFalse s calls levels) [] (deciding policies) told.telling told.others (set_ids_apart policies) in
+      others_apart (IsFalse s calls levels) [] (considered policies) told.telling told.others (set_ids_apart policies) in
       let c = run_concrete mode s calls levels told.telling p r (is_run_of mode s calls levels told.telling sheet p apart told.noted is_in keeps) e in
-      let all = all_run (deciding policies) told.telling told.others c.rows c.errors c.run in
+      let all = all_run (considered policies) told.telling told.others c.rows c.errors c.run in
       record {
         rows = all.all;
         errors = c.errors;

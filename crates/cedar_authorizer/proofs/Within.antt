@@ -17,11 +17,11 @@ use Rattle.cedar_layers.specs.declared.policies.policy_set.PolicySet.{PolicySet}
 use Rattle.cedar_layers.specs.Policies.{policy_view, policy_location, condition_term, decides_as, first_repeated, first_repeated_after}
 use Rattle.cedar_layers.specs.PolicySets.{stored_policies}
 use Rattle.cedar_layers.specs.Scopes.{AreAllBut}
-use Rattle.cedar_authorizer.specs.declared.responses.sheet.Outcome.{Outcome}
-use Rattle.cedar_authorizer.specs.declared.responses.sheet.Outcome.TheVariants as outcomes
+use Rattle.cedar_authorizer.specs.declared.responses.sheet.ConditionOutcome.{ConditionOutcome}
+use Rattle.cedar_authorizer.specs.declared.responses.sheet.ConditionOutcome.TheVariants as outcomes
 use Rattle.cedar_authorizer.specs.declared.responses.sheet.Sheet.{Sheet}
 use Rattle.cedar_authorizer.specs.responses.Sheets.{outcome_view, sheet_view, nothing_noted, noting}
-use Rattle.cedar_authorizer.specs.Responding.{deciding}
+use Rattle.cedar_authorizer.specs.Responding.{considered}
 use Rattle.cedar_authorizer.specs.Running.{ComesOutBy, IsLeftAt}
 use Rattle.cedar_authorizer.specs.Telling.{IsFalse, deciding_these}
 use Rattle.cedar_authorizer.specs.Reaching.{AreFalseBut, is_of_id}
@@ -86,7 +86,7 @@ module _ (mode : ErrorHandling) (s : Setting) (calls : StoredCalls) (levels : �
   pub run_none : (policies : PolicySet) (sheet : Sheet) (left some : List layers.Policy) → sheet_view sheet ≡ nothing_noted → stored_policies policies ≡ left → AreFalseBut s calls levels (stored_policies policies) some
       → IsRunSoFar mode s calls levels (stored_policies policies) sheet left some
   run_none policies sheet left some e same others = record {
-    noted = noted_none mode s calls levels (deciding policies) sheet (deciding_these left) e (ap deciding_these same);
+    noted = noted_none mode s calls levels (considered policies) sheet (deciding_these left) e (ap deciding_these same);
     placed = none_placed (stored_policies policies) left sheet e same;
     others = subst (λ l. AreFalseBut s calls levels l some) same others;
     apart = subst (λ l. first_repeated (ids_of l) ≡ None) same (set_ids_apart policies);
@@ -103,7 +103,7 @@ module _ (mode : ErrorHandling) (s : Setting) (calls : StoredCalls) (levels : �
     apart_behind =
         seen_later (is_seen own []) own _ (subst (λ l. first_repeated (ids_of l) ≡ None) first before.apart)
 
-    one_more : (later : List layers.Policy) (o : Outcome) → ComesOutBy (λ a. Runs (with_slots s (policy_view p).slots) calls levels (condition_term (policy_view p)) a) (outcome_view o) → IsLeftAt (policy_location p) o
+    one_more : (later : List layers.Policy) (o : ConditionOutcome) → ComesOutBy (λ a. Runs (with_slots s (policy_view p).slots) calls levels (condition_term (policy_view p)) a) (outcome_view o) → IsLeftAt (policy_location p) o
         → sheet_view new ≡ noting mode (sheet_view old) (policy_view p) o → AreFalseBut s calls levels rest later → IsRunSoFar mode s calls levels all new rest later
     one_more later o out stands noted others = record {
       noted = noted_more mode s calls levels (deciding_these all) old new (policy_view p) o (deciding_these rest) (deciding_these left) (ap deciding_these first) before.noted out noted;
@@ -136,7 +136,7 @@ module _ (mode : ErrorHandling) (s : Setting) (calls : StoredCalls) (levels : �
 
   module _ (all left rest : List layers.Policy) (xs : List layers.Policy) (n : ℕ) (p : layers.Policy) (first : left ≡ p ∷ rest) (old new : Sheet) (before : IsRunSoFar mode s calls levels all old left (drop n xs)) where
     -- a policy of the next one's id
-    pub run_looked : (o : Outcome) → is_of_id (policy_view p).id (slice_get xs n) ≡ true → ComesOutBy (λ a. Runs (with_slots s (policy_view p).slots) calls levels (condition_term (policy_view p)) a) (outcome_view o) → IsLeftAt (policy_location p) o
+    pub run_looked : (o : ConditionOutcome) → is_of_id (policy_view p).id (slice_get xs n) ≡ true → ComesOutBy (λ a. Runs (with_slots s (policy_view p).slots) calls levels (condition_term (policy_view p)) a) (outcome_view o) → IsLeftAt (policy_location p) o
         → sheet_view new ≡ noting mode (sheet_view old) (policy_view p) o → IsRunSoFar mode s calls levels all new rest (drop (n + 1) xs)
     run_looked o found out stands noted = by (slice_get xs n) refl found
       where

@@ -8,4 +8,3 @@ pub mod Reaching
 pub mod Stability
 pub mod Steps
 pub mod Headline
-pub mod Wanting

@@ -17,8 +17,8 @@ use Rattle.cedar_layers.specs.Policies.{decides_as}
 use Rattle.cedar_layers.specs.PolicySets.{policies_view}
 
 -- the policies of a set, as far as they decide
-abbrev pub deciding : PolicySet → List model.Policy
-deciding s = map decides_as (policies_view s)
+abbrev pub considered : PolicySet → List model.Policy
+considered s = map decides_as (policies_view s)
 
 -- ---- where nothing is unknown
 

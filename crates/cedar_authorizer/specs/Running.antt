@@ -18,8 +18,8 @@ use Rattle.cedar_layers.specs.declared.policies.policy.Policy as layers
 use Rattle.cedar_layers.specs.Policies.{policy_view, policy_location}
 use Rattle.cedar_requests.specs.declared.request.Request.{Request}
 use Rattle.cedar_authorizer.specs.declared.responses.partial_response.PartialResponse.{PartialResponse}
-use Rattle.cedar_authorizer.specs.declared.responses.sheet.Outcome.{Outcome}
-use Rattle.cedar_authorizer.specs.declared.responses.sheet.Outcome.TheVariants as outcomes
+use Rattle.cedar_authorizer.specs.declared.responses.sheet.ConditionOutcome.{ConditionOutcome}
+use Rattle.cedar_authorizer.specs.declared.responses.sheet.ConditionOutcome.TheVariants as outcomes
 use Rattle.cedar_authorizer.specs.declared.responses.sheet.Sheet.{Sheet}
 use Rattle.cedar_authorizer.specs.responses.Kept.{kept}
 use Rattle.cedar_authorizer.specs.responses.Responses.{errors_view}
@@ -121,7 +121,7 @@ pub record ResidualsAreNoted (ps : List layers.Policy) (sheet : Sheet) : Type 0 
   pub forbids : All (StandsAtPolicy ps) (residual_rows forbid sheet.residual_forbids.items)
 
 -- what is left stands here
-abbrev pub IsLeftAt : Option Loc → Outcome → Type 0
+abbrev pub IsLeftAt : Option Loc → ConditionOutcome → Type 0
 IsLeftAt l (outcomes.Decided b) = Unit {0}
 IsLeftAt l (outcomes.Residual e) = expr_loc e.value ≡ l
 IsLeftAt l (outcomes.Failed e) = Unit {0}

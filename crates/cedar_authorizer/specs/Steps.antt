@@ -110,13 +110,13 @@ module _ (c : Configuration) (step : Mapping × Store) where
         → AreDecidedAs c.mode c.extensions ans w ps (rows_view r))
 
     -- the recursion limit is neither among the errors nor why the context is refused
-    abbrev pub MeetsNoLimit : Result PartialResponse Refusal → Type 0
-    MeetsNoLimit (Ok r) = HaveNoLimit (errors_of r)
-    MeetsNoLimit (Err e) = e ≢ context_fails recursion_limit
+    abbrev pub StepMeetsNoLimit : Result PartialResponse Refusal → Type 0
+    StepMeetsNoLimit (Ok r) = HaveNoLimit (errors_of r)
+    StepMeetsNoLimit (Err e) = e ≢ context_fails recursion_limit
 
     -- the depth bound: so it is where all that is given is no higher than b with the map's values in it, and no policy
     -- that is carried on is higher than what the levels have above twice b
-    abbrev pub IsDeepEnough : Result PartialResponse Refusal → Type 0
-    IsDeepEnough x =
+    abbrev pub StepIsDeepEnough : Result PartialResponse Refusal → Type 0
+    StepIsDeepEnough x =
         (b h : ℕ) → IsNoHigher c.calls (under old.request) step.0 b → AreNoHigher (all_residuals old.rows) h
-        → h + (b + b) ≤ c.levels → MeetsNoLimit x
+        → h + (b + b) ≤ c.levels → StepMeetsNoLimit x

@@ -9,7 +9,7 @@ use Rattle.cedar_model.specs.Configurations.{Configuration}
 use Rattle.cedar_layers.specs.declared.policies.policy.Policy as layers
 use Rattle.cedar_layers.specs.Policies.{PolicyView, policy_view, decides_as}
 use Rattle.cedar_layers.specs.Scopes.{AreAllBut}
-use Rattle.cedar_authorizer.specs.declared.responses.sheet.Outcome.{Outcome}
+use Rattle.cedar_authorizer.specs.declared.responses.sheet.ConditionOutcome.{ConditionOutcome}
 use Rattle.cedar_authorizer.specs.declared.responses.sheet.Sheet.{Sheet}
 use Rattle.cedar_authorizer.specs.responses.Sheets.{Noted, outcome_view, noting}
 use Rattle.cedar_authorizer.specs.Running.{IsNotedRun}
@@ -40,5 +40,5 @@ tells_nothing (errs_with e) = false
 tells_nothing (leaves t) = false
 
 -- what is noted once the condition of one more policy came out so
-abbrev pub noting_what_tells : ErrorHandling → Noted → PolicyView → Outcome → Noted
+abbrev pub noting_what_tells : ErrorHandling → Noted → PolicyView → ConditionOutcome → Noted
 noting_what_tells mode s p o = cond (tells_nothing (outcome_view o)) s (noting mode s p o)

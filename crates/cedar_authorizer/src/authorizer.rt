@@ -1,7 +1,7 @@
 //! The authorizer.
 ghost use Rattle.std.specs.Prelude.{◌≡◌, ◌≢◌, true, false, Option, IfOk, IfSome};
 ghost use Rattle.cedar_model.specs.Agreement.{no_slots};
-ghost use Rattle.cedar_model.specs.Failures.{out_of_memory, failure_kind};
+ghost use Rattle.cedar_model.specs.Failures.{out_of_memory};
 ghost use Rattle.cedar_model.specs.Policies.{skip};
 ghost use Rattle.cedar_model.specs.Settings.{shallow};
 ghost use Rattle.cedar_interpreter.specs.Settings.{resolution_view};
@@ -18,8 +18,7 @@ ghost use Rattle.cedar_authorizer.specs.responses.Rows.{rows_view};
 ghost use Rattle.cedar_authorizer.specs.responses.Rows as rows;
 ghost use Rattle.cedar_authorizer.specs.responses.Sheets.{outcome_view};
 ghost use Rattle.cedar_authorizer.specs.Configured.{configuration, asked};
-ghost use Rattle.cedar_authorizer.specs.Responding.{deciding};
-ghost use Rattle.cedar_authorizer.specs.Wanting.{is_of_memory};
+ghost use Rattle.cedar_authorizer.specs.Responding.{considered};
 ghost use Rattle.cedar_authorizer.specs.Running.{errors_of, request_of, IsRun, StandsInCompletions};
 ghost use Rattle.cedar_authorizer.specs.Running.{IsDeepEnough, IsConcreteRun};
 ghost use Rattle.cedar_authorizer.specs.Running.{ComesOutBy, IsNotedRun, KeepsSheet};
@@ -30,8 +29,7 @@ pub use crate::responses::{
     AuthorizationError, Decision, Diagnostics, ErrorHandling, ErrorState, PartialResponse,
     ReportedIds, ReportedPolicies, Response,
 };
-use crate::responses::{Outcome, Sheet};
-use cedar_errors::extensions::ExtensionFunctionLookupError;
+use crate::responses::{ConditionOutcome, Sheet};
 pub use cedar_evaluator::evaluator::Resolution;
 use cedar_evaluator::evaluator::{EvaluationError, Evaluator};
 use cedar_evaluator::request::Request;
@@ -165,15 +163,15 @@ impl<'f> Authorizer<'f> {
         entities: &Entities,
     ) -> Result<Response, AllocError>
         ensures response { IfOk result (λ r.
-            IsConcreteRun (configuration self.now) (asked self.now request entities.now) (deciding policies.now)
+            IsConcreteRun (configuration self.now) (asked self.now request entities.now) (considered policies.now)
             (response_view r)) }
         ensures known { IfOk result (λ r.
-            IsKnownResponse (configuration self.now) (asked self.now request entities.now) (deciding policies.now)
+            IsKnownResponse (configuration self.now) (asked self.now request entities.now) (considered policies.now)
             (response_view r)) }
         ensures limit { IfOk result (λ r.
-            MeetsNoLimit (configuration self.now) (asked self.now request entities.now) (deciding policies.now)
+            MeetsNoLimit (configuration self.now) (asked self.now request entities.now) (considered policies.now)
             (response_view r).errors) }
-        ensures own_world { OwnWorldCompletesCall (asked self.now request entities.now) (deciding policies.now) }
+        ensures own_world { OwnWorldCompletesCall (asked self.now request entities.now) (considered policies.now) }
     {
         let sheet = told_sheet(alloc, self, &request, policies, entities)?;
         let shared = Rc::new(alloc, request)?;
@@ -194,15 +192,15 @@ impl<'f> Authorizer<'f> {
         entities: &Entities,
     ) -> Result<PartialResponse, AllocError>
         ensures run { IfOk result
-            (IsRun (configuration self.now) (asked self.now request entities.now) (deciding policies.now)) }
+            (IsRun (configuration self.now) (asked self.now request entities.now) (considered policies.now)) }
         ensures stands { IfOk result (StandsInCompletions (configuration self.now) (asked self.now request entities.now)
-            (deciding policies.now)) }
+            (considered policies.now)) }
         ensures known { IfOk result (λ r. IsKnownRun (configuration self.now) (asked self.now request entities.now)
-            (deciding policies.now) (rows_view r) (errors_of r)) }
+            (considered policies.now) (rows_view r) (errors_of r)) }
         ensures limit { IfOk result (λ r. MeetsNoLimit (configuration self.now) (asked self.now request entities.now)
-            (deciding policies.now) (errors_of r)) }
+            (considered policies.now) (errors_of r)) }
         ensures deep_enough { IfOk result (IsDeepEnough (configuration self.now) (asked self.now request entities.now)
-            (deciding policies.now)) }
+            (considered policies.now)) }
         ensures places { IfOk result (ResidualsStand (stored_policies policies.now)) }
         ensures request { IfOk result (λ r. request_of r ≡ request) }
     {
@@ -225,12 +223,12 @@ impl<'f> Authorizer<'f> {
     ) -> Result<PartialResponse, ReauthorizationError>
         ensures chain { IfSome (step_answer result)
             (IsChain (configuration self.now) (asked self.now request entities.now)
-            (deciding policies.now) (steps_view (resolution_of self.now) steps.now)) }
+            (considered policies.now) (steps_view (resolution_of self.now) steps.now)) }
         ensures memory { IfErr result IsUnwrapped }
         ensures headline { IfOk result (IsHeadline (configuration self.now) (asked self.now request entities.now)
-            (deciding policies.now) (steps_view (resolution_of self.now) steps.now)) }
+            (considered policies.now) (steps_view (resolution_of self.now) steps.now)) }
         ensures known { IfOk result (LeavesNothing (configuration self.now) (asked self.now request entities.now)
-            (deciding policies.now)) }
+            (considered policies.now)) }
     {
         let response = self.is_authorized_core(alloc, request, policies, entities)?;
         take_steps(alloc, response, self, steps)
@@ -245,7 +243,7 @@ fn run_all(
     policies: &PolicySet,
 ) -> Result<Sheet, AllocError>
     ensures run { IfOk result (IsNotedRun (mode_view mode) (setting_of evaluator.now no_slots) (calls_in evaluator.now)
-        (evaluations.limit_of evaluator.now) (deciding policies.now)) }
+        (evaluations.limit_of evaluator.now) (considered policies.now)) }
     ensures places { IfOk result (ResidualsAreNoted (stored_policies policies.now)) }
 {
     let mut sheet = Sheet::new(alloc);
@@ -261,28 +259,28 @@ fn outcome_of(
     alloc: Global,
     evaluator: &Evaluator<'_, '_>,
     policy: &Policy,
-) -> Result<Outcome, AllocError>
+) -> Result<ConditionOutcome, AllocError>
     ensures outcome { IfOk result (λ o. ComesOutBy (IsPromisedOf evaluator.now policy.now) (outcome_view o)) }
     ensures place { IfOk result (IsLeftAt (policy_location policy.now)) }
 {
     match evaluator.partial_evaluate(alloc, policy) {
-        Ok(Left(is_true)) => Ok(Outcome::Decided(is_true)),
-        Ok(Right(residual)) => Ok(Outcome::Residual(Rc::new(alloc, residual)?)),
+        Ok(Left(is_true)) => Ok(ConditionOutcome::Decided(is_true)),
+        Ok(Right(residual)) => Ok(ConditionOutcome::Residual(Rc::new(alloc, residual)?)),
         Err(error) => failed(error),
     }
 }
 
 // Want of memory is never recorded.
-#[tactic(auto, using(crate::specs::Wanting::is_not_memory))]
-fn failed(error: EvaluationError) -> Result<Outcome, AllocError>
+#[tactic(auto, using(crate::proofs::Wanting::is_not_memory))]
+fn failed(error: EvaluationError) -> Result<ConditionOutcome, AllocError>
     ensures memory { IfOk result (λ o. failure_of error ≢ out_of_memory) }
     ensures outcome { IfOk result (λ o. outcome_view o ≡ errs_with (failure_of error)) }
     ensures place { (l : Option Loc) → IfOk result (IsLeftAt l) }
 {
-    if is_want_of_memory(&error) {
+    if error.is_want_of_memory() {
         return Err(AllocError);
     }
-    Ok(Outcome::Failed(error))
+    Ok(ConditionOutcome::Failed(error))
 }
 
 // The response of what is noted.
@@ -308,27 +306,4 @@ fn response_of(
         sheet.errors.into_iter(),
         request,
     )
-}
-
-#[tactic(auto, unfolding(crate::specs::Wanting::is_of_memory, cedar_model::specs::Failures::failure_kind))]
-fn is_want_of_memory(error: &EvaluationError) -> bool
-    ensures { result ≡ is_of_memory (failure_kind (failure_of error.now)) }
-{
-    match error {
-        EvaluationError::Memory(_) => true,
-        EvaluationError::FailedExtensionFunctionLookup(error) => match error {
-            ExtensionFunctionLookupError::Memory(_) => false,
-            ExtensionFunctionLookupError::FuncDoesNotExist(_) => false,
-        },
-        EvaluationError::EntityDoesNotExist(_) => false,
-        EvaluationError::EntityAttrDoesNotExist(_) => false,
-        EvaluationError::RecordAttrDoesNotExist(_) => false,
-        EvaluationError::TypeError(_) => false,
-        EvaluationError::WrongNumArguments(_) => false,
-        EvaluationError::IntegerOverflow(_) => false,
-        EvaluationError::UnlinkedSlot(_) => false,
-        EvaluationError::FailedExtensionFunctionExecution(_) => false,
-        EvaluationError::NonValue(_) => false,
-        EvaluationError::RecursionLimit(_) => false,
-    }
 }

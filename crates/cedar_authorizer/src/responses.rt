@@ -11,4 +11,4 @@ pub use cedar_decisions::{Decision, ErrorHandling};
 pub use err::AuthorizationError;
 pub use partial_response::{ErrorState, PartialResponse, ReportedIds, ReportedPolicies};
 pub use response::{Diagnostics, Response};
-pub use sheet::{Outcome, Sheet};
+pub use sheet::{ConditionOutcome, Sheet};

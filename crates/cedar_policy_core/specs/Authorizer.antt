@@ -19,7 +19,6 @@ pub use Rattle.cedar_authorizer.specs.Running
 pub use Rattle.cedar_authorizer.specs.Stability
 pub use Rattle.cedar_authorizer.specs.Steps
 pub use Rattle.cedar_authorizer.specs.Headline
-pub use Rattle.cedar_authorizer.specs.Wanting
 pub use Rattle.cedar_json_responses.specs.Texts as JsonTexts
 pub use Rattle.cedar_json_responses.specs.Errors as JsonErrors
 pub use Rattle.cedar_json_responses.specs.Responses as JsonResponses

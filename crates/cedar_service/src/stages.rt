@@ -16,7 +16,7 @@ ghost use Rattle.cedar_policy_core.specs.Ast.Substitutions.{values_for};
 ghost use Rattle.cedar_policy_core.specs.Authorizer.Rows.{rows_view};
 ghost use Rattle.cedar_policy_core.specs.Authorizer.Configured.{configuration, resolution_of, asked};
 ghost use Rattle.cedar_policy_core.specs.Authorizer.Headline.{steps_view};
-ghost use Rattle.cedar_policy_core.specs.Authorizer.Responding.{deciding};
+ghost use Rattle.cedar_policy_core.specs.Authorizer.Responding.{considered};
 ghost use Rattle.cedar_policy_core.specs.Authorizer.Running.{errors_of};
 ghost use Rattle.cedar_service.specs.Stages.{principal_is, owner_may, from_someone, one_value, values_of};
 ghost use Rattle.cedar_service.specs.Stages.{IsDecidedIn, IsDecidedFor, IsForOwner};
@@ -192,7 +192,7 @@ fn decided_after(
     steps: &[(&HashMap<RcStr, Value>, &Entities)],
 ) -> Result<Option<Decision>, Stop>
     ensures { IfOk result (λ o. IfSome o (λ d. IsDecidedIn (configuration authorizer.now)
-        (asked authorizer.now request entities.now) (deciding policies.now)
+        (asked authorizer.now request entities.now) (considered policies.now)
         (steps_view (resolution_of authorizer.now) steps.now) (decision_view d))) }
 {
     match authorizer.authorize_in_steps(alloc, request, policies, entities, steps) {

@@ -12,7 +12,7 @@ use crate::notation::settings::{error_handling, put_value, resolution, stored};
 use crate::notation::unanswered::{Noted, Unanswered};
 use crate::notation::{Parts, fact, first_fact, headed};
 use cedar_authorizer::authorizer::{ErrorHandling, Resolution};
-use cedar_authorizer::responses::{Outcome, Sheet};
+use cedar_authorizer::responses::{ConditionOutcome, Sheet};
 use cedar_layers::expressions::{Expr, Literal, Value};
 use cedar_layers::policies::{Annotations, Effect, Entities, Policy};
 use std::alloc::{AllocError, Global};
@@ -145,12 +145,12 @@ fn put_outcome(
     Ok(sheet.place(mode, policy, outcome(alloc, came_out)?)?)
 }
 
-fn outcome(alloc: Global, written: &str) -> Result<Outcome, Unanswered> {
+fn outcome(alloc: Global, written: &str) -> Result<ConditionOutcome, Unanswered> {
     match written {
-        "true" => Ok(Outcome::Decided(true)),
-        "false" => Ok(Outcome::Decided(false)),
-        "error" => Ok(Outcome::Failed(error(alloc, "TypeError Long Bool")?)),
-        _ => Ok(Outcome::Residual(Rc::new(alloc, expression(alloc, written)?)?)),
+        "true" => Ok(ConditionOutcome::Decided(true)),
+        "false" => Ok(ConditionOutcome::Decided(false)),
+        "error" => Ok(ConditionOutcome::Failed(error(alloc, "TypeError Long Bool")?)),
+        _ => Ok(ConditionOutcome::Residual(Rc::new(alloc, expression(alloc, written)?)?)),
     }
 }
 

@@ -10,25 +10,25 @@ use Rattle.cedar_expressions.specs.declared.expr.Expr.{Expr}
 use Rattle.cedar_expressions.specs.View.{view}
 use Rattle.cedar_layers.specs.Policies.{PolicyView}
 use Rattle.cedar_errors.specs.Failures.{failure_of}
-use Rattle.cedar_authorizer.specs.declared.responses.sheet.Outcome.{Outcome}
-use Rattle.cedar_authorizer.specs.declared.responses.sheet.Outcome.TheVariants as outcomes
+use Rattle.cedar_authorizer.specs.declared.responses.sheet.ConditionOutcome.{ConditionOutcome}
+use Rattle.cedar_authorizer.specs.declared.responses.sheet.ConditionOutcome.TheVariants as outcomes
 use Rattle.cedar_authorizer.specs.declared.responses.sheet.Sheet.{Sheet}
 use Rattle.cedar_authorizer.specs.responses.Responses.{errors_view}
 use Rattle.cedar_authorizer.specs.responses.Rows.{Located, located, true_rows, false_rows, residual_rows, located_of}
 
-abbrev pub outcome_view : Outcome → Decided
+abbrev pub outcome_view : ConditionOutcome → Decided
 outcome_view (outcomes.Decided b) = decides b
 outcome_view (outcomes.Residual e) = leaves (view e.value)
 outcome_view (outcomes.Failed e) = errs_with (failure_of e)
 
 -- the residual, whole, where one is left
-abbrev pub outcome_residual : Outcome → Option Expr
+abbrev pub outcome_residual : ConditionOutcome → Option Expr
 outcome_residual (outcomes.Decided b) = None
 outcome_residual (outcomes.Residual e) = Some e.value
 outcome_residual (outcomes.Failed e) = None
 
 -- the row of a policy whose condition came out so
-abbrev pub placed_row : ErrorHandling → PolicyView → Outcome → Located
+abbrev pub placed_row : ErrorHandling → PolicyView → ConditionOutcome → Located
 placed_row mode p o =
     located p.effect p.id p.annotations (counted_report mode p.effect (reported_of (outcome_view o)))
     (outcome_residual o)
@@ -90,5 +90,5 @@ noted_also s l e = record {
 }
 
 -- what is noted once the condition of one more policy came out so
-abbrev pub noting : ErrorHandling → Noted → PolicyView → Outcome → Noted
+abbrev pub noting : ErrorHandling → Noted → PolicyView → ConditionOutcome → Noted
 noting mode s p o = noted_also s (placed_row mode p o) (error_of (outcome_view o))

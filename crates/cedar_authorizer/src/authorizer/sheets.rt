@@ -9,12 +9,12 @@ ghost use Rattle.cedar_evaluator.specs.Evaluations.{setting_of, calls_in};
 ghost use Rattle.cedar_evaluator.specs.Evaluations as evaluations;
 ghost use Rattle.cedar_authorizer.specs.Configured.{configuration, asked};
 ghost use Rattle.cedar_authorizer.specs.Reaching.{AreFalseBut, is_of_id};
-ghost use Rattle.cedar_authorizer.specs.Responding.{deciding};
+ghost use Rattle.cedar_authorizer.specs.Responding.{considered};
 ghost use Rattle.cedar_authorizer.specs.Running.{IsNotedBy, IsNotedRun, ResidualsAreNoted};
 
 use super::reaching::policies_within_reach;
 use super::{Authorizer, outcome_of, run_all};
-use crate::responses::{ErrorHandling, Outcome, Sheet};
+use crate::responses::{ConditionOutcome, ErrorHandling, Sheet};
 use cedar_evaluator::evaluator::Evaluator;
 use cedar_evaluator::request::Request;
 use cedar_layers::policies::{Entities, Policy, PolicySet};
@@ -29,7 +29,7 @@ pub(super) fn first_sheet(
     entities: &Entities,
 ) -> Result<Sheet, AllocError>
     ensures run { IfOk result (IsNotedBy (configuration authorizer.now) (asked authorizer.now request.now entities.now)
-        (deciding policies.now)) }
+        (considered policies.now)) }
     ensures places { IfOk result (ResidualsAreNoted (stored_policies policies.now)) }
 {
     let within = policies_within_reach(alloc, authorizer, request, policies, entities)?;
@@ -63,7 +63,7 @@ fn run(
     requires { IfSome within (λ v. AreFalseBut (setting_of evaluator.now no_slots) (calls_in evaluator.now)
         (evaluations.limit_of evaluator.now) (stored_policies policies.now) (map (λ p. p.now) v.items)) }
     ensures run { IfOk result (IsNotedRun (mode_view mode) (setting_of evaluator.now no_slots) (calls_in evaluator.now)
-        (evaluations.limit_of evaluator.now) (deciding policies.now)) }
+        (evaluations.limit_of evaluator.now) (considered policies.now)) }
     ensures places { IfOk result (ResidualsAreNoted (stored_policies policies.now)) }
 {
     match within {
@@ -83,7 +83,7 @@ fn run_within(
     requires { AreFalseBut (setting_of evaluator.now no_slots) (calls_in evaluator.now)
         (evaluations.limit_of evaluator.now) (stored_policies policies.now) (map (λ p. p.now) within.now) }
     ensures run { IfOk result (IsNotedRun (mode_view mode) (setting_of evaluator.now no_slots) (calls_in evaluator.now)
-        (evaluations.limit_of evaluator.now) (deciding policies.now)) }
+        (evaluations.limit_of evaluator.now) (considered policies.now)) }
     ensures places { IfOk result (ResidualsAreNoted (stored_policies policies.now)) }
 {
     let mut sheet = Sheet::new(alloc);
@@ -94,7 +94,7 @@ fn run_within(
             sheet.place(mode, policy, outcome)?;
             next += 1;
         } else {
-            sheet.place(mode, policy, Outcome::Decided(false))?;
+            sheet.place(mode, policy, ConditionOutcome::Decided(false))?;
         }
     }
     Ok(sheet)

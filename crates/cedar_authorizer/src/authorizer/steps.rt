@@ -15,16 +15,16 @@ ghost use Rattle.cedar_authorizer.specs.reauthorization.Errors.{step_refusal, Is
 ghost use Rattle.cedar_authorizer.specs.responses.Rows as rows;
 ghost use Rattle.cedar_authorizer.specs.Configured.{configuration, limit_of, mode_of, resolution_of};
 ghost use Rattle.cedar_authorizer.specs.Headline.{steps_view, IsTakenFurther};
-ghost use Rattle.cedar_authorizer.specs.Responding.{deciding};
+ghost use Rattle.cedar_authorizer.specs.Responding.{considered};
 ghost use Rattle.cedar_authorizer.specs.Running.{request_of, IsRun, IsNotedBy};
 ghost use Rattle.cedar_authorizer.specs.Steps.{step_answer, response_said, step_by, under, IsDecidedAgain, IsStep};
 ghost use Rattle.cedar_authorizer.specs.Steps.{KeepsWhatStands};
-ghost use Rattle.cedar_authorizer.specs.Steps.{TakesNothingBack, Finishes, IsDeepEnough};
+ghost use Rattle.cedar_authorizer.specs.Steps.{TakesNothingBack, Finishes, StepIsDeepEnough};
 
 use super::{Authorizer, response_of, run_all};
 use crate::reauthorization::{ReauthorizationError, concretize_request, residual_policies};
 use crate::responses::{AuthorizationError, ErrorHandling, PartialResponse, Sheet};
-use cedar_evaluator::evaluator::{EvaluationError, Evaluator};
+use cedar_evaluator::evaluator::Evaluator;
 use cedar_evaluator::request::Request;
 use cedar_layers::policies::{Entities, PolicySet};
 use cedar_values::Value;
@@ -65,7 +65,7 @@ impl PartialResponse {
         ensures finishes { IfOk result
             (Finishes (configuration authorizer.now) (step_by map.now entities.now) (response_said self.now)) }
         ensures deep_enough { IfSome (step_answer result)
-            (IsDeepEnough (configuration authorizer.now) (step_by map.now entities.now) (response_said self.now)) }
+            (StepIsDeepEnough (configuration authorizer.now) (step_by map.now entities.now) (response_said self.now)) }
     {
         let mode = self.error_handling();
         if is_same_mode(authorizer.error_handling, mode) {
@@ -137,7 +137,7 @@ fn with_policies(
 ) -> Result<PartialResponse, ReauthorizationError>
     ensures step { IfSome (step_answer result)
         (IsDecidedAgain (configuration authorizer.now) (step_by map.now entities.now) (request_view request.now)
-        (deciding policies.now)) }
+        (considered policies.now)) }
     ensures memory { IfErr result IsUnwrapped }
     ensures places { IfOk result (λ r. entity_locs r.request.value
         ≡ concrete_locs (values_for map.now.entries) (entity_locs request.now)) }
@@ -168,7 +168,7 @@ fn decided_again(
 ) -> Result<PartialResponse, AllocError>
     ensures run { IfOk result (IsRun (configuration authorizer.now)
         (under (configuration authorizer.now) (step_by map.now entities.now) (request_view request))
-        (deciding policies.now)) }
+        (considered policies.now)) }
     ensures request { IfOk result (λ r. r.request.value ≡ request) }
 {
     let sheet = next_sheet(alloc, &request, policies, map, authorizer, entities)?;
@@ -191,7 +191,7 @@ fn next_sheet(
 ) -> Result<Sheet, AllocError>
     ensures { IfOk result (IsNotedBy (configuration authorizer.now)
         (under (configuration authorizer.now) (step_by map.now entities.now) (request_view request.now))
-        (deciding policies.now)) }
+        (considered policies.now)) }
 {
     let evaluator = Evaluator::new(
         alloc,
@@ -270,23 +270,9 @@ fn has_limit(errors: &[AuthorizationError]) -> bool
 }
 
 // Whether the policy met the recursion limit.
-#[tactic(auto, unfolding(cedar_model::specs::Chains::is_limit, cedar_model::specs::Failures::failure_kind))]
 fn is_recursion_limit(error: &AuthorizationError) -> bool
     ensures { result ≡ is_limit (failure_kind (error_view error.now).1) }
 {
     let AuthorizationError::PolicyEvaluationError { id: _, error } = error;
-    match error {
-        EvaluationError::RecursionLimit(_) => true,
-        EvaluationError::EntityDoesNotExist(_) => false,
-        EvaluationError::EntityAttrDoesNotExist(_) => false,
-        EvaluationError::RecordAttrDoesNotExist(_) => false,
-        EvaluationError::FailedExtensionFunctionLookup(_) => false,
-        EvaluationError::TypeError(_) => false,
-        EvaluationError::WrongNumArguments(_) => false,
-        EvaluationError::IntegerOverflow(_) => false,
-        EvaluationError::UnlinkedSlot(_) => false,
-        EvaluationError::FailedExtensionFunctionExecution(_) => false,
-        EvaluationError::NonValue(_) => false,
-        EvaluationError::Memory(_) => false,
-    }
+    error.is_recursion_limit()
 }

@@ -10,12 +10,12 @@ ghost use Rattle.cedar_evaluator.specs.Evaluations as evaluations;
 ghost use Rattle.cedar_authorizer.specs.responses.Sheets.{sheet_view, outcome_view};
 ghost use Rattle.cedar_authorizer.specs.Configured.{configuration, asked};
 ghost use Rattle.cedar_authorizer.specs.Reaching.{AreFalseBut};
-ghost use Rattle.cedar_authorizer.specs.Responding.{deciding};
+ghost use Rattle.cedar_authorizer.specs.Responding.{considered};
 ghost use Rattle.cedar_authorizer.specs.Telling.{tells_nothing, noting_what_tells, IsToldRun, IsToldBy, deciding_these};
 
 use super::reaching::policies_within_reach;
 use super::{Authorizer, outcome_of};
-use crate::responses::{ErrorHandling, Outcome, Sheet};
+use crate::responses::{ConditionOutcome, ErrorHandling, Sheet};
 use cedar_evaluator::evaluator::Evaluator;
 use cedar_evaluator::request::Request;
 use cedar_layers::policies::{Entities, Policy, PolicySet};
@@ -30,7 +30,7 @@ pub(super) fn told_sheet(
     entities: &Entities,
 ) -> Result<Sheet, AllocError>
     ensures { IfOk result (IsToldBy (configuration authorizer.now) (asked authorizer.now request.now entities.now)
-        (deciding policies.now)) }
+        (considered policies.now)) }
 {
     let within = policies_within_reach(alloc, authorizer, request, policies, entities)?;
     let evaluator = Evaluator::new(
@@ -63,7 +63,7 @@ fn tell(
     requires { IfSome within (λ v. AreFalseBut (setting_of evaluator.now no_slots) (calls_in evaluator.now)
         (evaluations.limit_of evaluator.now) (stored_policies policies.now) (map (λ p. p.now) v.items)) }
     ensures { IfOk result (IsToldRun (mode_view mode) (setting_of evaluator.now no_slots) (calls_in evaluator.now)
-        (evaluations.limit_of evaluator.now) (deciding policies.now)) }
+        (evaluations.limit_of evaluator.now) (considered policies.now)) }
 {
     match within {
         Some(within) => tell_these(alloc, mode, evaluator, &within),
@@ -97,7 +97,7 @@ fn tell_all(
     policies: &PolicySet,
 ) -> Result<Sheet, AllocError>
     ensures { IfOk result (IsToldRun (mode_view mode) (setting_of evaluator.now no_slots) (calls_in evaluator.now)
-        (evaluations.limit_of evaluator.now) (deciding policies.now)) }
+        (evaluations.limit_of evaluator.now) (considered policies.now)) }
 {
     let mut sheet = Sheet::new(alloc);
     'policies: for policy in policies.policies() {
@@ -112,7 +112,7 @@ fn place_what_tells(
     sheet: &mut Sheet,
     mode: ErrorHandling,
     policy: &Policy,
-    outcome: Outcome,
+    outcome: ConditionOutcome,
 ) -> Result<(), AllocError>
     ensures { OnOk result (sheet_view sheet.new
         ≡ noting_what_tells (mode_view mode) (sheet_view sheet.old) (policy_view policy.now) outcome) }
@@ -127,12 +127,12 @@ fn place_what_tells(
 
 // Whether the condition is false.
 #[tactic(auto, unfolding(crate::specs::Telling::tells_nothing))]
-fn tells_nothing(outcome: &Outcome) -> bool
+fn tells_nothing(outcome: &ConditionOutcome) -> bool
     ensures { result ≡ tells_nothing (outcome_view outcome.now) }
 {
     match outcome {
-        Outcome::Decided(is_true) => !*is_true,
-        Outcome::Residual(_) => false,
-        Outcome::Failed(_) => false,
+        ConditionOutcome::Decided(is_true) => !*is_true,
+        ConditionOutcome::Residual(_) => false,
+        ConditionOutcome::Failed(_) => false,
     }
 }

@@ -4,7 +4,8 @@ ghost use Rattle.cedar_model.specs.Chains.{all_residuals};
 ghost use Rattle.cedar_layers.specs.Policies.{policy_view, decides_as};
 ghost use Rattle.cedar_authorizer.specs.responses.Rows.{rows_view};
 ghost use Rattle.cedar_authorizer.specs.reauthorization.Errors.{step_answer_by, IsUnwrapped};
-ghost use Rattle.cedar_authorizer.specs.reauthorization.Policies.{set_policies, all_once};
+ghost use Rattle.cedar_authorizer.specs.Responding.{considered};
+ghost use Rattle.cedar_authorizer.specs.reauthorization.Policies.{all_once};
 
 use crate::reauthorization::err::ReauthorizationError;
 use crate::responses::PartialResponse;
@@ -18,7 +19,7 @@ pub fn residual_policies(
     alloc: Global,
     response: &PartialResponse,
 ) -> Result<PolicySet, ReauthorizationError>
-    ensures set { IfSome (step_answer_by set_policies result)
+    ensures set { IfSome (step_answer_by considered result)
         (λ a. a ≡ all_once (all_residuals (rows_view response.now))) }
     ensures memory { IfErr result IsUnwrapped }
 {

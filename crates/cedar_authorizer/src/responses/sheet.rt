@@ -20,7 +20,7 @@ use std::rc::Rc;
 
 /// How the condition of a policy came out.
 #[derive(Drop)]
-pub enum Outcome {
+pub enum ConditionOutcome {
     /// It is this truth.
     Decided(bool),
     /// This residual is left of it.
@@ -71,7 +71,7 @@ impl Sheet {
         &mut self,
         mode: ErrorHandling,
         policy: &Policy,
-        outcome: Outcome,
+        outcome: ConditionOutcome,
     ) -> Result<(), AllocError>
         ensures { OnOk result (sheet_view self.new
             ≡ noting (mode_view mode) (sheet_view self.old) (policy_view policy.now) outcome) }
@@ -79,10 +79,15 @@ impl Sheet {
         let (outcome, id) = beside(outcome, policy.id().clone())?;
         let ((outcome, id), annotations) = beside((outcome, id), policy.annotations_rc().clone())?;
         match outcome {
-            Outcome::Decided(true) => self.note_true(policy.effect(), id, annotations),
-            Outcome::Decided(false) => self.note_false(policy.effect(), id, annotations),
-            Outcome::Residual(expr) => self.note_residual(policy.effect(), id, expr, annotations),
-            Outcome::Failed(error) => self.note_error(
+            ConditionOutcome::Decided(true) => self.note_true(policy.effect(), id, annotations),
+            ConditionOutcome::Decided(false) => self.note_false(policy.effect(), id, annotations),
+            ConditionOutcome::Residual(expr) => self.note_residual(
+                policy.effect(),
+                id,
+                expr,
+                annotations,
+            ),
+            ConditionOutcome::Failed(error) => self.note_error(
                 mode,
                 policy.effect(),
                 id,

@@ -4,12 +4,12 @@ use Rattle.cedar_decisions.specs.Decisions.{mode_view}
 use Rattle.cedar_layers.specs.Policies.{policy_view, decides_as}
 use Rattle.cedar_layers.specs.PolicySets.{policies_left, stored_policies}
 use Rattle.cedar_evaluator.specs.Evaluations.{setting_of, calls_in, limit_of}
-use Rattle.cedar_authorizer.specs.Responding.{deciding}
+use Rattle.cedar_authorizer.specs.Responding.{considered}
 use Rattle.cedar_authorizer.proofs.Noting.{IsNotedSoFar}
 use Rattle.cedar_authorizer.proofs.Placed.{ArePlacedSoFar}
 use Rattle.cedar_authorizer.proofs.authorizer.run_all.Given as goal
 
 abbrev pub invariant-policies : goal.invariant-policies
 invariant-policies g l =
-    IsNotedSoFar (mode_view l.fn.mode) (setting_of l.fn.evaluator no_slots) (calls_in l.fn.evaluator) (limit_of l.fn.evaluator) (deciding l.fn.policies) l.sheet (map decides_as (map policy_view (policies_left l.policy-iterator)))
+    IsNotedSoFar (mode_view l.fn.mode) (setting_of l.fn.evaluator no_slots) (calls_in l.fn.evaluator) (limit_of l.fn.evaluator) (considered l.fn.policies) l.sheet (map decides_as (map policy_view (policies_left l.policy-iterator)))
     × ArePlacedSoFar (stored_policies l.fn.policies) (policies_left l.policy-iterator) l.sheet

@@ -7,7 +7,7 @@ use Rattle.cedar_policy_core.specs.Entities.Stores.{store_view}
 use Rattle.cedar_policy_core.specs.Ast.Requests.{request_view}
 use Rattle.cedar_policy_core.specs.Ast.Substitutions.{values_for}
 use Rattle.cedar_policy_core.specs.Authorizer.Configured.{configuration, asked, extensions_of, limit_of, mode_of, resolution_of}
-use Rattle.cedar_policy_core.specs.Authorizer.Responding.{deciding}
+use Rattle.cedar_policy_core.specs.Authorizer.Responding.{considered}
 use Rattle.cedar_service.specs.Stages.{IsDecidedIn, IsDecidedFor}
 use Rattle.cedar_service.proofs.Decided.{a_step, decided_for_owner, each_decision}
 use Rattle.cedar_service.proofs.stages.decided_with.Goals as goal
@@ -28,7 +28,7 @@ returns c =
     let values = values_for c.args.values.now.entries in
     each_decision
     (IsDecidedIn (configuration authorizer) (asked authorizer c.in_ok-request.request c.new-none.result)
-    (deciding c.args.policies.now) (a_step (resolution_of authorizer) values store ∷ []))
+    (considered c.args.policies.now) (a_step (resolution_of authorizer) values store ∷ []))
     (IsDecidedFor policies values)
     (λ d. decided_for_owner (mode_of authorizer) (resolution_of authorizer) (extensions_view extensions) (calls_of extensions) agree faithful (limit_of authorizer) d
     request store policies values (uid_name c.args.action.now) (uid_name c.args.resource.now)

@@ -1,7 +1,7 @@
 use Rattle.cedar_extensions.specs.Extensions.{calls_of}
 use Rattle.cedar_extensions.specs.StoredLaws.{calls_meet_no_limit}
 use Rattle.cedar_authorizer.specs.Configured.{extensions_of, limit_of, mode_of, asked}
-use Rattle.cedar_authorizer.specs.Responding.{deciding}
+use Rattle.cedar_authorizer.specs.Responding.{considered}
 use Rattle.cedar_layers.specs.PolicySets.{stored_policies}
 use Rattle.cedar_authorizer.proofs.Noting.{if_in_mode, is_run, residual_permits_are, residual_forbids_are}
 use Rattle.cedar_authorizer.proofs.Placed.{residuals_stand}
@@ -15,7 +15,7 @@ returns-clause-run g c =
     let calls = calls_of (extensions_of c.args.self.now) in
     let levels = limit_of c.args.self.now in
     let s = asked c.args.self.now c.args.request c.args.entities.now in
-    let ps = deciding c.args.policies.now in
+    let ps = considered c.args.policies.now in
     if_in_mode mode c.response_of.result _ (λ r m k. (is_run mode s calls levels c.args.policies.now c.in_ok-sheet.sheet r c.in_ok-sheet.ensures.run m k)) c.response_of.ensures.mode c.response_of.ensures.kept
 
 pub returns-clause-stands : goal.returns-clause-stands
@@ -24,7 +24,7 @@ returns-clause-stands g c =
     let calls = calls_of (extensions_of c.args.self.now) in
     let levels = limit_of c.args.self.now in
     let s = asked c.args.self.now c.args.request c.args.entities.now in
-    let ps = deciding c.args.policies.now in
+    let ps = considered c.args.policies.now in
     if_in_mode mode c.response_of.result _ (λ r m k. run_stands mode s calls levels ps r (is_run mode s calls levels c.args.policies.now c.in_ok-sheet.sheet r c.in_ok-sheet.ensures.run m k)) c.response_of.ensures.mode c.response_of.ensures.kept
 
 pub returns-clause-known : goal.returns-clause-known
@@ -33,7 +33,7 @@ returns-clause-known g c =
     let calls = calls_of (extensions_of c.args.self.now) in
     let levels = limit_of c.args.self.now in
     let s = asked c.args.self.now c.args.request c.args.entities.now in
-    let ps = deciding c.args.policies.now in
+    let ps = considered c.args.policies.now in
     if_in_mode mode c.response_of.result _ (λ r m k. known_partly mode s calls levels ps r (is_run mode s calls levels c.args.policies.now c.in_ok-sheet.sheet r c.in_ok-sheet.ensures.run m k)) c.response_of.ensures.mode c.response_of.ensures.kept
 
 pub returns-clause-limit : goal.returns-clause-limit
@@ -42,7 +42,7 @@ returns-clause-limit g c =
     let calls = calls_of (extensions_of c.args.self.now) in
     let levels = limit_of c.args.self.now in
     let s = asked c.args.self.now c.args.request c.args.entities.now in
-    let ps = deciding c.args.policies.now in
+    let ps = considered c.args.policies.now in
     if_in_mode mode c.response_of.result _ (λ r m k. known_meets_no_limit mode s calls levels ps r (is_run mode s calls levels c.args.policies.now c.in_ok-sheet.sheet r c.in_ok-sheet.ensures.run m k)) c.response_of.ensures.mode c.response_of.ensures.kept
 
 pub returns-clause-deep_enough : goal.returns-clause-deep_enough
@@ -51,7 +51,7 @@ returns-clause-deep_enough g c =
     let calls = calls_of (extensions_of c.args.self.now) in
     let levels = limit_of c.args.self.now in
     let s = asked c.args.self.now c.args.request c.args.entities.now in
-    let ps = deciding c.args.policies.now in
+    let ps = considered c.args.policies.now in
     if_in_mode mode c.response_of.result _ (λ r m k. run_low mode s calls levels ps r (calls_meet_no_limit (extensions_of c.args.self.now)) (asked_sound c.args.self.now c.args.request c.args.entities.now) (is_run mode s calls levels c.args.policies.now c.in_ok-sheet.sheet r c.in_ok-sheet.ensures.run m k)) c.response_of.ensures.mode c.response_of.ensures.kept
 
 pub returns-clause-places : goal.returns-clause-places

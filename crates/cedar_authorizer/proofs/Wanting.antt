@@ -1,13 +1,8 @@
--- Whether a failure is want of memory.
+-- A failure that is no want of memory by its kind is not the failure of that name.
 use Rattle.std.specs.Prelude.{◌≡◌, ◌≢◌, Bool, true, false}
 use Rattle.std.proofs.Common.{ap}
-use Rattle.cedar_model.specs.Failures.{Failure, out_of_memory, FailureKind, of_meaning, of_residual, of_limit, of_memory, failure_kind}
-
-unfoldable pub is_of_memory : FailureKind → Bool
-is_of_memory (of_meaning k) = false
-is_of_memory of_residual = false
-is_of_memory of_limit = false
-is_of_memory of_memory = true
+use Rattle.cedar_model.specs.Failures.{Failure, out_of_memory, failure_kind}
+use Rattle.cedar_errors.specs.Finals.{is_of_memory}
 
 not_both : (b : Bool) → b ≡ true → b ≡ false → ⊥
 not_both b p q = cc
