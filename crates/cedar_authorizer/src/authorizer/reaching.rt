@@ -17,6 +17,9 @@ use std::alloc::{AllocError, Global};
 // A scope's comparisons are so many levels below the condition.
 const SCOPE_LEVELS: usize = 5;
 
+// An entity that is in more than so many is looked at further only where the index of the set is of use.
+const FEW_ANCESTORS: usize = 16;
+
 // The policies that can be true or err. None where that is not known without a look at all of them.
 pub(super) fn policies_within_reach<'p>(
     alloc: Global,
@@ -31,46 +34,48 @@ pub(super) fn policies_within_reach<'p>(
     if authorizer.limit < SCOPE_LEVELS {
         return Ok(None);
     }
-    match asked_uids(alloc, request, entities)? {
+    match asked_uids(alloc, request, policies, entities)? {
         Some(uids) => policies.within_reach(alloc, &uids),
         None => Ok(None),
     }
 }
 
-// Principal, action and resource, and all that they are in. None where that is not known.
+// Principal, action and resource, and all that they are in. None where that is not known, or need not be.
 fn asked_uids<'a>(
     alloc: Global,
     request: &'a Request,
+    policies: &PolicySet,
     entities: &'a Entities,
 ) -> Result<Option<Vec<&'a EntityUID>>, AllocError>
     ensures { IfOk result (λ o. IfSome o (λ v. AreCovered (request_view request.now) (store_view entities.now)
         (map (λ u. uid_name u.now) v.items))) }
 {
     let mut uids: Vec<&EntityUID> = Vec::new(alloc);
-    if !add_entry(alloc, &mut uids, request.principal(), entities)? {
+    if !add_entry(alloc, &mut uids, request.principal(), policies, entities)? {
         return Ok(None);
     }
-    if !add_entry(alloc, &mut uids, request.action(), entities)? {
+    if !add_entry(alloc, &mut uids, request.action(), policies, entities)? {
         return Ok(None);
     }
-    if !add_entry(alloc, &mut uids, request.resource(), entities)? {
+    if !add_entry(alloc, &mut uids, request.resource(), policies, entities)? {
         return Ok(None);
     }
     Ok(Some(uids))
 }
 
-// Adds the entity of the entry and all that it is in, and tells whether that is known.
+// Adds the entity of the entry and all that it is in, and tells whether that is known and of use.
 fn add_entry<'a>(
     alloc: Global,
     uids: &mut Vec<&'a EntityUID>,
     entry: &'a EntityUIDEntry,
+    policies: &PolicySet,
     entities: &'a Entities,
 ) -> Result<bool, AllocError>
     ensures { IfOk result (λ b. Covers (entry_view entry.now) (store_view entities.now)
         (map (λ u. uid_name u.now) uids.old.items) (map (λ u. uid_name u.now) uids.new.items) b) }
 {
     match entry.uid() {
-        Some(uid) => add_entity(alloc, uids, uid, entities),
+        Some(uid) => add_entity(alloc, uids, uid, policies, entities),
         None => Ok(false),
     }
 }
@@ -80,6 +85,7 @@ fn add_entity<'a>(
     alloc: Global,
     uids: &mut Vec<&'a EntityUID>,
     uid: &'a EntityUID,
+    policies: &PolicySet,
     entities: &'a Entities,
 ) -> Result<bool, AllocError>
     ensures { IfOk result (λ b. IsCoveredBy (uid_name uid.now) (store_view entities.now)
@@ -87,6 +93,9 @@ fn add_entity<'a>(
 {
     match entities.entity(alloc, uid)? {
         Dereference::Data(entity) => {
+            if is_in_vain(alloc, policies, entity)? {
+                return Ok(false);
+            }
             uids.push(uid)?;
             add_ancestors(uids, entity)?;
             Ok(true)
@@ -100,6 +109,16 @@ fn add_entity<'a>(
             Ok(false)
         }
     }
+}
+
+// Whether the entity is in many others, and the index of the set leaves out too few policies to be asked for them.
+fn is_in_vain(alloc: Global, policies: &PolicySet, entity: &Entity) -> Result<bool, AllocError> {
+    if entity.ancestors().len() <= FEW_ANCESTORS {
+        return Ok(false);
+    }
+    let none: Vec<&EntityUID> = Vec::new(alloc);
+    let rest = policies.within_reach(alloc, &none)?;
+    Ok(rest.is_none())
 }
 
 // Adds all that the entity is in.
