@@ -1,21 +1,22 @@
 #![tactic(auto, using(crate::proofs::Building::building))]
 //! Operators, on expressions in the making.
-ghost use Rattle.std.specs.Prelude.{◌≡◌, IfOk, option_map};
-ghost use Rattle.cedar_model.specs.Terms.{both, either, unary, binary, get_attribute, has_attribute, like, is_of_type};
-ghost use Rattle.cedar_model.specs.Terms.{if_then_else};
+ghost use Rattle.std.specs.Prelude.{◌≡◌, ◌++◌, ◌∷◌, [], map, IfOk, OnOk, option_map};
+ghost use Rattle.std.specs.Rc.{rc_str_bytes};
+ghost use Rattle.cedar_model.specs.Terms.{both, either, unary, binary, get_attribute, has_attribute, extended_has};
+ghost use Rattle.cedar_model.specs.Terms.{is_of_type, if_then_else};
 ghost use Rattle.cedar_model.specs.Terms.{not_operator, neg_operator, is_empty_operator};
 ghost use Rattle.cedar_model.specs.Terms.{eq_operator, less_operator, less_eq_operator};
 ghost use Rattle.cedar_model.specs.Terms.{add_operator, sub_operator, mul_operator, in_operator};
 ghost use Rattle.cedar_model.specs.Terms.{contains_operator, contains_all_operator, contains_any_operator};
 ghost use Rattle.cedar_model.specs.Terms.{get_tag_operator, has_tag_operator};
-ghost use Rattle.cedar_names.specs.Leaves.{unary_view, binary_view};
+ghost use Rattle.cedar_names.specs.Leaves.{unary_view, binary_view, texts_view};
 ghost use Rattle.cedar_expressions.specs.View.{view};
 ghost use Rattle.cedar_builder.specs.Building.{term_of, term_in, of_two, of_three, is_of_type_in, Builds, Makes};
 
 use super::ExprBuilder;
 use crate::parts::together;
 use cedar_expressions::Expr;
-use cedar_names::{BinaryOp, EntityType, Name, UnaryOp};
+use cedar_names::{BinaryOp, EntityType, FirstRest, Name, UnaryOp};
 use std::alloc::{AllocError, Global};
 use std::rc::RcStr;
 
@@ -193,6 +194,19 @@ impl ExprBuilder {
         }
     }
 
+    /// `self has attr.next..`, of a record or an entity: that each attribute is there, one behind the other, `attr` first and
+    /// then `more` in order. The names are taken as they stand. With none in `more` it is the extended `has` of one
+    /// attribute, which no text is read as: `has_attr` is what `self has attr` says.
+    pub fn extended_has_attr(self, attr: &str, more: &[&str]) -> ExprBuilder
+        ensures { Builds result (option_map (λ t. extended_has t attr.now (map (λ a. a.now) more.now)) (term_of self)) }
+    {
+        let ExprBuilder { alloc, built } = self;
+        ExprBuilder {
+            alloc,
+            built: extended_has_attribute_of(alloc, built, attr, more),
+        }
+    }
+
     /// `self is ty`, of an entity. The name of the type is taken as it stands.
     pub fn is_entity_type(self, ty: &str) -> ExprBuilder
         ensures { Builds result (option_map (λ t. is_of_type t ty.now) (term_of self)) }
@@ -334,6 +348,48 @@ fn has_attribute_of(
     let (part, attr) = together(part, RcStr::from_str(alloc, attr))?;
     let made = Expr::has_attr(alloc, part, attr)?;
     Ok(made)
+}
+
+fn extended_has_attribute_of(
+    alloc: Global,
+    part: Result<Expr, AllocError>,
+    attr: &str,
+    more: &[&str],
+) -> Result<Expr, AllocError>
+    ensures { Makes result (option_map (λ t. extended_has t attr.now (map (λ a. a.now) more.now)) (term_in part)) }
+{
+    let (part, attrs) = together(part, path_of(alloc, attr, more))?;
+    let made = Expr::extended_has_attr(alloc, part, attrs)?;
+    Ok(made)
+}
+
+// These attributes, one behind the other.
+fn path_of(alloc: Global, attr: &str, more: &[&str]) -> Result<FirstRest<RcStr>, AllocError>
+    ensures first { IfOk result (λ p. rc_str_bytes p.first ≡ attr.now) }
+    ensures rest { IfOk result (λ p. texts_view p.rest.items ≡ map (λ a. a.now) more.now) }
+{
+    let (first, rest) = together(RcStr::from_str(alloc, attr), texts_of(alloc, more))?;
+    Ok(FirstRest { first, rest })
+}
+
+fn texts_of(alloc: Global, texts: &[&str]) -> Result<Vec<RcStr>, AllocError>
+    ensures { IfOk result (λ v. texts_view v.items ≡ map (λ t. t.now) texts.now) }
+{
+    let mut made: Vec<RcStr> = Vec::new(alloc);
+    'texts: for i in 0..texts.len() {
+        put_text(alloc, &mut made, texts[i])?;
+    }
+    Ok(made)
+}
+
+fn put_text(alloc: Global, made: &mut Vec<RcStr>, text: &str) -> Result<(), AllocError>
+    ensures { OnOk result (texts_view made.new.items ≡ texts_view made.old.items ++ text.now ∷ []) }
+{
+    let text = RcStr::from_str(alloc, text)?;
+    match made.push(text) {
+        Ok(()) => Ok(()),
+        Err(_) => Err(AllocError),
+    }
 }
 
 fn of_type(alloc: Global, part: Result<Expr, AllocError>, ty: &str) -> Result<Expr, AllocError>
