@@ -13,6 +13,7 @@ mod asked;
 mod decisions;
 mod documents;
 mod evaluations;
+mod faults;
 mod left;
 mod partial;
 mod places;

@@ -1,6 +1,9 @@
 //! Why a question is not answered.
 use crate::asked::Source;
+use crate::faults::{repeated_key, syntax_fault};
+use crate::places::place_of;
 use cedar_json::JsonError;
+use cedar_layers::expressions::Loc;
 use cedar_tokens::errors::ReadError;
 use cedar_tokens::show::shown;
 use std::alloc::{AllocError, AllocFailed, Global};
@@ -63,16 +66,21 @@ fn lines_of(alloc: Global, source: Source<'_>, error: ReadError) -> Result<Strin
     Ok(format!(in alloc; "{name}: {shown}\n")?)
 }
 
-/// The refusal of what can't be read as Cedar's JSON: `NAME: $.path: why`.
+/// The refusal of what can't be read as Cedar's JSON: `NAME: $.path: why`, or `NAME: line L, column C: why` of a text that is no
+/// JSON, or that has a key twice.
 #[cold]
 pub(crate) fn unread_json(alloc: Global, source: Source<'_>, error: JsonError) -> Refusal {
     let name = source.name;
     match error {
         JsonError::Memory(_) => Refusal::Memory,
-        JsonError::Syntax => told(format!(in alloc; "{name}: not JSON\n")),
-        JsonError::DuplicateKey => told(format!(in alloc;
-            "{name}: a key comes twice in an object\n"
-        )),
+        JsonError::Syntax => {
+            let start = syntax_fault(alloc, source.text);
+            faulty(alloc, source, start, "not JSON")
+        }
+        JsonError::DuplicateKey => {
+            let start = repeated_key(alloc, source.text);
+            faulty(alloc, source, start, "a key comes twice in an object")
+        }
         JsonError::Refused { path, reason } => told(format!(in alloc;
             "{name}: {path}: {reason}\n"
         )),
@@ -80,4 +88,28 @@ pub(crate) fn unread_json(alloc: Global, source: Source<'_>, error: JsonError) -
             "{name}: {path}: {error}\n"
         )),
     }
+}
+
+// The refusal of a text that is at fault from this byte on.
+fn faulty(
+    alloc: Global,
+    source: Source<'_>,
+    start: Result<usize, AllocError>,
+    why: &str,
+) -> Refusal {
+    match start {
+        Ok(start) => told(faulty_line(alloc, source, start, why)),
+        Err(AllocError) => Refusal::Memory,
+    }
+}
+
+fn faulty_line(
+    alloc: Global,
+    source: Source<'_>,
+    start: usize,
+    why: &str,
+) -> Result<String, AllocError> {
+    let name = source.name;
+    let (line, column) = place_of(source, Loc { start, end: start });
+    format!(in alloc; "{name}: line {line}, column {column}: {why}\n")
 }

@@ -5,12 +5,13 @@ use crate::samples::sample;
 use cedar_builder::PolicyBuilder;
 use cedar_layers::policies::{Policy, PolicyID};
 use cedar_policy_text::parse_policy;
+use cedar_tokens::errors::ReadError;
 use cedar_writing::policy_to_cedar;
 use std::rc::RcStr;
 
 /// Writes the text of the policy of this name, and whether it is read as another policy than the one that was made.
 pub fn ask_built(answer: &mut Answer, name: &str) {
-    match sample(answer.alloc, name) {
+    match sample(answer, name) {
         Some(said) => put_built(answer, said),
         None => answer.refuse("no policy of this name"),
     }
@@ -60,7 +61,16 @@ fn put_if_read_as_other(answer: &mut Answer, policy: &Policy, id: PolicyID, text
             }
             drop(read);
         }
-        Err(_) => answer.put(", not read"),
+        Err(error) => put_unread(answer, error),
+    }
+}
+
+// Want of memory is no answer.
+fn put_unread(answer: &mut Answer, error: ReadError) {
+    match error {
+        ReadError::Memory => answer.lack_memory(),
+        ReadError::Expected { .. } => answer.put(", not read"),
+        ReadError::TooDeep { .. } => answer.put(", not read"),
     }
 }
 

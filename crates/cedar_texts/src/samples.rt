@@ -1,4 +1,5 @@
 //! Policies that are made in code, under the names that rows ask for.
+use crate::answer::Answer;
 use cedar_builder::{
     ExprBuilder, PolicyBuilder, action, boolean, call, context, entity, expr, field, forbid,
     if_then_else, long, permit, principal, record, resource, set, slot, text, uid, unknown,
@@ -8,8 +9,9 @@ use cedar_expressions::Expr;
 use cedar_names::{EntityUID, Literal, SlotId, Type};
 use std::alloc::{AllocError, Global};
 
-/// The policy of this name.
-pub fn sample(alloc: Global, name: &str) -> Option<PolicyBuilder> {
+/// The policy of this name. What memory was wanting for beside the policy is noted in the answer.
+pub fn sample(answer: &mut Answer, name: &str) -> Option<PolicyBuilder> {
+    let alloc = answer.alloc;
     match name {
         "permit" => Some(permit(alloc, "policy")),
         "forbid" => Some(forbid(alloc, "policy")),
@@ -20,26 +22,28 @@ pub fn sample(alloc: Global, name: &str) -> Option<PolicyBuilder> {
         "said again" => Some(said_again(alloc)),
         "one clause" => Some(forbid(alloc, "policy").unless(boolean(alloc, true))),
         "clauses" => Some(clauses(alloc)),
-        _ => of_expression(alloc, name),
+        _ => of_expression(answer, name),
     }
 }
 
 // The same, where the policy says one expression.
-fn of_expression(alloc: Global, name: &str) -> Option<PolicyBuilder> {
-    match expression(alloc, name) {
-        Some(said) => Some(permit(alloc, "policy").when(said)),
+fn of_expression(answer: &mut Answer, name: &str) -> Option<PolicyBuilder> {
+    match expression(answer, name) {
+        Some(said) => Some(permit(answer.alloc, "policy").when(said)),
         None => None,
     }
 }
 
-fn expression(alloc: Global, name: &str) -> Option<ExprBuilder> {
+fn expression(answer: &mut Answer, name: &str) -> Option<ExprBuilder> {
+    let alloc = answer.alloc;
     match name {
-        "literals" => Some(literals(alloc)),
+        "literals" => Some(literals(answer)),
         "comparisons" => Some(comparisons(alloc)),
         "numbers" => Some(numbers(alloc)),
         "sets" => Some(sets(alloc)),
         "entities" => Some(entities(alloc)),
         "attributes" => Some(attributes(alloc)),
+        "extended has" => Some(extended_has(alloc)),
         "like" => Some(like(alloc)),
         "conditional" => Some(conditional(alloc)),
         "unknowns" => Some(unknowns(alloc)),
@@ -94,8 +98,9 @@ fn clauses(alloc: Global) -> PolicyBuilder {
         .when(context(alloc).attr("c").or(context(alloc).attr("d")))
 }
 
-fn literals(alloc: Global) -> ExprBuilder {
-    let named = uid_literal(alloc, EntityUID::of(alloc, "User", "bob"));
+fn literals(answer: &mut Answer) -> ExprBuilder {
+    let alloc = answer.alloc;
+    let named = uid_literal(answer, EntityUID::of(alloc, "User", "bob"));
     let all = [
         boolean(alloc, false),
         long(alloc, -5),
@@ -109,10 +114,13 @@ fn seven(alloc: Global) -> ExprBuilder {
     expr(alloc, Expr::val(Literal::Long(7)))
 }
 
-fn uid_literal(alloc: Global, named: Result<EntityUID, AllocError>) -> ExprBuilder {
+fn uid_literal(answer: &mut Answer, named: Result<EntityUID, AllocError>) -> ExprBuilder {
     match named {
-        Ok(named) => uid(alloc, named),
-        Err(_) => text(alloc, "out of memory"),
+        Ok(named) => uid(answer.alloc, named),
+        Err(_) => {
+            answer.lack_memory();
+            boolean(answer.alloc, false)
+        }
     }
 }
 
@@ -200,6 +208,11 @@ fn fields(alloc: Global) -> ExprBuilder {
         field("b", long(alloc, 2)),
     ];
     record(alloc, fields)
+}
+
+fn extended_has(alloc: Global) -> ExprBuilder {
+    let deep = principal(alloc).extended_has_attr("a", &["b", "c"]);
+    deep.and(context(alloc).attr("d").extended_has_attr("e", &["f"]))
 }
 
 fn like(alloc: Global) -> ExprBuilder {
