@@ -38,7 +38,6 @@ use Rattle.cedar_policy_core.specs.Authorizer.Headline.{IsHeadline}
 use Rattle.cedar_policy_core.specs.Authorizer.Running.{errors_of}
 use Rattle.cedar_service.specs.Stages.{owner_may, from_someone, one_value, values_of, IsDecidedIn, IsDecidedFor}
 use Rattle.cedar_service.specs.declared.stop.Stop.{Stop}
-use Rattle.cedar_model.proofs.Injections.{none_is_not_some}
 
 -- ---- what is given: no function, no entity, and a world in which this user asks
 
@@ -60,6 +59,9 @@ user_asks user action resource = record {
   sigma = λ n. plain (entity_literal user);
 }
 
+none_is : {A : Type 0} (x : A) → None ≡ Some x → ⊥
+none_is x e = cc
+
 -- a map with one value has no other
 is_value : (b : Bool) (u v : Represented) → cond b (Some u) None ≡ Some v → u ≡ v
 is_value true u v e = cc
@@ -80,8 +82,8 @@ completes_store : (X : Extensions) (user action resource : EntityName)
 unfolding found_in
 completes_store X user action resource = record {
   store_agrees = λ e. refl;
-  stored_values_are_faithful = λ e x k p g. absurd (none_is_not_some g);
-  stored_residuals_fit = λ e x k p g. absurd (none_is_not_some g);
+  stored_values_are_faithful = λ e x k p g. absurd (none_is x g);
+  stored_residuals_fit = λ e x k p g. absurd (none_is x g);
 }
 
 -- the premises of the headline are met
