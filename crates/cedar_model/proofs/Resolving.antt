@@ -215,11 +215,6 @@ module _ (G : Rules.MayAnswer) where
 
 module _ (G H : Rules.MayAnswer) (store : Store) (more : (t : Term) → IsStored store t → (x : Answer) → G t x
     → H t x) where
-  pub resolves_map : (r : Resolution) (o : Option Term) (x a : Answer) → ((t : Term) → o ≡ Some t
-      → IsStored store t) → Rules.Resolves G r o x a → Rules.Resolves H r o x a
-  resolves_map shallow o x a i h = h
-  resolves_map deep None x a i h = h
-  resolves_map deep (Some t) x a i h = more t (i t refl) a h
 
   step_map : (z : Operators.Step) (Next Next' : Represented → Answer → Type 0) (a : Answer) → ((v : Represented)
       → Next v a → Next' v a) → Rules.AfterStep G z Next a → Rules.AfterStep H z Next' a
@@ -249,10 +244,3 @@ module _ (G H : Rules.MayAnswer) (store : Store) (more : (t : Term) → IsStored
       (Operators.step_in store (Operators.container_of v) (Operators.container_expected v) k l ls) l ls
       (λ u. Rules.Walks G store u l ls) (λ u. Rules.Walks H store u l ls) a
       (λ t e. attribute_is_stored store v k t e) (λ u j. walks_map ls u l a j) h
-
-  pub path_map : (r : Resolution) (x : Answer) (k : Text) (ks : List Text) (a : Answer)
-      → Rules.AtPath G r store x k ks a → Rules.AtPath H r store x k ks a
-  path_map shallow x k ks a h = h
-  path_map deep (fails e) k ks a h = h
-  path_map deep (answers (value v)) k ks a h = walks_map ks v k a h
-  path_map deep (answers (residual r)) k ks a h = h
