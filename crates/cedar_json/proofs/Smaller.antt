@@ -19,7 +19,3 @@ members_size ms = length (members_tokens ms)
 abbrev value_or : Json → Option Member → Json
 value_or x None = x
 value_or x (Some m) = m.1
-
-abbrev argument_or : Json → Option Parts → Json
-argument_or x None = x
-argument_or x (Some p) = p.argument
