@@ -33,9 +33,6 @@ pub and_false : (b : Bool) → (b && false) ≡ false
 and_false true = refl
 and_false false = refl
 
-pub truth_isn't : (b : Bool) → b ≡ false → b ≡ true → ⊥
-truth_isn't b e f = let g = sym e ∙ f in cc
-
 or_assoc : (a b c : Bool) → ((a || b) || c) ≡ (a || (b || c))
 or_assoc true b c = refl
 or_assoc false b c = refl
