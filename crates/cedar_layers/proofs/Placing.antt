@@ -17,7 +17,7 @@ use Rattle.cedar_layers.specs.declared.policies.policy.Policy.{Policy}
 use Rattle.cedar_layers.specs.declared.policies.scope_index.ScopeIndex.{ScopeIndex}
 use Rattle.cedar_layers.specs.Policies.{PolicyView, policy_view}
 use Rattle.cedar_layers.specs.Scopes.{compares, is_entity_variable, literal_entity, compared_entity, is_truth, principal_bound, action_bound, resource_bound, IsBoundTo, IsBoundElsewhere, Groups, items_or_none, standing_under, standing_at, has_position, is_placed, ArePlaced, Places, Extends, ReachesAll}
-use Rattle.cedar_model.proofs.Injections.{some_inj, none_is_not_some}
+use Rattle.cedar_model.proofs.Injections.{some_inj, none_is_not_some, true_is_not_false}
 use Rattle.cedar_layers.proofs.Stores.{entity_eq-true}
 
 -- ---- entries
@@ -177,9 +177,6 @@ get_value (e ∷ es) zero k v h =
 get_value (e ∷ es) (suc i) k v h = get_value es i k v h
 
 -- ---- what entities reach
-
-true_is_not_false : {b : Bool} → b ≡ true → b ≡ false → ⊥
-true_is_not_false h g = cc
 
 -- the rest is among the positions, and so is what stands under the entities before those that are left
 pub record AreReachedSoFar (index : ScopeIndex) (es left : List EntityName) (ns : List ℕ) : Type 0 where
