@@ -5,7 +5,10 @@ use Rattle.cedar_model.specs.Terms.{Text, Literal, Variable, Slot, ValueType, Un
 use Rattle.cedar_model.specs.Keys.{Key, end_key, number_key, key_cmp, text_key, literal_key}
 use Rattle.cedar_model.specs.lemmas.Keys.{key_cmp-self}
 use Rattle.cedar_model.specs.lemmas.Codes.{node_key, term_key, terms_key, fields_key, annotation_key, texts_key, pattern_key, variable_number, slot_number, unary_number, binary_number}
-use Rattle.cedar_names.specs.Equality.{key_eq, text_eq, texts_eq, literal_eq, annotation_eq, variable_eq, slot_eq, unary_eq, binary_eq, pattern_eq, term_eq, terms_eq, fields_eq}
+use Rattle.cedar_model.specs.Outcomes.{text_eq}
+use Rattle.cedar_names.specs.Equality.{key_eq, texts_eq, literal_eq, annotation_eq, variable_eq, slot_eq, unary_eq}
+use Rattle.cedar_names.specs.Equality.{binary_eq, pattern_eq, term_eq, terms_eq, fields_eq}
+use Rattle.cedar_names.specs.EqualityLaws.{text_eq-key}
 use Rattle.cedar_names.proofs.Equality.{then_eq, and_true}
 
 and_swap : (a b : Bool) → (a && b) ≡ (b && a)
@@ -39,8 +42,10 @@ unfolding term_eq slot_eq
 term_eq-slot a b = one_eq 2 (number_key (pos (slot_number a))) (number_key (pos (slot_number b)))
 
 pub term_eq-unknown : (m n : Text) (s t : Option ValueType) → term_eq (unknown m s) (unknown n t) ≡ (text_eq m n && annotation_eq s t)
-unfolding term_eq text_eq annotation_eq
-term_eq-unknown m n s t = two_eq 3 (text_key m) (annotation_key s) (text_key n) (annotation_key t)
+unfolding term_eq annotation_eq
+term_eq-unknown m n s t =
+    two_eq 3 (text_key m) (annotation_key s) (text_key n) (annotation_key t)
+    ∙ ap (λ x. x && annotation_eq s t) (text_eq-key m n)
 
 pub term_eq-if : (a b c d e f : Term) → term_eq (if_then_else a b c) (if_then_else d e f) ≡ (term_eq a d && (term_eq b e && term_eq c f))
 unfolding term_eq
@@ -74,23 +79,32 @@ term_eq-binary o p a b c d =
     rotated false y false = refl
 
 pub term_eq-call : (f g : Text) (ts us : Terms) → term_eq (call f ts) (call g us) ≡ (text_eq f g && terms_eq ts us)
-unfolding term_eq text_eq terms_eq
-term_eq-call f g ts us = two_eq 9 (text_key f) (terms_key ts) (text_key g) (terms_key us)
+unfolding term_eq terms_eq
+term_eq-call f g ts us =
+    two_eq 9 (text_key f) (terms_key ts) (text_key g) (terms_key us)
+    ∙ ap (λ x. x && terms_eq ts us) (text_eq-key f g)
 
 pub term_eq-get_attribute : (a b : Term) (k l : Text) → term_eq (get_attribute a k) (get_attribute b l) ≡ (text_eq k l && term_eq a b)
-unfolding term_eq text_eq
+unfolding term_eq
 term_eq-get_attribute a b k l =
-    two_eq 10 (term_key a) (text_key k) (term_key b) (text_key l) ∙ and_swap (key_eq (term_key a) (term_key b)) (key_eq (text_key k) (text_key l))
+    two_eq 10 (term_key a) (text_key k) (term_key b) (text_key l)
+    ∙ and_swap (key_eq (term_key a) (term_key b)) (key_eq (text_key k) (text_key l))
+    ∙ ap (λ x. x && term_eq a b) (text_eq-key k l)
 
 pub term_eq-has_attribute : (a b : Term) (k l : Text) → term_eq (has_attribute a k) (has_attribute b l) ≡ (text_eq k l && term_eq a b)
-unfolding term_eq text_eq
+unfolding term_eq
 term_eq-has_attribute a b k l =
-    two_eq 11 (term_key a) (text_key k) (term_key b) (text_key l) ∙ and_swap (key_eq (term_key a) (term_key b)) (key_eq (text_key k) (text_key l))
+    two_eq 11 (term_key a) (text_key k) (term_key b) (text_key l)
+    ∙ and_swap (key_eq (term_key a) (term_key b)) (key_eq (text_key k) (text_key l))
+    ∙ ap (λ x. x && term_eq a b) (text_eq-key k l)
 
 pub term_eq-extended_has : (a b : Term) (k l : Text) (ks ls : List Text) → term_eq (extended_has a k ks) (extended_has b l ls) ≡ ((text_eq k l && texts_eq ks ls) && term_eq a b)
-unfolding term_eq text_eq texts_eq
+unfolding term_eq texts_eq
 term_eq-extended_has a b k l ks ls =
-    node_eq 12 (term_key a) (text_key k) (texts_key ks) (term_key b) (text_key l) (texts_key ls) ∙ and_swap (key_eq (term_key a) (term_key b)) (key_eq (text_key k) (text_key l) && key_eq (texts_key ks) (texts_key ls))
+    node_eq 12 (term_key a) (text_key k) (texts_key ks) (term_key b) (text_key l) (texts_key ls)
+    ∙ and_swap (key_eq (term_key a) (term_key b))
+    (key_eq (text_key k) (text_key l) && key_eq (texts_key ks) (texts_key ls))
+    ∙ ap (λ x. (x && texts_eq ks ls) && term_eq a b) (text_eq-key k l)
 
 pub term_eq-like : (a b : Term) (p q : List PatternPart) → term_eq (like a p) (like b q) ≡ (pattern_eq p q && term_eq a b)
 unfolding term_eq pattern_eq
@@ -98,9 +112,11 @@ term_eq-like a b p q =
     two_eq 13 (term_key a) (pattern_key p) (term_key b) (pattern_key q) ∙ and_swap (key_eq (term_key a) (term_key b)) (key_eq (pattern_key p) (pattern_key q))
 
 pub term_eq-is_of_type : (a b : Term) (s t : Text) → term_eq (is_of_type a s) (is_of_type b t) ≡ (text_eq s t && term_eq a b)
-unfolding term_eq text_eq
+unfolding term_eq
 term_eq-is_of_type a b s t =
-    two_eq 14 (term_key a) (text_key s) (term_key b) (text_key t) ∙ and_swap (key_eq (term_key a) (term_key b)) (key_eq (text_key s) (text_key t))
+    two_eq 14 (term_key a) (text_key s) (term_key b) (text_key t)
+    ∙ and_swap (key_eq (term_key a) (term_key b)) (key_eq (text_key s) (text_key t))
+    ∙ ap (λ x. x && term_eq a b) (text_eq-key s t)
 
 pub term_eq-set_of : (ts us : Terms) → term_eq (set_of ts) (set_of us) ≡ terms_eq ts us
 unfolding term_eq terms_eq
@@ -139,8 +155,11 @@ unfolding fields_eq
 fields_eq-less k t fs = refl
 
 pub fields_eq-one : (k l : Text) (a b : Term) (fs gs : Fields) → fields_eq (one_field k a fs) (one_field l b gs) ≡ (text_eq k l && (term_eq a b && fields_eq fs gs))
-unfolding text_eq term_eq fields_eq
+unfolding term_eq fields_eq
 fields_eq-one k l a b fs gs =
-    then_eq (key_cmp (text_key k) (text_key l)) (ordering_then (key_cmp (term_key a) (term_key b)) (key_cmp (fields_key fs) (fields_key gs))) ∙ ap (λ x. key_eq (text_key k) (text_key l) && x) (then_eq (key_cmp (term_key a) (term_key b)) (key_cmp (fields_key fs) (fields_key gs)))
+    let parts = key_cmp (term_key a) (term_key b) in
+    let rest = key_cmp (fields_key fs) (fields_key gs) in
+    then_eq (key_cmp (text_key k) (text_key l)) (ordering_then parts rest)
+    ∙ (λ i. text_eq-key k l i && then_eq parts rest i)
 
 pub ruleset levels = (term_eq-literal, term_eq-variable, term_eq-slot, term_eq-unknown, term_eq-if, term_eq-both, term_eq-either, term_eq-unary, term_eq-binary, term_eq-call, term_eq-get_attribute, term_eq-has_attribute, term_eq-extended_has, term_eq-like, term_eq-is_of_type, term_eq-set_of, term_eq-record_of, terms_eq-none, terms_eq-more, terms_eq-less, terms_eq-one, fields_eq-none, fields_eq-more, fields_eq-less, fields_eq-one)

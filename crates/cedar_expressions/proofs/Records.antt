@@ -1,30 +1,32 @@
 -- A walk over the pairs of a record, which are put into a map in turn.
-use Rattle.std.proofs.Common.{◌≡◌, Bool, true, false, ◌||◌, cond, List, [], ◌∷◌, Option, None, Some, Global, refl, sym, ap, ◌∙◌}
+use Rattle.std.proofs.Common.{◌≡◌, Bool, true, false, ◌||◌, cond, if◌then◌else◌, List, [], ◌∷◌, ◌++◌, Option, None}
+use Rattle.std.proofs.Common.{Some, Global, refl, sym, ap, ◌∙◌}
 use Rattle.std.specs.declared.cmp.Ordering.{Ordering}
 use Rattle.std.specs.declared.cmp.Ordering.TheVariants.{Less, Equal, Greater}
 use Rattle.std.specs.declared.rc.RcStr.{RcStr}
 use Rattle.std.specs.Rc.{rc_str_bytes}
 use Rattle.std.specs.Option.{is_some}
 use Rattle.std.specs.Ordering.{nat_cmp, is_eq, match_ordering}
-use Rattle.std.specs.Cmp.Lexicographic.{slice_cmp}
+use Rattle.std.specs.Cmp.Lexicographic.{slice_cmp, texts_ties}
+use Rattle.std.specs.List.{list_any}
 use Rattle.std.specs.BTreeMap.{insert_entry, is_at}
 use Rattle.std.specs.Map.{lookup}
+use Rattle.std.proofs.lemmas.List.Folds.{list_any-append}
 use Rattle.cedar_model.specs.Terms.{Text, one_field}
-use Rattle.cedar_model.specs.lemmas.Keys.{key_cmp-text_key}
+use Rattle.cedar_model.specs.Outcomes.{text_eq}
+use Rattle.cedar_model.specs.Refusals.{first_repeated_after}
 use Rattle.cedar_expressions.specs.declared.expr.Expr.{Expr}
-use Rattle.cedar_names.specs.Equality.{text_eq}
 use Rattle.cedar_names.specs.EqualityLaws.{text_eq-decides}
 use Rattle.cedar_expressions.specs.View.{view, fields_view}
 use Rattle.cedar_expressions.specs.declared.errors.ExpressionConstructionError.{ExpressionConstructionError}
 use Rattle.cedar_expressions.specs.declared.errors.ExpressionConstructionError.TheVariants.{DuplicateKey, Memory}
 use Rattle.cedar_expressions.specs.Errors.{IsRefusalOf}
-use Rattle.cedar_expressions.specs.Records.{is_among, first_again, repeated_key, put_field, put_fields, fields_in_order, pairs_view, keys_view}
+use Rattle.cedar_expressions.specs.Records.{repeated_key, put_field, put_fields, fields_in_order, pairs_view, keys_view}
 use Rattle.cedar_expressions.specs.Nodes.{key_order, with_entries, entries_in_order}
 
 -- `==` of texts, by their order
-text_eq-order : (k l : Text) → is_eq (slice_cmp nat_cmp k l) ≡ text_eq k l
-unfolding text_eq
-text_eq-order k l = ap is_eq (sym (key_cmp-text_key k l))
+pub text_eq-order : (k l : Text) → is_eq (slice_cmp nat_cmp k l) ≡ text_eq k l
+text_eq-order k l = sym (texts_ties k l)
 
 abbrev pub Pairs : Type 0
 Pairs = List (RcStr Global × Expr)
@@ -52,7 +54,8 @@ pub fields_in_order-entries : (ps : Pairs) → fields_view (entries_in_order ps)
 fields_in_order-entries ps = put_fields-with_entries [] ps
 
 -- whether a map has a key
-pub has_key : (es : Pairs) (k : RcStr Global) → is_some (lookup (is_at (order k)) es) ≡ is_among (rc_str_bytes k) (keys_view es)
+pub has_key : (es : Pairs) (k : RcStr Global)
+    → is_some (lookup (is_at (order k)) es) ≡ list_any (text_eq (rc_str_bytes k)) (keys_view es)
 has_key [] k = refl
 has_key (p ∷ es) k =
     found (is_eq (order k p.0)) (Some p.1) (lookup (is_at (order k)) es) refl ∙ ap (λ b. b || is_some (lookup (is_at (order k)) es)) (text_eq-order (rc_str_bytes k) (rc_str_bytes p.0)) ∙ ap (λ b. text_eq (rc_str_bytes k) (rc_str_bytes p.0) || b) (has_key es k)
@@ -62,13 +65,33 @@ has_key (p ∷ es) k =
     found false x y h = refl
 
 -- what was seen matters only by what it has
-seen_alike : (ks ls ms : List Text) → ((k : Text) → is_among k ls ≡ is_among k ms) → first_again ls ks ≡ first_again ms ks
+pub seen_alike : (ks ls ms : List Text) → ((k : Text) → list_any (text_eq k) ls ≡ list_any (text_eq k) ms)
+    → first_repeated_after ls ks ≡ first_repeated_after ms ks
 seen_alike [] ls ms same = refl
 seen_alike (k ∷ ks) ls ms same =
-    λ i. cond (same k i) (Some k) (seen_alike ks (k ∷ ls) (k ∷ ms) (λ l. ap (λ b. text_eq l k || b) (same l)) i)
+    λ i. if same k i then Some k else seen_alike ks (ls ++ k ∷ []) (ms ++ k ∷ []) one_more i
+  where
+    one_more : (l : Text) → list_any (text_eq l) (ls ++ k ∷ []) ≡ list_any (text_eq l) (ms ++ k ∷ [])
+    one_more l =
+        list_any-append (text_eq l) ls (k ∷ [])
+        ∙ ap (λ b. b || list_any (text_eq l) (k ∷ [])) (same l)
+        ∙ sym (list_any-append (text_eq l) ms (k ∷ []))
+
+-- one more text is among them, be it put in front or behind
+pub behind_or_before : (l k : Text) (ks : List Text)
+    → list_any (text_eq l) (ks ++ k ∷ []) ≡ list_any (text_eq l) (k ∷ ks)
+behind_or_before l k ks = list_any-append (text_eq l) ks (k ∷ []) ∙ turned (list_any (text_eq l) ks) (text_eq l k)
+  where
+    turned : (x y : Bool) → (x || (y || false)) ≡ (y || x)
+    turned true true = refl
+    turned true false = refl
+    turned false true = refl
+    turned false false = refl
 
 -- a map with one more key has the keys with one more
-more_keys : (es : Pairs) (k : RcStr Global) (e : Expr) (l : Text) → is_among l (rc_str_bytes k ∷ keys_view es) ≡ is_among l (keys_view (insert_entry order es k e))
+more_keys : (es : Pairs) (k : RcStr Global) (e : Expr) (l : Text)
+    → list_any (text_eq l) (rc_str_bytes k ∷ keys_view es)
+    ≡ list_any (text_eq l) (keys_view (insert_entry order es k e))
 more_keys [] k e l = refl
 more_keys (p ∷ es) k e l =
     at_order (order k p.0) refl (more_keys es k e l)
@@ -82,27 +105,44 @@ more_keys (p ∷ es) k e l =
     twice true z = refl
     twice false z = refl
 
-    at_order : (o : Ordering) → order k p.0 ≡ o → is_among l (rc_str_bytes k ∷ keys_view es) ≡ is_among l (keys_view (insert_entry order es k e)) → is_among l (rc_str_bytes k ∷ keys_view (p ∷ es)) ≡ is_among l (keys_view (match_ordering o ((k, e) ∷ p ∷ es) ((p.0, e) ∷ es) (p ∷ insert_entry order es k e)))
+    at_order : (o : Ordering) → order k p.0 ≡ o
+        → list_any (text_eq l) (rc_str_bytes k ∷ keys_view es)
+        ≡ list_any (text_eq l) (keys_view (insert_entry order es k e))
+        → list_any (text_eq l) (rc_str_bytes k ∷ keys_view (p ∷ es))
+        ≡ list_any (text_eq l)
+        (keys_view (match_ordering o ((k, e) ∷ p ∷ es) ((p.0, e) ∷ es) (p ∷ insert_entry order es k e)))
     at_order Less h rest = refl
     at_order Equal h rest =
-        let same : rc_str_bytes k ≡ rc_str_bytes p.0 = (text_eq-decides (rc_str_bytes k) (rc_str_bytes p.0)).0 (sym (text_eq-order (rc_str_bytes k) (rc_str_bytes p.0)) ∙ ap is_eq h) in
-        ap (λ t. text_eq l t || (text_eq l (rc_str_bytes p.0) || is_among l (keys_view es))) same ∙ twice (text_eq l (rc_str_bytes p.0)) (is_among l (keys_view es))
+        let a = rc_str_bytes k in
+        let b = rc_str_bytes p.0 in
+        let rest : Bool = list_any (text_eq l) (keys_view es) in
+        let same : a ≡ b = (text_eq-decides a b).0 (sym (text_eq-order a b) ∙ ap is_eq h) in
+        ap (λ t. text_eq l t || (text_eq l b || rest)) same ∙ twice (text_eq l b) rest
     at_order Greater h rest =
-        swapped (text_eq l (rc_str_bytes k)) (text_eq l (rc_str_bytes p.0)) (is_among l (keys_view es)) ∙ ap (λ b. text_eq l (rc_str_bytes p.0) || b) rest
+        swapped (text_eq l (rc_str_bytes k)) (text_eq l (rc_str_bytes p.0)) (list_any (text_eq l) (keys_view es))
+        ∙ ap (λ b. text_eq l (rc_str_bytes p.0) || b) rest
 
-pub first_again-step : (es : Pairs) (k : RcStr Global) (e : Expr) (ks : List Text) → is_some (lookup (is_at (order k)) es) ≡ false → first_again (keys_view es) (rc_str_bytes k ∷ ks) ≡ first_again (keys_view (insert_entry order es k e)) ks
-first_again-step es k e ks h =
-    ap (λ b. cond b (Some (rc_str_bytes k)) (first_again (rc_str_bytes k ∷ keys_view es) ks)) (sym (has_key es k) ∙ h) ∙ seen_alike ks (rc_str_bytes k ∷ keys_view es) (keys_view (insert_entry order es k e)) (more_keys es k e)
+pub repeated-step : (es : Pairs) (k : RcStr Global) (e : Expr) (ks : List Text)
+    → is_some (lookup (is_at (order k)) es) ≡ false
+    → first_repeated_after (keys_view es) (rc_str_bytes k ∷ ks)
+    ≡ first_repeated_after (keys_view (insert_entry order es k e)) ks
+repeated-step es k e ks h =
+    let key = rc_str_bytes k in
+    ap (λ b. if b then Some key else first_repeated_after (keys_view es ++ key ∷ []) ks) (sym (has_key es k) ∙ h)
+    ∙ seen_alike ks (keys_view es ++ key ∷ []) (keys_view (insert_entry order es k e))
+    (λ l. behind_or_before l key (keys_view es) ∙ more_keys es k e l)
 
 pub repeated-here : (es : Pairs) (k : RcStr Global) → is_some (lookup (is_at (order k)) es) ≡ true → repeated_key (keys_view es) (rc_str_bytes k) ≡ Some (rc_str_bytes k)
-repeated-here es k h = ap (λ b. cond b (Some (rc_str_bytes k)) None) (sym (has_key es k) ∙ h)
+repeated-here es k h = ap (λ b. if b then Some (rc_str_bytes k) else None) (sym (has_key es k) ∙ h)
 
 -- a refusal of a key that is there is one of the first key that comes again, where the key comes next
-pub refusal_again : (seen : List Text) (k : Text) (more : List Text) (place : Text) (e : ExpressionConstructionError) → IsRefusalOf (repeated_key seen k) place e → IsRefusalOf (first_again seen (k ∷ more)) place e
+pub refusal_again : (seen : List Text) (k : Text) (more : List Text) (place : Text) (e : ExpressionConstructionError)
+    → IsRefusalOf (repeated_key seen k) place e → IsRefusalOf (first_repeated_after seen (k ∷ more)) place e
 refusal_again seen k more place (DuplicateKey key context) h =
-    (at_test (is_among k seen) (first_again (k ∷ seen) more) h.0, h.1)
+    (at_test (list_any (text_eq k) seen) (first_repeated_after (seen ++ k ∷ []) more) h.0, h.1)
   where
-    at_test : (b : Bool) (rest : Option Text) → cond b (Some k) None ≡ Some (rc_str_bytes key) → cond b (Some k) rest ≡ Some (rc_str_bytes key)
+    at_test : (b : Bool) (rest : Option Text) → (if b then Some k else None) ≡ Some (rc_str_bytes key)
+        → (if b then Some k else rest) ≡ Some (rc_str_bytes key)
     at_test true rest q = q
     at_test false rest q = absurd (cc)
 refusal_again seen k more place (Memory error) h = h

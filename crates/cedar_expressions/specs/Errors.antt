@@ -8,7 +8,8 @@ use Rattle.cedar_model.specs.Terms.{Text}
 use Rattle.cedar_expressions.specs.declared.errors.ExpressionConstructionError.{ExpressionConstructionError}
 use Rattle.cedar_expressions.specs.declared.errors.ExpressionConstructionError.TheVariants.{DuplicateKey, Memory}
 use Rattle.cedar_expressions.specs.declared.expr.Expr.{Expr}
-use Rattle.cedar_expressions.specs.Records.{first_repeated, keys_view}
+use Rattle.cedar_model.specs.Refusals.{first_repeated}
+use Rattle.cedar_expressions.specs.Records.{keys_view}
 
 -- `result` is `error`, in this context
 abbrev pub IsInContext : ExpressionConstructionError → Bor (List ℕ) → ExpressionConstructionError → Type 0

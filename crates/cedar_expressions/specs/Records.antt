@@ -1,5 +1,5 @@
 -- The fields of a record, made of pairs of a key and a part.
-use Rattle.std.specs.Prelude.{◌≡◌, Bool, false, ◌||◌, cond, List, [], ◌∷◌, map, Option, None, Some}
+use Rattle.std.specs.Prelude.{◌≡◌, List, [], ◌∷◌, map, Option}
 use Rattle.std.specs.Ordering.{nat_cmp, match_ordering}
 use Rattle.std.specs.Cmp.Lexicographic.{slice_cmp}
 use Rattle.std.specs.Rc.{rc_str_bytes}
@@ -7,30 +7,16 @@ use Rattle.std.specs.declared.alloc.Global.{Global}
 use Rattle.std.specs.declared.rc.RcStr.{RcStr}
 use Rattle.cedar_model.specs.Terms.{Text, Term, Fields, no_fields, one_field}
 use Rattle.cedar_expressions.specs.declared.expr.Expr.{Expr}
-use Rattle.cedar_names.specs.Equality.{text_eq}
+use Rattle.cedar_model.specs.Refusals.{first_repeated_after}
 use Rattle.cedar_expressions.specs.View.{view}
-
--- whether the text is one of these
-abbrev pub is_among : Text → List Text → Bool
-is_among k [] = false
-is_among k (l ∷ ls) = text_eq k l || is_among k ls
-
--- the first of the texts that was seen before, or that stands among the texts before it
-abbrev pub first_again : List Text → List Text → Option Text
-first_again seen [] = None
-first_again seen (k ∷ ks) = cond (is_among k seen) (Some k) (first_again (k ∷ seen) ks)
-
--- the first text that comes again
-abbrev pub first_repeated : List Text → Option Text
-first_repeated ks = first_again [] ks
 
 -- the key, if it is among these
 abbrev pub repeated_key : List Text → Text → Option Text
-repeated_key ks k = cond (is_among k ks) (Some k) None
+repeated_key ks k = first_repeated_after ks (k ∷ [])
 
 -- the new keys are the old ones and k: of further keys the same comes again
 abbrev pub HasOneMore : List Text → Text → List Text → Type 0
-HasOneMore old k new = (more : List Text) → first_again old (k ∷ more) ≡ first_again new more
+HasOneMore old k new = (more : List Text) → first_repeated_after old (k ∷ more) ≡ first_repeated_after new more
 
 -- the fields with t under k, at its place in byte order
 abbrev pub put_field : Fields → Text → Term → Fields

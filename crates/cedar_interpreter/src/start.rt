@@ -442,7 +442,11 @@ pub(crate) fn next_of_parts(alloc: Global, whole: SharedExpr, next: NextPart) ->
 {
     match next {
         Transition::Done(Ok(part)) => done(alloc, &whole, part),
-        Transition::Done(Err(error)) => Transition::Done(Err(Stopped::of(alloc, error, loc_of(&whole)))),
+        Transition::Done(Err(error)) => Transition::Done(Err(Stopped::of(
+            alloc,
+            error,
+            loc_of(&whole),
+        ))),
         Transition::Wait(frame, part) => or_want(next_part(alloc, whole, frame, part)),
     }
 }

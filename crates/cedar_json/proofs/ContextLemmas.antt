@@ -3,7 +3,7 @@ use Rattle.std.proofs.Common.{◌≡◌, true, false, ℕ, List, [], ◌∷◌, 
 use Rattle.cedar_model.specs.Terms.{Text, Term}
 use Rattle.cedar_model.specs.World as world
 use Rattle.cedar_model.specs.Rules.{StoredCalls, fields_of_record}
-use Rattle.cedar_expressions.specs.Records.{first_repeated}
+use Rattle.cedar_model.specs.Refusals.{first_repeated}
 use Rattle.cedar_restricted_evaluator.specs.Evaluations.{bare_setting}
 use Rattle.cedar_requests.specs.declared.context.Context.{Context}
 use Rattle.cedar_requests.specs.declared.errors.ContextCreationError.{ContextCreationError}

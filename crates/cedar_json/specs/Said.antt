@@ -5,7 +5,8 @@ use Rattle.json.specs.Find.{as_str}
 use Rattle.cedar_model.specs.Terms.{Text, EntityName, Term, literal, bool_literal, long_literal, text_literal, entity_literal, unknown}
 use Rattle.cedar_model.specs.Terms.{call}
 use Rattle.cedar_model.specs.Terms.{set_of, record_of, terms_of}
-use Rattle.cedar_expressions.specs.Records.{first_repeated, fields_in_order}
+use Rattle.cedar_model.specs.Refusals.{first_repeated}
+use Rattle.cedar_expressions.specs.Records.{fields_in_order}
 use Rattle.cedar_restricted_expressions.specs.Readers.{text_in}
 use Rattle.cedar_json.specs.declared.errors.RefusalReason.TheVariants as reasons
 use Rattle.cedar_json.specs.Numbers.{long_of_text}

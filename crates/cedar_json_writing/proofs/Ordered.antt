@@ -1,21 +1,22 @@
 -- Entries of a map: each key once, in order.
-use Rattle.std.proofs.Common.{◌≡◌, ◌||◌, false, cond, List, [], ◌∷◌, ◌++◌, None, Some, Global, Less, Greater, refl, sym, ap, subst, ◌∙◌, append_assoc}
+use Rattle.std.proofs.Common.{◌≡◌, ◌||◌, false, if◌then◌else◌, List, [], ◌∷◌, ◌++◌, None, Some, Global, Less, Greater}
+use Rattle.std.proofs.Common.{refl, sym, ap, subst, ◌∙◌, append_assoc}
 use Rattle.std.proofs.lemmas.Cmp.{nat_list_cmp_total}
 use Rattle.std.proofs.lemmas.List.{append-nil}
 use Rattle.std.specs.declared.rc.RcStr.{RcStr}
 use Rattle.std.specs.Rc.{rc_str_bytes}
 use Rattle.std.specs.Cmp.Lexicographic.{slice_cmp}
-use Rattle.std.specs.List.{AllByRecursion}
+use Rattle.std.specs.List.{AllByRecursion, list_any}
 use Rattle.std.specs.List.Sorted.{IsStrictlySortedBy}
 use Rattle.std.specs.Map.{keys_of}
 use Rattle.std.specs.Ordering.{ordering_reverse, nat_cmp, is_eq}
 use Rattle.cedar_model.specs.Terms.{Text, one_field}
-use Rattle.cedar_model.specs.lemmas.Keys.{key_cmp-text_key}
-use Rattle.cedar_names.specs.Equality.{text_eq}
+use Rattle.cedar_model.specs.Outcomes.{text_eq}
+use Rattle.cedar_model.specs.Refusals.{first_repeated, first_repeated_after}
 use Rattle.cedar_expressions.specs.declared.expr.Expr.{Expr}
 use Rattle.cedar_expressions.specs.View.{view, fields_view}
-use Rattle.cedar_expressions.specs.Records.{is_among, first_again, first_repeated, put_field, put_fields, fields_in_order, pairs_view}
-use Rattle.cedar_expressions.proofs.Records.{Pairs, order}
+use Rattle.cedar_expressions.specs.Records.{put_field, put_fields, fields_in_order, pairs_view}
+use Rattle.cedar_expressions.proofs.Records.{Pairs, order, text_eq-order}
 use Rattle.cedar_json.specs.Said.{keys_of_pairs}
 use Rattle.cedar_json_writing.specs.ReadBack.{pairs_in, AreInOrder}
 
@@ -49,13 +50,13 @@ all_put done (e ∷ more) h =
 -- ---- each once
 
 other : (k s : Text) → slice_cmp nat_cmp s k ≡ Less → text_eq k s ≡ false
-unfolding text_eq
 other k s h =
-    ap is_eq (key_cmp-text_key k s) ∙ ap is_eq (nat_list_cmp_total.antisymm k s ∙ ap ordering_reverse h)
+    sym (text_eq-order k s) ∙ ap is_eq (nat_list_cmp_total.antisymm k s ∙ ap ordering_reverse h)
 
-above_all : (k : Text) (seen : List Text) → AllByRecursion (λ s. slice_cmp nat_cmp s k ≡ Less) seen → is_among k seen ≡ false
+above_all : (k : Text) (seen : List Text) → AllByRecursion (λ s. slice_cmp nat_cmp s k ≡ Less) seen
+    → list_any (text_eq k) seen ≡ false
 above_all k [] h = refl
-above_all k (s ∷ ss) h = ap (λ b. b || is_among k ss) (other k s h.0) ∙ above_all k ss h.1
+above_all k (s ∷ ss) h = ap (λ b. b || list_any (text_eq k) ss) (other k s h.0) ∙ above_all k ss h.1
 
 abbrev IsBelow : Pairs → Text → Type 0
 IsBelow es s = AllByRecursion (λ y. slice_cmp nat_cmp s (rc_str_bytes y) ≡ Less) (keys_of es)
@@ -68,13 +69,21 @@ rests : (e : RcStr Global × Expr) (es : Pairs) (seen : List Text) → AllByRecu
 rests e es [] h = tt
 rests e es (s ∷ ss) h = (h.0.1, rests e es ss h.1)
 
-fresh : (seen : List Text) (es : Pairs) → AllByRecursion (IsBelow es) seen → IsStrictlySortedBy order (keys_of es) → first_again seen (keys_of_pairs (pairs_view es)) ≡ None
+-- all of a list and one more
+with_last : (Such : Text → Type 0) (ts : List Text) (t : Text) → AllByRecursion Such ts → Such t
+    → AllByRecursion Such (ts ++ t ∷ [])
+with_last Such [] t all own = (own, tt)
+with_last Such (s ∷ ss) t all own = (all.0, with_last Such ss t all.1 own)
+
+fresh : (seen : List Text) (es : Pairs) → AllByRecursion (IsBelow es) seen → IsStrictlySortedBy order (keys_of es)
+    → first_repeated_after seen (keys_of_pairs (pairs_view es)) ≡ None
 unfolding IsStrictlySortedBy
 fresh seen [] below h = refl
 fresh seen (e ∷ es) below h =
     let k = rc_str_bytes e.0 in
-    ap (λ b. cond b (Some k) (first_again (k ∷ seen) (keys_of_pairs (pairs_view es)))) (above_all k seen (firsts e es seen below))
-    ∙ fresh (k ∷ seen) es (h.0, rests e es seen below) h.1
+    ap (λ b. if b then Some k else first_repeated_after (seen ++ k ∷ []) (keys_of_pairs (pairs_view es)))
+    (above_all k seen (firsts e es seen below))
+    ∙ fresh (seen ++ k ∷ []) es (with_last (IsBelow es) seen k (rests e es seen below) h.0) h.1
 
 pub in_order : (es : Pairs) → IsStrictlySortedBy order (keys_of es) → AreInOrder (fields_view es)
 in_order es h =

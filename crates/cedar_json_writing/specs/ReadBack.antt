@@ -5,7 +5,8 @@ use Rattle.cedar_model.specs.Terms.{Text, Literal, bool_literal, long_literal, t
 use Rattle.cedar_model.specs.Terms.{Term, literal, variable, slot, unknown, if_then_else, both, either, unary, binary, call}
 use Rattle.cedar_model.specs.Terms.{get_attribute, has_attribute, extended_has, like, is_of_type, set_of, record_of}
 use Rattle.cedar_model.specs.Terms.{Terms, no_terms, one_term, Fields, no_fields, one_field}
-use Rattle.cedar_expressions.specs.Records.{first_repeated, fields_in_order}
+use Rattle.cedar_model.specs.Refusals.{first_repeated}
+use Rattle.cedar_expressions.specs.Records.{fields_in_order}
 use Rattle.cedar_json.specs.Said.{is_reserved, keys_of_pairs}
 use Rattle.cedar_json.specs.Words.{is_name}
 

@@ -215,7 +215,6 @@ module _ (G : Rules.MayAnswer) where
 
 module _ (G H : Rules.MayAnswer) (store : Store) (more : (t : Term) → IsStored store t → (x : Answer) → G t x
     → H t x) where
-
   step_map : (z : Operators.Walk) (Next Next' : Represented → Answer → Type 0) (a : Answer) → ((v : Represented)
       → Next v a → Next' v a) → Rules.AfterWalk G z Next a → Rules.AfterWalk H z Next' a
   step_map (Operators.walks_on v) Next Next' a f h = f v h

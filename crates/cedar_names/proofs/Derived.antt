@@ -25,7 +25,7 @@ use Rattle.cedar_names.specs.declared.types.Literal.{Literal}
 use Rattle.cedar_names.specs.declared.types.Literal.TheVariants as literals
 use Rattle.cedar_names.specs.contracts.names.EntityUIDPartialEq.TheImpl as derived_entity
 use Rattle.cedar_names.specs.contracts.names.SlotIdPartialEq.TheImpl as derived_slot
-use Rattle.cedar_names.specs.Names.{type_text, uid_name}
+use Rattle.cedar_names.specs.Names.{uid_name}
 use Rattle.cedar_names.specs.contracts.names.VarPartialEq.TheImpl as derived_variable
 use Rattle.cedar_names.specs.contracts.operators.UnaryOpPartialEq.TheImpl as derived_unary
 use Rattle.cedar_names.specs.contracts.operators.BinaryOpPartialEq.TheImpl as derived_binary
@@ -33,8 +33,11 @@ use Rattle.cedar_names.specs.contracts.pattern.PatternElemPartialEq.TheImpl as d
 use Rattle.cedar_names.specs.contracts.types.TypePartialEq.TheImpl as derived_type
 use Rattle.cedar_names.specs.contracts.types.LiteralPartialEq.TheImpl as derived_literal
 use Rattle.cedar_names.specs.Leaves.{slot_view, variable_view, unary_view, binary_view, part_view, type_view, literal_view, texts_view}
-use Rattle.cedar_names.specs.Equality.{key_eq, text_eq, texts_eq, entity_eq, literal_eq, type_eq, annotation_eq, variable_eq, slot_eq, unary_eq, binary_eq, pattern_eq}
-use Rattle.cedar_names.proofs.Equality.{then_eq, and_true, text_eq-bytes, entity_eq-parts}
+use Rattle.cedar_model.specs.Outcomes.{entity_eq, type_eq}
+use Rattle.cedar_names.specs.Equality.{key_eq, texts_eq, literal_eq, annotation_eq, variable_eq, slot_eq, unary_eq}
+use Rattle.cedar_names.specs.Equality.{binary_eq, pattern_eq}
+use Rattle.cedar_names.specs.EqualityLaws.{text_eq-key, entity_eq-key, type_eq-key}
+use Rattle.cedar_names.proofs.Equality.{then_eq, and_true}
 
 pub slots_equal : (a b : SlotId) → (derived_slot.ghosts).eq a b ≡ slot_eq (slot_view a) (slot_view b)
 unfolding slot_eq
@@ -98,26 +101,21 @@ bools_equal false true = refl
 bools_equal false false = refl
 
 pub entities_equal : (a b : EntityUID) → (derived_entity.ghosts).eq a b ≡ entity_eq (uid_name a) (uid_name b)
-entities_equal a b =
-    let s = type_text a.ty in
-    let t = type_text b.ty in
-    let i = rc_str_bytes a.eid in
-    let j = rc_str_bytes b.eid in
-    ap (λ x. x && pointwise nat_eq i j) (text_eq-bytes s t) ∙ ap (λ x. text_eq s t && x) (text_eq-bytes i j) ∙ sym (entity_eq-parts (uid_name a) (uid_name b))
+entities_equal a b = refl
 
 pub literals_equal : (a b : Literal) → (derived_literal.ghosts).eq a b ≡ literal_eq (literal_view a) (literal_view b)
-unfolding literal_eq text_eq entity_eq
+unfolding literal_eq
 literals_equal (literals.Bool x) (literals.Bool y) = bools_equal x y
 literals_equal (literals.Bool x) _ = refl
 literals_equal (literals.Long x) (literals.Long y) = refl
 literals_equal (literals.Long x) _ = refl
-literals_equal (literals.String x) (literals.String y) = text_eq-bytes (rc_str_bytes x) (rc_str_bytes y)
+literals_equal (literals.String x) (literals.String y) = sym (text_eq-key (rc_str_bytes x) (rc_str_bytes y))
 literals_equal (literals.String x) _ = refl
-literals_equal (literals.EntityUID x) (literals.EntityUID y) = entities_equal x.value y.value
+literals_equal (literals.EntityUID x) (literals.EntityUID y) = sym (entity_eq-key (uid_name x.value) (uid_name y.value))
 literals_equal (literals.EntityUID x) _ = refl
 
 pub types_equal : (a b : RType) → (derived_type.ghosts).eq a b ≡ type_eq (type_view a) (type_view b)
-unfolding type_eq text_eq
+unfolding type_eq
 types_equal types.Bool types.Bool = refl
 types_equal types.Bool _ = refl
 types_equal types.Long types.Long = refl
@@ -128,18 +126,21 @@ types_equal types.Set types.Set = refl
 types_equal types.Set _ = refl
 types_equal types.Record types.Record = refl
 types_equal types.Record _ = refl
-types_equal (types.Entity x) (types.Entity y) = text_eq-bytes (rc_str_bytes x.0.text) (rc_str_bytes y.0.text)
+types_equal (types.Entity x) (types.Entity y) = refl
 types_equal (types.Entity x) _ = refl
-types_equal (types.Extension x) (types.Extension y) = text_eq-bytes (rc_str_bytes x.text) (rc_str_bytes y.text)
+types_equal (types.Extension x) (types.Extension y) = refl
 types_equal (types.Extension x) _ = refl
 
 pub annotations_equal : (a b : Option RType) → option_eq (derived_type.ghosts).eq a b ≡ annotation_eq (option_map type_view a) (option_map type_view b)
-unfolding annotation_eq type_eq
+unfolding annotation_eq
 annotations_equal None None = refl
 annotations_equal None (Some t) = refl
 annotations_equal (Some s) None = refl
 annotations_equal (Some s) (Some t) =
-    types_equal s t ∙ sym (then_eq (key_cmp (type_key (type_view s)) (type_key (type_view t))) (key_cmp end_key end_key) ∙ and_true (key_eq (type_key (type_view s)) (type_key (type_view t))))
+    types_equal s t
+    ∙ sym (then_eq (key_cmp (type_key (type_view s)) (type_key (type_view t))) (key_cmp end_key end_key)
+    ∙ and_true (key_eq (type_key (type_view s)) (type_key (type_view t)))
+    ∙ type_eq-key (type_view s) (type_view t))
 
 codes_equal : (x y : ℕ) → nat_eq x y ≡ int_eq (pos x) (pos y)
 codes_equal x y =
@@ -163,12 +164,15 @@ patterns_equal (parts.Wildcard ∷ ps) (parts.Char d ∷ qs) = refl
 patterns_equal (parts.Wildcard ∷ ps) (parts.Wildcard ∷ qs) = patterns_equal ps qs
 
 pub texts_equal : (xs ys : List (RcStr Global)) → pointwise (λ x y. pointwise nat_eq (rc_str_bytes x) (rc_str_bytes y)) xs ys ≡ texts_eq (texts_view xs) (texts_view ys)
-unfolding texts_eq text_eq
+unfolding texts_eq
 texts_equal [] [] = refl
 texts_equal [] (t ∷ ts) = refl
 texts_equal (s ∷ ss) [] = refl
 texts_equal (s ∷ ss) (t ∷ ts) =
-    let rest = pointwise (λ x y. pointwise nat_eq (rc_str_bytes x) (rc_str_bytes y)) ss ts in
-    ap (λ b. b && rest) (text_eq-bytes (rc_str_bytes s) (rc_str_bytes t)) ∙ ap (λ b. text_eq (rc_str_bytes s) (rc_str_bytes t) && b) (texts_equal ss ts) ∙ sym (then_eq (key_cmp (text_key (rc_str_bytes s)) (text_key (rc_str_bytes t))) (key_cmp (texts_key (texts_view ss)) (texts_key (texts_view ts))))
+    let a = rc_str_bytes s in
+    let b = rc_str_bytes t in
+    (λ i. sym (text_eq-key a b) i && texts_equal ss ts i)
+    ∙ sym (then_eq (key_cmp (text_key a) (text_key b))
+    (key_cmp (texts_key (texts_view ss)) (texts_key (texts_view ts))))
 
 pub ruleset leaves = (slots_equal, variables_equal, unaries_equal, binaries_equal, literals_equal, types_equal, annotations_equal, patterns_equal, texts_equal)

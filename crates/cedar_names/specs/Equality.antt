@@ -1,33 +1,24 @@
--- When expressions are equal: when they stand for one term, so a location changes nothing.
+-- When expressions are equal: when they stand for one term, so a location changes nothing. When texts, entities and
+-- types are equal stands in the model's `Outcomes`.
 use Rattle.std.specs.Prelude.{pos, Bool, List, Option}
 use Rattle.std.specs.Ordering.{is_eq}
-use Rattle.cedar_model.specs.Terms.{Text, EntityName, Literal, Variable, Slot, ValueType, UnaryOperator, BinaryOperator, PatternPart, Term, Terms, Fields}
-use Rattle.cedar_model.specs.Keys.{Key, number_key, key_cmp, text_key, entity_key, literal_key}
-use Rattle.cedar_model.specs.lemmas.Codes.{type_key, annotation_key, variable_number, slot_number, unary_number, binary_number, pattern_key, texts_key, term_key, terms_key, fields_key}
+use Rattle.cedar_model.specs.Terms.{Text, Literal, Variable, Slot, ValueType, UnaryOperator, BinaryOperator}
+use Rattle.cedar_model.specs.Terms.{PatternPart, Term, Terms, Fields}
+use Rattle.cedar_model.specs.Keys.{Key, number_key, key_cmp, literal_key}
+use Rattle.cedar_model.specs.lemmas.Codes.{annotation_key, variable_number, slot_number, unary_number, binary_number}
+use Rattle.cedar_model.specs.lemmas.Codes.{pattern_key, texts_key, term_key, terms_key, fields_key}
 
 -- whether two keys are one
 abbrev pub key_eq : Key → Key → Bool
 key_eq a b = is_eq (key_cmp a b)
 
--- whether two texts are one
-unfoldable pub text_eq : Text → Text → Bool
-text_eq a b = key_eq (text_key a) (text_key b)
-
 -- whether two lists of texts are one
 unfoldable pub texts_eq : List Text → List Text → Bool
 texts_eq a b = key_eq (texts_key a) (texts_key b)
 
--- whether two names name one entity
-unfoldable pub entity_eq : EntityName → EntityName → Bool
-entity_eq a b = key_eq (entity_key a) (entity_key b)
-
 -- whether two literals are one
 unfoldable pub literal_eq : Literal → Literal → Bool
 literal_eq a b = key_eq (literal_key a) (literal_key b)
-
--- whether two types are one
-unfoldable pub type_eq : ValueType → ValueType → Bool
-type_eq a b = key_eq (type_key a) (type_key b)
 
 -- whether two annotations are one
 unfoldable pub annotation_eq : Option ValueType → Option ValueType → Bool

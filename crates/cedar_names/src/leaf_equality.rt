@@ -1,11 +1,12 @@
-#![tactic(auto, using(crate::proofs::Equality::texts, crate::proofs::Derived::leaves))]
+#![tactic(auto, using(crate::proofs::Derived::leaves))]
 //! Equality of what stands in an expression besides expressions: true exactly where both sides stand for the same.
 ghost use Rattle.std.specs.Prelude.{◌≡◌, option_map};
 ghost use Rattle.std.specs.Rc.{rc_str_bytes};
 ghost use Rattle.cedar_names.specs.Names.{name_text, type_text};
 ghost use Rattle.cedar_names.specs.Leaves.{slot_view, variable_view, unary_view, binary_view, pattern_view};
 ghost use Rattle.cedar_names.specs.Leaves.{type_view, literal_view, texts_view};
-ghost use Rattle.cedar_names.specs.Equality.{text_eq, texts_eq, literal_eq, annotation_eq, variable_eq};
+ghost use Rattle.cedar_model.specs.Outcomes.{text_eq};
+ghost use Rattle.cedar_names.specs.Equality.{texts_eq, literal_eq, annotation_eq, variable_eq};
 ghost use Rattle.cedar_names.specs.Equality.{slot_eq, unary_eq, binary_eq, pattern_eq};
 
 use crate::names::{EntityType, Name, SlotId, Var};

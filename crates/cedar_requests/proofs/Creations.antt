@@ -9,7 +9,8 @@ use Rattle.cedar_model.specs.Settings.{Setting}
 use Rattle.cedar_model.specs.World as world
 use Rattle.cedar_names.specs.declared.names.Loc.{Loc}
 use Rattle.cedar_expressions.specs.declared.expr.Expr.{Expr}
-use Rattle.cedar_expressions.specs.Records.{first_repeated, keys_view}
+use Rattle.cedar_model.specs.Refusals.{first_repeated}
+use Rattle.cedar_expressions.specs.Records.{keys_view}
 use Rattle.cedar_errors.specs.Failures.{failure_of}
 use Rattle.cedar_errors.specs.declared.evaluator.err.EvaluationError.{EvaluationError}
 use Rattle.cedar_restricted_evaluator.specs.Evaluations.{IsBare, bare_setting, IsAnswerWithin}

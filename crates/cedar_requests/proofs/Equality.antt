@@ -5,8 +5,9 @@ use Rattle.std.specs.Cmp.Lexicographic.{pointwise, slice_cmp, texts_ties}
 use Rattle.std.specs.Ordering.{is_eq, ordering_then, nat_cmp}
 use Rattle.cedar_model.specs.Terms.{record_of}
 use Rattle.cedar_model.specs.Values.{record_represented}
-use Rattle.cedar_names.specs.Equality.{text_eq, term_eq, fields_eq}
-use Rattle.cedar_names.proofs.Equality.{then_eq, text_eq-bytes}
+use Rattle.cedar_model.specs.Outcomes.{text_eq}
+use Rattle.cedar_names.specs.Equality.{term_eq, fields_eq}
+use Rattle.cedar_names.proofs.Equality.{then_eq}
 use Rattle.cedar_expressions.specs.View.{view, fields_view}
 use Rattle.cedar_expressions.proofs.Equality.{term_eq-record_of, fields_eq-none, fields_eq-more, fields_eq-less}
 use Rattle.cedar_expressions.proofs.Equality.{fields_eq-one}
@@ -49,7 +50,7 @@ fields_eq-pairs [] (g ∷ gs) = sym (fields_eq-more _ _ _)
 fields_eq-pairs (f ∷ fs) [] = sym (fields_eq-less _ _ _)
 fields_eq-pairs (f ∷ fs) (g ∷ gs) =
     let terms = term_eq (view f.1) (view g.1) in
-    (λ i. (text_eq-bytes (rc_str_bytes f.0) (rc_str_bytes g.0) i && terms) && fields_eq-pairs fs gs i)
+    ap (λ b. (text_eq (rc_str_bytes f.0) (rc_str_bytes g.0) && terms) && b) (fields_eq-pairs fs gs)
     ∙ and_assoc (text_eq (rc_str_bytes f.0) (rc_str_bytes g.0)) terms (fields_eq (fields_view fs) (fields_view gs))
     ∙ sym (fields_eq-one (rc_str_bytes f.0) (rc_str_bytes g.0) (view f.1) (view g.1) (fields_view fs) (fields_view gs))
 

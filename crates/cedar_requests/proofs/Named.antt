@@ -1,31 +1,28 @@
 -- A walk over values and their names, which are put into a map in turn.
-use Rattle.std.proofs.Common.{◌≡◌, Bool, true, false, ◌||◌, cond, List, [], ◌∷◌, Option, None, Some, Global, refl, sym, ap, ◌∙◌}
+use Rattle.std.proofs.Common.{◌≡◌, Bool, true, false, ◌||◌, cond, if◌then◌else◌, List, [], ◌∷◌, ◌++◌, Option, None}
+use Rattle.std.proofs.Common.{Some, Global, refl, sym, ap, ◌∙◌}
 use Rattle.std.specs.declared.cmp.Ordering.{Ordering}
 use Rattle.std.specs.declared.cmp.Ordering.TheVariants.{Less, Equal, Greater}
 use Rattle.std.specs.declared.rc.RcStr.{RcStr}
 use Rattle.std.specs.Rc.{rc_str_bytes}
 use Rattle.std.specs.Option.{is_some}
-use Rattle.std.specs.Ordering.{nat_cmp, is_eq, match_ordering}
-use Rattle.std.specs.Cmp.Lexicographic.{slice_cmp}
+use Rattle.std.specs.Ordering.{is_eq, match_ordering}
 use Rattle.std.specs.BTreeMap.{insert_entry, is_at}
 use Rattle.std.specs.Map.{lookup}
+use Rattle.std.specs.List.{list_any}
 use Rattle.cedar_model.specs.Terms.{Text}
 use Rattle.cedar_model.specs.Values.{one_represented_at}
-use Rattle.cedar_model.specs.lemmas.Keys.{key_cmp-text_key}
-use Rattle.cedar_names.specs.Equality.{text_eq}
+use Rattle.cedar_model.specs.Outcomes.{text_eq}
+use Rattle.cedar_model.specs.Refusals.{first_repeated_after}
 use Rattle.cedar_names.specs.EqualityLaws.{text_eq-decides}
 use Rattle.cedar_expressions.specs.Nodes.{key_order}
-use Rattle.cedar_expressions.specs.Records.{is_among, first_again, repeated_key}
+use Rattle.cedar_expressions.specs.Records.{repeated_key}
+use Rattle.cedar_expressions.proofs.Records.{text_eq-order, seen_alike, behind_or_before}
 use Rattle.cedar_expressions.specs.declared.errors.ExpressionConstructionError.TheVariants as constructions
 use Rattle.cedar_values.specs.Sound.{Placed, whats_at}
 use Rattle.cedar_requests.specs.declared.errors.ContextCreationError.{ContextCreationError}
 use Rattle.cedar_requests.specs.declared.errors.ContextCreationError.TheVariants as refusals
 use Rattle.cedar_requests.specs.Named.{entry_names, put_value, IsRefusalOfName}
-
--- `==` of texts, by their order
-text_eq-order : (k l : Text) → is_eq (slice_cmp nat_cmp k l) ≡ text_eq k l
-unfolding text_eq
-text_eq-order k l = ap is_eq (sym (key_cmp-text_key k l))
 
 abbrev Entries : Type 0
 Entries = List (RcStr Global × Placed)
@@ -46,7 +43,8 @@ put_value-entries (p ∷ es) k v = at_order (key_order k p.0) (put_value-entries
     at_order Greater rest = ap (one_represented_at (rc_str_bytes p.0) p.1.what) rest
 
 -- whether a map has a key
-has_key : (es : Entries) (k : RcStr Global) → is_some (lookup (is_at (key_order k)) es) ≡ is_among (rc_str_bytes k) (entry_names es)
+has_key : (es : Entries) (k : RcStr Global)
+    → is_some (lookup (is_at (key_order k)) es) ≡ list_any (text_eq (rc_str_bytes k)) (entry_names es)
 has_key [] k = refl
 has_key (p ∷ es) k =
     found (is_eq (key_order k p.0)) (Some p.1) (lookup (is_at (key_order k)) es) refl
@@ -57,15 +55,10 @@ has_key (p ∷ es) k =
     found true x y h = h
     found false x y h = refl
 
--- what was seen matters only by what it has
-seen_alike : (ks ls ms : List Text) → ((k : Text) → is_among k ls ≡ is_among k ms) → first_again ls ks ≡ first_again ms ks
-seen_alike [] ls ms same = refl
-seen_alike (k ∷ ks) ls ms same =
-    λ i. cond (same k i) (Some k) (seen_alike ks (k ∷ ls) (k ∷ ms) (λ l. ap (λ b. text_eq l k || b) (same l)) i)
-
 -- a map with one more key has the keys with one more
 more_names : (es : Entries) (k : RcStr Global) (v : Placed) (l : Text)
-    → is_among l (rc_str_bytes k ∷ entry_names es) ≡ is_among l (entry_names (insert_entry key_order es k v))
+    → list_any (text_eq l) (rc_str_bytes k ∷ entry_names es)
+    ≡ list_any (text_eq l) (entry_names (insert_entry key_order es k v))
 more_names [] k v l = refl
 more_names (p ∷ es) k v l =
     at_order (key_order k p.0) refl (more_names es k v l)
@@ -80,37 +73,46 @@ more_names (p ∷ es) k v l =
     twice false z = refl
 
     at_order : (o : Ordering) → key_order k p.0 ≡ o
-        → is_among l (rc_str_bytes k ∷ entry_names es) ≡ is_among l (entry_names (insert_entry key_order es k v))
-        → is_among l (rc_str_bytes k ∷ entry_names (p ∷ es))
-        ≡ is_among l (entry_names (match_ordering o ((k, v) ∷ p ∷ es) ((p.0, v) ∷ es) (p ∷ insert_entry key_order es k v)))
+        → list_any (text_eq l) (rc_str_bytes k ∷ entry_names es)
+        ≡ list_any (text_eq l) (entry_names (insert_entry key_order es k v))
+        → list_any (text_eq l) (rc_str_bytes k ∷ entry_names (p ∷ es))
+        ≡ list_any (text_eq l)
+        (entry_names (match_ordering o ((k, v) ∷ p ∷ es) ((p.0, v) ∷ es) (p ∷ insert_entry key_order es k v)))
     at_order Less h rest = refl
     at_order Equal h rest =
-        let same : rc_str_bytes k ≡ rc_str_bytes p.0 = (text_eq-decides (rc_str_bytes k) (rc_str_bytes p.0)).0 (sym (text_eq-order (rc_str_bytes k) (rc_str_bytes p.0)) ∙ ap is_eq h) in
-        ap (λ t. text_eq l t || (text_eq l (rc_str_bytes p.0) || is_among l (entry_names es))) same
-        ∙ twice (text_eq l (rc_str_bytes p.0)) (is_among l (entry_names es))
+        let a = rc_str_bytes k in
+        let b = rc_str_bytes p.0 in
+        let rest : Bool = list_any (text_eq l) (entry_names es) in
+        let same : a ≡ b = (text_eq-decides a b).0 (sym (text_eq-order a b) ∙ ap is_eq h) in
+        ap (λ t. text_eq l t || (text_eq l b || rest)) same ∙ twice (text_eq l b) rest
     at_order Greater h rest =
-        swapped (text_eq l (rc_str_bytes k)) (text_eq l (rc_str_bytes p.0)) (is_among l (entry_names es))
+        swapped (text_eq l (rc_str_bytes k)) (text_eq l (rc_str_bytes p.0)) (list_any (text_eq l) (entry_names es))
         ∙ ap (λ b. text_eq l (rc_str_bytes p.0) || b) rest
 
-pub names-step : (es : Entries) (k : RcStr Global) (v : Placed) (ks : List Text) → is_some (lookup (is_at (key_order k)) es) ≡ false
-    → first_again (entry_names es) (rc_str_bytes k ∷ ks) ≡ first_again (entry_names (insert_entry key_order es k v)) ks
+pub names-step : (es : Entries) (k : RcStr Global) (v : Placed) (ks : List Text)
+    → is_some (lookup (is_at (key_order k)) es) ≡ false
+    → first_repeated_after (entry_names es) (rc_str_bytes k ∷ ks)
+    ≡ first_repeated_after (entry_names (insert_entry key_order es k v)) ks
 names-step es k v ks h =
-    ap (λ b. cond b (Some (rc_str_bytes k)) (first_again (rc_str_bytes k ∷ entry_names es) ks)) (sym (has_key es k) ∙ h)
-    ∙ seen_alike ks (rc_str_bytes k ∷ entry_names es) (entry_names (insert_entry key_order es k v)) (more_names es k v)
+    let name = rc_str_bytes k in
+    ap (λ b. if b then Some name else first_repeated_after (entry_names es ++ name ∷ []) ks) (sym (has_key es k) ∙ h)
+    ∙ seen_alike ks (entry_names es ++ name ∷ []) (entry_names (insert_entry key_order es k v))
+    (λ l. behind_or_before l name (entry_names es) ∙ more_names es k v l)
 
 pub repeated-here : (es : Entries) (k : RcStr Global) → is_some (lookup (is_at (key_order k)) es) ≡ true
     → Some (rc_str_bytes k) ≡ repeated_key (entry_names es) (rc_str_bytes k)
-repeated-here es k h = sym (ap (λ b. cond b (Some (rc_str_bytes k)) None) (sym (has_key es k) ∙ h))
+repeated-here es k h = sym (ap (λ b. if b then Some (rc_str_bytes k) else None) (sym (has_key es k) ∙ h))
 
 -- a refusal of a name that is there is one of the first name that comes again, where it comes next
 pub refusal_again : (seen : List Text) (k : Text) (more : List Text) (e : ContextCreationError)
-    → IsRefusalOfName (repeated_key seen k) e → IsRefusalOfName (first_again seen (k ∷ more)) e
+    → IsRefusalOfName (repeated_key seen k) e → IsRefusalOfName (first_repeated_after seen (k ∷ more)) e
 refusal_again seen k more (refusals.NotARecord e) h = h
 refusal_again seen k more (refusals.Evaluation e) h = h
 refusal_again seen k more (refusals.ExpressionConstruction (constructions.DuplicateKey key context)) h =
-    (at_test (is_among k seen) (first_again (k ∷ seen) more) h.0, h.1)
+    (at_test (list_any (text_eq k) seen) (first_repeated_after (seen ++ k ∷ []) more) h.0, h.1)
   where
-    at_test : (b : Bool) (rest : Option Text) → cond b (Some k) None ≡ Some (rc_str_bytes key) → cond b (Some k) rest ≡ Some (rc_str_bytes key)
+    at_test : (b : Bool) (rest : Option Text) → (if b then Some k else None) ≡ Some (rc_str_bytes key)
+        → (if b then Some k else rest) ≡ Some (rc_str_bytes key)
     at_test true rest q = q
     at_test false rest q = absurd (cc)
 refusal_again seen k more (refusals.ExpressionConstruction (constructions.Memory e)) h = h

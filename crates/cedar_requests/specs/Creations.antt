@@ -15,7 +15,8 @@ use Rattle.cedar_model.specs.Agreement.{height}
 use Rattle.cedar_expressions.specs.declared.expr.Expr.{Expr}
 use Rattle.cedar_expressions.specs.declared.errors.ExpressionConstructionError.{ExpressionConstructionError}
 use Rattle.cedar_expressions.specs.declared.errors.ExpressionConstructionError.TheVariants as constructions
-use Rattle.cedar_expressions.specs.Records.{first_repeated, fields_in_order, pairs_view, keys_view}
+use Rattle.cedar_model.specs.Refusals.{first_repeated}
+use Rattle.cedar_expressions.specs.Records.{fields_in_order, pairs_view, keys_view}
 use Rattle.cedar_expressions.specs.View.{view}
 use Rattle.cedar_errors.specs.Failures.{failure_of}
 use Rattle.cedar_restricted_evaluator.specs.Evaluations.{IsBare, IsAnswerWithin}

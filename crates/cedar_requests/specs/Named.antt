@@ -8,7 +8,7 @@ use Rattle.std.specs.declared.alloc.Global.{Global}
 use Rattle.std.specs.declared.rc.RcStr.{RcStr}
 use Rattle.cedar_model.specs.Terms.{Text}
 use Rattle.cedar_model.specs.Values.{Represented, RepresentedFields, no_represented_at, one_represented_at}
-use Rattle.cedar_expressions.specs.Records.{first_repeated}
+use Rattle.cedar_model.specs.Refusals.{first_repeated}
 use Rattle.cedar_expressions.specs.declared.errors.ExpressionConstructionError.TheVariants as constructions
 use Rattle.cedar_values.specs.Sound.{Placed}
 use Rattle.cedar_requests.specs.declared.errors.ContextCreationError.{ContextCreationError}

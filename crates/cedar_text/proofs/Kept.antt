@@ -9,7 +9,8 @@ use Rattle.cedar_tokens.specs.declared.errors.ReadError.{ReadError}
 use Rattle.cedar_tokens.specs.declared.tokens.Token.{Token}
 use Rattle.cedar_expressions.specs.Nodes.{Node, entries_in_order}
 use Rattle.cedar_expressions.specs.Nodes as node
-use Rattle.cedar_expressions.specs.Records.{first_repeated, keys_view}
+use Rattle.cedar_model.specs.Refusals.{first_repeated}
+use Rattle.cedar_expressions.specs.Records.{keys_view}
 use Rattle.cedar_expressions.specs.declared.expr.Expr.{Expr}
 use Rattle.cedar_syntax.specs.Trees.{Tree, also, field, made, trees, gathered, left_below}
 use Rattle.cedar_syntax.specs.declared.steps.Binary.{Binary}

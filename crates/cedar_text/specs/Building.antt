@@ -25,7 +25,8 @@ use Rattle.cedar_names.specs.declared.types.FirstRest.{FirstRest}
 use Rattle.cedar_names.specs.declared.types.Literal.TheVariants as literal
 use Rattle.cedar_expressions.specs.Nodes.{Node, node_of, parts_of, entries_in_order}
 use Rattle.cedar_expressions.specs.Nodes as node
-use Rattle.cedar_expressions.specs.Records.{first_repeated, keys_view}
+use Rattle.cedar_model.specs.Refusals.{first_repeated}
+use Rattle.cedar_expressions.specs.Records.{keys_view}
 use Rattle.cedar_expressions.specs.View.{view, expr_loc}
 use Rattle.cedar_expressions.specs.declared.expr.Expr.{Expr}
 use Rattle.cedar_syntax.specs.Tokens.{kind_at}

@@ -2,15 +2,13 @@
 use Rattle.std.proofs.Common.{◌≡◌, Bool, true, false, ◌&&◌, ◌||◌, List, [], ◌∷◌, ◌++◌, refl, ap, ◌∙◌, if◌then◌else◌}
 use Rattle.std.specs.Bool.{Decides}
 use Rattle.std.specs.List.{list_any}
-use Rattle.std.specs.Option.{option_eq}
 use Rattle.std.specs.Rc.{rc_str_bytes}
 use Rattle.std.proofs.lemmas.Bool.Decides.{Decides-and}
 use Rattle.cedar_names.specs.declared.types.Unknown as unknowns
 use Rattle.cedar_names.specs.contracts.types.TypePartialEq.TheImpl as derived_type
 use Rattle.cedar_names.specs.contracts.types.UnknownPartialEq.TheImpl.{eq-value}
-use Rattle.cedar_names.specs.Equality.{text_eq}
+use Rattle.cedar_model.specs.Outcomes.{text_eq}
 use Rattle.cedar_names.specs.EqualityLaws.{text_eq-decides, annotation_eq-decides}
-use Rattle.cedar_names.proofs.Equality.{text_eq-bytes}
 use Rattle.cedar_names.proofs.Derived.{annotations_equal}
 use Rattle.indexmap.specs.IndexSet.{insert_key}
 use Rattle.cedar_unknowns.specs.Occurrences.{Asked, asked, asked_each, asked_eq, is_listed, noted}
@@ -24,8 +22,8 @@ asked_eq-decides a b =
 -- `==` of unknowns
 unknowns_equal : (a b : unknowns.Unknown) → eq-value.it a b ≡ asked_eq (asked a) (asked b)
 unknowns_equal a b =
-    let annotated : Bool = option_eq (derived_type.ghosts).eq a.type_annotation b.type_annotation in
-    ap (λ x. x && annotated) (text_eq-bytes (rc_str_bytes a.name) (rc_str_bytes b.name)) ∙ ap (λ x. text_eq (rc_str_bytes a.name) (rc_str_bytes b.name) && x) (annotations_equal a.type_annotation b.type_annotation)
+    ap (λ x. text_eq (rc_str_bytes a.name) (rc_str_bytes b.name) && x)
+    (annotations_equal a.type_annotation b.type_annotation)
 
 -- an unknown is in a set where it is among those that the set lists
 any_listed : (u : unknowns.Unknown) (us : List unknowns.Unknown) → list_any (eq-value.it u) us ≡ is_listed (asked u) (asked_each us)

@@ -9,7 +9,8 @@ use Rattle.cedar_model.specs.Failures.{PartialValue, value, residual}
 use Rattle.cedar_model.specs.Settings.{RequestPart, variable_part}
 use Rattle.cedar_model.specs.Responses.{Reported, reported_true, reported_false, reported_residual, Row}
 use Rattle.cedar_names.specs.declared.types.Unknown as unknowns
-use Rattle.cedar_names.specs.Equality.{text_eq, annotation_eq}
+use Rattle.cedar_model.specs.Outcomes.{text_eq}
+use Rattle.cedar_names.specs.Equality.{annotation_eq}
 use Rattle.cedar_names.specs.Leaves.{type_view}
 
 -- an unknown: its name, and the type that its value must have, if it is annotated with one

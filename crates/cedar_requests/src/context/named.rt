@@ -3,7 +3,8 @@
 ghost use Rattle.std.specs.Prelude.{◌≡◌, None, Some, IfOk, OnOk, IfErr};
 ghost use Rattle.std.specs.Rc.{rc_str_bytes};
 ghost use Rattle.cedar_model.specs.Settings.{known_context};
-ghost use Rattle.cedar_expressions.specs.Records.{first_repeated, repeated_key, HasOneMore};
+ghost use Rattle.cedar_model.specs.Refusals.{first_repeated};
+ghost use Rattle.cedar_expressions.specs.Records.{repeated_key, HasOneMore};
 ghost use Rattle.cedar_values.specs.Sound.{whats_at};
 ghost use Rattle.cedar_requests.specs.Contexts.{context_view};
 ghost use Rattle.cedar_requests.specs.Named.{names_given, entry_names, put_value, values_in_order};

@@ -7,7 +7,8 @@ ghost use Rattle.cedar_names.specs.Names.{name_text};
 ghost use Rattle.cedar_names.specs.Leaves.{literal_view, type_view};
 ghost use Rattle.cedar_expressions.specs.View.{expr_loc, terms_view};
 ghost use Rattle.cedar_expressions.specs.Errors.{IsRefusalOf};
-ghost use Rattle.cedar_expressions.specs.Records.{first_repeated, fields_in_order, pairs_view, keys_view};
+ghost use Rattle.cedar_model.specs.Refusals.{first_repeated};
+ghost use Rattle.cedar_expressions.specs.Records.{fields_in_order, pairs_view, keys_view};
 ghost use Rattle.cedar_expressions.specs.Nodes.{node_of, entries_in_order};
 ghost use Rattle.cedar_expressions.specs.Nodes as node;
 

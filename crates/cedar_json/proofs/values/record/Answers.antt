@@ -1,6 +1,7 @@
 use Rattle.std.proofs.Common.{◌≡◌, None, Ok, sym, ap, ◌∙◌, List}
 use Rattle.cedar_model.specs.Terms.{Text, Term, record_of}
-use Rattle.cedar_expressions.specs.Records.{first_repeated, fields_in_order, keys_view}
+use Rattle.cedar_model.specs.Refusals.{first_repeated}
+use Rattle.cedar_expressions.specs.Records.{fields_in_order, keys_view}
 use Rattle.cedar_restricted_expressions.specs.Views.{pairs_in}
 use Rattle.cedar_json.specs.Said.{unique_said, keys_of_pairs}
 use Rattle.cedar_json.specs.Lists.{pairs_said}

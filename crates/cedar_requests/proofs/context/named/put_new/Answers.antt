@@ -3,7 +3,7 @@ use Rattle.std.specs.BTreeMap.{is_at}
 use Rattle.std.specs.Map.{lookup}
 use Rattle.std.specs.Option.{is_some}
 use Rattle.cedar_expressions.specs.Nodes.{key_order}
-use Rattle.cedar_expressions.specs.Records.{first_again}
+use Rattle.cedar_model.specs.Refusals.{first_repeated_after}
 use Rattle.cedar_values.specs.Sound.{whats_at}
 use Rattle.cedar_requests.specs.Named.{entry_names, IsRefusalOfName}
 use Rattle.cedar_requests.proofs.Named.{put_value-entries, names-step, repeated-here}
@@ -24,4 +24,4 @@ returns-clause-names c =
     let es = c.args.values.now.entries in
     let absent : is_some (lookup (is_at (key_order c.args.key)) es) ≡ false = sym c.contains_key.ensures ∙ c.if-contains_key.false in
     λ more. names-step es c.args.key _ more absent
-    ∙ ap (λ fs. first_again (entry_names fs) more) (sym c.in_ok-insert.ensures.entries)
+    ∙ ap (λ fs. first_repeated_after (entry_names fs) more) (sym c.in_ok-insert.ensures.entries)
