@@ -1,4 +1,4 @@
-use Rattle.std.proofs.Common.{sym, ap, ◌≡◌, ◌∙◌, subst, Bool, Some, Ok}
+use Rattle.std.proofs.Common.{sym, ap, ◌≡◌, ◌∙◌, subst, Some, Ok}
 use Rattle.cedar_model.specs.Failures.{answers}
 use Rattle.cedar_model.specs.Rules.{Runs}
 use Rattle.cedar_frames.specs.declared.machine.Step.TheVariants.{Done}
