@@ -1,5 +1,5 @@
 -- The places of errors, and errors at other places.
-use Rattle.std.specs.Prelude.{Option, None}
+use Rattle.std.specs.Prelude.{Option, None, Some}
 use Rattle.cedar_names.specs.declared.names.Loc.{Loc}
 use Rattle.cedar_errors.specs.declared.extensions.ExtensionFunctionLookupError.{ExtensionFunctionLookupError}
 use Rattle.cedar_errors.specs.declared.extensions.ExtensionFunctionLookupError.TheVariants as lookups
@@ -58,7 +58,13 @@ error_at (errors.TypeError e) l = errors.TypeError (record e { source_loc = l })
 error_at (errors.WrongNumArguments e) l = errors.WrongNumArguments (record e { source_loc = l })
 error_at (errors.IntegerOverflow e) l = errors.IntegerOverflow (overflow_at e l)
 error_at (errors.UnlinkedSlot e) l = errors.UnlinkedSlot (record e { source_loc = l })
-error_at (errors.FailedExtensionFunctionExecution e) l = errors.FailedExtensionFunctionExecution (record e { source_loc = l })
+error_at (errors.FailedExtensionFunctionExecution e) l =
+    errors.FailedExtensionFunctionExecution (record e { source_loc = l })
 error_at (errors.NonValue e) l = errors.NonValue (record e { source_loc = l })
 error_at (errors.RecursionLimit e) l = errors.RecursionLimit (record e { source_loc = l })
 error_at (errors.Memory e) l = errors.Memory e
+
+-- an error, by its own place, within this place: one that has a place keeps it, and another is at this one
+abbrev pub error_within : Option Loc → EvaluationError → Option Loc → EvaluationError
+error_within None e l = error_at e l
+error_within (Some own) e l = e

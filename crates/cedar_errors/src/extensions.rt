@@ -69,12 +69,18 @@ impl ExtensionFunctionLookupError {
     pub fn with_maybe_source_loc(self, source_loc: Option<Loc>) -> ExtensionFunctionLookupError
         ensures { result ≡ lookup_at self source_loc }
     {
+        let mut error = self;
+        error.set_source_loc(source_loc);
+        error
+    }
+
+    // Puts it at this location, or at no known location.
+    pub(crate) fn set_source_loc(&mut self, source_loc: Option<Loc>)
+        ensures { self.new ≡ lookup_at self.old source_loc }
+    {
         match self {
-            ExtensionFunctionLookupError::FuncDoesNotExist(mut e) => {
-                e.source_loc = source_loc;
-                ExtensionFunctionLookupError::FuncDoesNotExist(e)
-            }
-            ExtensionFunctionLookupError::Memory(e) => ExtensionFunctionLookupError::Memory(e),
+            ExtensionFunctionLookupError::FuncDoesNotExist(e) => e.source_loc = source_loc,
+            ExtensionFunctionLookupError::Memory(_) => {}
         }
     }
 }

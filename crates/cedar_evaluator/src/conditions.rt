@@ -170,8 +170,8 @@ impl<'e, 'f> Evaluator<'e, 'f> {
 
     // The entity of a literal, and of a variable that stands for one that is known.
     fn entity<'x>(&'x self, e: &'x Expr) -> Option<&'x EntityUID>
-        ensures { IfSome result (λ u. AnswersFrom self.now 1 (view e.now) (answers_value (plain_represented (entity_literal
-            (uid_name u.now))))) }
+        ensures { IfSome result (λ u. AnswersFrom self.now 1 (view e.now)
+            (answers_value (plain_represented (entity_literal (uid_name u.now))))) }
     {
         match e.expr_kind() {
             ExprKind::Lit(literal) => entity_in_literal(literal),

@@ -3,7 +3,7 @@ ghost use Rattle.std.specs.Prelude.{◌≡◌, IfOk, IfSome};
 ghost use Rattle.cedar_model.specs.Terms.{entity_literal};
 ghost use Rattle.cedar_model.specs.Values.{plain_represented};
 ghost use Rattle.cedar_model.specs.Failures as Failures;
-ghost use Rattle.cedar_model.specs.Settings.{Store, look_up};
+ghost use Rattle.cedar_model.specs.Settings.{look_up};
 ghost use Rattle.cedar_names.specs.Names.{uid_name};
 ghost use Rattle.cedar_names.specs.Leaves.{variable_view};
 ghost use Rattle.cedar_values.specs.Residuals.{partial_view};
@@ -38,19 +38,6 @@ pub struct KnownEntities<'g> {
 }
 
 impl<'g> KnownEntities<'g> {
-    /// Nothing: each is looked up where it is read.
-    pub fn nothing() -> KnownEntities<'g>
-        ensures principal { (s : Store) (p : Failures.PartialValue) → IsKnownOf s p result.principal }
-        ensures action { (s : Store) (p : Failures.PartialValue) → IsKnownOf s p result.action }
-        ensures resource { (s : Store) (p : Failures.PartialValue) → IsKnownOf s p result.resource }
-    {
-        KnownEntities {
-            principal: Known::Nothing,
-            action: Known::Nothing,
-            resource: Known::Nothing,
-        }
-    }
-
     /// What the store has of the entities that these three are. Refuses only for want of memory.
     pub fn of(
         alloc: Global,
@@ -59,9 +46,11 @@ impl<'g> KnownEntities<'g> {
         action: &PartialValue,
         resource: &PartialValue,
     ) -> Result<KnownEntities<'g>, AllocError>
-        ensures principal { IfOk result (λ k. IsKnownOf (store_view entities.now) (partial_view principal.now) k.principal) }
+        ensures principal { IfOk result
+            (λ k. IsKnownOf (store_view entities.now) (partial_view principal.now) k.principal) }
         ensures action { IfOk result (λ k. IsKnownOf (store_view entities.now) (partial_view action.now) k.action) }
-        ensures resource { IfOk result (λ k. IsKnownOf (store_view entities.now) (partial_view resource.now) k.resource) }
+        ensures resource { IfOk result
+            (λ k. IsKnownOf (store_view entities.now) (partial_view resource.now) k.resource) }
     {
         let of_principal = known_in(alloc, entities, principal)?;
         let of_action = known_in(alloc, entities, action)?;
@@ -87,7 +76,8 @@ impl<'g> KnownEntities<'g> {
 
     /// Whether the entity that the variable stands for, which is the first, is the second or in it, if that is known.
     pub fn is_in(&self, var: Var, uid: &EntityUID, other: &EntityUID) -> Option<bool>
-        ensures { result ≡ within (known_view (known_for self.now (variable_view var))) (uid_name uid.now) (uid_name other.now) }
+        ensures { result
+            ≡ within (known_view (known_for self.now (variable_view var))) (uid_name uid.now) (uid_name other.now) }
     {
         match var {
             Var::Principal => is_in(self.principal, uid, other),

@@ -63,12 +63,15 @@ pub struct Given<'g, 'f> {
     pub mapper: Mapper<'g>,
     /// What reading a stored residual answers.
     pub resolution: Resolution,
-    /// What the store has of the entities that principal, action and resource stand for; `KnownEntities::nothing()` where nobody
-    /// looked them up.
+    /// What the store has of the entities that principal, action and resource stand for; `Known::Nothing` of one that
+    /// nobody looked up.
     pub known: KnownEntities<'g>,
-    ghost principal_known: { IsKnownOf (store_view entities.now) (partial_view principal) known.principal } by { IsKnownOf-prop _ _ _ },
-    ghost action_known: { IsKnownOf (store_view entities.now) (partial_view action) known.action } by { IsKnownOf-prop _ _ _ },
-    ghost resource_known: { IsKnownOf (store_view entities.now) (partial_view resource) known.resource } by { IsKnownOf-prop _ _ _ },
+    ghost principal_known: { IsKnownOf (store_view entities.now) (partial_view principal)
+        known.principal } by { IsKnownOf-prop _ _ _ },
+    ghost action_known: { IsKnownOf (store_view entities.now) (partial_view action)
+        known.action } by { IsKnownOf-prop _ _ _ },
+    ghost resource_known: { IsKnownOf (store_view entities.now) (partial_view resource)
+        known.resource } by { IsKnownOf-prop _ _ _ },
 }
 
 impl<'g, 'f> Given<'g, 'f> {

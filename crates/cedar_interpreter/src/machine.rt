@@ -74,9 +74,15 @@ impl<'e, 'g, 'f> Machine for Evaluation<'e, 'g, 'f> {
         Err(Stopped::Memory)
     }
 
-    ghost right_limit = { λ s t. (right_limit (λ r. Speaks r s) (λ r. evaluation_setting r s) (calls_in s) t, λ n. tt) };
+    ghost right_limit = { λ s t. (
+      right_limit (λ r. Speaks r s) (λ r. evaluation_setting r s) (calls_in s) t,
+      λ n. tt,
+    ) };
 
-    ghost right_want = { λ s k t. (right_want (λ r. Speaks r s) (λ r. evaluation_setting r s) (calls_in s) k t, λ n. tt) };
+    ghost right_want = { λ s k t. (
+      right_want (λ r. Speaks r s) (λ r. evaluation_setting r s) (calls_in s) k t,
+      λ n. tt,
+    ) };
 
     ghost limit_ends = { limit_ends };
 

@@ -175,8 +175,9 @@ impl<'e, 'g, 'f> Evaluation<'e, 'g, 'f> {
         attr: &RcStr,
         mut container: Box<PartialValue>,
     ) -> Next
-        requires { resolved_in (resolution_view self.now.given.now.resolution) (part_residual
-            (store_view self.now.given.now.entities.now) (partial_view container.value) (rc_str_bytes attr.now)) ≡ None }
+        requires { resolved_in (resolution_view self.now.given.now.resolution)
+            (part_residual (store_view self.now.given.now.entities.now) (partial_view container.value)
+            (rc_str_bytes attr.now)) ≡ None }
         ensures { ContinuesAt self.now whole.now (pendings.GetAttr attr.now) (boxed_answer container) result }
     {
         let part = taken_out(&mut container);

@@ -1,5 +1,5 @@
 -- Sets of policies as plain data.
-use Rattle.std.specs.Prelude.{◌≡◌, true, false, List, [], ◌∷◌, ◌++◌, map, Option, None, Some}
+use Rattle.std.specs.Prelude.{◌≡◌, Bool, true, false, List, [], ◌∷◌, ◌++◌, map, length, Option, None, Some}
 use Rattle.std.specs.List.{list_any}
 use Rattle.std.specs.Map.{keys_of, values_of}
 use Rattle.cedar_model.specs.Terms.{Text}
@@ -11,6 +11,7 @@ use Rattle.cedar_layers.specs.declared.policies.policy_set.PolicySet.{PolicySet}
 use Rattle.cedar_layers.specs.declared.policies.policy_set.PolicySetError.{PolicySetError}
 use Rattle.cedar_layers.specs.declared.policies.policy_set.PolicySetError.TheVariants.{Occupied, Memory}
 use Rattle.cedar_layers.specs.Policies.{PolicyView, policy_view, policy_id_text}
+use Rattle.cedar_layers.specs.Scopes.{is_mostly_rest}
 
 -- the policies of a set, in order of insertion
 abbrev pub policies_view : PolicySet → List PolicyView
@@ -19,6 +20,10 @@ policies_view s = map policy_view (values_of s.policies.entries)
 -- the policies themselves, in order of insertion
 abbrev pub stored_policies : PolicySet → List Policy
 stored_policies s = values_of s.policies.entries
+
+-- the index binds less than half of the policies to entities, so that it leaves out too few
+abbrev pub leaves_out_few : PolicySet → Bool
+leaves_out_few s = is_mostly_rest s.index (length s.policies.entries)
 
 -- the policies that an iterator has left
 abbrev pub policies_left : Policies → List Policy

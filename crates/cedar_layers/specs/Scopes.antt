@@ -1,5 +1,5 @@
 -- What scopes ask of principal, action and resource, and the index of policies by the entities that their scopes name.
-use Rattle.std.specs.Prelude.{◌≡◌, ◌⊎◌, ℕ, ◌==◌, Bool, true, false, cond, ◌&&◌, ◌||◌, List, [], ◌∷◌, ◌++◌, Option, None, Some, is_some, slice_get}
+use Rattle.std.specs.Prelude.{◌≡◌, ◌⊎◌, ℕ, ◌/◌, ◌==◌, nat_lt, Bool, true, false, cond, ◌&&◌, ◌||◌, List, [], ◌∷◌, ◌++◌, length, Option, None, Some, is_some, slice_get}
 use Rattle.std.specs.List.{list_any}
 use Rattle.std.specs.Map.{lookup}
 use Rattle.std.specs.declared.alloc.Global.{Global}
@@ -78,6 +78,10 @@ abbrev pub AreWithinReach : List EntityName → List Policy → List Policy → 
 AreWithinReach es all some = AreAllBut (λ p. IsBoundElsewhere es (policy_view p)) all some
 
 -- ---- the index
+
+-- more than half of so many policies are in the rest
+abbrev pub is_mostly_rest : ScopeIndex → ℕ → Bool
+is_mostly_rest index count = nat_lt (count / 2) (length index.rest.items)
 
 -- positions under the entities that scopes name
 abbrev pub Groups : Type 0

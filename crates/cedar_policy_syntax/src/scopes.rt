@@ -235,7 +235,8 @@ impl Written {
         requires is { Tokens.kind_at tokens.now index ≡ Grammar.kind_of variable }
         requires typed { Grammar.has_type variable ≡ true }
         requires behind { Tokens.kind_at tokens.now (index + 1) ≡ kind.Is }
-        requires path { IsPath tokens.now (index + 1 + 1) path.next (Tokens.start_at tokens.now (index + 1 + 1)) path.end }
+        requires path { IsPath tokens.now (index + 1 + 1) path.next
+            (Tokens.start_at tokens.now (index + 1 + 1)) path.end }
         ensures ok { IfOk result (λ next. Puts (IsConstraint tokens.now variable index next)
             (trees self.old.steps.items) (trees self.new.steps.items)) }
         ensures err { IfErr result (λ error. IsPlaced tokens.now error) }

@@ -241,7 +241,8 @@ impl Reading {
 
     // The policies, if each could be read.
     fn finished(self, alloc: Global) -> Result<ParsedPolicies, FirstRest<ReadError>>
-        ensures ok { (text : List ℕ) (limit : ℕ) → IfOk result (λ out. IsRead text limit self → AreAllRead text limit out) }
+        ensures ok { (text : List ℕ) (limit : ℕ) →
+            IfOk result (λ out. IsRead text limit self → AreAllRead text limit out) }
         ensures told { (text : List ℕ) → IfErr result (λ e. AreWithin text self.errors.items →
             AreWithin text (e.first ∷ e.rest.items)) }
     {

@@ -107,7 +107,8 @@ fn entity_of_type(alloc: Global, ty: &Type, name: &str) -> Result<Option<EntityU
 
 // The entity of this type whose text this is, if it is one's.
 fn entity_named(alloc: Global, ty: &EntityType, name: &str) -> Result<Option<EntityUID>, AllocError>
-    ensures { IfOk result (λ o. option_map uid_name o ≡ entity_asked (name.now, Some (entity_type (type_text ty.now)))) }
+    ensures { IfOk result
+        (λ o. option_map uid_name o ≡ entity_asked (name.now, Some (entity_type (type_text ty.now)))) }
 {
     match quoted_id(ty, name) {
         None => Ok(None),

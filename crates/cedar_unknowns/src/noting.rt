@@ -15,7 +15,8 @@ use std::rc::RcStr;
 /// Puts the unknowns that stand in the expression behind these, each unless it is one of them.
 #[cycle(note)]
 pub(crate) fn note_unknowns(expr: &Expr, found: &mut IndexSet<Unknown>) -> Result<(), AllocError>
-    ensures { OnOk result (asked_each found.new.keys ≡ noted_each (occurrences (view expr.now)) (asked_each found.old.keys)) }
+    ensures { OnOk result
+        (asked_each found.new.keys ≡ noted_each (occurrences (view expr.now)) (asked_each found.old.keys)) }
 {
     match expr.expr_kind() {
         ExprKind::Lit(_) => Ok(()),

@@ -93,7 +93,7 @@ fn add_entity<'a>(
 {
     match entities.entity(alloc, uid)? {
         Dereference::Data(entity) => {
-            if is_in_vain(alloc, policies, entity)? {
+            if is_in_vain(policies, entity) {
                 return Ok(false);
             }
             uids.push(uid)?;
@@ -112,13 +112,8 @@ fn add_entity<'a>(
 }
 
 // Whether the entity is in many others, and the index of the set leaves out too few policies to be asked for them.
-fn is_in_vain(alloc: Global, policies: &PolicySet, entity: &Entity) -> Result<bool, AllocError> {
-    if entity.ancestors().len() <= FEW_ANCESTORS {
-        return Ok(false);
-    }
-    let none: Vec<&EntityUID> = Vec::new(alloc);
-    let rest = policies.within_reach(alloc, &none)?;
-    Ok(rest.is_none())
+fn is_in_vain(policies: &PolicySet, entity: &Entity) -> bool {
+    entity.ancestors().len() > FEW_ANCESTORS && policies.leaves_out_few()
 }
 
 // Adds all that the entity is in.

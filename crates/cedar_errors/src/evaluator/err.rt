@@ -57,7 +57,7 @@ impl EvaluationError {
     ghost use Rattle.std.specs.Prelude.{◌≡◌, option_copied};
     ghost use Rattle.cedar_model.specs.Chains as chains;
     ghost use Rattle.cedar_model.specs.Failures.{failure_kind};
-    ghost use Rattle.cedar_errors.specs.Errors.{error_loc, error_at};
+    ghost use Rattle.cedar_errors.specs.Errors.{error_loc, error_at, error_within};
     ghost use Rattle.cedar_errors.specs.Failures.{failure_of};
     ghost use Rattle.cedar_errors.specs.Finals.{is_limit, is_want, is_of_memory};
 
@@ -128,12 +128,12 @@ impl EvaluationError {
     /// The same error, at this location if it has none.
     #[inline(always)]
     pub fn with_enclosing_loc(self, loc: Option<Loc>) -> EvaluationError
-        ensures { failure_of result ≡ failure_of self }
+        ensures whole { result ≡ error_within (error_loc self) self loc }
+        ensures failure { failure_of result ≡ failure_of self }
     {
-        if self.source_loc().is_none() {
-            self.with_maybe_source_loc(loc)
-        } else {
-            self
+        match self.source_loc() {
+            Some(_) => self,
+            None => self.with_maybe_source_loc(loc),
         }
     }
 
@@ -141,49 +141,28 @@ impl EvaluationError {
     pub fn with_maybe_source_loc(self, source_loc: Option<Loc>) -> EvaluationError
         ensures { result ≡ error_at self source_loc }
     {
+        let mut error = self;
+        error.set_source_loc(source_loc);
+        error
+    }
+
+    // Puts it at this location, or at no known location.
+    fn set_source_loc(&mut self, source_loc: Option<Loc>)
+        ensures { self.new ≡ error_at self.old source_loc }
+    {
         match self {
-            EvaluationError::EntityDoesNotExist(mut e) => {
-                e.source_loc = source_loc;
-                EvaluationError::EntityDoesNotExist(e)
-            }
-            EvaluationError::EntityAttrDoesNotExist(mut e) => {
-                e.source_loc = source_loc;
-                EvaluationError::EntityAttrDoesNotExist(e)
-            }
-            EvaluationError::RecordAttrDoesNotExist(mut e) => {
-                e.source_loc = source_loc;
-                EvaluationError::RecordAttrDoesNotExist(e)
-            }
-            EvaluationError::FailedExtensionFunctionLookup(e) =>
-                EvaluationError::FailedExtensionFunctionLookup(e.with_maybe_source_loc(source_loc)),
-            EvaluationError::TypeError(mut e) => {
-                e.source_loc = source_loc;
-                EvaluationError::TypeError(e)
-            }
-            EvaluationError::WrongNumArguments(mut e) => {
-                e.source_loc = source_loc;
-                EvaluationError::WrongNumArguments(e)
-            }
-            EvaluationError::IntegerOverflow(e) => EvaluationError::IntegerOverflow(
-                e.with_maybe_source_loc(source_loc),
-            ),
-            EvaluationError::UnlinkedSlot(mut e) => {
-                e.source_loc = source_loc;
-                EvaluationError::UnlinkedSlot(e)
-            }
-            EvaluationError::FailedExtensionFunctionExecution(mut e) => {
-                e.source_loc = source_loc;
-                EvaluationError::FailedExtensionFunctionExecution(e)
-            }
-            EvaluationError::NonValue(mut e) => {
-                e.source_loc = source_loc;
-                EvaluationError::NonValue(e)
-            }
-            EvaluationError::RecursionLimit(mut e) => {
-                e.source_loc = source_loc;
-                EvaluationError::RecursionLimit(e)
-            }
-            EvaluationError::Memory(e) => EvaluationError::Memory(e),
+            EvaluationError::EntityDoesNotExist(e) => e.source_loc = source_loc,
+            EvaluationError::EntityAttrDoesNotExist(e) => e.source_loc = source_loc,
+            EvaluationError::RecordAttrDoesNotExist(e) => e.source_loc = source_loc,
+            EvaluationError::FailedExtensionFunctionLookup(e) => e.set_source_loc(source_loc),
+            EvaluationError::TypeError(e) => e.source_loc = source_loc,
+            EvaluationError::WrongNumArguments(e) => e.source_loc = source_loc,
+            EvaluationError::IntegerOverflow(e) => e.set_source_loc(source_loc),
+            EvaluationError::UnlinkedSlot(e) => e.source_loc = source_loc,
+            EvaluationError::FailedExtensionFunctionExecution(e) => e.source_loc = source_loc,
+            EvaluationError::NonValue(e) => e.source_loc = source_loc,
+            EvaluationError::RecursionLimit(e) => e.source_loc = source_loc,
+            EvaluationError::Memory(_) => {}
         }
     }
 }

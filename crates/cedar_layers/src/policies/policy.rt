@@ -205,7 +205,8 @@ impl Policy {
     /// The policy of this id that has the effect, the annotations, the parts and the location of this one, and in which these
     /// values stand for the slots: a template's policy. Refuses only for want of memory.
     pub fn link(&self, alloc: Global, id: PolicyID, env: SlotEnv) -> Result<Policy, AllocError>
-        ensures view { IfOk result (λ p. policy_view p ≡ linked (policy_view self.now) (policy_id_text id) (slots_view env)) }
+        ensures view { IfOk result
+            (λ p. policy_view p ≡ linked (policy_view self.now) (policy_id_text id) (slots_view env)) }
         ensures parts { IfOk result (λ p. policy_parts p ≡ policy_parts self.now) }
         ensures loc { IfOk result (λ p. policy_location p ≡ policy_location self.now) }
     {

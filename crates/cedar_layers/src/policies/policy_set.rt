@@ -18,7 +18,8 @@ pub struct PolicySet {
     policies: IndexMap<PolicyID, Policy>,
     index: ScopeIndex,
     ghost distinct: { first_repeated (policy_ids (map policy_view (values_of policies.entries))) ≡ None },
-    ghost indexed: { ArePlaced index (values_of policies.entries) } by { ArePlaced-prop index (values_of policies.entries) },
+    ghost indexed: { ArePlaced index (values_of policies.entries) } by { ArePlaced-prop index
+        (values_of policies.entries) },
 }
 
 impl Drop for PolicySet {
@@ -65,10 +66,10 @@ impl<T: Drop> From<AllocFailed<T>> for PolicySetError {
 }
 
 impl PolicySet {
-    ghost use Rattle.std.specs.Prelude.{Some, OnOk, IfErr, length};
+    ghost use Rattle.std.specs.Prelude.{true, Some, Ok, OnOk, IfErr, length};
     ghost use Rattle.cedar_names.specs.Names.{uid_name};
     ghost use Rattle.cedar_layers.specs.Scopes.{Places, AreWithinReach};
-    ghost use Rattle.cedar_layers.specs.PolicySets.{policies_view, stored_policies, policies_left};
+    ghost use Rattle.cedar_layers.specs.PolicySets.{policies_view, stored_policies, policies_left, leaves_out_few};
     ghost use Rattle.cedar_layers.specs.PolicySets.{occupied_id, Adds, IsTaken};
 
     /// The set of these policies. Refuses with `Occupied`, which names the first id that comes again, or for want of memory.
@@ -125,18 +126,27 @@ impl PolicySet {
         }
     }
 
-    /// The policies in order of insertion, but for some that are bound elsewhere: of which the scope asks that principal, action
-    /// or resource is an entity, or is in one, that is none of these. None, where the index leaves out too few. Refuses only for
-    /// want of memory.
+    /// Whether the scopes of fewer than half of the policies are known to ask for an entity, so that `within_reach`
+    /// leaves out too few of them to be of use, whatever the entities are.
+    pub fn leaves_out_few(&self) -> bool
+        ensures { result ≡ leaves_out_few self.now }
+    {
+        self.index.is_mostly_rest(self.policies.len())
+    }
+
+    /// The policies in order of insertion, but for some that are bound elsewhere: of which the scope asks that
+    /// principal, action or resource is an entity, or is in one, that is none of these. None, where the index leaves
+    /// out too few (`leaves_out_few`). Refuses only for want of memory.
     pub fn within_reach(
         &self,
         alloc: Global,
         uids: &[&EntityUID],
     ) -> Result<Option<Vec<&Policy>>, AllocError>
-        ensures { IfOk result (λ o. IfSome o (λ v. AreWithinReach (map (λ u. uid_name u.now) uids.now)
+        ensures reach { IfOk result (λ o. IfSome o (λ v. AreWithinReach (map (λ u. uid_name u.now) uids.now)
             (stored_policies self.now) (map (λ p. p.now) v.items))) }
+        ensures few { leaves_out_few self.now ≡ true → result ≡ Ok None }
     {
-        if self.index.is_mostly_rest(self.policies.len()) {
+        if self.leaves_out_few() {
             return Ok(None);
         }
         let positions = self.index.positions(alloc, uids)?;

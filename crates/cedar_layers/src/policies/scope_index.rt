@@ -8,7 +8,7 @@ ghost use Rattle.cedar_names.specs.Names.{uid_name};
 ghost use Rattle.cedar_expressions.specs.View.{view};
 ghost use Rattle.cedar_layers.specs.Policies.{policy_view};
 ghost use Rattle.cedar_layers.specs.Scopes.{compares, is_entity_variable, literal_entity, compared_entity, is_truth};
-ghost use Rattle.cedar_layers.specs.Scopes.{IsBoundTo, standing_under, Places};
+ghost use Rattle.cedar_layers.specs.Scopes.{IsBoundTo, is_mostly_rest, standing_under, Places};
 ghost use Rattle.cedar_layers.specs.Scopes.{Extends, ReachesAll};
 
 use super::policy::Policy;
@@ -53,8 +53,10 @@ impl ScopeIndex {
         }
     }
 
-    // Whether most policies are in the rest, so that an index tells little.
-    pub(super) fn is_mostly_rest(&self, count: usize) -> bool {
+    // Whether more than half of so many policies are in the rest, so that an index tells little.
+    pub(super) fn is_mostly_rest(&self, count: usize) -> bool
+        ensures { result ≡ is_mostly_rest self.now count }
+    {
         self.rest.len() > count / 2
     }
 

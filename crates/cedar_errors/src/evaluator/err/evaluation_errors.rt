@@ -527,15 +527,18 @@ impl IntegerOverflowError {
     pub fn with_maybe_source_loc(self, source_loc: Option<Loc>) -> IntegerOverflowError
         ensures { result ≡ overflow_at self source_loc }
     {
+        let mut error = self;
+        error.set_source_loc(source_loc);
+        error
+    }
+
+    // Puts it at this location, or at no known location.
+    pub(crate) fn set_source_loc(&mut self, source_loc: Option<Loc>)
+        ensures { self.new ≡ overflow_at self.old source_loc }
+    {
         match self {
-            IntegerOverflowError::BinaryOp(mut e) => {
-                e.source_loc = source_loc;
-                IntegerOverflowError::BinaryOp(e)
-            }
-            IntegerOverflowError::UnaryOp(mut e) => {
-                e.source_loc = source_loc;
-                IntegerOverflowError::UnaryOp(e)
-            }
+            IntegerOverflowError::BinaryOp(e) => e.source_loc = source_loc,
+            IntegerOverflowError::UnaryOp(e) => e.source_loc = source_loc,
         }
     }
 }

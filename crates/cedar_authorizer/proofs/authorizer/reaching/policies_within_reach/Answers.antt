@@ -21,4 +21,4 @@ returns-in-Some g c =
     IfOk-weaker c.within_reach.result _ _
     (λ o h. IfSome_then o h (λ v k. others_false (asked a c.args.request.now c.args.entities.now) (configuration a).calls (configuration a).levels
     (map (λ u. uid_name u.now) c.deref.result.now) (omega (arith, c.if-authorizer-lt-SCOPE_LEVELS.false)) covered (stored_policies c.args.policies.now) (map (λ p. p.now) v.items) k))
-    c.within_reach.ensures
+    c.within_reach.ensures.reach

@@ -26,6 +26,7 @@ pub returns-in-Err-clause-answer : goal.returns-in-Err-clause-answer
 returns-in-Err-clause-answer g c t h =
     let v = c.args.self.now in
     let slots = slots_view c.args.slots.now in
-    subst (λ f. RunsWith v slots (suc c.args.levels) (both t (view c.args.right.now)) (fails f)) (sym c.with_enclosing_loc.ensures)
+    subst (λ f. RunsWith v slots (suc c.args.levels) (both t (view c.args.right.now)) (fails f))
+    (sym c.with_enclosing_loc.ensures.failure)
     (failed_left (setting_of v slots) (calls_in v) c.args.levels t (view c.args.right.now) (failure_of c.in-Err.error)
     (subst (λ r. RunsWith v slots c.args.levels t (partial_answer r)) c.in-Err.is h))

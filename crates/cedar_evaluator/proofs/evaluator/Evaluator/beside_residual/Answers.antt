@@ -21,6 +21,7 @@ pub returns-in-Err-clause-answer : goal.returns-in-Err-clause-answer
 returns-in-Err-clause-answer g c t h =
     let v = c.args.self.now in
     let slots = slots_view c.args.slots.now in
-    subst (λ f. RunsWith v slots (suc c.args.levels) (both t (view c.args.right.now)) (fails f)) (sym c.with_enclosing_loc.ensures)
+    subst (λ f. RunsWith v slots (suc c.args.levels) (both t (view c.args.right.now)) (fails f))
+    (sym c.with_enclosing_loc.ensures.failure)
     (handed_up_right (setting_of v slots) (calls_in v) c.args.levels t (view c.args.right.now) (residual_term c.args.left)
     (partial_answer c.part.result) (h (not_wanting _)) c.part.ensures (failure_of c.in-Err.error) c.in-Err.ensures)

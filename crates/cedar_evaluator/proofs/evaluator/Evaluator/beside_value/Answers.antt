@@ -24,4 +24,5 @@ pub returns-in-None-clause-answer : goal.returns-in-None-clause-answer
 returns-in-None-clause-answer g c t h =
     no_bool_left (setting_of c.args.self.now (slots_view c.args.slots.now)) (calls_in c.args.self.now) c.args.levels t (view c.args.right.now) c.args.left.now.what (h (not_wanting _))
     (failure_of c.with_enclosing_loc.result) (sym c.bool_in.ensures ∙ c.in-None.is)
-    (λ ok. c.with_enclosing_loc.ensures ∙ c.type_error.ensures (λ w. ok (c.with_enclosing_loc.ensures ∙ w)))
+    (λ ok. c.with_enclosing_loc.ensures.failure ∙
+    c.type_error.ensures (λ w. ok (c.with_enclosing_loc.ensures.failure ∙ w)))
