@@ -1,11 +1,11 @@
 -- What maps of entities hold.
-use Rattle.std.proofs.Common.{◌≡◌, refl, sym, ap, ◌∙◌, ℕ, Bool, true, false, cond, ◌&&◌, ◌||◌, ◌==◌, List, [], ◌∷◌, ◌++◌, map, Option, None, Some, option_map, if◌then◌else◌, codes}
-use Rattle.std.proofs.lemmas.Bool.{eqb-true}
+use Rattle.std.proofs.Common.{◌≡◌, refl, sym, ap, ◌∙◌, Bool, true, false, ◌&&◌, ◌||◌, List, [], ◌∷◌, map, Option}
+use Rattle.std.proofs.Common.{None, Some, option_map, if◌then◌else◌}
 use Rattle.std.specs.Cmp.Lexicographic.{same_text}
 use Rattle.std.specs.List.{list_any}
 use Rattle.std.specs.Map.{lookup, KeepsOthers}
-use Rattle.cedar_model.specs.Terms.{Text, EntityName}
-use Rattle.cedar_model.specs.Outcomes.{text_eq, entity_eq, escaped}
+use Rattle.cedar_model.specs.Terms.{EntityName}
+use Rattle.cedar_model.specs.Outcomes.{text_eq, entity_eq}
 use Rattle.cedar_model.specs.Settings.{StoredEntity, found, not_there, not_known, found_in, is_among, printed_entity}
 use Rattle.cedar_names.specs.declared.names.EntityUID.{EntityUID}
 use Rattle.cedar_names.specs.Names.{uid_name}
@@ -106,18 +106,6 @@ pub last_is_named : (es : List Entity) (n : EntityName) (e : Entity) → last_of
 last_is_named es n e h =
     named_with_each none_stands (λ m y k. absurd (none_is_not_some k)) es n e h
 
--- the two ways to write an escaped text
-escaped_at : (b : ℕ) (bs : Text) (p q : Bool) → (b == 34) ≡ p → (b == 92) ≡ q → cond (p || q) (92 ∷ b ∷ bs) (b ∷ bs) ≡ (if p then 92 ∷ 34 ∷ [] else (if q then 92 ∷ 92 ∷ [] else b ∷ [])) ++ bs
-escaped_at b bs true q e f = λ i. 92 ∷ eqb-true b 34 e i ∷ bs
-escaped_at b bs false true e f = λ i. 92 ∷ eqb-true b 92 f i ∷ bs
-escaped_at b bs false false e f = refl
-
-escaped-same : (t : Text) → texts.escaped t ≡ escaped t
-unfolding escaped texts.escaped
-escaped-same [] = refl
-escaped-same (b ∷ bs) =
-    ap (λ (cs : Text). texts.escaped_byte b ++ cs) (escaped-same bs) ∙ sym (escaped_at b (escaped bs) (b == 34) (b == 92) refl refl)
-
 -- an entity's name prints as the unknown that stands for it is named
 pub entity_text-printed : (e : EntityName) → texts.entity_text e ≡ printed_entity e
-entity_text-printed e = ap (λ (t : Text). e.type_name ++ (codes "::\"" ++ (t ++ codes "\""))) (escaped-same e.id)
+entity_text-printed e = refl

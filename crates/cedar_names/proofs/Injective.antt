@@ -3,7 +3,9 @@ use Rattle.std.proofs.Common.{◌≡◌, ℕ, ◌==◌, List, [], ◌∷◌, ◌
 use Rattle.std.proofs.lemmas.Bool.{cases_Bool, false≢true}
 use Rattle.std.proofs.lemmas.Bool.Decides.{nat_tests}
 use Rattle.cedar_model.specs.Terms.{Text, EntityName}
-use Rattle.cedar_names.specs.Texts.{escaped, escaped_byte, entity_text}
+use Rattle.cedar_model.specs.Outcomes.{escaped}
+use Rattle.cedar_names.specs.Texts.{entity_text}
+use Rattle.cedar_names.proofs.Escapes.{escaped_byte, escaped-cons, escaped-nil}
 
 head_same : {a b : ℕ} {xs ys : List ℕ} → a ∷ xs ≡ b ∷ ys → a ≡ b
 head_same e = cc
@@ -53,9 +55,10 @@ byte_is_escaped before b rest h =
     ]
 
 quotes_are_escaped : (before : ℕ) (t : Text) → QuotesAreEscaped before (escaped t)
-unfolding escaped
-quotes_are_escaped before [] = tt
-quotes_are_escaped before (b ∷ bs) = byte_is_escaped before b (escaped bs) (λ c. quotes_are_escaped c bs)
+quotes_are_escaped before [] = subst (QuotesAreEscaped before) (sym escaped-nil) tt
+quotes_are_escaped before (b ∷ bs) =
+    subst (QuotesAreEscaped before) (sym (escaped-cons b bs))
+    (byte_is_escaped before b (escaped bs) (λ c. quotes_are_escaped c bs))
 
 -- no such text has a quote behind a colon
 no_opening : (before : ℕ) (xs ys : List ℕ) → QuotesAreEscaped before (xs ++ 58 ∷ 34 ∷ ys) → ⊥
@@ -69,11 +72,12 @@ byte_is_there : (b : ℕ) (xs : List ℕ) → [] ≡ escaped_byte b ++ xs → �
 byte_is_there b xs e = grind (arith, nat_tests)
 
 escaped-injective : (s t : Text) → escaped s ≡ escaped t → s ≡ t
-unfolding escaped
 escaped-injective [] [] e = refl
-escaped-injective [] (b ∷ t) e = absurd (byte_is_there b (escaped t) e)
-escaped-injective (a ∷ s) [] e = absurd (byte_is_there a (escaped s) (sym e))
-escaped-injective (a ∷ s) (b ∷ t) e = let (first, rest) = byte_same a b (escaped s) (escaped t) e in cons_same first (escaped-injective s t rest)
+escaped-injective [] (b ∷ t) e = absurd (byte_is_there b (escaped t) (sym escaped-nil ∙ e ∙ escaped-cons b t))
+escaped-injective (a ∷ s) [] e = absurd (byte_is_there a (escaped s) (sym escaped-nil ∙ sym e ∙ escaped-cons a s))
+escaped-injective (a ∷ s) (b ∷ t) e =
+    let (first, rest) = byte_same a b (escaped s) (escaped t) (sym (escaped-cons a s) ∙ e ∙ escaped-cons b t) in
+    cons_same first (escaped-injective s t rest)
 
 -- the quote that opens one id does not stand inside another
 no_second : (i j t : List ℕ) → 58 ∷ 34 ∷ (escaped i ++ 34 ∷ []) ≡ t ++ 58 ∷ 58 ∷ 34 ∷ (escaped j ++ 34 ∷ []) → ⊥

@@ -1,18 +1,12 @@
 -- The texts that names, types, operators and expressions print as, in bytes of UTF-8.
-use Rattle.std.specs.Prelude.{◌≡◌, ℕ, Bool, true, false, List, [], ◌∷◌, ◌++◌, Option, Some, None, if◌then◌else◌, ◌==◌, ◌-◌, codes, flat_map}
+use Rattle.std.specs.Prelude.{◌≡◌, ℕ, Bool, true, false, List, [], ◌∷◌, ◌++◌, Option, Some, None, if◌then◌else◌, ◌==◌}
+use Rattle.std.specs.Prelude.{◌-◌, codes, flat_map}
 use Rattle.std.specs.Char.{encode_utf8}
 use Rattle.std.specs.Fmt.{signed_decimal}
+use Rattle.cedar_model.specs.Outcomes.{escaped}
 use Rattle.cedar_model.specs.Terms.{Text, EntityName, Literal, bool_literal, long_literal, text_literal, entity_literal, Variable, principal, action, resource, context, Slot, principal_slot, resource_slot, ValueType, bool_type, long_type, string_type, set_type, record_type, entity_type, extension_type, UnaryOperator, not_operator, neg_operator, is_empty_operator, BinaryOperator, eq_operator, less_operator, less_eq_operator, add_operator, sub_operator, mul_operator, in_operator, contains_operator, contains_all_operator, contains_any_operator, get_tag_operator, has_tag_operator, PatternPart, character, wildcard, Term, literal, variable, slot, unknown, if_then_else, both, either, unary, binary, call, get_attribute, has_attribute, extended_has, like, is_of_type, set_of, record_of, Terms, no_terms, one_term, Fields, no_fields, one_field}
 
--- a byte inside double quotes: `"` and `\` stand behind a `\`
-abbrev pub escaped_byte : ℕ → Text
-escaped_byte b = if b == 34 then 92 ∷ 34 ∷ [] else (if b == 92 then 92 ∷ 92 ∷ [] else b ∷ [])
-
--- a text inside double quotes
-unfoldable pub escaped : Text → Text
-escaped t = flat_map escaped_byte t
-
--- a text in double quotes
+-- a text in double quotes, where `"` and `\` stand behind a `\`
 abbrev pub quoted : Text → Text
 quoted t = 34 ∷ (escaped t ++ 34 ∷ [])
 

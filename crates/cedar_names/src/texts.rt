@@ -1,7 +1,8 @@
 //! The texts that types and operators print as, and the pieces that the texts of expressions and values are made of.
 ghost use Rattle.std.specs.Fmt.{WritesOnOk};
 ghost use Rattle.std.specs.Char.{encode_utf8};
-ghost use Rattle.cedar_names.specs.Texts.{escaped, quoted};
+ghost use Rattle.cedar_model.specs.Outcomes.{escaped};
+ghost use Rattle.cedar_names.specs.Texts.{quoted};
 
 mod bounded;
 pub(crate) mod laws;

@@ -1,7 +1,7 @@
 use Rattle.std.proofs.Common.{◌++◌, encode_utf8, rules, append-nil, append_assoc}
 use Rattle.std.proofs.lemmas.List.{nil_from_length}
 use Rattle.std.proofs.Output.{has_written_append, has_written_of_eq}
-use Rattle.cedar_names.specs.Texts.{escaped}
+use Rattle.cedar_model.specs.Outcomes.{escaped}
 use Rattle.cedar_names.proofs.Escapes.{escaped-append, escaped-nil}
 use Rattle.cedar_names.proofs.texts.write_escaped.Goals as goal
 

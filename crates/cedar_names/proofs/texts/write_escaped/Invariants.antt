@@ -1,6 +1,6 @@
 use Rattle.std.proofs.Common.{◌≡◌, ℕ, List, ◌++◌}
 use Rattle.std.specs.Fmt.{HasWritten, IsPlainFormatter}
-use Rattle.cedar_names.specs.Texts.{escaped}
+use Rattle.cedar_model.specs.Outcomes.{escaped}
 use Rattle.cedar_names.proofs.texts.write_escaped.Given as goal
 
 abbrev pub invariant-characters : goal.invariant-characters
