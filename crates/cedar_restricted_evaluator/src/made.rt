@@ -17,7 +17,8 @@ ghost use Rattle.cedar_restricted_evaluator.specs.Evaluations.{AnswersWith, part
 ghost use Rattle.cedar_restricted_evaluator.specs.declared.whole.Whole.TheVariants as wholes;
 ghost use Rattle.cedar_restricted_evaluator.specs.Parts.{HasKeys, count, set_made, record_made, CallMakes, Makes};
 ghost use Rattle.cedar_restricted_evaluator.specs.Elements.{IsMadeOf};
-ghost use Rattle.cedar_restricted_evaluator.specs.Keys.{key_order, texts_of, fields_named, under};
+ghost use Rattle.cedar_expressions.specs.Nodes.{key_order};
+ghost use Rattle.cedar_restricted_evaluator.specs.Keys.{texts_of, fields_named, each_under};
 
 use crate::answers::{Answers, Mixed};
 use crate::whole::Whole;
@@ -114,7 +115,7 @@ fn called(
     }
 }
 
-/// The record of these values under these keys, in turn, with no location of its own. Refuses only for want of memory.
+/// The record of these values each_under these keys, in turn, with no location of its own. Refuses only for want of memory.
 ///
 /// It asks for as many values as keys, and that each key comes after the one before it, by their bytes, as the keys of
 /// a record stand. Else it would not be the record of all of them: a key that comes twice has one value, the last, and
@@ -126,7 +127,7 @@ pub fn record_value(
 ) -> Result<Value, AllocError>
     requires { (length keys.items ≡ length values.items) × IsStrictlySortedBy key_order keys.items }
     ensures what { IfOk result
-        (λ v. v.what ≡ record_represented (represented_fields_of (under (texts_of keys.items) (whats values.items)))) }
+        (λ v. v.what ≡ record_represented (represented_fields_of (each_under (texts_of keys.items) (whats values.items)))) }
     ensures inside { IfOk result (λ v. v.inside ≡ inside_each values.items) }
     ensures loc { IfOk result (λ v. v.loc ≡ None) }
 {
@@ -134,7 +135,7 @@ pub fn record_value(
     Ok(Value::record(alloc, fields, None)?)
 }
 
-// The record of these expressions under these keys.
+// The record of these expressions each_under these keys.
 fn record_expr(alloc: Global, keys: Vec<RcStr>, mixed: Mixed) -> Result<Expr, AllocError>
     requires { (length keys.items ≡ length mixed.exprs.items) × IsStrictlySortedBy key_order keys.items }
     ensures view { IfOk result
@@ -145,7 +146,7 @@ fn record_expr(alloc: Global, keys: Vec<RcStr>, mixed: Mixed) -> Result<Expr, Al
     Ok(Expr::record_map(alloc, fields)?)
 }
 
-// The map of the values under the keys, in turn.
+// The map of the values each_under the keys, in turn.
 fn map_under<V: Drop>(
     alloc: Global,
     keys: Vec<RcStr>,
