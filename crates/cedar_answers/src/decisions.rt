@@ -70,8 +70,8 @@ pub(crate) fn partial_word_of(decision: Option<Decision>) -> &'static str
     }
 }
 
-/// The decision in capitals, or `UNKNOWN`, between the lines above it and those below it, and the exit status: 0 where the
-/// request is allowed or the decision is not known, 2 where it is denied.
+/// The decision in capitals, or `UNKNOWN`, between the lines above it and those below it, and the exit status: 0 where
+/// the request is allowed or the decision is not known, 2 where it is denied.
 pub(crate) fn print_decision(
     alloc: Global,
     above: &str,
@@ -88,8 +88,8 @@ pub(crate) fn print_decision(
     Ok(Printed { output, status })
 }
 
-/// The JSON value as text, on a line of its own, and the exit status: 0 where the request is allowed or the decision is not
-/// known, 2 where it is denied.
+/// The JSON value as text, on a line of its own, and the exit status: 0 where the request is allowed or the decision is
+/// not known, 2 where it is denied.
 pub(crate) fn print_document(
     alloc: Global,
     decision: Option<Decision>,
@@ -113,8 +113,8 @@ pub(crate) fn line_of(alloc: Global, document: &JsonValue) -> Result<String, All
     Ok(line)
 }
 
-/// What the policies decide for the request: `ALLOW` or `DENY` and, where that is asked for, the policies that determined it
-/// and the errors of those that erred; or all this as one JSON value.
+/// What the policies decide for the request: `ALLOW` or `DENY` and, where that is asked for, the policies that
+/// determined it and the errors of those that erred; or all this as one JSON value.
 pub fn authorized(
     alloc: Global,
     policies: Source<'_>,

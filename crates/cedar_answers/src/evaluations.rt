@@ -16,8 +16,8 @@ use cedar_layers::policies::Entities;
 use cedar_text::parse_expr;
 use std::alloc::{AllocError, Global};
 
-/// The value of the expression, in Cedar's syntax or in Cedar's JSON. What is not said of the request is unknown, but for a context, which is
-/// empty: an expression that needs what is unknown is refused.
+/// The value of the expression, in Cedar's syntax or in Cedar's JSON. What is not said of the request is unknown, but
+/// for a context, which is empty: an expression that needs what is unknown is refused.
 pub fn evaluated(
     alloc: Global,
     source: Source<'_>,

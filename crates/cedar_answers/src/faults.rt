@@ -4,8 +4,8 @@ use std::alloc::{AllocError, Global};
 use std::collections::BTreeSet;
 use std::rc::RcStr;
 
-/// The byte where a token of the text begins that can't stand there in JSON, or that opens one level more than may be open; else
-/// the end of the text, where more is due.
+/// The byte where a token of the text begins that can't stand there in JSON, or that opens one level more than may be
+/// open; else the end of the text, where more is due.
 pub(crate) fn syntax_fault(alloc: Global, text: &str) -> Result<usize, AllocError> {
     let mut scratch = Scratch::new(alloc);
     let mut reader = Reader::new(text, &mut scratch)?;
@@ -57,7 +57,8 @@ enum Due {
     End,
 }
 
-// Where between tokens: which arrays and objects are open, the outermost first, each by whether it is an object; and what is due.
+// Where between tokens: which arrays and objects are open, the outermost first, each by whether it is an object; and
+// what is due.
 #[derive(Drop)]
 struct Place {
     open: Vec<bool>,

@@ -6,8 +6,8 @@ use std::alloc::{AllocError, Global};
 use std::collections::BTreeSet;
 use std::rc::RcStr;
 
-/// The names of the unknowns that are left, each once, in the order in which they stand first: the request's, and then those
-/// of what is left of the policies.
+/// The names of the unknowns that are left, each once, in the order in which they stand first: the request's, and then
+/// those of what is left of the policies.
 pub(crate) fn unknown_names(
     alloc: Global,
     response: &PartialResponse,

@@ -1,12 +1,12 @@
-//! What is answered to questions that are asked in Cedar's text and JSON: whether policies can be read, how they are laid
-//! out, what an expression evaluates to, and what policies decide, also where parts of the request are unknown.
+//! What is answered to questions that are asked in Cedar's text and JSON: whether policies can be read, how they are
+//! laid out, what an expression evaluates to, and what policies decide, also where parts of the request are unknown.
 //!
-//! Each question is answered by the whole text that is to be printed, or it is refused: then nothing is to be printed but
-//! why.
+//! Each question is answered by the whole text that is to be printed, or it is refused: then nothing is to be printed
+//! but why.
 //!
-//! There are no extension functions, as `ip` and `decimal`: a policy that calls one errs where the call is evaluated. Where
-//! parts may be unknown, the function `unknown` alone is there. Templates can be read and laid out, and decide nothing: no
-//! link is read.
+//! There are no extension functions, as `ip` and `decimal`: a policy that calls one errs where the call is evaluated.
+//! Where parts may be unknown, the function `unknown` alone is there. Templates can be read and laid out, and decide
+//! nothing: no link is read.
 #![tactic(auto)]
 
 mod asked;

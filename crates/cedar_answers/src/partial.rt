@@ -15,10 +15,10 @@ use cedar_writing::policy_to_cedar;
 use std::alloc::{AllocError, Global};
 use std::rc::RcStr;
 
-/// What is known of what the policies decide: the decision, if it is given, the policies that must and that may determine
-/// it, what is left of each policy, and the errors; and the same behind each step, below a line that says which step it is,
-/// or all this as one JSON value. A step takes values for unknowns, and perhaps another store. The status is that of the last
-/// decision.
+/// What is known of what the policies decide: the decision, if it is given, the policies that must and that may
+/// determine it, what is left of each policy, and the errors; and the same behind each step, below a line that says
+/// which step it is, or all this as one JSON value. A step takes values for unknowns, and perhaps another store. The
+/// status is that of the last decision.
 pub fn partially_authorized(
     alloc: Global,
     policies: Source<'_>,

@@ -6,8 +6,8 @@ use cedar_layers::expressions::Loc;
 use cedar_tokens::show::locate;
 use std::alloc::{AllocError, Global};
 
-/// `NAME: line L, column C: why`, and below it the line with the place marked; `NAME: why` where the place is not known.
-/// Each line is ended.
+/// `NAME: line L, column C: why`, and below it the line with the place marked; `NAME: why` where the place is not
+/// known. Each line is ended.
 pub(crate) fn placed(
     alloc: Global,
     source: Source<'_>,

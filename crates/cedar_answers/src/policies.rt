@@ -59,8 +59,8 @@ pub fn checked(alloc: Global, source: Source<'_>) -> Result<(), Refusal> {
     Ok(())
 }
 
-/// The policies and the templates in Cedar's own layout, in their order, with an empty line between two. Comments are left
-/// out.
+/// The policies and the templates in Cedar's own layout, in their order, with an empty line between two. Comments are
+/// left out.
 pub fn formatted(alloc: Global, source: Source<'_>) -> Result<String, Refusal> {
     let parsed = read(alloc, source)?;
     let lines = layout(alloc, &parsed);

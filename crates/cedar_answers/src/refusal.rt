@@ -66,8 +66,8 @@ fn lines_of(alloc: Global, source: Source<'_>, error: ReadError) -> Result<Strin
     Ok(format!(in alloc; "{name}: {shown}\n")?)
 }
 
-/// The refusal of what can't be read as Cedar's JSON: `NAME: $.path: why`, or `NAME: line L, column C: why` of a text that is no
-/// JSON, or that has a key twice.
+/// The refusal of what can't be read as Cedar's JSON: `NAME: $.path: why`, or `NAME: line L, column C: why` of a text
+/// that is no JSON, or that has a key twice.
 #[cold]
 pub(crate) fn unread_json(alloc: Global, source: Source<'_>, error: JsonError) -> Refusal {
     let name = source.name;

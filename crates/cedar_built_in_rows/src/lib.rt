@@ -1,5 +1,5 @@
-//! The built-in rows: each has policies, a request and steps, and a line `NAME DECISION [reasons] [error ids]`. Beside them stand
-//! the functions that policies call in rows and in tables.
+//! The built-in rows: each has policies, a request and steps, and a line `NAME DECISION [reasons] [error ids]`. Beside
+//! them stand the functions that policies call in rows and in tables.
 #![tactic(auto)]
 
 ghost use Rattle.std.specs.Prelude.{◌≡◌, true};
@@ -43,8 +43,8 @@ pub const REFUSED: u8 = 4;
 /// The stored functions can't be used together.
 pub const WRONG_FUNCTIONS: u8 = 5;
 
-/// Stores the function `even`, which policies call, and answers what `run` answers with it; `WRONG_FUNCTIONS` where the stored
-/// functions can't be used together, and `OUT_OF_MEMORY` where memory was wanting for them.
+/// Stores the function `even`, which policies call, and answers what `run` answers with it; `WRONG_FUNCTIONS` where the
+/// stored functions can't be used together, and `OUT_OF_MEMORY` where memory was wanting for them.
 pub fn run_with_even<W: Write>(alloc: Global, arguments: &[String], out: &mut W) -> u8 {
     match stored(alloc, arguments, out) {
         Ok(status) => status,
@@ -75,10 +75,10 @@ fn stored<W: Write>(alloc: Global, arguments: &[String], out: &mut W) -> Result<
     Ok(run(alloc, arguments, &extensions, out))
 }
 
-/// Prints the lines of all rows, or of the row that the one argument names, and answers the exit status: `DONE`; `WRONG_ARGUMENTS`
-/// after `usage: cedar_rows [NAME]` where there is more than one argument, and after `no such row: NAME` where no row has that
-/// name; `REFUSED` after `refused: REASON` where a row's context or a step is refused; `OUT_OF_MEMORY` where memory was wanting;
-/// `NOT_WRITTEN` where the writer failed.
+/// Prints the lines of all rows, or of the row that the one argument names, and answers the exit status: `DONE`;
+/// `WRONG_ARGUMENTS` after `usage: cedar_rows [NAME]` where there is more than one argument, and after
+/// `no such row: NAME` where no row has that name; `REFUSED` after `refused: REASON` where a row's context or a step is
+/// refused; `OUT_OF_MEMORY` where memory was wanting; `NOT_WRITTEN` where the writer failed.
 pub fn run<W: Write>(
     alloc: Global,
     arguments: &[String],

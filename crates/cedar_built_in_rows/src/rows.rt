@@ -20,9 +20,9 @@ pub enum Row {
     StepTrue,
     /// 1 permits when `false`, 2 forbids when `unknown("a")`; there is no step.
     Early,
-    /// policy0 permits when `principal == NS::"a" && resource == NS::"b"`, policy1 forbids when `context.c && context.d == 10`. The
-    /// principal is `NS::"a"`, and nothing else is known. The first step says that the resource is `NS::"b"`, the second that `c`
-    /// is true and `d` is 10.
+    /// policy0 permits when `principal == NS::"a" && resource == NS::"b"`, policy1 forbids when
+    /// `context.c && context.d == 10`. The principal is `NS::"a"`, and nothing else is known. The first step says that
+    /// the resource is `NS::"b"`, the second that `c` is true and `d` is 10.
     Chain,
     /// 1 permits when `unknown("x") && (1 + "a")`; a step says that `x` is true.
     Kept,
@@ -34,8 +34,8 @@ pub enum Row {
     Strict3,
     /// As `Residual`, where a forbid that errs forbids.
     StrictResidual,
-    /// 1 permits when `principal.g.contains(1)`; the principal is not known, and `E::"e"` stores `g` as `[unknown("u")]`. A step says
-    /// that the principal is `E::"e"` and `u` is 1. Stored residuals are evaluated.
+    /// 1 permits when `principal.g.contains(1)`; the principal is not known, and `E::"e"` stores `g` as
+    /// `[unknown("u")]`. A step says that the principal is `E::"e"` and `u` is 1. Stored residuals are evaluated.
     Deep,
 }
 

@@ -1,10 +1,10 @@
 //! Stores of entities that are handed in with their parents alone.
 //!
-//! `in` reads the ancestors that an entity records, and `Entities::with` takes them as they are. So whoever hands it entities
-//! that record their parents alone gets wrong answers in silence: `in` is false of what is two steps away, so a permit that
-//! asks for it does not apply (a wrong Deny), nor does a forbid (a wrong Allow). `closed` takes just such entities, and makes
-//! the store whose ancestors are all that parents lead to, in one step or more. It refuses entities that lead back to
-//! themselves. Entities that record all their ancestors already come out as they are.
+//! `in` reads the ancestors that an entity records, and `Entities::with` takes them as they are. So whoever hands it
+//! entities that record their parents alone gets wrong answers in silence: `in` is false of what is two steps away, so
+//! a permit that asks for it does not apply (a wrong Deny), nor does a forbid (a wrong Allow). `closed` takes just such
+//! entities, and makes the store whose ancestors are all that parents lead to, in one step or more. It refuses entities
+//! that lead back to themselves. Entities that record all their ancestors already come out as they are.
 #![tactic(auto)]
 
 mod closing;

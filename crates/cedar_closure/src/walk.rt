@@ -10,8 +10,9 @@ use cedar_layers::expressions::EntityUID;
 use std::alloc::{AllocError, Global};
 use std::collections::BTreeSet;
 
-// All that parents lead to from the entity of this uid: each uid is marked once, and its parents are looked at once. What was
-// marked stands in `found`, in the order in which it was found, and `reached` has the same: that is what is asked in `mark`.
+// All that parents lead to from the entity of this uid: each uid is marked once, and its parents are looked at once.
+// What was marked stands in `found`, in the order in which it was found, and `reached` has the same: that is what is
+// asked in `mark`.
 pub(crate) fn led_to(
     alloc: Global,
     parents: &ParentMap,

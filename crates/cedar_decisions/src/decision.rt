@@ -45,8 +45,9 @@ impl Default for ErrorHandling {
     }
 }
 
-/// The decision, where it is known, by whether there are such policies: `Deny` with a satisfied forbid, or where no permit is
-/// satisfied or residual; else none beside a residual forbid; else `Allow` with a satisfied permit; else none.
+/// The decision, where it is known, by whether there are such policies: `Deny` with a satisfied forbid, or where no
+/// permit is satisfied or residual; else none beside a residual forbid; else `Allow` with a satisfied permit; else
+/// none.
 pub fn decide(
     true_permit: bool,
     residual_permit: bool,
@@ -65,8 +66,8 @@ pub fn decide(
     }
 }
 
-/// The decision where all that is left counts as an error: `Allow` where a permit is satisfied and no forbid is, and else `Deny`;
-/// where a forbid that errs forbids, a residual forbid denies too.
+/// The decision where all that is left counts as an error: `Allow` where a permit is satisfied and no forbid is, and
+/// else `Deny`; where a forbid that errs forbids, a residual forbid denies too.
 pub fn decide_concretely(
     mode: ErrorHandling,
     true_permit: bool,
@@ -83,8 +84,8 @@ pub fn decide_concretely(
     }
 }
 
-/// Whether something forbids where all that is left counts as an error: a satisfied forbid and, where a forbid that errs forbids,
-/// a residual one.
+/// Whether something forbids where all that is left counts as an error: a satisfied forbid and, where a forbid that
+/// errs forbids, a residual one.
 pub fn forbids(mode: ErrorHandling, true_forbid: bool, residual_forbid: bool) -> bool
     ensures { result ≡ forbids (mode_view mode) true_forbid residual_forbid }
 {

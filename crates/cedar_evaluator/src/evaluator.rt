@@ -57,9 +57,9 @@ impl<'e, 'f> Evaluator<'e, 'f> {
     ghost use Rattle.cedar_evaluator.specs.Evaluations.{IsPromisedOf, DecidesWhereKnown};
     ghost use Rattle.cedar_evaluator.specs.Decisions.{DecidesBy, PartlyDecidesBy};
 
-    /// The evaluator of this request over this store, with these extensions, where no unknown has a value and stored residuals are
-    /// answered as they are stored. Evaluation goes at most
-    /// `limit` levels deep: an expression is one level, its parts one more. Refuses only for want of memory.
+    /// The evaluator of this request over this store, with these extensions, where no unknown has a value and stored
+    /// residuals are answered as they are stored. Evaluation goes at most `limit` levels deep: an expression is one
+    /// level, its parts one more. Refuses only for want of memory.
     pub fn new(
         alloc: Global,
         request: Request,
@@ -167,11 +167,12 @@ impl<'e, 'f> Evaluator<'e, 'f> {
         self.given.resolution
     }
 
-    /// The value of the expression under these slots, or what is left of it where its value rests on what is unknown, at the
-    /// expression's location. Fails with the first error in the order of evaluation, beside an unknown only where that error is
-    /// the expression's whatever the unknown stands for; and with `RecursionLimit` exactly where the evaluation goes more levels
-    /// deep than the limit. Where the expression is a set, each element of its value stands where the part does of which it is
-    /// the value: of equal ones the first stays, with its location; and so do the elements of a set in it.
+    /// The value of the expression under these slots, or what is left of it where its value rests on what is unknown,
+    /// at the expression's location. Fails with the first error in the order of evaluation, beside an unknown only
+    /// where that error is the expression's whatever the unknown stands for; and with `RecursionLimit` exactly where
+    /// the evaluation goes more levels deep than the limit. Where the expression is a set, each element of its value
+    /// stands where the part does of which it is the value: of equal ones the first stays, with its location; and so do
+    /// the elements of a set in it.
     pub fn partial_interpret(
         &self,
         alloc: Global,
@@ -195,8 +196,8 @@ impl<'e, 'f> Evaluator<'e, 'f> {
         evaluation.interpret(alloc, e, self.limit)
     }
 
-    /// The value of the expression under these slots, at the expression's location. Fails as `partial_interpret` does, and with
-    /// `NonValue` and what is left exactly where that leaves something.
+    /// The value of the expression under these slots, at the expression's location. Fails as `partial_interpret` does,
+    /// and with `NonValue` and what is left exactly where that leaves something.
     pub fn interpret(
         &self,
         alloc: Global,
@@ -211,9 +212,9 @@ impl<'e, 'f> Evaluator<'e, 'f> {
         only_value(self.partial_interpret(alloc, e, slots))
     }
 
-    /// Whether the policy's condition is true, or what is left of it. A condition of another value than a boolean is a `TypeError`
-    /// that expects `Bool`; an error of the condition is that error. What is left is at the policy's location, as the condition is,
-    /// and holds an unknown.
+    /// Whether the policy's condition is true, or what is left of it. A condition of another value than a boolean is a
+    /// `TypeError` that expects `Bool`; an error of the condition is that error. What is left is at the policy's
+    /// location, as the condition is, and holds an unknown.
     pub fn partial_evaluate(
         &self,
         alloc: Global,
@@ -226,8 +227,8 @@ impl<'e, 'f> Evaluator<'e, 'f> {
         self.decide_condition(alloc, policy)
     }
 
-    /// Whether the policy's condition is true. A condition of another value than a boolean is a `TypeError` that expects `Bool`;
-    /// an error of the condition is that error, and what is left of it a `NonValue`.
+    /// Whether the policy's condition is true. A condition of another value than a boolean is a `TypeError` that
+    /// expects `Bool`; an error of the condition is that error, and what is left of it a `NonValue`.
     pub fn evaluate(&self, alloc: Global, policy: &Policy) -> Result<bool, EvaluationError>
         ensures decides { DecidesBy (IsPromisedOf self.now policy.now) result }
         ensures known { DecidesWhereKnown self.now policy.now (decision_of result) }

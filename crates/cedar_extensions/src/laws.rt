@@ -46,8 +46,8 @@ pub fn built_in_functions_agree(extensions: &Extensions<'_>)
     ensures faithful { AreBuiltIn extensions.now → AreFaithfulBy extensions.now built_in_answers }
 {}
 
-/// Where each function says what it computes, `computed_answers` agrees with what is there; and so do all functions of a
-/// world that answer under each name what the function of that name computes.
+/// Where each function says what it computes, `computed_answers` agrees with what is there; and so do all functions of
+/// a world that answer under each name what the function of that name computes.
 pub fn computed_functions_agree(extensions: &Extensions<'_>)
     ensures agree { (cs : List Computation) → AllCompute extensions.now cs →
         AgreesWith extensions.now (computed_answers extensions.now cs) }

@@ -23,14 +23,14 @@ pub enum Mapper<'g> {
     Values(&'g HashMap<RcStr, Value>),
 }
 
-/// What an attribute, a tag, or an extended `has` before its last attribute answers where it reads a stored part that is a
-/// residual.
+/// What an attribute, a tag, or an extended `has` before its last attribute answers where it reads a stored part that
+/// is a residual.
 #[derive(Debug, Clone, Copy, PartialEq, Eq)]
 pub enum Resolution {
     /// The residual as it is stored; an attribute that is itself an unknown goes through the values of unknowns.
     Shallow,
-    /// What the residual is evaluated to, with the values of unknowns, one level below what reads it. Extended `has` walks on from
-    /// a value, and a residual keeps the attributes after it.
+    /// What the residual is evaluated to, with the values of unknowns, one level below what reads it. Extended `has`
+    /// walks on from a value, and a residual keeps the attributes after it.
     Deep,
 }
 

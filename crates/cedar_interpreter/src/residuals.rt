@@ -79,7 +79,8 @@ impl<'e, 'g, 'f> Evaluation<'e, 'g, 'f> {
         }
     }
 
-    // The first stored residual that an extended `has` on this part reads, if it is evaluated, with the attributes after it.
+    // The first stored residual that an extended `has` on this part reads, if it is evaluated, with the attributes
+    // after it.
     #[inline(always)]
     pub(crate) fn path_residual(
         &self,

@@ -29,8 +29,8 @@ pub fn errors_to_json(alloc: Global, errors: &[AuthorizationError]) -> Result<Js
     Ok(JsonValue::Array(items))
 }
 
-/// The error: the id of the policy that erred at `policyId`, and at `message` what its error says. Refuses only for want of
-/// memory.
+/// The error: the id of the policy that erred at `policyId`, and at `message` what its error says. Refuses only for
+/// want of memory.
 pub fn error_to_json(alloc: Global, error: &AuthorizationError) -> Result<JsonValue, AllocError>
     ensures { IfOk result (λ j. IsErrorJson (error_view error.now) (json_view j)) }
 {

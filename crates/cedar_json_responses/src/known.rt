@@ -16,8 +16,8 @@ use cedar_json_writing::{JsonValue, put_member};
 use std::alloc::{AllocError, Global};
 use std::rc::RcStr;
 
-/// Puts what the response knows behind the members that are there: all that `partial_response_to_json` has but the errors.
-/// Refuses only for want of memory.
+/// Puts what the response knows behind the members that are there: all that `partial_response_to_json` has but the
+/// errors. Refuses only for want of memory.
 pub fn put_known(
     alloc: Global,
     response: &PartialResponse,

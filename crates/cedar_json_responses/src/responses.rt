@@ -22,8 +22,9 @@ use std::alloc::{AllocError, Global};
 use std::collections::HashSet;
 use std::rc::RcStr;
 
-/// The response: the decision at `decision`; at `reason` the ids of its reasons, in the order in which they were put into their
-/// set; and at `errors` its errors in their order, as `errors_to_json` has them. Refuses only for want of memory.
+/// The response: the decision at `decision`; at `reason` the ids of its reasons, in the order in which they were put
+/// into their set; and at `errors` its errors in their order, as `errors_to_json` has them. Refuses only for want of
+/// memory.
 pub fn response_to_json(alloc: Global, response: &Response) -> Result<JsonValue, AllocError>
     ensures { IfOk result (λ j. IsResponseJson (decision_view response.now.decision)
         (map policy_id_text response.now.diagnostics.reason.keys)
@@ -36,12 +37,13 @@ pub fn response_to_json(alloc: Global, response: &Response) -> Result<JsonValue,
     Ok(JsonValue::Object(members))
 }
 
-/// The partial response: its decision at `decision`, `null` where none is given; at `mustBeDetermining` and `mayBeDetermining`
-/// the ids of the policies that must and that may determine it, in the order of `must_be_determining` and
-/// `may_be_determining`; at `residuals` what is left of each policy, permits before forbids, as `policy_to_cedar` writes it,
-/// under the policy's id; at `unknowns` the names of the unknowns that are left, each once, in the order in which `unknowns`
-/// of `cedar_unknowns` has them, and at `missingEntities` the entities that a store lacked, in that of `unknown_entities`; and
-/// at `errors` its errors in their order, as `errors_to_json` has them. Refuses only for want of memory.
+/// The partial response: its decision at `decision`, `null` where none is given; at `mustBeDetermining` and
+/// `mayBeDetermining` the ids of the policies that must and that may determine it, in the order of
+/// `must_be_determining` and `may_be_determining`; at `residuals` what is left of each policy, permits before forbids,
+/// as `policy_to_cedar` writes it, under the policy's id; at `unknowns` the names of the unknowns that are left, each
+/// once, in the order in which `unknowns` of `cedar_unknowns` has them, and at `missingEntities` the entities that a
+/// store lacked, in that of `unknown_entities`; and at `errors` its errors in their order, as `errors_to_json` has
+/// them. Refuses only for want of memory.
 pub fn partial_response_to_json(
     alloc: Global,
     response: &PartialResponse,

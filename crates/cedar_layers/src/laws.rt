@@ -11,14 +11,14 @@ use cedar_values::Value;
 use std::collections::HashMap;
 use std::rc::RcStr;
 
-/// Each attribute and each tag of a store is sound: a value whose sets are in canonical order and whose extension values are
-/// written without unknowns, or a residual that is a restricted expression.
+/// Each attribute and each tag of a store is sound: a value whose sets are in canonical order and whose extension
+/// values are written without unknowns, or a residual that is a restricted expression.
 pub fn stores_are_sound(entities: &Entities)
     ensures { EachStored IsSoundPart (store_view entities.now) }
 {}
 
-/// Each value that a map has for an unknown is sound: its sets are in canonical order, and its extension values are written
-/// without unknowns.
+/// Each value that a map has for an unknown is sound: its sets are in canonical order, and its extension values are
+/// written without unknowns.
 pub fn mapped_values_are_sound(map: &HashMap<RcStr, Value>)
     ensures { IsSoundMapping (mapping_of (λ (v : Placed). v.what) map.now.entries) }
 {}

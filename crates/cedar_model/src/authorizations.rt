@@ -22,8 +22,8 @@ pub fn own_world_completes()
     ensures { OwnWorldCompletes }
 {}
 
-/// Four facts of exact responses, in each mode of handling errors; of the fourth, what an erring permit does and what an
-/// erring forbid that counts does.
+/// Four facts of exact responses, in each mode of handling errors; of the fourth, what an erring permit does and what
+/// an erring forbid that counts does.
 pub fn exact_responses_are_stable()
     ensures order { (X : Extensions) (ans : Functions) (w : World) → OrderChangesNoResponse X ans w }
     ensures forbids { (X : Extensions) (ans : Functions) (w : World) → AddedForbidKeepsDeny X ans w }

@@ -4,9 +4,9 @@ ghost use Rattle.cedar_model.specs.PolicyLaws.{ErringChangesNothing, ErringPermi
 ghost use Rattle.cedar_model.specs.PolicyLaws.{ErringForbidDecidesAlone, SkippingCountsAsItIs};
 
 /// Four facts of decision and reasons, in each mode of handling errors: the order of policies changes nothing; an added
-/// forbid never turns Deny into Allow; an added permit never turns Allow into Deny; and where errors are skipped, taking
-/// out an erring policy changes nothing. In each mode that holds of an erring permit; where erring forbids count, one
-/// changes the decision only where no other forbid counts and some permit is satisfied.
+/// forbid never turns Deny into Allow; an added permit never turns Allow into Deny; and where errors are skipped,
+/// taking out an erring policy changes nothing. In each mode that holds of an erring permit; where erring forbids
+/// count, one changes the decision only where no other forbid counts and some permit is satisfied.
 pub fn modes_are_stable()
     ensures order { OrderChangesNothing }
     ensures forbids { ForbidsKeepDeny }

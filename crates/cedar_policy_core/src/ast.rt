@@ -1,5 +1,5 @@
-//! Names, expressions, values, policies, entities, requests, restricted expressions and extension functions; and which unknowns
-//! are left in an expression, a request or a response.
+//! Names, expressions, values, policies, entities, requests, restricted expressions and extension functions; and which
+//! unknowns are left in an expression, a request or a response.
 pub use cedar_evaluator::request::{
     Context, ContextCreationError, EntityUIDEntry, IntoIter, Request, RequestType,
     context_creation_errors,
@@ -23,7 +23,8 @@ pub use cedar_restricted_expressions::{
 };
 pub use cedar_unknowns::Unknowns;
 
-/// What holds of names, leaves, expressions, stores, maps of values and listed unknowns. Each function is a law, and does nothing.
+/// What holds of names, leaves, expressions, stores, maps of values and listed unknowns. Each function is a law, and
+/// does nothing.
 pub mod laws {
     pub use cedar_layers::expressions::laws::{
         expressions_are_equal_by_term, leaves_are_equal_by_view, names_are_equal_by_text,

@@ -30,8 +30,9 @@ pub enum Variable {
     Resource,
 }
 
-/// A policy: its annotations, whether it permits, the steps that make the constraints on its principal, its action and its
-/// resource and then its condition, the bytes from which and up to which it stands, and the number of the token behind it.
+/// A policy: its annotations, whether it permits, the steps that make the constraints on its principal, its action and
+/// its resource and then its condition, the bytes from which and up to which it stands, and the number of the token
+/// behind it.
 #[derive(Drop)]
 pub struct PolicySteps {
     pub annotations: Vec<Annotation>,
@@ -42,11 +43,11 @@ pub struct PolicySteps {
     pub next: usize,
 }
 
-/// The policy that begins with the token of this number. It is what the tokens up to its semicolon derive by the grammar, and
-/// its condition has at most `limit` levels.
+/// The policy that begins with the token of this number. It is what the tokens up to its semicolon derive by the
+/// grammar, and its condition has at most `limit` levels.
 ///
-/// Errors: `Memory`; `Expected` at the first token that can't stand where it does, or behind the last; `TooDeep` where a
-/// condition with more levels stands.
+/// Errors: `Memory`; `Expected` at the first token that can't stand where it does, or behind the last; `TooDeep` where
+/// a condition with more levels stands.
 pub fn policy_steps(
     alloc: Global,
     tokens: &[Token],

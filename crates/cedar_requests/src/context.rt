@@ -62,8 +62,8 @@ impl Context {
     }
 
     /// The context of these attributes with their values. It takes no memory: `alloc` is for the expressions that the
-    /// context is walked as, and for copies. Each copy of this context copies its values once; copies of that copy share
-    /// them, as do those of every context that is made by another call.
+    /// context is walked as, and for copies. Each copy of this context copies its values once; copies of that copy
+    /// share them, as do those of every context that is made by another call.
     pub fn from_values(alloc: Global, pairs: BTreeMap<RcStr, Value>) -> Context
         ensures view { context_view result ≡ known_context (whats_at pairs.entries) }
         ensures map { context_values result ≡ Some pairs }

@@ -1,6 +1,6 @@
 -- The entries of a map that is made of keys in order.
-use Rattle.std.proofs.Common.{◌≡◌, List, [], ◌∷◌, map, length, Global, Ordering, Less, Equal, Greater, Option, Some}
-use Rattle.std.proofs.Common.{None, true, refl, sym, ap, ◌∙◌, subst, ⊎_elim}
+use Rattle.std.proofs.Common.{◌≡◌, List, [], ◌∷◌, ◌++◌, map, length, Global, Ordering, Less, Equal, Greater, Option, Some}
+use Rattle.std.proofs.Common.{None, true, refl, sym, ap, ◌∙◌, subst, ⊎_elim, arith}
 use Rattle.std.proofs.lemmas.Cmp.{nat_list_cmp_total}
 use Rattle.std.proofs.lemmas.Bool.{cases_Bool}
 use Rattle.std.proofs.lemmas.Map.{lookup-none}
@@ -19,12 +19,13 @@ use Rattle.std.specs.Rc.{rc_str_bytes}
 use Rattle.std.specs.List.Sorted.{IsStrictlySortedBy}
 use Rattle.std.specs.Map.{keys_of, lookup}
 use Rattle.std.specs.Ordering.{eq_by_cmp, is_eq, ordering_reverse}
+use Rattle.cedar_names.specs.declared.names.Loc.{Loc}
 use Rattle.cedar_model.specs.Terms.{Text, Fields, no_fields, one_field}
 use Rattle.cedar_model.specs.Values.{RepresentedFields, no_represented_at, one_represented_at}
 use Rattle.cedar_model.specs.Sets.{represented_fields_of}
 use Rattle.cedar_expressions.specs.declared.expr.Expr.{Expr}
 use Rattle.cedar_expressions.specs.View.{view, terms_view, fields_view}
-use Rattle.cedar_values.specs.Sound.{Placed, whats, whats_at}
+use Rattle.cedar_values.specs.Sound.{Placed, whats, whats_at, inside_each, inside_at}
 use Rattle.cedar_expressions.specs.Nodes.{key_order}
 use Rattle.cedar_restricted_evaluator.specs.Keys.{texts_of, fields_named, each_under}
 
@@ -148,6 +149,30 @@ pub values_of_map : (ks : List (RcStr Global)) (vs : List Placed) (m : BTreeMap 
     whats_at m.entries ≡ represented_fields_of (each_under (texts_of ks) (whats vs))
 values_of_map ks vs m keys made =
     whats_at-named m.entries ∙ ap values_named (entries_under ks vs m keys made) ∙ values-under (texts_of ks) vs
+
+-- where what is inside them stands
+abbrev insides_named : List (Text × Placed) → List (Option Loc)
+insides_named [] = []
+insides_named (f ∷ fs) = f.1.loc ∷ f.1.inside ++ insides_named fs
+
+inside_at-named : (es : List (RcStr Global × Placed)) → inside_at es ≡ insides_named (named_entries es)
+inside_at-named [] = refl
+inside_at-named (e ∷ es) = ap (λ ls. e.1.loc ∷ e.1.inside ++ ls) (inside_at-named es)
+
+insides-under : (ks : List (RcStr Global)) (vs : List Placed) → length ks ≡ length vs →
+    insides_named (each_under (texts_of ks) vs) ≡ inside_each vs
+insides-under [] [] e = refl
+insides-under [] (v ∷ vs) e = absurd (omega arith)
+insides-under (k ∷ ks) [] e = absurd (omega arith)
+insides-under (k ∷ ks) (v ∷ vs) e =
+    let fewer : length ks ≡ length vs = omega arith in
+    ap (λ ls. v.loc ∷ v.inside ++ ls) (insides-under ks vs fewer)
+
+pub insides_of_map : (ks : List (RcStr Global)) (vs : List Placed) (m : BTreeMap (RcStr Global) Placed Global) →
+    (length ks ≡ length vs) × IsStrictlySortedBy key_order ks → IsFromIterResult key_order (zip ks vs) m →
+    inside_at m.entries ≡ inside_each vs
+insides_of_map ks vs m keys made =
+    inside_at-named m.entries ∙ ap insides_named (entries_under ks vs m keys made) ∙ insides-under ks vs keys.0
 
 abbrev exprs_named : List (Text × Expr) → Fields
 exprs_named [] = no_fields

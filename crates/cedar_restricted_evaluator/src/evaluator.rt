@@ -47,9 +47,9 @@ impl<'x, 'f> RestrictedEvaluator<'x, 'f> {
     /// where it has none. Fails with `RecursionLimit` exactly where the evaluation goes more levels deep than the
     /// limit, which it never does for an expression that is no higher; it is at the location of the nearest expression
     /// around that has one. The elements of a set that is its value stand where the parts do of which they are the
-    /// values: of equal ones the first stays, with its location; and so do those of a set in it. Where no unknown stands
-    /// in the expression and its functions answer none, the value or error is what the expression means in every world,
-    /// since it reads nothing of one.
+    /// values: of equal ones the first stays, with its location; and so do those of a set in it. Where no unknown
+    /// stands in the expression and its functions answer none, the value or error is what the expression means in every
+    /// world, since it reads nothing of one.
     pub fn partial_interpret(
         &self,
         alloc: Global,

@@ -1,5 +1,5 @@
 //! What the answers of parts make: a set, a record or a call.
-ghost use Rattle.std.specs.Prelude.{◌≡◌, true, length, IfOk};
+ghost use Rattle.std.specs.Prelude.{◌≡◌, None, true, length, IfOk};
 ghost use Rattle.std.specs.List.{zip};
 ghost use Rattle.std.specs.List.Sorted.{IsStrictlySortedBy};
 ghost use Rattle.std.specs.BTreeMap.{IsFromIterResult};
@@ -10,7 +10,7 @@ ghost use Rattle.cedar_model.specs.Rules.{LooksUp, Meets};
 ghost use Rattle.cedar_model.specs.Shapes.{has_unknown};
 ghost use Rattle.cedar_names.specs.Names.{name_text};
 ghost use Rattle.cedar_expressions.specs.View.{view, terms_view};
-ghost use Rattle.cedar_values.specs.Sound.{whats};
+ghost use Rattle.cedar_values.specs.Sound.{whats, inside_each};
 ghost use Rattle.cedar_values.specs.Residuals.{IfValue};
 ghost use Rattle.cedar_extensions.specs.Extensions.{extensions_view, calls_of};
 ghost use Rattle.cedar_restricted_evaluator.specs.Evaluations.{AnswersWith, partial_answer};
@@ -115,15 +115,21 @@ fn called(
     }
 }
 
-/// The record of these values each_under these keys. Refuses only for want of memory.
+/// The record of these values each_under these keys, in turn, with no location of its own. Refuses only for want of memory.
+///
+/// It asks for as many values as keys, and that each key comes after the one before it, by their bytes, as the keys of
+/// a record stand. Else it would not be the record of all of them: a key that comes twice has one value, the last, and
+/// what is left over of keys or values goes.
 pub fn record_value(
     alloc: Global,
     keys: Vec<RcStr>,
     values: Vec<Value>,
 ) -> Result<Value, AllocError>
     requires { (length keys.items ≡ length values.items) × IsStrictlySortedBy key_order keys.items }
-    ensures { IfOk result
+    ensures what { IfOk result
         (λ v. v.what ≡ record_represented (represented_fields_of (each_under (texts_of keys.items) (whats values.items)))) }
+    ensures inside { IfOk result (λ v. v.inside ≡ inside_each values.items) }
+    ensures loc { IfOk result (λ v. v.loc ≡ None) }
 {
     let fields = map_under(alloc, keys, values)?;
     Ok(Value::record(alloc, fields, None)?)

@@ -124,8 +124,8 @@ impl PartsFrame {
         self.loc
     }
 
-    /// The same after the answer of the part that it waits for: an error is its own, at its location if it has none. While the
-    /// answers are values, literals that follow the part take no turn of their own.
+    /// The same after the answer of the part that it waits for: an error is its own, at its location if it has none.
+    /// While the answers are values, literals that follow the part take no turn of their own.
     pub fn answered(
         self,
         alloc: Global,

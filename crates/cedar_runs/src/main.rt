@@ -1,5 +1,5 @@
-//! Runs the command lines of the tables that are named, over the files beside them. Prints each that comes to something else
-//! than what is wanted, and a line `FILE: HELD of RUNS runs hold` a table.
+//! Runs the command lines of the tables that are named, over the files beside them. Prints each that comes to something
+//! else than what is wanted, and a line `FILE: HELD of RUNS runs hold` a table.
 #![tactic(auto)]
 
 mod rows;

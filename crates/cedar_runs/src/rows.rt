@@ -1,5 +1,5 @@
-//! Tables of runs. A run begins with a line `$ ARGUMENTS`. Below it stand, a line each, the exit status behind `?`, the lines
-//! of standard output behind `>` and those of standard error behind `!`. All other lines are comments.
+//! Tables of runs. A run begins with a line `$ ARGUMENTS`. Below it stand, a line each, the exit status behind `?`, the
+//! lines of standard output behind `>` and those of standard error behind `!`. All other lines are comments.
 use crate::words::words_of;
 use cedar_cli::{Answer, answered};
 use std::alloc::{AllocError, Global};

@@ -43,8 +43,8 @@ fn push(words: &mut Vec<String>, word: String) -> Result<(), AllocError> {
     }
 }
 
-/// The program's name, and the words of the line behind it. Words have blanks between them; what stands between two `'` is
-/// taken as it stands.
+/// The program's name, and the words of the line behind it. Words have blanks between them; what stands between two `'`
+/// is taken as it stands.
 pub fn words_of(alloc: Global, line: &str) -> Result<Vec<String>, AllocError> {
     let mut words: Vec<String> = Vec::new(alloc);
     push(&mut words, String::from_str(alloc, "cedar")?)?;

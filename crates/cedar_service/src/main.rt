@@ -1,5 +1,5 @@
-//! A document service: who may do what with which document. It prints the documents, and then for each request the decision, the
-//! policies that determined it, and the error of each policy that erred.
+//! A document service: who may do what with which document. It prints the documents, and then for each request the
+//! decision, the policies that determined it, and the error of each policy that erred.
 #![tactic(auto)]
 
 ghost use Rattle.std.specs.Prelude.{◌≡◌, true};
@@ -48,9 +48,9 @@ fn main(rt: HostRuntime) -> ExitCode {
     ExitCode::from(run(rt.alloc(), &mut io::writer(&rt)))
 }
 
-/// Prints the documents and the requests, and answers the exit status: `DONE`; `NOT_WRITTEN` where the writer failed; `REPEATED_ID`
-/// where two policies have one id; `OUT_OF_MEMORY` where memory was wanting; `WRONG_FUNCTIONS` where the stored functions can't be
-/// used together; `STEP_REFUSED` where a response was not taken further.
+/// Prints the documents and the requests, and answers the exit status: `DONE`; `NOT_WRITTEN` where the writer failed;
+/// `REPEATED_ID` where two policies have one id; `OUT_OF_MEMORY` where memory was wanting; `WRONG_FUNCTIONS` where the
+/// stored functions can't be used together; `STEP_REFUSED` where a response was not taken further.
 pub fn run<W: Write>(alloc: Global, out: &mut W) -> u8 {
     match print_all(alloc, out) {
         Ok(()) => DONE,

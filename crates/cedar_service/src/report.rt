@@ -60,8 +60,8 @@ fn print_marks<W: Write>(document: &Entity, out: &mut W) -> Result<(), Stop> {
     Ok(())
 }
 
-/// Decides the request, and prints the decision with its reasons and errors; where the user is not known, what is known of the
-/// decision and its reasons whoever asks.
+/// Decides the request, and prints the decision with its reasons and errors; where the user is not known, what is known
+/// of the decision and its reasons whoever asks.
 pub fn print_request<W: Write>(
     alloc: Global,
     asked: &Asked,
@@ -87,7 +87,8 @@ pub fn print_request<W: Write>(
     }
 }
 
-/// Decides in two stages, the second of which says who asks, and prints the decision: the document is its owner's alone.
+/// Decides in two stages, the second of which says who asks, and prints the decision: the document is its owner's
+/// alone.
 pub fn print_in_stages<W: Write>(alloc: Global, asked: &Staged, out: &mut W) -> Result<(), Stop> {
     let decision = decide_in_stages(alloc, asked)?;
     write!(

@@ -37,9 +37,9 @@ use std::rc::{Rc, RcStr};
 /// How many levels deep the condition is evaluated.
 const LIMIT: usize = 100;
 
-/// What is decided by a policy that permits the owner alone, for a request of someone, once it is known that this user asks. A
-/// decision that is given allows exactly the owner; none is given where an error was recorded, or where none is known. Refuses
-/// where the response is not taken further, or for want of memory.
+/// What is decided by a policy that permits the owner alone, for a request of someone, once it is known that this user
+/// asks. A decision that is given allows exactly the owner; none is given where an error was recorded, or where none is
+/// known. Refuses where the response is not taken further, or for want of memory.
 pub fn decided_in_stages(
     alloc: Global,
     owner: &EntityUID,
@@ -140,7 +140,8 @@ fn one_value(alloc: Global, name: RcStr, value: Value) -> Result<HashMap<RcStr, 
     Ok(values)
 }
 
-// What these policies decide, after the step by these values, for the request of someone, with no entities and no functions.
+// What these policies decide, after the step by these values, for the request of someone, with no entities and no
+// functions.
 fn decided_with(
     alloc: Global,
     policies: &PolicySet,
@@ -182,7 +183,8 @@ fn from_someone(
     Ok(Request::new_with_unknowns(someone, action, resource, Some(Context::empty(alloc))))
 }
 
-// The decision after these steps, where it is known and no error was recorded: that of the policies in every completion.
+// The decision after these steps, where it is known and no error was recorded: that of the policies in every
+// completion.
 fn decided_after(
     alloc: Global,
     authorizer: &Authorizer<'_>,

@@ -1,7 +1,8 @@
 //! A machine that takes one token at a time and writes the steps of an expression.
 //!
 //! What waits for more tokens, a bracket or an operator whose right side is not read yet, is a frame; the innermost
-//! frame waits for the part that is read now. An operator first makes what frames of at most its own level wait to make.
+//! frame waits for the part that is read now. An operator first makes what frames of at most its own level wait to
+//! make.
 ghost use Rattle.std.specs.Prelude.{◌≡◌, ◌+◌, ◌<◌, ◌≤◌, [], length, IfOk, IfErr};
 ghost use Rattle.cedar_syntax.specs.Grammar as Grammar;
 ghost use Rattle.cedar_syntax.specs.Levels.{IsAbove};
@@ -110,7 +111,8 @@ pub fn expression_steps(
     work.finish(state, tokens)
 }
 
-/// The steps of the expression that stands in braces, the number of the token that closes them, and how many levels it has.
+/// The steps of the expression that stands in braces, the number of the token that closes them, and how many levels it
+/// has.
 #[derive(Drop)]
 pub struct ClauseSteps {
     pub steps: Vec<Step>,
@@ -118,11 +120,12 @@ pub struct ClauseSteps {
     pub height: usize,
 }
 
-/// The steps of the expression in the braces that the token of this number opens. They make the tree that the tokens between
-/// the braces derive by the grammar, and it has at most `limit` levels.
+/// The steps of the expression in the braces that the token of this number opens. They make the tree that the tokens
+/// between the braces derive by the grammar, and it has at most `limit` levels.
 ///
-/// Errors: `Memory`; `Expected` at that token, where it opens no braces, or at the first that can't stand where it does, or
-/// behind the last; `TooDeep` at the token behind which an expression with more levels ends, from where that begins.
+/// Errors: `Memory`; `Expected` at that token, where it opens no braces, or at the first that can't stand where it
+/// does, or behind the last; `TooDeep` at the token behind which an expression with more levels ends, from where that
+/// begins.
 pub fn clause_steps(
     alloc: Global,
     tokens: &[Token],

@@ -1,14 +1,14 @@
 //! What is answered to a row that is evaluated in the setting or reads what the setting holds.
 //!
 //! - of an expression: `value LIMIT`, `place LIMIT`, `elements LIMIT` and `error LIMIT` (what it evaluates to, where
-//!   that or its error stands, where each element of a set does, and the error's text; with no limit as many levels as it needs),
-//!   `partial LIMIT`, `partial-place LIMIT` and `residual LIMIT` (what it partly evaluates to, where that stands, and what is left
-//!   of it, as an expression that is read and compared);
+//!   that or its error stands, where each element of a set does, and the error's text; with no limit as many levels as
+//!   it needs), `partial LIMIT`, `partial-place LIMIT` and `residual LIMIT` (what it partly evaluates to, where that
+//!   stands, and what is left of it, as an expression that is read and compared);
 //! - of an operator on values: `operator PLACE`; of the words of an error: `built-error PLACE`;
-//! - of an expression: `unknowns` (which unknowns stand in it, each with the type that it is annotated with, and which entities
-//!   unknowns stand for);
-//! - of the setting: `request` and `entity`, and `extensions` (their names, the types that their functions make, and those that
-//!   they overload);
+//! - of an expression: `unknowns` (which unknowns stand in it, each with the type that it is annotated with, and which
+//!   entities unknowns stand for);
+//! - of the setting: `request` and `entity`, and `extensions` (their names, the types that their functions make, and
+//!   those that they overload);
 //! - of a name: `function` (how many arguments the stored function takes);
 //! - of a name and values: `made-entity` (an entity that is made of values);
 //! - of three entities: `made-request` (the request of these in the context of the setting);
@@ -28,8 +28,8 @@ use crate::notation::answer::Answer;
 use crate::notation::settings::Setting;
 use crate::written;
 
-/// Answers these words, where the answer that is wanted is this one. A question of another kind than those above is handed to
-/// `written`.
+/// Answers these words, where the answer that is wanted is this one. A question of another kind than those above is
+/// handed to `written`.
 pub fn ask(
     answer: &mut Answer,
     setting: &Setting<'_, '_>,

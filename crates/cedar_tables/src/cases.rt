@@ -1,7 +1,7 @@
-//! Tables. A file has cases, with a line `case` between them; a case has facts, a line `rows`, and rows. A row has what is asked
-//! about, ` => ` and the answer that is wanted. A line `ask QUESTION` says what is asked of the rows below it; before the first one it is what
-//! expressions evaluate to. A line that begins with `#` is a title. The facts are those that `notation` reads, and `in FILE`: the
-//! facts of that file stand behind them. `questions` says which there are.
+//! Tables. A file has cases, with a line `case` between them; a case has facts, a line `rows`, and rows. A row has what
+//! is asked about, ` => ` and the answer that is wanted. A line `ask QUESTION` says what is asked of the rows below it;
+//! before the first one it is what expressions evaluate to. A line that begins with `#` is a title. The facts are those
+//! that `notation` reads, and `in FILE`: the facts of that file stand behind them. `questions` says which there are.
 use crate::functions::tally;
 use crate::notation::answer::Answer;
 use crate::notation::settings::Setting;
@@ -156,7 +156,8 @@ pub fn tally_of_rows(
     Ok(tally)
 }
 
-// Whether the row has the answer that is wanted. Prints it if not. Want of memory is no answer, but to the row that wants it.
+// Whether the row has the answer that is wanted. Prints it if not. Want of memory is no answer, but to the row that
+// wants it.
 fn row_holds(
     rt: &impl Print,
     alloc: Global,

@@ -1,8 +1,8 @@
 //! The functions that are stored for a case, in one extension, `ext`. The fact `functions` names them:
 //!
-//! - `even` (of a long), `fail` and `ask` (the unknown `asked`, a boolean); or, where it names `one`, `one` and `two`; or, where it
-//!   names `ask1`, `ask` (the unknown `q`, a long), `ask1` (of a value: the unknown `q`, of no type), `fail` and `want` (want of
-//!   memory);
+//! - `even` (of a long), `fail` and `ask` (the unknown `asked`, a boolean); or, where it names `one`, `one` and `two`;
+//!   or, where it names `ask1`, `ask` (the unknown `q`, a long), `ask1` (of a value: the unknown `q`, of no type),
+//!   `fail` and `want` (want of memory);
 //! - `unknown` beside any of them.
 ghost use Rattle.std.specs.Prelude.{◌≡◌, true};
 ghost use Rattle.cedar_extensions.specs.Outcomes.{ComesTo, is_lawful, abstracts};

@@ -107,7 +107,8 @@ fn mode_of(setting: &Setting<'_, '_>) -> ErrorHandling {
     authorizer.error_handling()
 }
 
-/// What reading a stored residual answers by default, or by a new authorizer and a new evaluator, or by those of the setting.
+/// What reading a stored residual answers by default, or by a new authorizer and a new evaluator, or by those of the
+/// setting.
 pub fn ask_resolution(answer: &mut Answer, setting: &Setting<'_, '_>, words: &str) {
     match words {
         "default" => answer.show_debug(&Resolution::default()),

@@ -34,8 +34,8 @@ pub trait Asked {
     fn put(&self, answer: &mut Answer, outcome: &Self::Ending);
 }
 
-/// Answers within the limit that is written, or within the fewest levels where none is. Within one level less than the fewest it
-/// comes to the recursion limit, and within them to the same as within many: else that is the answer.
+/// Answers within the limit that is written, or within the fewest levels where none is. Within one level less than the
+/// fewest it comes to the recursion limit, and within them to the same as within many: else that is the answer.
 pub fn answer_within<A: Asked>(answer: &mut Answer, asked: &A, limit_text: &str) {
     match fewest_levels(answer.alloc, asked) {
         Ok(fewest) => {

@@ -1,5 +1,5 @@
-//! Answers the rows of the tables in the files that are named. Prints each row that has another answer than the one that is wanted,
-//! and a line `FILE: HELD of ROWS rows hold` a file.
+//! Answers the rows of the tables in the files that are named. Prints each row that has another answer than the one
+//! that is wanted, and a line `FILE: HELD of ROWS rows hold` a file.
 #![tactic(auto)]
 
 mod answers;

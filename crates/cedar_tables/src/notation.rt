@@ -1,5 +1,5 @@
-//! Reads what a line of a table says: expressions, values and policies of Cedar's text, and the setting that rows are answered in;
-//! and shows what answers have in common. A place is written as its ends, `1-2`.
+//! Reads what a line of a table says: expressions, values and policies of Cedar's text, and the setting that rows are
+//! answered in; and shows what answers have in common. A place is written as its ends, `1-2`.
 
 pub mod answer;
 mod calls;
@@ -49,8 +49,8 @@ pub fn named(written: &str) -> Result<(&str, &str), Unanswered> {
     Ok(written.split_once(" = ").ok_or("a name and what it has")?)
 }
 
-/// The parts that were read and that no later one has taken, the latest one last. Why they can't be read is noted in them, so that
-/// who reads a part looks at nothing, and they are looked at once, when all are read.
+/// The parts that were read and that no later one has taken, the latest one last. Why they can't be read is noted in
+/// them, so that who reads a part looks at nothing, and they are looked at once, when all are read.
 #[derive(Drop)]
 pub struct Parts<T: Drop> {
     parts: Vec<T>,

@@ -32,7 +32,8 @@ pub fn ask(answer: &mut Answer, kind: &str, argument: &str, words: &str) {
     }
 }
 
-// The status, and the lines with `;` behind each, of a run with these arguments. `none` is no argument, and `''` an empty one.
+// The status, and the lines with `;` behind each, of a run with these arguments. `none` is no argument, and `''` an
+// empty one.
 fn put_run(answer: &mut Answer, written: &str) {
     match arguments(answer.alloc, written) {
         Ok(arguments) => {
@@ -152,7 +153,8 @@ impl Write for Failing {
     }
 }
 
-// The statuses of runs that write all rows to a writer that fails in this way, after no write, after one, and so on, so many runs.
+// The statuses of runs that write all rows to a writer that fails in this way, after no write, after one, and so on, so
+// many runs.
 fn put_failed(answer: &mut Answer, runs: &str, kind: io::ErrorKind) {
     answer.put("statuses");
     for left in 0..answer.number(runs) {

@@ -445,8 +445,8 @@ fn put_both_modes(answer: &mut Answer, mode: ErrorHandling, copy: ErrorHandling)
     answer.show(&is_same);
 }
 
-// The decision, and the response made concrete, as `Allow; Allow [reasons] [errors]`. Both ways to make it concrete must answer the
-// same.
+// The decision, and the response made concrete, as `Allow; Allow [reasons] [errors]`. Both ways to make it concrete
+// must answer the same.
 fn put_concrete(answer: &mut Answer, response: &PartialResponse) {
     answer.put(given_text(response.decision()));
     match concrete_of(answer.alloc, response) {
@@ -501,8 +501,8 @@ fn put_errors(answer: &mut Answer, errors: &[AuthorizationError]) {
     answer.put("]");
 }
 
-// The permits that are satisfied, those that are not, and those of which something is left; the same of forbids; those that erred;
-// those that must determine the decision, and those that may.
+// The permits that are satisfied, those that are not, and those of which something is left; the same of forbids; those
+// that erred; those that must determine the decision, and those that may.
 fn put_known(answer: &mut Answer, response: &PartialResponse) {
     put_in(answer, "; permits", &response.satisfied_permits);
     put_in(answer, "", &response.false_permits);

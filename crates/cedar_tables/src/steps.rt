@@ -1,10 +1,12 @@
 //! Reads the steps that a response is taken further by, and what a response is made of.
 //!
-//! - `x = 1; y = true` is a step with these values for unknowns, and `none` one with no value. Steps have ` / ` between them.
-//! - `then x = 1` is a step over the second store, of which each fact stands behind `then` in the setting; by an authorizer that
-//!   handles errors as `then errors` says, or as the setting does, and resolves as `then resolution` says, or as the setting does.
-//! - `permit a true; permit b=note error; forbid c unknown("x")` is what a response is made of: `a` is satisfied, `b` erred and has
-//!   the annotation `note`, and `c` has this expression left.
+//! - `x = 1; y = true` is a step with these values for unknowns, and `none` one with no value. Steps have ` / ` between
+//!   them.
+//! - `then x = 1` is a step over the second store, of which each fact stands behind `then` in the setting; by an
+//!   authorizer that handles errors as `then errors` says, or as the setting does, and resolves as `then resolution`
+//!   says, or as the setting does.
+//! - `permit a true; permit b=note error; forbid c unknown("x")` is what a response is made of: `a` is satisfied, `b`
+//!   erred and has the annotation `note`, and `c` has this expression left.
 use crate::notation::errors::error;
 use crate::notation::expressions::expression;
 use crate::notation::policies::{effect, policy_id};

@@ -42,8 +42,8 @@ impl From<io::Error> for Unanswered {
     }
 }
 
-/// An answer that is written piece by piece. Why there is none is noted in it, so that who writes a piece looks at nothing, and the
-/// answer is looked at once, when it is whole.
+/// An answer that is written piece by piece. Why there is none is noted in it, so that who writes a piece looks at
+/// nothing, and the answer is looked at once, when it is whole.
 #[derive(Drop)]
 pub struct Answer {
     /// What takes memory for a part of the answer takes it here.

@@ -1,9 +1,10 @@
-//! What is asked of texts in JSON, behind the word `json`. Where nothing is read, the answer is the way to the part at fault and why
-//! it is, as `$[3].attrs.age: null is no value`.
+//! What is asked of texts in JSON, behind the word `json`. Where nothing is read, the answer is the way to the part at
+//! fault and why it is, as `$[3].attrs.age: null is no value`.
 //!
 //! - `value`: the expression that the text says, as it prints, a text by itself with the escapes of the language;
 //! - `context` and `request`: the context and the request that it says, evaluated, as they print;
-//! - `entities`: the entities as it says them: `UID {"KEY": EXPRESSION, ..} in [UID, ..]`, and ` tags {..}` where there are any;
+//! - `entities`: the entities as it says them: `UID {"KEY": EXPRESSION, ..} in [UID, ..]`, and ` tags {..}` where there
+//!   are any;
 //! - `evaluated`: the same entities evaluated, without what they are in: `UID {"KEY": VALUE, ..}`, and ` tags {..}`;
 //! - `store`: which of the entities each of them is in, where parents are followed: `UID in [UID, ..]`.
 use crate::answer::Answer;

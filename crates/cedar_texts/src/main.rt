@@ -1,6 +1,6 @@
-//! Reads the texts in the rows of the tables that are named, and compares what they are read as with what is wanted. Prints each
-//! row that is read otherwise, and a line `FILE: HELD of ROWS rows hold` a file. Behind the word `--written` each text is read,
-//! written in Cedar's own syntax, and what is written is to be read as the text was.
+//! Reads the texts in the rows of the tables that are named, and compares what they are read as with what is wanted.
+//! Prints each row that is read otherwise, and a line `FILE: HELD of ROWS rows hold` a file. Behind the word
+//! `--written` each text is read, written in Cedar's own syntax, and what is written is to be read as the text was.
 #![tactic(auto)]
 
 mod answer;

@@ -1,5 +1,5 @@
-//! Policies: `ID EFFECT @KEY("text") .. PRINCIPAL ACTION RESOURCE CONDITION`, each part as a tree; or where they and their parts
-//! stand, `ID PLACE / PLACES / PLACES / PLACES / PLACES`.
+//! Policies: `ID EFFECT @KEY("text") .. PRINCIPAL ACTION RESOURCE CONDITION`, each part as a tree; or where they and
+//! their parts stand, `ID PLACE / PLACES / PLACES / PLACES / PLACES`.
 use crate::answer::Answer;
 use crate::places::put_place;
 use crate::questions::{Shown, put_shown};
@@ -7,7 +7,8 @@ use cedar_expressions::Expr;
 use cedar_layers::policies::{Annotations, Effect, Policy, PolicySet};
 use std::rc::RcStr;
 
-/// Writes the policies, and `template` and a template for each of those, with `; ` between them; `none` where there is none.
+/// Writes the policies, and `template` and a template for each of those, with `; ` between them; `none` where there is
+/// none.
 pub fn put_policies(answer: &mut Answer, shown: Shown, policies: &PolicySet, templates: &[Policy]) {
     'policies: for policy in policies.policies() {
         answer.next();

@@ -1,6 +1,6 @@
-//! Tables. A row has a text, ` => ` and what it is wanted to be read as. A line `ask QUESTION` says what is asked of the rows below
-//! it; before the first it is `tree`. A line that begins with `#` is a title. `signs` says what stands for blanks in a text, and
-//! `questions` which questions there are.
+//! Tables. A row has a text, ` => ` and what it is wanted to be read as. A line `ask QUESTION` says what is asked of
+//! the rows below it; before the first it is `tree`. A line that begins with `#` is a title. `signs` says what stands
+//! for blanks in a text, and `questions` which questions there are.
 use crate::answer::{Answer, Unanswered};
 use crate::questions::ask;
 use crate::signs::unsigned;
@@ -41,8 +41,8 @@ impl Tally {
     }
 }
 
-/// Whether all rows of the file hold, as they stand or written again. Prints those that do not, each with its file and line, and
-/// how many do.
+/// Whether all rows of the file hold, as they stand or written again. Prints those that do not, each with its file and
+/// line, and how many do.
 pub fn file_holds<R: Files + AllocGlobal + Print>(
     rt: &R,
     file: &str,

@@ -8,8 +8,8 @@ use cedar_writing::{policies_to_cedar, policy_to_cedar, to_cedar};
 use std::alloc::Global;
 use std::rc::RcStr;
 
-/// The text in Cedar's own syntax: the expression, policy or policies that it is read as, written. Of another question, and where
-/// it can't be read or has templates, the text itself.
+/// The text in Cedar's own syntax: the expression, policy or policies that it is read as, written. Of another question,
+/// and where it can't be read or has templates, the text itself.
 pub fn rewritten(alloc: Global, question: &str, text: &str) -> Result<String, Unanswered> {
     match question {
         "tree" => expression(alloc, text),

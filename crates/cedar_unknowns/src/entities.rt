@@ -90,7 +90,8 @@ fn entity_of(alloc: Global, unknown: &Unknown) -> Result<Option<EntityUID>, Allo
     }
 }
 
-// The same of an unknown of this name that is annotated with this type: only an entity's unknown is annotated with an entity type.
+// The same of an unknown of this name that is annotated with this type: only an entity's unknown is annotated with an
+// entity type.
 fn entity_of_type(alloc: Global, ty: &Type, name: &str) -> Result<Option<EntityUID>, AllocError>
     ensures { IfOk result (λ o. option_map uid_name o ≡ entity_asked (name.now, Some (type_view ty.now))) }
 {

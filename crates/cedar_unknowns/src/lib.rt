@@ -1,7 +1,8 @@
 //! Which unknowns are left: in an expression, in a request and in a partial response.
 //!
-//! A partial response says what is known; what it leaves open hangs on unknowns. `response.unknowns(alloc)?` lists those that
-//! a next step can be given values for, and `response.unknown_entities(alloc)?` the entities that the store lacked.
+//! A partial response says what is known; what it leaves open hangs on unknowns. `response.unknowns(alloc)?` lists
+//! those that a next step can be given values for, and `response.unknown_entities(alloc)?` the entities that the store
+//! lacked.
 #![tactic(auto)]
 
 mod entities;

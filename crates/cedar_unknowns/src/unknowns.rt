@@ -20,25 +20,25 @@ use cedar_requests::Request;
 use indexmap::IndexSet;
 use std::alloc::{AllocError, Global};
 
-/// What unknowns stand in: an expression; a request, whose unknowns are those that its variables answer, principal, action,
-/// resource and context in this order; a partial response, whose unknowns are those of its request and then those of what is
-/// left of its policies, permits before forbids.
+/// What unknowns stand in: an expression; a request, whose unknowns are those that its variables answer, principal,
+/// action, resource and context in this order; a partial response, whose unknowns are those of its request and then
+/// those of what is left of its policies, permits before forbids.
 ///
-/// An unknown is a name with an annotation, the type that its value must have, or with none. One name that stands with two
-/// annotations is listed with each: a value is given by the name alone, and it must have every type that the name is
-/// annotated with.
+/// An unknown is a name with an annotation, the type that its value must have, or with none. One name that stands with
+/// two annotations is listed with each: a value is given by the name alone, and it must have every type that the name
+/// is annotated with.
 pub trait Unknowns {
     /// The unknowns in the order in which they stand, each as often as it stands.
     ghost asks: { Self → List Asked };
 
-    /// The unknowns, each once, in the order in which they stand first. Those that stand for an entity which a partial store
-    /// lacked are not among them. Refuses only for want of memory.
+    /// The unknowns, each once, in the order in which they stand first. Those that stand for an entity which a partial
+    /// store lacked are not among them. Refuses only for want of memory.
     fn unknowns(&self, alloc: Global) -> Result<Vec<Unknown>, AllocError>
         ensures { IfOk result (λ us. asked_each us.items ≡ others_asked (each_once (asks self.now))) };
 
-    /// The entities that unknowns stand for since a partial store lacked them, each once, in the order in which these unknowns
-    /// stand first. An unknown stands for an entity where it is named by the entity's text, as `User::"alice"`, and annotated
-    /// with the entity's type. Refuses only for want of memory.
+    /// The entities that unknowns stand for since a partial store lacked them, each once, in the order in which these
+    /// unknowns stand first. An unknown stands for an entity where it is named by the entity's text, as
+    /// `User::"alice"`, and annotated with the entity's type. Refuses only for want of memory.
     fn unknown_entities(&self, alloc: Global) -> Result<Vec<EntityUID>, AllocError>
         ensures { IfOk result (λ us. map uid_name us.items ≡ entities_asked (each_once (asks self.now))) };
 }

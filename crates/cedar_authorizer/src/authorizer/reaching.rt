@@ -1,5 +1,5 @@
-//! Which policies of a set can apply where principal, action and resource are known: those whose scope asks for one of them, for
-//! an entity that they are in, or for none.
+//! Which policies of a set can apply where principal, action and resource are known: those whose scope asks for one of
+//! them, for an entity that they are in, or for none.
 ghost use Rattle.std.specs.Prelude.{◌≡◌, ◌++◌, map, IfOk, IfSome, OnOk};
 ghost use Rattle.cedar_layers.specs.Stores.{store_view, entity_view};
 ghost use Rattle.cedar_names.specs.Names.{uid_name};

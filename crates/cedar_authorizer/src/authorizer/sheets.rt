@@ -1,5 +1,5 @@
-//! The sheets that a response is made of: how each policy of a set comes out, in their order. Where only some of them are within
-//! reach of the request, the others are false, and are noted without a look at their conditions.
+//! The sheets that a response is made of: how each policy of a set comes out, in their order. Where only some of them
+//! are within reach of the request, the others are false, and are noted without a look at their conditions.
 ghost use Rattle.std.specs.Prelude.{◌≡◌, map, IfOk, IfSome, slice_get};
 ghost use Rattle.cedar_model.specs.Agreement.{no_slots};
 ghost use Rattle.cedar_decisions.specs.Decisions.{mode_view};
@@ -52,7 +52,8 @@ pub(super) fn first_sheet(
     sheet
 }
 
-// How each policy comes out by this evaluator, in their order; those that are not within reach, if that is known, are false.
+// How each policy comes out by this evaluator, in their order; those that are not within reach, if that is known, are
+// false.
 fn run(
     alloc: Global,
     mode: ErrorHandling,

@@ -33,18 +33,18 @@ use std::collections::HashMap;
 use std::rc::{Rc, RcStr};
 
 impl PartialResponse {
-    /// The response that follows by the map's values for unknowns, over this store. All policies are decided again, each with
-    /// what was reported of it as its condition: the satisfied permits, those that are not, the residual ones, and then the
-    /// forbids. Refuses, in this order: with `ErrorHandlingConflict`, before anything is allocated, where the response and the
-    /// authorizer handle errors in different ways; with `PolicySetError` where two of the policies have one id; with
-    /// `ConcretizationError` where the map makes no request of the response's (`ValueError`, `VarConfictError`,
-    /// `EntityTypeConfictError`, of principal, action, resource and context in turn), or where the evaluation of the context with
-    /// the map's values in it fails (`ValueEval`); or for want of memory. Evaluation goes at most the authorizer's limit of levels
-    /// deep.
+    /// The response that follows by the map's values for unknowns, over this store. All policies are decided again,
+    /// each with what was reported of it as its condition: the satisfied permits, those that are not, the residual
+    /// ones, and then the forbids. Refuses, in this order: with `ErrorHandlingConflict`, before anything is allocated,
+    /// where the response and the authorizer handle errors in different ways; with `PolicySetError` where two of the
+    /// policies have one id; with `ConcretizationError` where the map makes no request of the response's (`ValueError`,
+    /// `VarConfictError`, `EntityTypeConfictError`, of principal, action, resource and context in turn), or where the
+    /// evaluation of the context with the map's values in it fails (`ValueEval`); or for want of memory. Evaluation
+    /// goes at most the authorizer's limit of levels deep.
     ///
-    /// Do not take a response further whose errors hold the recursion limit: a forbid that met it is not known to be false, but
-    /// the next step carries it on as false, so that a decision may be given that is not so. `Authorizer::authorize_in_steps`
-    /// stops there.
+    /// Do not take a response further whose errors hold the recursion limit: a forbid that met it is not known to be
+    /// false, but the next step carries it on as false, so that a decision may be given that is not so.
+    /// `Authorizer::authorize_in_steps` stops there.
     pub fn reauthorize(
         &self,
         alloc: Global,

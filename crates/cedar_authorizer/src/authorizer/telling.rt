@@ -1,5 +1,5 @@
-//! The run of policies whose response is made concrete. A policy that is false without an error tells nothing there, so it is not
-//! noted.
+//! The run of policies whose response is made concrete. A policy that is false without an error tells nothing there, so
+//! it is not noted.
 ghost use Rattle.std.specs.Prelude.{◌≡◌, IfOk, IfSome, OnOk, map};
 ghost use Rattle.cedar_model.specs.Agreement.{no_slots};
 ghost use Rattle.cedar_decisions.specs.Decisions.{mode_view};

@@ -17,16 +17,17 @@ pub struct Response {
     pub diagnostics: Diagnostics,
 }
 
-/// The policies that must determine a decision, and the errors met, as an authorizer and `concretize` answer them; of a response
-/// that `Response::new` makes they are what it was handed. Equality compares the reasons as a set, and the errors in order, with
-/// the locations that they hold.
+/// The policies that must determine a decision, and the errors met, as an authorizer and `concretize` answer them; of a
+/// response that `Response::new` makes they are what it was handed. Equality compares the reasons as a set, and the
+/// errors in order, with the locations that they hold.
 #[derive(Debug, PartialEq, Eq, Drop)]
 pub struct Diagnostics {
-    /// The satisfied forbids or, where no forbid is satisfied and of none a residual was left, the satisfied permits. With nothing
-    /// left these are the policies that determine the decision; beside residuals they determine it whatever the unknowns are.
+    /// The satisfied forbids or, where no forbid is satisfied and of none a residual was left, the satisfied permits.
+    /// With nothing left these are the policies that determine the decision; beside residuals they determine it
+    /// whatever the unknowns are.
     pub reason: HashSet<PolicyID>,
-    /// The error of each policy that erred, in the order of the policies; before these, of a response that was made concrete, the
-    /// `NonValue` of each forbid of which a residual was left, and then of each such permit.
+    /// The error of each policy that erred, in the order of the policies; before these, of a response that was made
+    /// concrete, the `NonValue` of each forbid of which a residual was left, and then of each such permit.
     pub errors: Vec<AuthorizationError>,
 }
 

@@ -73,8 +73,8 @@ pub fn text(alloc: Global, text: &str) -> ExprBuilder
     }
 }
 
-/// The literal that names the entity of this type with this id: `entity(alloc, "User", "alice")` is `User::"alice"`. Both are
-/// taken as they stand, unchecked.
+/// The literal that names the entity of this type with this id: `entity(alloc, "User", "alice")` is `User::"alice"`.
+/// Both are taken as they stand, unchecked.
 pub fn entity(alloc: Global, ty: &str, id: &str) -> ExprBuilder
     ensures { Builds result (Some (literal (entity_literal (record { type_name = ty.now; id = id.now })))) }
 {

@@ -11,8 +11,8 @@ use thiserror::Error;
 
 pub mod evaluation_errors;
 
-/// Why an evaluation failed. Nine of the kinds are errors of the language; `NonValue`, `RecursionLimit` and `Memory` say that
-/// the evaluation did not come to an end.
+/// Why an evaluation failed. Nine of the kinds are errors of the language; `NonValue`, `RecursionLimit` and `Memory`
+/// say that the evaluation did not come to an end.
 #[derive(Debug, Clone, PartialEq, Eq, Drop, Error)]
 pub enum EvaluationError {
     /// An entity was read that the store does not have.
@@ -103,7 +103,8 @@ impl EvaluationError {
         }
     }
 
-    /// Whether memory was wanting: not where a look-up of a function found none, which holds that as an error of its own.
+    /// Whether memory was wanting: not where a look-up of a function found none, which holds that as an error of its
+    /// own.
     #[tactic(auto, unfolding(crate::specs::Finals::is_of_memory, cedar_model::specs::Failures::failure_kind))]
     pub fn is_want_of_memory(&self) -> bool
         ensures variant { result ≡ is_want self.now }
@@ -277,8 +278,8 @@ impl From<RecursionLimitError> for EvaluationError {
     }
 }
 
-/// Of a look-up that found no function `FailedExtensionFunctionLookup`, and of one that found no memory `Memory` itself:
-/// want of memory is never inside the error of a look-up.
+/// Of a look-up that found no function `FailedExtensionFunctionLookup`, and of one that found no memory `Memory`
+/// itself: want of memory is never inside the error of a look-up.
 impl From<ExtensionFunctionLookupError> for EvaluationError {
     ghost use Rattle.std.specs.Prelude.{◌≡◌};
     ghost use Rattle.cedar_errors.specs.Errors.{error_of_lookup};

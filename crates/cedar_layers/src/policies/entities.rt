@@ -46,10 +46,11 @@ impl Entity {
     ghost use Rattle.cedar_layers.specs.Stores.{entity_uid, entity_attributes, entity_tags, entity_ancestors};
     ghost use Rattle.cedar_layers.specs.Stores.{entity_name, entity_view, facts_of, facts_of_values};
 
-    /// The entity of this uid with these attributes, ancestors and tags, taken as they are. The caller owes two facts, one of
-    /// `attrs` and one of `tags`: each residual there is a restricted expression, that is, made of literals, unknowns, sets,
-    /// records and calls of extension functions alone. Values may stand there freely; `from_values` takes nothing else, and asks
-    /// nothing. `ancestors` are all the entities that this one is in, not its parents alone: none is added.
+    /// The entity of this uid with these attributes, ancestors and tags, taken as they are. The caller owes two facts,
+    /// one of `attrs` and one of `tags`: each residual there is a restricted expression, that is, made of literals,
+    /// unknowns, sets, records and calls of extension functions alone. Values may stand there freely; `from_values`
+    /// takes nothing else, and asks nothing. `ancestors` are all the entities that this one is in, not its parents
+    /// alone: none is added.
     pub fn new(
         uid: EntityUID,
         attrs: BTreeMap<RcStr, PartialValue>,
@@ -73,8 +74,8 @@ impl Entity {
         }
     }
 
-    /// The entity of this uid whose attributes and tags are these values, with these ancestors: all of them, as in `new`. Refuses
-    /// only for want of memory.
+    /// The entity of this uid whose attributes and tags are these values, with these ancestors: all of them, as in
+    /// `new`. Refuses only for want of memory.
     pub fn from_values(
         alloc: Global,
         uid: EntityUID,
@@ -213,8 +214,8 @@ pub enum Dereference<'a> {
     Data(&'a Entity),
 }
 
-/// A store of entities. A concrete store has every entity; of a partial one a missing entity is not known. It is kept in the
-/// order of the entities' names, so that no choice of names makes a look-up slow.
+/// A store of entities. A concrete store has every entity; of a partial one a missing entity is not known. It is kept
+/// in the order of the entities' names, so that no choice of names makes a look-up slow.
 #[derive(Debug)]
 pub struct Entities {
     entities: BTreeMap<EntityUID, Entity>,
@@ -251,11 +252,11 @@ impl Entities {
         }
     }
 
-    /// The store of these entities, of which those of one uid are one entity, the last. `partial` says what it means that an entity
-    /// is not among them: if false, that there is none; if true, that it is not known, and an unknown stands for it. Ancestors are
-    /// taken as they are: each entity must have been made with all of its ancestors, not its parents alone. `in` is false of an
-    /// ancestor that was left out, so a permit that asks for it does not apply (a wrong Deny), nor does a forbid (a wrong Allow).
-    /// Refuses only for want of memory.
+    /// The store of these entities, of which those of one uid are one entity, the last. `partial` says what it means
+    /// that an entity is not among them: if false, that there is none; if true, that it is not known, and an unknown
+    /// stands for it. Ancestors are taken as they are: each entity must have been made with all of its ancestors, not
+    /// its parents alone. `in` is false of an ancestor that was left out, so a permit that asks for it does not apply
+    /// (a wrong Deny), nor does a forbid (a wrong Allow). Refuses only for want of memory.
     pub fn with(alloc: Global, entities: Vec<Entity>, partial: bool) -> Result<Entities, AllocError>
         ensures view { IfOk result (λ s. store_view s ≡ store_of entities.items partial) }
         ensures whole { IfOk result (λ s. stored_entity s ≡ last_of_each_name entities.items) }
@@ -279,8 +280,8 @@ impl Entities {
         Ok(())
     }
 
-    /// The entity of this uid; for one that the store lacks `NoSuchEntity` or, in a partial store, the unknown that is named by
-    /// the uid's text and annotated with its type. Refuses only for want of memory.
+    /// The entity of this uid; for one that the store lacks `NoSuchEntity` or, in a partial store, the unknown that is
+    /// named by the uid's text and annotated with its type. Refuses only for want of memory.
     pub fn entity(&self, alloc: Global, uid: &EntityUID) -> Result<Dereference<'_>, AllocError>
         ensures found { IfOk result (λ d. found_view d ≡ look_up (store_view self.now) (uid_name uid.now)) }
         ensures whole { IfOk result (λ d. answered_entity d ≡ stored_entity self.now (uid_name uid.now)) }

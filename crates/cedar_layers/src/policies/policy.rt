@@ -66,8 +66,9 @@ impl Annotations {
     }
 }
 
-/// A policy: its effect, and the condition under which it applies. The condition is in four parts: the constraints on the
-/// principal, on the action and on the resource, and the when clause. Slots in these parts have the values of `env`.
+/// A policy: its effect, and the condition under which it applies. The condition is in four parts: the constraints on
+/// the principal, on the action and on the resource, and the when clause. Slots in these parts have the values of
+/// `env`.
 #[derive(Debug)]
 pub struct Policy {
     effect: Effect,
@@ -144,8 +145,8 @@ impl Policy {
         })
     }
 
-    /// The policy with this when clause, at this location: its constraints are all `true`, and no slot has a value. Refuses only
-    /// for want of memory.
+    /// The policy with this when clause, at this location: its constraints are all `true`, and no slot has a value.
+    /// Refuses only for want of memory.
     pub fn from_when_clause_annos(
         alloc: Global,
         effect: Effect,
@@ -202,8 +203,8 @@ impl Policy {
         }
     }
 
-    /// The policy of this id that has the effect, the annotations, the parts and the location of this one, and in which these
-    /// values stand for the slots: a template's policy. Refuses only for want of memory.
+    /// The policy of this id that has the effect, the annotations, the parts and the location of this one, and in which
+    /// these values stand for the slots: a template's policy. Refuses only for want of memory.
     pub fn link(&self, alloc: Global, id: PolicyID, env: SlotEnv) -> Result<Policy, AllocError>
         ensures view { IfOk result
             (λ p. policy_view p ≡ linked (policy_view self.now) (policy_id_text id) (slots_view env)) }
@@ -290,8 +291,8 @@ impl Policy {
         &*self.when
     }
 
-    /// The condition, `((principal && action) && resource) && when`, each `&&` at the policy's location and each part as it was
-    /// handed in. Its value is a boolean or an error. Refuses only for want of memory.
+    /// The condition, `((principal && action) && resource) && when`, each `&&` at the policy's location and each part
+    /// as it was handed in. Its value is a boolean or an error. Refuses only for want of memory.
     pub fn condition(&self, alloc: Global) -> Result<Expr, AllocError>
         ensures view { IfOk result (λ e. view e ≡ condition_term (policy_view self.now)) }
         ensures parts { IfOk result (λ e. IsCondition (policy_parts self.now) (policy_location self.now) e) }

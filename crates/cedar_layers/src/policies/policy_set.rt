@@ -72,7 +72,8 @@ impl PolicySet {
     ghost use Rattle.cedar_layers.specs.PolicySets.{policies_view, stored_policies, policies_left, leaves_out_few};
     ghost use Rattle.cedar_layers.specs.PolicySets.{occupied_id, Adds, IsTaken};
 
-    /// The set of these policies. Refuses with `Occupied`, which names the first id that comes again, or for want of memory.
+    /// The set of these policies. Refuses with `Occupied`, which names the first id that comes again, or for want of
+    /// memory.
     pub fn try_from_iter(alloc: Global, policies: Vec<Policy>) -> Result<PolicySet, PolicySetError>
         ensures view { IfOk result (λ s. policies_view s ≡ map policy_view policies.items) }
         ensures whole { IfOk result (λ s. stored_policies s ≡ policies.items) }

@@ -5,8 +5,8 @@ ghost use Rattle.cedar_syntax.specs.Trees.{FindParts, FindParts-prop};
 use crate::frames::Frames;
 use crate::steps::Step;
 
-// What was read: what waits, what is finished, and of the part that was read last the level, the bytes from which and up
-// to which it stands, and how many levels it has.
+// What was read: what waits, what is finished, and of the part that was read last the level, the bytes from which and
+// up to which it stands, and how many levels it has.
 #[derive(Drop)]
 pub(super) struct Work {
     pub(super) frames: Frames,

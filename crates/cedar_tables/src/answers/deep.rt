@@ -16,8 +16,8 @@ pub fn ask(answer: &mut Answer, setting: &Setting<'_, '_>, limit_text: &str, cou
     }
 }
 
-// The last of them. Who drops them takes the last first: it is no part of another, and its part is kept by the one before it, so
-// that no drop goes deeper than one.
+// The last of them. Who drops them takes the last first: it is no part of another, and its part is kept by the one
+// before it, so that no drop goes deeper than one.
 fn of_last(answer: &mut Answer, setting: &Setting<'_, '_>, limit: usize, negations: Vec<Expr>) {
     let mut negations = negations;
     match negations.last() {

@@ -190,7 +190,8 @@ impl Asked for Partly<'_> {
     }
 }
 
-/// What the expression partly evaluates to: its text, or its place, or the answer that is wanted, where it writes what is left.
+/// What the expression partly evaluates to: its text, or its place, or the answer that is wanted, where it writes what
+/// is left.
 pub fn ask_partly(
     answer: &mut Answer,
     setting: &Setting<'_, '_>,

@@ -155,7 +155,8 @@ fn put_overloaded(answer: &mut Answer, types: &[Type]) {
     }
 }
 
-/// What an entity has that is made of values: `E::"e" / a = 1; b = "x" / t = 2` has two attributes and a tag, and `none` is none.
+/// What an entity has that is made of values: `E::"e" / a = 1; b = "x" / t = 2` has two attributes and a tag, and
+/// `none` is none.
 pub fn ask_made_entity(answer: &mut Answer, words: &str) {
     let (name, parts) = split(words);
     let (attributes, tags) = split(parts);
@@ -175,8 +176,8 @@ pub fn ask_made_entity(answer: &mut Answer, words: &str) {
     }
 }
 
-/// What a request has that is made of three entities, each with its place if it is written, and of the context of this one:
-/// `User::"a" 1-2 / Action::"view" / Photo::"p"`.
+/// What a request has that is made of three entities, each with its place if it is written, and of the context of this
+/// one: `User::"a" 1-2 / Action::"view" / Photo::"p"`.
 pub fn ask_made_request(answer: &mut Answer, setting: &Request, words: &str) {
     match setting.context() {
         Some(context) => match context.clone() {

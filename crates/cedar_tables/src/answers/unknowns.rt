@@ -15,8 +15,8 @@ pub fn ask(answer: &mut Answer, text: &str) {
     }
 }
 
-/// `unknowns [x, y of type long]; entities [User::"a"]`: the unknowns, each with the type that it is annotated with, and the
-/// entities that unknowns stand for.
+/// `unknowns [x, y of type long]; entities [User::"a"]`: the unknowns, each with the type that it is annotated with,
+/// and the entities that unknowns stand for.
 pub fn put_unknowns<T: Unknowns>(answer: &mut Answer, asked: &T) {
     let alloc = answer.alloc;
     answer.put("unknowns [");

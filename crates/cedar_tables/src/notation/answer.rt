@@ -7,8 +7,8 @@ use std::alloc::{AllocError, Global};
 use std::fmt;
 use std::fmt::Write;
 
-/// An answer that is written piece by piece. Why there is none is noted in it, so that who writes a piece looks at nothing, and the
-/// answer is looked at once, when it is whole.
+/// An answer that is written piece by piece. Why there is none is noted in it, so that who writes a piece looks at
+/// nothing, and the answer is looked at once, when it is whole.
 #[derive(Drop)]
 pub struct Answer {
     /// What takes memory for a part of the answer takes it here.

@@ -1,13 +1,14 @@
 //! Reads what Cedar has no syntax for, which is written as a call:
 //!
-//! - `unknown("x")` and `unknown("x", "Long")` are unknowns, and `missing(User::"a")` is the one that stands for an entity that a
-//!   partial store lacks; `slot(principal)` is a slot.
-//! - `E.at(1, 2)` is `E` at this place, and `f(1).name_at(1, 2)` the call of a function that is named at this place. All else has
-//!   no place.
+//! - `unknown("x")` and `unknown("x", "Long")` are unknowns, and `missing(User::"a")` is the one that stands for an
+//!   entity that a partial store lacks; `slot(principal)` is a slot.
+//! - `E.at(1, 2)` is `E` at this place, and `f(1).name_at(1, 2)` the call of a function that is named at this place.
+//!   All else has no place.
 //! - `call("f", 1)` is `f(1)`, whatever the function's name is, as `call("unknown", "x")`.
 //! - `E.has_path("a")` is `E has a` as an extended `has` of this one attribute, or of more.
 //! - `fields({a: 1})` is the record, made of a map.
-//! - `in_sets(9, E)` is `E` in nine sets, each the only element of the next, and `negated(9, E)` is `E` behind nine `!`.
+//! - `in_sets(9, E)` is `E` in nine sets, each the only element of the next, and `negated(9, E)` is `E` behind nine
+//!   `!`.
 use crate::notation::Parts;
 use crate::notation::expressions::{popped, put, put_made, put_path, put_set, put_unary};
 use crate::notation::leaves::{named_type, slot_of, standing_for};

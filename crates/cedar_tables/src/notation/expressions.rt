@@ -1,4 +1,5 @@
-//! Reads expressions of Cedar's text, and drops their places. What Cedar has no syntax for is written as a call: `calls` says which.
+//! Reads expressions of Cedar's text, and drops their places. What Cedar has no syntax for is written as a call:
+//! `calls` says which.
 use crate::notation::calls::put_call;
 use crate::notation::leaves::{attributes, unplaced};
 use crate::notation::unanswered::Unanswered;

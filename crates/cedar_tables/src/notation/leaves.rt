@@ -99,7 +99,8 @@ fn plain_type(written: &str) -> Option<Type> {
     }
 }
 
-/// The unknown that stands for the entity where a store lacks it: it is named as the entity prints, and has the entity's type.
+/// The unknown that stands for the entity where a store lacks it: it is named as the entity prints, and has the
+/// entity's type.
 pub fn standing_for(alloc: Global, uid: &EntityUID) -> Result<Unknown, AllocError> {
     let shown = uid.to_string(alloc)?;
     let name = RcStr::from_str(alloc, shown.as_str())?;

@@ -1,9 +1,10 @@
 //! Reads policies, of which each is a fact of the setting.
 //!
 //! - `policy p permit(principal, action, resource) when { .. };` is a policy of Cedar's text, at no place.
-//! - `constraint p action EXPRESSION` is its constraint on the action, where no scope can write it; the same of the principal and of
-//!   the resource.
-//! - `clause p 3-5 forbid(principal, action, resource) when { .. };` is a policy made from its when clause alone, at a place.
+//! - `constraint p action EXPRESSION` is its constraint on the action, where no scope can write it; the same of the
+//!   principal and of the resource.
+//! - `clause p 3-5 forbid(principal, action, resource) when { .. };` is a policy made from its when clause alone, at a
+//!   place.
 use crate::notation::expressions::{LEVELS, expression, meant};
 use crate::notation::leaves::place;
 use crate::notation::settings::{fact_of, slots};

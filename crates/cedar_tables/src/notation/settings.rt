@@ -1,21 +1,22 @@
 //! Reads the setting of a table. Each line states a fact; a line that states none says nothing.
 //!
-//! - `principal User::"a"`, `action Action::"view"` and `resource Photo::"p" 1-2` are the request's entities, each with its place
-//!   if it has one; `principal unknown` and `principal unknown User` are not known, the second of that type.
-//! - `context {n: 1}` is the context that this restricted expression is evaluated to; `context none` is not known; without either
-//!   it is empty.
+//! - `principal User::"a"`, `action Action::"view"` and `resource Photo::"p" 1-2` are the request's entities, each with
+//!   its place if it has one; `principal unknown` and `principal unknown User` are not known, the second of that type.
+//! - `context {n: 1}` is the context that this restricted expression is evaluated to; `context none` is not known;
+//!   without either it is empty.
 //! - `slot resource Photo::"p"` links a slot.
 //! - `store partial`: an entity that the store lacks is not known.
 //! - `entity User::"a"` is an entity of the store; with `entity User::"a" second` the facts on it name it `second`.
-//! - `attribute User::"a" age = 30` and `tag User::"a" age = 30` have a value, or, where it has an unknown, a restricted expression.
+//! - `attribute User::"a" age = 30` and `tag User::"a" age = 30` have a value, or, where it has an unknown, a
+//!   restricted expression.
 //! - `ancestor User::"a" Group::"g"`.
 //! - `map x = 1` is the value of an unknown.
-//! - `errors skip` and `errors forbid` say how errors are handled: a policy that errs is skipped, as where neither stands; or a
-//!   forbid that errs forbids.
-//! - `resolution shallow` and `resolution deep` say what reading a stored residual answers: what is stored, as where neither
-//!   stands; or what that is evaluated to.
-//! - `functions` and `overloads` say which functions are stored, and for which types `<` is overloaded; `policies` reads the facts
-//!   on policies.
+//! - `errors skip` and `errors forbid` say how errors are handled: a policy that errs is skipped, as where neither
+//!   stands; or a forbid that errs forbids.
+//! - `resolution shallow` and `resolution deep` say what reading a stored residual answers: what is stored, as where
+//!   neither stands; or what that is evaluated to.
+//! - `functions` and `overloads` say which functions are stored, and for which types `<` is overloaded; `policies`
+//!   reads the facts on policies.
 ghost use Rattle.std.specs.Prelude.{◌≡◌, true};
 ghost use Rattle.cedar_layers.specs.Parts.{parts_view, are_restricted_parts};
 ghost use mathlib.Core.Bool.{Bool-set};

@@ -75,7 +75,8 @@ impl From<io::Error> for Unanswered {
     }
 }
 
-/// Why there is no answer, if a reason was noted: the first one. Who notes it goes on, and it is looked at once, at the end.
+/// Why there is no answer, if a reason was noted: the first one. Who notes it goes on, and it is looked at once, at the
+/// end.
 #[derive(Clone, Copy)]
 pub struct Noted {
     why: Option<Unanswered>,

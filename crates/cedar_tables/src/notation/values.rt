@@ -1,5 +1,6 @@
-//! Reads values of Cedar's text: literals, sets and records, where `V.at(1, 2)` is `V` at this place, and `decimal("1.5")` is the
-//! extension value of this type that the function of the type's name makes of the text, which is its key.
+//! Reads values of Cedar's text: literals, sets and records, where `V.at(1, 2)` is `V` at this place, and
+//! `decimal("1.5")` is the extension value of this type that the function of the type's name makes of the text, which
+//! is its key.
 use crate::notation::expressions::expression;
 use crate::notation::unanswered::Unanswered;
 use crate::notation::{Parts, add, both, mapped};

@@ -1,6 +1,7 @@
 //! What is answered of contexts that are made of restricted expressions: what they hold, or why there is none.
 //!
-//! Pairs are written `b = unknown("x"); a = [1]`, in that order: names and restricted expressions, or values. `none` is no pair.
+//! Pairs are written `b = unknown("x"); a = [1]`, in that order: names and restricted expressions, or values. `none` is
+//! no pair.
 use crate::levels::{Asked, Shortage, answer_within, met_by};
 use crate::notation::answer::Answer;
 use crate::notation::expressions::restricted;

@@ -7,8 +7,8 @@ use crate::notation::unanswered::Unanswered;
 use cedar_layers::expressions::{Expr, ExprKind};
 use std::fmt;
 
-/// The text of the leaf that is written behind its kind: `name`, `entity-type`, `uid`, `type`, or `head`, the operator, the
-/// variable or the slot that an expression begins with.
+/// The text of the leaf that is written behind its kind: `name`, `entity-type`, `uid`, `type`, or `head`, the operator,
+/// the variable or the slot that an expression begins with.
 pub fn ask(answer: &mut Answer, words: &str) {
     let (kind, written) = headed(words);
     let alloc = answer.alloc;

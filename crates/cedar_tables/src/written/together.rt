@@ -18,8 +18,8 @@ use cedar_layers::expressions::{CallStyle, Type, Value};
 use std::alloc::{AllocError, Global};
 use std::rc::RcStr;
 
-/// Whether a function of this name that takes this type can be used beside `make`, which takes a text. Each makes values of the
-/// type `T`, and is in an extension of its own, or both are `in-one`.
+/// Whether a function of this name that takes this type can be used beside `make`, which takes a text. Each makes
+/// values of the type `T`, and is in an extension of its own, or both are `in-one`.
 pub fn ask(answer: &mut Answer, kind: &str, words: &str) {
     let (second, takes) = headed(words);
     if let Err(why) = put_together(answer, kind == "in-one", second, takes) {

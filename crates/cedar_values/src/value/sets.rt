@@ -56,7 +56,8 @@ impl Set {
         self.as_slice().binary_search(value).is_ok()
     }
 
-    /// Whether each element is one of the other set's. It is false at once where this set has more elements than the other.
+    /// Whether each element is one of the other set's. It is false at once where this set has more elements than the
+    /// other.
     pub fn is_subset(&self, other: &Set) -> bool
         ensures { result ≡ has_each (abstract_values self.now.all) (abstract_values other.now.all) }
     {

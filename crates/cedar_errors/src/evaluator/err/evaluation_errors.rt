@@ -186,7 +186,8 @@ impl Model for TypeError {
 
 impl std::error::Error for TypeError {}
 
-/// `type error: expected T, got U`, and `type error: expected one of [S, T], got U` where the place takes several types.
+/// `type error: expected T, got U`, and `type error: expected one of [S, T], got U` where the place takes several
+/// types.
 impl fmt::Display for TypeError {
     ghost output = { λ e. Some (wrong_type_text e.expected e.actual) };
 

@@ -14,4 +14,4 @@ returns-in-Ok-Some g c r k speaks low =
     let ks = c.in-Ok-Some.keys in
     let vs = c.in-Ok-Some.values in
     record_direct (evaluation_setting r c.args.within.now) (calls_in c.args.within.now) k c.args.pairs.now.entries ks vs c.made.result direct.0 direct.1 direct.2 direct.3 (direct.4 r k speaks low)
-    (made_of c.record_value.result c.made.result (λ v. v.what ≡ record_represented (represented_fields_of (each_under (texts_of ks.items) (whats vs.items)))) c.record_value.ensures c.made.ensures)
+    (made_of c.record_value.result c.made.result (λ v. v.what ≡ record_represented (represented_fields_of (each_under (texts_of ks.items) (whats vs.items)))) c.record_value.ensures.what c.made.ensures)
