@@ -51,7 +51,7 @@ stored_facts = record {
 abbrev missing_user : EntityName
 missing_user = user (codes "m")
 
--- u is 1, c is the entity itself, and the unknown of a missing_user entity is named too
+-- u is 1, c is the entity itself, and the unknown of a missing entity is named too
 abbrev pub all_named : Text → Option Represented
 all_named n =
     cond (text_eq n (codes "u")) (Some one) (cond (text_eq n (codes "c")) (Some (plain_represented

@@ -120,7 +120,7 @@ module _ {A : Type 0} where
   named-zip (k ∷ ks) [] = refl
   named-zip (k ∷ ks) (x ∷ xs) = ap (λ l. (rc_str_bytes k, x) ∷ l) (named-zip ks xs)
 
-  -- a map that is made of keys in order has each_under them what it is made of
+  -- a map that is made of keys in order has under them what it is made of
   pub entries_under : (ks : List (RcStr Global)) (xs : List A) (m : BTreeMap (RcStr Global) A Global) →
       (length ks ≡ length xs) × IsStrictlySortedBy key_order ks → IsFromIterResult key_order (zip ks xs) m →
       named_entries m.entries ≡ each_under (texts_of ks) xs
@@ -128,7 +128,7 @@ module _ {A : Type 0} where
       entries_of_map (zip ks xs) m
       (subst (IsStrictlySortedBy key_order) (sym (firsts-zip ks xs (sym keys.0))) keys.1) made ∙ named-zip ks xs
 
--- ---- values and expressions each_under keys
+-- ---- values and expressions under keys
 
 abbrev values_named : List (Text × Placed) → RepresentedFields
 values_named [] = no_represented_at

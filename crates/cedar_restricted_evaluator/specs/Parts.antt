@@ -63,7 +63,7 @@ abbrev pub set_made : Answers → Answer
 set_made (answereds.Values vs) = answers_value (set_represented (canonical_set (whats vs.items)))
 set_made (answereds.Mixed m) = answers_residual (set_of (terms_view m.exprs.items))
 
--- what they make as a record, each_under these keys
+-- what they make as a record, under these keys
 abbrev pub record_made : Vec (RcStr Global) Global → Answers → Answer
 record_made ks (answereds.Values vs) =
     answers_value (record_represented (represented_fields_of (each_under (texts_of ks.items) (whats vs.items))))

@@ -81,7 +81,7 @@ module _ (May : MayAnswer) where
       let now : Parts May rest (Err e) = subst (λ ts. Parts May ts (Err e)) (sym is) (fails e, may, refl) in
       subst (Parts May all) (parts_after-err ps e) (so_far (Err e) now)
 
--- ---- parts each_under keys
+-- ---- parts under keys
 
 -- each part has a key
 abbrev pub HaveKeys : List Text → Terms → Type 0

@@ -115,7 +115,7 @@ fn called(
     }
 }
 
-/// The record of these values each_under these keys, in turn, with no location of its own. Refuses only for want of memory.
+/// The record of these values under these keys, in turn, with no location of its own. Refuses only for want of memory.
 ///
 /// It asks for as many values as keys, and that each key comes after the one before it, by their bytes, as the keys of
 /// a record stand. Else it would not be the record of all of them: a key that comes twice has one value, the last, and
@@ -135,7 +135,7 @@ pub fn record_value(
     Ok(Value::record(alloc, fields, None)?)
 }
 
-// The record of these expressions each_under these keys.
+// The record of these expressions under these keys.
 fn record_expr(alloc: Global, keys: Vec<RcStr>, mixed: Mixed) -> Result<Expr, AllocError>
     requires { (length keys.items ≡ length mixed.exprs.items) × IsStrictlySortedBy key_order keys.items }
     ensures view { IfOk result
@@ -146,7 +146,7 @@ fn record_expr(alloc: Global, keys: Vec<RcStr>, mixed: Mixed) -> Result<Expr, Al
     Ok(Expr::record_map(alloc, fields)?)
 }
 
-// The map of the values each_under the keys, in turn.
+// The map of the values under the keys, in turn.
 fn map_under<V: Drop>(
     alloc: Global,
     keys: Vec<RcStr>,
