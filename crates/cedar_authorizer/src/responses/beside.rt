@@ -1,6 +1,6 @@
 //! What is held while something else is asked for, and several things that are asked for at once.
 ghost use Rattle.std.specs.Prelude.{◌≡◌, [], ◌∷◌, ◌++◌, Ok, IfOk, OnOk};
-ghost use Rattle.cedar_authorizer.specs.responses.Found.{found_in};
+ghost use Rattle.cedar_authorizer.specs.responses.Found.{as_found};
 
 use std::alloc::{AllocError, Global};
 use std::rc::Rc;
@@ -66,7 +66,7 @@ pub(crate) fn in_rc<T: Drop>(alloc: Global, held: T) -> Result<Rc<T>, AllocError
 
 // What was made, as what is found.
 pub(crate) fn found<T: Drop>(made: Result<T, AllocError>) -> Result<Option<T>, AllocError>
-    ensures { result ≡ found_in made }
+    ensures { result ≡ as_found made }
 {
     match made {
         Ok(made) => Ok(Some(made)),
