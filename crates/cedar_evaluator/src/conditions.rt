@@ -25,7 +25,7 @@ use cedar_layers::expressions::{
     BinaryOp, EntityType, EntityUID, Expr, ExprKind, Literal, Loc, PartialValue, Var,
 };
 use cedar_layers::policies::Policy;
-use cedar_partial_operators::connectives::{Connective, joined_right};
+use cedar_operators::partial::connectives::{Connective, joined_right};
 use either::{Either, Left};
 use std::alloc::Global;
 

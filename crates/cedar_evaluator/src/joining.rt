@@ -18,8 +18,8 @@ use cedar_interpreter::Evaluation;
 use cedar_layers::expressions::{Expr, Loc, PartialValue, ResidualExpr, SlotEnv, Type, Value};
 use cedar_layers::policies::Policy;
 use cedar_operators::failures::type_error;
+use cedar_operators::partial::connectives::{Connective, best, residual_connective};
 use cedar_operators::typed::{bool_in, bool_part};
-use cedar_partial_operators::connectives::{Connective, best, residual_connective};
 use either::Either;
 use std::alloc::Global;
 

@@ -3,3 +3,4 @@ pub mod Nodes
 pub mod Errors
 pub mod Records
 pub mod Mappings
+pub mod Readers

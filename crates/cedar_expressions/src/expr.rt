@@ -7,6 +7,7 @@ mod equality;
 mod hashing;
 mod literals;
 mod made;
+mod readers;
 mod record;
 mod shape;
 mod substitution;

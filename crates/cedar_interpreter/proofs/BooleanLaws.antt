@@ -8,9 +8,9 @@ use Rattle.cedar_model.specs.Operators.{unary_answer, expecting}
 use Rattle.cedar_model.specs.Failures.{PartialValue, value, residual, Answer, answers, answers_bool, answers_residual, wrong_type}
 use Rattle.cedar_model.specs.Rules.{MayAnswer, AfterGuard, TakesBranch, AndLeft, OrLeft, AfterBest, best, joined, bool_expected, bool_or_failure, on_part}
 use Rattle.cedar_values.specs.Residuals.{partial_term}
-use Rattle.cedar_partial_operators.specs.declared.connectives.Connective.{Connective}
-use Rattle.cedar_partial_operators.specs.declared.connectives.Connective.TheVariants as connectives
-use Rattle.cedar_partial_operators.specs.Connectives.{deciding, neutral, joined_terms, beside_neutral}
+use Rattle.cedar_operators.specs.declared.partial.connectives.Connective.{Connective}
+use Rattle.cedar_operators.specs.declared.partial.connectives.Connective.TheVariants as connectives
+use Rattle.cedar_operators.specs.Connectives.{deciding, neutral, joined_terms, beside_neutral}
 use Rattle.cedar_interpreter.specs.Booleans.{part_bool, is_bool}
 use Rattle.cedar_interpreter.specs.Kept.{is_residual}
 use Rattle.cedar_interpreter.specs.Tasks.{AfterLeftSide}

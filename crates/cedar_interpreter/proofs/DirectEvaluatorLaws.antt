@@ -29,8 +29,8 @@ use Rattle.cedar_interpreter.proofs.Laws.{literal_joined}
 use Rattle.cedar_interpreter.specs.declared.evaluation.Evaluation.{Evaluation}
 use Rattle.cedar_interpreter.specs.Settings.{Speaks, evaluation_setting, calls_in}
 use Rattle.cedar_operators.specs.StoredResiduals.{path_residual}
-use Rattle.cedar_partial_operators.specs.declared.connectives.Connective.{Connective}
-use Rattle.cedar_partial_operators.specs.Connectives.{deciding, neutral, joined_terms, beside_neutral}
+use Rattle.cedar_operators.specs.declared.partial.connectives.Connective.{Connective}
+use Rattle.cedar_operators.specs.Connectives.{deciding, neutral, joined_terms, beside_neutral}
 use Rattle.cedar_interpreter.specs.Tasks.{AfterLeftSide}
 use Rattle.cedar_interpreter.proofs.DirectLaws.{side_runs}
 use Rattle.cedar_interpreter.proofs.ReadLaws.{as_stored, none_resolved, operator_value, path_as_stored, path_value}

@@ -33,10 +33,10 @@ use Rattle.cedar_interpreter.proofs.PartsLaws.{no_fail}
 use Rattle.cedar_errors.specs.declared.evaluator.err.EvaluationError.{EvaluationError}
 use Rattle.cedar_errors.specs.Answers.{partial_answer, AnswersWith}
 use Rattle.cedar_operators.specs.Operands.{over}
-use Rattle.cedar_partial_operators.specs.declared.connectives.Connective.{Connective}
-use Rattle.cedar_partial_operators.specs.declared.connectives.Connective.TheVariants as connectives
-use Rattle.cedar_partial_operators.specs.Connectives.{neutral, joined_terms, beside_neutral}
-use Rattle.cedar_partial_operators.specs.Parts.{projection}
+use Rattle.cedar_operators.specs.declared.partial.connectives.Connective.{Connective}
+use Rattle.cedar_operators.specs.declared.partial.connectives.Connective.TheVariants as connectives
+use Rattle.cedar_operators.specs.Connectives.{neutral, joined_terms, beside_neutral}
+use Rattle.cedar_operators.specs.Parts.{projection}
 use Rattle.cedar_interpreter.proofs.ReadLaws.{none_resolved, attribute_value}
 use Rattle.cedar_interpreter.proofs.StoredLaws.{of_value, value_stays, part_stored}
 use Rattle.cedar_interpreter.specs.Continuations.{ContinuesAt, StartsIn, ContinuesIn, LeadsIn}

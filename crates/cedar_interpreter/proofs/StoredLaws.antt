@@ -3,20 +3,21 @@ use Rattle.std.specs.Prelude.{◌≡◌, ◌≢◌, Bool, true, false, Option, N
 use Rattle.std.proofs.Common.{refl, sym, ap, ◌∙◌, subst}
 use Rattle.cedar_model.specs.Terms.{Text, EntityName, Term, literal, variable, slot, unknown, if_then_else, both, either, unary, binary, call, get_attribute, has_attribute, extended_has, like, is_of_type, set_of, record_of, Fields}
 use Rattle.cedar_model.specs.Values.{Represented}
-use Rattle.cedar_model.specs.Failures.{Failure, PartialValue, value, residual, Answer, answers, fails, out_of_memory}
+use Rattle.cedar_model.specs.Failures.{Failure, PartialValue, value, residual, Answer, answers, fails, answers_residual, out_of_memory}
 use Rattle.cedar_model.specs.Settings.{Found, found, not_there, not_known, look_up, part_at, Setting}
 use Rattle.cedar_model.specs.Operators.{Container, a_record, an_entity, no_container, container_of, container_expected, stored_attribute, attribute_residual, attribute_found, attribute_in, attribute_answer, value_or_failure, represented_at, represented_names, key_is_missing, term_at}
 use Rattle.cedar_model.specs.Shapes.{is_projectable}
 use Rattle.cedar_model.specs.Rules.{MayAnswer, AtAttribute, fields_of_record}
 use Rattle.cedar_expressions.specs.declared.expr.Expr.{Expr}
 use Rattle.cedar_expressions.specs.View.{view}
+use Rattle.cedar_expressions.specs.Readers.{IsNoUnknown}
 use Rattle.cedar_values.specs.declared.partial_value.PartialValue.{PartialValue as RustPartialValue}
 use Rattle.cedar_errors.specs.declared.evaluator.err.EvaluationError.{EvaluationError}
 use Rattle.cedar_errors.specs.Answers.{partial_answer}
 use Rattle.cedar_operators.specs.Operands.{over}
-use Rattle.cedar_partial_operators.specs.declared.attributes.Projected.TheVariants as projections
-use Rattle.cedar_partial_operators.specs.Parts.{Projection, answered, interpreted_again, projected, projection_of, projection_at, projection, AnswersProjection, ProjectsTo}
-use Rattle.cedar_partial_operators.proofs.Projections.{at_attribute}
+use Rattle.cedar_operators.specs.declared.partial.attributes.Projected.TheVariants as projections
+use Rattle.cedar_operators.specs.Parts.{Projection, answered, interpreted_again, projected, projection_of, projection_at, projection, AnswersProjection, ProjectsTo}
+use Rattle.cedar_operators.proofs.Projections.{at_attribute}
 use Rattle.cedar_interpreter.specs.Reads.{resolved_in, part_residual}
 use Rattle.cedar_interpreter.proofs.ReadLaws.{nothing_resolved, as_stored, as_read}
 use Rattle.cedar_interpreter.specs.Stored.{remapped}
@@ -30,6 +31,28 @@ value_stays map v b is = subst (λ x. answers (value v) ≡ remapped map x) is r
 pub failure_stays : (map : Text → Option Represented) (e : Failure) (b : Answer) → fails e ≡ b → fails e ≡ remapped map b
 unfolding remapped
 failure_stays map e b is = subst (λ x. fails e ≡ remapped map x) is refl
+
+-- and a residual that is no unknown
+pub residual_stays : (map : Text → Option Represented) (t : Term) → IsNoUnknown t
+    → remapped map (answers_residual t) ≡ answers_residual t
+unfolding remapped
+residual_stays map (literal l) h = refl
+residual_stays map (variable v) h = refl
+residual_stays map (slot i) h = refl
+residual_stays map (unknown n ty) h = absurd (h n ty refl)
+residual_stays map (if_then_else c a b) h = refl
+residual_stays map (both a b) h = refl
+residual_stays map (either a b) h = refl
+residual_stays map (unary op a) h = refl
+residual_stays map (binary op a b) h = refl
+residual_stays map (call f ts) h = refl
+residual_stays map (get_attribute a k) h = refl
+residual_stays map (has_attribute a k) h = refl
+residual_stays map (extended_has a k ks) h = refl
+residual_stays map (like a p) h = refl
+residual_stays map (is_of_type a ty) h = refl
+residual_stays map (set_of ts) h = refl
+residual_stays map (record_of fs) h = refl
 
 stored : (map : Text → Option Represented) (o : Option PartialValue) (failure : Failure) →
     stored_attribute map o failure ≡ remapped map (stored_attribute (λ n. None) o failure)

@@ -7,7 +7,7 @@ use Rattle.cedar_model.specs.Failures.{Answer, value, fails, limit, out_of_memor
 use Rattle.cedar_model.specs.Settings.{RequestPart, Store, Resolution, shallow, deep, Setting}
 use Rattle.cedar_model.specs.Rules.{MayAnswer, StoredCalls, Parts, Runs, Resolves, AtPath, best, best_of_kind, joined, on_part, beside_residual, binary_beside, has_part, is_part}
 use Rattle.cedar_expressions.specs.View.{view, terms_view}
-use Rattle.cedar_partial_operators.specs.declared.connectives.Connective.TheVariants as connectives
+use Rattle.cedar_operators.specs.declared.partial.connectives.Connective.TheVariants as connectives
 use Rattle.cedar_restricted_evaluator.specs.declared.parts.PartsFrame.{PartsFrame}
 use Rattle.cedar_restricted_evaluator.specs.Steps.{so_far_fails, whole_fails}
 use Rattle.cedar_interpreter.specs.declared.frame.Frame.{Frame}

@@ -17,9 +17,9 @@ use Rattle.cedar_names.specs.declared.types.FirstRest.{FirstRest}
 use Rattle.cedar_expressions.specs.declared.expr.Expr.{Expr}
 use Rattle.cedar_expressions.specs.View.{view, terms_view, expr_loc}
 use Rattle.cedar_values.specs.Residuals.{partial_view, partial_loc, partial_term, residual_term}
-use Rattle.cedar_partial_operators.specs.declared.connectives.Connective.{Connective}
-use Rattle.cedar_partial_operators.specs.declared.connectives.Connective.TheVariants as connectives
-use Rattle.cedar_partial_operators.specs.Connectives.{joined_terms, beside_neutral}
+use Rattle.cedar_operators.specs.declared.partial.connectives.Connective.{Connective}
+use Rattle.cedar_operators.specs.declared.partial.connectives.Connective.TheVariants as connectives
+use Rattle.cedar_operators.specs.Connectives.{joined_terms, beside_neutral}
 use Rattle.cedar_frames.specs.declared.machine.Transition.{Transition}
 use Rattle.cedar_frames.specs.declared.machine.Transition.TheVariants.{Done, Wait}
 use Rattle.cedar_restricted_evaluator.specs.declared.parts.PartsFrame.{PartsFrame}

@@ -16,7 +16,7 @@ use crate::evaluation::Evaluation;
 use crate::failed::Failed;
 use crate::frame::{FirstBranch, Next, Pending, SecondBranch, SharedExpr};
 use cedar_expressions::Expr;
-use cedar_partial_operators::connectives::Connective;
+use cedar_operators::partial::connectives::Connective;
 use cedar_values::PartialValue;
 use std::alloc::{AllocError, Global};
 use std::rc::Rc;

@@ -5,7 +5,7 @@ ghost use Rattle.cedar_model.specs.Values.{plain_represented};
 ghost use Rattle.cedar_model.specs.Failures.{Answer, value, answers, answers_bool};
 ghost use Rattle.cedar_expressions.specs.View.{view};
 ghost use Rattle.cedar_values.specs.Residuals.{partial_view};
-ghost use Rattle.cedar_partial_operators.specs.Connectives.{neutral, joined_terms};
+ghost use Rattle.cedar_operators.specs.Connectives.{neutral, joined_terms};
 ghost use Rattle.cedar_interpreter.specs.Booleans.{part_bool};
 ghost use Rattle.cedar_interpreter.specs.Continuations.{ContinuesIn, StartsAt, ContinuesAt};
 ghost use Rattle.cedar_interpreter.specs.Direct.{IsRightSide, IsAwaited};
@@ -24,9 +24,8 @@ use crate::stopped::Stopped;
 use cedar_expressions::Expr;
 use cedar_frames::Transition;
 use cedar_names::Literal;
+use cedar_operators::partial::connectives::{Connective, joined_right, residual_connective};
 use cedar_operators::typed::bool_part;
-use cedar_partial_operators::connectives::{Connective, joined_right, residual_connective};
-use cedar_restricted_evaluator::literal_in;
 use cedar_values::PartialValue;
 use std::alloc::{AllocError, Global};
 use std::mem;
@@ -238,7 +237,7 @@ fn in_place_of(connective: Connective, left: Box<PartialValue>, b: bool) -> Box<
 fn bool_literal_in(e: &Expr) -> Option<bool>
     ensures { IfSome result (λ b. view e.now ≡ literal (bool_literal b)) }
 {
-    match literal_in(e) {
+    match e.as_literal() {
         Some(Literal::Bool(b)) => Some(*b),
         Some(Literal::Long(_)) => None,
         Some(Literal::String(_)) => None,

@@ -11,7 +11,7 @@ ghost use Rattle.cedar_expressions.specs.View.{view, expr_loc, terms_view, field
 ghost use Rattle.cedar_layers.specs.Stores.{store_view};
 ghost use Rattle.cedar_extensions.specs.Extensions.{extensions_view};
 ghost use Rattle.cedar_operators.specs.Operands.{given};
-ghost use Rattle.cedar_partial_operators.specs.Connectives.{joined_terms};
+ghost use Rattle.cedar_operators.specs.Connectives.{joined_terms};
 ghost use Rattle.cedar_interpreter.specs.Direct.{IsValueOf, HasDirectValue, HasDirectBool, HasDirectValueAbove};
 ghost use Rattle.cedar_interpreter.specs.DirectEvaluators.{HasDirectParts, HasDirectPairs, some_above};
 
@@ -22,9 +22,9 @@ use cedar_names::{BinaryOp, EntityType, FirstRest, Literal, Pattern, UnaryOp, Va
 use cedar_operators::attributes::attribute_of;
 use cedar_operators::binary::binary_app;
 use cedar_operators::operators::of_longs;
-use cedar_partial_operators::attributes::{extended_has_of_part, has_of_part};
-use cedar_partial_operators::connectives::Connective;
-use cedar_partial_operators::unary::{is_of_part, like_of_part, unary_of_part};
+use cedar_operators::partial::attributes::{extended_has_of_part, has_of_part};
+use cedar_operators::partial::connectives::Connective;
+use cedar_operators::partial::unary::{is_of_part, like_of_part, unary_of_part};
 use cedar_restricted_evaluator::record_value;
 use cedar_values::{PartialValue, Value, ValueKind};
 use std::alloc::{AllocError, Global};

@@ -4,7 +4,7 @@ use crate::stopped::Stopped;
 use cedar_expressions::Expr;
 use cedar_frames::Transition;
 use cedar_names::{BinaryOp, EntityType, FirstRest, Pattern, UnaryOp};
-use cedar_partial_operators::connectives::Connective;
+use cedar_operators::partial::connectives::Connective;
 use cedar_restricted_evaluator::PartsFrame;
 use cedar_values::{PartialValue, ResidualExpr};
 use std::rc::{Rc, RcStr};

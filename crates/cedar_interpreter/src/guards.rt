@@ -17,7 +17,7 @@ use crate::frame::{FirstBranch, Frame, Next, Pending, SecondBranch, SharedExpr, 
 use crate::stopped::Stopped;
 use cedar_expressions::Expr;
 use cedar_frames::Transition;
-use cedar_partial_operators::connectives::residual_if;
+use cedar_operators::partial::connectives::residual_if;
 use cedar_values::{PartialValue, ResidualExpr};
 use std::alloc::{AllocError, Global};
 use std::rc::Rc;

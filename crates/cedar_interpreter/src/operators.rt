@@ -28,13 +28,13 @@ use crate::stored::stored_in;
 use cedar_expressions::Expr;
 use cedar_frames::Transition;
 use cedar_names::{BinaryOp, EntityType, FirstRest, Pattern, UnaryOp};
-use cedar_operators::stored_residuals::OnPath;
-use cedar_operators::typed::bool_part;
-use cedar_partial_operators::attributes::{
+use cedar_operators::partial::attributes::{
     Projected, attribute_of_part, extended_has_of_part, has_of_part,
 };
-use cedar_partial_operators::binary::binary_of_parts;
-use cedar_partial_operators::unary::{is_of_part, like_of_part, unary_of_part};
+use cedar_operators::partial::binary::binary_of_parts;
+use cedar_operators::partial::unary::{is_of_part, like_of_part, unary_of_part};
+use cedar_operators::stored_residuals::OnPath;
+use cedar_operators::typed::bool_part;
 use cedar_values::{PartialValue, ResidualExpr};
 use std::alloc::Global;
 use std::mem;

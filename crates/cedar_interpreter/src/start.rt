@@ -8,8 +8,8 @@ ghost use Rattle.cedar_names.specs.Names.{type_text};
 ghost use Rattle.cedar_names.specs.Leaves.{literal_view, variable_view, slot_view};
 ghost use Rattle.cedar_names.specs.Leaves.{unary_view, binary_view, pattern_view};
 ghost use Rattle.cedar_expressions.specs.View.{view, terms_view, fields_view, extended_has_of, call_of, expr_loc};
+ghost use Rattle.cedar_expressions.specs.Readers.{unknown_term};
 ghost use Rattle.cedar_layers.specs.Policies.{slots_view};
-ghost use Rattle.cedar_operators.specs.Operands.{unknown_term};
 ghost use Rattle.cedar_interpreter.specs.Tasks.{Gives};
 ghost use Rattle.cedar_interpreter.specs.Continuations.{StartsIn, StartsAt};
 ghost use Rattle.cedar_interpreter.specs.Parts.{IsTaken, IsNextPart};
@@ -28,8 +28,8 @@ use cedar_layers::expressions::SlotEnv;
 use cedar_names::{
     BinaryOp, EntityType, FirstRest, Literal, Name, Pattern, SlotId, Type, UnaryOp, Unknown, Var,
 };
-use cedar_partial_operators::connectives::Connective;
-use cedar_partial_operators::unary::{is_of_part, like_of_part};
+use cedar_operators::partial::connectives::Connective;
+use cedar_operators::partial::unary::{is_of_part, like_of_part};
 use cedar_restricted_evaluator::{NextPart, PartsFrame};
 use cedar_values::{PartialValue, Value, ValueKind};
 use evaluation_errors::UnlinkedSlotError;

@@ -1,5 +1,5 @@
 //! Unknowns, and stored attributes that are unknowns: the map may have a value for them.
-ghost use Rattle.std.specs.Prelude.{◌≡◌, true, [], Some, option_map, option_copied, MatchOption, IfOk};
+ghost use Rattle.std.specs.Prelude.{◌≡◌, true, [], Some, option_map, option_copied, IfOk};
 ghost use Rattle.std.specs.Rc.{rc_str_bytes};
 ghost use Rattle.cedar_model.specs.Values.{abstract_value};
 ghost use Rattle.cedar_model.specs.Shapes.{has_unknown};
@@ -8,20 +8,20 @@ ghost use Rattle.cedar_model.specs.Failures.{Answer, fails, answers_residual, wr
 ghost use Rattle.cedar_model.specs.Operators.{typed_value};
 ghost use Rattle.cedar_names.specs.Leaves.{type_view};
 ghost use Rattle.cedar_expressions.specs.View.{view, expr_loc};
+ghost use Rattle.cedar_expressions.specs.Readers.{unknown_term};
 ghost use Rattle.cedar_values.specs.Residuals.{residual_term};
 ghost use Rattle.cedar_values.specs.Sound.{Placed};
 ghost use Rattle.cedar_errors.specs.Answers.{AnswersWith};
-ghost use Rattle.cedar_operators.specs.Operands.{unknown_term};
 ghost use Rattle.cedar_interpreter.specs.Settings.{mapper_view};
 ghost use Rattle.cedar_interpreter.specs.Tasks.{Gives};
-ghost use Rattle.cedar_interpreter.specs.Stored.{remapped, IsNoUnknown, mapped_unknown};
+ghost use Rattle.cedar_interpreter.specs.Stored.{remapped, mapped_unknown};
 
 use crate::answers::{answered_in, done, loc_of, or_want};
 use crate::evaluation::Mapper;
 use crate::frame::{Next, SharedExpr};
 use crate::stopped::Stopped;
 use cedar_errors::evaluator::err::EvaluationError;
-use cedar_expressions::{Expr, ExprKind};
+use cedar_expressions::Expr;
 use cedar_frames::Transition;
 use cedar_names::laws::leaves_are_equal_by_view;
 use cedar_names::{Type, Unknown};
@@ -54,7 +54,7 @@ pub(crate) fn stored_in(
 }
 
 // What an attribute that is stored unevaluated answers: one that is an unknown goes through the map.
-#[tactic(auto, unfolding(crate::specs::Stored::remapped))]
+#[tactic(auto, using(crate::proofs::StoredLaws::residual_stays), unfolding(crate::specs::Stored::remapped))]
 fn stored_residual(
     alloc: Global,
     whole: &SharedExpr,
@@ -64,56 +64,13 @@ fn stored_residual(
     ensures { IfOk result (λ n. Gives (expr_loc whole.now.value) n
         (remapped (mapper_view mapper.now) (answers_residual (residual_term residual)))) }
 {
-    match unknown_in(residual.as_expr()) {
+    match residual.as_expr().as_unknown() {
         Some(unknown) => {
             let next = mapped(alloc, whole, mapper, residual.as_expr(), unknown);
             drop(residual);
             next
         }
         None => Ok(done(alloc, whole, PartialValue::Residual(residual))),
-    }
-}
-
-// The unknown that the expression is, if it is one.
-#[tactic(auto, using(cedar_expressions::proofs::Levels::levels), unfolding(crate::specs::Stored::remapped))]
-fn unknown_in(e: &Expr) -> Option<&Unknown>
-    ensures { MatchOption result (IsNoUnknown (view e.now)) (λ u. view e.now ≡ unknown_term u.now) }
-{
-    match e.expr_kind() {
-        ExprKind::Unknown(unknown) => Some(unknown),
-        ExprKind::Lit(_) => None,
-        ExprKind::Var(_) => None,
-        ExprKind::Slot(_) => None,
-        ExprKind::If {
-            test_expr: _,
-            then_expr: _,
-            else_expr: _,
-        } => None,
-        ExprKind::And { left: _, right: _ } => None,
-        ExprKind::Or { left: _, right: _ } => None,
-        ExprKind::UnaryApp { op: _, arg: _ } => None,
-        ExprKind::BinaryApp {
-            op: _,
-            arg1: _,
-            arg2: _,
-        } => None,
-        ExprKind::ExtensionFunctionApp {
-            fn_name: _,
-            args: _,
-        } => None,
-        ExprKind::GetAttr { expr: _, attr: _ } => None,
-        ExprKind::HasAttr { expr: _, attr: _ } => None,
-        ExprKind::ExtHasAttr { expr: _, attrs: _ } => None,
-        ExprKind::Like {
-            expr: _,
-            pattern: _,
-        } => None,
-        ExprKind::Is {
-            expr: _,
-            entity_type: _,
-        } => None,
-        ExprKind::Set(_) => None,
-        ExprKind::Record(_) => None,
     }
 }
 

@@ -1,23 +1,15 @@
 -- Texts that write longs.
-use Rattle.std.proofs.Common.{◌≡◌, ◌≤◌, ℕ, ℤ, pos, negsuc, Bool, true, false, cond, ◌&&◌, [], ◌∷◌, length, Option, Some, None, MatchOption, refl, sym, ap, ◌∙◌, FitsSigned, w64, leb, le-leb, leb-true, lt-ltb, ltb-true, nat_lt, arith, ok_or, Ok}
+use Rattle.std.proofs.Common.{◌≡◌, ℤ, pos, negsuc, Bool, true, false, cond, ◌&&◌, [], ◌∷◌, length, Option, Some, None, MatchOption, refl, sym, ap, ◌∙◌, FitsSigned, w64, leb-true, lt-ltb, ltb-true, nat_lt, arith, ok_or, Ok}
 use Rattle.std.specs.List.{list_all}
 use Rattle.std.specs.Option.{option_and_then}
 use Rattle.std.specs.Str.Parse.{AllDigits, IsNumeral, without_leading_sign, signed_digits_value, ParsesSigned}
 use Rattle.std.specs.Char.{digit_value}
 use Rattle.cedar_model.specs.Terms.{Text}
 use Rattle.cedar_model.specs.Outcomes.{is_long}
+use Rattle.cedar_model.specs.lemmas.Longs.{fits_long}
 use Rattle.std.specs.Fmt.{signed_decimal}
 use Rattle.std.proofs.lemmas.Fmt.{parse-signed_decimal}
 use Rattle.cedar_json.specs.Numbers.{is_digit, are_digits, is_long_text, long_of_text}
-
-no_more : (n : ℕ) (b : Bool) → leb n 9223372036854775807 ≡ b → (n ≤ 9223372036854775807 → ⊥) → leb n 9223372036854775807 ≡ false
-no_more n true e f = absurd (f (leb-true n 9223372036854775807 e))
-no_more n false e f = e
-
-pub fits_long : (n : ℤ) → FitsSigned w64 n → is_long n ≡ true
-unfolding is_long
-fits_long (pos n) f = le-leb n 9223372036854775807 (omega (arith, f.sfits))
-fits_long (negsuc n) f = le-leb n 9223372036854775807 (omega (arith, f.sfits))
 
 long_fits : (n : ℤ) → is_long n ≡ true → FitsSigned w64 n
 unfolding is_long

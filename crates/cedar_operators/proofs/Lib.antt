@@ -6,3 +6,7 @@ pub mod Elements
 pub mod Answered
 pub mod Orders
 pub mod Read
+pub mod Fields
+pub mod KeptErrors
+pub mod Projections
+pub mod Types

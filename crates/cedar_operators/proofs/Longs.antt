@@ -1,5 +1,5 @@
 -- Longs: what fits 64 bits, and how two compare.
-use Rattle.std.proofs.Common.{int_cmp, ◌≡◌, ◌≤◌, ℤ, pos, negsuc, ℕ, leb, Bool, true, false, true≢false, cond, [], Some, None, is_some, refl, sym, ap, ◌∙◌, FitsSigned, w64, le-leb, leb-true, arith}
+use Rattle.std.proofs.Common.{int_cmp, ◌≡◌, ◌≤◌, ℤ, pos, negsuc, ℕ, leb, Bool, true, false, true≢false, cond, [], Some, None, is_some, refl, sym, ap, ◌∙◌, FitsSigned, w64, leb-true, arith}
 use Rattle.std.specs.Ordering.{is_eq, is_lt, is_le}
 use Rattle.cedar_model.specs.Terms.{bool_literal, long_literal, text_literal, entity_literal, long_type, BinaryOperator, eq_operator, less_operator, less_eq_operator, add_operator, sub_operator, mul_operator, in_operator, contains_operator, contains_all_operator, contains_any_operator, get_tag_operator, has_tag_operator}
 use Rattle.cedar_model.specs.Settings.{Setting}
@@ -10,17 +10,13 @@ use Rattle.cedar_model.specs.World.{Extensions}
 use Rattle.cedar_model.specs.Meaning.{order_of, extension_order, comparison}
 use Rattle.cedar_model.specs.Failures.{Failure, fails, answers_value, answers_bool, wrong_type}
 use Rattle.cedar_model.specs.Operators.{long_answer, overloaded_type, order_failure, comparison_failure, arithmetic_answer, binary_answer}
+use Rattle.cedar_model.specs.lemmas.Longs.{fits_long}
 use Rattle.cedar_operators.specs.Operands.{is_arithmetic, arithmetic_of}
 use Rattle.cedar_operators.proofs.Expecting.{goes_on}
 
 no_more : (n : ℕ) (b : Bool) → leb n 9223372036854775807 ≡ b → (n ≤ 9223372036854775807 → ⊥) → leb n 9223372036854775807 ≡ false
 no_more n true e f = absurd (f (leb-true n 9223372036854775807 e))
 no_more n false e f = e
-
-fits_long : (n : ℤ) → FitsSigned w64 n → is_long n ≡ true
-unfolding is_long
-fits_long (pos n) f = le-leb n 9223372036854775807 (omega (arith, f.sfits))
-fits_long (negsuc n) f = le-leb n 9223372036854775807 (omega (arith, f.sfits))
 
 fits_not : (n : ℤ) → (FitsSigned w64 n → ⊥) → is_long n ≡ false
 unfolding is_long

@@ -2,3 +2,5 @@ pub mod Operands
 pub mod Paths
 pub mod StoredResiduals
 pub mod Orders
+pub mod Connectives
+pub mod Parts

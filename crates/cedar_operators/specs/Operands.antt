@@ -1,7 +1,8 @@
 -- What the operators are given, as plain data, and which operators there are.
-use Rattle.std.specs.Prelude.{ℤ, ◌+ℤ◌, ◌-ℤ◌, ◌*ℤ◌, Bool, true, false, ◌||◌, [], ◌∷◌, Option, Some, None, option_map}
-use Rattle.std.specs.Rc.{rc_str_bytes}
-use Rattle.cedar_model.specs.Terms.{Term, unknown, EntityName, set_type, BinaryOperator, eq_operator, less_operator, less_eq_operator, add_operator, sub_operator, mul_operator, in_operator, contains_operator, contains_all_operator, contains_any_operator, get_tag_operator, has_tag_operator}
+use Rattle.std.specs.Prelude.{ℤ, ◌+ℤ◌, ◌-ℤ◌, ◌*ℤ◌, Bool, true, false, ◌||◌, [], ◌∷◌, Option, Some, None}
+use Rattle.cedar_model.specs.Terms.{EntityName, set_type, BinaryOperator, eq_operator, less_operator, less_eq_operator}
+use Rattle.cedar_model.specs.Terms.{add_operator, sub_operator, mul_operator, in_operator, contains_operator}
+use Rattle.cedar_model.specs.Terms.{contains_all_operator, contains_any_operator, get_tag_operator, has_tag_operator}
 use Rattle.cedar_model.specs.Values.{AbstractValue, AbstractValues, Represented, abstract_value}
 use Rattle.cedar_model.specs.Outcomes.{elements_of, entity_eq}
 use Rattle.cedar_model.specs.World as model
@@ -9,12 +10,6 @@ use Rattle.cedar_model.specs.Meaning.{entities_of, entities_of_set, some_entity}
 use Rattle.cedar_model.specs.Failures.{Failure, any_entity, wrong_type, Answer, answers_bool}
 use Rattle.cedar_model.specs.Operators.{expecting, element_failure, entities_failure}
 use Rattle.cedar_model.specs.Settings.{Store, StoredEntity, Setting, is_among}
-use Rattle.cedar_names.specs.declared.types.Unknown.{Unknown}
-use Rattle.cedar_names.specs.Leaves.{type_view}
-
--- the expression of an unknown
-abbrev pub unknown_term : Unknown → Term
-unknown_term u = unknown (rc_str_bytes u.name) (option_map type_view u.type_annotation)
 
 -- the setting, but with these extensions
 abbrev pub with_extensions : Setting → model.Extensions → Setting
@@ -106,4 +101,5 @@ right_expected v = wrong_type set_type (any_entity ∷ []) v
 -- whether the test holds of an entity on the right of `in`
 abbrev pub right_answer : (EntityName → Bool) → Represented → Answer
 right_answer test w =
-    expecting (entities_of (abstract_value w)) (entities_failure (elements_of (abstract_value w)) (abstract_value w)) (λ es. answers_bool (some_entity test es))
+    expecting (entities_of (abstract_value w)) (entities_failure (elements_of (abstract_value w)) (abstract_value w))
+    (λ es. answers_bool (some_entity test es))

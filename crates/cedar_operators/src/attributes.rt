@@ -1,5 +1,6 @@
-//! Attributes of records and entities: reading one, whether there is one, and extended `has`. Where a partial store lacks the
-//! entity, the answer is the operator around the unknown that stands for it; a stored residual is answered as it is stored.
+//! Attributes of records and entities: reading one, whether there is one, and extended `has`. Where a partial store
+//! lacks the entity, the answer is the operator around the unknown that stands for it; a stored residual is answered as
+//! it is stored.
 ghost use Rattle.std.specs.Prelude.{◌≡◌, [], ◌∷◌, is_some};
 ghost use Rattle.std.specs.Rc.{rc_str_bytes};
 ghost use Rattle.cedar_model.specs.Terms.{extended_has};
@@ -11,11 +12,12 @@ ghost use Rattle.cedar_model.specs.Operators.{walk_in, walk_to, walk_found, walk
 ghost use Rattle.cedar_model.specs.Operators.{container_of, container_expected};
 ghost use Rattle.cedar_names.specs.Names.{uid_name};
 ghost use Rattle.cedar_names.specs.Leaves.{texts_view};
+ghost use Rattle.cedar_expressions.specs.Readers.{unknown_term};
 ghost use Rattle.cedar_values.specs.Residuals.{residual_term};
 ghost use Rattle.cedar_values.specs.Sound.{whats_at};
 ghost use Rattle.cedar_layers.specs.Stores.{store_view, entity_view};
 ghost use Rattle.cedar_errors.specs.Answers.{AnswersWith};
-ghost use Rattle.cedar_operators.specs.Operands.{over, unknown_term};
+ghost use Rattle.cedar_operators.specs.Operands.{over};
 ghost use Rattle.cedar_operators.specs.Paths.{container_view, FindsWalk};
 
 use crate::failures::or_entity_expected;
@@ -67,10 +69,11 @@ pub(crate) fn container_in(value: &Value) -> Container<'_>
     }
 }
 
-/// `value.attr`: the attribute of a record or an entity, or `u.attr` of the unknown `u` that stands for an entity which a partial
-/// store lacks. `EntityDoesNotExist`, at the location of the entity, where a concrete store lacks it; `EntityAttrDoesNotExist` or
-/// `RecordAttrDoesNotExist`, at the location handed in, where it has no such attribute; a `TypeError` for any other value, at the
-/// value's location. A stored attribute is answered as it is stored, at its own location; a residual made here is at none.
+/// `value.attr`: the attribute of a record or an entity, or `u.attr` of the unknown `u` that stands for an entity which
+/// a partial store lacks. `EntityDoesNotExist`, at the location of the entity, where a concrete store lacks it;
+/// `EntityAttrDoesNotExist` or `RecordAttrDoesNotExist`, at the location handed in, where it has no such attribute; a
+/// `TypeError` for any other value, at the value's location. A stored attribute is answered as it is stored, at its own
+/// location; a residual made here is at none.
 #[tactic(auto, unfolding(cedar_model::specs::Operators::attribute_in))]
 pub fn attribute_of(
     alloc: Global,
@@ -147,9 +150,9 @@ fn attribute_of_record(
     }
 }
 
-/// `value has attr`: whether a record or an entity has the attribute; an entity that a concrete store lacks has none, and of one
-/// that a partial store lacks the answer is `u has attr`, at no location, of the unknown `u` that stands for it. A `TypeError` for
-/// any other value, at the value's location.
+/// `value has attr`: whether a record or an entity has the attribute; an entity that a concrete store lacks has none,
+/// and of one that a partial store lacks the answer is `u has attr`, at no location, of the unknown `u` that stands for
+/// it. A `TypeError` for any other value, at the value's location.
 #[tactic(auto, unfolding(cedar_model::specs::Operators::has_in))]
 pub fn has_attribute(
     alloc: Global,
@@ -192,12 +195,12 @@ fn entity_has(
     }
 }
 
-/// `value has a.b..`: whether the value has the first attribute, that attribute the second and so on; what follows an attribute
-/// that is not there is not looked at. Where the way leads to an entity that a partial store lacks, the answer is the unknown that
-/// stands for it `has` the attributes not yet walked; where it leads to a stored residual, that residual `has` the attributes after
-/// it. The last attribute is only looked for: where it is stored as a residual, it is there. A residual made here is at no
-/// location. A `TypeError`, at the value's location, for a value on the way, the last aside, that is neither a record nor an
-/// entity.
+/// `value has a.b..`: whether the value has the first attribute, that attribute the second and so on; what follows an
+/// attribute that is not there is not looked at. Where the way leads to an entity that a partial store lacks, the
+/// answer is the unknown that stands for it `has` the attributes not yet walked; where it leads to a stored residual,
+/// that residual `has` the attributes after it. The last attribute is only looked for: where it is stored as a
+/// residual, it is there. A residual made here is at no location. A `TypeError`, at the value's location, for a value
+/// on the way, the last aside, that is neither a record nor an entity.
 pub fn has_path(
     alloc: Global,
     entities: &Entities,

@@ -107,8 +107,8 @@ fn missing_tag(
     }))
 }
 
-/// The error that the record has no such key, at this location. It shows the first five keys that are there, by bytes, and how many
-/// there are.
+/// The error that the record has no such key, at this location. It shows the first five keys that are there, by bytes,
+/// and how many there are.
 #[cold]
 #[inline(never)]
 pub fn no_such_key<V>(

@@ -43,8 +43,8 @@ pub(crate) fn negated(
     }
 }
 
-// `a + b`, `a - b` or `a * b`: a type error where one, the left first, is no long, an overflow at this location where the result
-// needs more than 64 bits.
+// `a + b`, `a - b` or `a * b`: a type error where one, the left first, is no long, an overflow at this location where
+// the result needs more than 64 bits.
 #[tactic(auto, unfolding(cedar_model::specs::Operators::expecting))]
 pub(crate) fn arithmetic(
     alloc: Global,
@@ -79,7 +79,8 @@ pub(crate) fn arithmetic(
 
 // A relation or arithmetic of two longs: nothing of another operator, and where the result needs more than 64 bits.
 pub(crate) fn of_two_longs(op: BinaryOp, m: i64, n: i64) -> Option<Value>
-    ensures { (s : Setting) (v w : Represented) → long_of (abstract_value v) ≡ Some m → long_of (abstract_value w) ≡ Some n →
+    ensures { (s : Setting) (v w : Represented)
+        → long_of (abstract_value v) ≡ Some m → long_of (abstract_value w) ≡ Some n →
         IfSome result (λ x. Failures.answers_value x.what ≡ binary_answer s (binary_view op) v w) }
 {
     match op {
@@ -101,7 +102,8 @@ pub(crate) fn of_two_longs(op: BinaryOp, m: i64, n: i64) -> Option<Value>
 // Arithmetic of two longs, where the result fits 64 bits.
 fn computed(op: BinaryOp, m: i64, n: i64) -> Option<Value>
     requires { is_arithmetic (binary_view op) ≡ true }
-    ensures { (s : Setting) (v w : Represented) → long_of (abstract_value v) ≡ Some m → long_of (abstract_value w) ≡ Some n →
+    ensures { (s : Setting) (v w : Represented)
+        → long_of (abstract_value v) ≡ Some m → long_of (abstract_value w) ≡ Some n →
         IfSome result (λ x. Failures.answers_value x.what ≡ binary_answer s (binary_view op) v w) }
 {
     match checked(op, m, n) {

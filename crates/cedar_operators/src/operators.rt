@@ -18,9 +18,9 @@ use cedar_extensions::Extensions;
 use cedar_layers::expressions::{BinaryOp, EntityType, Loc, Pattern, UnaryOp, Value};
 use std::alloc::Global;
 
-/// An operator on one value: `!` of a boolean, `-` of a long, `isEmpty` of a set. A value of another type is a `TypeError` at the
-/// value's location; a negated long that needs more than 64 bits is an `IntegerOverflow` with its operand, at the location handed
-/// in. The result is at no known location.
+/// An operator on one value: `!` of a boolean, `-` of a long, `isEmpty` of a set. A value of another type is a
+/// `TypeError` at the value's location; a negated long that needs more than 64 bits is an `IntegerOverflow` with its
+/// operand, at the location handed in. The result is at no known location.
 pub fn unary_app(
     alloc: Global,
     op: UnaryOp,
@@ -36,11 +36,11 @@ pub fn unary_app(
     }
 }
 
-/// A relation of two values, as its caller hands `Eq`, `Less` or `LessEq`: `==` of any two, `<` and `<=` of two longs, or of two
-/// extension values of one type that the extensions overload, by their keys. Others are a `TypeError`: where one side is a long, of
-/// the other side, which is expected to be a long; else where one, the left first, is of an overloaded type, of the other side,
-/// which is expected to be of that type; else of the left, which is expected to be a long or of one of the overloaded types, in
-/// their order. The result is at no known location.
+/// A relation of two values, as its caller hands `Eq`, `Less` or `LessEq`: `==` of any two, `<` and `<=` of two longs,
+/// or of two extension values of one type that the extensions overload, by their keys. Others are a `TypeError`: where
+/// one side is a long, of the other side, which is expected to be a long; else where one, the left first, is of an
+/// overloaded type, of the other side, which is expected to be of that type; else of the left, which is expected to be
+/// a long or of one of the overloaded types, in their order. The result is at no known location.
 #[tactic(auto, unfolding(cedar_model::specs::Operators::binary_answer, cedar_model::specs::Operators::expecting))]
 pub fn binary_relation(
     alloc: Global,
@@ -69,9 +69,9 @@ pub fn binary_relation(
     }
 }
 
-/// Arithmetic of two values, as its caller hands `Add`, `Sub` or `Mul`. An operand, the left first, that is no long is a
-/// `TypeError` at the operand's location; a result that needs more than 64 bits is an `IntegerOverflow` with both operands, at the
-/// location handed in. The result is at no known location.
+/// Arithmetic of two values, as its caller hands `Add`, `Sub` or `Mul`. An operand, the left first, that is no long is
+/// a `TypeError` at the operand's location; a result that needs more than 64 bits is an `IntegerOverflow` with both
+/// operands, at the location handed in. The result is at no known location.
 #[tactic(auto, using(crate::proofs::Longs::arithmetic_is_operation))]
 pub fn binary_arith(
     alloc: Global,
@@ -86,8 +86,9 @@ pub fn binary_arith(
     arithmetic(alloc, op, a, b, loc)
 }
 
-/// What `==`, `<`, `<=`, `+`, `-` or `*` of two longs answers, at no known location, without a look at their types' other rules.
-/// There is none for another operator, where a value is no long, and where the result needs more than 64 bits.
+/// What `==`, `<`, `<=`, `+`, `-` or `*` of two longs answers, at no known location, without a look at their types'
+/// other rules. There is none for another operator, where a value is no long, and where the result needs more than 64
+/// bits.
 pub fn of_longs(op: BinaryOp, a: &Value, b: &Value) -> Option<Value>
     ensures { (s : Setting) → IfSome result (λ v. answers_value v.what ≡ binary_answer s (binary_view op) a.now.what
         b.now.what) }

@@ -17,9 +17,9 @@ use evaluation_errors::TypeError;
 use std::alloc::{AllocError, Global};
 use std::cmp::Ordering;
 
-// How two values compare: two longs, or two extension values of one overloaded type, by their keys. Where one side is a long,
-// the other is expected to be one; else where one, the left first, is of an overloaded type, the other is expected to be of it;
-// else the left is expected to be a long or of an overloaded type.
+// How two values compare: two longs, or two extension values of one overloaded type, by their keys. Where one side is a
+// long, the other is expected to be one; else where one, the left first, is of an overloaded type, the other is
+// expected to be of it; else the left is expected to be a long or of an overloaded type.
 #[tactic(auto, using(crate::proofs::Longs::beside_longs))]
 pub(crate) fn order(
     alloc: Global,

@@ -5,9 +5,9 @@ ghost use Rattle.cedar_model.specs.Terms.{binary, get_attribute, has_attribute, 
 ghost use Rattle.cedar_model.specs.Failures.{answers_residual};
 ghost use Rattle.cedar_names.specs.Leaves.{binary_view, texts_view};
 ghost use Rattle.cedar_expressions.specs.View.{view};
+ghost use Rattle.cedar_expressions.specs.Readers.{unknown_term};
 ghost use Rattle.cedar_values.specs.Residuals.{residual_term};
 ghost use Rattle.cedar_errors.specs.Answers.{AnswersWith};
-ghost use Rattle.cedar_operators.specs.Operands.{unknown_term};
 
 use cedar_errors::evaluator::err::EvaluationError;
 use cedar_layers::expressions::{BinaryOp, Expr, FirstRest, PartialValue, ResidualExpr, Unknown};

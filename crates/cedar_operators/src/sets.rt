@@ -18,8 +18,8 @@ pub fn contains(alloc: Global, a: &Value, b: &Value) -> Result<Value, Evaluation
     Ok(bool_value(set.contains(b)))
 }
 
-/// `a.containsAll(b)`: whether each element of the second set is one of the first. A type error where one, the left first, is no
-/// set.
+/// `a.containsAll(b)`: whether each element of the second set is one of the first. A type error where one, the left
+/// first, is no set.
 #[tactic(auto, unfolding(cedar_model::specs::Operators::binary_answer, cedar_model::specs::Operators::expecting))]
 pub fn contains_all(alloc: Global, a: &Value, b: &Value) -> Result<Value, EvaluationError>
     ensures { (s : Setting) → Answers result (binary_answer s contains_all_operator a.now.what b.now.what) }

@@ -1,17 +1,19 @@
-//! Operators that ask the store: `in`, `getTag` and `hasTag`. Where a partial store lacks the entity, the answer is the operator
-//! around the unknown that stands for it; a stored residual is answered as it is stored.
+//! Operators that ask the store: `in`, `getTag` and `hasTag`. Where a partial store lacks the entity, the answer is the
+//! operator around the unknown that stands for it; a stored residual is answered as it is stored.
 ghost use Rattle.std.specs.Prelude.{◌≡◌, option_map, option_copied};
 ghost use Rattle.std.specs.Rc.{rc_str_bytes};
-ghost use Rattle.cedar_model.specs.Terms.{binary, literal, text_literal, in_operator, get_tag_operator, has_tag_operator};
+ghost use Rattle.cedar_model.specs.Terms.{binary, literal, text_literal};
+ghost use Rattle.cedar_model.specs.Terms.{in_operator, get_tag_operator, has_tag_operator};
 ghost use Rattle.cedar_model.specs.Values.{abstract_values, set_value, expression_of};
 ghost use Rattle.cedar_model.specs.Failures.{answers_residual, entity_is_missing};
 ghost use Rattle.cedar_model.specs.Settings.{Setting, look_up, found};
 ghost use Rattle.cedar_model.specs.Operators.{binary_answer, in_answer, in_found, tag_found, has_tag_found};
 ghost use Rattle.cedar_names.specs.Names.{uid_name};
 ghost use Rattle.cedar_names.specs.Leaves.{binary_view};
+ghost use Rattle.cedar_expressions.specs.Readers.{unknown_term};
 ghost use Rattle.cedar_layers.specs.Stores.{store_view, entity_view};
 ghost use Rattle.cedar_errors.specs.Answers.{Answers, AnswersWith, FailsWith};
-ghost use Rattle.cedar_operators.specs.Operands.{over, unknown_term, is_within, element_answer, right_answer, right_expected};
+ghost use Rattle.cedar_operators.specs.Operands.{over, is_within, element_answer, right_answer, right_expected};
 
 use crate::failures::or_entity_expected;
 use crate::missing::no_such_tag;
@@ -26,10 +28,10 @@ use evaluation_errors::EntityDoesNotExistError;
 use std::alloc::Global;
 use std::rc::{Rc, RcStr};
 
-/// `a in b`: whether the entity equals an entity on the right, or has it among its ancestors in the store; where a partial store
-/// lacks it, `u in b` of the unknown `u` that stands for it, whatever stands right. A `TypeError`, at the value's location, where
-/// the left is no entity, where the right is neither an entity nor a set, or for the first element of the set that is no entity.
-/// The result is at no location.
+/// `a in b`: whether the entity equals an entity on the right, or has it among its ancestors in the store; where a
+/// partial store lacks it, `u in b` of the unknown `u` that stands for it, whatever stands right. A `TypeError`, at the
+/// value's location, where the left is no entity, where the right is neither an entity nor a set, or for the first
+/// element of the set that is no entity. The result is at no location.
 #[tactic(auto, unfolding(cedar_model::specs::Operators::expecting))]
 pub fn is_in(
     alloc: Global,
@@ -127,10 +129,10 @@ fn is_in_one(uid: &EntityUID, entity: Option<&Entity>, other: &EntityUID) -> boo
     }
 }
 
-/// `a.getTag(b)`: the entity's tag, as it is stored, at its own location; where a partial store lacks the entity, `u.getTag(b)`, at
-/// no location, of the unknown `u` that stands for it. A `TypeError`, at the value's location, where the left is no entity or then
-/// the right no text; `EntityDoesNotExist`, at the location of the entity, where a concrete store lacks it;
-/// `EntityAttrDoesNotExist`, at the location handed in, where the entity lacks the tag.
+/// `a.getTag(b)`: the entity's tag, as it is stored, at its own location; where a partial store lacks the entity,
+/// `u.getTag(b)`, at no location, of the unknown `u` that stands for it. A `TypeError`, at the value's location, where
+/// the left is no entity or then the right no text; `EntityDoesNotExist`, at the location of the entity, where a
+/// concrete store lacks it; `EntityAttrDoesNotExist`, at the location handed in, where the entity lacks the tag.
 #[tactic(auto, unfolding(cedar_model::specs::Operators::binary_answer, cedar_model::specs::Operators::expecting))]
 pub fn tag_of(
     alloc: Global,
@@ -203,9 +205,9 @@ fn stored_tag(
     }
 }
 
-/// `a.hasTag(b)`: whether the entity has the tag; one that a concrete store lacks has none, and where a partial store lacks it the
-/// answer is `u.hasTag(b)` of the unknown `u` that stands for it. A `TypeError`, at the value's location, where the left is no
-/// entity or then the right no text. The result is at no location.
+/// `a.hasTag(b)`: whether the entity has the tag; one that a concrete store lacks has none, and where a partial store
+/// lacks it the answer is `u.hasTag(b)` of the unknown `u` that stands for it. A `TypeError`, at the value's location,
+/// where the left is no entity or then the right no text. The result is at no location.
 #[tactic(auto, unfolding(cedar_model::specs::Operators::binary_answer, cedar_model::specs::Operators::expecting))]
 pub fn has_tag(
     alloc: Global,

@@ -1,5 +1,6 @@
-//! The stored residual that an operator reads, if it reads one: an attribute, a tag, or an attribute of an extended `has` that is
-//! not its last. With deep resolution it is evaluated, and its answer goes in the place of what is stored.
+//! The stored residual that an operator reads, if it reads one: an attribute, a tag, or an attribute of an extended
+//! `has` that is not its last. With deep resolution it is evaluated, and its answer goes in the place of what is
+//! stored.
 ghost use Rattle.std.specs.Prelude.{◌≡◌, option_map, option_copied, IfOk};
 ghost use Rattle.std.specs.Rc.{rc_str_bytes};
 ghost use Rattle.cedar_model.specs.Settings.{look_up};
@@ -59,8 +60,8 @@ fn attribute_of_entity<'s>(
     }
 }
 
-/// The residual that an operator on two values reads: `a.getTag(b)` of an entity that is there, where the tag is stored as a
-/// residual. No other operator reads one.
+/// The residual that an operator on two values reads: `a.getTag(b)` of an entity that is there, where the tag is stored
+/// as a residual. No other operator reads one.
 #[tactic(auto, unfolding(cedar_model::specs::Operators::binary_residual))]
 pub fn binary_residual<'s>(
     entities: &'s Entities,
@@ -135,8 +136,8 @@ fn residual_in(part: Option<&PartialValue>) -> Option<&ResidualExpr>
     }
 }
 
-/// The first residual that `value has a.b..` reads, with the attributes after it: an attribute on the way, the last aside, that is
-/// stored as a residual. Refuses only for want of memory.
+/// The first residual that `value has a.b..` reads, with the attributes after it: an attribute on the way, the last
+/// aside, that is stored as a residual. Refuses only for want of memory.
 pub fn path_residual(
     alloc: Global,
     entities: &Entities,

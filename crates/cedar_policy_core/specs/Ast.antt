@@ -12,6 +12,7 @@ pub use Rattle.cedar_expressions.specs.Nodes
 pub use Rattle.cedar_expressions.specs.Errors
 pub use Rattle.cedar_expressions.specs.Records
 pub use Rattle.cedar_expressions.specs.Mappings
+pub use Rattle.cedar_expressions.specs.Readers as ExpressionReaders
 pub use Rattle.cedar_values.specs.Sound
 pub use Rattle.cedar_values.specs.Representations
 pub use Rattle.cedar_values.specs.Kinds

@@ -1,8 +1,8 @@
 -- Literals among parts: those that follow an answered part are their values.
-use Rattle.std.specs.Prelude.{◌≡◌, ◌≢◌, ℕ, suc, ◌+◌, ◌<◌, ◌≤◌, List, [], ◌∷◌, ◌++◌, length, drop, get_or, map}
+use Rattle.std.specs.Prelude.{◌≡◌, ℕ, suc, ◌+◌, ◌<◌, ◌≤◌, List, [], ◌∷◌, ◌++◌, length, drop, get_or, map}
 use Rattle.std.proofs.Common.{refl, sym, ap, ◌∙◌, subst, arith, length-append, length-drop, drop-drop}
 use Rattle.std.proofs.lemmas.List.{append-nil}
-use Rattle.cedar_model.specs.Terms.{Term, Terms, Literal, literal, one_term}
+use Rattle.cedar_model.specs.Terms.{Terms, Literal, literal, one_term}
 use Rattle.cedar_model.specs.Values.{plain_represented}
 use Rattle.cedar_model.specs.Failures as model
 use Rattle.cedar_model.specs.Failures.{value}
@@ -12,10 +12,6 @@ use Rattle.cedar_values.specs.Sound.{Placed, whats}
 use Rattle.cedar_restricted_evaluator.specs.declared.answers.Answers.{Answers}
 use Rattle.cedar_restricted_evaluator.specs.declared.answers.Answers.TheVariants as answereds
 use Rattle.cedar_restricted_evaluator.specs.Parts.{count, all_values, Are}
-
--- the term is no literal
-abbrev pub IsNoLiteral : Term → Type 0
-IsNoLiteral t = (l : Literal) → t ≢ literal l
 
 -- these literals, and then the rest
 abbrev pub literals_then : List Literal → Terms → Terms

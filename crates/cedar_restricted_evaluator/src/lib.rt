@@ -13,7 +13,6 @@ mod whole;
 
 pub use answers::{Answers, Mixed};
 pub use evaluator::RestrictedEvaluator;
-pub use literals::literal_in;
 pub use made::record_value;
 pub use parts::{NextPart, PartsFrame};
 pub use whole::Whole;

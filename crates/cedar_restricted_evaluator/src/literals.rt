@@ -1,62 +1,18 @@
 //! Literals among parts. Those that follow an answered part are their values, and take no turn of their own: an answer shows that
 //! parts have at least one level, and a literal needs no more.
-ghost use Rattle.std.specs.Prelude.{◌≡◌, ◌<◌, ◌≤◌, length, IfOk, MatchOption};
-ghost use Rattle.cedar_model.specs.Terms as Terms;
+ghost use Rattle.std.specs.Prelude.{◌≡◌, ◌<◌, ◌≤◌, length, IfOk};
 ghost use Rattle.cedar_model.specs.Values.{plain_represented};
 ghost use Rattle.cedar_names.specs.Leaves.{literal_view};
-ghost use Rattle.cedar_expressions.specs.View.{view, expr_loc};
-ghost use Rattle.cedar_restricted_evaluator.specs.Literals.{IsNoLiteral, IsGrown};
+ghost use Rattle.cedar_expressions.specs.View.{expr_loc};
+ghost use Rattle.cedar_restricted_evaluator.specs.Literals.{IsGrown};
 ghost use Rattle.cedar_restricted_evaluator.specs.Parts.{count};
 ghost use Rattle.cedar_restricted_evaluator.specs.Elements.{GrowsWith};
 
 use crate::answers::Answers;
-use cedar_expressions::{Expr, ExprKind};
+use cedar_expressions::Expr;
 use cedar_names::Literal;
 use cedar_values::{PartialValue, Value, ValueKind};
 use std::alloc::{AllocError, Global};
-
-/// The literal that the expression is.
-#[tactic(auto, using(cedar_expressions::proofs::Levels::levels))]
-pub fn literal_in(e: &Expr) -> Option<&Literal>
-    ensures { MatchOption result (IsNoLiteral (view e.now)) (λ l. view e.now ≡ Terms.literal (literal_view l.now)) }
-{
-    match e.expr_kind() {
-        ExprKind::Lit(literal) => Some(literal),
-        ExprKind::Var(_) => None,
-        ExprKind::Slot(_) => None,
-        ExprKind::Unknown(_) => None,
-        ExprKind::If {
-            test_expr: _,
-            then_expr: _,
-            else_expr: _,
-        } => None,
-        ExprKind::And { left: _, right: _ } => None,
-        ExprKind::Or { left: _, right: _ } => None,
-        ExprKind::UnaryApp { op: _, arg: _ } => None,
-        ExprKind::BinaryApp {
-            op: _,
-            arg1: _,
-            arg2: _,
-        } => None,
-        ExprKind::ExtensionFunctionApp {
-            fn_name: _,
-            args: _,
-        } => None,
-        ExprKind::GetAttr { expr: _, attr: _ } => None,
-        ExprKind::HasAttr { expr: _, attr: _ } => None,
-        ExprKind::ExtHasAttr { expr: _, attrs: _ } => None,
-        ExprKind::Like {
-            expr: _,
-            pattern: _,
-        } => None,
-        ExprKind::Is {
-            expr: _,
-            entity_type: _,
-        } => None,
-        ExprKind::Set(_) => None,
-        ExprKind::Record(_) => None,
-    }
-}
 
 // These answers and one more, and behind it the values of the literals that follow it in the parts; where an answer is a residual
 // none of them. Refuses only for want of memory.
@@ -86,7 +42,7 @@ fn values_behind(mut values: Vec<Value>, parts: &[Expr]) -> Result<Vec<Value>, A
 {
     values.reserve(parts.len())?;
     'literals: for part in parts {
-        match literal_in(part) {
+        match part.as_literal() {
             Some(literal) => values.push(value_at(part, literal)?)?,
             None => return Ok(values),
         }

@@ -1,3 +1,4 @@
 pub mod Escaping
 pub mod Reserved
 pub mod Loops
+pub mod ScopeKinds

@@ -20,24 +20,9 @@ use std::fmt::Display;
 pub(crate) fn is_true(expr: &Expr) -> bool
     ensures { result ≡ texts.is_true (view expr.now) }
 {
-    match expr.expr_kind() {
-        ExprKind::Lit(literal) => is_true_literal(literal),
-        ExprKind::Var(_) => false,
-        ExprKind::Slot(_) => false,
-        ExprKind::Unknown(_) => false,
-        ExprKind::If { .. } => false,
-        ExprKind::And { .. } => false,
-        ExprKind::Or { .. } => false,
-        ExprKind::UnaryApp { .. } => false,
-        ExprKind::BinaryApp { .. } => false,
-        ExprKind::ExtensionFunctionApp { .. } => false,
-        ExprKind::GetAttr { .. } => false,
-        ExprKind::HasAttr { .. } => false,
-        ExprKind::ExtHasAttr { .. } => false,
-        ExprKind::Like { .. } => false,
-        ExprKind::Is { .. } => false,
-        ExprKind::Set(_) => false,
-        ExprKind::Record(_) => false,
+    match expr.as_literal() {
+        Some(literal) => is_true_literal(literal),
+        None => false,
     }
 }
 
@@ -56,24 +41,9 @@ fn is_true_literal(literal: &Literal) -> bool
 fn is_variable(var: Var, expr: &Expr) -> bool
     ensures { result ≡ texts.is_variable (variable_view var) (view expr.now) }
 {
-    match expr.expr_kind() {
-        ExprKind::Var(other) => same_variable(var, *other),
-        ExprKind::Lit(_) => false,
-        ExprKind::Slot(_) => false,
-        ExprKind::Unknown(_) => false,
-        ExprKind::If { .. } => false,
-        ExprKind::And { .. } => false,
-        ExprKind::Or { .. } => false,
-        ExprKind::UnaryApp { .. } => false,
-        ExprKind::BinaryApp { .. } => false,
-        ExprKind::ExtensionFunctionApp { .. } => false,
-        ExprKind::GetAttr { .. } => false,
-        ExprKind::HasAttr { .. } => false,
-        ExprKind::ExtHasAttr { .. } => false,
-        ExprKind::Like { .. } => false,
-        ExprKind::Is { .. } => false,
-        ExprKind::Set(_) => false,
-        ExprKind::Record(_) => false,
+    match expr.as_variable() {
+        Some(other) => same_variable(var, other),
+        None => false,
     }
 }
 

@@ -1,12 +1,12 @@
 //! How contexts are made of restricted expressions.
-ghost use Rattle.std.specs.Prelude.{◌≡◌, ◌≢◌, ◌≤◌, true, false, IfOk, IfErr, option_map};
+ghost use Rattle.std.specs.Prelude.{◌≡◌, ◌≢◌, ◌≤◌, true, false, IfOk, IfErr};
 ghost use Rattle.cedar_model.specs.Terms.{record_of};
 ghost use Rattle.cedar_model.specs.Values.{record_represented};
 ghost use Rattle.cedar_model.specs.Shapes.{is_restricted};
 ghost use Rattle.cedar_model.specs.Failures.{value};
 ghost use Rattle.cedar_model.specs.Failures as model;
 ghost use Rattle.cedar_model.specs.Settings.{Setting, known_context};
-ghost use Rattle.cedar_model.specs.Rules.{fields_of_record, Meets};
+ghost use Rattle.cedar_model.specs.Rules.{Meets};
 ghost use Rattle.cedar_model.specs.Agreement.{height};
 ghost use Rattle.cedar_model.specs.Restricted.{IsSoundPart};
 ghost use Rattle.cedar_expressions.specs.View.{view, fields_view};
@@ -27,7 +27,7 @@ use super::pairs::{ContextPairs, ResidualPairs};
 use super::values::ContextValues;
 use crate::errors::{ContextCreationError, context_creation_errors};
 use cedar_errors::evaluator::err::EvaluationError;
-use cedar_expressions::{Expr, ExprKind};
+use cedar_expressions::Expr;
 use cedar_extensions::Extensions;
 use cedar_restricted_evaluator::RestrictedEvaluator;
 use cedar_restricted_expressions::{BorrowedRestrictedExpr, RestrictedExpr};
@@ -213,7 +213,7 @@ fn shared_pairs(expr: &Expr) -> Result<Rc<BTreeMap<RcStr, Expr>>, AllocError>
     requires { is_record (view expr.now) ≡ true }
     ensures { IfOk result (λ m. record_of (fields_view m.value.entries) ≡ view expr.now) }
 {
-    match record_in(expr) {
+    match expr.as_record() {
         Some(pairs) => Ok(pairs.clone()?),
         None => unreachable!(),
     }
@@ -223,31 +223,5 @@ fn shared_pairs(expr: &Expr) -> Result<Rc<BTreeMap<RcStr, Expr>>, AllocError>
 fn is_record(expr: &Expr) -> bool
     ensures { result ≡ is_record (view expr.now) }
 {
-    record_in(expr).is_some()
-}
-
-// The parts of a record.
-#[tactic(auto, using(cedar_expressions::proofs::Levels::levels), unfolding(cedar_model::specs::Rules::fields_of_record))]
-fn record_in(expr: &Expr) -> Option<&Rc<BTreeMap<RcStr, Expr>>>
-    ensures { option_map (λ m. fields_view m.now.value.entries) result ≡ fields_of_record (view expr.now) }
-{
-    match expr.expr_kind() {
-        ExprKind::Record(pairs) => Some(pairs),
-        ExprKind::Lit(_) => None,
-        ExprKind::Var(_) => None,
-        ExprKind::Slot(_) => None,
-        ExprKind::Unknown(_) => None,
-        ExprKind::If { .. } => None,
-        ExprKind::And { .. } => None,
-        ExprKind::Or { .. } => None,
-        ExprKind::UnaryApp { .. } => None,
-        ExprKind::BinaryApp { .. } => None,
-        ExprKind::ExtensionFunctionApp { .. } => None,
-        ExprKind::GetAttr { .. } => None,
-        ExprKind::HasAttr { .. } => None,
-        ExprKind::ExtHasAttr { .. } => None,
-        ExprKind::Like { .. } => None,
-        ExprKind::Is { .. } => None,
-        ExprKind::Set(_) => None,
-    }
+    expr.as_record().is_some()
 }

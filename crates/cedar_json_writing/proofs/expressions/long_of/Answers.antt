@@ -1,4 +1,4 @@
-use Rattle.cedar_json.proofs.Longs.{fits_long}
+use Rattle.cedar_model.specs.lemmas.Longs.{fits_long}
 use Rattle.cedar_json_writing.proofs.expressions.long_of.Goals as goal
 
 pub returns-clause-kept : goal.returns-clause-kept

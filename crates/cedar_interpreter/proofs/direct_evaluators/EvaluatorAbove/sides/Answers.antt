@@ -1,6 +1,6 @@
 use Rattle.std.proofs.Common.{◌≡◌, ap, ◌∙◌, subst, Some}
 use Rattle.cedar_expressions.specs.View.{view}
-use Rattle.cedar_partial_operators.specs.Connectives.{deciding, neutral}
+use Rattle.cedar_operators.specs.Connectives.{deciding, neutral}
 use Rattle.cedar_interpreter.specs.Settings.{evaluation_setting, calls_in}
 use Rattle.cedar_interpreter.specs.Direct.{IsDirectBool, IsValueOf}
 use Rattle.cedar_interpreter.proofs.DirectEvaluatorLaws.{right_direct, left_direct}

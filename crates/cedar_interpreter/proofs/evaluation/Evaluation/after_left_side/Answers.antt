@@ -4,7 +4,7 @@ use Rattle.cedar_model.specs.Rules.{Runs}
 use Rattle.cedar_frames.specs.declared.machine.Transition.TheVariants.{Done}
 use Rattle.cedar_expressions.specs.View.{view}
 use Rattle.cedar_values.specs.Residuals.{partial_view}
-use Rattle.cedar_partial_operators.specs.Connectives.{deciding, neutral}
+use Rattle.cedar_operators.specs.Connectives.{deciding, neutral}
 use Rattle.cedar_interpreter.specs.declared.frame.Pending.TheVariants as pendings
 use Rattle.cedar_interpreter.specs.Booleans.{part_bool}
 use Rattle.cedar_interpreter.proofs.BooleanLaws.{decides}

@@ -1,7 +1,7 @@
 use Rattle.std.proofs.Common.{sym, ap, ◌≡◌, ◌∙◌, subst, Some}
 use Rattle.cedar_model.specs.Failures.{answers}
 use Rattle.cedar_values.specs.Residuals.{partial_view}
-use Rattle.cedar_partial_operators.specs.Connectives.{beside_neutral}
+use Rattle.cedar_operators.specs.Connectives.{beside_neutral}
 use Rattle.cedar_interpreter.specs.Booleans.{part_bool}
 use Rattle.cedar_interpreter.proofs.BooleanLaws.{joins}
 use Rattle.cedar_interpreter.proofs.evaluation.Evaluation.after_right_side.Goals as goal

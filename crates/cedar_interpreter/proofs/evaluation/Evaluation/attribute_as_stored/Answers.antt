@@ -6,7 +6,7 @@ use Rattle.cedar_expressions.specs.View.{view, expr_loc}
 use Rattle.cedar_values.specs.Residuals.{partial_view}
 use Rattle.cedar_errors.specs.Answers.{partial_answer}
 use Rattle.cedar_operators.specs.Operands.{over}
-use Rattle.cedar_partial_operators.specs.Parts.{projection, ProjectsTo}
+use Rattle.cedar_operators.specs.Parts.{projection, ProjectsTo}
 use Rattle.cedar_interpreter.specs.declared.frame.Pending.TheVariants as pendings
 use Rattle.cedar_interpreter.specs.Settings.{evaluation_setting, calls_in}
 use Rattle.cedar_interpreter.specs.Stored.{remapped}

@@ -2,7 +2,7 @@ use Rattle.std.proofs.Common.{◌≡◌, IfOk, sym, subst}
 use Rattle.cedar_model.specs.Failures.{answers_residual}
 use Rattle.cedar_model.specs.Rules.{AfterBest, best, kept}
 use Rattle.cedar_expressions.specs.View.{view, expr_loc}
-use Rattle.cedar_partial_operators.specs.Connectives.{joined_terms}
+use Rattle.cedar_operators.specs.Connectives.{joined_terms}
 use Rattle.cedar_interpreter.specs.declared.frame.Pending.TheVariants as pendings
 use Rattle.cedar_interpreter.specs.Settings.{evaluation_setting, calls_in}
 use Rattle.cedar_interpreter.specs.Tasks.{boxed_term}

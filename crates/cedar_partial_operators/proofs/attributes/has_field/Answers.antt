@@ -1,6 +1,0 @@
-use Rattle.std.proofs.Common.{◌∙◌}
-use Rattle.cedar_partial_operators.proofs.Fields.{is_field}
-use Rattle.cedar_partial_operators.proofs.attributes.has_field.Goals as goal
-
-pub returns : goal.returns
-returns c = c.is_some.ensures ∙ is_field _ _ _ c.get.ensures.value
