@@ -13,7 +13,7 @@ use crate::parents::{ParentMap, copied, recorded_parents};
 use crate::walk::led_to;
 use cedar_layers::policies::{Entities, Entity};
 use cedar_results::add_last;
-use std::alloc::{AllocError, Global};
+use std::alloc::Global;
 
 /// The store of these entities, whose recorded ancestors are taken to be their parents: in the store, each records all that
 /// parents lead to in one step or more. Apart from its ancestors each entity is the one that was handed in, its uid, attributes
