@@ -22,7 +22,7 @@ use Rattle.cedar_requests.proofs.Substituting.{residual_height}
 use Rattle.cedar_authorizer.specs.declared.reauthorization.err.ConcretizationError.{ConcretizationError}
 use Rattle.cedar_authorizer.specs.declared.reauthorization.err.ConcretizationError.TheVariants as concretizations
 use Rattle.cedar_authorizer.specs.reauthorization.Errors.{refusal_of, IsValueRefusal, IsUnwrappedRefusal}
-use Rattle.cedar_authorizer.specs.reauthorization.Concretizations.{fields_in, IsResidualNoHigher}
+use Rattle.cedar_authorizer.specs.reauthorization.Concretizations.{fields_of_represented, IsResidualNoHigher}
 use Rattle.cedar_model.proofs.Injections.{some_inj, ok_inj, err_inj, err_is_not_ok}
 
 fails_inj : {e f : Failure} → context_fails e ≡ context_fails f → e ≡ f
@@ -31,7 +31,7 @@ fails_inj h = cc
 -- ---- the value for the context
 
 -- a value that is no record is refused
-by_no_record : (v : Represented) (c : ContextPart) → fields_in v ≡ None → context_by v c ≡ no_record v
+by_no_record : (v : Represented) (c : ContextPart) → fields_of_represented v ≡ None → context_by v c ≡ no_record v
 unfolding context_by
 by_no_record (plain_represented l) c e = refl
 by_no_record (set_represented vs) c e = refl
@@ -39,7 +39,7 @@ by_no_record (record_represented fs) c e = absurd (cc)
 by_no_record (extension_represented t k f ts) c e = refl
 
 -- a record is the context, where there is none
-pub by_record : (v : Represented) (fs : RepresentedFields) → fields_in v ≡ Some fs
+pub by_record : (v : Represented) (fs : RepresentedFields) → fields_of_represented v ≡ Some fs
     → context_by v absent_context ≡ Ok (known_context fs)
 unfolding context_by context_beside
 by_record (plain_represented l) fs e = absurd (cc)
@@ -55,7 +55,7 @@ there_already v fs (kinds.Values m) = refl
 there_already v fs (kinds.Residual r) = refl
 
 pub conflict : (v : Represented) (fs : RepresentedFields) (c : Context) (q : PartialValue) (o : Option Refusal)
-    → Some fs ≡ fields_in v → q ≡ context_part_value c → o ≡ Some (is_there_already (codes "context") q v)
+    → Some fs ≡ fields_of_represented v → q ≡ context_part_value c → o ≡ Some (is_there_already (codes "context") q v)
     → IfSome (option_map {U = Result ContextPart Refusal} Err o) (λ a. a ≡ context_by v (context_view c))
 unfolding context_by
 conflict (plain_represented l) fs c q o f h e = absurd (cc)
@@ -67,7 +67,7 @@ conflict (record_represented gs) fs c q o f h e =
     ∙ sym (there_already (record_represented gs) gs c.pairs))
 conflict (extension_represented t k f ts) fs c q o g h e = absurd (cc)
 
-pub wrong_kind : (v : Represented) (c : ContextPart) (o : Option Refusal) → None ≡ fields_in v
+pub wrong_kind : (v : Represented) (c : ContextPart) (o : Option Refusal) → None ≡ fields_of_represented v
     → o ≡ Some (value_is_wrong (codes "context") (codes "record") v)
     → IfSome (option_map {U = Result ContextPart Refusal} Err o) (λ a. a ≡ context_by v c)
 wrong_kind v c o f e =

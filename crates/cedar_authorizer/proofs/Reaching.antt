@@ -21,10 +21,7 @@ use Rattle.cedar_layers.proofs.Stores.{entity_eq-true}
 use Rattle.cedar_layers.specs.Scopes.{compares, is_entity_variable, literal_entity, compared_entity, is_truth, IsBoundTo, IsBoundElsewhere, AreAllBut, AreWithinReach}
 use Rattle.cedar_authorizer.specs.Reaching.{IsFoundCovered, IsEntityCovered, IsEntryCovered, AreCovered, IsCoveredBy, Covers}
 use Rattle.cedar_authorizer.specs.Telling.{IsFalse, deciding_these}
-use Rattle.cedar_model.proofs.Injections.{some_inj, none_is_not_some, false_is_not_true}
-
-true_is_not_false : {b : Bool} → b ≡ true → b ≡ false → ⊥
-true_is_not_false h g = cc
+use Rattle.cedar_model.proofs.Injections.{some_inj, none_is_not_some, false_is_not_true, true_is_not_false}
 
 -- ---- what a scope's part is
 

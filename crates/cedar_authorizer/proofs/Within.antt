@@ -30,13 +30,10 @@ use Rattle.cedar_authorizer.proofs.Noting.{IsNotedSoFar, noted_none, noted_more,
 use Rattle.cedar_authorizer.proofs.Placed.{ArePlacedSoFar, none_placed, one_placed}
 use Rattle.cedar_authorizer.proofs.Reaching.{text_eq-self}
 use Rattle.cedar_authorizer.proofs.Telling.{others_apart}
-use Rattle.cedar_model.proofs.Injections.{none_is_not_some}
+use Rattle.cedar_model.proofs.Injections.{none_is_not_some, false_is_not_true, true_is_not_false}
 
 abbrev ids_of : List layers.Policy → List Text
 ids_of ps = map (λ (p : Policy). p.id) (deciding_these ps)
-
-true_is_not_false : true ≡ false → ⊥
-true_is_not_false e = cc
 
 nil_is_not_cons : {A : Type 0} {x : A} {xs : List A} → [] ≡ x ∷ xs → ⊥
 nil_is_not_cons e = cc
@@ -119,7 +116,7 @@ module _ (mode : ErrorHandling) (s : Setting) (calls : StoredCalls) (levels : �
         let unseen : (text_eq t own || false) ≡ false =
         seen_first (is_seen t (own ∷ [])) t _ (others_apart (IsFalse s calls levels) (own ∷ []) (deciding_these rest) (deciding_these (q ∷ later)) h apart_behind) in
         let seen : text_eq t own ≡ true = ap (text_eq t) (same_text _ _ (sym same)) ∙ text_eq-self t in
-        true_is_not_false (sym (ap (λ b. b || false) seen) ∙ unseen)
+        true_is_not_false (ap (λ b. b || false) seen) unseen
 
     looked : (q : layers.Policy) (later : List layers.Policy) → text_eq own (policy_view q).id ≡ true → AreFalseBut s calls levels (p ∷ rest) (q ∷ later) → AreFalseBut s calls levels rest later
     looked q later same (inl h) = absurd (not_behind q later same h.1)
@@ -132,7 +129,7 @@ module _ (mode : ErrorHandling) (s : Setting) (calls : StoredCalls) (levels : �
     passed [] other (inr h) = absurd (nil_is_not_cons h.1)
     passed (q ∷ qs) other (inr h) =
         let same : (policy_view q).id ≡ own = ap (λ (r : Policy). r.id) (same_head h.1) in
-        absurd (true_is_not_false (sym (ap (text_eq own) same ∙ text_eq-self own) ∙ other q qs refl))
+        absurd (true_is_not_false (ap (text_eq own) same ∙ text_eq-self own) (other q qs refl))
 
   module _ (all left rest : List layers.Policy) (xs : List layers.Policy) (n : ℕ) (p : layers.Policy) (first : left ≡ p ∷ rest) (old new : Sheet) (before : IsRunSoFar mode s calls levels all old left (drop n xs)) where
     -- a policy of the next one's id
@@ -145,7 +142,7 @@ module _ (mode : ErrorHandling) (s : Setting) (calls : StoredCalls) (levels : �
             one_more all left rest (drop n xs) p first old new before (drop (n + 1) xs) o out stands noted
             (looked all left rest (drop n xs) p first old new before q (drop (n + 1) xs) same
             (subst (AreFalseBut s calls levels (p ∷ rest)) (one_at xs n q e) (others_here all left rest (drop n xs) p first old new before)))
-        by None e same = absurd (true_is_not_false (sym same))
+        by None e same = absurd (false_is_not_true same)
 
     -- another policy
     pub run_past : is_of_id (policy_view p).id (slice_get xs n) ≡ false → sheet_view new ≡ noting mode (sheet_view old) (policy_view p) (outcomes.Decided false) → IsRunSoFar mode s calls levels all new rest (drop n xs)

@@ -266,13 +266,13 @@ fn outcome_of(
     match evaluator.partial_evaluate(alloc, policy) {
         Ok(Left(is_true)) => Ok(ConditionOutcome::Decided(is_true)),
         Ok(Right(residual)) => Ok(ConditionOutcome::Residual(Rc::new(alloc, residual)?)),
-        Err(error) => failed(error),
+        Err(error) => failed_outcome(error),
     }
 }
 
 // Want of memory is never recorded.
 #[tactic(auto, using(crate::proofs::Wanting::is_not_memory))]
-fn failed(error: EvaluationError) -> Result<ConditionOutcome, AllocError>
+fn failed_outcome(error: EvaluationError) -> Result<ConditionOutcome, AllocError>
     ensures memory { IfOk result (λ o. failure_of error ≢ out_of_memory) }
     ensures outcome { IfOk result (λ o. outcome_view o ≡ errs_with (failure_of error)) }
     ensures place { (l : Option Loc) → IfOk result (IsLeftAt l) }

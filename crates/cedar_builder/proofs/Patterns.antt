@@ -20,10 +20,6 @@ pub put_slash : (old : List PatternPart) (x : Bool) (c : ℕ) → x ≡ false �
 put_slash old x c plain slash cs =
     ap (λ d. old ++ pattern_behind false (d ∷ cs)) (sym slash) ∙ ap (λ y. old ++ pattern_behind y (c ∷ cs)) (sym plain)
 
-pub put_star : (old new : List PatternPart) (x : Bool) (c : ℕ) → x ≡ false → c ≡ 42 → new ≡ old ++ wildcard ∷ [] → (cs : List ℕ) → new ++ pattern_behind false cs ≡ old ++ pattern_behind x (c ∷ cs)
-put_star old new x c plain star put cs =
-    put_one old new wildcard cs _ put (ap (λ y. pattern_behind y (c ∷ cs)) plain ∙ ap (λ d. pattern_behind false (d ∷ cs)) star)
-
 pub put_plain : (old new : List PatternPart) (x : Bool) (c : ℕ) → x ≡ false → (c ≡ 92 → ⊥) → (c ≡ 42 → ⊥) → new ≡ old ++ character c ∷ [] → (cs : List ℕ) → new ++ pattern_behind false cs ≡ old ++ pattern_behind x (c ∷ cs)
 put_plain old new x c plain no_slash no_star put cs =
     put_one old new (character c) cs _ put (ap (λ y. pattern_behind y (c ∷ cs)) plain

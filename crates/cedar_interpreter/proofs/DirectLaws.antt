@@ -204,11 +204,3 @@ pub side_runs : (s : Setting) (calls : StoredCalls) (k : ℕ) (c : Connective) (
     AfterLeftSide (Runs s calls k) c x u a → Runs s calls (suc k) (joined_terms c t u) a
 side_runs s calls k connectives.And t u x a runs after = (x, runs, after)
 side_runs s calls k connectives.Or t u x a runs after = (x, runs, after)
-
--- beside a residual left side the right one is waited for
-pub kept_continues : (s : Setting) (calls : StoredCalls) (k : ℕ) (c : Connective) (b : BoxedResidual) (right : SharedExpr) →
-    WaitsAgain s calls k (pendings.LeftSide c right) (boxed_answer b.part) (tasks.Other (pendings.KeptRightSide c b right)) (view right.value)
-kept_continues s calls k c b right = (
-  omega arith,
-  λ y a runs uses. keeps_right (Runs s calls k) c (partial_view b.part.value) (view right.value) y a b.residual runs uses,
-)

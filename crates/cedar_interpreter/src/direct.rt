@@ -44,7 +44,7 @@ impl<'e, 'g, 'f> Evaluation<'e, 'g, 'f> {
         ensures { HasDirectBoolIn self.now levels (view part.now) result }
     {
         if is_tried(part, levels) {
-            bool_value(self.direct_value_unplaced(alloc, part))
+            boolean_of(self.direct_value_unplaced(alloc, part))
         } else {
             None
         }
@@ -113,7 +113,7 @@ fn boxed_at(alloc: Global, value: Option<Value>, loc: Option<Loc>) -> Option<Box
 }
 
 // The boolean that the value is, if it is one.
-pub(crate) fn bool_value(value: Option<Value>) -> Option<bool>
+pub(crate) fn boolean_of(value: Option<Value>) -> Option<bool>
     ensures { IsBoolOf value result }
 {
     match value {
@@ -150,7 +150,7 @@ pub(crate) fn literal_value(literal: &Literal) -> Option<Value>
 }
 
 // The value that a call answered, if it is one.
-pub(crate) fn value_in(answer: Result<PartialValue, EvaluationError>) -> Option<Value>
+pub(crate) fn answered_value(answer: Result<PartialValue, EvaluationError>) -> Option<Value>
     ensures { IfSome result (λ v. partial_answer answer ≡ answers_value v.what) }
 {
     match answer {

@@ -15,7 +15,7 @@ ghost use Rattle.cedar_partial_operators.specs.Connectives.{joined_terms};
 ghost use Rattle.cedar_interpreter.specs.Direct.{IsValueOf, HasDirectValue, HasDirectBool, HasDirectValueAbove};
 ghost use Rattle.cedar_interpreter.specs.DirectEvaluators.{HasDirectParts, HasDirectPairs, some_above};
 
-use crate::direct::{bool_value, literal_value, value_in};
+use crate::direct::{boolean_of, literal_value, answered_value};
 use crate::evaluation::Evaluation;
 use cedar_expressions::{Expr, ExprKind};
 use cedar_names::{BinaryOp, EntityType, FirstRest, Literal, Pattern, UnaryOp, Var};
@@ -200,9 +200,9 @@ impl<T: DirectEvaluator> EvaluatorAbove<T> {
         match self.boolean(within, alloc, left) {
             Some(b) => {
                 if connective.is_decided_by(b) {
-                    value_of(Some(b))
+                    boolean_as_value(Some(b))
                 } else {
-                    value_of(self.boolean(within, alloc, right))
+                    boolean_as_value(self.boolean(within, alloc, right))
                 }
             }
             None => None,
@@ -213,7 +213,7 @@ impl<T: DirectEvaluator> EvaluatorAbove<T> {
     fn boolean(&self, within: &Evaluation<'_, '_, '_>, alloc: Global, e: &Expr) -> Option<bool>
         ensures { HasDirectBool within.now T.height (view e.now) result }
     {
-        bool_value(self.below.evaluate(within, alloc, e))
+        boolean_of(self.below.evaluate(within, alloc, e))
     }
 
     // An operator on one operand that has a value.
@@ -227,7 +227,7 @@ impl<T: DirectEvaluator> EvaluatorAbove<T> {
         ensures { HasDirectValueAbove within.now T.height (Terms.unary (unary_view op) (view arg.now)) result }
     {
         match self.below.evaluate(within, alloc, arg) {
-            Some(value) => value_in(unary_of_part(alloc, op, PartialValue::Value(value), None)),
+            Some(value) => answered_value(unary_of_part(alloc, op, PartialValue::Value(value), None)),
             None => None,
         }
     }
@@ -246,7 +246,7 @@ impl<T: DirectEvaluator> EvaluatorAbove<T> {
     {
         match self.below.evaluate(within, alloc, left) {
             Some(left) => match self.below.evaluate(within, alloc, right) {
-                Some(right) => applied(within, alloc, op, left, right),
+                Some(right) => operator_on_values(within, alloc, op, left, right),
                 None => None,
             },
             None => None,
@@ -283,7 +283,7 @@ impl<T: DirectEvaluator> EvaluatorAbove<T> {
     {
         match self.below.evaluate(within, alloc, expr) {
             Some(value) => {
-                value_in(attribute_of(alloc, within.given.entities, &value, attr, None))
+                answered_value(attribute_of(alloc, within.given.entities, &value, attr, None))
             }
             None => None,
         }
@@ -320,7 +320,7 @@ impl<T: DirectEvaluator> EvaluatorAbove<T> {
         match self.below.evaluate(within, alloc, expr) {
             Some(value) => {
                 let part = PartialValue::Value(value);
-                value_in(has_of_part(alloc, within.given.entities, part, attr))
+                answered_value(has_of_part(alloc, within.given.entities, part, attr))
             }
             None => None,
         }
@@ -339,7 +339,7 @@ impl<T: DirectEvaluator> EvaluatorAbove<T> {
         match self.below.evaluate(within, alloc, expr) {
             Some(value) => {
                 let part = PartialValue::Value(value);
-                value_in(extended_has_of_part(alloc, within.given.entities, part, attrs))
+                answered_value(extended_has_of_part(alloc, within.given.entities, part, attrs))
             }
             None => None,
         }
@@ -357,7 +357,7 @@ impl<T: DirectEvaluator> EvaluatorAbove<T> {
             (Terms.like (view expr.now) (pattern_view pattern.now)) result }
     {
         match self.below.evaluate(within, alloc, expr) {
-            Some(value) => value_in(like_of_part(alloc, PartialValue::Value(value), pattern)),
+            Some(value) => answered_value(like_of_part(alloc, PartialValue::Value(value), pattern)),
             None => None,
         }
     }
@@ -374,7 +374,7 @@ impl<T: DirectEvaluator> EvaluatorAbove<T> {
             (Terms.is_of_type (view expr.now) (type_text entity_type.now)) result }
     {
         match self.below.evaluate(within, alloc, expr) {
-            Some(value) => value_in(is_of_part(alloc, PartialValue::Value(value), entity_type)),
+            Some(value) => answered_value(is_of_part(alloc, PartialValue::Value(value), entity_type)),
             None => None,
         }
     }
@@ -461,7 +461,7 @@ fn variable_in(e: &Expr) -> Option<Var>
 }
 
 // What an operator makes of two values: of two longs at once.
-fn applied(
+fn operator_on_values(
     within: &Evaluation<'_, '_, '_>,
     alloc: Global,
     op: BinaryOp,
@@ -480,13 +480,13 @@ fn applied(
         None => {
             let entities = within.given.entities;
             let extensions = within.given.extensions;
-            value_in(binary_app(alloc, entities, extensions, op, left, right, None))
+            answered_value(binary_app(alloc, entities, extensions, op, left, right, None))
         }
     }
 }
 
 // The boolean as a value.
-fn value_of(b: Option<bool>) -> Option<Value>
+fn boolean_as_value(b: Option<bool>) -> Option<Value>
     ensures { IsValueOf b result }
 {
     match b {

@@ -15,7 +15,7 @@ use crate::answers::passed_on;
 use crate::evaluation::Evaluation;
 use crate::failed::Failed;
 use crate::frame::{Ending, Frame, Next, SharedExpr, Task};
-use crate::start::taken;
+use crate::start::next_of_parts;
 use crate::stopped::Stopped;
 use cedar_frames::{Machine, Step};
 use cedar_restricted_evaluator::PartsFrame;
@@ -156,7 +156,7 @@ impl<'e, 'g, 'f> Evaluation<'e, 'g, 'f> {
     {
         let parts = Box::into_inner(frame);
         let part = Box::into_inner(value);
-        taken(
+        next_of_parts(
             alloc,
             whole,
             parts.answered(alloc, self.given.extensions, Ok(part)),

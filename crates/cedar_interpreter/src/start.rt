@@ -430,13 +430,13 @@ fn first_part(alloc: Global, whole: &SharedExpr, next: NextPart) -> Next
     ensures same { IsPartTaken next result }
 {
     match whole.clone() {
-        Ok(whole) => taken(alloc, whole, next),
+        Ok(whole) => next_of_parts(alloc, whole, next),
         Err(_) => Step::Done(Err(Stopped::Memory)),
     }
 }
 
 // What comes next of a set, a record or a call.
-pub(crate) fn taken(alloc: Global, whole: SharedExpr, next: NextPart) -> Next
+pub(crate) fn next_of_parts(alloc: Global, whole: SharedExpr, next: NextPart) -> Next
     ensures taken { IsTaken (expr_loc whole.value) next result }
     ensures same { IsPartTaken next result }
 {

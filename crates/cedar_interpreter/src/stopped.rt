@@ -36,7 +36,7 @@ impl Stopped {
             drop(error);
             Stopped::Memory
         } else {
-            Stopped::kept(alloc, Failed::new(error), loc)
+            Stopped::boxed_within(alloc, Failed::new(error), loc)
         }
     }
 
@@ -50,7 +50,7 @@ impl Stopped {
             Stopped::Limit => Stopped::Limit,
             Stopped::Failed(failed) => {
                 if failed.has_no_loc() && loc.is_some() {
-                    Stopped::kept(alloc, Box::into_inner(failed), loc)
+                    Stopped::boxed_within(alloc, Box::into_inner(failed), loc)
                 } else {
                     Stopped::Failed(failed)
                 }
@@ -61,7 +61,7 @@ impl Stopped {
     // The error, at this location if it has none.
     #[cold]
     #[inline(never)]
-    fn kept(alloc: Global, failed: Failed, loc: Option<Loc>) -> Stopped
+    fn boxed_within(alloc: Global, failed: Failed, loc: Option<Loc>) -> Stopped
         ensures { stopped_failure result ≢ out_of_memory → stopped_failure result ≡ failure_of failed.error }
     {
         match boxed(alloc, failed.within(loc)) {

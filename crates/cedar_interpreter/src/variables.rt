@@ -10,7 +10,7 @@ ghost use Rattle.cedar_layers.specs.Stores.{entity_view};
 ghost use Rattle.cedar_interpreter.specs.Direct.{HasDirectValue};
 
 use crate::at_hand::Known;
-use crate::direct::value_in;
+use crate::direct::answered_value;
 use crate::evaluation::Evaluation;
 use cedar_layers::policies::Entity;
 use cedar_names::Var;
@@ -52,7 +52,7 @@ impl<'e, 'g, 'f> Evaluation<'e, 'g, 'f> {
     {
         match self.given.given_for(var) {
             PartialValue::Value(value) => {
-                value_in(attribute_of(alloc, self.given.entities, value, attr, None))
+                answered_value(attribute_of(alloc, self.given.entities, value, attr, None))
             }
             PartialValue::Residual(_) => None,
         }
@@ -77,7 +77,7 @@ impl<'e, 'g, 'f> Evaluation<'e, 'g, 'f> {
     {
         match self.given.given_for(var) {
             PartialValue::Value(value) => {
-                value_in(has_attribute(alloc, self.given.entities, value, attr))
+                answered_value(has_attribute(alloc, self.given.entities, value, attr))
             }
             PartialValue::Residual(_) => None,
         }

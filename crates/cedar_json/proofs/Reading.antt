@@ -44,11 +44,6 @@ sole_object (member l i no_members) k j h =
     λ n. sole_said (sym keys n) (entity_said (sym same n)) (said_call (sym same n)) (record_said (said_members (member l i no_members)))
 sole_object (member l i (member m x ms)) k j h = absurd (cc)
 
-pub other_object : (ms : Members) → None ≡ sole ms → said (object ms) ≡ record_said (said_members ms)
-other_object no_members h = refl
-other_object (member l i no_members) h = absurd (cc)
-other_object (member l i (member m x ms)) h = refl
-
 -- ---- calls
 
 abbrev pub by_shape : Option Parts → Said Term

@@ -53,15 +53,6 @@ refused_then f said (errors.Memory m) h = tt
 pub refused_same : {T : Type 0} (a b : Said T) (e : JsonError) → a ≡ b → IsRefusal b e → IsRefusal a e
 refused_same a b e is h = subst (λ (s : Said _). IsRefusal s e) (sym is) h
 
--- the parts that were read, and those that are left
-pub first_refused : {T : Type 0} (all : Said (List T)) (done : List T) (first : Said T) (others : Said (List T)) (e : JsonError)
-    → all ≡ made_of (λ ts. done ++ ts) (before first others) → IsRefusal first e → IsRefusal all e
-first_refused all done first others errors.Syntax is h = h
-first_refused all done first others errors.DuplicateKey is h = h
-first_refused all done first others (errors.Refused p t) is h = is ∙ ap (λ (x : Said _). made_of (λ ts. done ++ ts) (before x others)) h
-first_refused all done first others (errors.Evaluation p t) is h = h
-first_refused all done first others (errors.Memory m) is h = tt
-
 one_done : {T : Type 0} (done : List T) (t : T) (others : Said (List T)) → made_of (λ ts. done ++ ts) (before (Ok t) others) ≡ made_of (λ ts. (done ++ t ∷ []) ++ ts) others
 one_done done t (Ok ts) = ap Ok (sym (append_assoc done (t ∷ []) ts))
 one_done done t (Err r) = refl

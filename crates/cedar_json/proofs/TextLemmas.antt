@@ -40,16 +40,6 @@ text_refused text said j (errors.Refused p r) is h = subst (λ (o : Option Json)
 text_refused text said j (errors.Evaluation p x) is h = h
 text_refused text said j (errors.Memory m) is h = tt
 
-pub text_says_so : (text : Text) (P : Json → Type 0) (j : Json) → document text ≡ Some j → HasUniqueKeys j → P j → SaysSo text P
-text_says_so text P j is unique h = subst (λ (o : Option Json). IsSomeAnd o (λ i. HasUniqueKeys i × P i)) (sym is) (unique, h)
-
-pub error_unread : (text : Text) (R : Json → JsonError → Type 0) (e : JsonError) → IsUnread text e → IsTextError text R e
-error_unread text R errors.Syntax h = h
-error_unread text R errors.DuplicateKey h = h
-error_unread text R (errors.Refused p r) h = absurd h
-error_unread text R (errors.Evaluation p x) h = absurd h
-error_unread text R (errors.Memory m) h = tt
-
 -- the error is none of reading the text
 abbrev pub IsOfValue : JsonError → Type 0
 IsOfValue errors.Syntax = ⊥
@@ -110,31 +100,5 @@ pub request_of_value : (x : world.Extensions) (calls : StoredCalls) (n : ℕ) (j
 request_of_value x calls n j e (no_request h) = refusal_of_value (object_said j) e h
 request_of_value x calls n j e (no_entity is h) = entities_of_value j e h
 request_of_value x calls n j e (no_context is named h) = context_of_value x calls n (context_at j) (at_key (codes "context") ∷ []) e h
-
--- entities that the text says, and that are evaluated
-pub text_entities : (x : world.Extensions) (calls : StoredCalls) (n : ℕ) (text : Text) (o : Option Json) (es : List SaidEntity) (ds : List Entity)
-    → IsSomeAnd o (λ j. HasUniqueKeys j × (entities_said j ≡ Ok es)) → AreEvaluated x calls n es ds → IsSomeAnd o (λ j. HasUniqueKeys j × AreEntitiesOf x calls n (entities_said j) ds)
-text_entities x calls n text None es ds h g = h
-text_entities x calls n text (Some j) es ds h g = (h.0, subst (λ (s : Said (List SaidEntity)). AreEntitiesOf x calls n s ds) (sym h.1) g)
-
--- nothing of them was refused
-text_evaluated : (o : Option Json) (es : List SaidEntity) → IsSomeAnd o (λ j. HasUniqueKeys j × (entities_said j ≡ Ok es)) → IsSomeAnd o (λ j. IsOk (entities_said j))
-text_evaluated None es h = h
-text_evaluated (Some j) es h = subst (λ (s : Said (List SaidEntity)). IsOk s) (sym h.1) refl
-
-pub entities_failed : (text : Text) (es : List SaidEntity) (e : JsonError) → IsSomeAnd (document text) (λ j. HasUniqueKeys j × (entities_said j ≡ Ok es)) → IsEvaluationError e
-    → IsTextError text (λ j d. IsEntitiesError (entities_said j) d) e
-entities_failed text es errors.Syntax h v = absurd v
-entities_failed text es errors.DuplicateKey h v = absurd v
-entities_failed text es (errors.Refused p r) h v = absurd v
-entities_failed text es (errors.Evaluation p y) h v = text_evaluated (document text) es h
-entities_failed text es (errors.Memory m) h v = tt
-
-pub entities_refused : (text : Text) (e : JsonError) → IsTextRefusal text entities_said e → IsTextError text (λ j d. IsEntitiesError (entities_said j) d) e
-entities_refused text errors.Syntax h = h
-entities_refused text errors.DuplicateKey h = h
-entities_refused text (errors.Refused p r) h = h
-entities_refused text (errors.Evaluation p y) h = absurd h
-entities_refused text (errors.Memory m) h = tt
 
 pub ruleset text_lemmas = (text_says, text_unread, text_refused)

@@ -70,12 +70,6 @@ pub record ArePickedSoFar (ns : List ℕ) (all done : List Policy) (next : ℕ) 
       → ((i : ℕ) → i + 1 < next → has_position i left ≡ false)
       → (more : List Policy) → AreWithinReach es (after next all) more → AreWithinReach es all (done ++ more)
 
-pub picked_none : (ns : List ℕ) (all done : List Policy) (left : List ℕ) → left ≡ ns → done ≡ [] → ArePickedSoFar ns all done 0 left
-picked_none ns all done left e f = record {
-  same = λ i low. ap (has_position i) (sym e);
-  follows = λ index es placed reached gone more h. subst (λ (ds : List Policy). AreWithinReach es all (ds ++ more)) (sym f) h;
-}
-
 module _ (ns : List ℕ) (all done : List Policy) (next : ℕ) (left rest : List ℕ) (at : ℕ) (first : left ≡ at ∷ rest) (before : ArePickedSoFar ns all done next left) where
   left_at : (i : ℕ) → (i ≡ at → ⊥) → has_position i left ≡ has_position i rest
   left_at i apart = ap (has_position i) first ∙ or_behind (i == at) (has_position i rest) (differ i at apart)

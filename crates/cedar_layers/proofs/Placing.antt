@@ -17,7 +17,7 @@ use Rattle.cedar_layers.specs.declared.policies.policy.Policy.{Policy}
 use Rattle.cedar_layers.specs.declared.policies.scope_index.ScopeIndex.{ScopeIndex}
 use Rattle.cedar_layers.specs.Policies.{PolicyView, policy_view}
 use Rattle.cedar_layers.specs.Scopes.{compares, is_entity_variable, literal_entity, compared_entity, is_truth, principal_bound, action_bound, resource_bound, IsBoundTo, IsBoundElsewhere, Groups, items_or_none, standing_under, standing_at, has_position, is_placed, ArePlaced, Places, Extends, ReachesAll}
-use Rattle.cedar_model.proofs.Injections.{some_inj, none_is_not_some}
+use Rattle.cedar_model.proofs.Injections.{some_inj, none_is_not_some, true_is_not_false}
 use Rattle.cedar_layers.proofs.Stores.{entity_eq-true}
 
 -- ---- entries
@@ -111,16 +111,6 @@ module _ (old new : ScopeIndex) (rest : (j : ℕ) → has_position j old.rest.it
       by (inl e) = or_first _ _ (rest j e)
       by (inr e) = or_second _ _ (more (or_true _ _ e))
 
--- placed in the rest
-pub places_in_rest : (old new : ScopeIndex) (i : ℕ) (p : PolicyView) → new.rest.items ≡ old.rest.items ++ i ∷ [] → new.groups.entries ≡ old.groups.entries → Places old new i p
-places_in_rest old new i p e g =
-    let stays : (j : ℕ) → has_position j old.rest.items ≡ true → has_position j new.rest.items ≡ true =
-    λ j h. ap (has_position j) e ∙ position_stays j old.rest.items (i ∷ []) h in
-    record {
-      stay = placed_stay old new stays (λ j o h. ap (λ (m : Groups). has_position j (standing_at m o)) g ∙ h);
-      placed = or_first _ _ (ap (has_position i) e ∙ position_last i old.rest.items);
-    }
-
 module _ (old new : Groups) (n : EntityName) (i : ℕ) (more : Extends old new n i) where
   group_stays : (j : ℕ) (o : Option EntityName) → has_position j (standing_at old o) ≡ true → has_position j (standing_at new o) ≡ true
   group_stays j None h = h
@@ -166,9 +156,6 @@ got_more (x ∷ ps) p q (suc i) h = by (got_more ps p q i h)
     by (inl e) = inl e
     by (inr e) = inr (ap suc e.0, e.1)
 
-pub placed_none : (index : ScopeIndex) (ps : List Policy) → ps ≡ [] → ArePlaced index ps
-placed_none index ps e i p h = absurd (none_is_not_some (sym (ap (λ (qs : List Policy). slice_get qs i) e) ∙ h))
-
 pub placed_more : (old new : ScopeIndex) (ps qs : List Policy) (p : Policy) (n : ℕ) → qs ≡ ps ++ p ∷ [] → n ≡ length ps → ArePlaced old ps → Places old new n (policy_view p) → ArePlaced new qs
 placed_more old new ps qs p n e count before more i q h =
     by (got_more ps p q i (sym (ap (λ (xs : List Policy). slice_get xs i) e) ∙ h))
@@ -191,19 +178,10 @@ get_value (e ∷ es) (suc i) k v h = get_value es i k v h
 
 -- ---- what entities reach
 
-true_is_not_false : {b : Bool} → b ≡ true → b ≡ false → ⊥
-true_is_not_false h g = cc
-
 -- the rest is among the positions, and so is what stands under the entities before those that are left
 pub record AreReachedSoFar (index : ScopeIndex) (es left : List EntityName) (ns : List ℕ) : Type 0 where
   pub rest : (j : ℕ) → has_position j index.rest.items ≡ true → has_position j ns ≡ true
   pub under : (j : ℕ) (e : EntityName) → is_among e es ≡ true → (is_among e left ≡ true) ⊎ (has_position j (standing_under index.groups.entries e) ≡ true → has_position j ns ≡ true)
-
-pub reached_none : (index : ScopeIndex) (es left : List EntityName) (ns : List ℕ) → left ≡ es → ns ≡ index.rest.items → AreReachedSoFar index es left ns
-reached_none index es left ns e f = record {
-  rest = λ j h. ap (has_position j) f ∙ h;
-  under = λ j d h. inl (ap (is_among d) e ∙ h);
-}
 
 pub reached_more : (index : ScopeIndex) (es left rest : List EntityName) (n : EntityName) (ns ms : List ℕ) → left ≡ n ∷ rest → ms ≡ ns ++ standing_under index.groups.entries n → AreReachedSoFar index es left ns → AreReachedSoFar index es rest ms
 unfolding is_among
@@ -267,10 +245,6 @@ pub compared_with : (t a b : Term) (op : BinaryOperator) (e : EntityName) → t 
 unfolding compared_entity
 compared_with t a b op e is f g h =
     ap compared_entity is ∙ compared_if (compares op) (is_entity_variable a) (literal_entity b) e f g h
-
-any_action : (b c : Bool) → (b ≡ true) ⊎ (c ≡ true) → (b || c) ≡ true
-any_action b c (inl h) = or_first b c h
-any_action b c (inr h) = or_second b c h
 
 is_some_of : {A : Type 0} (o : Option A) (x : A) → o ≡ Some x → is_some o ≡ true
 is_some_of o x e = ap is_some e

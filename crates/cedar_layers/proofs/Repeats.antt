@@ -72,13 +72,6 @@ pub record Fills (all : List Policy) (es : List (PolicyID × Policy)) (rest : Li
   pub ids : entry_ids es ≡ ids_of (values_of es)
   pub unrepeated : first_repeated_after (entry_ids es) (ids_of rest) ≡ first_repeated (ids_of all)
 
-pub fills-none : (all : List Policy) (es : List (PolicyID × Policy)) (rest : List Policy) → es ≡ [] → rest ≡ all → Fills all es rest
-fills-none all es rest e h = record {
-  taken = (λ i. values_of (e i) ++ rest) ∙ h;
-  ids = (λ i. entry_ids (e i)) ∙ sym (λ i. ids_of (values_of (e i)));
-  unrepeated = λ i. first_repeated_after (entry_ids (e i)) (ids_of (h i));
-}
-
 pub fills-more : (all : List Policy) (es new : List (PolicyID × Policy)) (p : Policy) (left rest : List Policy) → left ≡ p ∷ rest → Fills all es left → Adds es new p → Fills all new rest
 fills-more all es new p left rest e f a = record {
   taken = ap (λ (ps : List Policy). ps ++ rest) a.values ∙ append_assoc (values_of es) (p ∷ []) rest ∙ ap (λ (ps : List Policy). values_of es ++ ps) (sym e) ∙ f.taken;
@@ -87,17 +80,3 @@ fills-more all es new p left rest e f a = record {
       ∙ sym (ap (λ (b : Bool). if b then Some (policy_id_text p.id) else first_repeated_after (entry_ids es ++ policy_id_text p.id ∷ []) (ids_of rest)) a.fresh)
       ∙ ap (λ (ps : List Policy). first_repeated_after (entry_ids es) (ids_of ps)) (sym e) ∙ f.unrepeated;
 }
-
-pub fills-taken : (all : List Policy) (es : List (PolicyID × Policy)) (p : Policy) (left rest : List Policy) (i : Text) → left ≡ p ∷ rest → Fills all es left → IsTaken es p i → first_repeated (ids_of all) ≡ Some i
-fills-taken all es p left rest i e f t =
-    sym f.unrepeated ∙ ap (λ (ps : List Policy). first_repeated_after (entry_ids es) (ids_of ps)) e
-    ∙ ap (λ (b : Bool). if b then Some (policy_id_text p.id) else first_repeated_after (entry_ids es ++ policy_id_text p.id ∷ []) (ids_of rest)) (ap (λ (s : Text). list_any (text_eq s) (entry_ids es)) (sym t.own) ∙ t.there)
-    ∙ ap Some (sym t.own)
-
-pub fills-all : (all : List Policy) (es : List (PolicyID × Policy)) (rest : List Policy) → rest ≡ [] → Fills all es rest → values_of es ≡ all
-fills-all all es rest e f =
-    sym (append-nil (values_of es)) ∙ ap (λ (ps : List Policy). values_of es ++ ps) (sym e) ∙ f.taken
-
-pub fills-distinct : (all : List Policy) (es : List (PolicyID × Policy)) (rest : List Policy) → rest ≡ [] → Fills all es rest → first_repeated (ids_of (values_of es)) ≡ None
-fills-distinct all es rest e f =
-    ap (λ (ps : List Policy). first_repeated (ids_of ps)) (fills-all all es rest e f) ∙ sym f.unrepeated ∙ ap (λ (ps : List Policy). first_repeated_after (entry_ids es) (ids_of ps)) e

@@ -101,13 +101,10 @@ named_with_each f named [] n e h = named n e h
 named_with_each f named (x ∷ es) n e h =
     named_with_each (standing_with f x) (λ m y. named_or x m (f m) y (entity_eq m (entity_name x)) refl (named m y)) es n e h
 
-none_is_not_some : (e : Entity) → None ≡ Some e → ⊥
-none_is_not_some e h = cc
-
 -- the last of a name has that name
 pub last_is_named : (es : List Entity) (n : EntityName) (e : Entity) → last_of_each_name es n ≡ Some e → entity_name e ≡ n
 last_is_named es n e h =
-    named_with_each none_stands (λ m y k. absurd (none_is_not_some y k)) es n e h
+    named_with_each none_stands (λ m y k. absurd (none_is_not_some k)) es n e h
 
 -- the two ways to write an escaped text
 escaped_at : (b : ℕ) (bs : Text) (p q : Bool) → (b == 34) ≡ p → (b == 92) ≡ q → cond (p || q) (92 ∷ b ∷ bs) (b ∷ bs) ≡ (if p then 92 ∷ 34 ∷ [] else (if q then 92 ∷ 92 ∷ [] else b ∷ [])) ++ bs

@@ -19,7 +19,7 @@ use Rattle.cedar_model.specs.Reports.{some_row, ids, trues, residuals}
 use Rattle.cedar_model.specs.ReportLaws
 use Rattle.cedar_model.proofs.Counting
 use Rattle.cedar_model.proofs.Standing.{errs_isn't}
-use Rattle.cedar_model.proofs.Injections.{some_inj, none_is_not_some}
+use Rattle.cedar_model.proofs.Injections.{some_inj, none_is_not_some, true_is_not_false}
 
 -- ---- a row that stands
 
@@ -287,7 +287,7 @@ module _ (mode : ErrorHandling) (X : Extensions) (ans : Functions) (w : World) (
       by true e k = may_forbids t (some_of forbid is_true) (some_of_text t forbid is_true) (open_text t forbid k)
       by false e k =
           may_permits t (some_of forbid is_true) (not_true (some_of forbid is_true)
-          (λ z. Counting.truth_isn't (some_satisfied forbid js) e (true_satisfied forbid z))) (open_text t permit k)
+          (λ z. true_is_not_false (true_satisfied forbid z) e)) (open_text t permit k)
 
   pub reports_hold : ReportLaws.ReportsHold mode X ans w ps rows
   reports_hold = record {

@@ -1,10 +1,7 @@
 -- Where nothing is unknown, answers, decided conditions and responses are exact in the own world.
 use Rattle.std.specs.Prelude.{◌≡◌, ◌≢◌, ℕ, ◌≤◌, Bool, true, false, List, [], ◌∷◌, Option, Some, None, Result, Ok, Err}
 use Rattle.std.proofs.Common.{refl, sym, ap, ◌∙◌, subst, arith}
-use Rattle.cedar_model.specs.Terms.{Text, bool_literal, long_literal, text_literal, entity_literal, Term, literal}
-use Rattle.cedar_model.specs.Terms.{variable, slot, unknown, if_then_else, both, either, unary, binary, call}
-use Rattle.cedar_model.specs.Terms.{get_attribute, has_attribute, extended_has, like, is_of_type, set_of, record_of}
-use Rattle.cedar_model.specs.Terms.{Terms, no_terms, one_term, Fields, no_fields, one_field}
+use Rattle.cedar_model.specs.Terms.{Text, bool_literal, long_literal, text_literal, entity_literal, Term}
 use Rattle.cedar_model.specs.Values.{AbstractValue, plain, set_value, record_value, extension_value, Represented}
 use Rattle.cedar_model.specs.Values.{abstract_value}
 use Rattle.cedar_model.specs.Outcomes
@@ -27,6 +24,7 @@ use Rattle.cedar_model.proofs.Determined.{limit_alone}
 use Rattle.cedar_model.proofs.Functional.{functional}
 use Rattle.cedar_model.proofs.Known.{allowed_exact, need_below_height}
 use Rattle.cedar_model.proofs.OwnWorld.{own_request, own_store}
+use Rattle.cedar_model.proofs.Throughout.{known_fits}
 
 -- ---- an answer, as it decides
 
@@ -240,37 +238,9 @@ module _ (calls : StoredCalls) (ans : Functions) (agree : Agreement.AgreesWithFu
 -- ---- the own world completes the call
 
 module _ (X : Extensions) (ans : Functions) (w : World) where
-  mutual
-    known_fits : (t : Term) → Agreement.IsKnown ans t → Agreement.Fits ans w t
-    known_fits (literal l) k = tt
-    known_fits (variable v) k = tt
-    known_fits (slot i) k = tt
-    known_fits (unknown n t) k = absurd k
-    known_fits (if_then_else c a b) k = (known_fits c k.0, known_fits a k.1, known_fits b k.2)
-    known_fits (both a b) k = (known_fits a k.0, known_fits b k.1)
-    known_fits (either a b) k = (known_fits a k.0, known_fits b k.1)
-    known_fits (unary op a) k = known_fits a k
-    known_fits (binary op a b) k = (known_fits a k.0, known_fits b k.1)
-    known_fits (call f ts) k = (λ vs n t e. absurd (k.0 vs n t e), known_fit_each ts k.1)
-    known_fits (get_attribute a l) k = known_fits a k
-    known_fits (has_attribute a l) k = known_fits a k
-    known_fits (extended_has a l ls) k = known_fits a k
-    known_fits (like a p) k = known_fits a k
-    known_fits (is_of_type a t) k = known_fits a k
-    known_fits (set_of ts) k = known_fit_each ts k
-    known_fits (record_of fs) k = known_fit_each_at fs k
-
-    known_fit_each : (ts : Terms) → Agreement.AreKnown ans ts → Agreement.FitEach ans w ts
-    known_fit_each no_terms k = tt
-    known_fit_each (one_term t ts) k = (known_fits t k.0, known_fit_each ts k.1)
-
-    known_fit_each_at : (fs : Fields) → Agreement.AreKnownAt ans fs → Agreement.FitEachAt ans w fs
-    known_fit_each_at no_fields k = tt
-    known_fit_each_at (one_field l t fs) k = (known_fits t k.0, known_fit_each_at fs k.1)
-
   policies_fit : (ps : List Policy) → Authorizations.HaveKnownConditions ans ps → FitPolicies ans w ps
   policies_fit [] k = tt
-  policies_fit (p ∷ ps) k = (known_fits p.condition k.0, policies_fit ps k.1)
+  policies_fit (p ∷ ps) k = (known_fits ans w p.condition k.0, policies_fit ps k.1)
 
   context_fits : (c : ContextPart) → Agreement.IsKnownContext c → Agreement.FitsContext X ans w c
   context_fits absent_context k = absurd k

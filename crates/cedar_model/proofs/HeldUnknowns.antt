@@ -332,7 +332,7 @@ module _ (s : Setting) (calls : Rules.StoredCalls) (given : ResidualsHoldUnknown
     held_step (Operators.walks_on v) h = tt
     held_step (Operators.stops a) h = h
 
-    held_goes : (x : Answer) (l : Text) (ls : List Text) → Held x → resolving.GoesOn G Held x l ls
+    held_goes : (x : Answer) (l : Text) (ls : List Text) → Held x → resolving.ReadStopsWith G Held x l ls
     held_goes (fails e) l ls h = tt
     held_goes (answers (value v)) l ls h = tt
     held_goes (answers (residual r)) l ls h = h

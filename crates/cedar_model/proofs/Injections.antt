@@ -1,5 +1,5 @@
 -- What an equation of options, results or booleans tells.
-use Rattle.std.specs.Prelude.{◌≡◌, true, false, Some, None, Result, Ok, Err}
+use Rattle.std.specs.Prelude.{◌≡◌, Bool, true, false, Some, None, Result, Ok, Err}
 
 pub some_inj : {A : Type 0} {x y : A} → Some x ≡ Some y → x ≡ y
 some_inj e = cc
@@ -21,3 +21,6 @@ err_is_not_ok e = cc
 
 pub false_is_not_true : false ≡ true → ⊥
 false_is_not_true e = cc
+
+pub true_is_not_false : {b : Bool} → b ≡ true → b ≡ false → ⊥
+true_is_not_false e f = cc

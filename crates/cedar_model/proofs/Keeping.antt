@@ -25,7 +25,7 @@ use Rattle.cedar_model.proofs.Chained.{sorted_is}
 use Rattle.cedar_model.proofs.Stepping.{taken}
 use Rattle.cedar_model.proofs.Counting
 use Rattle.cedar_model.proofs.Configured.{configured_by}
-use Rattle.cedar_model.proofs.Injections.{none_is_not_some, false_is_not_true}
+use Rattle.cedar_model.proofs.Injections.{none_is_not_some, false_is_not_true, true_is_not_false}
 
 -- ---- a row
 
@@ -373,7 +373,7 @@ module _ (old new : List Row) (kept : AllKeep (Chains.rows_by permit old ++ Chai
   may_by t false e h = by (has_split t (trues permit new) (residuals permit new ++ residuals forbid new) h)
     where
       no_forbid : ft ≡ false
-      no_forbid = not_true ft (λ k. Counting.truth_isn't (some_row (trues forbid new)) e (some_true_stays forbid k))
+      no_forbid = not_true ft (λ k. true_is_not_false (some_true_stays forbid k) e)
 
       by_residual : (has_text t (ids (residuals permit new)) ≡ true)
           ⊎ (has_text t (ids (residuals forbid new)) ≡ true) → has_text t (ids (may ft old)) ≡ true

@@ -9,6 +9,7 @@ pub mod Known
 pub mod OwnWorld
 pub mod Decisions
 pub mod Binds
+pub mod Throughout
 pub mod Written
 pub mod Projection
 pub mod SoundAnswers

@@ -14,7 +14,7 @@ use Rattle.cedar_model.specs.Chains.{ChainStep, Response}
 use Rattle.cedar_model.specs.Authorizations.{HaveNoLimit}
 use Rattle.cedar_model.proofs.Determined.{kind_of_limit}
 use Rattle.cedar_model.proofs.Configured.{configured_by, in_step}
-use Rattle.cedar_model.proofs.Injections.{ok_inj, ok_is_not_err}
+use Rattle.cedar_model.proofs.Injections.{ok_inj, ok_is_not_err, true_is_not_false}
 
 -- ---- the test
 
@@ -45,9 +45,6 @@ not_true : (b : Bool) → (b ≡ true → ⊥) → b ≡ false
 not_true true h = absurd (h refl)
 not_true false h = refl
 
-true_isn't : (b : Bool) → b ≡ false → b ≡ true → ⊥
-true_isn't b h k = let e = sym h ∙ k in cc
-
 pub has_none : (errors : List (Text × Failure)) → HaveNoLimit errors → Chains.has_limit errors ≡ false
 unfolding Chains.has_limit
 has_none [] h = refl
@@ -60,9 +57,8 @@ pub none_has : (errors : List (Text × Failure)) → Chains.has_limit errors ≡
 unfolding Chains.has_limit
 none_has [] h = tt
 none_has (e ∷ es) h = (
-  λ k. true_isn't (Chains.is_limit (failure_kind e.1))
-      (first_false (Chains.is_limit (failure_kind e.1)) (Chains.has_limit es) h)
-      (ap (λ x. Chains.is_limit (failure_kind x)) k ∙ limit_is),
+  λ k. true_is_not_false (ap (λ x. Chains.is_limit (failure_kind x)) k ∙ limit_is)
+      (first_false (Chains.is_limit (failure_kind e.1)) (Chains.has_limit es) h),
   none_has es (second_false (Chains.is_limit (failure_kind e.1)) (Chains.has_limit es) h),
 )
 
@@ -73,8 +69,8 @@ module _ (mode : ErrorHandling) (s : Setting) (calls : StoredCalls) (levels : �
   Chain = Chains.ChainOf (configured_by calls mode s levels)
 
   -- it ends here with the limit, or goes on with a response without one
-  abbrev GoesOn : Bool → Response → ChainStep → List ChainStep → Response → Type 0
-  GoesOn b r step steps last =
+  abbrev EndsOrSteps : Bool → Response → ChainStep → List ChainStep → Response → Type 0
+  EndsOrSteps b r step steps last =
       MatchBool b (◌≡◌ {A = Result Response Refusal} (Ok last) (Ok r)) ((y : Result Response Refusal)
       × Chains.Steps (configured_by calls mode (in_step s step) levels) step.mapping step.store r y
       × MatchResult y (λ next. Chain next steps last) (λ e. ◌≡◌ {A = Result Response Refusal} (Ok last) (Err e)))
@@ -93,12 +89,11 @@ module _ (mode : ErrorHandling) (s : Setting) (calls : StoredCalls) (levels : �
       on (Ok next) g k = (next, g, k)
       on (Err e) g k = absurd (ok_is_not_err k)
 
-      by : (b : Bool) → Chains.has_limit r.errors ≡ b → GoesOn b r step steps last → HaveNoLimit r.errors
+      by : (b : Bool) → Chains.has_limit r.errors ≡ b → EndsOrSteps b r step steps last → HaveNoLimit r.errors
           × ((next : Response) × Chains.StepsTo (configured_by calls mode (in_step s step) levels) step.mapping step.store r next
           × Chain next steps last)
       by true e k =
-          absurd (true_isn't (Chains.has_limit r.errors)
-          (has_none r.errors (subst (λ x. HaveNoLimit x.errors) (ok_inj k) none)) e)
+          absurd (true_is_not_false e (has_none r.errors (subst (λ x. HaveNoLimit x.errors) (ok_inj k) none)))
       by false e (y, g, k) = (none_has r.errors e, on y g k)
 
   -- nor does the first
@@ -115,7 +110,7 @@ module _ (mode : ErrorHandling) (s : Setting) (calls : StoredCalls) (levels : �
       let g = goes_on first last step (before ++ after) h none in
       let k = no_earlier g.1.0 last before after g.1.2 none in (
         k.0,
-        subst (λ b. GoesOn b first step before k.0) (sym (has_none first.errors g.0))
+        subst (λ b. EndsOrSteps b first step before k.0) (sym (has_none first.errors g.0))
             (Ok g.1.0, g.1.1, k.1),
         k.2,
         k.3,

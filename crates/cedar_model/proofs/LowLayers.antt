@@ -249,7 +249,7 @@ module _ (m : Mapping) where
         step_low n e (Operators.stops a) f = f
 
         pub goes_low : (n : ℕ) → suc b ≤ n → (x : Answer) (l : Text) (ls : List Text) → LowAnswer b x →
-            resolving.GoesOn G (LowAnswer (suc n)) x l ls
+            resolving.ReadStopsWith G (LowAnswer (suc n)) x l ls
         goes_low n e (fails f) l ls k = tt
         goes_low n e (answers (value v)) l ls k = tt
         goes_low n e (answers (residual r)) l ls k = let y = k.0 in path_beside n l ls r (omega arith)

@@ -261,7 +261,7 @@ module _ (s : Setting) (calls : Rules.StoredCalls) (answered : FunctionsMeetNoLi
 
   read_met : s.resolution ≡ deep → (r : Term) → IsStored s.store r → (x : Answer) → G r x
       → (l : Text) (ls : List Text) →
-      resolving.GoesOn G LimitStored x l ls
+      resolving.ReadStopsWith G LimitStored x l ls
   read_met d r i (fails e) g l ls = λ q. (r, d, i, met r (fails e) g q)
   read_met d r i (answers (value v)) g l ls = tt
   read_met d r i (answers (residual z)) g l ls = λ q. absurd (answers≢limit _ q)

@@ -172,25 +172,25 @@ module _ (G : Rules.MayAnswer) where
     StopsWith (Operators.walks_on v) = Unit {0}
     StopsWith (Operators.stops a) = C a
 
-    -- a stored residual that isn't a value
-    abbrev pub GoesOn : Answer → Text → List Text → Type 0
-    GoesOn (fails e) l ls = C (fails e)
-    GoesOn (answers (value v)) l ls = Unit {0}
-    GoesOn (answers (residual r)) l ls = C (answers (residual (extended_has r l ls)))
+    -- a stored residual whose reading stops
+    abbrev pub ReadStopsWith : Answer → Text → List Text → Type 0
+    ReadStopsWith (fails e) l ls = C (fails e)
+    ReadStopsWith (answers (value v)) l ls = Unit {0}
+    ReadStopsWith (answers (residual r)) l ls = C (answers (residual (extended_has r l ls)))
 
     module _ (store : Store) (last : (v : Represented) (k : Text)
         → C (Operators.last_in store (Operators.container_of v)
         (Operators.container_expected v) k)) (step : (v : Represented) (k l : Text) (ls : List Text)
         → Operators.attribute_residual store v k ≡ None → StopsWith (Operators.step_in store (Operators.container_of v)
         (Operators.container_expected v) k l ls)) (read : (t : Term) → IsStored store t → (x : Answer) → G t x
-        → (l : Text) (ls : List Text) → GoesOn x l ls) where
+        → (l : Text) (ls : List Text) → ReadStopsWith x l ls) where
       after_step : (z : Operators.Step) (Next : Represented → Answer → Type 0) (a : Answer) → StopsWith z
           → ((v : Represented) → Next v a → C a) → Rules.AfterStep G z Next a → C a
       after_step (Operators.walks_on v) Next a f g h = g v h
       after_step (Operators.stops b) Next a f g h = subst C (sym h) f
 
       after_stored : (x : Answer) (l : Text) (ls : List Text) (Next : Represented → Answer → Type 0) (a : Answer)
-          → GoesOn x l ls → ((v : Represented) → Next v a → C a) → Rules.AfterStored G x l ls Next a → C a
+          → ReadStopsWith x l ls → ((v : Represented) → Next v a → C a) → Rules.AfterStored G x l ls Next a → C a
       after_stored (fails e) l ls Next a f g h = subst C (sym h) f
       after_stored (answers (value v)) l ls Next a f g h = g v h
       after_stored (answers (residual r)) l ls Next a f g h = subst C (sym h) f
@@ -215,11 +215,6 @@ module _ (G : Rules.MayAnswer) where
 
 module _ (G H : Rules.MayAnswer) (store : Store) (more : (t : Term) → IsStored store t → (x : Answer) → G t x
     → H t x) where
-  pub resolves_map : (r : Resolution) (o : Option Term) (x a : Answer) → ((t : Term) → o ≡ Some t
-      → IsStored store t) → Rules.Resolves G r o x a → Rules.Resolves H r o x a
-  resolves_map shallow o x a i h = h
-  resolves_map deep None x a i h = h
-  resolves_map deep (Some t) x a i h = more t (i t refl) a h
 
   step_map : (z : Operators.Step) (Next Next' : Represented → Answer → Type 0) (a : Answer) → ((v : Represented)
       → Next v a → Next' v a) → Rules.AfterStep G z Next a → Rules.AfterStep H z Next' a
@@ -249,10 +244,3 @@ module _ (G H : Rules.MayAnswer) (store : Store) (more : (t : Term) → IsStored
       (Operators.step_in store (Operators.container_of v) (Operators.container_expected v) k l ls) l ls
       (λ u. Rules.Walks G store u l ls) (λ u. Rules.Walks H store u l ls) a
       (λ t e. attribute_is_stored store v k t e) (λ u j. walks_map ls u l a j) h
-
-  pub path_map : (r : Resolution) (x : Answer) (k : Text) (ks : List Text) (a : Answer)
-      → Rules.AtPath G r store x k ks a → Rules.AtPath H r store x k ks a
-  path_map shallow x k ks a h = h
-  path_map deep (fails e) k ks a h = h
-  path_map deep (answers (value v)) k ks a h = walks_map ks v k a h
-  path_map deep (answers (residual r)) k ks a h = h

@@ -113,7 +113,7 @@ is_kept = (
 )
 
 pub chained : Chains.ChainOf (StoredChains.with_resolution shallow) first
-    (StoredChains.step_in deep StoredChains.principal_map ∷ []) read
+    (StoredChains.step_resolving deep StoredChains.principal_map ∷ []) read
 unfolding Exemplified.chain_opened
 chained = (Ok read, is_read, refl)
 
@@ -297,7 +297,7 @@ unfolding Exemplified.chain_opened
 resource_completes = map_completes (codes "resource") refl
 
 pub completed : Headline.Premises (StoredChains.with_resolution shallow) StoredChains.asking StoredChains.set_store
-    StoredChains.one_reads (StoredChains.step_in deep StoredChains.principal_map ∷ []) some_functions
+    StoredChains.one_reads (StoredChains.step_resolving deep StoredChains.principal_map ∷ []) some_functions
     StoredChains.set_world read.errors
 unfolding Exemplified.chain_opened
 completed = record {

@@ -11,7 +11,7 @@ use Rattle.cedar_model.specs.Chains
 use Rattle.cedar_model.specs.Chains.{Mapping, Response}
 use Rattle.cedar_model.specs.Headline
 use Rattle.cedar_model.specs.Examples.{some_calls, some_functions, some_extensions}
-use Rattle.cedar_model.specs.ChainExamples.{no_map, empty_store, setting_of, known_request, strict_policies, x_is}
+use Rattle.cedar_model.specs.ChainExamples.{no_map, empty_store, request_setting, known_request, strict_policies, x_is}
 use Rattle.cedar_model.specs.ChainExamples.{strict_world, step_by}
 use Rattle.cedar_model.proofs.Exemplified
 use Rattle.cedar_model.proofs.Configured.{configured_by}
@@ -19,7 +19,7 @@ use Rattle.cedar_model.proofs.TwoSteps.{functional, faithful}
 use Rattle.cedar_model.proofs.Injections.{none_is_not_some}
 
 abbrev pub s : Setting
-s = setting_of known_request
+s = request_setting known_request
 
 -- ---- the responses
 

@@ -15,7 +15,7 @@ use Rattle.cedar_model.specs.Chains.{Mapping, Response}
 use Rattle.cedar_model.specs.Headline
 use Rattle.cedar_model.specs.Progress
 use Rattle.cedar_model.specs.Examples.{some_calls, some_functions, some_extensions}
-use Rattle.cedar_model.specs.ChainExamples.{no_map, an_entity, a_number, empty_store, setting_of, open_request}
+use Rattle.cedar_model.specs.ChainExamples.{no_map, an_entity, a_number, empty_store, request_setting, open_request}
 use Rattle.cedar_model.specs.ChainExamples.{two_policies}
 use Rattle.cedar_model.specs.ChainExamples.{two_steps, resource_map, context_map, chain_world}
 use Rattle.cedar_model.proofs.Exemplified
@@ -23,7 +23,7 @@ use Rattle.cedar_model.proofs.Configured.{configured_by}
 use Rattle.cedar_model.proofs.Injections.{none_is_not_some}
 
 abbrev pub s : Setting
-s = setting_of open_request
+s = request_setting open_request
 
 -- ---- the responses
 

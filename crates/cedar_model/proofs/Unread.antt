@@ -187,7 +187,7 @@ module _ (s : Setting) (concrete : s.store.is_partial ≡ false) where
     step_values (record_represented fs) k l ls h = step_to (Operators.represented_at k fs)
     step_values (extension_represented t j f ts) k l ls h = tt
 
-    goes_on : (x : Answer) (l : Text) (ls : List Text) → IsNoResidual x → resolving.GoesOn G IsNoResidual x l ls
+    goes_on : (x : Answer) (l : Text) (ls : List Text) → IsNoResidual x → resolving.ReadStopsWith G IsNoResidual x l ls
     goes_on (fails e) l ls h = tt
     goes_on (answers (value v)) l ls h = tt
     goes_on (answers (residual t)) l ls h = absurd h

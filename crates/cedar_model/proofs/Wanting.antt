@@ -269,7 +269,7 @@ module _ (s : Setting) (calls : Rules.StoredCalls) (finding : FunctionsFindMemor
     found_step (Operators.walks_on v) h = tt
     found_step (Operators.stops a) h = h
 
-    found_goes : (x : Answer) (l : Text) (ls : List Text) → Found x → resolving.GoesOn G Found x l ls
+    found_goes : (x : Answer) (l : Text) (ls : List Text) → Found x → resolving.ReadStopsWith G Found x l ls
     found_goes (fails e) l ls h = h
     found_goes (answers (value v)) l ls h = tt
     found_goes (answers (residual r)) l ls h = tt

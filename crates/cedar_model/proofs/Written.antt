@@ -1,9 +1,8 @@
 -- The expression of a faithful value means the value and fits, in every world and under all slots.
 use Rattle.std.specs.Prelude.{◌≡◌, Bool, true, false, cond, List, [], ◌∷◌, Some, Ok}
 use Rattle.std.proofs.Common.{refl, ap, ◌∙◌, subst}
-use Rattle.cedar_model.specs.Terms.{Text, Term, literal, variable, slot, unknown, if_then_else, both, either, unary}
-use Rattle.cedar_model.specs.Terms.{binary, call, get_attribute, has_attribute, extended_has, like, is_of_type, set_of}
-use Rattle.cedar_model.specs.Terms.{record_of, Terms, no_terms, one_term, Fields, no_fields, one_field}
+use Rattle.cedar_model.specs.Terms.{Text}
+use Rattle.cedar_model.specs.Terms.{call}
 use Rattle.cedar_model.specs.Values.{set_value, record_value, Represented, plain_represented, set_represented}
 use Rattle.cedar_model.specs.Values.{record_represented, extension_represented, RepresentedValues, no_represented}
 use Rattle.cedar_model.specs.Values.{one_represented, RepresentedFields, no_represented_at, one_represented_at}
@@ -21,36 +20,7 @@ use Rattle.cedar_model.specs.Meaning
 use Rattle.cedar_model.specs.Operators
 use Rattle.cedar_model.specs.Agreement
 use Rattle.cedar_model.proofs.Injections.{some_inj}
-
--- what is known fits every world
-module _ (ans : Functions) (w : World) where
-  mutual
-    pub known_fits : (t : Term) → Agreement.IsKnown ans t → Agreement.Fits ans w t
-    known_fits (literal l) k = tt
-    known_fits (variable v) k = tt
-    known_fits (slot i) k = tt
-    known_fits (unknown n t) k = absurd k
-    known_fits (if_then_else c a b) k = (known_fits c k.0, known_fits a k.1, known_fits b k.2)
-    known_fits (both a b) k = (known_fits a k.0, known_fits b k.1)
-    known_fits (either a b) k = (known_fits a k.0, known_fits b k.1)
-    known_fits (unary op a) k = known_fits a k
-    known_fits (binary op a b) k = (known_fits a k.0, known_fits b k.1)
-    known_fits (call f ts) k = (λ vs n t e. absurd (k.0 vs n t e), known_fit_each ts k.1)
-    known_fits (get_attribute a l) k = known_fits a k
-    known_fits (has_attribute a l) k = known_fits a k
-    known_fits (extended_has a l ls) k = known_fits a k
-    known_fits (like a p) k = known_fits a k
-    known_fits (is_of_type a t) k = known_fits a k
-    known_fits (set_of ts) k = known_fit_each ts k
-    known_fits (record_of fs) k = known_fit_each_at fs k
-
-    pub known_fit_each : (ts : Terms) → Agreement.AreKnown ans ts → Agreement.FitEach ans w ts
-    known_fit_each no_terms k = tt
-    known_fit_each (one_term t ts) k = (known_fits t k.0, known_fit_each ts k.1)
-
-    pub known_fit_each_at : (fs : Fields) → Agreement.AreKnownAt ans fs → Agreement.FitEachAt ans w fs
-    known_fit_each_at no_fields k = tt
-    known_fit_each_at (one_field l t fs) k = (known_fits t k.0, known_fit_each_at fs k.1)
+use Rattle.cedar_model.proofs.Throughout.{known_fits}
 
 module _ (X : Extensions) (ans : Functions) where
   module _ (w : World) where

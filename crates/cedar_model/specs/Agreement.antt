@@ -67,6 +67,37 @@ HaveSameOutcome o p = outcome_value o ≡ outcome_value p
 
 -- ---- unknowns
 
+module _ (OfUnknown : Text → Option ValueType → Type 0) (OfFunction : Text → Type 0) where
+  -- one thing holds of each unknown of the expression (of its name and its annotation), and another of each function
+  -- that is called in it
+  abbrev mutual
+    pub HoldsThroughout : Term → Type 0
+    HoldsThroughout (literal l) = Unit {0}
+    HoldsThroughout (variable v) = Unit {0}
+    HoldsThroughout (slot s) = Unit {0}
+    HoldsThroughout (unknown n t) = OfUnknown n t
+    HoldsThroughout (if_then_else c a b) = HoldsThroughout c × HoldsThroughout a × HoldsThroughout b
+    HoldsThroughout (both a b) = HoldsThroughout a × HoldsThroughout b
+    HoldsThroughout (either a b) = HoldsThroughout a × HoldsThroughout b
+    HoldsThroughout (unary op a) = HoldsThroughout a
+    HoldsThroughout (binary op a b) = HoldsThroughout a × HoldsThroughout b
+    HoldsThroughout (call f ts) = OfFunction f × HoldsOfEach ts
+    HoldsThroughout (get_attribute a k) = HoldsThroughout a
+    HoldsThroughout (has_attribute a k) = HoldsThroughout a
+    HoldsThroughout (extended_has a k ks) = HoldsThroughout a
+    HoldsThroughout (like a p) = HoldsThroughout a
+    HoldsThroughout (is_of_type a t) = HoldsThroughout a
+    HoldsThroughout (set_of ts) = HoldsOfEach ts
+    HoldsThroughout (record_of fs) = HoldsOfEachAt fs
+
+    pub HoldsOfEach : Terms → Type 0
+    HoldsOfEach no_terms = Unit {0}
+    HoldsOfEach (one_term t ts) = HoldsThroughout t × HoldsOfEach ts
+
+    pub HoldsOfEachAt : Fields → Type 0
+    HoldsOfEachAt no_fields = Unit {0}
+    HoldsOfEachAt (one_field k t fs) = HoldsThroughout t × HoldsOfEachAt fs
+
 -- the unknown's value has the annotated type
 abbrev pub HasType : World → Text → Option ValueType → Type 0
 HasType w n None = Unit {0}
@@ -79,33 +110,14 @@ FitsFunction ans w f =
 
 module _ (ans : Functions) (w : World) where
   -- each annotated unknown of the expression, and of the functions that it calls, has its type
-  abbrev mutual
-    pub Fits : Term → Type 0
-    Fits (literal l) = Unit {0}
-    Fits (variable v) = Unit {0}
-    Fits (slot s) = Unit {0}
-    Fits (unknown n t) = HasType w n t
-    Fits (if_then_else c a b) = Fits c × Fits a × Fits b
-    Fits (both a b) = Fits a × Fits b
-    Fits (either a b) = Fits a × Fits b
-    Fits (unary op a) = Fits a
-    Fits (binary op a b) = Fits a × Fits b
-    Fits (call f ts) = FitsFunction ans w f × FitEach ts
-    Fits (get_attribute a k) = Fits a
-    Fits (has_attribute a k) = Fits a
-    Fits (extended_has a k ks) = Fits a
-    Fits (like a p) = Fits a
-    Fits (is_of_type a t) = Fits a
-    Fits (set_of ts) = FitEach ts
-    Fits (record_of fs) = FitEachAt fs
+  abbrev pub Fits : Term → Type 0
+  Fits t = HoldsThroughout (HasType w) (FitsFunction ans w) t
 
-    pub FitEach : Terms → Type 0
-    FitEach no_terms = Unit {0}
-    FitEach (one_term t ts) = Fits t × FitEach ts
+  abbrev pub FitEach : Terms → Type 0
+  FitEach ts = HoldsOfEach (HasType w) (FitsFunction ans w) ts
 
-    pub FitEachAt : Fields → Type 0
-    FitEachAt no_fields = Unit {0}
-    FitEachAt (one_field k t fs) = Fits t × FitEachAt fs
+  abbrev pub FitEachAt : Fields → Type 0
+  FitEachAt fs = HoldsOfEachAt (HasType w) (FitsFunction ans w) fs
 
 -- the function answers no unknown
 abbrev pub NeverAsks : Functions → Text → Type 0
@@ -113,33 +125,14 @@ NeverAsks ans f = (vs : List AbstractValue) (n : Text) (t : Option ValueType) �
 
 module _ (ans : Functions) where
   -- the expression has no unknown and calls no function that can answer one
-  abbrev mutual
-    pub IsKnown : Term → Type 0
-    IsKnown (literal l) = Unit {0}
-    IsKnown (variable v) = Unit {0}
-    IsKnown (slot s) = Unit {0}
-    IsKnown (unknown n t) = ⊥
-    IsKnown (if_then_else c a b) = IsKnown c × IsKnown a × IsKnown b
-    IsKnown (both a b) = IsKnown a × IsKnown b
-    IsKnown (either a b) = IsKnown a × IsKnown b
-    IsKnown (unary op a) = IsKnown a
-    IsKnown (binary op a b) = IsKnown a × IsKnown b
-    IsKnown (call f ts) = NeverAsks ans f × AreKnown ts
-    IsKnown (get_attribute a k) = IsKnown a
-    IsKnown (has_attribute a k) = IsKnown a
-    IsKnown (extended_has a k ks) = IsKnown a
-    IsKnown (like a p) = IsKnown a
-    IsKnown (is_of_type a t) = IsKnown a
-    IsKnown (set_of ts) = AreKnown ts
-    IsKnown (record_of fs) = AreKnownAt fs
+  abbrev pub IsKnown : Term → Type 0
+  IsKnown t = HoldsThroughout (λ n o. ⊥) (NeverAsks ans) t
 
-    pub AreKnown : Terms → Type 0
-    AreKnown no_terms = Unit {0}
-    AreKnown (one_term t ts) = IsKnown t × AreKnown ts
+  abbrev pub AreKnown : Terms → Type 0
+  AreKnown ts = HoldsOfEach (λ n o. ⊥) (NeverAsks ans) ts
 
-    pub AreKnownAt : Fields → Type 0
-    AreKnownAt no_fields = Unit {0}
-    AreKnownAt (one_field k t fs) = IsKnown t × AreKnownAt fs
+  abbrev pub AreKnownAt : Fields → Type 0
+  AreKnownAt fs = HoldsOfEachAt (λ n o. ⊥) (NeverAsks ans) fs
 
 -- ---- faithful values
 

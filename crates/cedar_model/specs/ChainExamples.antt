@@ -202,8 +202,8 @@ empty_store = record { entity = λ e. None; is_partial = false }
 abbrev pub no_map : Mapping
 no_map n = None
 
-abbrev pub setting_of : RequestPart → Setting
-setting_of r =
+abbrev pub request_setting : RequestPart → Setting
+request_setting r =
     record {
       request = r;
       store = empty_store;
@@ -394,9 +394,9 @@ erring_rows o =
 -- decision is Deny for it. The errors are recorded either way, and a permit that errs permits in neither
 abbrev pub ErringForbid : Type 0
 ErringForbid =
-    (error : Failure) × RunOf skip (setting_of known_request) some_calls 9 erring_policies
+    (error : Failure) × RunOf skip (request_setting known_request) some_calls 9 erring_policies
     (erring_rows (reported_false true)) ((codes "2", error) ∷ (codes "3", error) ∷ [])
-    × RunOf forbid_on_error (setting_of known_request) some_calls 9 erring_policies
+    × RunOf forbid_on_error (request_setting known_request) some_calls 9 erring_policies
     (erring_rows reported_true) ((codes "2", error) ∷ (codes "3", error) ∷ [])
     × (concrete_decision skip (erring_rows (reported_false true)) ≡ allow)
     × (ids (concrete_reasons skip (erring_rows (reported_false true))) ≡ codes "1" ∷ [])

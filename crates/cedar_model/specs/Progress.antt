@@ -1,15 +1,14 @@
 -- Progress: a step whose map names every unknown leaves no residual.
 use Rattle.std.specs.Prelude.{◌≡◌, ℕ, true, false, List, [], ◌∷◌, Some, is_some, codes}
-use Rattle.cedar_model.specs.Terms.{Text, Term, literal, variable, slot, unknown, if_then_else, both, either, unary}
-use Rattle.cedar_model.specs.Terms.{binary, call, get_attribute, has_attribute, extended_has, like, is_of_type}
-use Rattle.cedar_model.specs.Terms.{set_of, record_of, Terms, no_terms, one_term, Fields, no_fields, one_field}
+use Rattle.cedar_model.specs.Terms.{Text, Term, Terms, Fields}
 use Rattle.cedar_model.specs.Values.{Represented, expression_of}
 use Rattle.cedar_model.specs.World.{World, Extensions, Functions}
 use Rattle.cedar_model.specs.Settings.{Entry, known_entry, unknown_entry, ContextPart, absent_context, known_context}
 use Rattle.cedar_model.specs.Settings.{residual_context, Store, Resolution, shallow, deep}
 use Rattle.cedar_model.specs.Failures.{PartialValue, value, residual}
 use Rattle.cedar_model.specs.Rules.{StoredCalls}
-use Rattle.cedar_model.specs.Agreement.{NeverAsks, IsKnown, AgreesWithFunctions, EachStored, IsValue}
+use Rattle.cedar_model.specs.Agreement.{HoldsThroughout, HoldsOfEach, HoldsOfEachAt, NeverAsks, IsKnown}
+use Rattle.cedar_model.specs.Agreement.{AgreesWithFunctions, EachStored, IsValue}
 use Rattle.cedar_model.specs.Policies.{Policy, ErrorHandling}
 use Rattle.cedar_model.specs.Configurations.{configured}
 use Rattle.cedar_model.specs.Restricted.{IsSound, IsSoundContext}
@@ -20,33 +19,14 @@ use Rattle.cedar_model.specs.ReportLaws.{AreDecidedAs}
 
 module _ (ans : Functions) (m : Mapping) where
   -- the map names each unknown of the expression, and no function that is called in it can answer one
-  abbrev mutual
-    pub IsNamed : Term → Type 0
-    IsNamed (literal l) = Unit {0}
-    IsNamed (variable v) = Unit {0}
-    IsNamed (slot i) = Unit {0}
-    IsNamed (unknown n t) = is_some (m n) ≡ true
-    IsNamed (if_then_else c a b) = IsNamed c × IsNamed a × IsNamed b
-    IsNamed (both a b) = IsNamed a × IsNamed b
-    IsNamed (either a b) = IsNamed a × IsNamed b
-    IsNamed (unary op a) = IsNamed a
-    IsNamed (binary op a b) = IsNamed a × IsNamed b
-    IsNamed (call f ts) = NeverAsks ans f × AreNamed ts
-    IsNamed (get_attribute a k) = IsNamed a
-    IsNamed (has_attribute a k) = IsNamed a
-    IsNamed (extended_has a k ks) = IsNamed a
-    IsNamed (like a p) = IsNamed a
-    IsNamed (is_of_type a t) = IsNamed a
-    IsNamed (set_of ts) = AreNamed ts
-    IsNamed (record_of fs) = AreNamedAt fs
+  abbrev pub IsNamed : Term → Type 0
+  IsNamed t = HoldsThroughout (λ n o. is_some (m n) ≡ true) (NeverAsks ans) t
 
-    pub AreNamed : Terms → Type 0
-    AreNamed no_terms = Unit {0}
-    AreNamed (one_term t ts) = IsNamed t × AreNamed ts
+  abbrev pub AreNamed : Terms → Type 0
+  AreNamed ts = HoldsOfEach (λ n o. is_some (m n) ≡ true) (NeverAsks ans) ts
 
-    pub AreNamedAt : Fields → Type 0
-    AreNamedAt no_fields = Unit {0}
-    AreNamedAt (one_field k t fs) = IsNamed t × AreNamedAt fs
+  abbrev pub AreNamedAt : Fields → Type 0
+  AreNamedAt fs = HoldsOfEachAt (λ n o. is_some (m n) ≡ true) (NeverAsks ans) fs
 
   -- a stored part from which no residual is answered: a value; with deep resolution also a residual whose unknowns the
   -- map names, and that calls no function that can answer one

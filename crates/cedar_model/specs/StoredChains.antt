@@ -71,8 +71,8 @@ resource_map = names (codes "resource")
 abbrev pub with_resolution : Resolution → Configuration
 with_resolution r = resolving r (configured_in skip 9)
 
-abbrev pub step_in : Resolution → Mapping → ChainStep
-step_in r m = record { mapping = m; store = set_store; resolution = r }
+abbrev pub step_resolving : Resolution → Mapping → ChainStep
+step_resolving r m = record { mapping = m; store = set_store; resolution = r }
 
 -- ---- a step that reads a stored residual
 
@@ -123,12 +123,12 @@ IsCompleted request policies steps =
     × (reasons (judge_each some_extensions some_functions set_world policies) ≡ codes "1" ∷ [])
 
 abbrev pub DeepStepIsCompleted : Type 0
-DeepStepIsCompleted = IsCompleted asking one_reads (step_in deep principal_map ∷ [])
+DeepStepIsCompleted = IsCompleted asking one_reads (step_resolving deep principal_map ∷ [])
 
 -- ---- steps that differ
 
 abbrev pub steps_by : Resolution → Resolution → List ChainStep
-steps_by r q = step_in r principal_map ∷ step_in q resource_map ∷ []
+steps_by r q = step_resolving r principal_map ∷ step_resolving q resource_map ∷ []
 
 -- a shallow step by the principal leaves both policies residual. Then a deep step by the resource makes the permit true
 -- and the forbid false: Allow; a shallow one makes the permit true and leaves the forbid: nothing is decided

@@ -120,15 +120,6 @@ goes_on {ps} {qs} {ms} {cs} {ds} {fs} {after} c us es e f w = record {
     parts_on [] = refl
     parts_on (x ∷ xs) = ap (λ v. character x ∷ v) (parts_on xs)
 
-pub tries_again : {ps qs ms : List PatternPart} {cs ds fs : List ℕ} {after : Bool} (c : ℕ) (es : List ℕ) → after ≡ true → fs ≡ c ∷ es → matches qs ds ≡ false → IsWalk ps cs qs ds after ms fs → IsWalk ps cs ms es true ms es
-unfolding some_end matches
-tries_again {ps} {qs} {ms} {cs} {ds} {fs} {after} c es a e differs w = record {
-  same = w.same ∙ (λ i. differs i || (a i && later (matches ms) (e i))) ∙ some_end-split (matches ms) es;
-  seen = [];
-  more_is = refl;
-  from_is = refl;
-}
-
 pub ends : {ps qs ms : List PatternPart} {cs ds fs : List ℕ} {after : Bool} → qs ≡ [] → ds ≡ [] → IsWalk ps cs qs ds after ms fs → true ≡ matches ps cs
 unfolding some_end matches
 ends {ps} {qs} {ms} {cs} {ds} {fs} {after} e f w = sym (w.same ∙ (λ i. matches (e i) (f i) || (after && later (matches ms) fs)))
@@ -136,15 +127,6 @@ ends {ps} {qs} {ms} {cs} {ds} {fs} {after} e f w = sym (w.same ∙ (λ i. matche
 pub fails : {ps qs ms : List PatternPart} {cs ds fs : List ℕ} {after : Bool} → after ≡ false → matches qs ds ≡ false → IsWalk ps cs qs ds after ms fs → false ≡ matches ps cs
 unfolding some_end matches
 fails {ps} {qs} {ms} {cs} {ds} {fs} {after} a differs w = sym (w.same ∙ (λ i. differs i || (a i && later (matches ms) fs)))
-
-pub fails_at_end : {ps qs ms : List PatternPart} {cs ds fs : List ℕ} {after : Bool} → fs ≡ [] → matches qs ds ≡ false → IsWalk ps cs qs ds after ms fs → false ≡ matches ps cs
-unfolding some_end matches
-fails_at_end {ps} {qs} {ms} {cs} {ds} {fs} {after} e differs w =
-    sym (w.same ∙ (λ i. differs i || (after && later (matches ms) (e i))) ∙ never after)
-  where
-    never : (a : Bool) → (false || (a && false)) ≡ false
-    never true = refl
-    never false = refl
 
 -- a new wildcard makes the measure smaller: a parts are left, m followed the wildcard before, and r of t characters
 pub smaller : (a m r f t p : ℕ) → a + 1 ≤ m → r ≤ t → (a * (t + 1) + r) * (p + 1) + a < (m * (t + 1) + f) * (p + 1) + (a + 1)

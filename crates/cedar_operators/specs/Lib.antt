@@ -1,4 +1,3 @@
-pub mod Answers
 pub mod Operands
 pub mod Paths
 pub mod StoredResiduals

@@ -144,10 +144,6 @@ pub type_in_made : {all : List Token} {v : Variable} {i name k at j s t e f : �
 type_in_made h k o n_is p l at_is u_is (puts r) s_is w_is =
     rw (w_is, both_made u_is, s_is, n_is) (puts (of_type_in h k o p l (rw at_is at r)))
 
--- how many trees there are after one more
-pub one_put : {is : Tree → Type 0} {ts us : List Tree} → Puts is ts us → 1 ≤ length us
-one_put (puts h) = omega arith
-
 pub two_put : {is : Tree → Type 0} {p : Tree} {ts us vs : List Tree} → us ≡ p ∷ ts → Puts is us vs → 2 ≤ length vs
 two_put u_is (puts h) = rw u_is (omega arith)
 
@@ -174,24 +170,6 @@ pub plain_made : {all : List Token} {i close h e : ℕ} {p : Tree} {ts us : List
     negates (kind_at all i) ≡ Some false → e ≡ end_at all close → IsInBraces all (i + 1) close p → h ≡ height p →
     us ≡ p ∷ ts → PutsClause all i (close + 1) e h ts us
 plain_made k e_is b h_is u_is = rw (u_is, h_is, e_is) (puts_clause (clause k b))
-
-pub clause_made : {all : List Token} {i limit close h n e g : ℕ} {ts us vs ws : List Tree} →
-    HasReadClause all (i + 1) limit close h us → ((p : Tree) → us ≡ p ∷ [] → vs ≡ p ∷ ts) →
-    ((p : Tree) (ts : List Tree) → IsInBraces all (i + 1) close p → h ≡ height p → vs ≡ p ∷ ts →
-    PutsClause all i n e g ts ws) → PutsClause all i n e g ts ws
-clause_made {ts = ts} (has_read_clause {p = p} b le lt nested) app neg = neg p ts b refl (app p refl)
-
-pub clause_there : {all : List Token} {i limit close h : ℕ} {ts us vs : List Tree} →
-    HasReadClause all i limit close h us → ((p : Tree) → us ≡ p ∷ [] → vs ≡ p ∷ ts) → 1 ≤ length vs
-clause_there (has_read_clause {p = p} b le lt nested) app = one_there (app p refl)
-
-pub clause_within : {all : List Token} {i limit close h : ℕ} {us : List Tree} →
-    HasReadClause all i limit close h us → close < length all
-clause_within (has_read_clause b le lt nested) = lt
-
-pub clause_low : {all : List Token} {i limit close h : ℕ} {us : List Tree} →
-    HasReadClause all i limit close h us → h ≤ limit
-clause_low (has_read_clause b le lt nested) = le
 
 pub first_clause : {all : List Token} {i j s e h : ℕ} {ts us : List Tree} → PutsClause all i j e h ts us →
     s ≡ start_at all i → PutsClauses all i s j e h ts us

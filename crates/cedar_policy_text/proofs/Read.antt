@@ -109,11 +109,6 @@ not_empty (y ∷ xs) x e = absurd (omega (arith, ap length e))
 pub refused : {A B : Type 0} {ys : List A} (xs : List A) (x : A) → ys ≡ xs ++ x ∷ [] → ys ≡ [] → B
 refused xs x y_is e = absurd (not_empty xs x (sym y_is ∙ e))
 
-pub all_read : {text : List ℕ} {all : List Token} {limit i n : ℕ} {ps ts : List Policy} → kind_at all i ≡ kind.End →
-    i + 1 ≡ length all → IsTokens 0 text all → ArePolicies text all limit i n ps ts → AreRead text limit ps ts
-all_read {all = all} {i = i} {n = n} k last cut h =
-    record { tokens = all; behind = i; count = n; cut = cut; policies = h; ends = k; whole = last }
-
 pub made_whole : {permits : Bool} {id : PolicyID} {a : Annotations} {x : Four} {l : Loc} {q : Policy}
     (p : Policy) (e : Effect) (env : SlotValues) →
     policy_view p ≡ policy_of e id a (condition_parts x.principal x.action x.resource x.condition) env →

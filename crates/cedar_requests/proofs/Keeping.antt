@@ -18,12 +18,13 @@ use Rattle.cedar_model.specs.Failures.{PartialValue, answers, fails, out_of_memo
 use Rattle.cedar_model.specs.Settings.{known_entry, residual_context, Setting}
 use Rattle.cedar_model.specs.Settings.{shallow, found_in, context_value}
 use Rattle.cedar_model.specs.Rules.{StoredCalls, Meets}
-use Rattle.cedar_model.specs.Agreement.{outcome_value, HasType, Fits, FitEach, FitEachAt}
+use Rattle.cedar_model.specs.Agreement.{outcome_value, HasType, FitsFunction, FitEachAt}
 use Rattle.cedar_model.specs.Agreement.{no_slots}
 use Rattle.cedar_model.specs.Agreement.{IsCompletion, StandsFor}
 use Rattle.cedar_model.specs.Chains.{Mapping, substituted_at}
 use Rattle.cedar_model.proofs.Completions.{substituted_at_mean, substituted_at_fit}
 use Rattle.cedar_model.proofs.Soundness.{sound_stands, runs_sound}
+use Rattle.cedar_model.proofs.Throughout.{each_at_weaker}
 use Rattle.cedar_errors.specs.declared.evaluator.err.EvaluationError.{EvaluationError}
 use Rattle.cedar_restricted_evaluator.specs.Evaluations.{IsBare, IsAnswerWithin}
 use Rattle.cedar_requests.specs.declared.context.Context.{Context}
@@ -124,37 +125,10 @@ module _ (x : Extensions) (ans : Functions) (w : World) (s z : Stores) where
   same_type n None h = tt
   same_type n (Some t) h = h
 
-  mutual
-    same_fits : (t : Term) → is_restricted t ≡ true → Fits ans (with_store w s) t → Fits ans (with_store w z) t
-    same_fits (literal l) e h = tt
-    same_fits (variable v) e h = absurd (cc)
-    same_fits (slot i) e h = absurd (cc)
-    same_fits (unknown n t) e h = same_type n t h
-    same_fits (if_then_else c a b) e h = absurd (cc)
-    same_fits (both a b) e h = absurd (cc)
-    same_fits (either a b) e h = absurd (cc)
-    same_fits (unary op a) e h = absurd (cc)
-    same_fits (binary op a b) e h = absurd (cc)
-    same_fits (call f ts) e h = (λ vs n t g. same_type n t (h.0 vs n t g), same_fit_each ts e h.1)
-    same_fits (get_attribute a k) e h = absurd (cc)
-    same_fits (has_attribute a k) e h = absurd (cc)
-    same_fits (extended_has a k ks) e h = absurd (cc)
-    same_fits (like a p) e h = absurd (cc)
-    same_fits (is_of_type a t) e h = absurd (cc)
-    same_fits (set_of ts) e h = same_fit_each ts e h
-    same_fits (record_of fs) e h = same_fit_at fs e h
-
-    same_fit_each : (ts : Terms) → are_restricted ts ≡ true → FitEach ans (with_store w s) ts
-        → FitEach ans (with_store w z) ts
-    same_fit_each no_terms e h = tt
-    same_fit_each (one_term t ts) e h =
-        (same_fits t (first_of _ _ e) h.0, same_fit_each ts (second_of _ _ e) h.1)
-
-    same_fit_at : (fs : Fields) → are_restricted_at fs ≡ true → FitEachAt ans (with_store w s) fs
-        → FitEachAt ans (with_store w z) fs
-    same_fit_at no_fields e h = tt
-    same_fit_at (one_field k t fs) e h =
-        (same_fits t (first_of _ _ e) h.0, same_fit_at fs (second_of _ _ e) h.1)
+  same_fit_at : (fs : Fields) → FitEachAt ans (with_store w s) fs → FitEachAt ans (with_store w z) fs
+  same_fit_at =
+      each_at_weaker (HasType (with_store w s)) (HasType (with_store w z)) (FitsFunction ans (with_store w s))
+      (FitsFunction ans (with_store w z)) same_type (λ f h vs n t g. same_type n t (h vs n t g))
 
 -- ---- a setting that the world with nothing stored completes
 
@@ -228,7 +202,7 @@ module _ (x : Extensions) (ans : Functions) (w : World) where
     agrees =
         same_at x ans w w.store nothing_stored (residual_fields r) r.restricted
         ∙ fields_mean _ (h.1 ∙ ap outcome_value e);
-    fits = same_fit_at x ans w nothing_stored w.store (residual_fields r) r.restricted h.0;
+    fits = same_fit_at x ans w nothing_stored w.store (residual_fields r) h.0;
     faithful = tt;
   }
 
@@ -244,7 +218,7 @@ module _ (x : Extensions) (calls : StoredCalls) (n : ℕ) (m : Mapping) (old : R
   kept (Err e) h = λ ans w agree faithful done mapped. tt
   kept (Ok c) h = λ ans w agree faithful done mapped.
       let empty = with_store w nothing_stored in
-      let fits = same_fit_at x ans w w.store nothing_stored fs old.restricted done.fits in
+      let fits = same_fit_at x ans w w.store nothing_stored fs done.fits in
       let means = same_at x ans w nothing_stored w.store fs old.restricted ∙ done.agrees in
       let z = own x ans w fs in
       let completes = own_completes x ans w fs means fits in

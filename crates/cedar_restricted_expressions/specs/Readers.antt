@@ -5,7 +5,7 @@ use Rattle.std.specs.declared.alloc.Global.{Global}
 use Rattle.std.specs.declared.rc.RcStr.{RcStr}
 use Rattle.cedar_model.specs.Terms as model
 use Rattle.cedar_model.specs.Terms.{Text, EntityName, ValueType, Term, literal, bool_literal, long_literal}
-use Rattle.cedar_model.specs.Terms.{text_literal, entity_literal, unknown, call, set_of, record_of, Terms, Fields}
+use Rattle.cedar_model.specs.Terms.{text_literal, entity_literal, unknown, call, set_of, Terms}
 use Rattle.cedar_names.specs.declared.names.Name.{Name}
 use Rattle.cedar_names.specs.declared.types.Unknown as unknowns
 use Rattle.cedar_expressions.specs.declared.expr.Expr.{Expr}
@@ -62,10 +62,6 @@ unknown_in t = None
 abbrev pub elements_in : Term → Option Terms
 elements_in (set_of ts) = Some ts
 elements_in t = None
-
-abbrev pub fields_in : Term → Option Fields
-fields_in (record_of fs) = Some fs
-fields_in t = None
 
 -- the function's name and the arguments
 abbrev pub call_in : Term → Option (Text × Terms)

@@ -69,11 +69,6 @@ pub else_three : {all : List Token} {fs : List Frame} {ts : List Tree} {n l s e 
     }) j → 3 ≤ length ts
 else_three (part (behind_else w lt k d l f m) g below) = omega arith
 
-pub binary_one : (b : Binary) (s e : ℕ) (ts : List Tree) → 2 ≤ length ts → 1 ≤ length (made (what.Binary b) s e ts)
-binary_one b s e [] le = absurd (omega (arith, le))
-binary_one b s e (t ∷ []) le = absurd (omega (arith, le))
-binary_one b s e (t ∷ u ∷ ts) le = omega arith
-
 unary_one : (u : Unary) (s e : ℕ) (ts : List Tree) → 1 ≤ length ts → 1 ≤ length (made (what.Unary u) s e ts)
 unary_one u s e [] le = absurd (omega (arith, le))
 unary_one u s e (t ∷ ts) le = omega arith

@@ -24,12 +24,6 @@ unkeyed_push : (ys : List Expr) (x : Expr) (zs : List Part) →
 unkeyed_push [] x zs = refl
 unkeyed_push (y ∷ ys) x zs = ap (λ vs. unkeyed y ∷ vs) (unkeyed_push ys x zs)
 
--- one more expression was taken from the stack
-pub unkeyed_more : {all xs zs : List Part} {vs : List Expr} {x : Expr} (ys : List Expr) → all ≡ all_unkeyed ys ++ xs →
-    xs ≡ unkeyed x ∷ zs → vs ≡ ys ++ x ∷ [] → all ≡ all_unkeyed vs ++ zs
-unkeyed_more {all} {xs} {zs} {vs} {x} ys h popped pushed =
-    rw pushed (h ∙ ap (λ us. all_unkeyed ys ++ us) popped ∙ unkeyed_push ys x zs)
-
 keyed_push : (is : List ℕ) (fs : List (RcStr Global × Expr)) (i : ℕ) (key : RcStr Global) (x : Expr)
     (zs : List Part) → length is ≡ length fs →
     all_keyed is fs ++ (keyed i key x ∷ zs) ≡ all_keyed (is ++ i ∷ []) (fs ++ (key, x) ∷ []) ++ zs

@@ -39,13 +39,6 @@ refused_more in_pattern inside rest p within short so_far h n m r =
     let same : length inside - length rest + (p.len + n) ≡ length inside - length (drop p.len rest) + n = omega (arith, length-drop p.len rest) in
     subst (λ (k : ℕ). IsRefused in_pattern inside k m) same (so_far (p.len + n) m (later h r))
 
-no_piece_of : {in_pattern : Bool} {bs : List ℕ} {m : ℕ} → IsNoPiece in_pattern bs m → m ≤ length bs
-no_piece_of (unknown c bs h) = omega (arith, length-append (encode_utf8 c) bs)
-no_piece_of (alone h) = omega arith
-
-pub no_piece_within : (in_pattern : Bool) (bs : List ℕ) (m : ℕ) → IsNoPiece in_pattern bs m → m ≤ length bs
-no_piece_within in_pattern bs m h = no_piece_of h
-
 pub refusal : (in_pattern : Bool) (inside rest : List ℕ) (at m : ℕ) → RefusedSoFar in_pattern inside rest → IsNoPiece in_pattern rest m → IsRefusedThere in_pattern inside at (at + (length inside - length rest)) (at + (length inside - length rest) + m)
 refusal in_pattern inside rest at m so_far h =
     let here_it_is : IsRefused in_pattern inside (length inside - length rest + 0) m = so_far 0 m (here h) in

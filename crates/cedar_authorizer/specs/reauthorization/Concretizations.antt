@@ -17,11 +17,11 @@ use Rattle.cedar_authorizer.specs.declared.reauthorization.err.ConcretizationErr
 use Rattle.cedar_authorizer.specs.reauthorization.Errors.{answer_by}
 
 -- the fields of a record, if the value is one
-abbrev pub fields_in : Represented → Option RepresentedFields
-fields_in (plain_represented l) = None
-fields_in (set_represented vs) = None
-fields_in (record_represented fs) = Some fs
-fields_in (extension_represented t k f ts) = None
+abbrev pub fields_of_represented : Represented → Option RepresentedFields
+fields_of_represented (plain_represented l) = None
+fields_of_represented (set_represented vs) = None
+fields_of_represented (record_represented fs) = Some fs
+fields_of_represented (extension_represented t k f ts) = None
 
 -- ---- the parts in turn, as `concrete_request` has them
 

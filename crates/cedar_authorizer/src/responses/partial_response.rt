@@ -265,9 +265,9 @@ fn effect_entries<
     ensures falses { IfOk result (λ r. Keeps F.next_gives falses r.unsatisfied.entries) }
     ensures residuals { IfOk result (λ r. Keeps R.next_gives residuals r.residual.entries) }
 {
-    let satisfied = kept(alloc, trues)?;
-    let unsatisfied = kept(alloc, falses)?;
-    let residual = kept(alloc, residuals)?;
+    let satisfied = collected(alloc, trues)?;
+    let unsatisfied = collected(alloc, falses)?;
+    let residual = collected(alloc, residuals)?;
     Ok(EffectEntries {
         satisfied,
         unsatisfied,
@@ -276,7 +276,7 @@ fn effect_entries<
 }
 
 // What is kept of these pairs.
-fn kept<V: Drop, I: Iterator<Item = (PolicyID, V)> + Drop>(
+fn collected<V: Drop, I: Iterator<Item = (PolicyID, V)> + Drop>(
     alloc: Global,
     pairs: I,
 ) -> Result<IndexMap<PolicyID, V>, AllocError>

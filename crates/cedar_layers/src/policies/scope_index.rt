@@ -96,14 +96,14 @@ fn put(
 ) -> Result<(), AllocError>
     ensures { OnOk result (Extends groups.old.entries groups.new.entries (uid_name uid.now) at) }
 {
-    let mut group = taken(alloc, groups, uid);
+    let mut group = taken_out(alloc, groups, uid);
     group.push(at)?;
     groups.insert(uid.clone()?, group)?;
     Ok(())
 }
 
 // What stands under the uid, which is taken out.
-fn taken(alloc: Global, groups: &mut HashMap<EntityUID, Vec<usize>>, uid: &EntityUID) -> Vec<usize>
+fn taken_out(alloc: Global, groups: &mut HashMap<EntityUID, Vec<usize>>, uid: &EntityUID) -> Vec<usize>
     ensures items { result.items ≡ standing_under groups.old.entries (uid_name uid.now) }
     ensures others { (n : EntityName) → entity_eq n (uid_name uid.now) ≡ false →
         standing_under groups.new.entries n ≡ standing_under groups.old.entries n }
@@ -222,13 +222,13 @@ fn literal_entity(e: &Expr) -> Option<&EntityUID>
     ensures { IfSome result (λ u. literal_entity (view e.now) ≡ Some (uid_name u.now)) }
 {
     match e.expr_kind() {
-        ExprKind::Lit(value) => entity_in(value),
+        ExprKind::Lit(value) => entity_of_literal(value),
         _ => None,
     }
 }
 
 #[tactic(auto, unfolding(crate::specs::Scopes::literal_entity))]
-fn entity_in(value: &Literal) -> Option<&EntityUID>
+fn entity_of_literal(value: &Literal) -> Option<&EntityUID>
     ensures { IfSome result (λ u. literal_entity (literal (literal_view value.now)) ≡ Some (uid_name u.now)) }
 {
     match value {

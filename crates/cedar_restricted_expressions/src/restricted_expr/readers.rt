@@ -1,12 +1,13 @@
 //! The readers of restricted expressions.
 ghost use Rattle.std.specs.Prelude.{◌≡◌, option_copied, option_map};
 ghost use Rattle.std.specs.Rc.{rc_str_bytes};
+ghost use Rattle.cedar_model.specs.Rules.{fields_of_record};
 ghost use Rattle.cedar_names.specs.Names.{uid_name};
 ghost use Rattle.cedar_names.specs.Leaves.{type_view};
 ghost use Rattle.cedar_expressions.specs.View.{terms_view, fields_view};
 ghost use Rattle.cedar_expressions.specs.Nodes.{node_of, uid_at};
 ghost use Rattle.cedar_restricted_expressions.specs.Readers.{bool_in, long_in, text_in, entity_in, unknown_in};
-ghost use Rattle.cedar_restricted_expressions.specs.Readers.{elements_in, fields_in, call_in};
+ghost use Rattle.cedar_restricted_expressions.specs.Readers.{elements_in, call_in};
 ghost use Rattle.cedar_restricted_expressions.specs.Readers.{unknown_at, elements_at, pairs_at, call_at};
 
 use super::kinds::{RestrictedKind, kind_of};
@@ -110,9 +111,11 @@ impl<'a> BorrowedRestrictedExpr<'a> {
 
     /// The pairs of a key and a part of the record, in byte order of the keys, or `None` where the expression is no
     /// record.
+    #[tactic(auto, unfolding(cedar_model::specs::Rules::fields_of_record))]
     pub fn as_record_pairs(&self) -> Option<RecordPairs<'a>>
         ensures part { option_map pairs_left result ≡ pairs_at (node_of (borrowed_expr self.now)) }
-        ensures view { option_map (λ r. fields_view (pairs_left r)) result ≡ fields_in (borrowed_term self.now) }
+        ensures view { option_map (λ r. fields_view (pairs_left r)) result
+            ≡ fields_of_record (borrowed_term self.now) }
     {
         match kind_of(self.expr) {
             RestrictedKind::Literal(_) => None,
@@ -210,7 +213,8 @@ impl RestrictedExpr {
     /// record.
     pub fn as_record_pairs(&self) -> Option<RecordPairs<'_>>
         ensures part { option_map pairs_left result ≡ pairs_at (node_of (expr_in self.now)) }
-        ensures view { option_map (λ r. fields_view (pairs_left r)) result ≡ fields_in (restricted_term self.now) }
+        ensures view { option_map (λ r. fields_view (pairs_left r)) result
+            ≡ fields_of_record (restricted_term self.now) }
     {
         self.as_borrowed().as_record_pairs()
     }

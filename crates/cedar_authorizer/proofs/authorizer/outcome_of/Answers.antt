@@ -12,7 +12,7 @@ returns-in_ok-new-in-Ok-Right-clause-place g c = left_there _ _ c.in-Ok-Right.re
 
 pub returns-in-Err-clause-outcome : goal.returns-in-Err-clause-outcome
 returns-in-Err-clause-outcome g c =
-    failed_out _ c.in-Err.error c.failed.result c.in-Err.ensures.decides c.failed.ensures.memory c.failed.ensures.outcome
+    failed_out _ c.in-Err.error c.failed_outcome.result c.in-Err.ensures.decides c.failed_outcome.ensures.memory c.failed_outcome.ensures.outcome
 
 pub returns-in-Err-clause-place : goal.returns-in-Err-clause-place
-returns-in-Err-clause-place g c = c.failed.ensures.place _
+returns-in-Err-clause-place g c = c.failed_outcome.ensures.place _

@@ -12,7 +12,7 @@ ghost use Rattle.std.specs.declared.rc.Rc.{Rc};
 ghost use Rattle.cedar_requests.specs.Requests.{context_given};
 ghost use Rattle.cedar_requests.specs.Substitutions.{values_for};
 ghost use Rattle.cedar_authorizer.specs.reauthorization.Errors.{answer_by, IsBelowLimit, IsUnwrappedRefusal};
-ghost use Rattle.cedar_authorizer.specs.reauthorization.Concretizations.{fields_in, IsResidualNoHigher};
+ghost use Rattle.cedar_authorizer.specs.reauthorization.Concretizations.{fields_of_represented, IsResidualNoHigher};
 
 use super::refusals::{is_there_already, value_is_wrong};
 use super::value_for;
@@ -83,7 +83,7 @@ fn context_of(alloc: Global, pairs: &BTreeMap<RcStr, Value>) -> Result<Context, 
 // The values of the record, if the value is one.
 fn record_in(value: &Value) -> Option<&Rc<BTreeMap<RcStr, Value>>>
     ensures { option_map (λ (m : Rc ValueMap Global). whats_at m.value.entries) (option_copied result)
-        ≡ fields_in value.now.what }
+        ≡ fields_of_represented value.now.what }
 {
     match value.value_kind() {
         ValueKind::Record(pairs) => Some(pairs),

@@ -209,12 +209,12 @@ fn add_error(
     ensures error { OnOk result (errors_view errors.new.items
         ≡ errors_view errors.old.items ++ ((policy_id_text id, residual_is_left (view residual.now)) ∷ [])) }
 {
-    let error = non_value(id, residual)?;
+    let error = residual_error(id, residual)?;
     add_last(errors, error)
 }
 
 // The error that a residual is left, at the residual's location.
-fn non_value(id: PolicyID, residual: &Expr) -> Result<AuthorizationError, AllocError>
+fn residual_error(id: PolicyID, residual: &Expr) -> Result<AuthorizationError, AllocError>
     ensures place { IfOk result (λ e. error_place e ≡ expr_loc residual.now) }
     ensures error { IfOk result (λ e. error_view e ≡ (policy_id_text id, residual_is_left (view residual.now))) }
 {

@@ -222,18 +222,18 @@ impl PartialResponse {
     {
         ReportedPolicies {
             alloc: *self.satisfied_permits.allocator(),
-            true_permits: walked(kinds.true_permits, &self.satisfied_permits),
-            false_permits: walked(kinds.false_permits, &self.false_permits),
-            residual_permits: walked(kinds.residual_permits, &self.residual_permits),
-            true_forbids: walked(kinds.true_forbids, &self.satisfied_forbids),
-            false_forbids: walked(kinds.false_forbids, &self.false_forbids),
-            residual_forbids: walked(kinds.residual_forbids, &self.residual_forbids),
+            true_permits: entries_if(kinds.true_permits, &self.satisfied_permits),
+            false_permits: entries_if(kinds.false_permits, &self.false_permits),
+            residual_permits: entries_if(kinds.residual_permits, &self.residual_permits),
+            true_forbids: entries_if(kinds.true_forbids, &self.satisfied_forbids),
+            false_forbids: entries_if(kinds.false_forbids, &self.false_forbids),
+            residual_forbids: entries_if(kinds.residual_forbids, &self.residual_forbids),
         }
     }
 }
 
 // The entries, or none.
-fn walked<'a, V>(is_walked: bool, entries: &'a IndexMap<PolicyID, V>) -> Iter<'a, PolicyID, V>
+fn entries_if<'a, V>(is_walked: bool, entries: &'a IndexMap<PolicyID, V>) -> Iter<'a, PolicyID, V>
     ensures { result ≡ cond is_walked entries.now.entries [] }
 {
     if is_walked {

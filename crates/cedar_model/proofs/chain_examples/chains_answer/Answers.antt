@@ -41,7 +41,7 @@ returns-clause-ends_at_limit c = (
   record {
     mode_is = refl;
     request_is = refl;
-    runs = run_to skip (without_map (ChainExamples.setting_of ChainExamples.known_request)) 0
+    runs = run_to skip (without_map (ChainExamples.request_setting ChainExamples.known_request)) 0
         (ChainExamples.policy (codes "1") permit truth ∷ []) (refl, tt);
   },
   refl,
@@ -55,9 +55,9 @@ pub returns-clause-erring_forbid : goal.returns-clause-erring_forbid
 unfolding chain_opened finds_none is_memory
 returns-clause-erring_forbid c = (
   _,
-  run_to skip (ChainExamples.setting_of ChainExamples.known_request) 9 ChainExamples.erring_policies
+  run_to skip (ChainExamples.request_setting ChainExamples.known_request) 9 ChainExamples.erring_policies
       (refl, (refl, (refl, tt))),
-  run_to forbid_on_error (ChainExamples.setting_of ChainExamples.known_request) 9 ChainExamples.erring_policies
+  run_to forbid_on_error (ChainExamples.request_setting ChainExamples.known_request) 9 ChainExamples.erring_policies
       (refl, (refl, (refl, tt))),
   refl,
   refl,

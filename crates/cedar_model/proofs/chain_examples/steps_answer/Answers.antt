@@ -21,7 +21,7 @@ returns-clause-context_error c = (
   _,
   (
     _,
-    runs_to (ChainExamples.setting_of ChainExamples.with_call) 9
+    runs_to (ChainExamples.request_setting ChainExamples.with_call) 9
         (record_of (substituted_at (ChainExamples.map_of ((codes "x", ChainExamples.a_number 4) ∷ []))
         (fields_of ((codes "n", call (codes "nosuch") (terms_of (x ∷ []))) ∷ [])))) _ refl,
     refl,
@@ -35,7 +35,7 @@ returns-clause-context_limit c = (
   _,
   (
     _,
-    runs_to (ChainExamples.setting_of ChainExamples.with_call) 2
+    runs_to (ChainExamples.request_setting ChainExamples.with_call) 2
         (record_of (substituted_at (ChainExamples.map_of ((codes "x", ChainExamples.a_number 4) ∷ []))
         (fields_of ((codes "n", call (codes "nosuch") (terms_of (x ∷ []))) ∷ [])))) _ refl,
     refl,
@@ -49,7 +49,7 @@ returns-clause-old_request c = (
   _,
   (
     _,
-    runs_to (ChainExamples.setting_of ChainExamples.with_principal) 9
+    runs_to (ChainExamples.request_setting ChainExamples.with_principal) 9
         (record_of (substituted_at ChainExamples.no_map (fields_of ((codes "p", variable principal) ∷ [])))) _ refl,
     refl,
   ),

@@ -7,6 +7,6 @@ use Rattle.cedar_interpreter.proofs.direct_evaluators.EvaluatorAbove.attribute_o
 pub returns-in-Some : goal.returns-in-Some
 returns-in-Some g c r k speaks low =
     let s = evaluation_setting r c.args.within.now in
-    attribute_direct s (calls_in c.args.within.now) k (view c.args.expr.now) c.in-Some.value.what (rc_str_bytes c.args.attr.now) c.value_in.result
+    attribute_direct s (calls_in c.args.within.now) k (view c.args.expr.now) c.in-Some.value.what (rc_str_bytes c.args.attr.now) c.answered_value.result
     (c.in-Some.ensures r k speaks low)
-    (value_found c.attribute_of.result c.value_in.result _ c.value_in.ensures (c.attribute_of.ensures s))
+    (value_found c.attribute_of.result c.answered_value.result _ c.answered_value.ensures (c.attribute_of.ensures s))

@@ -10,7 +10,7 @@ use Rattle.cedar_interpreter.proofs.direct_evaluators.EvaluatorAbove.binary.Goal
 pub returns-in-Some-evaluate : goal.returns-in-Some-evaluate
 returns-in-Some-evaluate g c r k speaks low =
     let s = evaluation_setting r c.args.within.now in
-    operands_direct s (calls_in c.args.within.now) k (binary_view c.args.op) (view c.args.left.now) (view c.args.right.now) c.in-Some.left.what c.in-Some-evaluate.right.what c.applied.result
+    operands_direct s (calls_in c.args.within.now) k (binary_view c.args.op) (view c.args.left.now) (view c.args.right.now) c.in-Some.left.what c.in-Some-evaluate.right.what c.operator_on_values.result
     (c.in-Some.ensures r k speaks low) (c.in-Some-evaluate.ensures r k speaks low)
-    (subst (λ b. IfSome c.applied.result (λ v. answers_value v.what ≡ b)) (values_alike s (binary_view c.args.op) c.in-Some.left.what c.in-Some-evaluate.right.what)
-    (c.applied.ensures s))
+    (subst (λ b. IfSome c.operator_on_values.result (λ v. answers_value v.what ≡ b)) (values_alike s (binary_view c.args.op) c.in-Some.left.what c.in-Some-evaluate.right.what)
+    (c.operator_on_values.ensures s))

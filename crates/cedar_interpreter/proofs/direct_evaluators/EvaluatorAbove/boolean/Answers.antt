@@ -5,4 +5,4 @@ use Rattle.cedar_interpreter.proofs.direct_evaluators.EvaluatorAbove.boolean.Goa
 
 pub returns : goal.returns
 returns g c r k speaks low =
-    bool_direct (evaluation_setting r c.args.within.now) (calls_in c.args.within.now) k (view c.args.e.now) c.evaluate.result c.bool_value.result (c.evaluate.ensures r k speaks low) c.bool_value.ensures
+    bool_direct (evaluation_setting r c.args.within.now) (calls_in c.args.within.now) k (view c.args.e.now) c.evaluate.result c.boolean_of.result (c.evaluate.ensures r k speaks low) c.boolean_of.ensures

@@ -11,6 +11,6 @@ use Rattle.cedar_interpreter.proofs.direct_evaluators.EvaluatorAbove.like.Goals 
 pub returns-in-Some : goal.returns-in-Some
 returns-in-Some g c r k speaks low =
     let s = evaluation_setting r c.args.within.now in
-    part_direct s (calls_in c.args.within.now) k (like (view c.args.expr.now) (pattern_view c.args.pattern.now)) (view c.args.expr.now) (on_part (like_answer (pattern_view c.args.pattern.now)) (λ q. like q (pattern_view c.args.pattern.now))) c.in-Some.value.what c.value_in.result (λ x a runs is. (x, runs, is))
+    part_direct s (calls_in c.args.within.now) k (like (view c.args.expr.now) (pattern_view c.args.pattern.now)) (view c.args.expr.now) (on_part (like_answer (pattern_view c.args.pattern.now)) (λ q. like q (pattern_view c.args.pattern.now))) c.in-Some.value.what c.answered_value.result (λ x a runs is. (x, runs, is))
     (c.in-Some.ensures r k speaks low)
-    (value_found c.like_of_part.result c.value_in.result _ c.value_in.ensures (c.like_of_part.ensures))
+    (value_found c.like_of_part.result c.answered_value.result _ c.answered_value.ensures (c.like_of_part.ensures))

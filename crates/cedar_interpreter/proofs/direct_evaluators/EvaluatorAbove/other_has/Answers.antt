@@ -13,6 +13,6 @@ use Rattle.cedar_interpreter.proofs.direct_evaluators.EvaluatorAbove.other_has.G
 pub returns-in-Some : goal.returns-in-Some
 returns-in-Some g c r k speaks low =
     let s = evaluation_setting r c.args.within.now in
-    part_direct s (calls_in c.args.within.now) k (has_attribute (view c.args.expr.now) (rc_str_bytes c.args.attr.now)) (view c.args.expr.now) (has_part s (rc_str_bytes c.args.attr.now)) c.in-Some.value.what c.value_in.result (λ x a runs is. (x, runs, is))
+    part_direct s (calls_in c.args.within.now) k (has_attribute (view c.args.expr.now) (rc_str_bytes c.args.attr.now)) (view c.args.expr.now) (has_part s (rc_str_bytes c.args.attr.now)) c.in-Some.value.what c.answered_value.result (λ x a runs is. (x, runs, is))
     (c.in-Some.ensures r k speaks low)
-    (subst (λ b. IfSome c.value_in.result (λ v. answers_value v.what ≡ b)) (tested_alike s (rc_str_bytes c.args.attr.now) (value c.in-Some.value.what)) (value_found c.has_of_part.result c.value_in.result _ c.value_in.ensures (c.has_of_part.ensures s)))
+    (subst (λ b. IfSome c.answered_value.result (λ v. answers_value v.what ≡ b)) (tested_alike s (rc_str_bytes c.args.attr.now) (value c.in-Some.value.what)) (value_found c.has_of_part.result c.answered_value.result _ c.answered_value.ensures (c.has_of_part.ensures s)))

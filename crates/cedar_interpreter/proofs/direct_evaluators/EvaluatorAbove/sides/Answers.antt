@@ -11,15 +11,15 @@ returns-then-is_decided_by g c r k speaks low =
     let s = evaluation_setting r c.args.within.now in
     let calls = calls_in c.args.within.now in
     let is : c.in-Some.b ≡ deciding c.args.connective = c.is_decided_by.ensures.decided c.if-is_decided_by.true in
-    left_direct s calls k (view c.args.left.now) (view c.args.right.now) c.args.connective c.value_of.result
+    left_direct s calls k (view c.args.left.now) (view c.args.right.now) c.args.connective c.boolean_as_value.result
     (subst (IsDirectBool s calls k (view c.args.left.now)) (c.in-Some.is ∙ ap Some is) (c.boolean.ensures r k speaks low))
-    (subst (λ b. IsValueOf (Some b) c.value_of.result) is c.value_of.ensures)
+    (subst (λ b. IsValueOf (Some b) c.boolean_as_value.result) is c.boolean_as_value.ensures)
 
 pub returns-else-is_decided_by : goal.returns-else-is_decided_by
 returns-else-is_decided_by g c r k speaks low =
     let s = evaluation_setting r c.args.within.now in
     let calls = calls_in c.args.within.now in
     let is : c.in-Some.b ≡ neutral c.args.connective = c.is_decided_by.ensures.undecided c.if-is_decided_by.false in
-    right_direct s calls k (view c.args.left.now) (view c.args.right.now) c.args.connective c.boolean-else-is_decided_by.result c.value_of-else-is_decided_by.result
+    right_direct s calls k (view c.args.left.now) (view c.args.right.now) c.args.connective c.boolean-else-is_decided_by.result c.boolean_as_value-else-is_decided_by.result
     (subst (IsDirectBool s calls k (view c.args.left.now)) (c.in-Some.is ∙ ap Some is) (c.boolean.ensures r k speaks low))
-    (c.boolean-else-is_decided_by.ensures r k speaks low) c.value_of-else-is_decided_by.ensures
+    (c.boolean-else-is_decided_by.ensures r k speaks low) c.boolean_as_value-else-is_decided_by.ensures

@@ -11,6 +11,6 @@ use Rattle.cedar_interpreter.proofs.direct_evaluators.EvaluatorAbove.unary.Goals
 pub returns-in-Some : goal.returns-in-Some
 returns-in-Some g c r k speaks low =
     let s = evaluation_setting r c.args.within.now in
-    part_direct s (calls_in c.args.within.now) k (unary (unary_view c.args.op) (view c.args.arg.now)) (view c.args.arg.now) (on_part (unary_answer (unary_view c.args.op)) (unary (unary_view c.args.op))) c.in-Some.value.what c.value_in.result (λ x a runs is. (x, runs, is))
+    part_direct s (calls_in c.args.within.now) k (unary (unary_view c.args.op) (view c.args.arg.now)) (view c.args.arg.now) (on_part (unary_answer (unary_view c.args.op)) (unary (unary_view c.args.op))) c.in-Some.value.what c.answered_value.result (λ x a runs is. (x, runs, is))
     (c.in-Some.ensures r k speaks low)
-    (value_found c.unary_of_part.result c.value_in.result _ c.value_in.ensures (c.unary_of_part.ensures))
+    (value_found c.unary_of_part.result c.answered_value.result _ c.answered_value.ensures (c.unary_of_part.ensures))

@@ -11,10 +11,10 @@ pub returns-clause-leads : goal.returns-clause-leads
 returns-clause-leads g c levels =
     let stored = c.args.self.now.given.now.extensions.now in
     let x = c.answered.result in
-    parts_lead_in c.args.self.now levels c.args.whole c.args.frame c.args.value.value x c.taken.result
+    parts_lead_in c.args.self.now levels c.args.whole c.args.frame c.args.value.value x c.next_of_parts.result
     (subst (λ f. restricted.ContinuesParts (extensions_view stored) (calls_of stored) f (Ok c.args.value.value) x) c.into_inner-parts.ensures
     (subst (λ p. restricted.ContinuesParts (extensions_view stored) (calls_of stored) c.into_inner-parts.result (Ok p) x) c.into_inner-part.ensures c.answered.ensures.goes_on))
-    c.taken.ensures.taken
+    c.next_of_parts.ensures.taken
 
 pub returns-clause-elements : goal.returns-clause-elements
 returns-clause-elements g c es d waits stands =
@@ -22,4 +22,4 @@ returns-clause-elements g c es d waits stands =
     let goes : SetGoesOn c.args.frame.value (Ok c.args.value.value) x =
     subst (λ f. SetGoesOn f (Ok c.args.value.value) x) c.into_inner-parts.ensures
     (subst (λ p. SetGoesOn c.into_inner-parts.result (Ok p) x) c.into_inner-part.ensures c.answered.ensures.elements) in
-    taken_stands es (expr_loc c.args.whole.value) x c.taken.result (goes es d waits stands) c.taken.ensures.taken c.taken.ensures.same
+    taken_stands es (expr_loc c.args.whole.value) x c.next_of_parts.result (goes es d waits stands) c.next_of_parts.ensures.taken c.next_of_parts.ensures.same

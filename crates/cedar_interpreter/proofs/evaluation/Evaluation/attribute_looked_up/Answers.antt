@@ -13,6 +13,6 @@ returns-in-Value g c r zero speaks low = absurd (omega (arith, low))
 returns-in-Value g c r (suc zero) speaks low = absurd (omega (arith, low))
 returns-in-Value g c r (suc (suc k)) speaks low =
     let s = evaluation_setting r c.args.self.now in
-    attribute_direct s (calls_in c.args.self.now) (suc k) (variable (variable_view c.args.var)) c.in-Value.value.what (rc_str_bytes c.args.attr.now) c.value_in.result
+    attribute_direct s (calls_in c.args.self.now) (suc k) (variable (variable_view c.args.var)) c.in-Value.value.what (rc_str_bytes c.args.attr.now) c.answered_value.result
     (sym (ap (λ p. answers (partial_view p)) c.in-Value.is) ∙ ap (λ p. answers (partial_view p)) c.given_for.ensures ∙ ap answers (speaks (variable_view c.args.var)))
-    (value_found c.attribute_of.result c.value_in.result _ c.value_in.ensures (c.attribute_of.ensures s))
+    (value_found c.attribute_of.result c.answered_value.result _ c.answered_value.ensures (c.attribute_of.ensures s))

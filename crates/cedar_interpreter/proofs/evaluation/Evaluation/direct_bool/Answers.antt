@@ -8,4 +8,4 @@ pub returns-then-is_tried : goal.returns-then-is_tried
 returns-then-is_tried g c r k speaks low =
     let enough = c.is_tried.ensures c.if-is_tried.true in
     let some : 5 ≤ k = omega (arith, enough, low) in
-    bool_direct (evaluation_setting r c.args.self.now) (calls_in c.args.self.now) k (view c.args.part.now) c.direct_value_unplaced.result c.bool_value.result (c.direct_value_unplaced.ensures r k speaks some) c.bool_value.ensures
+    bool_direct (evaluation_setting r c.args.self.now) (calls_in c.args.self.now) k (view c.args.part.now) c.direct_value_unplaced.result c.boolean_of.result (c.direct_value_unplaced.ensures r k speaks some) c.boolean_of.ensures

@@ -7,4 +7,4 @@ use Rattle.cedar_layers.proofs.policies.scope_index.literal_entity.Goals as goal
 
 pub returns-in-Lit : goal.returns-in-Lit
 returns-in-Lit c =
-    subst (λ t. IfSome c.entity_in.result (λ u. literal_entity t ≡ Some (uid_name u.now))) (sym (levels.kind_view-Lit _) ∙ sym (ap kind_view c.in-Lit.is) ∙ c.expr_kind.ensures.view) c.entity_in.ensures
+    subst (λ t. IfSome c.entity_of_literal.result (λ u. literal_entity t ≡ Some (uid_name u.now))) (sym (levels.kind_view-Lit _) ∙ sym (ap kind_view c.in-Lit.is) ∙ c.expr_kind.ensures.view) c.entity_of_literal.ensures

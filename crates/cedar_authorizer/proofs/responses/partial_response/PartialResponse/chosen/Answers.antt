@@ -7,12 +7,12 @@ use Rattle.cedar_authorizer.proofs.responses.partial_response.PartialResponse.ch
 pub returns-clause-rows : goal.returns-clause-rows
 returns-clause-rows c =
     let k = c.args.kinds in
-    (λ i. rows_in (six_rows (c.walked.ensures i) (c.walked-2.ensures i) (c.walked-3.ensures i) (c.walked-4.ensures i) (c.walked-5.ensures i) (c.walked-6.ensures i)))
+    (λ i. rows_in (six_rows (c.entries_if.ensures i) (c.entries_if-2.ensures i) (c.entries_if-3.ensures i) (c.entries_if-4.ensures i) (c.entries_if-5.ensures i) (c.entries_if-6.ensures i)))
     ∙ chosen_rows c.args.self.now k.true_permits k.false_permits k.residual_permits k.true_forbids k.false_forbids k.residual_forbids
 
 pub returns-clause-located : goal.returns-clause-located
 returns-clause-located c =
     let k = c.args.kinds in
     subst (λ ls. AreAmong ls (located_view c.args.self.now))
-    (sym (λ i. six_rows (c.walked.ensures i) (c.walked-2.ensures i) (c.walked-3.ensures i) (c.walked-4.ensures i) (c.walked-5.ensures i) (c.walked-6.ensures i)))
+    (sym (λ i. six_rows (c.entries_if.ensures i) (c.entries_if-2.ensures i) (c.entries_if-3.ensures i) (c.entries_if-4.ensures i) (c.entries_if-5.ensures i) (c.entries_if-6.ensures i)))
     (chosen_among c.args.self.now k.true_permits k.false_permits k.residual_permits k.true_forbids k.false_forbids k.residual_forbids)
