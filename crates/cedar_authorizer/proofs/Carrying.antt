@@ -1,15 +1,11 @@
 -- The policies that are carried on, one by one; and the first id that comes again.
-use Rattle.std.proofs.Common.{◌≡◌, if◌then◌else◌, List, [], ◌∷◌, ◌++◌, map, Option, Some, None, IfSome, Ok, Err, refl, ap}
+use Rattle.std.proofs.Common.{◌≡◌, if◌then◌else◌, List, [], ◌∷◌, ◌++◌, map, Some, None, IfSome, Ok, Err, refl, ap}
 use Rattle.std.proofs.Common.{◌∙◌, sym, subst, option_map, append_assoc}
-use Rattle.std.specs.List.{list_any}
-use Rattle.cedar_model.specs.Terms.{Text}
-use Rattle.cedar_model.specs.Outcomes.{text_eq}
 use Rattle.cedar_model.specs.Policies as model
 use Rattle.cedar_model.specs.Refusals as steps
 use Rattle.cedar_model.specs.Responses.{carried}
 use Rattle.cedar_layers.specs.declared.policies.policy.Policy.{Policy}
 use Rattle.cedar_layers.specs.Policies.{PolicyView, policy_view, decides_as, policy_ids, first_repeated}
-use Rattle.cedar_layers.specs.Policies.{first_repeated_after}
 use Rattle.cedar_layers.specs.declared.policies.policy_set.PolicySetError.{PolicySetError}
 use Rattle.cedar_layers.specs.declared.policies.policy_set.PolicySetError.TheVariants as sets
 use Rattle.cedar_layers.specs.PolicySets.{occupied_id}

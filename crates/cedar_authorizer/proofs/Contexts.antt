@@ -16,7 +16,7 @@ use Rattle.cedar_errors.specs.Failures.{failure_of}
 use Rattle.cedar_requests.specs.declared.context.Context.{Context}
 use Rattle.cedar_requests.specs.declared.context.pairs.ContextPairs.{ContextPairs}
 use Rattle.cedar_requests.specs.declared.context.pairs.ContextPairs.TheVariants as kinds
-use Rattle.cedar_requests.specs.Contexts.{context_view, context_part_value, pairs_view, pairs_values}
+use Rattle.cedar_requests.specs.Contexts.{context_view, context_part_value, context_pairs_view, pairs_values}
 use Rattle.cedar_requests.specs.Substitutions.{IsSubstituted}
 use Rattle.cedar_requests.proofs.Substituting.{residual_height}
 use Rattle.cedar_authorizer.specs.declared.reauthorization.err.ConcretizationError.{ConcretizationError}
@@ -48,8 +48,8 @@ by_record (record_represented gs) fs e = ap (λ x. Ok (known_context x)) (some_i
 by_record (extension_represented t k f ts) fs e = absurd (cc)
 
 -- beside a context that is there it is refused
-there_already : (v : Represented) (fs : RepresentedFields) (p : ContextPairs) → context_beside v fs (pairs_view p)
-    ≡ Err (is_there_already (codes "context") (context_value (pairs_view p)) v)
+there_already : (v : Represented) (fs : RepresentedFields) (p : ContextPairs) → context_beside v fs (context_pairs_view p)
+    ≡ Err (is_there_already (codes "context") (context_value (context_pairs_view p)) v)
 unfolding context_beside
 there_already v fs (kinds.Values m) = refl
 there_already v fs (kinds.Residual r) = refl
@@ -114,8 +114,8 @@ pub low_context : (m : Mapping) (n : ℕ) (c : Context) (e : EvaluationError)
 low_context m n c e same low h = by c.pairs same low h
   where
     by : (p : ContextPairs) → IfSome (pairs_values p) (λ v. Err e ≡ Ok c)
-        → (substituted_height m (context_value (pairs_view p)) ≤ n → failure_of e ≢ recursion_limit)
-        → IsResidualNoHigher m n (pairs_view p) → failure_of e ≢ recursion_limit
+        → (substituted_height m (context_value (context_pairs_view p)) ≤ n → failure_of e ≢ recursion_limit)
+        → IsResidualNoHigher m n (context_pairs_view p) → failure_of e ≢ recursion_limit
     by (kinds.Values v) same low h w = err_is_not_ok same
     by (kinds.Residual r) same low h w = low (subst (λ k. k ≤ n) (sym (residual_height m r)) h) w
 

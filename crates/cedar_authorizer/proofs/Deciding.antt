@@ -29,7 +29,7 @@ use Rattle.cedar_authorizer.specs.responses.Rows.{mode_of, located_view, rows_vi
 use Rattle.cedar_authorizer.proofs.Rows.{trues_permit, falses_permit, residuals_permit, trues_forbid, falses_forbid}
 use Rattle.cedar_authorizer.proofs.Rows.{residuals_forbid, chosen_rows}
 use Rattle.cedar_authorizer.specs.Responding.{IsKnownResponse, IsKnownRun, MeetsNoLimit, OwnWorldCompletesCall}
-use Rattle.cedar_authorizer.specs.Running.{errors_of, HoldsRows, IsRun, StandsInCompletions, IsDeepEnough, IsConcreteRun}
+use Rattle.cedar_authorizer.specs.Running.{errors_of, HoldsRows, IsRun, ResponseStands, IsDeepEnough, IsConcreteRun}
 use Rattle.cedar_authorizer.proofs.Low.{run_is_deep}
 use Rattle.cedar_authorizer.proofs.Runs.{run_known}
 
@@ -89,7 +89,7 @@ module _ (rows : List Row) (r : PartialResponse) (h : HoldsRows rows r) where
 -- ---- a run
 
 module _ (mode : ErrorHandling) (s : Setting) (calls : StoredCalls) (levels : ℕ) (ps : List Policy) where
-  pub run_stands : (r : PartialResponse) → IsRun (configured_by calls mode s levels) s ps r → StandsInCompletions (configured_by calls mode s levels) s ps r
+  pub run_stands : (r : PartialResponse) → IsRun (configured_by calls mode s levels) s ps r → ResponseStands (configured_by calls mode s levels) s ps r
   run_stands r is ans w c fit none = (
     is.rows,
     subst (IsReordering Row is.rows) (sym (rows_sorted is.rows r is.held)) (sorted_is is.rows),

@@ -21,12 +21,12 @@ use Rattle.cedar_layers.specs.declared.policies.policy.Policy.{Policy}
 use Rattle.cedar_layers.specs.declared.policies.policy.PolicyID.{PolicyID}
 use Rattle.cedar_layers.specs.Policies.{policy_id_text, annotations_view, policy_parts}
 use Rattle.cedar_authorizer.specs.declared.responses.partial_response.ErrorState.{ErrorState}
-use Rattle.cedar_authorizer.specs.responses.Found.{found_in}
+use Rattle.cedar_authorizer.specs.responses.Found.{as_found}
 use Rattle.cedar_authorizer.specs.responses.Kept.{is_same_id}
 use Rattle.cedar_authorizer.specs.responses.Rows.{TrueEntry, FalseEntry, ResidualEntry, Located, located, is_error}
 use Rattle.cedar_authorizer.specs.responses.Rows.{located_true, located_false, located_residual}
 use Rattle.cedar_authorizer.specs.responses.Rows.{true_rows, false_rows, residual_rows, rows_in, located_of}
-use Rattle.cedar_authorizer.specs.responses.Readers.{made_view, made, IsCarriedOn, IsFound, found_policy, first_at}
+use Rattle.cedar_authorizer.specs.responses.Readers.{made_view, made, IsCarriedOn, IsPolicyFound, found_policy, first_at}
 use Rattle.cedar_authorizer.specs.responses.Readers.{in_order_of_get, located_at}
 use Rattle.cedar_authorizer.proofs.Rows.{rows_of_located}
 
@@ -45,22 +45,22 @@ first_append id (x ∷ xs) ys = by (text_eq id x.row.id) _ (first_at id xs) (fir
     by true o a h = refl
     by false o a h = h
 
-or_found : (p : Policy) (a b : Option Located) → IsFound a (Some p) → IsFound (or_first a b) (Some p)
+or_found : (p : Policy) (a b : Option Located) → IsPolicyFound a (Some p) → IsPolicyFound (or_first a b) (Some p)
 or_found p (Some l) b h = h
 or_found p None b h = absurd h
 
-or_absent : (o : Option Policy) (a b : Option Located) → IsFound a None → IsFound b o → IsFound (or_first a b) o
+or_absent : (o : Option Policy) (a b : Option Located) → IsPolicyFound a None → IsPolicyFound b o → IsPolicyFound (or_first a b) o
 or_absent o (Some l) b h e = absurd h
 or_absent o None b h e = e
 
-found_by : (o : Option Policy) (a b : Option Located) → b ≡ a → IsFound a o → IsFound b o
-found_by o a b e h = let P : Option Located → Type 0 = λ x. IsFound x o in subst P (sym e) h
+found_by : (o : Option Policy) (a b : Option Located) → b ≡ a → IsPolicyFound a o → IsPolicyFound b o
+found_by o a b e h = let P : Option Located → Type 0 = λ x. IsPolicyFound x o in subst P (sym e) h
 
-pub found_before : (id : Text) (xs ys : List Located) (p : Policy) → IsFound (first_at id xs) (Some p) → IsFound (first_at id (xs ++ ys)) (Some p)
+pub found_before : (id : Text) (xs ys : List Located) (p : Policy) → IsPolicyFound (first_at id xs) (Some p) → IsPolicyFound (first_at id (xs ++ ys)) (Some p)
 found_before id xs ys p h =
     found_by (Some p) _ _ (first_append id xs ys) (or_found p (first_at id xs) (first_at id ys) h)
 
-pub found_after : (id : Text) (xs ys : List Located) (o : Option Policy) → IsFound (first_at id xs) None → IsFound (first_at id ys) o → IsFound (first_at id (xs ++ ys)) o
+pub found_after : (id : Text) (xs ys : List Located) (o : Option Policy) → IsPolicyFound (first_at id xs) None → IsPolicyFound (first_at id ys) o → IsPolicyFound (first_at id (xs ++ ys)) o
 found_after id xs ys o h e =
     found_by o _ _ (first_append id xs ys) (or_absent o (first_at id xs) (first_at id ys) h e)
 
@@ -84,11 +84,11 @@ module _ {V : Type 0} (effect : Effect) (n : V → List (Text × Text)) (o : V �
           ap (λ t. Some (row_at t e.1)) (sym ((bytes_eq-Decides (policy_id_text k) (policy_id_text e.0)).0 h))
       by false h a c g = g
 
-  pub looked_up : (es : List (PolicyID × V)) (k : PolicyID) (v : V) (p : Policy) → Some v ≡ lookup (is_same_id k) es → IsCarriedOn (row_at (policy_id_text k) v) p → IsFound (first_at (policy_id_text k) (rows_at es)) (Some p)
+  pub looked_up : (es : List (PolicyID × V)) (k : PolicyID) (v : V) (p : Policy) → Some v ≡ lookup (is_same_id k) es → IsCarriedOn (row_at (policy_id_text k) v) p → IsPolicyFound (first_at (policy_id_text k) (rows_at es)) (Some p)
   looked_up es k v p h made =
       found_by (Some p) (Some (row_at (policy_id_text k) v)) _ (first_lookup es k ∙ sym (ap (option_map (row_at (policy_id_text k))) h)) made
 
-  pub not_there : (es : List (PolicyID × V)) (k : PolicyID) → None ≡ lookup (is_same_id k) es → IsFound (first_at (policy_id_text k) (rows_at es)) None
+  pub not_there : (es : List (PolicyID × V)) (k : PolicyID) → None ≡ lookup (is_same_id k) es → IsPolicyFound (first_at (policy_id_text k) (rows_at es)) None
   not_there es k h =
       found_by None None _ (first_lookup es k ∙ sym (ap (option_map (row_at (policy_id_text k))) h)) tt
 
@@ -117,21 +117,21 @@ get_located id ls =
     ap (reports.policy_with_id id) ((λ i. order_rows permit ls i ++ order_rows forbid ls i) ∙ sym (rows_in_append (in_order_of_get permit ls) _))
     ∙ carried_first id (in_order_of_get permit ls ++ in_order_of_get forbid ls)
 
-found_decides : (o : Option Policy) (a : Option Located) → IsFound a o → found_policy o ≡ option_map (λ l. carried l.row) a
+found_decides : (o : Option Policy) (a : Option Located) → IsPolicyFound a o → found_policy o ≡ option_map (λ l. carried l.row) a
 found_decides (Some p) (Some l) h = ap (λ (x : model.Policy × Option Loc). Some x.0) h.policy
 found_decides (Some p) None h = absurd h
 found_decides None (Some l) h = absurd h
 found_decides None None h = refl
 
-pub got_policy : (o : Option Policy) (id : Text) (ls : List Located) → IsFound (located_at id ls) o → found_policy o ≡ reports.get id (rows_in ls)
+pub got_policy : (o : Option Policy) (id : Text) (ls : List Located) → IsPolicyFound (located_at id ls) o → found_policy o ≡ reports.get id (rows_in ls)
 got_policy o id ls h = found_decides o (located_at id ls) h ∙ sym (get_located id ls)
 
 -- ---- what is made, as what is found
 
-pub if_found : {A E : Type 0} (r : Result A E) (s : Result (Option A) E) (P : A → Type 0) (Q : Option A → Type 0) → s ≡ found_in r → IfOk r P → ((x : A) → P x → Q (Some x)) → IfOk s Q
+pub if_found : {A E : Type 0} (r : Result A E) (s : Result (Option A) E) (P : A → Type 0) (Q : Option A → Type 0) → s ≡ as_found r → IfOk r P → ((x : A) → P x → Q (Some x)) → IfOk s Q
 if_found {A = A} {E = E} r s P Q is h step = subst (λ y. IfOk y Q) (sym is) (on r h)
   where
-    on : (r : Result A E) → IfOk r P → IfOk (found_in r) Q
+    on : (r : Result A E) → IfOk r P → IfOk (as_found r) Q
     on (Ok x) h = step x h
     on (Err e) h = tt
 
@@ -165,27 +165,27 @@ module _ (effect : Effect) where
 
 module _ (effect : Effect) (k : PolicyID) where
   pub residual_there : (es : List ResidualEntry) (v : Rc Expr Global × Rc Annotations Global) (p : Policy) → Some v ≡ lookup (is_same_id k) es
-      → IsCarriedOn (located_residual effect (k, v)) p → IsFound (first_at (policy_id_text k) (residual_rows effect es)) (Some p)
+      → IsCarriedOn (located_residual effect (k, v)) p → IsPolicyFound (first_at (policy_id_text k) (residual_rows effect es)) (Some p)
   residual_there es v p h made =
       looked_up effect (λ w. annotations_view w.1.value) (λ w. reported_residual (view w.0.value)) (λ w. Some w.0.value) es k v p h made
 
-  pub residual_absent : (es : List ResidualEntry) → None ≡ lookup (is_same_id k) es → IsFound (first_at (policy_id_text k) (residual_rows effect es)) None
+  pub residual_absent : (es : List ResidualEntry) → None ≡ lookup (is_same_id k) es → IsPolicyFound (first_at (policy_id_text k) (residual_rows effect es)) None
   residual_absent es h =
       not_there effect (λ w. annotations_view w.1.value) (λ w. reported_residual (view w.0.value)) (λ w. Some w.0.value) es k h
 
   pub true_there : (es : List TrueEntry) (v : Rc Annotations Global) (p : Policy) → Some v ≡ lookup (is_same_id k) es
-      → IsCarriedOn (located_true effect (k, v)) p → IsFound (first_at (policy_id_text k) (true_rows effect es)) (Some p)
+      → IsCarriedOn (located_true effect (k, v)) p → IsPolicyFound (first_at (policy_id_text k) (true_rows effect es)) (Some p)
   true_there es v p h made =
       looked_up effect (λ w. annotations_view w.value) (λ w. reported_true) (λ w. None) es k v p h made
 
-  pub true_absent : (es : List TrueEntry) → None ≡ lookup (is_same_id k) es → IsFound (first_at (policy_id_text k) (true_rows effect es)) None
+  pub true_absent : (es : List TrueEntry) → None ≡ lookup (is_same_id k) es → IsPolicyFound (first_at (policy_id_text k) (true_rows effect es)) None
   true_absent es h = not_there effect (λ w. annotations_view w.value) (λ w. reported_true) (λ w. None) es k h
 
   pub false_there : (es : List FalseEntry) (v : ErrorState × Rc Annotations Global) (p : Policy) → Some v ≡ lookup (is_same_id k) es
-      → IsCarriedOn (located_false effect (k, v)) p → IsFound (first_at (policy_id_text k) (false_rows effect es)) (Some p)
+      → IsCarriedOn (located_false effect (k, v)) p → IsPolicyFound (first_at (policy_id_text k) (false_rows effect es)) (Some p)
   false_there es v p h made =
       looked_up effect (λ w. annotations_view w.1.value) (λ w. reported_false (is_error w.0)) (λ w. None) es k v p h made
 
-  pub false_absent : (es : List FalseEntry) → None ≡ lookup (is_same_id k) es → IsFound (first_at (policy_id_text k) (false_rows effect es)) None
+  pub false_absent : (es : List FalseEntry) → None ≡ lookup (is_same_id k) es → IsPolicyFound (first_at (policy_id_text k) (false_rows effect es)) None
   false_absent es h =
       not_there effect (λ w. annotations_view w.1.value) (λ w. reported_false (is_error w.0)) (λ w. None) es k h

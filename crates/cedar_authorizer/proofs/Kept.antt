@@ -1,5 +1,5 @@
 -- What an authorizer is given is sound: the types keep it.
-use Rattle.std.specs.Prelude.{◌≡◌, None, Some}
+use Rattle.std.specs.Prelude.{◌≡◌, Some}
 use Rattle.cedar_model.specs.Terms.{Text}
 use Rattle.cedar_model.specs.Values.{Represented}
 use Rattle.cedar_model.specs.Restricted.{IsSound, IsSoundContext, IsGivenSound}

@@ -1,5 +1,5 @@
 -- Runs that meet no recursion limit, since all that is given and each condition is low enough.
-use Rattle.std.specs.Prelude.{◌≡◌, ◌≢◌, ℕ, ◌+◌, ◌<◌, ◌≤◌, List, [], ◌∷◌, ◌++◌, map, codes, Option, Some, None, Result, Ok, Err}
+use Rattle.std.specs.Prelude.{◌≡◌, ◌≢◌, ℕ, ◌+◌, ◌<◌, ◌≤◌, List, [], ◌∷◌, ◌++◌, map, codes, Option, Some, None, Ok}
 use Rattle.std.proofs.Common.{refl, sym, ap, subst, arith}
 use Rattle.cedar_model.specs.Terms.{Text, Term, literal, variable, slot, unknown, if_then_else, both, either, unary, binary, call}
 use Rattle.cedar_model.specs.Terms.{get_attribute, has_attribute, extended_has, like, is_of_type, set_of, record_of}
@@ -25,7 +25,7 @@ use Rattle.cedar_model.proofs.Needs.{need_bounded}
 use Rattle.cedar_model.proofs.StepNeeds.{step_need_bounded}
 use Rattle.cedar_model.proofs.Stepping.{Taken, taken}
 use Rattle.cedar_model.proofs.Configured.{configured_by}
-use Rattle.cedar_model.proofs.Injections.{some_inj, ok_inj, err_is_not_ok, none_is_not_some}
+use Rattle.cedar_model.proofs.Injections.{ok_inj, err_is_not_ok, none_is_not_some}
 
 -- ---- errors of a run
 

@@ -1,5 +1,5 @@
 -- A sheet that is filled policy by policy, for the crate above.
-use Rattle.std.proofs.Common.{◌≡◌, true, false, List, [], ◌∷◌, ◌++◌, Option, refl}
+use Rattle.std.proofs.Common.{◌≡◌, false, List, [], ◌∷◌, ◌++◌, Option, refl}
 use Rattle.cedar_model.specs.Terms.{Text, Term}
 use Rattle.cedar_model.specs.Failures.{Failure}
 use Rattle.cedar_model.specs.Policies.{Effect, permit, forbid, ErrorHandling, skip, forbid_on_error}

@@ -8,7 +8,7 @@ use Rattle.cedar_model.specs.World.{Functions}
 use Rattle.cedar_model.specs.Failures.{Failure, value, residual, Answer, answers, fails, out_of_memory, limit}
 use Rattle.cedar_model.specs.Settings.{Setting}
 use Rattle.cedar_model.specs.Rules.{StoredCalls, Runs}
-use Rattle.cedar_model.specs.Agreement.{AgreesWithFunctions, HasNothingUnknown, IsKnown, Answers}
+use Rattle.cedar_model.specs.Agreement.{AgreesWithFunctions, HasNothingUnknown, IsKnown, AnswersOutcome}
 use Rattle.cedar_model.specs.Policies.{Policy, Effect, permit, forbid, ErrorHandling}
 use Rattle.cedar_model.specs.Responses.{Row, Reported, decided, decided_bool, reported_of, error_of, counted_report, with_slots, with_error, row_of, RunOf}
 use Rattle.cedar_model.specs.Chains.{has_effect, is_residual, rows_of}
@@ -44,7 +44,7 @@ bool_decided (Some true) v = refl
 bool_decided (Some false) v = refl
 bool_decided None v = refl
 
-no_residual_answer : (a : Answer) (o : Outcome) → (a ≢ limit → Answers a o) → is_residual (reported_of (decided a)) ≡ false
+no_residual_answer : (a : Answer) (o : Outcome) → (a ≢ limit → AnswersOutcome a o) → is_residual (reported_of (decided a)) ≡ false
 unfolding decided reported_of is_residual
 no_residual_answer (answers (value v)) o h = bool_decided (bool_of (abstract_value v)) v
 no_residual_answer (answers (residual t)) o h = absurd (h (λ (e : answers (residual t) ≡ limit). cc))

@@ -1,5 +1,5 @@
 -- A failure that is no want of memory by its kind is not the failure of that name.
-use Rattle.std.specs.Prelude.{◌≡◌, ◌≢◌, true, false}
+use Rattle.std.specs.Prelude.{◌≡◌, ◌≢◌, false}
 use Rattle.std.proofs.Common.{ap}
 use Rattle.cedar_model.specs.Failures.{Failure, out_of_memory, failure_kind}
 use Rattle.cedar_errors.specs.Finals.{is_of_memory}

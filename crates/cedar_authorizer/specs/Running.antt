@@ -54,8 +54,8 @@ pub record IsRun (c : Configuration) (s : Setting) (ps : List Policy) (r : Parti
   pub held : HoldsRows rows r
 
 -- in every completion that fits the conditions its rows stand, if none of its errors is the recursion limit
-abbrev pub StandsInCompletions : Configuration → Setting → List Policy → PartialResponse → Type 0
-StandsInCompletions c s ps r =
+abbrev pub ResponseStands : Configuration → Setting → List Policy → PartialResponse → Type 0
+ResponseStands c s ps r =
     (ans : Functions) (w : World) → CompletesWith c.calls ans w s → FitPolicies ans w ps →
     HaveNoLimit (errors_of r) → Stand c.mode s.extensions ans w ps (rows_view r)
 

@@ -19,7 +19,7 @@ ghost use Rattle.cedar_authorizer.specs.responses.Rows as rows;
 ghost use Rattle.cedar_authorizer.specs.responses.Sheets.{outcome_view};
 ghost use Rattle.cedar_authorizer.specs.Configured.{configuration, asked};
 ghost use Rattle.cedar_authorizer.specs.Responding.{considered};
-ghost use Rattle.cedar_authorizer.specs.Running.{errors_of, request_of, IsRun, StandsInCompletions};
+ghost use Rattle.cedar_authorizer.specs.Running.{errors_of, request_of, IsRun, ResponseStands};
 ghost use Rattle.cedar_authorizer.specs.Running.{IsDeepEnough, IsConcreteRun};
 ghost use Rattle.cedar_authorizer.specs.Running.{ComesOutBy, IsNotedRun, KeepsSheet};
 ghost use Rattle.cedar_authorizer.specs.Running.{ResidualsStand, ResidualsAreNoted, IsLeftAt};
@@ -193,7 +193,7 @@ impl<'f> Authorizer<'f> {
     ) -> Result<PartialResponse, AllocError>
         ensures run { IfOk result
             (IsRun (configuration self.now) (asked self.now request entities.now) (considered policies.now)) }
-        ensures stands { IfOk result (StandsInCompletions (configuration self.now) (asked self.now request entities.now)
+        ensures stands { IfOk result (ResponseStands (configuration self.now) (asked self.now request entities.now)
             (considered policies.now)) }
         ensures known { IfOk result (λ r. IsKnownRun (configuration self.now) (asked self.now request entities.now)
             (considered policies.now) (rows_view r) (errors_of r)) }

@@ -1,5 +1,5 @@
 -- What the stored functions of the program and its tests answer.
-use Rattle.std.specs.Prelude.{ℕ, ℤ, pos, negsuc, Bool, true, false, List, [], ◌∷◌, codes, int_rem, Some, None}
+use Rattle.std.specs.Prelude.{ℕ, ℤ, pos, Bool, true, false, List, [], ◌∷◌, codes, int_rem, Some, None}
 use Rattle.std.proofs.Common.{zero}
 use Rattle.cedar_model.specs.Terms.{bool_literal, long_literal, bool_type, long_type}
 use Rattle.cedar_model.specs.Values.{AbstractValue, plain, extension_value}

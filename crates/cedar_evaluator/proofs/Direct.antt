@@ -3,13 +3,13 @@ use Rattle.std.specs.Prelude.{◌≡◌, ◌≢◌, ◌≤◌, ◌-◌, ℕ, suc
 use Rattle.std.proofs.Common.{refl, sym, ap, ◌∙◌, subst, arith}
 use Rattle.std.proofs.lemmas.Slice.Eq.{bytes_eq-Decides}
 use Rattle.cedar_model.specs.Terms.{Text, Term, EntityName, Literal, bool_literal, entity_literal, literal, Variable, variable, both, binary, is_of_type, BinaryOperator, eq_operator, in_operator}
-use Rattle.cedar_model.specs.Values.{Represented, plain_represented, abstract_value, plain}
+use Rattle.cedar_model.specs.Values.{Represented, plain_represented, plain}
 use Rattle.cedar_model.specs.World.{Slots}
 use Rattle.cedar_model.specs.Keys.{value_eq}
 use Rattle.cedar_model.specs.lemmas.Keys.{value_eq-true, value_eq-self}
 use Rattle.cedar_model.specs.Outcomes.{bool_of, entity_of, text_eq, entity_eq}
 use Rattle.cedar_model.specs.Meaning.{entities_of, some_entity}
-use Rattle.cedar_model.specs.Failures.{out_of_memory, value, Answer, answers, fails, answers_bool, answers_value}
+use Rattle.cedar_model.specs.Failures.{out_of_memory, value, Answer, answers, answers_bool, answers_value}
 use Rattle.cedar_model.specs.Settings.{Setting, Found, found, not_there, not_known, look_up}
 use Rattle.cedar_model.specs.Operators.{binary_answer, in_found, expecting}
 use Rattle.cedar_model.specs.Responses.{Decided, decides, errs_with, decided, decided_bool}

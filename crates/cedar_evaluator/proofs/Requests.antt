@@ -7,7 +7,7 @@ use Rattle.cedar_model.specs.Values.{plain_represented, set_represented, record_
 use Rattle.cedar_model.specs.Outcomes.{text_eq}
 use Rattle.cedar_model.specs.Failures.{PartialValue, value, residual}
 use Rattle.cedar_model.specs.Settings.{Entry, known_entry, unknown_entry, ContextPart, absent_context, known_context, residual_context, RequestPart, entry_part, context_value, variable_part, type_annotation}
-use Rattle.cedar_evaluator.specs.Variables.{entry_of, is_entry, context_of, is_context, request_of, are_of_request}
+use Rattle.cedar_evaluator.specs.Variables.{entry_of, is_entry, context_of, is_context, request_given, are_of_request}
 
 same_text : (s t : Text) → text_eq s t ≡ true → s ≡ t
 same_text s t h = (bytes_eq-Decides s t).0 h
@@ -107,7 +107,7 @@ second true b h = h
 second false b h = absurd (cc)
 
 -- what stands for variables is what the request says of them
-pub says : (given : Variable → PartialValue) → are_of_request given ≡ true → (v : Variable) → given v ≡ variable_part (request_of given) v
+pub says : (given : Variable → PartialValue) → are_of_request given ≡ true → (v : Variable) → given v ≡ variable_part (request_given given) v
 unfolding variable_part
 says given h principal = entry_is (codes "principal") (given principal) (first (is_entry (codes "principal") (given principal)) _ h)
 says given h action =
@@ -146,7 +146,7 @@ rebuilt p a r c q h i j k =
     ∙ ap (λ (x : ContextPart). record { principal_entry = q.principal_entry; action_entry = q.action_entry; resource_entry = q.resource_entry; context_part = x }) k
 
 -- and for no other
-pub that_request : (r : RequestPart) (given : Variable → PartialValue) → ((v : Variable) → given v ≡ variable_part r v) → request_of given ≡ r
+pub that_request : (r : RequestPart) (given : Variable → PartialValue) → ((v : Variable) → given v ≡ variable_part r v) → request_given given ≡ r
 unfolding variable_part
 that_request r given h =
     rebuilt (entry_of (given principal)) (entry_of (given action)) (entry_of (given resource)) (context_of (given context)) r

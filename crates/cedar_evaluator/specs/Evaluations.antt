@@ -19,7 +19,7 @@ use Rattle.cedar_interpreter.specs.declared.evaluation.Given.{Given}
 use Rattle.cedar_interpreter.specs.Settings.{mapper_view, resolution_view, given_for}
 use Rattle.cedar_interpreter.specs.Promises.{IsKnownExactly, IsResiduallySound, KeepsDepthBound, IsLimitByNeed, IsAllowed, IsPromised}
 use Rattle.cedar_evaluator.specs.declared.evaluator.Evaluator.{Evaluator}
-use Rattle.cedar_evaluator.specs.Variables.{request_of}
+use Rattle.cedar_evaluator.specs.Variables.{request_given}
 
 -- what an evaluator of this request is given over this store, with these extensions, these values of unknowns and this
 -- resolution, for an expression with these slots
@@ -40,7 +40,7 @@ variables_of given v = partial_view (given_for given v)
 
 -- the request that the evaluator answers for
 abbrev pub request_in : {X : Type 0} {F : X → Type 0} {g : _} → Evaluator X F g → RequestPart
-request_in v = request_of (variables_of v.given)
+request_in v = request_given (variables_of v.given)
 
 -- what the evaluator is given
 abbrev pub setting_of : {X : Type 0} {F : X → Type 0} {g : _} → Evaluator X F g → Slots → Setting
@@ -61,8 +61,8 @@ abbrev pub extensions_given : {X : Type 0} {F : X → Type 0} {g : _} → Evalua
 extensions_given v = v.given.extensions.now
 
 -- the same setting, but with these values of unknowns
-abbrev pub with_values : Setting → (Text → Option Represented) → Setting
-with_values s m =
+abbrev pub setting_with_values : Setting → (Text → Option Represented) → Setting
+setting_with_values s m =
     record {
       request = s.request;
       store = s.store;

@@ -33,8 +33,8 @@ is_context (residual (unknown n None)) = text_eq n (codes "context")
 is_context p = false
 
 -- the request that these stand for
-abbrev pub request_of : (Variable → PartialValue) → RequestPart
-request_of given =
+abbrev pub request_given : (Variable → PartialValue) → RequestPart
+request_given given =
     record {
       principal_entry = entry_of (given principal);
       action_entry = entry_of (given action);

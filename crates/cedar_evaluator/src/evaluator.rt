@@ -50,7 +50,7 @@ impl<'e, 'f> Evaluator<'e, 'f> {
     ghost use Rattle.cedar_requests.specs.Requests.{request_view};
     ghost use Rattle.cedar_requests.specs.Substitutions.{values_for};
     ghost use Rattle.cedar_interpreter.specs.Settings.{resolution_view};
-    ghost use Rattle.cedar_evaluator.specs.Evaluations.{setting_for, setting_of, with_values, resolving};
+    ghost use Rattle.cedar_evaluator.specs.Evaluations.{setting_for, setting_of, setting_with_values, resolving};
     ghost use Rattle.cedar_evaluator.specs.Evaluations.{extensions_given, limit_of};
     ghost use Rattle.cedar_evaluator.specs.Evaluations.{RunsByRules, MeetsLimitByNeed, IsAllowedByRules, MeansWhereKnown};
     ghost use Rattle.cedar_evaluator.specs.Evaluations.{StandsInCompletions, StaysBelowLimit, AnswersValue};
@@ -93,7 +93,7 @@ impl<'e, 'f> Evaluator<'e, 'f> {
     /// The same evaluator, where the unknowns that the map names have these values.
     pub fn with_unknowns_mapper(self, mapper: &'e HashMap<RcStr, Value>) -> Evaluator<'e, 'f>
         ensures setting { (slots : _) → setting_of result slots
-            ≡ with_values (setting_of self.entry slots) (values_for mapper.now.entries) }
+            ≡ setting_with_values (setting_of self.entry slots) (values_for mapper.now.entries) }
         ensures extensions { extensions_given result ≡ extensions_given self.entry }
         ensures limit { limit_of result ≡ limit_of self.entry }
     {

@@ -21,7 +21,7 @@ use Rattle.cedar_extensions.specs.Functions.{CanAnswer, AnswersAs, function_text
 use Rattle.cedar_extensions.specs.Extension.{all_functions}
 use Rattle.cedar_extensions.specs.Extensions.{extensions_in, func_of, calls_of}
 use Rattle.cedar_extensions.specs.StoredLaws.{lawful_outcome, outcome_model}
-use Rattle.cedar_extensions.specs.Computations.{Computation, EachCallComesTo, Computes, EachComputes, unknown_of, asking}
+use Rattle.cedar_extensions.specs.Computations.{Computation, EachCallComesTo, Computes, EachComputes, unknown_of, unknown_made}
 use Rattle.cedar_extensions.specs.Computations.{built_in_answers, answers_named, computed_answers}
 use Rattle.cedar_extensions.specs.Computations.{ComputeByName, AreBuiltIn, AgreesWith, AreFaithfulBy}
 
@@ -45,7 +45,7 @@ asked_for None v = refl
 asked_for (Some t) v = refl
 
 pub asks_computed : (vs : List Represented) (a : Answer) → AsksOf vs a
-    → function_answer a ≡ Some (asking (map abstract_value vs))
+    → function_answer a ≡ Some (unknown_made (map abstract_value vs))
 asks_computed [] a h = absurd h
 asks_computed (v ∷ []) a h = ap function_answer h ∙ asked_for (text_of (abstract_value v)) (abstract_value v)
 asks_computed (v ∷ (w ∷ vs)) a h = absurd h

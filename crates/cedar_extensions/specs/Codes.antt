@@ -47,27 +47,27 @@ kind_code = code_by ℕ coded_ℕ kind_number kind_of_number kind_of_number-kind
 abbrev pub annotation_code : Coded (Option ValueType)
 annotation_code = code_by Key key_code annotation_key annotation_of_key annotation_of_key-annotation_key
 
-abbrev pub Parts : Type 0
-Parts = AbstractValue ⊎ (ErrorKind ⊎ (Text × Option ValueType))
+abbrev pub FunctionAnswerParts : Type 0
+FunctionAnswerParts = AbstractValue ⊎ (ErrorKind ⊎ (Text × Option ValueType))
 
-abbrev pub parts_of : FunctionAnswer → Parts
-parts_of (function_gives v) = inl v
-parts_of (function_errs k) = inr (inl k)
-parts_of (function_asks n t) = inr (inr (n, t))
+abbrev pub function_answer_parts : FunctionAnswer → FunctionAnswerParts
+function_answer_parts (function_gives v) = inl v
+function_answer_parts (function_errs k) = inr (inl k)
+function_answer_parts (function_asks n t) = inr (inr (n, t))
 
-abbrev pub of_parts : Parts → FunctionAnswer
+abbrev pub of_parts : FunctionAnswerParts → FunctionAnswer
 of_parts (inl v) = function_gives v
 of_parts (inr (inl k)) = function_errs k
 of_parts (inr (inr u)) = function_asks u.0 u.1
 
-pub of_parts-parts_of : (o : FunctionAnswer) → of_parts (parts_of o) ≡ o
+pub of_parts-parts_of : (o : FunctionAnswer) → of_parts (function_answer_parts o) ≡ o
 of_parts-parts_of (function_gives v) = refl
 of_parts-parts_of (function_errs k) = refl
 of_parts-parts_of (function_asks n t) = refl
 
 abbrev pub function_answer_code : Coded FunctionAnswer
 function_answer_code =
-    code_by Parts (coded⊎ abstract_value_code (coded⊎ kind_code (coded× text_code annotation_code))) parts_of of_parts
+    code_by FunctionAnswerParts (coded⊎ abstract_value_code (coded⊎ kind_code (coded× text_code annotation_code))) function_answer_parts of_parts
     of_parts-parts_of
 
 pub function_answer_set : IsSet FunctionAnswer

@@ -47,10 +47,10 @@ unknown_of None = function_errs type_error
 unknown_of (Some t) = function_asks t None
 
 -- what it gives to values (it takes one)
-abbrev pub asking : Computation
-asking [] = function_errs type_error
-asking (v ∷ []) = unknown_of (text_of v)
-asking (v ∷ (w ∷ vs)) = function_errs type_error
+abbrev pub unknown_made : Computation
+unknown_made [] = function_errs type_error
+unknown_made (v ∷ []) = unknown_of (text_of v)
+unknown_made (v ∷ (w ∷ vs)) = function_errs type_error
 
 -- ---- functions of a world
 
@@ -60,7 +60,7 @@ no_answers f vs = function_errs function_does_not_exist
 
 -- whatever its name, each function is the built-in `unknown`
 abbrev pub built_in_answers : Functions
-built_in_answers f = asking
+built_in_answers f = unknown_made
 
 -- under each name what the first of that name gives, and under any other that no function is there
 abbrev pub answers_named : List Text → List Computation → Functions

@@ -20,17 +20,17 @@ abbrev pub name_in : Option RType → Option Name
 name_in None = None
 name_in (Some t) = extension_name t
 
-abbrev pub is_text : ValueType → Bool
-is_text bool_type = false
-is_text long_type = false
-is_text string_type = true
-is_text set_type = false
-is_text record_type = false
-is_text (entity_type t) = false
-is_text (extension_type t) = false
+abbrev pub is_string_type : ValueType → Bool
+is_string_type bool_type = false
+is_string_type long_type = false
+is_string_type string_type = true
+is_string_type set_type = false
+is_string_type record_type = false
+is_string_type (entity_type t) = false
+is_string_type (extension_type t) = false
 
 -- exactly one text
 abbrev pub is_one_text : List ValueType → Bool
 is_one_text [] = false
-is_one_text (t ∷ []) = is_text t
+is_one_text (t ∷ []) = is_string_type t
 is_one_text (t ∷ (u ∷ ts)) = false

@@ -4,7 +4,7 @@ ghost use Rattle.cedar_model.specs.Failures.{answers, arguments_are_miscounted, 
 ghost use Rattle.cedar_names.specs.Leaves.{type_view};
 ghost use Rattle.cedar_values.specs.Residuals.{partial_view};
 ghost use Rattle.cedar_extensions.specs.Answers.{returned_answer};
-ghost use Rattle.cedar_extensions.specs.Types.{extension_name, is_one_text, is_text};
+ghost use Rattle.cedar_extensions.specs.Types.{extension_name, is_one_text, is_string_type};
 ghost use Rattle.cedar_extensions.specs.Outcomes.{TakesArity, AtMostOne, OnlyLawful};
 ghost use Rattle.cedar_extensions.specs.Callees.{arity_of};
 
@@ -60,7 +60,7 @@ impl ExtensionFunction {
     ghost use Rattle.cedar_extensions.specs.Functions.{function_name, function_style, function_returns, function_takes};
     ghost use Rattle.cedar_extensions.specs.Functions.{function_text, arity, CanAnswer, AnswersAs, AnswersAlone};
     ghost use Rattle.cedar_extensions.specs.Functions.{IsMiscounted, answered_type, constructed_type};
-    ghost use Rattle.cedar_extensions.specs.Computations.{Computation, EachCallComesTo, Computes, asking};
+    ghost use Rattle.cedar_extensions.specs.Computations.{Computation, EachCallComesTo, Computes, unknown_made};
 
     /// The function that calls `func`. It asks its caller for three facts: `func` may be called on every list of as
     /// many values as there are `arg_types` (of whatever types); to equal arguments it answers, besides want of memory,
@@ -103,7 +103,7 @@ impl ExtensionFunction {
         ensures returns { IfOk result (λ f. function_returns f ≡ None) }
         ensures takes { IfOk result (λ f. map type_view (function_takes f) ≡ string_type ∷ []) }
         ensures answers { IfOk result (λ f. AnswersAs f AsksOf) }
-        ensures computes { IfOk result (λ f. Computes f asking) }
+        ensures computes { IfOk result (λ f. Computes f unknown_made) }
     {
         let name = RcStr::from_str(alloc, "unknown")?;
         let mut arg_types = Vec::with_capacity(alloc, 1)?;
@@ -228,14 +228,14 @@ fn is_one_text(types: &[Type]) -> bool
     ensures { result ≡ is_one_text (map type_view types.now) }
 {
     match types {
-        [ty] => is_text(ty),
+        [ty] => is_string_type(ty),
         _ => false,
     }
 }
 
 // Whether this is the type of texts.
-fn is_text(ty: &Type) -> bool
-    ensures { result ≡ is_text (type_view ty.now) }
+fn is_string_type(ty: &Type) -> bool
+    ensures { result ≡ is_string_type (type_view ty.now) }
 {
     match ty {
         Type::Bool => false,

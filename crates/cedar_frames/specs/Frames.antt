@@ -7,18 +7,18 @@ use Rattle.cedar_frames.specs.declared.turns.Mode.TheVariants.{Eval, Answer}
 use Rattle.cedar_frames.specs.declared.turns.Turn.{Turn}
 use Rattle.cedar_frames.specs.declared.turns.Turn.TheVariants.{Go, End}
 use Rattle.cedar_frames.specs.declared.stack.Stack.{Stack}
-use Rattle.cedar_frames.specs.declared.machine.Step.{Step}
-use Rattle.cedar_frames.specs.declared.machine.Step.TheVariants.{Done, Wait}
+use Rattle.cedar_frames.specs.declared.machine.Transition.{Transition}
+use Rattle.cedar_frames.specs.declared.machine.Transition.TheVariants.{Done, Wait}
 
 -- what comes next of t is right, with k levels for its parts
-abbrev pub Resumes : {F P A : Type 0} → (ℕ → P → A → Type 0) → (ℕ → F → P → P → Type 0) → ℕ → P → Step F P A
+abbrev pub Resumes : {F P A : Type 0} → (ℕ → P → A → Type 0) → (ℕ → F → P → P → Type 0) → ℕ → P → Transition F P A
     → Type 0
 Resumes R W k t (Done a) = R (suc k) t a
 Resumes R W k t (Wait f c) = W k f t c
 
 -- with so many levels left for what waits in the frame, what comes next of it is right, whatever it is, and whichever
 -- its part is that answered a
-abbrev pub GoesOn : {F P A : Type 0} → (ℕ → P → A → Type 0) → (ℕ → F → P → P → Type 0) → ℕ → F → A → Step F P A
+abbrev pub GoesOn : {F P A : Type 0} → (ℕ → P → A → Type 0) → (ℕ → F → P → P → Type 0) → ℕ → F → A → Transition F P A
     → Type 0
 GoesOn {F} {P} {A} R W levels f a n = (k : ℕ) (t c : P) → suc k ≡ levels → W k f t c → R k c a → Resumes R W k t n
 
@@ -85,12 +85,12 @@ abbrev pub work_left : {F P A : Type 0} → (F → ℕ) → ℕ → ℕ → List
 work_left left_of q limit fs mode = work left_of q limit fs + mode_work q (limit - length fs) mode
 
 -- a frame that waits again can wait less often than before
-abbrev pub Fewer : {F P A : Type 0} → (F → ℕ) → F → Step F P A → Type 0
+abbrev pub Fewer : {F P A : Type 0} → (F → ℕ) → F → Transition F P A → Type 0
 Fewer left_of f (Done a) = Unit {0}
 Fewer left_of f (Wait g c) = left_of g < left_of f
 
 -- a part that is not looked at yet counts for more than its first frame
-abbrev pub Below : {F P A : Type 0} → (F → ℕ) → ℕ → Step F P A → Type 0
+abbrev pub Below : {F P A : Type 0} → (F → ℕ) → ℕ → Transition F P A → Type 0
 Below left_of q (Done a) = Unit {0}
 Below left_of q (Wait g c) = left_of g < q
 

@@ -10,6 +10,6 @@ mod machine;
 mod stack;
 mod turns;
 
-pub use machine::{Machine, Step};
+pub use machine::{Machine, Transition};
 pub use stack::Stack;
 pub use turns::{Mode, Turn, advance, interpret, interpret_on};

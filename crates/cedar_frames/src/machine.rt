@@ -6,7 +6,7 @@ use std::alloc::Global;
 
 /// What comes next of a part: its answer, or a wait in a frame for a part of it.
 #[derive(Drop)]
-pub enum Step<F, P, A> {
+pub enum Transition<F, P, A> {
     /// The part is answered.
     Done(A),
     /// The frame waits for the answer of this part.
@@ -52,7 +52,7 @@ pub trait Machine {
         alloc: Global,
         part: Self::Part,
         levels: usize,
-    ) -> Step<Self::Frame, Self::Part, Self::Answer>
+    ) -> Transition<Self::Frame, Self::Part, Self::Answer>
         ensures right { (k : ℕ) → suc k ≡ levels → Resumes (right self.now) (waits self.now) k part result }
         ensures below { Below left_of most result };
 
@@ -64,7 +64,7 @@ pub trait Machine {
         frame: Self::Frame,
         answer: Self::Answer,
         levels: usize,
-    ) -> Step<Self::Frame, Self::Part, Self::Answer>
+    ) -> Transition<Self::Frame, Self::Part, Self::Answer>
         ensures right { GoesOn (right self.now) (waits self.now) levels frame answer result }
         ensures fewer { Fewer left_of frame result };
 

@@ -4,7 +4,7 @@ ghost use Rattle.cedar_frames.specs.Frames.{IsRightTurn, IsRightWait, StaysRight
 ghost use Rattle.cedar_frames.specs.Frames.{IsLessLeft, IsWaitLeft, IsAnswerLeft};
 ghost use Rattle.cedar_frames.specs.declared.turns.Mode.TheVariants.{Eval, Answer};
 
-use crate::machine::{Machine, Step};
+use crate::machine::{Machine, Transition};
 use crate::stack::Stack;
 use std::alloc::Global;
 
@@ -92,8 +92,8 @@ fn looked_at<M: Machine>(
         return Turn::End(machine.limit());
     }
     match machine.start(alloc, part, levels) {
-        Step::Done(answer) => answered(machine, answer),
-        Step::Wait(frame, next) => waiting(machine, stack, frame, next),
+        Transition::Done(answer) => answered(machine, answer),
+        Transition::Wait(frame, next) => waiting(machine, stack, frame, next),
     }
 }
 
@@ -115,8 +115,8 @@ fn handed_on<M: Machine>(
     };
     let levels = stack.levels_left();
     match machine.resume(alloc, frame, answer, levels) {
-        Step::Done(answer) => answered(machine, answer),
-        Step::Wait(frame, next) => waiting(machine, stack, frame, next),
+        Transition::Done(answer) => answered(machine, answer),
+        Transition::Wait(frame, next) => waiting(machine, stack, frame, next),
     }
 }
 

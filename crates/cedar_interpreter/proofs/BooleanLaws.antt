@@ -1,8 +1,8 @@
 -- What `!`, `&&`, `||` and `if` make of a boolean.
 use Rattle.std.specs.Prelude.{◌≡◌, Bool, true, false, not, Some, None, []}
 use Rattle.std.proofs.Common.{refl, sym, subst}
-use Rattle.cedar_model.specs.Terms.{Term, bool_literal, long_literal, text_literal, entity_literal, unary, not_operator, bool_type}
-use Rattle.cedar_model.specs.Values.{Represented, plain_represented, set_represented, record_represented, extension_represented, abstract_value}
+use Rattle.cedar_model.specs.Terms.{Term, unary, not_operator, bool_type}
+use Rattle.cedar_model.specs.Values.{Represented, abstract_value}
 use Rattle.cedar_model.specs.Outcomes.{bool_of}
 use Rattle.cedar_model.specs.Operators.{unary_answer, expecting}
 use Rattle.cedar_model.specs.Failures.{PartialValue, value, residual, Answer, answers, answers_bool, answers_residual, wrong_type}

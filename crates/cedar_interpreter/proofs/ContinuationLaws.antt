@@ -14,7 +14,7 @@ use Rattle.cedar_expressions.specs.View.{expr_loc}
 use Rattle.cedar_values.specs.declared.partial_value.PartialValue.{PartialValue}
 use Rattle.cedar_values.specs.Residuals.{partial_view}
 use Rattle.cedar_extensions.specs.Extensions.{extensions_view}
-use Rattle.cedar_frames.specs.declared.machine.Step.TheVariants.{Done}
+use Rattle.cedar_frames.specs.declared.machine.Transition.TheVariants.{Done}
 use Rattle.cedar_restricted_evaluator.specs.declared.parts.PartsFrame.{PartsFrame}
 use Rattle.cedar_restricted_evaluator.specs.Frames as restricted
 use Rattle.cedar_restricted_evaluator.specs.Frames.{NextPart}

@@ -18,7 +18,8 @@ use Rattle.cedar_expressions.specs.View.{view, terms_view, fields_view}
 use Rattle.cedar_values.specs.Sound.{Placed, whats}
 use Rattle.cedar_restricted_evaluator.specs.declared.answers.Answers.TheVariants as answereds
 use Rattle.cedar_restricted_evaluator.specs.declared.whole.Whole.TheVariants as wholes
-use Rattle.cedar_restricted_evaluator.specs.Keys.{key_order, texts_of, under}
+use Rattle.cedar_expressions.specs.Nodes.{key_order}
+use Rattle.cedar_restricted_evaluator.specs.Keys.{texts_of, each_under}
 use Rattle.cedar_restricted_evaluator.specs.Parts.{SoFar, all_values}
 use Rattle.cedar_restricted_evaluator.specs.Steps.{so_far_none, so_far_more, so_far_all, whole_answers}
 use Rattle.cedar_restricted_evaluator.proofs.Collected.{names_under, views_under, fields_of_all, value_added}
@@ -156,7 +157,7 @@ views_of_parts (e ∷ es) = ap (λ l. view e.1 ∷ l) (views_of_parts es)
 pub record_direct : (s : Setting) (calls : StoredCalls) (j : ℕ) (es : List (RcStr Global × Expr)) (ks : Vec (RcStr Global) Global) (vs : Vec Placed Global) (o : Option Placed) →
     texts_of ks.items ≡ names_under es → length ks.items ≡ length vs.items → length vs.items ≡ length (parts_under es) → IsStrictlySortedBy key_order ks.items →
     Parts (Runs s calls j) (terms_view (parts_under es)) (Ok (all_values (whats vs.items))) →
-    IfSome o (λ v. v.what ≡ record_represented (represented_fields_of (under (texts_of ks.items) (whats vs.items)))) →
+    IfSome o (λ v. v.what ≡ record_represented (represented_fields_of (each_under (texts_of ks.items) (whats vs.items)))) →
     IsDirectValue s calls (suc j) (record_of (fields_view es)) o
 record_direct s calls j es ks vs None names keyed many sorted parts made = tt
 record_direct s calls j es ks vs (Some v) names keyed many sorted parts made =

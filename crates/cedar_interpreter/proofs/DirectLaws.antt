@@ -1,5 +1,5 @@
 -- What follows of what is evaluated directly, and of right sides.
-use Rattle.std.specs.Prelude.{◌≡◌, ◌≤◌, ◌<◌, ℕ, zero, suc, Bool, true, false}
+use Rattle.std.specs.Prelude.{◌≡◌, ◌≤◌, ◌<◌, ℕ, zero, suc, Bool}
 use Rattle.std.specs.Prelude.{Option, Some, None, Result, IfSome}
 use Rattle.std.proofs.Common.{refl, sym, ap, ◌∙◌, subst, arith}
 use Rattle.std.specs.declared.alloc.Global.{Global}
@@ -16,15 +16,14 @@ use Rattle.cedar_values.specs.declared.partial_value.PartialValue.{PartialValue}
 use Rattle.cedar_model.specs.Failures as model
 use Rattle.cedar_model.specs.Settings.{RequestPart}
 use Rattle.cedar_names.specs.declared.names.Loc.{Loc}
-use Rattle.cedar_frames.specs.declared.machine.Step.TheVariants.{Done, Wait}
+use Rattle.cedar_frames.specs.declared.machine.Transition.TheVariants.{Done, Wait}
 use Rattle.cedar_interpreter.specs.declared.evaluation.Evaluation.{Evaluation}
 use Rattle.cedar_interpreter.specs.declared.frame.Pending.{Pending}
 use Rattle.cedar_interpreter.specs.declared.frame.Pending.TheVariants as pendings
 use Rattle.cedar_interpreter.specs.declared.frame.Task.TheVariants as tasks
-use Rattle.cedar_interpreter.specs.declared.boxed_residual.BoxedResidual.{BoxedResidual}
-use Rattle.cedar_interpreter.specs.Endings.{ending_answer, boxed_answer}
+use Rattle.cedar_interpreter.specs.Endings.{ending_answer}
 use Rattle.cedar_interpreter.specs.Booleans.{part_bool, is_bool}
-use Rattle.cedar_interpreter.proofs.BooleanLaws.{leaves_right, keeps_right}
+use Rattle.cedar_interpreter.proofs.BooleanLaws.{leaves_right}
 use Rattle.cedar_interpreter.specs.Settings.{Speaks, evaluation_setting, calls_in}
 use Rattle.cedar_interpreter.proofs.Requests.{some_request}
 use Rattle.cedar_interpreter.specs.Tasks.{SharedExpr, Next, AfterLeftSide, Uses, WaitsFor, WaitsAgain, Gives, pending_left}
@@ -38,7 +37,6 @@ use Rattle.cedar_partial_operators.specs.declared.connectives.Connective.{Connec
 use Rattle.cedar_partial_operators.specs.declared.connectives.Connective.TheVariants as connectives
 use Rattle.cedar_partial_operators.specs.Connectives.{neutral, joined_terms, beside_neutral}
 use Rattle.cedar_partial_operators.specs.Parts.{projection}
-use Rattle.cedar_values.specs.Residuals.{partial_view}
 use Rattle.cedar_interpreter.proofs.ReadLaws.{none_resolved, attribute_value}
 use Rattle.cedar_interpreter.proofs.StoredLaws.{of_value, value_stays, part_stored}
 use Rattle.cedar_interpreter.specs.Continuations.{ContinuesAt, StartsIn, ContinuesIn, LeadsIn}

@@ -12,7 +12,7 @@ use Rattle.cedar_expressions.specs.Nodes.{parts_of}
 use Rattle.cedar_values.specs.declared.partial_value.PartialValue.{PartialValue}
 use Rattle.cedar_values.specs.declared.partial_value.PartialValue.TheVariants as partials
 use Rattle.cedar_values.specs.Residuals.{partial_view, partial_loc, IfValue}
-use Rattle.cedar_frames.specs.declared.machine.Step.TheVariants.{Done, Wait}
+use Rattle.cedar_frames.specs.declared.machine.Transition.TheVariants.{Done, Wait}
 use Rattle.cedar_frames.specs.Frames.{Resumes}
 use Rattle.cedar_restricted_evaluator.specs.declared.parts.PartsFrame.{PartsFrame}
 use Rattle.cedar_restricted_evaluator.specs.Frames.{NextPart}

@@ -14,7 +14,7 @@ use Rattle.cedar_expressions.specs.declared.expr.Expr.{Expr}
 use Rattle.cedar_expressions.specs.View.{view, terms_view}
 use Rattle.cedar_values.specs.declared.partial_value.PartialValue.{PartialValue}
 use Rattle.cedar_values.specs.Residuals.{partial_view}
-use Rattle.cedar_frames.specs.declared.machine.Step.TheVariants.{Done, Wait}
+use Rattle.cedar_frames.specs.declared.machine.Transition.TheVariants.{Done, Wait}
 use Rattle.cedar_restricted_evaluator.specs.declared.answers.Answers.{Answers}
 use Rattle.cedar_restricted_evaluator.specs.declared.parts.PartsFrame.{PartsFrame}
 use Rattle.cedar_restricted_evaluator.specs.declared.whole.Whole.{Whole}
@@ -38,7 +38,7 @@ module _ (s : Setting) (calls : StoredCalls) (k : ℕ) (t : Term) (here : Option
   abbrev May : Term → Answer → Type 0
   May = Runs s calls k
 
-  waits_right : (whole : Whole) (ps : restricted.Parts) (a : Answers) (loc : Option Loc) (f : PartsFrame) (c : Expr) (task : Task) (d : Expr) →
+  waits_right : (whole : Whole) (ps : restricted.SharedParts) (a : Answers) (loc : Option Loc) (f : PartsFrame) (c : Expr) (task : Task) (d : Expr) →
       whole_term whole (terms_view ps.value.items) ≡ t → HasRead May ps a → Reads s.extensions calls whole ps a loc (Wait f c) →
       IsTakenAs f c task d → WaitsFor s calls k task t (view d)
   waits_right whole ps a loc f c (tasks.Parts g) d term read (w, p, b, l, next) (same, part) = record {
@@ -48,7 +48,7 @@ module _ (s : Setting) (calls : StoredCalls) (k : ℕ) (t : Term) (here : Option
   }
   waits_right whole ps a loc f c (tasks.Other p) d term read h taken = absurd taken
 
-  reads_right : (whole : Whole) (ps : restricted.Parts) (a : Answers) (loc : Option Loc) (x : NextPart) (n : Next) →
+  reads_right : (whole : Whole) (ps : restricted.SharedParts) (a : Answers) (loc : Option Loc) (x : NextPart) (n : Next) →
       whole_term whole (terms_view ps.value.items) ≡ t → HasKeys whole (length ps.value.items) → HasRead May ps a →
       Reads s.extensions calls whole ps a loc x → IsTaken here x n → Starts s calls k here t n
   reads_right whole ps a loc (Wait f c) (Wait g d) term keys read h (taken, place) =
@@ -67,7 +67,7 @@ module _ (s : Setting) (calls : StoredCalls) (k : ℕ) (t : Term) (here : Option
     place,
   )
 
-  begun_read : (ps : restricted.Parts) (a : Answers) → Are a [] → count a ≡ 0 → HasRead May ps a
+  begun_read : (ps : restricted.SharedParts) (a : Answers) → Are a [] → count a ≡ 0 → HasRead May ps a
   begun_read ps a none zero_count =
       ([], none, subst (λ n. shapes.SoFar May (terms_view ps.value.items) (terms_view (drop n ps.value.items)) []) (sym zero_count) (so_far_none May (terms_view ps.value.items)))
 

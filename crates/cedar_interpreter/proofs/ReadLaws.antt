@@ -13,12 +13,12 @@ use Rattle.cedar_model.specs.Failures.{Failure, PartialValue, value, residual, A
 use Rattle.cedar_model.specs.Settings.{Resolution, shallow, deep, Store, Setting, Found, found, not_there, not_known}
 use Rattle.cedar_model.specs.Settings.{look_up, part_at}
 use Rattle.cedar_model.specs.Operators.{Container, a_record, an_entity, no_container, container_of, container_expected}
-use Rattle.cedar_model.specs.Operators.{Step, walks_on, stops, step_in, step_to, step_found, step_to_stored, after_step}
+use Rattle.cedar_model.specs.Operators.{Walk, walks_on, stops, walk_in, walk_to, walk_found, walk_to_stored, after_walk}
 use Rattle.cedar_model.specs.Operators.{path_answer, attribute_residual, attribute_residual_found, residual_in}
 use Rattle.cedar_model.specs.Operators.{represented_at, attribute_answer, attribute_found, stored_attribute}
 use Rattle.cedar_model.specs.Operators.{binary_answer, binary_residual, expecting, tag_found, stored_tag}
 use Rattle.cedar_model.specs.Operators.{tag_residual_of, tag_residual_found, entity_expected, text_expected}
-use Rattle.cedar_model.specs.Rules.{MayAnswer, Resolves, AfterStored, AfterStep, StepsOn, Walks, WalksFrom, AtPath, on_part}
+use Rattle.cedar_model.specs.Rules.{MayAnswer, Resolves, AfterStored, AfterWalk, WalksOn, Walks, WalksFrom, AtPath, on_part}
 use Rattle.cedar_model.specs.Rules.{beside_residual}
 use Rattle.cedar_operators.specs.StoredResiduals.{path_residual, read_or, next_in, next_found, value_in}
 use Rattle.cedar_operators.specs.Operands.{over}
@@ -27,12 +27,12 @@ use Rattle.cedar_interpreter.specs.Reads.{resolved_in, part_path}
 use Rattle.cedar_model.proofs.Injections.{some_inj}
 
 -- the step walks on to this value, or stops
-abbrev IsStep : Option Represented → Step → Type 0
+abbrev IsStep : Option Represented → Walk → Type 0
 IsStep (Some u) z = z ≡ walks_on u
 IsStep None (walks_on v) = ⊥
 IsStep None (stops b) = Unit {0}
 
-step_walks : (z : Step) (u : Represented) → IsStep (Some u) z → z ≡ walks_on u
+step_walks : (z : Walk) (u : Represented) → IsStep (Some u) z → z ≡ walks_on u
 step_walks (walks_on v) u is = is
 step_walks (stops b) u is = is
 
@@ -88,8 +88,8 @@ in_its_container store (extension_represented t l f ts) k = refl
 
 -- a step that reads no stored residual leads to a value, or stops
 stored_step : (o : Option PartialValue) (l : Text) (ls : List Text) (w : Option Represented) → residual_in o ≡ None
-    → value_in o ≡ w → IsStep w (step_to_stored o l ls)
-unfolding residual_in value_in step_to_stored
+    → value_in o ≡ w → IsStep w (walk_to_stored o l ls)
+unfolding residual_in value_in walk_to_stored
 stored_step None l ls (Some u) none is = absurd (cc)
 stored_step None l ls None none is = tt
 stored_step (Some (value v)) l ls (Some u) none is = ap walks_on (some_inj is)
@@ -97,16 +97,16 @@ stored_step (Some (value v)) l ls None none is = absurd (cc)
 stored_step (Some (residual t)) l ls w none is = absurd (cc)
 
 found_step : (f : Found) (e : EntityName) (k l : Text) (ls : List Text) (w : Option Represented)
-    → attribute_residual_found f k ≡ None → next_found f k ≡ w → IsStep w (step_found f e k l ls)
-unfolding attribute_residual_found next_found step_found
+    → attribute_residual_found f k ≡ None → next_found f k ≡ w → IsStep w (walk_found f e k l ls)
+unfolding attribute_residual_found next_found walk_found
 found_step not_known e k l ls (Some u) none is = absurd (cc)
 found_step not_known e k l ls None none is = tt
 found_step not_there e k l ls (Some u) none is = absurd (cc)
 found_step not_there e k l ls None none is = tt
 found_step (found x) e k l ls w none is = stored_step (part_at k x.attributes) l ls w none is
 
-key_step : (o w : Option Represented) → o ≡ w → IsStep w (step_to o)
-unfolding step_to
+key_step : (o w : Option Represented) → o ≡ w → IsStep w (walk_to o)
+unfolding walk_to
 key_step None None is = tt
 key_step None (Some u) is = absurd (cc)
 key_step (Some v) None is = absurd (cc)
@@ -114,8 +114,8 @@ key_step (Some v) (Some u) is = ap walks_on (some_inj is)
 
 container_step : (store : Store) (c : Container) (failure : Failure) (k l : Text) (ls : List Text)
     (w : Option Represented) → in_container store c k ≡ None → next_in store c k ≡ w
-    → IsStep w (step_in store c failure k l ls)
-unfolding in_container next_in step_in
+    → IsStep w (walk_in store c failure k l ls)
+unfolding in_container next_in walk_in
 container_step store (a_record fs) failure k l ls w none is = key_step (represented_at k fs) w is
 container_step store (an_entity e) failure k l ls w none is = found_step (look_up store e) e k l ls w none is
 container_step store no_container failure k l ls (Some u) none is = absurd (cc)
@@ -123,7 +123,7 @@ container_step store no_container failure k l ls None none is = tt
 
 step_is : (store : Store) (v : Represented) (k l : Text) (ls : List Text) (w : Option Represented)
     → attribute_residual store v k ≡ None → next_in store (container_of v) k ≡ w
-    → IsStep w (step_in store (container_of v) (container_expected v) k l ls)
+    → IsStep w (walk_in store (container_of v) (container_expected v) k l ls)
 step_is store v k l ls w none is =
     container_step store (container_of v) (container_expected v) k l ls w (sym (in_its_container store v k) ∙ none) is
 
@@ -131,16 +131,16 @@ step_is store v k l ls w none is =
 
 module _ (May : MayAnswer) (store : Store) where
   -- what is walked on to, or the step's own answer
-  walks_from : (w : Option Represented) (z : Step) (Next : Represented → Answer → Type 0)
+  walks_from : (w : Option Represented) (z : Walk) (Next : Represented → Answer → Type 0)
       (next : Represented → Answer) → IsStep w z → ((u : Represented) → w ≡ Some u → Next u (next u))
-      → AfterStep May z Next (after_step z next)
-  unfolding after_step
+      → AfterWalk May z Next (after_walk z next)
+  unfolding after_walk
   walks_from (Some u) (walks_on v) Next next is h = subst (λ x. Next x (next x)) (sym (step_inj is)) (h u refl)
   walks_from None (walks_on v) Next next is h = absurd is
   walks_from w (stops b) Next next is h = refl
 
-  walks_to : (u : Represented) (z : Step) (Next : Represented → Answer → Type 0) (a : Answer) → IsStep (Some u) z
-      → Next u a → AfterStep May z Next a
+  walks_to : (u : Represented) (z : Walk) (Next : Represented → Answer → Type 0) (a : Answer) → IsStep (Some u) z
+      → Next u a → AfterWalk May z Next a
   walks_to u (walks_on v) Next a is h = subst (λ x. Next x a) (sym (step_inj is)) h
   walks_to u (stops b) Next a is h = absurd (cc)
 
@@ -152,14 +152,14 @@ module _ (May : MayAnswer) (store : Store) where
   walk_stored (l ∷ ls) v k none =
       by (attribute_residual store v k) (next_in store (container_of v) k) (λ u h. walk_stored ls u l h) refl refl none
     where
-      z : Step
-      z = step_in store (container_of v) (container_expected v) k l ls
+      z : Walk
+      z = walk_in store (container_of v) (container_expected v) k l ls
 
       by : (o : Option Term) (w : Option Represented)
           → ((u : Represented) → path_residual store u l ls ≡ None → Walks May store u l ls (path_answer store u l ls))
           → attribute_residual store v k ≡ o
           → next_in store (container_of v) k ≡ w → read_or o w l ls (λ u. path_residual store u l ls) ≡ None
-          → StepsOn May o z l ls (λ u. Walks May store u l ls) (after_step z (λ u. path_answer store u l ls))
+          → WalksOn May o z l ls (λ u. Walks May store u l ls) (after_walk z (λ u. path_answer store u l ls))
       by (Some t) w go i j h = absurd (cc)
       by None (Some u) go i j h =
           walks_from (Some u) z (λ x. Walks May store x l ls) (λ x. path_answer store x l ls)
@@ -185,15 +185,15 @@ module _ (May : MayAnswer) (store : Store) where
       by (attribute_residual store v k) (next_in store (container_of v) k) (λ u h. walk_read ls u l t n ns h y a may from)
       refl refl some
     where
-      z : Step
-      z = step_in store (container_of v) (container_expected v) k l ls
+      z : Walk
+      z = walk_in store (container_of v) (container_expected v) k l ls
 
       by : (o : Option Term) (w : Option Represented)
           → ((u : Represented) → path_residual store u l ls ≡ Some (t, n, ns) → Walks May store u l ls a)
           → attribute_residual store v k ≡ o
           → next_in store (container_of v) k ≡ w
           → read_or o w l ls (λ u. path_residual store u l ls) ≡ Some (t, n, ns)
-          → StepsOn May o z l ls (λ u. Walks May store u l ls) a
+          → WalksOn May o z l ls (λ u. Walks May store u l ls) a
       by (Some r) w go i j h =
           let e = read_inj h in (
             y,
@@ -275,36 +275,36 @@ attribute_value s store v k x is =
 
 -- a step that reads a stored residual keeps the attributes after it
 stored_stops : (o : Option PartialValue) (t : Term) (l : Text) (ls : List Text) → residual_in o ≡ Some t
-    → step_to_stored o l ls ≡ stops (answers (residual (extended_has t l ls)))
-unfolding residual_in step_to_stored
+    → walk_to_stored o l ls ≡ stops (answers (residual (extended_has t l ls)))
+unfolding residual_in walk_to_stored
 stored_stops None t l ls is = absurd (cc)
 stored_stops (Some (value v)) t l ls is = absurd (cc)
 stored_stops (Some (residual r)) t l ls is = ap (λ x. stops (answers (residual (extended_has x l ls)))) (some_inj is)
 
 found_stops : (f : Found) (e : EntityName) (k : Text) (t : Term) (l : Text) (ls : List Text)
     → attribute_residual_found f k ≡ Some t
-    → step_found f e k l ls ≡ stops (answers (residual (extended_has t l ls)))
-unfolding attribute_residual_found step_found
+    → walk_found f e k l ls ≡ stops (answers (residual (extended_has t l ls)))
+unfolding attribute_residual_found walk_found
 found_stops not_known e k t l ls is = absurd (cc)
 found_stops not_there e k t l ls is = absurd (cc)
 found_stops (found x) e k t l ls is = stored_stops (part_at k x.attributes) t l ls is
 
 container_stops : (store : Store) (c : Container) (failure : Failure) (k : Text) (t : Term) (l : Text) (ls : List Text)
-    → in_container store c k ≡ Some t → step_in store c failure k l ls ≡ stops (answers (residual (extended_has t l ls)))
-unfolding in_container step_in
+    → in_container store c k ≡ Some t → walk_in store c failure k l ls ≡ stops (answers (residual (extended_has t l ls)))
+unfolding in_container walk_in
 container_stops store (a_record fs) failure k t l ls is = absurd (cc)
 container_stops store (an_entity e) failure k t l ls is = found_stops (look_up store e) e k t l ls is
 container_stops store no_container failure k t l ls is = absurd (cc)
 
 pub path_value : (store : Store) (ks : List Text) (v : Represented) (k : Text) (x : Represented)
     → answers_value x ≡ path_answer store v k ks → path_residual store v k ks ≡ None
-unfolding path_answer path_residual read_or after_step
+unfolding path_answer path_residual read_or after_walk
 path_value store [] v k x is = refl
 path_value store (l ∷ ls) v k x is =
     by (attribute_residual store v k) (next_in store (container_of v) k) (λ u h. path_value store ls u l x h) refl refl
   where
-    z : Step
-    z = step_in store (container_of v) (container_expected v) k l ls
+    z : Walk
+    z = walk_in store (container_of v) (container_expected v) k l ls
 
     by : (o : Option Term) (w : Option Represented)
         → ((u : Represented) → answers_value x ≡ path_answer store u l ls → path_residual store u l ls ≡ None)
@@ -313,10 +313,10 @@ path_value store (l ∷ ls) v k x is =
     by (Some t) w go i j =
         let stopped : z ≡ stops (answers (residual (extended_has t l ls))) =
         container_stops store (container_of v) (container_expected v) k t l ls (sym (in_its_container store v k) ∙ i) in
-        absurd (no_residual x (extended_has t l ls) (is ∙ ap (λ y. after_step y (λ u. path_answer store u l ls)) stopped))
+        absurd (no_residual x (extended_has t l ls) (is ∙ ap (λ y. after_walk y (λ u. path_answer store u l ls)) stopped))
     by None (Some u) go i j =
         let walked : z ≡ walks_on u = step_walks z u (step_is store v k l ls (Some u) i j) in
-        go u (is ∙ ap (λ y. after_step y (λ w. path_answer store w l ls)) walked)
+        go u (is ∙ ap (λ y. after_walk y (λ w. path_answer store w l ls)) walked)
     by None None go i j = refl
 
 tag_value : (o : Option PartialValue) (f : Failure) (x : Represented) → answers_value x ≡ stored_tag o f

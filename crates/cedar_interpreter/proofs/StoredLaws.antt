@@ -15,7 +15,7 @@ use Rattle.cedar_errors.specs.declared.evaluator.err.EvaluationError.{Evaluation
 use Rattle.cedar_errors.specs.Answers.{partial_answer}
 use Rattle.cedar_operators.specs.Operands.{over}
 use Rattle.cedar_partial_operators.specs.declared.attributes.Projected.TheVariants as projections
-use Rattle.cedar_partial_operators.specs.Parts.{Projection, answered, interpreted_again, projected, projection_of, projection_at, projection, Projects, ProjectsTo}
+use Rattle.cedar_partial_operators.specs.Parts.{Projection, answered, interpreted_again, projected, projection_of, projection_at, projection, AnswersProjection, ProjectsTo}
 use Rattle.cedar_partial_operators.proofs.Projections.{at_attribute}
 use Rattle.cedar_interpreter.specs.Reads.{resolved_in, part_residual}
 use Rattle.cedar_interpreter.proofs.ReadLaws.{nothing_resolved, as_stored, as_read}
@@ -106,7 +106,7 @@ of_projection s (residual r) k = of_fields s.map (fields_of_record r) r k
 module _ (May : MayAnswer) (s : Setting) (p : PartialValue) (k : Text) where
   -- where the attribute reads no stored residual that is evaluated
   pub part_stored : (a : Answer) → resolved_in s.resolution (part_residual s.store p k) ≡ None
-      → Projects May (projection s p k) a → AtAttribute May s (answers p) k a
+      → AnswersProjection May (projection s p k) a → AtAttribute May s (answers p) k a
   part_stored a none is =
       at_attribute May s p k a (λ v same stored. as_stored May s.resolution (attribute_residual s.store v k) (attribute_answer s v k) a
       (subst (λ x. resolved_in s.resolution (part_residual s.store x k) ≡ None) same none) stored) is
@@ -128,7 +128,7 @@ module _ (May : MayAnswer) (s : Setting) (p : PartialValue) (k : Text) where
       let not_want : partial_answer x ≢ fails out_of_memory = λ w. no_want (is ∙ ap (remapped s.map) w) in
       let same : answered (partial_answer x) ≡ projection (over s s.store) p k = h (λ w. not_want (cc)) in
       let all : projection s p k ≡ answered (remapped s.map (partial_answer x)) = of_projection s p k ∙ ap (remapped_projection s.map) (sym same) in
-      part_stored a none (subst (λ q. Projects May q a) (sym all) is)
+      part_stored a none (subst (λ q. AnswersProjection May q a) (sym all) is)
 
   pub part_uses : (e : Expr) → ProjectsTo (projections.Attribute e) (projection (over s s.store) p k) → (y a : Answer) → May (view e) y →
       a ≡ y → resolved_in s.resolution (part_residual s.store p k) ≡ None → AtAttribute May s (answers p) k a
@@ -136,4 +136,4 @@ module _ (May : MayAnswer) (s : Setting) (p : PartialValue) (k : Text) where
   part_uses e h y a may is none =
       let same : interpreted_again (view e) ≡ projection (over s s.store) p k = h (λ w. cc) in
       let all : projection s p k ≡ interpreted_again (view e) = of_projection s p k ∙ ap (remapped_projection s.map) (sym same) in
-      part_stored a none (subst (λ q. Projects May q a) (sym all) (subst (May (view e)) (sym is) may))
+      part_stored a none (subst (λ q. AnswersProjection May q a) (sym all) (subst (May (view e)) (sym is) may))

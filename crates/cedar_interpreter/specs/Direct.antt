@@ -15,7 +15,7 @@ use Rattle.cedar_values.specs.declared.partial_value.PartialValue.{PartialValue}
 use Rattle.cedar_values.specs.Residuals.{partial_view}
 use Rattle.cedar_model.specs.Settings.{RequestPart}
 use Rattle.cedar_names.specs.declared.names.Loc.{Loc}
-use Rattle.cedar_frames.specs.declared.machine.Step.TheVariants.{Done, Wait}
+use Rattle.cedar_frames.specs.declared.machine.Transition.TheVariants.{Done, Wait}
 use Rattle.cedar_interpreter.specs.declared.evaluation.Evaluation.{Evaluation}
 use Rattle.cedar_interpreter.specs.declared.frame.Pending.{Pending}
 use Rattle.cedar_interpreter.specs.declared.frame.Task.TheVariants as tasks

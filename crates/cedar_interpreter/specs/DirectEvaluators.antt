@@ -11,7 +11,8 @@ use Rattle.cedar_model.specs.Rules.{Parts, Runs}
 use Rattle.cedar_expressions.specs.declared.expr.Expr.{Expr}
 use Rattle.cedar_expressions.specs.View.{terms_view}
 use Rattle.cedar_values.specs.Sound.{Placed, whats}
-use Rattle.cedar_restricted_evaluator.specs.Keys.{key_order, texts_of}
+use Rattle.cedar_expressions.specs.Nodes.{key_order}
+use Rattle.cedar_restricted_evaluator.specs.Keys.{texts_of}
 use Rattle.cedar_restricted_evaluator.specs.Parts.{all_values}
 use Rattle.cedar_restricted_evaluator.proofs.Collected.{names_under}
 use Rattle.cedar_interpreter.specs.declared.evaluation.Evaluation.{Evaluation}

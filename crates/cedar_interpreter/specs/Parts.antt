@@ -5,7 +5,7 @@ use Rattle.cedar_model.specs.Rules.{Parts}
 use Rattle.cedar_names.specs.declared.names.Loc.{Loc}
 use Rattle.cedar_expressions.specs.declared.expr.Expr.{Expr}
 use Rattle.cedar_expressions.specs.View.{expr_loc}
-use Rattle.cedar_frames.specs.declared.machine.Step.TheVariants.{Done, Wait}
+use Rattle.cedar_frames.specs.declared.machine.Transition.TheVariants.{Done, Wait}
 use Rattle.cedar_restricted_evaluator.specs.declared.parts.PartsFrame.{PartsFrame}
 use Rattle.cedar_restricted_evaluator.specs.Evaluations.{partial_answer}
 use Rattle.cedar_restricted_evaluator.specs.Frames.{NextPart}

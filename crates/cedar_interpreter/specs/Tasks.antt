@@ -1,5 +1,5 @@
 -- What frames wait for, and what comes next.
-use Rattle.std.specs.Prelude.{◌≡◌, ◌≢◌, ◌<◌, ℕ, suc, true, false, List, length, Option, Result, Ok, Err, IfOk}
+use Rattle.std.specs.Prelude.{◌≡◌, ◌≢◌, ◌<◌, ℕ, suc, List, length, Option, Result, Ok, Err, IfOk}
 use Rattle.std.specs.declared.alloc.AllocError.{AllocError}
 use Rattle.std.specs.declared.alloc.Global.{Global}
 use Rattle.std.specs.declared.rc.Rc.{Rc}
@@ -20,8 +20,8 @@ use Rattle.cedar_values.specs.Residuals.{partial_view, partial_loc, partial_term
 use Rattle.cedar_partial_operators.specs.declared.connectives.Connective.{Connective}
 use Rattle.cedar_partial_operators.specs.declared.connectives.Connective.TheVariants as connectives
 use Rattle.cedar_partial_operators.specs.Connectives.{joined_terms, beside_neutral}
-use Rattle.cedar_frames.specs.declared.machine.Step.{Step}
-use Rattle.cedar_frames.specs.declared.machine.Step.TheVariants.{Done, Wait}
+use Rattle.cedar_frames.specs.declared.machine.Transition.{Transition}
+use Rattle.cedar_frames.specs.declared.machine.Transition.TheVariants.{Done, Wait}
 use Rattle.cedar_restricted_evaluator.specs.declared.parts.PartsFrame.{PartsFrame}
 use Rattle.cedar_restricted_evaluator.specs.Parts.{whole_term}
 use Rattle.cedar_restricted_evaluator.specs.Frames.{HasRead, parts_left, left_of}
@@ -40,7 +40,7 @@ SharedExpr = Rc Expr Global
 
 -- what comes next of an expression
 abbrev pub Next : Type 0
-Next = Step Frame SharedExpr Ending
+Next = Transition Frame SharedExpr Ending
 
 -- a value or residual stands at this place
 abbrev pub StandsAt : Option Loc → Ending → Type 0

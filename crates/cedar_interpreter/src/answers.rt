@@ -14,7 +14,7 @@ use crate::failed::Failed;
 use crate::frame::{Next, SharedExpr};
 use crate::stopped::Stopped;
 use cedar_errors::evaluator::err::EvaluationError;
-use cedar_frames::Step;
+use cedar_frames::Transition;
 use cedar_layers::expressions::Type;
 use cedar_names::Loc;
 use cedar_operators::failures::type_error;
@@ -41,7 +41,7 @@ pub(crate) fn answered(
 {
     match answer {
         Ok(value) => done(alloc, whole, value),
-        Err(error) => Step::Done(Err(Stopped::of(alloc, error, loc_of(whole)))),
+        Err(error) => Transition::Done(Err(Stopped::of(alloc, error, loc_of(whole)))),
     }
 }
 
@@ -59,7 +59,7 @@ pub(crate) fn answered_in(
             drop(mem::replace(&mut *operand, value));
             put_at(whole, operand)
         }
-        Err(error) => Step::Done(Err(Stopped::of(alloc, error, loc_of(whole)))),
+        Err(error) => Transition::Done(Err(Stopped::of(alloc, error, loc_of(whole)))),
     }
 }
 
@@ -79,7 +79,7 @@ pub(crate) fn done(alloc: Global, whole: &SharedExpr, part: PartialValue) -> Nex
 {
     match Box::new(alloc, part) {
         Ok(part) => put_at(whole, part),
-        Err(_) => Step::Done(Err(Stopped::Memory)),
+        Err(_) => Transition::Done(Err(Stopped::Memory)),
     }
 }
 
@@ -90,7 +90,7 @@ pub(crate) fn put_at(whole: &SharedExpr, mut part: Box<PartialValue>) -> Next
     ensures boxed { IsBoxed part.value result }
 {
     if is_value_put(&mut part, whole) {
-        Step::Done(Ok(part))
+        Transition::Done(Ok(part))
     } else {
         residual_at(whole, part)
     }
@@ -137,7 +137,7 @@ fn residual_at(whole: &SharedExpr, mut part: Box<PartialValue>) -> Next
 {
     let placed = taken_out(&mut part).with_maybe_source_loc(loc_of(whole));
     drop(mem::replace(&mut *part, placed));
-    Step::Done(Ok(part))
+    Transition::Done(Ok(part))
 }
 
 // The error that came, which ends what waited too, where the whole stands if it stands nowhere.
@@ -149,7 +149,7 @@ pub(crate) fn passed_on<T: Drop>(
 ) -> Next
     ensures { Gives (expr_loc whole.now.value) result (fails (failure_of failed.value.error)) }
 {
-    Step::Done(Err(Stopped::Failed(failed).within(alloc, loc_of(whole))))
+    Transition::Done(Err(Stopped::Failed(failed).within(alloc, loc_of(whole))))
 }
 
 // The boolean that an answer is, if it is one.
@@ -169,7 +169,7 @@ pub(crate) fn known_bool(part: &PartialValue) -> Option<bool>
 pub(crate) fn no_bool(alloc: Global, whole: &SharedExpr, value: &Value) -> Next
     ensures { Gives (expr_loc whole.now.value) result (bool_expected value.now.what) }
 {
-    Step::Done(Err(Stopped::of(alloc, type_error(alloc, Type::Bool, value), loc_of(whole))))
+    Transition::Done(Err(Stopped::of(alloc, type_error(alloc, Type::Bool, value), loc_of(whole))))
 }
 
 // What comes next, or want of memory.
@@ -178,7 +178,7 @@ pub(crate) fn or_want(next: Result<Next, AllocError>) -> Next
 {
     match next {
         Ok(next) => next,
-        Err(_) => Step::Done(Err(Stopped::Memory)),
+        Err(_) => Transition::Done(Err(Stopped::Memory)),
     }
 }
 

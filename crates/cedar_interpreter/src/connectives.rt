@@ -22,7 +22,7 @@ use crate::evaluation::Evaluation;
 use crate::frame::{Frame, Next, Pending, SharedExpr, Task};
 use crate::stopped::Stopped;
 use cedar_expressions::Expr;
-use cedar_frames::Step;
+use cedar_frames::Transition;
 use cedar_names::Literal;
 use cedar_operators::typed::bool_part;
 use cedar_partial_operators::connectives::{Connective, joined_right, residual_connective};
@@ -48,11 +48,11 @@ impl<'e, 'g, 'f> Evaluation<'e, 'g, 'f> {
             Ok(right) => match pair_of_copies(whole, left) {
                 Ok((whole, left)) => {
                     let task = Task::Other(Pending::LeftSide { connective, right });
-                    Step::Wait(Frame { whole, task }, left)
+                    Transition::Wait(Frame { whole, task }, left)
                 }
-                Err(_) => Step::Done(Err(Stopped::Memory)),
+                Err(_) => Transition::Done(Err(Stopped::Memory)),
             },
-            Err(_) => Step::Done(Err(Stopped::Memory)),
+            Err(_) => Transition::Done(Err(Stopped::Memory)),
         }
     }
 
@@ -72,7 +72,7 @@ impl<'e, 'g, 'f> Evaluation<'e, 'g, 'f> {
             Some(b) => {
                 if connective.is_decided_by(b) {
                     drop(right);
-                    Step::Done(Ok(bool_at(&whole, left, b)))
+                    Transition::Done(Ok(bool_at(&whole, left, b)))
                 } else {
                     self.right_side(alloc, whole, connective, right, left, levels)
                 }
@@ -122,7 +122,7 @@ impl<'e, 'g, 'f> Evaluation<'e, 'g, 'f> {
             left,
             right,
         });
-        Ok(Step::Wait(Frame { whole, task }, part))
+        Ok(Transition::Wait(Frame { whole, task }, part))
     }
 
     // After the right side beside a left side that does not decide: it must be a boolean.
@@ -136,7 +136,7 @@ impl<'e, 'g, 'f> Evaluation<'e, 'g, 'f> {
         ensures { ContinuesAt self.now whole (pendings.RightSide connective) (boxed_answer right) result }
     {
         match known_bool(&right) {
-            Some(b) => Step::Done(Ok(bool_at(&whole, right, b))),
+            Some(b) => Transition::Done(Ok(bool_at(&whole, right, b))),
             None => self.after_no_bool_right_side(alloc, whole, connective, right),
         }
     }
@@ -176,7 +176,7 @@ impl<'e, 'g, 'f> Evaluation<'e, 'g, 'f> {
                 let answer = residual_connective(alloc, connective, left, right);
                 answered_in(alloc, &whole, part, answer)
             }
-            Err(_) => Step::Done(Err(Stopped::Memory)),
+            Err(_) => Transition::Done(Err(Stopped::Memory)),
         }
     }
 
@@ -195,7 +195,7 @@ impl<'e, 'g, 'f> Evaluation<'e, 'g, 'f> {
         ensures { IsRightSide self.now levels whole (pendings.RightSide connective) right result }
     {
         match bool_literal_in(&right) {
-            Some(b) => Step::Done(Ok(bool_at(&whole, in_place_of(connective, left, b), b))),
+            Some(b) => Transition::Done(Ok(bool_at(&whole, in_place_of(connective, left, b), b))),
             None => self.other_right_side(alloc, whole, connective, right, left, levels),
         }
     }
@@ -213,7 +213,7 @@ impl<'e, 'g, 'f> Evaluation<'e, 'g, 'f> {
         ensures { IsRightSide self.now levels whole (pendings.RightSide connective) right result }
     {
         match self.direct_bool(alloc, &right, levels) {
-            Some(b) => Step::Done(Ok(bool_at(&whole, with_bool(left, b), b))),
+            Some(b) => Transition::Done(Ok(bool_at(&whole, with_bool(left, b), b))),
             None => wait_for_right(whole, Pending::RightSide(connective), right),
         }
     }
@@ -263,5 +263,5 @@ fn wait_for_right(whole: SharedExpr, pending: Pending, right: SharedExpr) -> Nex
     ensures { IsAwaited whole pending right result }
 {
     let task = Task::Other(pending);
-    Step::Wait(Frame { whole, task }, right)
+    Transition::Wait(Frame { whole, task }, right)
 }

@@ -15,7 +15,7 @@ ghost use Rattle.cedar_partial_operators.specs.Connectives.{joined_terms};
 ghost use Rattle.cedar_interpreter.specs.Direct.{IsValueOf, HasDirectValue, HasDirectBool, HasDirectValueAbove};
 ghost use Rattle.cedar_interpreter.specs.DirectEvaluators.{HasDirectParts, HasDirectPairs, some_above};
 
-use crate::direct::{boolean_of, literal_value, answered_value};
+use crate::direct::{answered_value, boolean_of, literal_value};
 use crate::evaluation::Evaluation;
 use cedar_expressions::{Expr, ExprKind};
 use cedar_names::{BinaryOp, EntityType, FirstRest, Literal, Pattern, UnaryOp, Var};
@@ -227,7 +227,12 @@ impl<T: DirectEvaluator> EvaluatorAbove<T> {
         ensures { HasDirectValueAbove within.now T.height (Terms.unary (unary_view op) (view arg.now)) result }
     {
         match self.below.evaluate(within, alloc, arg) {
-            Some(value) => answered_value(unary_of_part(alloc, op, PartialValue::Value(value), None)),
+            Some(value) => answered_value(unary_of_part(
+                alloc,
+                op,
+                PartialValue::Value(value),
+                None,
+            )),
             None => None,
         }
     }
@@ -374,7 +379,11 @@ impl<T: DirectEvaluator> EvaluatorAbove<T> {
             (Terms.is_of_type (view expr.now) (type_text entity_type.now)) result }
     {
         match self.below.evaluate(within, alloc, expr) {
-            Some(value) => answered_value(is_of_part(alloc, PartialValue::Value(value), entity_type)),
+            Some(value) => answered_value(is_of_part(
+                alloc,
+                PartialValue::Value(value),
+                entity_type,
+            )),
             None => None,
         }
     }

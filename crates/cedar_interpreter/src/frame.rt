@@ -2,7 +2,7 @@
 use crate::boxed_residual::BoxedResidual;
 use crate::stopped::Stopped;
 use cedar_expressions::Expr;
-use cedar_frames::Step;
+use cedar_frames::Transition;
 use cedar_names::{BinaryOp, EntityType, FirstRest, Pattern, UnaryOp};
 use cedar_partial_operators::connectives::Connective;
 use cedar_restricted_evaluator::PartsFrame;
@@ -99,4 +99,4 @@ pub struct SecondBranch {
 pub type Ending = Result<Box<PartialValue>, Stopped>;
 
 /// What comes next of an expression: its answer, or the part that it waits for.
-pub type Next = Step<Frame, SharedExpr, Ending>;
+pub type Next = Transition<Frame, SharedExpr, Ending>;

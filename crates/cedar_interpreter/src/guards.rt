@@ -16,7 +16,7 @@ use crate::evaluation::Evaluation;
 use crate::frame::{FirstBranch, Frame, Next, Pending, SecondBranch, SharedExpr, Task};
 use crate::stopped::Stopped;
 use cedar_expressions::Expr;
-use cedar_frames::Step;
+use cedar_frames::Transition;
 use cedar_partial_operators::connectives::residual_if;
 use cedar_values::{PartialValue, ResidualExpr};
 use std::alloc::{AllocError, Global};
@@ -41,11 +41,11 @@ impl<'e, 'g, 'f> Evaluation<'e, 'g, 'f> {
                         then_expr,
                         else_expr,
                     });
-                    Step::Wait(Frame { whole, task }, test_expr)
+                    Transition::Wait(Frame { whole, task }, test_expr)
                 }
-                Err(_) => Step::Done(Err(Stopped::Memory)),
+                Err(_) => Transition::Done(Err(Stopped::Memory)),
             },
-            Err(_) => Step::Done(Err(Stopped::Memory)),
+            Err(_) => Transition::Done(Err(Stopped::Memory)),
         }
     }
 
@@ -64,12 +64,12 @@ impl<'e, 'g, 'f> Evaluation<'e, 'g, 'f> {
             Some(true) => {
                 drop((guard, else_expr));
                 let task = Task::Other(Pending::Passed);
-                Step::Wait(Frame { whole, task }, then_expr)
+                Transition::Wait(Frame { whole, task }, then_expr)
             }
             Some(false) => {
                 drop((guard, then_expr));
                 let task = Task::Other(Pending::Passed);
-                Step::Wait(Frame { whole, task }, else_expr)
+                Transition::Wait(Frame { whole, task }, else_expr)
             }
             None => or_want(self.after_no_bool_guard(alloc, whole, then_expr, else_expr, guard)),
         }
@@ -123,7 +123,7 @@ impl<'e, 'g, 'f> Evaluation<'e, 'g, 'f> {
         };
         let (first, part) = boxed_with(alloc, first, part)?;
         let task = Task::Other(Pending::Then(first));
-        Ok(Step::Wait(Frame { whole, task }, part))
+        Ok(Transition::Wait(Frame { whole, task }, part))
     }
 
     // The second branch beside a residual guard, after what is kept of the first.
@@ -151,7 +151,7 @@ impl<'e, 'g, 'f> Evaluation<'e, 'g, 'f> {
         };
         let (second, part) = boxed_with(alloc, second, part)?;
         let task = Task::Other(Pending::Else(second));
-        Ok(Step::Wait(Frame { whole, task }, part))
+        Ok(Transition::Wait(Frame { whole, task }, part))
     }
 
     // `if` with a residual guard and what is kept of both branches.
@@ -175,7 +175,7 @@ impl<'e, 'g, 'f> Evaluation<'e, 'g, 'f> {
                 let answer = residual_if(alloc, guard, then_expr, else_expr);
                 answered(alloc, &whole, answer)
             }
-            Err(_) => Step::Done(Err(Stopped::Memory)),
+            Err(_) => Transition::Done(Err(Stopped::Memory)),
         }
     }
 }

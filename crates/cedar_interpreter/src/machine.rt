@@ -17,7 +17,7 @@ use crate::failed::Failed;
 use crate::frame::{Ending, Frame, Next, SharedExpr, Task};
 use crate::start::next_of_parts;
 use crate::stopped::Stopped;
-use cedar_frames::{Machine, Step};
+use cedar_frames::{Machine, Transition};
 use cedar_restricted_evaluator::PartsFrame;
 use cedar_values::PartialValue;
 use std::alloc::Global;
@@ -118,8 +118,8 @@ impl<'e, 'g, 'f> Evaluation<'e, 'g, 'f> {
         ensures elements { TaskContinues task (Err stopped) result }
     {
         match stopped {
-            Stopped::Memory => Step::Done(Err(Stopped::Memory)),
-            Stopped::Limit => Step::Done(Err(Stopped::Limit)),
+            Stopped::Memory => Transition::Done(Err(Stopped::Memory)),
+            Stopped::Limit => Transition::Done(Err(Stopped::Limit)),
             Stopped::Failed(failed) => self.kept_or_failed(alloc, whole, task, failed),
         }
     }

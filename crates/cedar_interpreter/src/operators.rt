@@ -26,7 +26,7 @@ use crate::frame::{Frame, Next, Pending, SharedExpr, Task};
 use crate::stopped::Stopped;
 use crate::stored::stored_in;
 use cedar_expressions::Expr;
-use cedar_frames::Step;
+use cedar_frames::Transition;
 use cedar_names::{BinaryOp, EntityType, FirstRest, Pattern, UnaryOp};
 use cedar_operators::stored_residuals::OnPath;
 use cedar_operators::typed::bool_part;
@@ -226,7 +226,7 @@ impl<'e, 'g, 'f> Evaluation<'e, 'g, 'f> {
                 }
                 None => self.walked_as_stored(alloc, whole, attrs, container),
             },
-            Err(_) => Step::Done(Err(Stopped::Memory)),
+            Err(_) => Transition::Done(Err(Stopped::Memory)),
         }
     }
 
@@ -294,9 +294,9 @@ fn right_operand(
     match pair_of_copies(whole, right) {
         Ok((whole, right)) => {
             let task = Task::Other(Pending::BinaryRight { op, left });
-            Step::Wait(Frame { whole, task }, right)
+            Transition::Wait(Frame { whole, task }, right)
         }
-        Err(_) => Step::Done(Err(Stopped::Memory)),
+        Err(_) => Transition::Done(Err(Stopped::Memory)),
     }
 }
 
@@ -308,7 +308,7 @@ fn read_again(alloc: Global, whole: &SharedExpr, residual: &ResidualExpr) -> Nex
 {
     match residual.as_expr().clone() {
         Ok(part) => projected(alloc, whole, part),
-        Err(_) => Step::Done(Err(Stopped::Memory)),
+        Err(_) => Transition::Done(Err(Stopped::Memory)),
     }
 }
 
@@ -322,9 +322,9 @@ fn walk_again(whole: &SharedExpr, read: OnPath) -> Next
     match whole.clone() {
         Ok(whole) => {
             let task = Task::Other(Pending::ExtHasAttr(attrs));
-            Step::Wait(Frame { whole, task }, part)
+            Transition::Wait(Frame { whole, task }, part)
         }
-        Err(_) => Step::Done(Err(Stopped::Memory)),
+        Err(_) => Transition::Done(Err(Stopped::Memory)),
     }
 }
 
@@ -338,11 +338,11 @@ fn projected(alloc: Global, whole: &SharedExpr, part: Expr) -> Next
         Ok(whole) => match Rc::new(alloc, part) {
             Ok(part) => {
                 let task = Task::Other(Pending::Passed);
-                Step::Wait(Frame { whole, task }, part)
+                Transition::Wait(Frame { whole, task }, part)
             }
-            Err(_) => Step::Done(Err(Stopped::Memory)),
+            Err(_) => Transition::Done(Err(Stopped::Memory)),
         },
-        Err(_) => Step::Done(Err(Stopped::Memory)),
+        Err(_) => Transition::Done(Err(Stopped::Memory)),
     }
 }
 

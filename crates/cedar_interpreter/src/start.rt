@@ -23,7 +23,7 @@ use crate::stopped::Stopped;
 use crate::stored::mapped;
 use cedar_errors::evaluator::err::{EvaluationError, evaluation_errors};
 use cedar_expressions::{Expr, ExprKind};
-use cedar_frames::Step;
+use cedar_frames::Transition;
 use cedar_layers::expressions::SlotEnv;
 use cedar_names::{
     BinaryOp, EntityType, FirstRest, Literal, Name, Pattern, SlotId, Type, UnaryOp, Unknown, Var,
@@ -84,7 +84,7 @@ impl<'e, 'g, 'f> Evaluation<'e, 'g, 'f> {
     {
         match literal_value(value) {
             Some(value) => done(alloc, whole, PartialValue::Value(value)),
-            None => Step::Done(Err(Stopped::Memory)),
+            None => Transition::Done(Err(Stopped::Memory)),
         }
     }
 
@@ -93,7 +93,7 @@ impl<'e, 'g, 'f> Evaluation<'e, 'g, 'f> {
     {
         match self.given.given_for(var).clone() {
             Ok(part) => done(alloc, whole, part),
-            Err(_) => Step::Done(Err(Stopped::Memory)),
+            Err(_) => Transition::Done(Err(Stopped::Memory)),
         }
     }
 
@@ -116,9 +116,9 @@ impl<'e, 'g, 'f> Evaluation<'e, 'g, 'f> {
         match pair_of_copies(whole, arg) {
             Ok((whole, arg)) => {
                 let task = Task::Other(Pending::Unary(op));
-                Step::Wait(Frame { whole, task }, arg)
+                Transition::Wait(Frame { whole, task }, arg)
             }
-            Err(_) => Step::Done(Err(Stopped::Memory)),
+            Err(_) => Transition::Done(Err(Stopped::Memory)),
         }
     }
 
@@ -154,11 +154,11 @@ impl<'e, 'g, 'f> Evaluation<'e, 'g, 'f> {
             Ok(right) => match pair_of_copies(whole, left) {
                 Ok((whole, left)) => {
                     let task = Task::Other(Pending::BinaryLeft { op, right });
-                    Step::Wait(Frame { whole, task }, left)
+                    Transition::Wait(Frame { whole, task }, left)
                 }
-                Err(_) => Step::Done(Err(Stopped::Memory)),
+                Err(_) => Transition::Done(Err(Stopped::Memory)),
             },
-            Err(_) => Step::Done(Err(Stopped::Memory)),
+            Err(_) => Transition::Done(Err(Stopped::Memory)),
         }
     }
 
@@ -187,11 +187,11 @@ impl<'e, 'g, 'f> Evaluation<'e, 'g, 'f> {
             Ok(attr) => match pair_of_copies(whole, expr) {
                 Ok((whole, expr)) => {
                     let task = Task::Other(Pending::GetAttr(attr));
-                    Step::Wait(Frame { whole, task }, expr)
+                    Transition::Wait(Frame { whole, task }, expr)
                 }
-                Err(_) => Step::Done(Err(Stopped::Memory)),
+                Err(_) => Transition::Done(Err(Stopped::Memory)),
             },
-            Err(_) => Step::Done(Err(Stopped::Memory)),
+            Err(_) => Transition::Done(Err(Stopped::Memory)),
         }
     }
 
@@ -220,11 +220,11 @@ impl<'e, 'g, 'f> Evaluation<'e, 'g, 'f> {
             Ok(attr) => match pair_of_copies(whole, expr) {
                 Ok((whole, expr)) => {
                     let task = Task::Other(Pending::HasAttr(attr));
-                    Step::Wait(Frame { whole, task }, expr)
+                    Transition::Wait(Frame { whole, task }, expr)
                 }
-                Err(_) => Step::Done(Err(Stopped::Memory)),
+                Err(_) => Transition::Done(Err(Stopped::Memory)),
             },
-            Err(_) => Step::Done(Err(Stopped::Memory)),
+            Err(_) => Transition::Done(Err(Stopped::Memory)),
         }
     }
 
@@ -256,11 +256,11 @@ impl<'e, 'g, 'f> Evaluation<'e, 'g, 'f> {
             Ok(attrs) => match pair_of_copies(whole, expr) {
                 Ok((whole, expr)) => {
                     let task = Task::Other(Pending::ExtHasAttr(attrs));
-                    Step::Wait(Frame { whole, task }, expr)
+                    Transition::Wait(Frame { whole, task }, expr)
                 }
-                Err(_) => Step::Done(Err(Stopped::Memory)),
+                Err(_) => Transition::Done(Err(Stopped::Memory)),
             },
-            Err(_) => Step::Done(Err(Stopped::Memory)),
+            Err(_) => Transition::Done(Err(Stopped::Memory)),
         }
     }
 
@@ -300,11 +300,11 @@ impl<'e, 'g, 'f> Evaluation<'e, 'g, 'f> {
             Ok(pattern) => match pair_of_copies(whole, expr) {
                 Ok((whole, expr)) => {
                     let task = Task::Other(Pending::Like(pattern));
-                    Step::Wait(Frame { whole, task }, expr)
+                    Transition::Wait(Frame { whole, task }, expr)
                 }
-                Err(_) => Step::Done(Err(Stopped::Memory)),
+                Err(_) => Transition::Done(Err(Stopped::Memory)),
             },
-            Err(_) => Step::Done(Err(Stopped::Memory)),
+            Err(_) => Transition::Done(Err(Stopped::Memory)),
         }
     }
 
@@ -345,11 +345,11 @@ impl<'e, 'g, 'f> Evaluation<'e, 'g, 'f> {
             Ok(entity_type) => match pair_of_copies(whole, expr) {
                 Ok((whole, expr)) => {
                     let task = Task::Other(Pending::Is(entity_type));
-                    Step::Wait(Frame { whole, task }, expr)
+                    Transition::Wait(Frame { whole, task }, expr)
                 }
-                Err(_) => Step::Done(Err(Stopped::Memory)),
+                Err(_) => Transition::Done(Err(Stopped::Memory)),
             },
-            Err(_) => Step::Done(Err(Stopped::Memory)),
+            Err(_) => Transition::Done(Err(Stopped::Memory)),
         }
     }
 
@@ -421,7 +421,7 @@ fn slot_unlinked(alloc: Global, whole: &SharedExpr, slot: SlotId) -> Next
         slot,
         source_loc: None,
     });
-    Step::Done(Err(Stopped::of(alloc, error, loc_of(whole))))
+    Transition::Done(Err(Stopped::of(alloc, error, loc_of(whole))))
 }
 
 // What comes first of a set, a record or a call.
@@ -431,7 +431,7 @@ fn first_part(alloc: Global, whole: &SharedExpr, next: NextPart) -> Next
 {
     match whole.clone() {
         Ok(whole) => next_of_parts(alloc, whole, next),
-        Err(_) => Step::Done(Err(Stopped::Memory)),
+        Err(_) => Transition::Done(Err(Stopped::Memory)),
     }
 }
 
@@ -441,9 +441,13 @@ pub(crate) fn next_of_parts(alloc: Global, whole: SharedExpr, next: NextPart) ->
     ensures same { IsPartTaken next result }
 {
     match next {
-        Step::Done(Ok(part)) => done(alloc, &whole, part),
-        Step::Done(Err(error)) => Step::Done(Err(Stopped::of(alloc, error, loc_of(&whole)))),
-        Step::Wait(frame, part) => or_want(next_part(alloc, whole, frame, part)),
+        Transition::Done(Ok(part)) => done(alloc, &whole, part),
+        Transition::Done(Err(error)) => Transition::Done(Err(Stopped::of(
+            alloc,
+            error,
+            loc_of(&whole),
+        ))),
+        Transition::Wait(frame, part) => or_want(next_part(alloc, whole, frame, part)),
     }
 }
 
@@ -458,5 +462,5 @@ fn next_part(
 {
     let part = Rc::new(alloc, part)?;
     let task = Task::Parts(Box::new(alloc, frame)?);
-    Ok(Step::Wait(Frame { whole, task }, part))
+    Ok(Transition::Wait(Frame { whole, task }, part))
 }

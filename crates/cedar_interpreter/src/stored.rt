@@ -22,7 +22,7 @@ use crate::frame::{Next, SharedExpr};
 use crate::stopped::Stopped;
 use cedar_errors::evaluator::err::EvaluationError;
 use cedar_expressions::{Expr, ExprKind};
-use cedar_frames::Step;
+use cedar_frames::Transition;
 use cedar_names::laws::leaves_are_equal_by_view;
 use cedar_names::{Type, Unknown};
 use cedar_operators::failures::type_error;
@@ -178,7 +178,7 @@ fn wrong_type(alloc: Global, whole: &SharedExpr, ty: Type, value: &Value) -> Nex
     ensures { Gives (expr_loc whole.now.value) result
         (fails (wrong_type (type_view ty) [] (abstract_value value.now.what))) }
 {
-    Step::Done(Err(Stopped::of(alloc, type_error(alloc, ty, value), loc_of(whole))))
+    Transition::Done(Err(Stopped::of(alloc, type_error(alloc, ty, value), loc_of(whole))))
 }
 
 // The unknown is left.

@@ -4,7 +4,7 @@ use Rattle.cedar_model.specs.Terms.{Text, Term}
 use Rattle.cedar_model.specs.World as world
 use Rattle.cedar_model.specs.Rules.{StoredCalls, fields_of_record}
 use Rattle.cedar_expressions.specs.Records.{first_repeated}
-use Rattle.cedar_restricted_evaluator.specs.Evaluations.{bare}
+use Rattle.cedar_restricted_evaluator.specs.Evaluations.{bare_setting}
 use Rattle.cedar_requests.specs.declared.context.Context.{Context}
 use Rattle.cedar_requests.specs.declared.errors.ContextCreationError.{ContextCreationError}
 use Rattle.cedar_requests.specs.declared.errors.ContextCreationError.TheVariants as creations
@@ -50,7 +50,7 @@ context_refused x calls n s there (errors.Memory m) h = tt
 of_record : (x : world.Extensions) (calls : StoredCalls) (n : ℕ) (t : Term) (c : ContextCreationError) (e : JsonError)
     → is_record t ≡ true → IsCreated x calls n t (Err c) → IsUncreated c e → IsContextRefusal x calls n (Ok t) [] e
 of_record x calls n t (creations.NotARecord r) e is h u =
-    let other : is_record t ≡ false = (h (bare x) record { no_map = refl; has_extensions = refl }).0 in
+    let other : is_record t ≡ false = (h (bare_setting x) record { no_map = refl; has_extensions = refl }).0 in
     absurd (cc)
 of_record x calls n t (creations.Evaluation r) errors.Syntax is h u = u
 of_record x calls n t (creations.Evaluation r) errors.DuplicateKey is h u = u
@@ -58,7 +58,7 @@ of_record x calls n t (creations.Evaluation r) (errors.Refused p q) is h u = abs
 of_record x calls n t (creations.Evaluation r) (errors.Evaluation p y) is h u =
     (u.0, subst (λ (z : EvaluationError). IsCreated x calls n t (Err (creations.Evaluation z))) (sym u.1) h)
 of_record x calls n t (creations.Evaluation r) (errors.Memory m) is h u = tt
-of_record x calls n t (creations.ExpressionConstruction r) e is h u = absurd (h (bare x) record { no_map = refl; has_extensions = refl })
+of_record x calls n t (creations.ExpressionConstruction r) e is h u = absurd (h (bare_setting x) record { no_map = refl; has_extensions = refl })
 of_record x calls n t (creations.Memory r) errors.Syntax is h u = u
 of_record x calls n t (creations.Memory r) errors.DuplicateKey is h u = u
 of_record x calls n t (creations.Memory r) (errors.Refused p q) is h u = absurd u

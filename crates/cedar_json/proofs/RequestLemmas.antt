@@ -1,10 +1,9 @@
 -- What becomes of a request by its parts.
-use Rattle.std.proofs.Common.{◌≡◌, ℕ, List, [], ◌∷◌, Option, Some, None, Ok, Err, sym, ap, ◌∙◌, subst, codes}
+use Rattle.std.proofs.Common.{◌≡◌, ℕ, List, [], ◌∷◌, Option, Some, Ok, sym, ap, ◌∙◌, subst, codes}
 use Rattle.json.specs.Json.{Json}
 use Rattle.cedar_model.specs.Terms.{Text, EntityName, Term}
 use Rattle.cedar_model.specs.World as world
 use Rattle.cedar_model.specs.Rules.{StoredCalls}
-use Rattle.cedar_names.specs.Names.{uid_name}
 use Rattle.cedar_requests.specs.declared.context.Context.{Context}
 use Rattle.cedar_requests.specs.declared.entry.EntityUIDEntry.{EntityUIDEntry}
 use Rattle.cedar_requests.specs.declared.entry.EntityUIDEntry.TheVariants as entries
@@ -15,7 +14,7 @@ use Rattle.cedar_text.specs.Reading.{IsWithin}
 use Rattle.cedar_json.specs.declared.errors.JsonError.{JsonError}
 use Rattle.cedar_json.specs.declared.errors.JsonError.TheVariants as errors
 use Rattle.cedar_json.specs.declared.errors.RefusalReason.{RefusalReason}
-use Rattle.cedar_json.specs.Paths.{Step, at_key, path_view}
+use Rattle.cedar_json.specs.Paths.{Step, at_key}
 use Rattle.cedar_json.specs.Refusals.{Said, IsRefusal, IsRefusedAt, IsUnder, IsMemory}
 use Rattle.cedar_json.specs.NamedEntities.{IsNoEntity, expected, too_deep, IsNoEntityText, IsTold, IsNamedAt, IsUnnamedAt}
 use Rattle.cedar_json.specs.SaidContexts.{IsContextOf, IsContextRefusal}

@@ -1,11 +1,8 @@
 -- Parts are smaller than what they are parts of.
-use Rattle.std.proofs.Common.{◌≡◌, ◌<◌, ℕ, Bool, true, false, cond, length, Option, Some, None, ap, sym, subst, arith}
-use Rattle.std.specs.Prelude.{bytes_eq, codes}
-use Rattle.std.proofs.lemmas.List.{length-append}
-use Rattle.json.specs.Json.{Json, null, boolean, number, string, array, object, Items, Members, no_members, member}
+use Rattle.std.proofs.Common.{◌≡◌, ◌<◌, ℕ, length, Option, Some, None}
+use Rattle.json.specs.Json.{Json, Items, Members}
 use Rattle.json.specs.Tree.{json_tokens, items_tokens, members_tokens}
-use Rattle.cedar_json.specs.Shapes.{Member, Parts, sole, call_shape}
-use Rattle.cedar_model.specs.Terms.{Text}
+use Rattle.cedar_json.specs.Shapes.{Member}
 
 abbrev pub size : Json → ℕ
 size j = length (json_tokens j)

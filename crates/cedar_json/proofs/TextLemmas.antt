@@ -1,5 +1,5 @@
 -- What a text says is what its JSON value says.
-use Rattle.std.proofs.Common.{◌≡◌, ℕ, List, [], ◌∷◌, Some, None, Ok, Err, IsOk, refl, sym, subst, Option, codes}
+use Rattle.std.proofs.Common.{◌≡◌, ℕ, List, [], ◌∷◌, Some, None, Ok, Err, sym, subst, Option, codes}
 use Rattle.cedar_json.specs.Paths.{path_view}
 use Rattle.std.specs.Prelude.{⊤, IsSomeAnd}
 use Rattle.json.specs.Json.{Json, document}
@@ -11,17 +11,15 @@ use Rattle.cedar_json.specs.declared.errors.JsonError.TheVariants as errors
 use Rattle.cedar_json.specs.declared.errors.RefusalReason.{RefusalReason}
 use Rattle.cedar_json.specs.declared.errors.RefusalReason.TheVariants as reasons
 use Rattle.cedar_json.specs.Refusals.{Said, under, IsRefusal, IsRefusedAt}
-use Rattle.cedar_json.specs.JsonTexts.{Says, SaysSo, IsUnread, IsTextRefusal, IsTextError}
+use Rattle.cedar_json.specs.JsonTexts.{Says, IsUnread, IsTextRefusal, IsTextError}
 use Rattle.cedar_model.specs.Terms.{Term}
 use Rattle.cedar_model.specs.World as world
 use Rattle.cedar_model.specs.Rules.{StoredCalls}
-use Rattle.cedar_layers.specs.declared.policies.entities.Entity.{Entity}
 use Rattle.cedar_json.specs.Paths.{Step, at_key}
 use Rattle.cedar_json.specs.SaidContexts.{IsContextRefusal}
-use Rattle.cedar_json.specs.SaidEntities.{SaidEntity, entities_said, plain_uid_said}
-use Rattle.cedar_json.specs.NamedEntities.{IsNoEntityText, IsUnnamedBy, IsUnnamedIn, IsUnnamedAt}
+use Rattle.cedar_json.specs.SaidEntities.{plain_uid_said}
+use Rattle.cedar_json.specs.NamedEntities.{IsNoEntityText, IsUnnamedBy, IsUnnamedIn}
 use Rattle.cedar_json.specs.SaidRequests.{AreUnnamed, no_principal, no_action, no_resource, IsRequestRefusal, no_request, no_entity, no_context, object_said, context_at}
-use Rattle.cedar_json.specs.Evaluated.{AreEvaluated, AreEntitiesOf, IsEvaluationError, IsEntitiesError}
 
 pub text_says : {T : Type 0} (text : Text) (said : Json → Said T) (j : Json) (t : T) → document text ≡ Some j → HasUniqueKeys j → said j ≡ Ok t → Says text said t
 text_says text said j t is unique h = subst (λ (o : Option Json). IsSomeAnd o (λ i. HasUniqueKeys i × (said i ≡ Ok t))) (sym is) (unique, h)

@@ -6,7 +6,7 @@ ghost use Rattle.std.specs.Rc.{rc_str_bytes};
 ghost use Rattle.cedar_expressions.specs.Records.{fields_in_order};
 ghost use Rattle.cedar_names.specs.Names.{uid_name};
 ghost use Rattle.cedar_extensions.specs.Extensions.{extensions_view, calls_of};
-ghost use Rattle.cedar_restricted_evaluator.specs.Evaluators.{extensions_in, calls_in, limit_of};
+ghost use Rattle.cedar_restricted_evaluator.specs.Evaluators.{extensions_read, calls_in, limit_of};
 ghost use Rattle.cedar_restricted_expressions.specs.Views.{restricted_term};
 ghost use Rattle.cedar_json.specs.Lists.{pairs_said};
 ghost use Rattle.cedar_json.specs.StatedEntities.{names_of, stated_view, stated_views};
@@ -89,7 +89,7 @@ fn evaluate_all(
     entities: &mut Vec<Entity>,
 ) -> Result<(), JsonError>
     requires { entities.old.items ≡ [] }
-    ensures evaluated { OnOk result (AreEvaluated (extensions_in evaluator.now) (calls_in evaluator.now)
+    ensures evaluated { OnOk result (AreEvaluated (extensions_read evaluator.now) (calls_in evaluator.now)
         (limit_of evaluator.now) (stated_views stated.items) entities.new.items) }
     ensures failed { IfErr result IsEvaluationError }
 {
@@ -109,7 +109,7 @@ fn put_evaluated(
     index: usize,
     entities: &mut Vec<Entity>,
 ) -> Result<(), JsonError>
-    ensures adds { OnOk result (AddsEntity (extensions_in evaluator.now) (calls_in evaluator.now)
+    ensures adds { OnOk result (AddsEntity (extensions_read evaluator.now) (calls_in evaluator.now)
         (limit_of evaluator.now) (stated_view stated) entities.old.items entities.new.items) }
     ensures failed { IfErr result IsEvaluationError }
 {
@@ -127,7 +127,7 @@ fn evaluate(
     stated: StatedEntity,
     evaluator: &RestrictedEvaluator<'_, '_>,
 ) -> Result<Entity, JsonError>
-    ensures evaluated { IfOk result (IsEvaluated (extensions_in evaluator.now) (calls_in evaluator.now)
+    ensures evaluated { IfOk result (IsEvaluated (extensions_read evaluator.now) (calls_in evaluator.now)
         (limit_of evaluator.now) (stated_view stated)) }
     ensures failed { IfErr result IsEvaluationError }
 {
@@ -171,7 +171,7 @@ fn parts_at(
     evaluator: &RestrictedEvaluator<'_, '_>,
     key: &str,
 ) -> Result<StoredParts, JsonError>
-    ensures answered { IfOk result (λ r. AreAnswered (extensions_in evaluator.now) (calls_in evaluator.now)
+    ensures answered { IfOk result (λ r. AreAnswered (extensions_read evaluator.now) (calls_in evaluator.now)
         (limit_of evaluator.now) (fields_in_order (pairs_said pairs.items)) (parts_view r.map.entries)) }
     ensures failed { IfErr result IsEvaluationError }
 {
@@ -186,7 +186,7 @@ fn parts(
     pairs: Vec<(RcStr, RestrictedExpr)>,
     evaluator: &RestrictedEvaluator<'_, '_>,
 ) -> Result<StoredParts, JsonError>
-    ensures answered { IfOk result (λ r. AreAnswered (extensions_in evaluator.now) (calls_in evaluator.now)
+    ensures answered { IfOk result (λ r. AreAnswered (extensions_read evaluator.now) (calls_in evaluator.now)
         (limit_of evaluator.now) (fields_in_order (pairs_said pairs.items)) (parts_view r.map.entries)) }
     ensures failed { IfErr result IsEvaluationError }
 {
@@ -205,7 +205,7 @@ fn with_part(
     expr: RestrictedExpr,
     evaluator: &RestrictedEvaluator<'_, '_>,
 ) -> Result<StoredParts, JsonError>
-    ensures adds { IfOk result (λ r. AddsPart (extensions_in evaluator.now) (calls_in evaluator.now)
+    ensures adds { IfOk result (λ r. AddsPart (extensions_read evaluator.now) (calls_in evaluator.now)
         (limit_of evaluator.now) (rc_str_bytes key) (restricted_term expr) parts.map.entries r.map.entries) }
     ensures failed { IfErr result IsEvaluationError }
 {
@@ -231,7 +231,7 @@ fn part(
     expr: &RestrictedExpr,
     evaluator: &RestrictedEvaluator<'_, '_>,
 ) -> Result<PartialValue, JsonError>
-    ensures answer { IfOk result (λ p. IsAnswerOf (extensions_in evaluator.now) (calls_in evaluator.now)
+    ensures answer { IfOk result (λ p. IsAnswerOf (extensions_read evaluator.now) (calls_in evaluator.now)
         (limit_of evaluator.now) (restricted_term expr.now) (partial_view p)) }
     ensures restricted { IfOk result (λ p. is_restricted_part (partial_view p) ≡ true) }
     ensures failed { IfErr result IsEvaluationError }

@@ -1,6 +1,5 @@
 -- Ids that come again, and a set of policies that is filled one by one.
-use Rattle.std.proofs.Common.{◌≡◌, refl, sym, ap, ◌∙◌, Bool, true, false, ◌||◌, true≢false, List, [], ◌∷◌, ◌++◌, append_assoc, map, None, Some, is_some, if◌then◌else◌}
-use Rattle.std.proofs.lemmas.List.{append-nil}
+use Rattle.std.proofs.Common.{◌≡◌, refl, sym, ap, ◌∙◌, Bool, true, false, ◌||◌, true≢false, List, [], ◌∷◌, ◌++◌, append_assoc, map, Some, is_some, if◌then◌else◌}
 use Rattle.std.proofs.lemmas.Map.Made.{is_some-lookup}
 use Rattle.std.specs.List.{list_any}
 use Rattle.std.specs.Map.{keys_of, values_of, lookup}
@@ -11,7 +10,7 @@ use Rattle.cedar_layers.specs.contracts.policies.policy.PolicyIDPartialEq.TheImp
 use Rattle.cedar_layers.specs.declared.policies.policy.Policy.{Policy}
 use Rattle.cedar_layers.specs.declared.policies.policy.PolicyID.{PolicyID}
 use Rattle.cedar_layers.specs.Policies.{policy_view, policy_ids, policy_id_text, first_repeated, first_repeated_after}
-use Rattle.cedar_layers.specs.PolicySets.{entry_ids, Adds, IsTaken}
+use Rattle.cedar_layers.specs.PolicySets.{entry_ids, Adds}
 
 -- ids are equal where their texts are
 pub same_by_text : (i k : PolicyID) → eq-value.it i k ≡ text_eq (policy_id_text i) (policy_id_text k)

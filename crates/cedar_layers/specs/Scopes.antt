@@ -4,8 +4,8 @@ use Rattle.std.specs.List.{list_any}
 use Rattle.std.specs.Map.{lookup}
 use Rattle.std.specs.declared.alloc.Global.{Global}
 use Rattle.std.specs.declared.vec.Vec.{Vec}
-use Rattle.cedar_model.specs.Terms.{EntityName, Literal, bool_literal, long_literal, text_literal, entity_literal}
-use Rattle.cedar_model.specs.Terms.{principal, action, resource, context, Term, literal, variable, binary}
+use Rattle.cedar_model.specs.Terms.{EntityName, bool_literal, entity_literal}
+use Rattle.cedar_model.specs.Terms.{principal, action, resource, Term, literal, variable, binary}
 use Rattle.cedar_model.specs.Terms.{BinaryOperator, eq_operator, in_operator}
 use Rattle.cedar_model.specs.Outcomes.{entity_eq}
 use Rattle.cedar_model.specs.Settings.{is_among}

@@ -75,15 +75,15 @@ module _ (s : Setting) (r : Resolution) (values : EachStored IsValue s.store) wh
     resolves_stored deep None x i = refl
     resolves_stored deep (Some t) x i = absurd (none t (i t refl))
 
-    step_stored : (w : Operators.Step) (Next : Represented → Answer → Type 0) (next : Represented → Answer)
-        → ((u : Represented) → Next u (next u)) → Rules.AfterStep H w Next (Operators.after_step w next)
-    unfolding Operators.after_step
+    step_stored : (w : Operators.Walk) (Next : Represented → Answer → Type 0) (next : Represented → Answer)
+        → ((u : Represented) → Next u (next u)) → Rules.AfterWalk H w Next (Operators.after_walk w next)
+    unfolding Operators.after_walk
     step_stored (Operators.walks_on u) Next next f = f u
     step_stored (Operators.stops b) Next next f = refl
 
-    steps_stored : (o : Option Term) (w : Operators.Step) (l : Text) (ls : List Text) (Next : Represented → Answer
+    steps_stored : (o : Option Term) (w : Operators.Walk) (l : Text) (ls : List Text) (Next : Represented → Answer
         → Type 0) (next : Represented → Answer) → ((t : Term) → o ≡ Some t → IsStored s.store t) → ((u : Represented)
-        → Next u (next u)) → Rules.StepsOn H o w l ls Next (Operators.after_step w next)
+        → Next u (next u)) → Rules.WalksOn H o w l ls Next (Operators.after_walk w next)
     steps_stored None w l ls Next next i f = step_stored w Next next f
     steps_stored (Some t) w l ls Next next i f = absurd (none t (i t refl))
 
@@ -93,7 +93,7 @@ module _ (s : Setting) (r : Resolution) (values : EachStored IsValue s.store) wh
     walks_stored [] v k = refl
     walks_stored (l ∷ ls) v k =
         steps_stored (Operators.attribute_residual s.store v k)
-        (Operators.step_in s.store (Operators.container_of v) (Operators.container_expected v) k l ls) l ls
+        (Operators.walk_in s.store (Operators.container_of v) (Operators.container_expected v) k l ls) l ls
         (λ u. Rules.Walks H s.store u l ls) (λ u. Operators.path_answer s.store u l ls)
         (λ t e. attribute_is_stored s.store v k t e) (λ u. walks_stored ls u l)
 

@@ -456,19 +456,19 @@ last_in_alike s Operators.no_container (Operators.a_record gs) e f k h a = absur
 last_in_alike s Operators.no_container (Operators.an_entity d) e f k h a = absurd a
 last_in_alike s Operators.no_container Operators.no_container e f k h a = h
 
-abbrev pub AreAlikeSteps : Operators.Step → Operators.Step → Type 0
+abbrev pub AreAlikeSteps : Operators.Walk → Operators.Walk → Type 0
 AreAlikeSteps (Operators.walks_on v) (Operators.walks_on w) = abstract_value v ≡ abstract_value w
 AreAlikeSteps (Operators.walks_on v) (Operators.stops a) = ⊥
 AreAlikeSteps (Operators.stops a) (Operators.walks_on v) = ⊥
 AreAlikeSteps (Operators.stops a) (Operators.stops b) = AreAlike a b
 
-alike_steps_refl : (x : Operators.Step) → AreAlikeSteps x x
+alike_steps_refl : (x : Operators.Walk) → AreAlikeSteps x x
 alike_steps_refl (Operators.walks_on v) = refl
 alike_steps_refl (Operators.stops a) = alike-refl a
 
 alike_step_to : (o p : Option Represented) → option_map abstract_value o ≡ option_map abstract_value p
-    → AreAlikeSteps (Operators.step_to o) (Operators.step_to p)
-unfolding Operators.step_to
+    → AreAlikeSteps (Operators.walk_to o) (Operators.walk_to p)
+unfolding Operators.walk_to
 alike_step_to None None e = refl
 alike_step_to None (Some w) e = absurd (cc)
 alike_step_to (Some v) None e = absurd (cc)
@@ -476,16 +476,16 @@ alike_step_to (Some v) (Some w) e = some_inj e
 
 step_in_alike : (s : Store) (c d : Operators.Container) (e f : Failure) (k l : Text) (ls : List Text)
     → failure_kind e ≡ failure_kind f → AreAlikeContainers c d
-    → AreAlikeSteps (Operators.step_in s c e k l ls) (Operators.step_in s d f k l ls)
-unfolding Operators.step_in
+    → AreAlikeSteps (Operators.walk_in s c e k l ls) (Operators.walk_in s d f k l ls)
+unfolding Operators.walk_in
 step_in_alike s (Operators.a_record fs) (Operators.a_record gs) e f k l ls h a =
     alike_step_to (Operators.represented_at k fs) (Operators.represented_at k gs) (alike_represented_at k fs gs a)
 step_in_alike s (Operators.a_record fs) (Operators.an_entity d) e f k l ls h a = absurd a
 step_in_alike s (Operators.a_record fs) Operators.no_container e f k l ls h a = absurd a
 step_in_alike s (Operators.an_entity d) (Operators.a_record gs) e f k l ls h a = absurd a
 step_in_alike s (Operators.an_entity d) (Operators.an_entity d') e f k l ls h a =
-    subst (λ x. AreAlikeSteps (Operators.step_found (look_up s d) d k l ls)
-    (Operators.step_found (look_up s x) x k l ls)) a (alike_steps_refl (Operators.step_found (look_up s d) d k l ls))
+    subst (λ x. AreAlikeSteps (Operators.walk_found (look_up s d) d k l ls)
+    (Operators.walk_found (look_up s x) x k l ls)) a (alike_steps_refl (Operators.walk_found (look_up s d) d k l ls))
 step_in_alike s (Operators.an_entity d) Operators.no_container e f k l ls h a = absurd a
 step_in_alike s Operators.no_container (Operators.a_record gs) e f k l ls h a = absurd a
 step_in_alike s Operators.no_container (Operators.an_entity d) e f k l ls h a = absurd a
@@ -493,17 +493,17 @@ step_in_alike s Operators.no_container Operators.no_container e f k l ls h a = h
 
 -- a step from values that are alike
 pub step_alike : (s : Store) (k l : Text) (ls : List Text) (v w : Represented) → abstract_value v ≡ abstract_value w
-    → AreAlikeSteps (Operators.step_in s (Operators.container_of v) (Operators.container_expected v) k l ls)
-    (Operators.step_in s (Operators.container_of w) (Operators.container_expected w) k l ls)
+    → AreAlikeSteps (Operators.walk_in s (Operators.container_of v) (Operators.container_expected v) k l ls)
+    (Operators.walk_in s (Operators.container_of w) (Operators.container_expected w) k l ls)
 unfolding failure_kind
 step_alike s k l ls v w h =
     step_in_alike s (Operators.container_of v) (Operators.container_of w) (Operators.container_expected v)
     (Operators.container_expected w) k l ls refl (alike_containers v w h)
 
-after_step_alike : (x y : Operators.Step) (next : Represented → Answer) → AreAlikeSteps x y
+after_step_alike : (x y : Operators.Walk) (next : Represented → Answer) → AreAlikeSteps x y
     → ((v w : Represented) → abstract_value v ≡ abstract_value w → AreAlike (next v) (next w))
-    → AreAlike (Operators.after_step x next) (Operators.after_step y next)
-unfolding Operators.after_step
+    → AreAlike (Operators.after_walk x next) (Operators.after_walk y next)
+unfolding Operators.after_walk
 after_step_alike (Operators.walks_on v) (Operators.walks_on w) next h f = f v w h
 after_step_alike (Operators.walks_on v) (Operators.stops a) next h f = absurd h
 after_step_alike (Operators.stops a) (Operators.walks_on v) next h f = absurd h
@@ -516,8 +516,8 @@ path_alike s k [] v w h =
     last_in_alike s (Operators.container_of v) (Operators.container_of w) (Operators.container_expected v)
     (Operators.container_expected w) k refl (alike_containers v w h)
 path_alike s k (l ∷ ls) v w h =
-    after_step_alike (Operators.step_in s (Operators.container_of v) (Operators.container_expected v) k l ls)
-    (Operators.step_in s (Operators.container_of w) (Operators.container_expected w) k l ls)
+    after_step_alike (Operators.walk_in s (Operators.container_of v) (Operators.container_expected v) k l ls)
+    (Operators.walk_in s (Operators.container_of w) (Operators.container_expected w) k l ls)
     (λ u. Operators.path_answer s u l ls)
     (step_in_alike s (Operators.container_of v) (Operators.container_of w) (Operators.container_expected v)
     (Operators.container_expected w) k l ls refl (alike_containers v w h)) (path_alike s l ls)

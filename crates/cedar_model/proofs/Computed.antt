@@ -31,8 +31,8 @@ unfolding Outcomes.and_then Outcomes.needing Outcomes.bool_of Outcomes.long_of O
     Operators.in_found Operators.stored_tag Operators.tag_found Operators.has_tag_found Operators.binary_answer
     Operators.represented_at Operators.term_at Operators.represented_names Operators.field_names Operators.container_of
     Operators.value_or_failure Operators.stored_attribute Operators.attribute_found Operators.attribute_in
-    Operators.has_found Operators.has_in Operators.step_to Operators.step_to_stored Operators.step_found
-    Operators.step_in Operators.last_found Operators.last_in Operators.after_step Operators.path_answer
+    Operators.has_found Operators.has_in Operators.walk_to Operators.walk_to_stored Operators.walk_found
+    Operators.walk_in Operators.last_found Operators.last_in Operators.after_walk Operators.path_answer
     Operators.residual_in Operators.attribute_residual_found Operators.tag_residual_found
     Operators.attribute_residual_of Operators.tag_residual_of Operators.binary_residual Rules.beside_residual
     Rules.best_of_kind Rules.best Rules.bool_or_failure Rules.joined Rules.on_part Rules.annotated_type

@@ -295,9 +295,9 @@ module _ (s : Setting) (calls : Rules.StoredCalls)
 
   -- ---- extended `has`
 
-  after_step_alike : (z z' : Operators.Step) (Next Next' : Represented → Answer → Type 0) (a b : Answer)
+  after_step_alike : (z z' : Operators.Walk) (Next Next' : Represented → Answer → Type 0) (a b : Answer)
       → alike.AreAlikeSteps z z' → ((v w : Represented) → abstract_value v ≡ abstract_value w → Next v a → Next' w b
-      → AreAlike a b) → Rules.AfterStep G z Next a → Rules.AfterStep G z' Next' b → AreAlike a b
+      → AreAlike a b) → Rules.AfterWalk G z Next a → Rules.AfterWalk G z' Next' b → AreAlike a b
   after_step_alike (Operators.walks_on v) (Operators.walks_on w) Next Next' a b h f g j = f v w h g j
   after_step_alike (Operators.walks_on v) (Operators.stops x) Next Next' a b h f g j = absurd h
   after_step_alike (Operators.stops x) (Operators.walks_on v) Next Next' a b h f g j = absurd h
@@ -315,10 +315,10 @@ module _ (s : Setting) (calls : Rules.StoredCalls)
   after_stored_alike (answers (residual r)) (answers (residual q)) l ls Next Next' a b h f g j =
       by_sides a b _ _ g j (ap (λ t. extended_has t l ls) h)
 
-  steps_alike : (o z : Option Term) (x y : Operators.Step) (l : Text) (ls : List Text)
+  steps_alike : (o z : Option Term) (x y : Operators.Walk) (l : Text) (ls : List Text)
       (Next Next' : Represented → Answer → Type 0) (a b : Answer) → o ≡ z → alike.AreAlikeSteps x y
       → ((v w : Represented) → abstract_value v ≡ abstract_value w → Next v a → Next' w b → AreAlike a b)
-      → Rules.StepsOn G o x l ls Next a → Rules.StepsOn G z y l ls Next' b → AreAlike a b
+      → Rules.WalksOn G o x l ls Next a → Rules.WalksOn G z y l ls Next' b → AreAlike a b
   steps_alike None None x y l ls Next Next' a b e h f g j = after_step_alike x y Next Next' a b h f g j
   steps_alike None (Some u) x y l ls Next Next' a b e h f g j = absurd (cc)
   steps_alike (Some t) None x y l ls Next Next' a b e h f g j = absurd (cc)
@@ -332,8 +332,8 @@ module _ (s : Setting) (calls : Rules.StoredCalls)
   walks_alike [] v w k a b h g j = by_sides a b _ _ g j (alike.path_alike s.store k [] v w h)
   walks_alike (l ∷ ls) v w k a b h g j =
       steps_alike (Operators.attribute_residual s.store v k) (Operators.attribute_residual s.store w k)
-      (Operators.step_in s.store (Operators.container_of v) (Operators.container_expected v) k l ls)
-      (Operators.step_in s.store (Operators.container_of w) (Operators.container_expected w) k l ls) l ls
+      (Operators.walk_in s.store (Operators.container_of v) (Operators.container_expected v) k l ls)
+      (Operators.walk_in s.store (Operators.container_of w) (Operators.container_expected w) k l ls) l ls
       (λ u. Rules.Walks G s.store u l ls) (λ u. Rules.Walks G s.store u l ls) a b
       (ap (λ u. Operators.attribute_residual_of s.store (entity_of u) k) h) (alike.step_alike s.store k l ls v w h)
       (λ u u' e. walks_alike ls u u' l a b e) g j

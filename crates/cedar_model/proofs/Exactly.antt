@@ -59,7 +59,7 @@ failure_decides e of_residual o h m = absurd m
 failure_decides e of_limit o h m = absurd m
 failure_decides e of_memory o h m = absurd m
 
-decided_meant : (a : Answer) (o : Outcome) → Agreement.Answers a o
+decided_meant : (a : Answer) (o : Outcome) → Agreement.AnswersOutcome a o
     → Authorizations.Decides (Authorizations.evaluated a) (Authorizations.condition_meaning o)
 unfolding Responses.decided Responses.result_of Authorizations.condition_meaning
 decided_meant (answers (value v)) o h =
@@ -101,7 +101,7 @@ module _ (calls : StoredCalls) (ans : Functions) (agree : Agreement.AgreesWithFu
   alone n t a r e = limit_alone s calls (functional ans calls agree) n t a e r
 
   meant : (n : ℕ) (t : Term) (a : Answer) → Agreement.IsKnown ans t → Runs s calls n t a → a ≢ limit
-      → Agreement.Answers a (M t)
+      → Agreement.AnswersOutcome a (M t)
   meant n t a k r ne =
       allowed_exact ans calls agree w s known (own_request ans s sigma known) (own_store ans s sigma known) t a k
       (ne, n, r)

@@ -13,7 +13,7 @@ use Rattle.cedar_model.specs.Outcomes.{bool_of}
 use Rattle.cedar_model.specs.Failures.{Failure, failure_kind, recursion_limit, PartialValue, value, residual, Answer}
 use Rattle.cedar_model.specs.Failures.{answers, fails, limit}
 use Rattle.cedar_model.specs.Settings.{Store, Resolution, shallow, deep, Setting}
-use Rattle.cedar_model.specs.Operators.{term_at, Step, walks_on, stops, step_in, container_of, container_expected}
+use Rattle.cedar_model.specs.Operators.{term_at, Walk, walks_on, stops, walk_in, container_of, container_expected}
 use Rattle.cedar_model.specs.Operators.{attribute_answer, attribute_residual}
 use Rattle.cedar_model.proofs.Resolving.{unread}
 use Rattle.cedar_model.specs.Rules
@@ -122,8 +122,8 @@ module _ (s : Setting) (calls : Rules.StoredCalls) (G H : Rules.MayAnswer) (less
       (Rules.binary_beside s op p y) a h)
 
   -- an extended `has`
-  less_step : (z : Step) (Next Next' : Represented → Answer → Type 0) (a : Answer) → ((v : Represented) → Next v a →
-      OrLimit (Next' v) a) → Rules.AfterStep G z Next a → OrLimit (Rules.AfterStep H z Next') a
+  less_step : (z : Walk) (Next Next' : Represented → Answer → Type 0) (a : Answer) → ((v : Represented) → Next v a →
+      OrLimit (Next' v) a) → Rules.AfterWalk G z Next a → OrLimit (Rules.AfterWalk H z Next') a
   less_step (walks_on v) Next Next' a f h = f v h
   less_step (stops b) Next Next' a f h = inl h
 
@@ -134,9 +134,9 @@ module _ (s : Setting) (calls : Rules.StoredCalls) (G H : Rules.MayAnswer) (less
   less_stored (answers (value v)) l ls Next Next' a f h = f v h
   less_stored (answers (residual r)) l ls Next Next' a f h = inl h
 
-  less_steps : (o : Option Term) (z : Step) (l : Text) (ls : List Text) (Next Next' : Represented → Answer →
-      Type 0) (a : Answer) → ((v : Represented) → Next v a → OrLimit (Next' v) a) → Rules.StepsOn G o z l ls Next a →
-      OrLimit (Rules.StepsOn H o z l ls Next') a
+  less_steps : (o : Option Term) (z : Walk) (l : Text) (ls : List Text) (Next Next' : Represented → Answer →
+      Type 0) (a : Answer) → ((v : Represented) → Next v a → OrLimit (Next' v) a) → Rules.WalksOn G o z l ls Next a →
+      OrLimit (Rules.WalksOn H o z l ls Next') a
   less_steps None z l ls Next Next' a f h = less_step z Next Next' a f h
   less_steps (Some t) z l ls Next Next' a f (x, g, h) =
       through (λ y. Rules.AfterStored H y l ls Next') t x a refl g (less_stored x l ls Next Next' a f h)
@@ -145,7 +145,7 @@ module _ (s : Setting) (calls : Rules.StoredCalls) (G H : Rules.MayAnswer) (less
       Rules.Walks G store v k ks a → OrLimit (Rules.Walks H store v k ks) a
   less_walks store [] v k a h = inl h
   less_walks store (l ∷ ls) v k a h =
-      less_steps (attribute_residual store v k) (step_in store (container_of v) (container_expected v) k l ls) l ls
+      less_steps (attribute_residual store v k) (walk_in store (container_of v) (container_expected v) k l ls) l ls
       (λ u. Rules.Walks G store u l ls) (λ u. Rules.Walks H store u l ls) a (λ u. less_walks store ls u l a) h
 
   less_path : (r : Resolution) (x : Answer) (k : Text) (ks : List Text) (a : Answer) →

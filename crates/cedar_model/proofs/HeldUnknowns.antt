@@ -327,7 +327,7 @@ module _ (s : Setting) (calls : Rules.StoredCalls) (given : ResidualsHoldUnknown
         resolving.resolved G Held s.resolution (Rules.beside_residual s.store op p y) _ a
         (held_beside op p y h (ih t y g)) (λ u d i. ih u a) e
 
-    held_step : (z : Operators.Step) → operands.AllStep s AnyValue AnyValue Holds AnyFailure facts z →
+    held_step : (z : Operators.Walk) → operands.AllStep s AnyValue AnyValue Holds AnyFailure facts z →
         resolving.StopsWith G Held z
     held_step (Operators.walks_on v) h = tt
     held_step (Operators.stops a) h = h

@@ -41,13 +41,13 @@ asking_answer arity f vs e = (Instances.asking f, refl)
 
 -- ---- the world completes what is given
 
-attribute_ok : (b : Bool) → AgreesAt some_extensions Instances.asked Instances.completing
+attribute_ok : (b : Bool) → AgreesAt some_extensions Instances.asked_functions Instances.completing
     (cond b (Some (residual (unknown (codes "u") None))) None) (cond b (Some (plain (long_literal (pos 7)))) None)
 unfolding meaning_opened Instances.value_of_unknown unquoted id_here with_byte read_entity
 attribute_ok true = refl
 attribute_ok false = tt
 
-facts_ok : Agreement.AgreesWithFacts some_extensions Instances.asked Instances.completing Instances.waiting_facts
+facts_ok : Agreement.AgreesWithFacts some_extensions Instances.asked_functions Instances.completing Instances.waiting_facts
     Instances.known_facts
 unfolding meaning_opened
 facts_ok = record {
@@ -61,7 +61,7 @@ unfolding Instances.value_of_unknown
 missing_ok e = ap (λ o. Instances.value_of_unknown o (printed_entity e)) (come_back e)
 
 store_by : (is_partial : Bool) (e : EntityName) (b : Bool) →
-    Agreement.AgreesWithFound some_extensions Instances.asked Instances.completing e
+    Agreement.AgreesWithFound some_extensions Instances.asked_functions Instances.completing e
     (found_in (cond b (Some Instances.waiting_facts) None) is_partial) (cond b (Some Instances.known_facts) None)
 unfolding found_in
 store_by is_partial e true = facts_ok
@@ -94,7 +94,7 @@ at_tags P k p e = absurd (none_is_not_some e)
 stored_such : (is_partial : Bool) (P : PartialValue → Type 0) → P the_part →
     Agreement.EachStored P (Instances.waiting is_partial).store
 stored_such is_partial P h e x k p g =
-    let f = is_facts (entity_eq e Instances.stored_entity) x g in
+    let f = is_facts (entity_eq e Instances.waiting_entity) x g in
     subst (λ z. (part_at k z.attributes ≡ Some p → P p) × (part_at k z.tags ≡ Some p → P p)) f (
       at_attributes P h k p,
       at_tags P k p,
@@ -104,7 +104,7 @@ is_seven : (b : Bool) (v : Represented) → cond b (Some Instances.seven) None �
 is_seven true v e = cc
 is_seven false v e = absurd (cc)
 
-context_ok : (is_partial : Bool) → Agreement.AgreesWithContext some_extensions Instances.asked Instances.completing
+context_ok : (is_partial : Bool) → Agreement.AgreesWithContext some_extensions Instances.asked_functions Instances.completing
     (Instances.waiting is_partial).request.context_part
 unfolding meaning_opened Instances.value_of_unknown unquoted id_here with_byte read_entity
 context_ok is_partial = refl
@@ -125,7 +125,7 @@ named_u n true e v f =
     (ap abstract_value (is_seven true v f))
 named_u n false e v f = absurd (none_is_not_some f)
 
-pub completes : (is_partial : Bool) → IsCompletion Instances.asked Instances.completing (Instances.waiting is_partial)
+pub completes : (is_partial : Bool) → IsCompletion Instances.asked_functions Instances.completing (Instances.waiting is_partial)
 unfolding meaning_opened Instances.value_of_unknown unquoted id_here with_byte read_entity
 completes is_partial = record {
   agreement = record {
@@ -139,16 +139,16 @@ completes is_partial = record {
           resource_agrees = refl;
           context_agrees = context_ok is_partial;
         };
-    store_agrees = λ e. store_by is_partial e (entity_eq e Instances.stored_entity);
+    store_agrees = λ e. store_by is_partial e (entity_eq e Instances.waiting_entity);
     map_agrees = λ n v e. named_u n (text_eq n (codes "u")) refl v e;
     context_fits = (refl, tt);
-    store_fits = stored_such is_partial (Agreement.FitsPart some_extensions Instances.asked Instances.completing) tt;
+    store_fits = stored_such is_partial (Agreement.FitsPart some_extensions Instances.asked_functions Instances.completing) tt;
   };
   values = record {
     context_faithful = tt;
-    store_faithful = stored_such is_partial (Agreement.IsFaithfulPart some_extensions Instances.asked) tt;
+    store_faithful = stored_such is_partial (Agreement.IsFaithfulPart some_extensions Instances.asked_functions) tt;
     map_faithful =
-        λ n v e. subst (Agreement.IsFaithful some_extensions Instances.asked) (is_seven (text_eq n (codes "u")) v e) tt;
+        λ n v e. subst (Agreement.IsFaithful some_extensions Instances.asked_functions) (is_seven (text_eq n (codes "u")) v e) tt;
   };
 }
 
@@ -168,9 +168,9 @@ functions_answer = (
   λ f vs e. no_limit (text_eq f (codes "ask")) (text_eq f (codes "fail")) (sym e),
 )
   where
-    agrees : Agreement.AgreesWithFunctions Instances.asked Instances.asking_calls
+    agrees : Agreement.AgreesWithFunctions Instances.asked_functions Instances.asking_calls
     agrees f vs a e =
-        subst (λ b. Agreement.function_answer b ≡ Some (Instances.asked f (map abstract_value vs))) (sym e)
+        subst (λ b. Agreement.function_answer b ≡ Some (Instances.asked_functions f (map abstract_value vs))) (sym e)
         (by (text_eq f (codes "ask")) (text_eq f (codes "fail")))
       where
         by : (b c : Bool) → Agreement.function_answer (asking_by b c) ≡ Some
@@ -186,9 +186,9 @@ functions_answer = (
     value_of false true v e = absurd (cc)
     value_of false false v e = cc
 
-    faithful : (X : Extensions) → Agreement.AnswerFaithfully X Instances.asked Instances.asking_calls
+    faithful : (X : Extensions) → Agreement.AnswerFaithfully X Instances.asked_functions Instances.asking_calls
     faithful X f vs v h e =
-        subst (Agreement.IsFaithful X Instances.asked) (value_of (text_eq f (codes "ask"))
+        subst (Agreement.IsFaithful X Instances.asked_functions) (value_of (text_eq f (codes "ask"))
         (text_eq f (codes "fail")) v e) tt
 
     no_limit : (b c : Bool) → asking_by b c ≡ limit → ⊥

@@ -618,7 +618,7 @@ module _ (ans : Functions) (calls : Rules.StoredCalls) (agree : Agreement.Agrees
 
   -- what is allowed: a value that is the meaning, or an error of its kind
   pub allowed_exact : (t : Term) (a : Answer) → Agreement.IsKnown ans t → Rules.Allows s calls t a
-      → Agreement.Answers a (M t)
+      → Agreement.AnswersOutcome a (M t)
   unfolding failure_kind
   allowed_exact t a k (ne, n, r) = by a ne (runs_exact n t a k r)
     where
@@ -629,7 +629,7 @@ module _ (ans : Functions) (calls : Rules.StoredCalls) (agree : Agreement.Agrees
       of_kind e m of_limit q h = absurd (m (ap fails (kind_of_limit e q)))
       of_kind e m of_memory q h = h
 
-      by : (b : Answer) → b ≢ limit → Exact (n < Agreement.height t) b (M t) → Agreement.Answers b (M t)
+      by : (b : Answer) → b ≢ limit → Exact (n < Agreement.height t) b (M t) → Agreement.AnswersOutcome b (M t)
       by (answers (value v)) m h = h.1
       by (answers (residual q)) m h = h
       by (fails e) m h = of_kind e m (failure_kind e) refl h

@@ -26,7 +26,7 @@ use Rattle.cedar_model.proofs.RecordParts.{both_first, both_second}
 use Rattle.cedar_model.proofs.RestrictedAnswers.{reads_nothing, substituted_at_restricted}
 use Rattle.cedar_model.proofs.Resolving.{IsStored, each_stored}
 use Rattle.cedar_model.proofs.Heights as heights
-use Rattle.cedar_model.proofs.Heights.{sound_known, value_plain, positive, lower}
+use Rattle.cedar_model.proofs.Heights.{value_plain}
 use Rattle.cedar_model.proofs.Injections.{none_is_not_some}
 use Rattle.cedar_model.proofs.LowParts
 use Rattle.cedar_model.proofs.LowParts.{raise, low_expression, by_equal, set_low, record_low, AnswersLow, EachAnswersLow, EachAnswersLowAt}

@@ -24,12 +24,11 @@ use Rattle.cedar_model.specs.Chains.{Mapping, substituted}
 use Rattle.cedar_model.specs.Restricted.{IsGivenSound}
 use Rattle.cedar_model.specs.Depth.{IsNoHigher, IsWithin}
 use Rattle.cedar_model.proofs.Operands as operands
-use Rattle.cedar_model.proofs.Operands.{Facts, AllAnswer, AllPart}
 use Rattle.cedar_model.proofs.RecordParts.{projectable_part, restricted_part}
 use Rattle.cedar_model.proofs.Resolving as resolving
-use Rattle.cedar_model.proofs.Resolving.{IsStored, each_stored, attribute_is_stored, beside_is_stored}
+use Rattle.cedar_model.proofs.Resolving.{IsStored, attribute_is_stored, beside_is_stored}
 use Rattle.cedar_model.proofs.Heights as heights
-use Rattle.cedar_model.proofs.Heights.{sound_known, value_plain, positive, lower}
+use Rattle.cedar_model.proofs.Heights.{value_plain, positive, lower}
 use Rattle.cedar_model.proofs.LowParts
 use Rattle.cedar_model.proofs.LowParts.{AnyFailure, raise, by_equal, by_failure, low_bool, ResultLow, ResultLowAt, set_low, record_low, part_of_record, AnswersLow, EachAnswersLow, EachAnswersLowAt}
 use Rattle.cedar_model.proofs.LowOperands.{unknown_low, mapped_below, facts, mapped_unknown, slot_low, variable_low, best_low, joined_low, on_part_low, beside_low, has_low, is_low, arguments_low}
@@ -243,7 +242,7 @@ module _ (m : Mapping) where
         unfolding substituted
         path_beside n k ks r e = (omega arith, λ p. absurd (cc))
 
-        pub step_low : (n : ℕ) (e : suc b ≤ n) (z : Operators.Step) → operands.AllStep s (LowValue n) (LowValue (suc n))
+        pub step_low : (n : ℕ) (e : suc b ≤ n) (z : Operators.Walk) → operands.AllStep s (LowValue n) (LowValue (suc n))
             (Low (suc n)) AnyFailure (facts m s calls b within sound low n e) z → resolving.StopsWith G (LowAnswer (suc n)) z
         step_low n e (Operators.walks_on v) f = tt
         step_low n e (Operators.stops a) f = f

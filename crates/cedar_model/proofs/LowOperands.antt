@@ -25,9 +25,9 @@ use Rattle.cedar_model.specs.Chains.{Mapping, substituted}
 use Rattle.cedar_model.specs.Restricted.{IsSoundPart, IsSoundContext, IsGivenSound}
 use Rattle.cedar_model.specs.Depth.{IsNoHigher, IsContextNoHigher, IsWithin, substituted_height}
 use Rattle.cedar_model.proofs.Operands as operands
-use Rattle.cedar_model.proofs.Operands.{Facts, AllAnswer, AllPart}
+use Rattle.cedar_model.proofs.Operands.{Facts}
 use Rattle.cedar_model.proofs.Heights as heights
-use Rattle.cedar_model.proofs.Heights.{sound_known, value_plain, positive, lower}
+use Rattle.cedar_model.proofs.Heights.{sound_known, value_plain}
 use Rattle.cedar_model.proofs.LowParts
 use Rattle.cedar_model.proofs.LowParts.{AnyFailure, low_expression, by_equal, by_failure, low_bool, PartsLow, terms_low, ResultLow, field_low}
 

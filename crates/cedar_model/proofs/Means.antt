@@ -533,9 +533,9 @@ module _ (ans : Functions) (w : World) (s : Setting) (F : Represented → Type 0
         → ((u : Represented) → o ≡ Some u → F u)
         → ((u : Represented) → F u → Sound F R E (Operators.path_answer s.store u l ls)
         (Meaning.has_path w (abstract_value u) l ls))
-        → Sound F R E (Operators.after_step (Operators.step_to o) (λ u. Operators.path_answer s.store u l ls))
+        → Sound F R E (Operators.after_walk (Operators.walk_to o) (λ u. Operators.path_answer s.store u l ls))
         (rest_of e (option_map abstract_value o) l ls)
-    unfolding Operators.after_step Operators.step_to Meaning.or_errs and_then
+    unfolding Operators.after_walk Operators.walk_to Meaning.or_errs and_then
     walk_value None e l ls f rest = sound_bool false
     walk_value (Some u) e l ls f rest = rest u (f u refl)
 
@@ -543,9 +543,9 @@ module _ (ans : Functions) (w : World) (s : Setting) (F : Represented → Type 0
         → PartMeans s.extensions ans w p q
         → ((u : Represented) → F u → Sound F R E (Operators.path_answer s.store u l ls)
         (Meaning.has_path w (abstract_value u) l ls))
-        → Sound F R E (Operators.after_step (Operators.step_to_stored (Some p) l ls)
+        → Sound F R E (Operators.after_walk (Operators.walk_to_stored (Some p) l ls)
         (λ u. Operators.path_answer s.store u l ls)) (rest_of e (Some q) l ls)
-    unfolding Operators.after_step Operators.step_to_stored Meaning.or_errs and_then Meaning.meaning
+    unfolding Operators.after_walk Operators.walk_to_stored Meaning.or_errs and_then Meaning.meaning
     walk_part (value v) q e l ls h m rest =
         subst (λ u. Sound F R E (Operators.path_answer s.store v l ls) (Meaning.has_path w u l ls)) m (rest v h)
     walk_part (residual t) q e l ls h m rest =
@@ -555,9 +555,9 @@ module _ (ans : Functions) (w : World) (s : Setting) (F : Represented → Type 0
         → ((p : PartialValue) → o ≡ Some p → StoredWell p) → AgreesAt s.extensions ans w o q
         → ((u : Represented) → F u → Sound F R E (Operators.path_answer s.store u l ls)
         (Meaning.has_path w (abstract_value u) l ls))
-        → Sound F R E (Operators.after_step (Operators.step_to_stored o l ls)
+        → Sound F R E (Operators.after_walk (Operators.walk_to_stored o l ls)
         (λ u. Operators.path_answer s.store u l ls)) (rest_of e q l ls)
-    unfolding Operators.after_step Operators.step_to_stored Meaning.or_errs and_then
+    unfolding Operators.after_walk Operators.walk_to_stored Meaning.or_errs and_then
     walk_stored None None e l ls f a rest = sound_bool false
     walk_stored None (Some u) e l ls f a rest = absurd a
     walk_stored (Some p) None e l ls f a rest = absurd a
@@ -573,7 +573,7 @@ module _ (ans : Functions) (w : World) (s : Setting) (F : Represented → Type 0
         → s.store.entity d ≡ Some x → AgreesWithFound s.extensions ans w d (found x) o
         → ((u : Represented) → F u → Sound F R E (Operators.path_answer s.store u l ls)
         (Meaning.has_path w (abstract_value u) l ls))
-        → Sound F R E (Operators.after_step (Operators.step_to_stored (part_at k x.attributes) l ls)
+        → Sound F R E (Operators.after_walk (Operators.walk_to_stored (part_at k x.attributes) l ls)
         (λ u. Operators.path_answer s.store u l ls)) (entity_path o k l ls)
     unfolding Meaning.entity_has Meaning.entity_attribute
     walk_world d x k l ls None e a rest = absurd a
@@ -584,9 +584,9 @@ module _ (ans : Functions) (w : World) (s : Setting) (F : Represented → Type 0
     walk_entity : (d : EntityName) (x : Found) (k l : Text) (ls : List Text) → look_up s.store d ≡ x
         → ((u : Represented) → F u → Sound F R E (Operators.path_answer s.store u l ls)
         (Meaning.has_path w (abstract_value u) l ls))
-        → Sound F R E (Operators.after_step (Operators.step_found x d k l ls)
+        → Sound F R E (Operators.after_walk (Operators.walk_found x d k l ls)
         (λ u. Operators.path_answer s.store u l ls)) (entity_path (w.store d) k l ls)
-    unfolding Operators.after_step Operators.step_found Meaning.entity_has Meaning.meaning Meaning.has_path
+    unfolding Operators.after_walk Operators.walk_found Meaning.entity_has Meaning.meaning Meaning.has_path
         Meaning.has_meaning Meaning.attribute_meaning and_then needing bool_of
     walk_entity d (found x) k l ls e rest =
         walk_world d x k l ls (w.store d) (found_is (s.store.entity d) s.store.is_partial x e)
@@ -602,10 +602,10 @@ module _ (ans : Functions) (w : World) (s : Setting) (F : Represented → Type 0
     pub step_means : (v : Represented) (k l : Text) (ls : List Text) → F v
         → ((u : Represented) → F u → Sound F R E (Operators.path_answer s.store u l ls)
         (Meaning.has_path w (abstract_value u) l ls))
-        → Sound F R E (Operators.after_step
-        (Operators.step_in s.store (Operators.container_of v) (Operators.container_expected v) k l ls)
+        → Sound F R E (Operators.after_walk
+        (Operators.walk_in s.store (Operators.container_of v) (Operators.container_expected v) k l ls)
         (λ u. Operators.path_answer s.store u l ls)) (Meaning.has_path w (abstract_value v) k (l ∷ ls))
-    unfolding Operators.after_step Operators.step_in Operators.container_of Meaning.has_path Meaning.has_meaning
+    unfolding Operators.after_walk Operators.walk_in Operators.container_of Meaning.has_path Meaning.has_meaning
         Meaning.attribute_meaning and_then needing bool_of failure_kind
     step_means (plain_represented (bool_literal b)) k l ls f rest = type_fails (plain_represented (bool_literal b))
     step_means (plain_represented (long_literal n)) k l ls f rest = type_fails (plain_represented (long_literal n))
@@ -613,7 +613,7 @@ module _ (ans : Functions) (w : World) (s : Setting) (F : Represented → Type 0
     step_means (plain_represented (entity_literal d)) k l ls f rest = walk_entity d (look_up s.store d) k l ls refl rest
     step_means (set_represented vs) k l ls f rest = type_fails (set_represented vs)
     step_means (record_represented fs) k l ls f rest =
-        subst (λ q. Sound F R E (Operators.after_step (Operators.step_to (Operators.represented_at k fs))
+        subst (λ q. Sound F R E (Operators.after_walk (Operators.walk_to (Operators.represented_at k fs))
         (λ u. Operators.path_answer s.store u l ls)) (rest_of record_attribute_does_not_exist q l ls))
         (sym (value_at-abstract_fields k fs))
         (walk_value (Operators.represented_at k fs) record_attribute_does_not_exist l ls

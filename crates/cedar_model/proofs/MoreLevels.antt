@@ -12,7 +12,7 @@ use Rattle.cedar_model.specs.Outcomes.{bool_of}
 use Rattle.cedar_model.specs.Failures.{Failure, failure_kind, recursion_limit, PartialValue, value, residual, Answer}
 use Rattle.cedar_model.specs.Failures.{answers, fails, limit}
 use Rattle.cedar_model.specs.Settings.{Store, Resolution, shallow, deep, Setting}
-use Rattle.cedar_model.specs.Operators.{term_at, Step, walks_on, stops, step_in, container_of, container_expected}
+use Rattle.cedar_model.specs.Operators.{term_at, Walk, walks_on, stops, walk_in, container_of, container_expected}
 use Rattle.cedar_model.specs.Operators.{attribute_answer, path_answer, attribute_residual}
 use Rattle.cedar_model.proofs.Resolving.{nothing_read}
 use Rattle.cedar_model.specs.Rules
@@ -119,8 +119,8 @@ module _ (s : Setting) (calls : Rules.StoredCalls) (G H : Rules.MayAnswer)
     ),
   )
 
-  keep_step : (z : Step) (Next Next' : Represented → Answer → Type 0) (a : Answer)
-      → ((v : Represented) → Next v a → Next' v a) → Rules.AfterStep G z Next a → Rules.AfterStep H z Next' a
+  keep_step : (z : Walk) (Next Next' : Represented → Answer → Type 0) (a : Answer)
+      → ((v : Represented) → Next v a → Next' v a) → Rules.AfterWalk G z Next a → Rules.AfterWalk H z Next' a
   keep_step (walks_on v) Next Next' a f h = f v h
   keep_step (stops b) Next Next' a f h = h
 
@@ -131,9 +131,9 @@ module _ (s : Setting) (calls : Rules.StoredCalls) (G H : Rules.MayAnswer)
   keep_stored (answers (value v)) l ls Next Next' a f h n = (answers≢limit (value v), f v h)
   keep_stored (answers (residual r)) l ls Next Next' a f h n = (answers≢limit (residual r), h)
 
-  keep_steps : (o : Option Term) (z : Step) (l : Text) (ls : List Text) (Next Next' : Represented → Answer → Type 0)
-      (a : Answer) → ((v : Represented) → Next v a → Next' v a) → Rules.StepsOn G o z l ls Next a → a ≢ limit
-      → Rules.StepsOn H o z l ls Next' a
+  keep_steps : (o : Option Term) (z : Walk) (l : Text) (ls : List Text) (Next Next' : Represented → Answer → Type 0)
+      (a : Answer) → ((v : Represented) → Next v a → Next' v a) → Rules.WalksOn G o z l ls Next a → a ≢ limit
+      → Rules.WalksOn H o z l ls Next' a
   keep_steps None z l ls Next Next' a f h n = keep_step z Next Next' a f h
   keep_steps (Some t) z l ls Next Next' a f (x, g, h) n =
       let k = keep_stored x l ls Next Next' a f h n in (x, keep t x g k.0, k.1)
@@ -142,7 +142,7 @@ module _ (s : Setting) (calls : Rules.StoredCalls) (G H : Rules.MayAnswer)
       → a ≢ limit → Rules.Walks H store v k ks a
   keep_walks store [] v k a h n = h
   keep_walks store (l ∷ ls) v k a h n =
-      keep_steps (attribute_residual store v k) (step_in store (container_of v) (container_expected v) k l ls) l ls
+      keep_steps (attribute_residual store v k) (walk_in store (container_of v) (container_expected v) k l ls) l ls
       (λ u. Rules.Walks G store u l ls) (λ u. Rules.Walks H store u l ls) a (λ u j. keep_walks store ls u l a j n) h n
 
   keep_path : (r : Resolution) (x : Answer) (k : Text) (ks : List Text) (a : Answer) → Rules.AtPath G r s.store x k ks a
@@ -360,9 +360,9 @@ module _ (s : Setting) (calls : Rules.StoredCalls) where
         ),
       )
 
-  gather_step : (z : Step) (Next : Represented → Answer → Type 0) (Next' : ℕ → Represented → Answer → Type 0)
+  gather_step : (z : Walk) (Next : Represented → Answer → Type 0) (Next' : ℕ → Represented → Answer → Type 0)
       (a : Answer) → ((v : Represented) → Next v a → (n : ℕ) × Next' n v a)
-      → Rules.AfterStep (Rules.Allows s calls) z Next a → (n : ℕ) × Rules.AfterStep (Within n) z (Next' n) a
+      → Rules.AfterWalk (Rules.Allows s calls) z Next a → (n : ℕ) × Rules.AfterWalk (Within n) z (Next' n) a
   gather_step (walks_on v) Next Next' a f h = f v h
   gather_step (stops b) Next Next' a f h = (0, h)
 
@@ -381,11 +381,11 @@ module _ (s : Setting) (calls : Rules.StoredCalls) where
   widen_stored n m (answers (value v)) l ls Next Next' a f h = f v h
   widen_stored n m (answers (residual r)) l ls Next Next' a f h = h
 
-  gather_steps : (o : Option Term) (z : Step) (l : Text) (ls : List Text) (Next : Represented → Answer → Type 0)
+  gather_steps : (o : Option Term) (z : Walk) (l : Text) (ls : List Text) (Next : Represented → Answer → Type 0)
       (Next' : ℕ → Represented → Answer → Type 0) (a : Answer)
       → ((n m : ℕ) → n ≤ m → (v : Represented) → Next' n v a → Next' m v a)
-      → ((v : Represented) → Next v a → (n : ℕ) × Next' n v a) → Rules.StepsOn (Rules.Allows s calls) o z l ls Next a
-      → (n : ℕ) × Rules.StepsOn (Within n) o z l ls (Next' n) a
+      → ((v : Represented) → Next v a → (n : ℕ) × Next' n v a) → Rules.WalksOn (Rules.Allows s calls) o z l ls Next a
+      → (n : ℕ) × Rules.WalksOn (Within n) o z l ls (Next' n) a
   gather_steps None z l ls Next Next' a w f h = gather_step z Next Next' a f h
   gather_steps (Some t) z l ls Next Next' a w f (x, (ne, n, g), h) =
       let k = gather_stored x l ls Next Next' a f h in (
@@ -408,7 +408,7 @@ module _ (s : Setting) (calls : Rules.StoredCalls) where
   gather_walks a na [] v k h = (0, h)
   gather_walks a na (l ∷ ls) v k h =
       gather_steps (attribute_residual s.store v k)
-      (step_in s.store (container_of v) (container_expected v) k l ls) l ls
+      (walk_in s.store (container_of v) (container_expected v) k l ls) l ls
       (λ u. Rules.Walks (Rules.Allows s calls) s.store u l ls) (λ n u. Rules.Walks (Within n) s.store u l ls) a
       (λ n m e u j. widen_walks a na n m e ls u l j) (λ u j. gather_walks a na ls u l j) h
 

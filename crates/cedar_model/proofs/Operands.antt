@@ -324,32 +324,32 @@ module _ (s : Setting) (V0 V : Represented → Type 0) (R : Term → Type 0) (E 
   last_all (extension_represented t x f ts) k = wrong_all _ _ _
 
   -- what a step answers, where it stops
-  abbrev pub AllStep : Operators.Step → Type 0
+  abbrev pub AllStep : Operators.Walk → Type 0
   AllStep (Operators.walks_on v) = Unit {0}
   AllStep (Operators.stops a) = All a
 
-  step_all : (o : Option Represented) → AllStep (Operators.step_to o)
-  unfolding Operators.step_to
+  step_all : (o : Option Represented) → AllStep (Operators.walk_to o)
+  unfolding Operators.walk_to
   step_all None = bool_all false
   step_all (Some v) = tt
 
   step_stored_all : (e : EntityName) (x : StoredEntity) (k l : Text) (ls : List Text) → s.store.entity e ≡ Some x →
-      (o : Option PartialValue) → part_at k x.attributes ≡ o → AllStep (Operators.step_to_stored o l ls)
-  unfolding Operators.step_to_stored
+      (o : Option PartialValue) → part_at k x.attributes ≡ o → AllStep (Operators.walk_to_stored o l ls)
+  unfolding Operators.walk_to_stored
   step_stored_all e x k l ls f None g = bool_all false
   step_stored_all e x k l ls f (Some (value v)) g = tt
   step_stored_all e x k l ls f (Some (residual r)) g = h.path_stored e x k l ls r f g
 
   step_found_all : (e : EntityName) (k l : Text) (ls : List Text) (f : Found) → look_up s.store e ≡ f →
-      AllStep (Operators.step_found f e k l ls)
-  unfolding Operators.step_found
+      AllStep (Operators.walk_found f e k l ls)
+  unfolding Operators.walk_found
   step_found_all e k l ls not_known g = h.path_missing e k (l ∷ ls)
   step_found_all e k l ls not_there g = bool_all false
   step_found_all e k l ls (found x) g = step_stored_all e x k l ls (found_is e x g) (part_at k x.attributes) refl
 
   pub step_in_all : (v : Represented) (k l : Text) (ls : List Text) →
-      AllStep (Operators.step_in s.store (Operators.container_of v) (Operators.container_expected v) k l ls)
-  unfolding Operators.container_of Operators.step_in
+      AllStep (Operators.walk_in s.store (Operators.container_of v) (Operators.container_expected v) k l ls)
+  unfolding Operators.container_of Operators.walk_in
   step_in_all (plain_represented (bool_literal x)) k l ls = wrong_all _ _ _
   step_in_all (plain_represented (long_literal x)) k l ls = wrong_all _ _ _
   step_in_all (plain_represented (text_literal x)) k l ls = wrong_all _ _ _
@@ -358,9 +358,9 @@ module _ (s : Setting) (V0 V : Represented → Type 0) (R : Term → Type 0) (E 
   step_in_all (record_represented fs) k l ls = step_all _
   step_in_all (extension_represented t x f ts) k l ls = wrong_all _ _ _
 
-  after_all : (z : Operators.Step) (next : Represented → Answer) → AllStep z → ((v : Represented) → All (next v)) →
-      All (Operators.after_step z next)
-  unfolding Operators.after_step
+  after_all : (z : Operators.Walk) (next : Represented → Answer) → AllStep z → ((v : Represented) → All (next v)) →
+      All (Operators.after_walk z next)
+  unfolding Operators.after_walk
   after_all (Operators.walks_on v) next f g = g v
   after_all (Operators.stops a) next f g = f
 
@@ -368,5 +368,5 @@ module _ (s : Setting) (V0 V : Represented → Type 0) (R : Term → Type 0) (E 
   unfolding Operators.path_answer
   path_all [] v k = last_all v k
   path_all (l ∷ ls) v k =
-      after_all (Operators.step_in s.store (Operators.container_of v) (Operators.container_expected v) k l ls) _
+      after_all (Operators.walk_in s.store (Operators.container_of v) (Operators.container_expected v) k l ls) _
       (step_in_all v k l ls) (λ u. path_all ls u l)

@@ -254,7 +254,7 @@ module _ (s : Setting) (calls : Rules.StoredCalls) (answered : FunctionsMeetNoLi
   abbrev LimitStored : Answer → Type 0
   LimitStored b = b ≡ limit → MeetsStored
 
-  step_met : (z : Operators.Step) → operands.AllStep s AnyValue AnyValue AnyTerm NotLimit (no_limits s) z →
+  step_met : (z : Operators.Walk) → operands.AllStep s AnyValue AnyValue AnyTerm NotLimit (no_limits s) z →
       resolving.StopsWith G LimitStored z
   step_met (Operators.walks_on v) h = tt
   step_met (Operators.stops b) h = λ q. absurd (never b h q)

@@ -14,7 +14,7 @@ use Rattle.cedar_model.specs.Depth.{substituted_height}
 use Rattle.cedar_model.specs.Chains.{substituted, substituted_at, value_for}
 use Rattle.cedar_model.specs.Agreement.{height}
 use Rattle.cedar_model.specs.LevelLaws.{FunctionsAnswer}
-use Rattle.cedar_model.specs.Examples.{some_entity, some_calls, some_extensions}
+use Rattle.cedar_model.specs.Examples.{example_entity, some_calls, some_extensions}
 use Rattle.cedar_model.specs.Instances
 use Rattle.cedar_model.specs.Resolutions
 use Rattle.cedar_model.proofs.Computed.{opened, some_answer}
@@ -24,16 +24,16 @@ use Rattle.cedar_model.proofs.Injections.{some_inj, none_is_not_some}
 
 module _ (r : Resolution) (is_partial : Bool) (m : Text → Option Represented) where
   abbrev answer_at : ℕ → Term → Answer
-  answer_at n t = (total (Resolutions.resolving r is_partial m) some_calls (some_answer some_extensions.arity) n t).0
+  answer_at n t = (total (Resolutions.resolving_setting r is_partial m) some_calls (some_answer some_extensions.arity) n t).0
 
   runs : (n : ℕ) (t : Term) (a : Answer) → answer_at n t ≡ a
-      → Rules.Runs (Resolutions.resolving r is_partial m) some_calls n t a
+      → Rules.Runs (Resolutions.resolving_setting r is_partial m) some_calls n t a
   runs n t a e =
-      computed_with (Resolutions.resolving r is_partial m) some_calls (some_answer some_extensions.arity) n t a e
+      computed_with (Resolutions.resolving_setting r is_partial m) some_calls (some_answer some_extensions.arity) n t a e
 
   -- an answer that computes is allowed
   allowed : (n : ℕ) (t : Term) (a : Answer) → answer_at n t ≡ a → a ≢ limit
-      → Rules.Allows (Resolutions.resolving r is_partial m) some_calls t a
+      → Rules.Allows (Resolutions.resolving_setting r is_partial m) some_calls t a
   allowed n t a e ne = (ne, n, runs n t a e)
 
 pub attribute_resolves : Resolutions.AttributeResolves
@@ -126,8 +126,8 @@ walk_meets_long = (
 pub walk_meets_entity : Resolutions.WalkMeetsEntity
 unfolding opened
 walk_meets_entity = (
-  walk_allowed deep (Resolutions.c_is (plain_represented (entity_literal some_entity))) 4 _ _ refl (λ e. cc),
-  walk_allowed deep (Resolutions.c_is (plain_represented (entity_literal some_entity))) 4 _ _ refl (λ e. cc),
+  walk_allowed deep (Resolutions.c_is (plain_represented (entity_literal example_entity))) 4 _ _ refl (λ e. cc),
+  walk_allowed deep (Resolutions.c_is (plain_represented (entity_literal example_entity))) 4 _ _ refl (λ e. cc),
 )
 
 pub last_needs_two : Resolutions.LastNeedsTwo
@@ -147,8 +147,8 @@ missing_stays = (
 
 needs_three : (t : Term) (a : Answer) → answer_at deep false Resolutions.all_named 3 t ≡ a
     → answer_at deep false Resolutions.all_named 2 t ≡ limit
-    → Rules.Runs (Resolutions.resolving deep false Resolutions.all_named) some_calls 3 t a
-    × Rules.Exceeds (Resolutions.resolving deep false Resolutions.all_named) some_calls t 2
+    → Rules.Runs (Resolutions.resolving_setting deep false Resolutions.all_named) some_calls 3 t a
+    × Rules.Exceeds (Resolutions.resolving_setting deep false Resolutions.all_named) some_calls t 2
 needs_three t a e f = (runs deep false Resolutions.all_named 3 t a e, runs deep false Resolutions.all_named 2 t limit f)
 
 pub stored_need_three : Resolutions.StoredNeedThree

@@ -138,11 +138,11 @@ module _ (G : Rules.MayAnswer) where
   as_stored store none deep None x a i h = h
   as_stored store none deep (Some t) x a i h = absurd (none t (i t refl))
 
-  walk_as_stored : (store : Store) → ((t : Term) → IsStored store t → ⊥) → (o : Option Term) (z : Operators.Step)
+  walk_as_stored : (store : Store) → ((t : Term) → IsStored store t → ⊥) → (o : Option Term) (z : Operators.Walk)
       (l : Text) (ls : List Text) (Next : Represented → Answer → Type 0) (next : Represented → Answer) (a : Answer)
       → ((t : Term) → o ≡ Some t → IsStored store t) → ((u : Represented) → Next u a → a ≡ next u)
-      → Rules.StepsOn G o z l ls Next a → a ≡ Operators.after_step z next
-  unfolding Operators.after_step
+      → Rules.WalksOn G o z l ls Next a → a ≡ Operators.after_walk z next
+  unfolding Operators.after_walk
   walk_as_stored store none None (Operators.walks_on u) l ls Next next a i f h = f u h
   walk_as_stored store none None (Operators.stops b) l ls Next next a i f h = h
   walk_as_stored store none (Some t) z l ls Next next a i f h = absurd (none t (i t refl))
@@ -153,7 +153,7 @@ module _ (G : Rules.MayAnswer) where
   walks_as_stored store none [] v k a h = h
   walks_as_stored store none (l ∷ ls) v k a h =
       walk_as_stored store none (Operators.attribute_residual store v k)
-      (Operators.step_in store (Operators.container_of v) (Operators.container_expected v) k l ls) l ls
+      (Operators.walk_in store (Operators.container_of v) (Operators.container_expected v) k l ls) l ls
       (λ u. Rules.Walks G store u l ls) (λ u. Operators.path_answer store u l ls) a
       (λ t e. attribute_is_stored store v k t e) (λ u j. walks_as_stored store none ls u l a j) h
 
@@ -168,7 +168,7 @@ module _ (G : Rules.MayAnswer) where
 
   module _ (C : Answer → Type 0) where
     -- a step that stops
-    abbrev pub StopsWith : Operators.Step → Type 0
+    abbrev pub StopsWith : Operators.Walk → Type 0
     StopsWith (Operators.walks_on v) = Unit {0}
     StopsWith (Operators.stops a) = C a
 
@@ -181,11 +181,11 @@ module _ (G : Rules.MayAnswer) where
     module _ (store : Store) (last : (v : Represented) (k : Text)
         → C (Operators.last_in store (Operators.container_of v)
         (Operators.container_expected v) k)) (step : (v : Represented) (k l : Text) (ls : List Text)
-        → Operators.attribute_residual store v k ≡ None → StopsWith (Operators.step_in store (Operators.container_of v)
+        → Operators.attribute_residual store v k ≡ None → StopsWith (Operators.walk_in store (Operators.container_of v)
         (Operators.container_expected v) k l ls)) (read : (t : Term) → IsStored store t → (x : Answer) → G t x
         → (l : Text) (ls : List Text) → ReadStopsWith x l ls) where
-      after_step : (z : Operators.Step) (Next : Represented → Answer → Type 0) (a : Answer) → StopsWith z
-          → ((v : Represented) → Next v a → C a) → Rules.AfterStep G z Next a → C a
+      after_step : (z : Operators.Walk) (Next : Represented → Answer → Type 0) (a : Answer) → StopsWith z
+          → ((v : Represented) → Next v a → C a) → Rules.AfterWalk G z Next a → C a
       after_step (Operators.walks_on v) Next a f g h = g v h
       after_step (Operators.stops b) Next a f g h = subst C (sym h) f
 
@@ -198,7 +198,7 @@ module _ (G : Rules.MayAnswer) where
       steps_on : (o : Option Term) (v : Represented) (k l : Text) (ls : List Text)
           (Next : Represented → Answer → Type 0) (a : Answer) → Operators.attribute_residual store v k ≡ o
           → ((u : Represented) → Next u a → C a)
-          → Rules.StepsOn G o (Operators.step_in store (Operators.container_of v)
+          → Rules.WalksOn G o (Operators.walk_in store (Operators.container_of v)
           (Operators.container_expected v) k l ls)
           l ls Next a → C a
       steps_on None v k l ls Next a e g h = after_step _ Next a (step v k l ls e) g h
@@ -215,9 +215,8 @@ module _ (G : Rules.MayAnswer) where
 
 module _ (G H : Rules.MayAnswer) (store : Store) (more : (t : Term) → IsStored store t → (x : Answer) → G t x
     → H t x) where
-
-  step_map : (z : Operators.Step) (Next Next' : Represented → Answer → Type 0) (a : Answer) → ((v : Represented)
-      → Next v a → Next' v a) → Rules.AfterStep G z Next a → Rules.AfterStep H z Next' a
+  step_map : (z : Operators.Walk) (Next Next' : Represented → Answer → Type 0) (a : Answer) → ((v : Represented)
+      → Next v a → Next' v a) → Rules.AfterWalk G z Next a → Rules.AfterWalk H z Next' a
   step_map (Operators.walks_on v) Next Next' a f h = f v h
   step_map (Operators.stops b) Next Next' a f h = h
 
@@ -228,10 +227,10 @@ module _ (G H : Rules.MayAnswer) (store : Store) (more : (t : Term) → IsStored
   stored_map (answers (value v)) l ls Next Next' a f h = f v h
   stored_map (answers (residual r)) l ls Next Next' a f h = h
 
-  steps_map : (o : Option Term) (z : Operators.Step) (l : Text) (ls : List Text)
+  steps_map : (o : Option Term) (z : Operators.Walk) (l : Text) (ls : List Text)
       (Next Next' : Represented → Answer → Type 0) (a : Answer) → ((t : Term) → o ≡ Some t → IsStored store t)
-      → ((v : Represented) → Next v a → Next' v a) → Rules.StepsOn G o z l ls Next a
-      → Rules.StepsOn H o z l ls Next' a
+      → ((v : Represented) → Next v a → Next' v a) → Rules.WalksOn G o z l ls Next a
+      → Rules.WalksOn H o z l ls Next' a
   steps_map None z l ls Next Next' a i f h = step_map z Next Next' a f h
   steps_map (Some t) z l ls Next Next' a i f (x, g, h) =
       (x, more t (i t refl) x g, stored_map x l ls Next Next' a f h)
@@ -241,6 +240,6 @@ module _ (G H : Rules.MayAnswer) (store : Store) (more : (t : Term) → IsStored
   walks_map [] v k a h = h
   walks_map (l ∷ ls) v k a h =
       steps_map (Operators.attribute_residual store v k)
-      (Operators.step_in store (Operators.container_of v) (Operators.container_expected v) k l ls) l ls
+      (Operators.walk_in store (Operators.container_of v) (Operators.container_expected v) k l ls) l ls
       (λ u. Rules.Walks G store u l ls) (λ u. Rules.Walks H store u l ls) a
       (λ t e. attribute_is_stored store v k t e) (λ u j. walks_map ls u l a j) h

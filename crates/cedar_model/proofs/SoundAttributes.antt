@@ -22,7 +22,7 @@ use Rattle.cedar_model.specs.Rules
 use Rattle.cedar_model.specs.Agreement
 use Rattle.cedar_model.proofs.Means
 use Rattle.cedar_model.proofs.Resolving as resolving
-use Rattle.cedar_model.proofs.Resolving.{IsStored, each_stored, attribute_is_stored, beside_is_stored}
+use Rattle.cedar_model.proofs.Resolving.{attribute_is_stored}
 use Rattle.cedar_model.proofs.StoredMeans
 use Rattle.cedar_model.proofs.Binds
 use Rattle.cedar_model.proofs.Projection
@@ -192,13 +192,13 @@ module _ (ans : Functions) (w : World) (s : Setting) where
         by_equal ans w s a _ _ h (f, Binds.same_bind (N r) (gives u) _ _ e (λ v. refl))
 
     -- a step that reads no stored residual
-    pub step_sound : (z : Operators.Step) (v : Represented) (k l : Text) (ls : List Text) (a : Answer)
-        → Operators.step_in s.store (Operators.container_of v) (Operators.container_expected v) k l ls ≡ z → F v
+    pub step_sound : (z : Operators.Walk) (v : Represented) (k l : Text) (ls : List Text) (a : Answer)
+        → Operators.walk_in s.store (Operators.container_of v) (Operators.container_expected v) k l ls ≡ z → F v
         → ((u : Represented) → F u → Rules.Walks G s.store u l ls a
         → Sound a (Meaning.has_path w (abstract_value u) l ls))
-        → Rules.AfterStep G z (λ u. Rules.Walks G s.store u l ls) a
+        → Rules.AfterWalk G z (λ u. Rules.Walks G s.store u l ls) a
         → Sound a (Meaning.has_path w (abstract_value v) k (l ∷ ls))
-    unfolding Operators.after_step
+    unfolding Operators.after_walk
     step_sound (Operators.walks_on u) v k l ls a e f rest h =
         let z =
         StoredMeans.walks_on_attribute s (Operators.container_of v) (Operators.container_expected v) k l ls u e in
@@ -212,7 +212,7 @@ module _ (ans : Functions) (w : World) (s : Setting) where
         subst (Sound a) (sym (StoredMeans.path_goes_on w (abstract_value v) (abstract_value u) k l ls y.1 x.1))
         (value_bind ans w s a (abstract_value u) (gives (abstract_value u)) _ refl (rest u x.0 h))
     step_sound (Operators.stops b) v k l ls a e f rest h =
-        by_equal ans w s a b _ h (subst (λ z. Sound (Operators.after_step z (λ u. Operators.path_answer s.store u l ls))
+        by_equal ans w s a b _ h (subst (λ z. Sound (Operators.after_walk z (λ u. Operators.path_answer s.store u l ls))
         (Meaning.has_path w (abstract_value v) k (l ∷ ls))) e
         (Means.step_means ans w s F R E (well ans w s done) v k l ls f (Means.path_means ans w s F R E (well ans w s done) l ls)))
 
@@ -220,11 +220,11 @@ module _ (ans : Functions) (w : World) (s : Setting) where
         → Operators.attribute_residual s.store v k ≡ o → F v
         → ((u : Represented) → F u → Rules.Walks G s.store u l ls a
         → Sound a (Meaning.has_path w (abstract_value u) l ls))
-        → Rules.StepsOn G o (Operators.step_in s.store (Operators.container_of v)
+        → Rules.WalksOn G o (Operators.walk_in s.store (Operators.container_of v)
         (Operators.container_expected v) k l ls) l ls (λ u. Rules.Walks G s.store u l ls) a
         → Sound a (Meaning.has_path w (abstract_value v) k (l ∷ ls))
     steps_sound None v k l ls a e f rest h =
-        step_sound (Operators.step_in s.store (Operators.container_of v)
+        step_sound (Operators.walk_in s.store (Operators.container_of v)
         (Operators.container_expected v) k l ls) v k l ls a refl f rest h
     steps_sound (Some t) v k l ls a e f rest (x, g, h) =
         let z = StoredMeans.attribute_stored ans w s done.agreement.store_agrees v k t e in

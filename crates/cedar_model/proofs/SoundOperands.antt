@@ -23,7 +23,7 @@ use Rattle.cedar_model.specs.Rules
 use Rattle.cedar_model.specs.Agreement
 use Rattle.cedar_model.proofs.Means
 use Rattle.cedar_model.proofs.Resolving as resolving
-use Rattle.cedar_model.proofs.Resolving.{IsStored, each_stored, attribute_is_stored, beside_is_stored}
+use Rattle.cedar_model.proofs.Resolving.{IsStored, each_stored, beside_is_stored}
 use Rattle.cedar_model.proofs.StoredMeans
 use Rattle.cedar_model.proofs.Binds
 use Rattle.cedar_model.proofs.SoundAnswers

@@ -41,9 +41,9 @@ path_goes_on w v u k l ls e h =
 
 module _ (s : Setting) where
   walks_found : (f : Found) (e : EntityName) (k l : Text) (ls : List Text) (u : Represented)
-      → Operators.step_found f e k l ls ≡ Operators.walks_on u
+      → Operators.walk_found f e k l ls ≡ Operators.walks_on u
       → (Operators.attribute_found s.map f e k ≡ answers_value u) × (Operators.has_found f e k ≡ answers_bool true)
-  unfolding Operators.step_found Operators.step_to_stored Operators.attribute_found Operators.stored_attribute
+  unfolding Operators.walk_found Operators.walk_to_stored Operators.attribute_found Operators.stored_attribute
       Operators.has_found
   walks_found not_known e k l ls u h = absurd (cc)
   walks_found not_there e k l ls u h = absurd (cc)
@@ -53,7 +53,7 @@ module _ (s : Setting) where
       walks_inj p q i = cc
 
       by : (o : Option PartialValue) → part_at k x.attributes ≡ o
-          → Operators.step_to_stored o l ls ≡ Operators.walks_on u
+          → Operators.walk_to_stored o l ls ≡ Operators.walks_on u
           → (Operators.stored_attribute s.map (part_at k x.attributes) (Operators.attribute_is_missing x e k)
           ≡ answers_value u) × (answers_bool (is_some (part_at k x.attributes)) ≡ answers_bool true)
       by None i j = absurd (cc)
@@ -65,9 +65,9 @@ module _ (s : Setting) where
       by (Some (residual t)) i j = absurd (cc)
 
   walks_at : (o : Option Represented) (e : Failure) (u : Represented)
-      → Operators.step_to o ≡ Operators.walks_on u
+      → Operators.walk_to o ≡ Operators.walks_on u
       → (Operators.value_or_failure o e ≡ answers_value u) × (answers_bool (is_some o) ≡ answers_bool true)
-  unfolding Operators.step_to Operators.value_or_failure
+  unfolding Operators.walk_to Operators.value_or_failure
   walks_at None e u h = absurd (cc)
   walks_at (Some v) e u h = (ap answers_value (walks_inj v u h), refl)
     where
@@ -76,9 +76,9 @@ module _ (s : Setting) where
 
   -- a value that is walked on is the attribute
   pub walks_on_attribute : (c : Operators.Container) (e : Failure) (k l : Text) (ls : List Text) (u : Represented)
-      → Operators.step_in s.store c e k l ls ≡ Operators.walks_on u
+      → Operators.walk_in s.store c e k l ls ≡ Operators.walks_on u
       → (Operators.attribute_in s c e k ≡ answers_value u) × (Operators.has_in s.store c e k ≡ answers_bool true)
-  unfolding Operators.step_in Operators.attribute_in Operators.has_in
+  unfolding Operators.walk_in Operators.attribute_in Operators.has_in
   walks_on_attribute (Operators.a_record fs) e k l ls u h = walks_at (Operators.represented_at k fs) _ u h
   walks_on_attribute (Operators.an_entity d) e k l ls u h = walks_found (look_up s.store d) d k l ls u h
   walks_on_attribute Operators.no_container e k l ls u h = absurd (cc)

@@ -14,7 +14,7 @@ use Rattle.cedar_model.specs.Chains
 use Rattle.cedar_model.specs.Chains.{Mapping, Response}
 use Rattle.cedar_model.specs.Headline
 use Rattle.cedar_model.specs.Progress
-use Rattle.cedar_model.specs.Examples.{some_functions, some_extensions, some_entity}
+use Rattle.cedar_model.specs.Examples.{some_functions, some_extensions, example_entity}
 use Rattle.cedar_model.specs.Resolutions.{the_set}
 use Rattle.cedar_model.specs.ChainExamples.{an_entity, a_number, empty_context}
 use Rattle.cedar_model.specs.StoredChains
@@ -49,9 +49,9 @@ stepped resolution old r m =
 abbrev known : RequestPart
 known =
     record {
-      principal_entry = known_entry some_entity;
-      action_entry = StoredChains.asking.action_entry;
-      resource_entry = known_entry some_entity;
+      principal_entry = known_entry example_entity;
+      action_entry = StoredChains.asked_request.action_entry;
+      resource_entry = known_entry example_entity;
       context_part = empty_context;
     }
 
@@ -59,14 +59,14 @@ known =
 abbrev half_known : RequestPart
 half_known =
     record {
-      principal_entry = known_entry some_entity;
-      action_entry = StoredChains.asking.action_entry;
+      principal_entry = known_entry example_entity;
+      action_entry = StoredChains.asked_request.action_entry;
       resource_entry = StoredChains.asking_twice.resource_entry;
       context_part = empty_context;
     }
 
 abbrev pub first : Response
-first = begun StoredChains.asking StoredChains.one_reads
+first = begun StoredChains.asked_request StoredChains.one_reads
 
 abbrev pub read : Response
 read = stepped deep first known StoredChains.principal_map
@@ -74,16 +74,16 @@ read = stepped deep first known StoredChains.principal_map
 abbrev pub kept : Response
 kept = stepped shallow first known StoredChains.principal_map
 
-pub begins : Chains.Begins (StoredChains.with_resolution shallow) StoredChains.asking StoredChains.set_store
+pub begins : Chains.Begins (StoredChains.configured_with shallow) StoredChains.asked_request StoredChains.set_store
     StoredChains.one_reads first
 unfolding Exemplified.chain_opened Exemplified.finds_none Exemplified.is_memory
 begins = record {
   mode_is = refl;
   request_is = refl;
-  runs = Exemplified.run_to skip (at shallow StoredChains.asking Chains.no_values) 9 StoredChains.one_reads (refl, tt);
+  runs = Exemplified.run_to skip (at shallow StoredChains.asked_request Chains.no_values) 9 StoredChains.one_reads (refl, tt);
 }
 
-pub is_read : Chains.StepsTo (StoredChains.with_resolution deep) StoredChains.principal_map StoredChains.set_store first
+pub is_read : Chains.StepsTo (StoredChains.configured_with deep) StoredChains.principal_map StoredChains.set_store first
     read
 unfolding Exemplified.chain_opened Exemplified.finds_none Exemplified.is_memory
 is_read = (
@@ -97,7 +97,7 @@ is_read = (
   ),
 )
 
-pub is_kept : Chains.StepsTo (StoredChains.with_resolution shallow) StoredChains.principal_map StoredChains.set_store
+pub is_kept : Chains.StepsTo (StoredChains.configured_with shallow) StoredChains.principal_map StoredChains.set_store
     first kept
 unfolding Exemplified.chain_opened Exemplified.finds_none Exemplified.is_memory
 is_kept = (
@@ -112,7 +112,7 @@ is_kept = (
   ),
 )
 
-pub chained : Chains.ChainOf (StoredChains.with_resolution shallow) first
+pub chained : Chains.ChainOf (StoredChains.configured_with shallow) first
     (StoredChains.step_resolving deep StoredChains.principal_map ∷ []) read
 unfolding Exemplified.chain_opened
 chained = (Ok read, is_read, refl)
@@ -126,9 +126,9 @@ abbrev pub middle : Response
 middle = stepped shallow first_of_two half_known StoredChains.principal_map
 
 abbrev pub last : Resolution → Response
-last resolution = stepped resolution middle known StoredChains.resource_map
+last resolution = stepped resolution middle known StoredChains.resource_named
 
-pub two_begin : Chains.Begins (StoredChains.with_resolution shallow) StoredChains.asking_twice StoredChains.set_store
+pub two_begin : Chains.Begins (StoredChains.configured_with shallow) StoredChains.asking_twice StoredChains.set_store
     StoredChains.two_read first_of_two
 unfolding Exemplified.chain_opened Exemplified.finds_none Exemplified.is_memory
 two_begin = record {
@@ -138,7 +138,7 @@ two_begin = record {
       (refl, (refl, tt));
 }
 
-pub first_step : Chains.StepsTo (StoredChains.with_resolution shallow) StoredChains.principal_map StoredChains.set_store
+pub first_step : Chains.StepsTo (StoredChains.configured_with shallow) StoredChains.principal_map StoredChains.set_store
     first_of_two middle
 unfolding Exemplified.chain_opened Exemplified.finds_none Exemplified.is_memory
 first_step = (
@@ -153,7 +153,7 @@ first_step = (
   ),
 )
 
-deep_step : Chains.StepsTo (StoredChains.with_resolution deep) StoredChains.resource_map StoredChains.set_store middle
+deep_step : Chains.StepsTo (StoredChains.configured_with deep) StoredChains.resource_named StoredChains.set_store middle
     (last deep)
 unfolding Exemplified.chain_opened Exemplified.finds_none Exemplified.is_memory
 deep_step = (
@@ -162,13 +162,13 @@ deep_step = (
   (
     (last deep).rows,
     (last deep).errors,
-    Exemplified.run_to skip (at deep known StoredChains.resource_map) 9 (Chains.all_residuals middle.rows)
+    Exemplified.run_to skip (at deep known StoredChains.resource_named) 9 (Chains.all_residuals middle.rows)
         (refl, (refl, tt)),
     refl,
   ),
 )
 
-shallow_step : Chains.StepsTo (StoredChains.with_resolution shallow) StoredChains.resource_map StoredChains.set_store
+shallow_step : Chains.StepsTo (StoredChains.configured_with shallow) StoredChains.resource_named StoredChains.set_store
     middle (last shallow)
 unfolding Exemplified.chain_opened Exemplified.finds_none Exemplified.is_memory
 shallow_step = (
@@ -177,18 +177,18 @@ shallow_step = (
   (
     (last shallow).rows,
     (last shallow).errors,
-    Exemplified.run_to skip (at shallow known StoredChains.resource_map) 9 (Chains.all_residuals middle.rows)
+    Exemplified.run_to skip (at shallow known StoredChains.resource_named) 9 (Chains.all_residuals middle.rows)
         (refl, (refl, tt)),
     refl,
   ),
 )
 
-pub ends_deep : Chains.ChainOf (StoredChains.with_resolution shallow) first_of_two (StoredChains.steps_by shallow deep)
+pub ends_deep : Chains.ChainOf (StoredChains.configured_with shallow) first_of_two (StoredChains.steps_by shallow deep)
     (last deep)
 unfolding Exemplified.chain_opened
 ends_deep = (Ok middle, first_step, (Ok (last deep), deep_step, refl))
 
-pub ends_shallow : Chains.ChainOf (StoredChains.with_resolution shallow) first_of_two
+pub ends_shallow : Chains.ChainOf (StoredChains.configured_with shallow) first_of_two
     (StoredChains.steps_by shallow shallow) (last shallow)
 unfolding Exemplified.chain_opened
 ends_shallow = (Ok middle, first_step, (Ok (last shallow), shallow_step, refl))
@@ -198,7 +198,7 @@ ends_shallow = (Ok middle, first_step, (Ok (last shallow), shallow_step, refl))
 -- the one stored part is such
 each_stored : (Such : PartialValue → Type 0) → Such (residual the_set)
     → Agreement.EachStored Such StoredChains.set_store
-each_stored Such h e x k p f = by (entity_eq e some_entity) f
+each_stored Such h e x k p f = by (entity_eq e example_entity) f
   where
     by : (b : Bool) → cond b (Some StoredChains.set_facts) None ≡ Some x
         → ((part_at k x.attributes ≡ Some p → Such p) × (part_at k x.tags ≡ Some p → Such p))
@@ -211,10 +211,10 @@ each_stored Such h e x k p f = by (entity_eq e some_entity) f
 
 -- so is each value of a map
 each_named : (variable_name : Text) (Such : Text → Represented → Type 0)
-    → Such variable_name (an_entity some_entity) → Such (codes "u") (a_number 1) → (n : Text) (v : Represented)
+    → Such variable_name (an_entity example_entity) → Such (codes "u") (a_number 1) → (n : Text) (v : Represented)
     → StoredChains.names variable_name n ≡ Some v → Such n v
 each_named variable_name Such h i =
-    Exemplified.at_each Such ((variable_name, an_entity some_entity) ∷ (codes "u", a_number 1) ∷ []) (h, (i, tt))
+    Exemplified.at_each Such ((variable_name, an_entity example_entity) ∷ (codes "u", a_number 1) ∷ []) (h, (i, tt))
 
 pub names_all : Progress.NamesAll some_functions StoredChains.principal_map first
 unfolding Exemplified.chain_opened
@@ -241,7 +241,7 @@ finishes = (
 
 pub shallow_isn't : StoredChains.ProgressPremises shallow first → ⊥
 unfolding Exemplified.chain_opened
-shallow_isn't h = (h.2 some_entity StoredChains.set_facts (codes "g") (residual the_set) refl).0 refl
+shallow_isn't h = (h.2 example_entity StoredChains.set_facts (codes "g") (residual the_set) refl).0 refl
 
 -- ---- the world
 
@@ -270,14 +270,14 @@ store_by e false = refl
 
 store_completes : Headline.CompletesStore some_extensions some_functions StoredChains.set_world StoredChains.set_store
 store_completes = record {
-  store_agrees = λ e. store_by e (entity_eq e some_entity);
+  store_agrees = λ e. store_by e (entity_eq e example_entity);
   stored_values_are_faithful = each_stored (Agreement.IsFaithfulPart some_extensions some_functions) tt;
   stored_residuals_fit = each_stored (Agreement.FitsPart some_extensions some_functions StoredChains.set_world)
       (tt, tt);
 }
 
 map_completes : (variable_name : Text)
-    → StoredChains.set_world.sigma variable_name ≡ abstract_value (an_entity some_entity)
+    → StoredChains.set_world.sigma variable_name ≡ abstract_value (an_entity example_entity)
     → Headline.CompletesMap some_extensions some_functions StoredChains.set_world (StoredChains.names variable_name)
 unfolding Exemplified.chain_opened
 map_completes variable_name h = record {
@@ -292,11 +292,11 @@ unfolding Exemplified.chain_opened
 principal_completes = map_completes (codes "principal") refl
 
 resource_completes : Headline.CompletesMap some_extensions some_functions StoredChains.set_world
-    StoredChains.resource_map
+    StoredChains.resource_named
 unfolding Exemplified.chain_opened
 resource_completes = map_completes (codes "resource") refl
 
-pub completed : Headline.Premises (StoredChains.with_resolution shallow) StoredChains.asking StoredChains.set_store
+pub completed : Headline.Premises (StoredChains.configured_with shallow) StoredChains.asked_request StoredChains.set_store
     StoredChains.one_reads (StoredChains.step_resolving deep StoredChains.principal_map ∷ []) some_functions
     StoredChains.set_world read.errors
 unfolding Exemplified.chain_opened
@@ -317,7 +317,7 @@ completed = record {
   no_limit_is_recorded = tt;
 }
 
-pub two_completed : Headline.Premises (StoredChains.with_resolution shallow) StoredChains.asking_twice
+pub two_completed : Headline.Premises (StoredChains.configured_with shallow) StoredChains.asking_twice
     StoredChains.set_store StoredChains.two_read (StoredChains.steps_by shallow deep) some_functions
     StoredChains.set_world (last deep).errors
 unfolding Exemplified.chain_opened

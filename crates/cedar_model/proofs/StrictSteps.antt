@@ -12,7 +12,7 @@ use Rattle.cedar_model.specs.Chains.{Mapping, Response}
 use Rattle.cedar_model.specs.Headline
 use Rattle.cedar_model.specs.Examples.{some_calls, some_functions, some_extensions}
 use Rattle.cedar_model.specs.ChainExamples.{no_map, empty_store, request_setting, known_request, strict_policies, x_is}
-use Rattle.cedar_model.specs.ChainExamples.{strict_world, step_by}
+use Rattle.cedar_model.specs.ChainExamples.{strict_world, shallow_step}
 use Rattle.cedar_model.proofs.Exemplified
 use Rattle.cedar_model.proofs.Configured.{configured_by}
 use Rattle.cedar_model.proofs.TwoSteps.{functional, faithful}
@@ -99,7 +99,7 @@ is_kept = (
   ),
 )
 
-pub chained : Chains.ChainOf (configured_by some_calls forbid_on_error s 9) first (step_by (x_is true) ∷ []) denied
+pub chained : Chains.ChainOf (configured_by some_calls forbid_on_error s 9) first (shallow_step (x_is true) ∷ []) denied
 unfolding Exemplified.chain_opened
 chained = (Ok denied, is_denied, refl)
 
@@ -126,7 +126,7 @@ map_completes = record {
 }
 
 pub completed : Headline.Premises (configured_by some_calls forbid_on_error s 9) known_request empty_store strict_policies
-    (step_by (x_is true) ∷ []) some_functions strict_world denied.errors
+    (shallow_step (x_is true) ∷ []) some_functions strict_world denied.errors
 unfolding Exemplified.chain_opened
 completed = record {
   request_agrees = record {

@@ -14,8 +14,8 @@ use Rattle.cedar_model.specs.Outcomes.{bool_of}
 use Rattle.cedar_model.specs.Failures.{Failure, PartialValue, value, residual, Answer, answers, answers_bool, fails}
 use Rattle.cedar_model.specs.Failures.{function_is_missing, arguments_are_miscounted, limit}
 use Rattle.cedar_model.specs.Settings.{Resolution, shallow, deep, Setting}
-use Rattle.cedar_model.specs.Operators.{term_at, key_is_missing, field_names, attribute_answer, Step}
-use Rattle.cedar_model.specs.Operators.{walks_on, stops, step_in, last_in, container_of, container_expected}
+use Rattle.cedar_model.specs.Operators.{term_at, key_is_missing, field_names, attribute_answer, Walk}
+use Rattle.cedar_model.specs.Operators.{walks_on, stops, walk_in, last_in, container_of, container_expected}
 use Rattle.cedar_model.specs.Operators.{attribute_residual}
 use Rattle.cedar_model.specs.Rules
 use Rattle.cedar_model.specs.LevelLaws.{FunctionsAnswer}
@@ -147,8 +147,8 @@ module _ (s : Setting) (calls : Rules.StoredCalls) (callable : FunctionsAnswer c
     at_fields_total pr (Some fs) r k h =
         at_key_total pr (term_at k fs) fs r k (λ part e. projectable_part r fs k part h e)
 
-    abbrev step_total : (z : Step) (Next : Represented → Answer → Type 0) → ((v : Represented) → (a : Answer) ×
-        Next v a) → (a : Answer) × Rules.AfterStep G z Next a
+    abbrev step_total : (z : Walk) (Next : Represented → Answer → Type 0) → ((v : Represented) → (a : Answer) ×
+        Next v a) → (a : Answer) × Rules.AfterWalk G z Next a
     step_total (walks_on v) Next f = f v
     step_total (stops b) Next f = (b, refl)
 
@@ -163,9 +163,9 @@ module _ (s : Setting) (calls : Rules.StoredCalls) (callable : FunctionsAnswer c
         (a : Answer) × ((x : Answer) × G t x × Rules.AfterStored G x l ls Next a)
     read_total t l ls Next x f = let k = stored_total x.0 l ls Next f in (k.0, (x.0, x.1, k.1))
 
-    abbrev steps_total : (o : Option Term) (z : Step) (l : Text) (ls : List Text) (Next : Represented → Answer →
+    abbrev steps_total : (o : Option Term) (z : Walk) (l : Text) (ls : List Text) (Next : Represented → Answer →
         Type 0) → ((t : Term) → o ≡ Some t → Found t) → ((v : Represented) → (a : Answer) × Next v a) →
-        (a : Answer) × Rules.StepsOn G o z l ls Next a
+        (a : Answer) × Rules.WalksOn G o z l ls Next a
     steps_total None z l ls Next g f = step_total z Next f
     steps_total (Some t) z l ls Next g f = read_total t l ls Next (g t refl) f
 
@@ -173,7 +173,7 @@ module _ (s : Setting) (calls : Rules.StoredCalls) (callable : FunctionsAnswer c
         (a : Answer) × Rules.Walks G s.store v k ks a
     walks_total st [] v k = (last_in s.store (container_of v) (container_expected v) k, refl)
     walks_total st (l ∷ ls) v k =
-        steps_total (attribute_residual s.store v k) (step_in s.store (container_of v) (container_expected v) k l ls) l
+        steps_total (attribute_residual s.store v k) (walk_in s.store (container_of v) (container_expected v) k l ls) l
         ls (λ u. Rules.Walks G s.store u l ls) (λ t e. st t (attribute_is_stored s.store v k t e))
         (λ u. walks_total st ls u l)
 

@@ -8,7 +8,7 @@ use Rattle.cedar_model.specs.Failures.{Answer, PartialValue, answers_bool, answe
 use Rattle.cedar_model.specs.Policies.{skip}
 use Rattle.cedar_model.specs.Settings
 use Rattle.cedar_model.specs.Examples
-use Rattle.cedar_model.specs.Settings.{known_context, RequestPart, Setting, StoredEntity}
+use Rattle.cedar_model.specs.Settings.{known_context, RequestPart, Setting}
 use Rattle.cedar_model.specs.Agreement
 use Rattle.cedar_model.specs.Chains
 use Rattle.cedar_model.specs.Chains.{Mapping, Response}

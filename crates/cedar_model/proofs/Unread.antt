@@ -155,30 +155,30 @@ module _ (s : Setting) (concrete : s.store.is_partial ≡ false) where
   last_values (extension_represented t j f ts) k = tt
 
   module _ (G : Rules.MayAnswer) where
-    step_to : (o : Option Represented) → resolving.StopsWith G IsNoResidual (Operators.step_to o)
-    unfolding Operators.step_to
+    step_to : (o : Option Represented) → resolving.StopsWith G IsNoResidual (Operators.walk_to o)
+    unfolding Operators.walk_to
     step_to None = tt
     step_to (Some v) = tt
 
     step_stored : (o : Option PartialValue) (l : Text) (ls : List Text) → Operators.residual_in o ≡ None
-        → resolving.StopsWith G IsNoResidual (Operators.step_to_stored o l ls)
-    unfolding Operators.step_to_stored Operators.residual_in
+        → resolving.StopsWith G IsNoResidual (Operators.walk_to_stored o l ls)
+    unfolding Operators.walk_to_stored Operators.residual_in
     step_stored None l ls h = tt
     step_stored (Some (value v)) l ls h = tt
     step_stored (Some (residual t)) l ls h = absurd (cc)
 
     step_found : (e : EntityName) (k l : Text) (ls : List Text) (f : Found) → look_up s.store e ≡ f
         → Operators.attribute_residual_found f k ≡ None
-        → resolving.StopsWith G IsNoResidual (Operators.step_found f e k l ls)
-    unfolding Operators.step_found Operators.attribute_residual_found
+        → resolving.StopsWith G IsNoResidual (Operators.walk_found f e k l ls)
+    unfolding Operators.walk_found Operators.attribute_residual_found
     step_found e k l ls not_known i h = absurd (not_unknown e i)
     step_found e k l ls not_there i h = tt
     step_found e k l ls (found x) i h = step_stored (part_at k x.attributes) l ls h
 
     step_values : (v : Represented) (k l : Text) (ls : List Text) → Operators.attribute_residual s.store v k ≡ None
-        → resolving.StopsWith G IsNoResidual (Operators.step_in s.store (Operators.container_of v)
+        → resolving.StopsWith G IsNoResidual (Operators.walk_in s.store (Operators.container_of v)
         (Operators.container_expected v) k l ls)
-    unfolding Operators.container_of Operators.step_in Operators.attribute_residual_of entity_of
+    unfolding Operators.container_of Operators.walk_in Operators.attribute_residual_of entity_of
     step_values (plain_represented (bool_literal b)) k l ls h = tt
     step_values (plain_represented (long_literal n)) k l ls h = tt
     step_values (plain_represented (text_literal t)) k l ls h = tt
@@ -200,10 +200,10 @@ module _ (s : Setting) (concrete : s.store.is_partial ≡ false) where
         (λ t i x g l ls. goes_on x l ls (read t i x g)) ks v k a h
 
   -- where nothing is read at all
-  after_step : (z : Operators.Step) (next : Represented → Answer)
+  after_step : (z : Operators.Walk) (next : Represented → Answer)
       → resolving.StopsWith (λ t a. ⊥) IsNoResidual z → ((v : Represented) → IsNoResidual (next v))
-      → IsNoResidual (Operators.after_step z next)
-  unfolding Operators.after_step
+      → IsNoResidual (Operators.after_walk z next)
+  unfolding Operators.after_walk
   after_step (Operators.walks_on v) next h f = f v
   after_step (Operators.stops a) next h f = h
 
@@ -212,6 +212,6 @@ module _ (s : Setting) (concrete : s.store.is_partial ≡ false) where
   unfolding Operators.path_answer
   path_values none [] v k = last_values v k
   path_values none (l ∷ ls) v k =
-      after_step (Operators.step_in s.store (Operators.container_of v) (Operators.container_expected v) k l ls) _
+      after_step (Operators.walk_in s.store (Operators.container_of v) (Operators.container_expected v) k l ls) _
       (step_values (λ t a. ⊥) v k l ls (none_read (Operators.attribute_residual s.store v k)
       (λ t e. none t (attribute_is_stored s.store v k t e)))) (λ u. path_values none ls u l)

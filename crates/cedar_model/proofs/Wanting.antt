@@ -264,7 +264,7 @@ module _ (s : Setting) (calls : Rules.StoredCalls) (finding : FunctionsFindMemor
         resolving.resolved G Found s.resolution (Rules.beside_residual s.store op p y) _ a
         (found_beside op p y (ih t y g)) (λ u d i. ih u a) e
 
-    found_step : (z : Operators.Step) → operands.AllStep s AnyValue AnyValue AnyTerm IsOther facts z
+    found_step : (z : Operators.Walk) → operands.AllStep s AnyValue AnyValue AnyTerm IsOther facts z
         → resolving.StopsWith G Found z
     found_step (Operators.walks_on v) h = tt
     found_step (Operators.stops a) h = h

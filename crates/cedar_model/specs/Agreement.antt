@@ -348,10 +348,10 @@ FailsAs of_residual o = ⊥
 FailsAs of_limit o = ⊥
 FailsAs of_memory o = ⊥
 
-abbrev pub Answers : Answer → Outcome → Type 0
-Answers (answers (value v)) o = o ≡ gives (abstract_value v)
-Answers (answers (residual t)) o = ⊥
-Answers (fails e) o = FailsAs (failure_kind e) o
+abbrev pub AnswersOutcome : Answer → Outcome → Type 0
+AnswersOutcome (answers (value v)) o = o ≡ gives (abstract_value v)
+AnswersOutcome (answers (residual t)) o = ⊥
+AnswersOutcome (fails e) o = FailsAs (failure_kind e) o
 
 -- an answer stands for an outcome: a faithful value that is its value; an error, where it errs; or a residual that fits
 -- the world and has the same outcome without slots. The recursion limit and want of memory say nothing

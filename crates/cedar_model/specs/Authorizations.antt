@@ -10,7 +10,7 @@ use Rattle.cedar_model.specs.Meaning.{meaning}
 use Rattle.cedar_model.specs.Failures.{Failure, recursion_limit, FailureKind, of_meaning, failure_kind, Answer, limit}
 use Rattle.cedar_model.specs.Settings.{Setting}
 use Rattle.cedar_model.specs.Rules.{StoredCalls, Exceeds}
-use Rattle.cedar_model.specs.Agreement.{Answers, height, IsKnown, AgreesAndFits}
+use Rattle.cedar_model.specs.Agreement.{AnswersOutcome, height, IsKnown, AgreesAndFits}
 use Rattle.cedar_model.specs.Policies.{Policy, Verdict, satisfied, unsatisfied, erring, Judged, Decision, decision}
 use Rattle.cedar_model.specs.Policies.{reasons, ErrorHandling, counting, counted_each}
 use Rattle.cedar_model.specs.Responses.{FitPolicies, decided, result_of, with_error}
@@ -78,7 +78,7 @@ pub record IsExact (calls : StoredCalls) (ans : Functions) (w : World) (s : Sett
     (a : Answer) : Type 0 where
   pub limit_by_need : (a ≡ limit) ↔ Exceeds s calls t levels
   pub limit_by_height : height t ≤ levels → a ≢ limit
-  pub meant : a ≢ limit → Answers a (meaning s.extensions ans w s.slots t)
+  pub meant : a ≢ limit → AnswersOutcome a (meaning s.extensions ans w s.slots t)
 
 -- the bool that is meant, or an error of the kind that is meant
 abbrev pub Decides : Result Bool Failure → Result Bool ErrorKind → Type 0

@@ -280,16 +280,16 @@ ContextIsReadUnderTheOldRequest =
 abbrev pub policy : Text → Effect → Term → Policy
 policy = clause_policy
 
-abbrev pub attribute : Text → Term
-attribute k = get_attribute (variable context) k
+abbrev pub context_attribute : Text → Term
+context_attribute k = get_attribute (variable context) k
 
 -- 0: permit when principal is a and resource is b; 1: forbid when context.c and context.d is 10
 abbrev pub two_policies : List Policy
 two_policies =
     policy (codes "0") permit (both (binary eq_operator (variable principal) (entity (user (codes "a"))))
     (binary eq_operator (variable resource) (entity (user (codes "b"))))) ∷
-    policy (codes "1") forbid (both (attribute (codes "c"))
-    (binary eq_operator (attribute (codes "d")) (long 10))) ∷ []
+    policy (codes "1") forbid (both (context_attribute (codes "c"))
+    (binary eq_operator (context_attribute (codes "d")) (long 10))) ∷ []
 
 -- principal a, an unknown resource, and a context of two unknowns
 abbrev pub open_request : RequestPart
@@ -306,11 +306,11 @@ context_map =
     map_of ((codes "c", plain_represented (bool_literal true)) ∷ (codes "d", a_number 10) ∷ [])
 
 -- a step by this map over the empty store
-abbrev pub step_by : Mapping → ChainStep
-step_by m = record { mapping = m; store = empty_store; resolution = shallow }
+abbrev pub shallow_step : Mapping → ChainStep
+shallow_step m = record { mapping = m; store = empty_store; resolution = shallow }
 
 abbrev pub two_steps : List ChainStep
-two_steps = step_by resource_map ∷ step_by context_map ∷ []
+two_steps = shallow_step resource_map ∷ shallow_step context_map ∷ []
 
 -- first both are residual; the resource makes the permit true, which decides nothing beside the forbid; then the
 -- context, whose map names all that is unknown, makes the forbid true: no residual is left, and the decision is Deny
@@ -367,13 +367,13 @@ abbrev pub EndsAtTheLimit : Type 0
 EndsAtTheLimit =
     Begins (configured_in skip 0) known_request empty_store (policy (codes "1") permit truth ∷ []) limited
     × ChainAnswers (configured_in skip 0) limited
-    (step_by (map_of ((codes "principal", a_number 3) ∷ [])) ∷ []) (Ok limited)
+    (shallow_step (map_of ((codes "principal", a_number 3) ∷ [])) ∷ []) (Ok limited)
 
 -- where a response holds no limit, the refusal of a step is the chain's
 abbrev pub RefusalEndsAChain : Type 0
 RefusalEndsAChain =
     ChainAnswers (configured_in skip 9) (response_to known_request [])
-    (step_by (map_of ((codes "principal", a_number 3) ∷ [])) ∷ step_by no_map ∷ [])
+    (shallow_step (map_of ((codes "principal", a_number 3) ∷ [])) ∷ shallow_step no_map ∷ [])
     (Err (value_is_wrong (codes "principal") (codes "entity") (a_number 3)))
 
 -- ---- erring forbids
@@ -382,8 +382,8 @@ RefusalEndsAChain =
 abbrev pub erring_policies : List Policy
 erring_policies =
     policy (codes "1") permit truth ∷
-    policy (codes "2") permit (binary eq_operator (attribute (codes "bad")) (long 2)) ∷
-    policy (codes "3") forbid (binary eq_operator (attribute (codes "bad")) (long 2)) ∷ []
+    policy (codes "2") permit (binary eq_operator (context_attribute (codes "bad")) (long 2)) ∷
+    policy (codes "3") forbid (binary eq_operator (context_attribute (codes "bad")) (long 2)) ∷ []
 
 -- rows of them, by what is reported of the forbid
 abbrev pub erring_rows : Reported → List Row
@@ -446,9 +446,9 @@ abbrev pub StrictChainIsCompleted : Type 0
 StrictChainIsCompleted =
     (first : Response) × (last : Response)
     × Begins (configured_in forbid_on_error 9) known_request empty_store strict_policies first
-    × ChainOf (configured_in forbid_on_error 9) first (step_by (x_is true) ∷ []) last
+    × ChainOf (configured_in forbid_on_error 9) first (shallow_step (x_is true) ∷ []) last
     × Premises (configured_in forbid_on_error 9) known_request empty_store strict_policies
-    (step_by (x_is true) ∷ []) some_functions strict_world last.errors
+    (shallow_step (x_is true) ∷ []) some_functions strict_world last.errors
     × (given_decision last.rows ≡ Some deny)
     × (decision (counted_each forbid_on_error some_extensions some_functions strict_world strict_policies) ≡ deny)
     × (reasons (counted_each forbid_on_error some_extensions some_functions strict_world strict_policies)

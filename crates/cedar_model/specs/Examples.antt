@@ -37,8 +37,8 @@ x_of t = unknown (codes "x") (Some t)
 
 -- ---- an entity with attributes, a tag and an ancestor
 
-abbrev pub some_entity : EntityName
-some_entity = entity_of_type (codes "E") (codes "e")
+abbrev pub example_entity : EntityName
+example_entity = entity_of_type (codes "E") (codes "e")
 
 abbrev pub parent : EntityName
 parent = user (codes "parent")
@@ -59,7 +59,7 @@ some_facts = record {
 
 abbrev pub some_store : Bool → Store
 some_store is_partial =
-    record { entity = λ e. cond (entity_eq e some_entity) (Some some_facts) None; is_partial = is_partial }
+    record { entity = λ e. cond (entity_eq e example_entity) (Some some_facts) None; is_partial = is_partial }
 
 -- u and v are mapped to 1
 abbrev pub some_map : Text → Option Represented

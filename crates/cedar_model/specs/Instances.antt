@@ -27,8 +27,8 @@ use Rattle.cedar_model.specs.Examples.{entity_of_type, user, long, x, some_calls
 
 -- ---- what is given, with unknowns: the principal, a value in the context, and a stored attribute that the map names
 
-abbrev pub stored_entity : EntityName
-stored_entity = entity_of_type (codes "E") (codes "e")
+abbrev pub waiting_entity : EntityName
+waiting_entity = entity_of_type (codes "E") (codes "e")
 
 abbrev pub waiting_facts : StoredEntity
 waiting_facts =
@@ -50,7 +50,7 @@ waiting is_partial = record {
             (fields_of ((codes "test", unknown (codes "name") (Some bool_type)) ∷ []));
       };
   store =
-      record { entity = λ e. cond (entity_eq e stored_entity) (Some waiting_facts) None; is_partial = is_partial };
+      record { entity = λ e. cond (entity_eq e waiting_entity) (Some waiting_facts) None; is_partial = is_partial };
   map = λ n. cond (text_eq n (codes "u")) (Some seven) None;
   slots = no_slots;
   extensions = some_extensions;
@@ -79,7 +79,7 @@ completing = record {
   action_entity = user (codes "act");
   resource_entity = user (codes "r");
   context_record = one_value_at (codes "test") (plain (bool_literal true)) no_values_at;
-  store = λ e. cond (entity_eq e stored_entity) (Some known_facts) None;
+  store = λ e. cond (entity_eq e waiting_entity) (Some known_facts) None;
   sigma = λ n. value_of_unknown (read_entity n) n;
 }
 
@@ -93,20 +93,20 @@ asking f =
 abbrev pub asking_calls : StoredCalls
 asking_calls f vs a = a ≡ asking f
 
-abbrev pub asked : Functions
-asked f vs =
+abbrev pub asked_functions : Functions
+asked_functions f vs =
     cond (text_eq f (codes "ask")) (function_asks (codes "q") (Some long_type)) (cond (text_eq f (codes "fail"))
     (function_errs function_failed) (function_gives (plain (bool_literal true))))
 
 -- the world completes what is given, with a concrete store and with a partial one
 abbrev pub UnknownsAreCompleted : Type 0
-UnknownsAreCompleted = (is_partial : Bool) → IsCompletion asked completing (waiting is_partial)
+UnknownsAreCompleted = (is_partial : Bool) → IsCompletion asked_functions completing (waiting is_partial)
 
 -- the functions answer to any arguments, agree with one answer, answer faithfully and never by the limit
 abbrev pub FunctionsCanAnswer : Type 0
 FunctionsCanAnswer =
-    ((arity : Text → Option ℕ) → FunctionsAnswer asking_calls arity) × AgreesWithFunctions asked asking_calls ×
-    ((X : Extensions) → AnswerFaithfully X asked asking_calls) × FunctionsMeetNoLimit asking_calls
+    ((arity : Text → Option ℕ) → FunctionsAnswer asking_calls arity) × AgreesWithFunctions asked_functions asking_calls ×
+    ((X : Extensions) → AnswerFaithfully X asked_functions asking_calls) × FunctionsMeetNoLimit asking_calls
 
 -- where no function exists, none has to answer
 abbrev pub no_calls : StoredCalls

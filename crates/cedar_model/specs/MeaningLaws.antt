@@ -9,14 +9,14 @@ use Rattle.cedar_model.specs.Failures.{Answer}
 use Rattle.cedar_model.specs.Settings.{Setting}
 use Rattle.cedar_model.specs.Rules.{StoredCalls, Allows, Exceeds}
 use Rattle.cedar_model.specs.Agreement.{height, IsKnown, AgreesWithRequest, AgreesWithStore, HasNothingUnknown}
-use Rattle.cedar_model.specs.Agreement.{IsAllKnownIn, Answers}
+use Rattle.cedar_model.specs.Agreement.{IsAllKnownIn, AnswersOutcome}
 use Rattle.cedar_model.specs.Agreement.{own_world, Fits, IsFaithful, CompletesWith, StandsFor}
 
 -- where nothing is unknown, what is allowed is the meaning: its value, or an error of its kind, and no residual
 abbrev pub AllowedIsMeant : StoredCalls → Type 0
 AllowedIsMeant calls =
     (ans : Functions) (w : World) (s : Setting) → IsAllKnownIn calls ans w s → (t : Term) (a : Answer) → IsKnown ans t
-    → Allows s calls t a → Answers a (meaning s.extensions ans w s.slots t)
+    → Allows s calls t a → AnswersOutcome a (meaning s.extensions ans w s.slots t)
 
 -- and the need is at most the height
 abbrev pub NeedIsAtMostHeight : StoredCalls → Type 0

@@ -12,7 +12,7 @@ use Rattle.cedar_model.specs.Outcomes.{gives_bool}
 use Rattle.cedar_model.specs.World.{World}
 use Rattle.cedar_model.specs.Meaning.{meaning}
 use Rattle.cedar_model.specs.Agreement.{no_slots, own_world}
-use Rattle.cedar_model.specs.Examples.{entity_of_type, long, text, entity, bool, x, some_entity, parent, some_setting}
+use Rattle.cedar_model.specs.Examples.{entity_of_type, long, text, entity, bool, x, example_entity, parent, some_setting}
 use Rattle.cedar_model.specs.Examples.{some_extensions, some_functions}
 
 -- every unknown is 7
@@ -67,11 +67,11 @@ MeansMissingAttributeOf =
 
 -- an attribute of an entity
 abbrev pub MeansAttribute : Type 0
-MeansAttribute = Means (get_attribute (entity some_entity) (codes "a")) (gives (plain (long_literal (pos 1))))
+MeansAttribute = Means (get_attribute (entity example_entity) (codes "a")) (gives (plain (long_literal (pos 1))))
 
 -- one that it lacks
 abbrev pub MeansAttributeMissing : Type 0
-MeansAttributeMissing = Means (get_attribute (entity some_entity) (codes "z")) (errs entity_attribute_does_not_exist)
+MeansAttributeMissing = Means (get_attribute (entity example_entity) (codes "z")) (errs entity_attribute_does_not_exist)
 
 -- a key that a record lacks
 abbrev pub MeansKeyMissing : Type 0
@@ -82,11 +82,11 @@ MeansKeyMissing =
 -- a tag that an entity lacks
 abbrev pub MeansTagMissing : Type 0
 MeansTagMissing =
-    Means (binary get_tag_operator (entity some_entity) (text (codes "z"))) (errs entity_attribute_does_not_exist)
+    Means (binary get_tag_operator (entity example_entity) (text (codes "z"))) (errs entity_attribute_does_not_exist)
 
 -- an entity is in its ancestors
 abbrev pub MeansInAncestor : Type 0
-MeansInAncestor = Means (binary in_operator (entity some_entity) (entity parent)) (gives_bool true)
+MeansInAncestor = Means (binary in_operator (entity example_entity) (entity parent)) (gives_bool true)
 
 -- and in itself, also where it isn't there
 abbrev pub MeansInItself : Type 0

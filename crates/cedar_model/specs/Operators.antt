@@ -299,31 +299,31 @@ has_answer s v k = has_in s.store (container_of v) (container_expected v) k
 -- ---- extended `has` on a value
 
 -- what a step finds: the end, a value to walk on from, or an answer
-pub data Step : Type 0 where
-  walks_on : Represented → Step
-  stops : Answer → Step
+pub data Walk : Type 0 where
+  walks_on : Represented → Walk
+  stops : Answer → Walk
 
-unfoldable pub step_to : Option Represented → Step
-step_to None = stops (answers_bool false)
-step_to (Some v) = walks_on v
+unfoldable pub walk_to : Option Represented → Walk
+walk_to None = stops (answers_bool false)
+walk_to (Some v) = walks_on v
 
 -- a stored residual keeps the attributes after it
-unfoldable pub step_to_stored : Option PartialValue → Text → List Text → Step
-step_to_stored None l ls = stops (answers_bool false)
-step_to_stored (Some (value v)) l ls = walks_on v
-step_to_stored (Some (residual t)) l ls = stops (answers_residual (extended_has t l ls))
+unfoldable pub walk_to_stored : Option PartialValue → Text → List Text → Walk
+walk_to_stored None l ls = stops (answers_bool false)
+walk_to_stored (Some (value v)) l ls = walks_on v
+walk_to_stored (Some (residual t)) l ls = stops (answers_residual (extended_has t l ls))
 
 -- an entity that a partial store lacks keeps the attributes not yet walked
-unfoldable pub step_found : Found → EntityName → Text → Text → List Text → Step
-step_found not_known e k l ls = stops (answers_residual (extended_has (missing_entity e) k (l ∷ ls)))
-step_found not_there e k l ls = stops (answers_bool false)
-step_found (found x) e k l ls = step_to_stored (part_at k x.attributes) l ls
+unfoldable pub walk_found : Found → EntityName → Text → Text → List Text → Walk
+walk_found not_known e k l ls = stops (answers_residual (extended_has (missing_entity e) k (l ∷ ls)))
+walk_found not_there e k l ls = stops (answers_bool false)
+walk_found (found x) e k l ls = walk_to_stored (part_at k x.attributes) l ls
 
 -- a step that is not the last, by k to where l and ls are to be walked
-unfoldable pub step_in : Store → Container → Failure → Text → Text → List Text → Step
-step_in store (a_record fs) failure k l ls = step_to (represented_at k fs)
-step_in store (an_entity e) failure k l ls = step_found (look_up store e) e k l ls
-step_in store no_container failure k l ls = stops (fails failure)
+unfoldable pub walk_in : Store → Container → Failure → Text → Text → List Text → Walk
+walk_in store (a_record fs) failure k l ls = walk_to (represented_at k fs)
+walk_in store (an_entity e) failure k l ls = walk_found (look_up store e) e k l ls
+walk_in store no_container failure k l ls = stops (fails failure)
 
 -- the last attribute is a presence check
 unfoldable pub last_found : Found → EntityName → Text → Answer
@@ -336,14 +336,14 @@ last_in store (a_record fs) failure k = answers_bool (is_some (represented_at k 
 last_in store (an_entity e) failure k = last_found (look_up store e) e k
 last_in store no_container failure k = fails failure
 
-unfoldable pub after_step : Step → (Represented → Answer) → Answer
-after_step (walks_on v) next = next v
-after_step (stops a) next = a
+unfoldable pub after_walk : Walk → (Represented → Answer) → Answer
+after_walk (walks_on v) next = next v
+after_walk (stops a) next = a
 
 unfoldable pub path_answer : Store → Represented → Text → List Text → Answer
 path_answer store v k [] = last_in store (container_of v) (container_expected v) k
 path_answer store v k (l ∷ ls) =
-    after_step (step_in store (container_of v) (container_expected v) k l ls) (λ u. path_answer store u l ls)
+    after_walk (walk_in store (container_of v) (container_expected v) k l ls) (λ u. path_answer store u l ls)
 
 -- ---- the stored residual that a look-up reads
 

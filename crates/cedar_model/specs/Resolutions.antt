@@ -19,7 +19,7 @@ use Rattle.cedar_model.specs.Agreement.{height, no_slots}
 use Rattle.cedar_model.specs.Restricted.{IsGivenSound}
 use Rattle.cedar_model.specs.Depth.{IsNoHigher, substituted_height}
 use Rattle.cedar_model.specs.Chains.{with_context, substituted_at}
-use Rattle.cedar_model.specs.Examples.{entity_of_type, user, long, entity, x, some_entity, some_calls, some_extensions}
+use Rattle.cedar_model.specs.Examples.{entity_of_type, user, long, entity, x, example_entity, some_calls, some_extensions}
 use Rattle.cedar_model.specs.Instances.{deeper_set, nesting_extensions}
 
 abbrev u : Term
@@ -48,14 +48,14 @@ stored_facts = record {
   ancestors = [];
 }
 
-abbrev missing : EntityName
-missing = user (codes "m")
+abbrev missing_user : EntityName
+missing_user = user (codes "m")
 
 -- u is 1, c is the entity itself, and the unknown of a missing entity is named too
 abbrev pub all_named : Text → Option Represented
 all_named n =
     cond (text_eq n (codes "u")) (Some one) (cond (text_eq n (codes "c")) (Some (plain_represented
-    (entity_literal some_entity))) (cond (text_eq n (printed_entity missing)) (Some one) None))
+    (entity_literal example_entity))) (cond (text_eq n (printed_entity missing_user)) (Some one) None))
 
 abbrev pub one_named : Text → Option Represented
 one_named n = cond (text_eq n (codes "u")) (Some one) None
@@ -63,15 +63,15 @@ one_named n = cond (text_eq n (codes "u")) (Some one) None
 abbrev pub none_named : Text → Option Represented
 none_named n = None
 
-abbrev pub resolving : Resolution → Bool → (Text → Option Represented) → Setting
-resolving r is_partial m = record {
+abbrev pub resolving_setting : Resolution → Bool → (Text → Option Represented) → Setting
+resolving_setting r is_partial m = record {
   request = record {
     principal_entry = known_entry (user (codes "p"));
     action_entry = known_entry (user (codes "act"));
     resource_entry = known_entry (user (codes "r"));
     context_part = known_context no_represented_at;
   };
-  store = record { entity = λ e. cond (entity_eq e some_entity) (Some stored_facts) None; is_partial = is_partial };
+  store = record { entity = λ e. cond (entity_eq e example_entity) (Some stored_facts) None; is_partial = is_partial };
   map = m;
   slots = no_slots;
   extensions = some_extensions;
@@ -79,20 +79,20 @@ resolving r is_partial m = record {
 }
 
 -- of a concrete store
-abbrev Answers : Resolution → (Text → Option Represented) → Term → Answer → Type 0
-Answers r m t a = Allows (resolving r false m) some_calls t a
+abbrev AllowsAnswer : Resolution → (Text → Option Represented) → Term → Answer → Type 0
+AllowsAnswer r m t a = Allows (resolving_setting r false m) some_calls t a
 
 abbrev pub attribute : Text → Term
-attribute k = get_attribute (entity some_entity) k
+attribute k = get_attribute (entity example_entity) k
 
 abbrev pub tag_of : EntityName → Text → Term
 tag_of e k = binary get_tag_operator (entity e) (literal (text_literal k))
 
 abbrev pub tag : Term
-tag = tag_of some_entity (codes "t")
+tag = tag_of example_entity (codes "t")
 
 abbrev pub path : Text → Text → Term
-path k l = extended_has (entity some_entity) k (l ∷ [])
+path k l = extended_has (entity example_entity) k (l ∷ [])
 
 abbrev pub the_set : Term
 the_set = set_of (terms_of (u ∷ []))
@@ -104,39 +104,39 @@ the_value = set_represented (one_represented one no_represented)
 
 abbrev pub AttributeResolves : Type 0
 AttributeResolves =
-    Answers shallow all_named (attribute (codes "set")) (answers_residual the_set)
-    × Answers deep all_named (attribute (codes "set")) (answers_value the_value)
+    AllowsAnswer shallow all_named (attribute (codes "set")) (answers_residual the_set)
+    × AllowsAnswer deep all_named (attribute (codes "set")) (answers_value the_value)
 
 -- what the map doesn't name stays
 abbrev pub AttributeStays : Type 0
 AttributeStays =
-    Answers deep none_named (attribute (codes "set")) (answers_residual the_set)
-    × Answers deep one_named (attribute (codes "pair")) (answers_residual (pair (long 1)))
+    AllowsAnswer deep none_named (attribute (codes "set")) (answers_residual the_set)
+    × AllowsAnswer deep one_named (attribute (codes "pair")) (answers_residual (pair (long 1)))
 
 -- an error is answered
 abbrev pub AttributeErrs : Type 0
-AttributeErrs = Answers deep all_named (attribute (codes "text")) (fails (type_is_wrong string_type [] long_type))
+AttributeErrs = AllowsAnswer deep all_named (attribute (codes "text")) (fails (type_is_wrong string_type [] long_type))
 
 abbrev pub TagResolves : Type 0
 TagResolves =
-    Answers shallow all_named tag (answers_residual the_set) × Answers deep all_named tag (answers_value the_value)
+    AllowsAnswer shallow all_named tag (answers_residual the_set) × AllowsAnswer deep all_named tag (answers_value the_value)
 
 -- a stored attribute that is itself an unknown goes through the map with either resolution, a stored tag with deep
 -- resolution alone
 abbrev pub UnknownResolves : Type 0
 UnknownResolves =
-    Answers shallow all_named (attribute (codes "child")) (answers_value (plain_represented
-    (entity_literal some_entity)))
-    × Answers deep all_named (attribute (codes "child")) (answers_value (plain_represented
-    (entity_literal some_entity)))
-    × Answers shallow all_named (tag_of some_entity (codes "u")) (answers_residual u)
-    × Answers deep all_named (tag_of some_entity (codes "u")) (answers_value one)
+    AllowsAnswer shallow all_named (attribute (codes "child")) (answers_value (plain_represented
+    (entity_literal example_entity)))
+    × AllowsAnswer deep all_named (attribute (codes "child")) (answers_value (plain_represented
+    (entity_literal example_entity)))
+    × AllowsAnswer shallow all_named (tag_of example_entity (codes "u")) (answers_residual u)
+    × AllowsAnswer deep all_named (tag_of example_entity (codes "u")) (answers_value one)
 
 -- whether there is an attribute or a tag reads none
 abbrev pub PresenceReadsNone : Type 0
 PresenceReadsNone =
-    Answers deep all_named (has_attribute (entity some_entity) (codes "text")) (answers_bool true)
-    × Answers deep none_named (binary has_tag_operator (entity some_entity) (literal (text_literal (codes "t"))))
+    AllowsAnswer deep all_named (has_attribute (entity example_entity) (codes "text")) (answers_bool true)
+    × AllowsAnswer deep none_named (binary has_tag_operator (entity example_entity) (literal (text_literal (codes "t"))))
     (answers_bool true)
 
 -- ---- extended `has`
@@ -144,29 +144,29 @@ PresenceReadsNone =
 -- a value is walked on
 abbrev pub PathWalksOn : Type 0
 PathWalksOn =
-    Answers shallow all_named (path (codes "parts") (codes "l")) (answers_residual (extended_has
+    AllowsAnswer shallow all_named (path (codes "parts") (codes "l")) (answers_residual (extended_has
     (record_of (fields_of ((codes "l", u) ∷ []))) (codes "l") []))
-    × Answers deep all_named (path (codes "parts") (codes "l")) (answers_bool true)
-    × Answers deep all_named (path (codes "parts") (codes "m")) (answers_bool false)
+    × AllowsAnswer deep all_named (path (codes "parts") (codes "l")) (answers_bool true)
+    × AllowsAnswer deep all_named (path (codes "parts") (codes "m")) (answers_bool false)
 
 -- a residual, as it is evaluated, keeps the attributes after it
 abbrev pub PathKeeps : Type 0
 PathKeeps =
-    Answers deep one_named (extended_has (entity some_entity) (codes "pair") (codes "l" ∷ codes "n" ∷ []))
+    AllowsAnswer deep one_named (extended_has (entity example_entity) (codes "pair") (codes "l" ∷ codes "n" ∷ []))
     (answers_residual (extended_has (pair (long 1)) (codes "l") (codes "n" ∷ [])))
-    × Answers deep none_named (path (codes "parts") (codes "l")) (answers_residual (extended_has
+    × AllowsAnswer deep none_named (path (codes "parts") (codes "l")) (answers_residual (extended_has
     (record_of (fields_of ((codes "l", u) ∷ []))) (codes "l") []))
 
 -- an error is answered
 abbrev pub PathErrs : Type 0
 PathErrs =
-    Answers deep all_named (path (codes "text") (codes "l")) (fails (type_is_wrong string_type [] long_type))
+    AllowsAnswer deep all_named (path (codes "text") (codes "l")) (fails (type_is_wrong string_type [] long_type))
 
 -- the last attribute is a presence check, also after a stored residual that is walked on
 abbrev pub LastIsPresence : Type 0
 LastIsPresence =
-    Answers deep all_named (extended_has (entity some_entity) (codes "text") []) (answers_bool true)
-    × Answers deep all_named (path (codes "child") (codes "text")) (answers_bool true)
+    AllowsAnswer deep all_named (extended_has (entity example_entity) (codes "text") []) (answers_bool true)
+    × AllowsAnswer deep all_named (path (codes "child") (codes "text")) (answers_bool true)
 
 -- `E::"p"` stores `child` = c, and `friend` = `E::"e"`, which stores `foo` = 1 and `set` = `[u]`
 abbrev pub holder : EntityName
@@ -175,7 +175,7 @@ holder = entity_of_type (codes "E") (codes "p")
 abbrev pub holder_facts : StoredEntity
 holder_facts = record {
   attributes = (codes "child", residual c) ∷
-      (codes "friend", value (plain_represented (entity_literal some_entity))) ∷ [];
+      (codes "friend", value (plain_represented (entity_literal example_entity))) ∷ [];
   tags = [];
   ancestors = [];
 }
@@ -186,10 +186,10 @@ friend_facts =
 
 abbrev pub walking : Resolution → (Text → Option Represented) → Setting
 walking r m = record {
-  request = (resolving r false m).request;
+  request = (resolving_setting r false m).request;
   store = record {
     entity = λ e. cond (entity_eq e holder) (Some holder_facts)
-        (cond (entity_eq e some_entity) (Some friend_facts) None);
+        (cond (entity_eq e example_entity) (Some friend_facts) None);
     is_partial = false;
   };
   map = m;
@@ -217,9 +217,9 @@ WalkMeetsLong =
 -- where c is `E::"e"` the walk goes on to it
 abbrev pub WalkMeetsEntity : Type 0
 WalkMeetsEntity =
-    Allows (walking deep (c_is (plain_represented (entity_literal some_entity)))) some_calls
+    Allows (walking deep (c_is (plain_represented (entity_literal example_entity)))) some_calls
     (walk (codes "child") (codes "foo")) (answers_bool true)
-    × Allows (walking deep (c_is (plain_represented (entity_literal some_entity)))) some_calls
+    × Allows (walking deep (c_is (plain_represented (entity_literal example_entity)))) some_calls
     (walk (codes "child") (codes "none")) (answers_bool false)
 
 -- the last attribute is not interpreted: a stored residual there takes no level
@@ -231,22 +231,22 @@ LastNeedsTwo =
 -- ---- an entity that a partial store lacks: its unknown stays, though the map names it
 
 abbrev MissingAnswers : Term → Term → Type 0
-MissingAnswers t r = Allows (resolving deep true all_named) some_calls t (answers_residual r)
+MissingAnswers t r = Allows (resolving_setting deep true all_named) some_calls t (answers_residual r)
 
 abbrev pub MissingStays : Type 0
 MissingStays =
-    MissingAnswers (get_attribute (entity missing) (codes "k")) (get_attribute (missing_entity missing) (codes "k"))
-    × MissingAnswers (tag_of missing (codes "t")) (binary get_tag_operator (missing_entity missing)
+    MissingAnswers (get_attribute (entity missing_user) (codes "k")) (get_attribute (missing_entity missing_user) (codes "k"))
+    × MissingAnswers (tag_of missing_user (codes "t")) (binary get_tag_operator (missing_entity missing_user)
     (literal (text_literal (codes "t"))))
-    × MissingAnswers (extended_has (entity missing) (codes "k") (codes "l" ∷ []))
-    (extended_has (missing_entity missing) (codes "k") (codes "l" ∷ []))
+    × MissingAnswers (extended_has (entity missing_user) (codes "k") (codes "l" ∷ []))
+    (extended_has (missing_entity missing_user) (codes "k") (codes "l" ∷ []))
 
 -- ---- levels
 
 -- a stored residual is evaluated one level below what reads it: at three levels an answer, at two the limit
 abbrev NeedsThree : Term → Answer → Type 0
 NeedsThree t a =
-    Runs (resolving deep false all_named) some_calls 3 t a × Exceeds (resolving deep false all_named) some_calls t 2
+    Runs (resolving_setting deep false all_named) some_calls 3 t a × Exceeds (resolving_setting deep false all_named) some_calls t 2
 
 abbrev pub StoredNeedThree : Type 0
 StoredNeedThree =
@@ -257,14 +257,14 @@ StoredNeedThree =
 -- with shallow resolution two are enough, and more answer the same
 abbrev pub ShallowNeedsTwo : Type 0
 ShallowNeedsTwo =
-    Exceeds (resolving shallow false all_named) some_calls (attribute (codes "set")) 1
-    × Runs (resolving shallow false all_named) some_calls 2 (attribute (codes "set")) (answers_residual the_set)
-    × Runs (resolving shallow false all_named) some_calls 3 (attribute (codes "set")) (answers_residual the_set)
+    Exceeds (resolving_setting shallow false all_named) some_calls (attribute (codes "set")) 1
+    × Runs (resolving_setting shallow false all_named) some_calls 2 (attribute (codes "set")) (answers_residual the_set)
+    × Runs (resolving_setting shallow false all_named) some_calls 3 (attribute (codes "set")) (answers_residual the_set)
 
 -- why stored residuals are restricted: one that reads itself has no answer, at whatever level
 abbrev pub looping : Setting
 looping = record {
-  request = (resolving deep false none_named).request;
+  request = (resolving_setting deep false none_named).request;
   store = record {
     entity = λ e. Some record {
       attributes = (codes "k", residual (attribute (codes "k"))) ∷ [];
@@ -305,7 +305,7 @@ nesting_facts = record { attributes = (codes "r", residual nested_residual) ∷ 
 
 abbrev pub nesting : ContextPart → Setting
 nesting c = record {
-  request = with_context (resolving deep false none_named).request c;
+  request = with_context (resolving_setting deep false none_named).request c;
   store = record { entity = λ e. Some nesting_facts; is_partial = false };
   map = none_named;
   slots = no_slots;

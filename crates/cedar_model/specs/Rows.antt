@@ -14,7 +14,7 @@ use Rattle.cedar_model.specs.Failures.{unary_overflow, slot_is_unlinked, Answer,
 use Rattle.cedar_model.specs.Failures.{answers_bool, any_entity}
 use Rattle.cedar_model.specs.Settings.{missing_entity}
 use Rattle.cedar_model.specs.Rules.{Allows}
-use Rattle.cedar_model.specs.Examples.{entity_of_type, user, long, text, entity, bool, x, x_of, some_entity, parent}
+use Rattle.cedar_model.specs.Examples.{entity_of_type, user, long, text, entity, bool, x, x_of, example_entity, parent}
 use Rattle.cedar_model.specs.Examples.{some_setting, some_calls}
 
 -- ---- what is allowed
@@ -107,41 +107,41 @@ MissingHas =
 -- an attribute that is not there, with those that are
 abbrev pub AttributeMissing : Type 0
 AttributeMissing =
-    Allowed false (get_attribute (entity some_entity) (codes "z"))
-    (fails (entity_attribute_is_missing some_entity (codes "z") true false
+    Allowed false (get_attribute (entity example_entity) (codes "z"))
+    (fails (entity_attribute_is_missing example_entity (codes "z") true false
     (codes "a" ∷ codes "child" ∷ codes "f" ∷ codes "g" ∷ []) 4))
 
 -- a tag that is not there, where an attribute is
 abbrev pub TagMissing : Type 0
 TagMissing =
-    Allowed false (binary get_tag_operator (entity some_entity) (text (codes "a")))
-    (fails (entity_attribute_is_missing some_entity (codes "a") false true (codes "t" ∷ []) 1))
+    Allowed false (binary get_tag_operator (entity example_entity) (text (codes "a")))
+    (fails (entity_attribute_is_missing example_entity (codes "a") false true (codes "t" ∷ []) 1))
 
 -- a stored tag is answered as it is stored, though the map names it
 abbrev pub TagAsStored : Type 0
 TagAsStored =
-    Allowed false (binary get_tag_operator (entity some_entity) (text (codes "t")))
+    Allowed false (binary get_tag_operator (entity example_entity) (text (codes "t")))
     (answers_residual (unknown (codes "v") None))
 
 -- and it is there
 abbrev pub HasTag : Type 0
-HasTag = Allowed false (binary has_tag_operator (entity some_entity) (text (codes "t"))) (answers_bool true)
+HasTag = Allowed false (binary has_tag_operator (entity example_entity) (text (codes "t"))) (answers_bool true)
 
 -- a stored attribute that is an unknown goes through the map
 abbrev pub AttributeThroughMap : Type 0
 AttributeThroughMap =
-    Allowed false (get_attribute (entity some_entity) (codes "f"))
+    Allowed false (get_attribute (entity example_entity) (codes "f"))
     (answers_value (plain_represented (long_literal (pos 1))))
 
 -- another stored residual does not
 abbrev pub AttributeAsStored : Type 0
 AttributeAsStored =
-    Allowed false (get_attribute (entity some_entity) (codes "g"))
+    Allowed false (get_attribute (entity example_entity) (codes "g"))
     (answers_residual (set_of (terms_of (unknown (codes "u") None ∷ []))))
 
 -- an entity is in its ancestors
 abbrev pub InAncestor : Type 0
-InAncestor = Allowed false (binary in_operator (entity some_entity) (entity parent)) (answers_bool true)
+InAncestor = Allowed false (binary in_operator (entity example_entity) (entity parent)) (answers_bool true)
 
 -- an entity that a concrete store lacks is in nothing but itself
 abbrev pub InMissingConcrete : Type 0
@@ -186,13 +186,13 @@ InFromALong =
 -- an extended `has` that meets a residual keeps the attributes after it
 abbrev pub PathMetByResidual : Type 0
 PathMetByResidual =
-    Allowed false (extended_has (entity some_entity) (codes "child") (codes "foo" ∷ codes "bar" ∷ []))
+    Allowed false (extended_has (entity example_entity) (codes "child") (codes "foo" ∷ codes "bar" ∷ []))
     (answers_residual (extended_has (unknown (codes "c") None) (codes "foo") (codes "bar" ∷ [])))
 
 -- its last attribute is a presence check, also where it is residual
 abbrev pub PathLastIsPresence : Type 0
 PathLastIsPresence =
-    Allowed false (extended_has (record_of (fields_of ((codes "b", entity some_entity) ∷ []))) (codes "b")
+    Allowed false (extended_has (record_of (fields_of ((codes "b", entity example_entity) ∷ []))) (codes "b")
     (codes "g" ∷ [])) (answers_bool true)
 
 -- and one that meets an entity which a partial store lacks
@@ -294,8 +294,8 @@ abbrev pub IsByAnnotation : Type 0
 IsByAnnotation = Allowed false (is_of_type (x_of (entity_type (codes "Group"))) (codes "Group")) (answers_bool true)
 
 -- and on one that is not
-abbrev pub IsKept : Type 0
-IsKept = Allowed false (is_of_type x (codes "Group")) (answers_residual (is_of_type x (codes "Group")))
+abbrev pub IsTestKept : Type 0
+IsTestKept = Allowed false (is_of_type x (codes "Group")) (answers_residual (is_of_type x (codes "Group")))
 
 -- a part of a projectable record
 abbrev pub Projected : Type 0

@@ -23,7 +23,7 @@ use Rattle.cedar_model.specs.Settings.{Store, Resolution, shallow, deep, Setting
 use Rattle.cedar_model.specs.Operators.{slot_answer, unknown_answer, unary_answer, like_answer, is_answer}
 use Rattle.cedar_model.specs.Operators.{binary_answer, attribute_answer, has_answer, path_answer, term_at, field_names}
 use Rattle.cedar_model.specs.Operators.{key_is_missing}
-use Rattle.cedar_model.specs.Operators.{Step, walks_on, stops, step_in, last_in, container_of, container_expected}
+use Rattle.cedar_model.specs.Operators.{Walk, walks_on, stops, walk_in, last_in, container_of, container_expected}
 use Rattle.cedar_model.specs.Operators.{attribute_residual, binary_residual}
 
 -- what expressions may answer
@@ -79,20 +79,20 @@ module _ (May : MayAnswer) where
   AfterStored (answers (value v)) l ls Next a = Next v a
   AfterStored (answers (residual r)) l ls Next a = a ≡ answers_residual (extended_has r l ls)
 
-  abbrev pub AfterStep : Step → (Represented → Answer → Type 0) → Answer → Type 0
-  AfterStep (walks_on v) Next a = Next v a
-  AfterStep (stops b) Next a = a ≡ b
+  abbrev pub AfterWalk : Walk → (Represented → Answer → Type 0) → Answer → Type 0
+  AfterWalk (walks_on v) Next a = Next v a
+  AfterWalk (stops b) Next a = a ≡ b
 
   -- a step that reads no stored residual, or one
-  abbrev pub StepsOn : Option Term → Step → Text → List Text → (Represented → Answer → Type 0) → Answer → Type 0
-  StepsOn None step l ls Next a = AfterStep step Next a
-  StepsOn (Some t) step l ls Next a = (x : Answer) × May t x × AfterStored x l ls Next a
+  abbrev pub WalksOn : Option Term → Walk → Text → List Text → (Represented → Answer → Type 0) → Answer → Type 0
+  WalksOn None step l ls Next a = AfterWalk step Next a
+  WalksOn (Some t) step l ls Next a = (x : Answer) × May t x × AfterStored x l ls Next a
 
   -- an extended `has` on a value, with deep resolution: the last attribute is a presence check
   abbrev pub Walks : Store → Represented → Text → List Text → Answer → Type 0
   Walks store v k [] a = a ≡ last_in store (container_of v) (container_expected v) k
   Walks store v k (l ∷ ls) a =
-      StepsOn (attribute_residual store v k) (step_in store (container_of v) (container_expected v) k l ls) l ls
+      WalksOn (attribute_residual store v k) (walk_in store (container_of v) (container_expected v) k l ls) l ls
       (λ u. Walks store u l ls) a
 
   abbrev pub WalksFrom : Store → Answer → Text → List Text → Answer → Type 0

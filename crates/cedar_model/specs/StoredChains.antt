@@ -17,7 +17,7 @@ use Rattle.cedar_model.specs.Reports.{ids, given_decision, must_determine, nontr
 use Rattle.cedar_model.specs.Restricted.{IsSound, IsSoundContext}
 use Rattle.cedar_model.specs.Headline.{Premises}
 use Rattle.cedar_model.specs.Progress.{LeavesNoResidual, NamesAll}
-use Rattle.cedar_model.specs.Examples.{user, long, some_entity, some_calls, some_extensions, some_functions}
+use Rattle.cedar_model.specs.Examples.{user, long, example_entity, some_calls, some_extensions, some_functions}
 use Rattle.cedar_model.specs.Resolutions.{the_set}
 use Rattle.cedar_model.specs.ChainExamples.{row, policy, map_of, an_entity, a_number, requested, empty_context}
 use Rattle.cedar_model.specs.ChainExamples.{configured_in}
@@ -29,15 +29,15 @@ abbrev pub set_facts : StoredEntity
 set_facts = record { attributes = (codes "g", residual the_set) ∷ []; tags = []; ancestors = [] }
 
 abbrev pub set_store : Store
-set_store = record { entity = λ e. cond (entity_eq e some_entity) (Some set_facts) None; is_partial = false }
+set_store = record { entity = λ e. cond (entity_eq e example_entity) (Some set_facts) None; is_partial = false }
 
 -- the principal is unknown, the context empty
 abbrev pub asking_of : Entry → RequestPart
 asking_of e = requested (unknown_entry None) e empty_context
 
 -- the resource is `E::"e"`
-abbrev pub asking : RequestPart
-asking = asking_of (known_entry some_entity)
+abbrev pub asked_request : RequestPart
+asked_request = asking_of (known_entry example_entity)
 
 -- the resource is unknown too
 abbrev pub asking_twice : RequestPart
@@ -59,17 +59,17 @@ two_read =
 
 -- one variable is `E::"e"`, and u is 1
 abbrev pub names : Text → Mapping
-names variable_name = map_of ((variable_name, an_entity some_entity) ∷ (codes "u", a_number 1) ∷ [])
+names variable_name = map_of ((variable_name, an_entity example_entity) ∷ (codes "u", a_number 1) ∷ [])
 
 abbrev pub principal_map : Mapping
 principal_map = names (codes "principal")
 
-abbrev pub resource_map : Mapping
-resource_map = names (codes "resource")
+abbrev pub resource_named : Mapping
+resource_named = names (codes "resource")
 
 -- a call with this resolution, and a step over the store
-abbrev pub with_resolution : Resolution → Configuration
-with_resolution r = resolving r (configured_in skip 9)
+abbrev pub configured_with : Resolution → Configuration
+configured_with r = resolving r (configured_in skip 9)
 
 abbrev pub step_resolving : Resolution → Mapping → ChainStep
 step_resolving r m = record { mapping = m; store = set_store; resolution = r }
@@ -81,9 +81,9 @@ step_resolving r m = record { mapping = m; store = set_store; resolution = r }
 abbrev pub StepsRead : Type 0
 StepsRead =
     (first : Response) × (read : Response) × (kept : Response)
-    × Begins (with_resolution shallow) asking set_store one_reads first
-    × StepsTo (with_resolution deep) principal_map set_store first read
-    × StepsTo (with_resolution shallow) principal_map set_store first kept
+    × Begins (configured_with shallow) asked_request set_store one_reads first
+    × StepsTo (configured_with deep) principal_map set_store first read
+    × StepsTo (configured_with shallow) principal_map set_store first kept
     × (given_decision first.rows ≡ None) × (nontrivial_residual_ids first.rows ≡ codes "1" ∷ [])
     × (given_decision read.rows ≡ Some allow) × (ids (must_determine read.rows) ≡ codes "1" ∷ [])
     × HaveNoResidual read.rows × (read.errors ≡ []) × (given_decision kept.rows ≡ None)
@@ -101,44 +101,44 @@ known_set = record {
 
 abbrev pub set_world : World
 set_world = record {
-  principal_entity = some_entity;
+  principal_entity = example_entity;
   action_entity = user (codes "act");
-  resource_entity = some_entity;
+  resource_entity = example_entity;
   context_record = no_values_at;
-  store = λ e. cond (entity_eq e some_entity) (Some known_set) None;
-  sigma = λ n. unwrap_or (part_at n ((codes "principal", plain (entity_literal some_entity)) ∷
-      (codes "resource", plain (entity_literal some_entity)) ∷ [])) (plain (long_literal (pos 1)));
+  store = λ e. cond (entity_eq e example_entity) (Some known_set) None;
+  sigma = λ n. unwrap_or (part_at n ((codes "principal", plain (entity_literal example_entity)) ∷
+      (codes "resource", plain (entity_literal example_entity)) ∷ [])) (plain (long_literal (pos 1)));
 }
 
 -- it completes a chain of these steps whose last response gives Allow for 1, as the policies decide there
 abbrev pub IsCompleted : RequestPart → List Policy → List ChainStep → Type 0
 IsCompleted request policies steps =
     (first : Response) × (last : Response)
-    × Begins (with_resolution shallow) request set_store policies first
-    × ChainOf (with_resolution shallow) first steps last
-    × Premises (with_resolution shallow) request set_store policies steps some_functions set_world last.errors
+    × Begins (configured_with shallow) request set_store policies first
+    × ChainOf (configured_with shallow) first steps last
+    × Premises (configured_with shallow) request set_store policies steps some_functions set_world last.errors
     × (given_decision last.rows ≡ Some allow) × (ids (must_determine last.rows) ≡ codes "1" ∷ [])
     × HaveNoResidual last.rows
     × (decision (judge_each some_extensions some_functions set_world policies) ≡ allow)
     × (reasons (judge_each some_extensions some_functions set_world policies) ≡ codes "1" ∷ [])
 
 abbrev pub DeepStepIsCompleted : Type 0
-DeepStepIsCompleted = IsCompleted asking one_reads (step_resolving deep principal_map ∷ [])
+DeepStepIsCompleted = IsCompleted asked_request one_reads (step_resolving deep principal_map ∷ [])
 
 -- ---- steps that differ
 
 abbrev pub steps_by : Resolution → Resolution → List ChainStep
-steps_by r q = step_resolving r principal_map ∷ step_resolving q resource_map ∷ []
+steps_by r q = step_resolving r principal_map ∷ step_resolving q resource_named ∷ []
 
 -- a shallow step by the principal leaves both policies residual. Then a deep step by the resource makes the permit true
 -- and the forbid false: Allow; a shallow one makes the permit true and leaves the forbid: nothing is decided
 abbrev pub StepsDiffer : Type 0
 StepsDiffer =
     (first : Response) × (middle : Response) × (allowed : Response) × (kept : Response)
-    × Begins (with_resolution shallow) asking_twice set_store two_read first
-    × StepsTo (with_resolution shallow) principal_map set_store first middle
-    × ChainOf (with_resolution shallow) first (steps_by shallow deep) allowed
-    × ChainOf (with_resolution shallow) first (steps_by shallow shallow) kept
+    × Begins (configured_with shallow) asking_twice set_store two_read first
+    × StepsTo (configured_with shallow) principal_map set_store first middle
+    × ChainOf (configured_with shallow) first (steps_by shallow deep) allowed
+    × ChainOf (configured_with shallow) first (steps_by shallow shallow) kept
     × (given_decision middle.rows ≡ None) × (nontrivial_residual_ids middle.rows ≡ codes "1" ∷ codes "2" ∷ [])
     × (given_decision allowed.rows ≡ Some allow) × (given_decision kept.rows ≡ None)
     × (ids (must_determine kept.rows) ≡ []) × (nontrivial_residual_ids kept.rows ≡ codes "2" ∷ [])
@@ -160,6 +160,6 @@ ProgressPremises r old =
 -- a deep step meets it, and leaves no residual; a shallow one does not, though the map names all
 abbrev pub DeepStepFinishes : Type 0
 DeepStepFinishes =
-    (first : Response) × (read : Response) × Begins (with_resolution shallow) asking set_store one_reads first
+    (first : Response) × (read : Response) × Begins (configured_with shallow) asked_request set_store one_reads first
     × ProgressPremises deep first × (ProgressPremises shallow first → ⊥)
-    × StepsTo (with_resolution deep) principal_map set_store first read × HaveNoResidual read.rows
+    × StepsTo (configured_with deep) principal_map set_store first read × HaveNoResidual read.rows

@@ -19,7 +19,7 @@ use Rattle.cedar_model.specs.Settings.{StoredEntity, shallow, Setting, missing_e
 use Rattle.cedar_model.specs.Rules.{StoredCalls, Allows}
 use Rattle.cedar_model.specs.Agreement.{no_slots}
 use Rattle.cedar_model.specs.Authorizations.{evaluated}
-use Rattle.cedar_model.specs.Examples.{entity_of_type, user, long, text, entity, bool, x, some_entity, some_facts}
+use Rattle.cedar_model.specs.Examples.{entity_of_type, user, long, text, entity, bool, x, example_entity, some_facts}
 use Rattle.cedar_model.specs.Examples.{some_map, some_setting}
 
 -- ---- functions without arguments: `one` and `two` answer values of the overloaded type T, `other` one of V, `ask`
@@ -78,7 +78,7 @@ table_setting is_partial = record {
   request = (some_setting is_partial).request;
   store =
       record {
-        entity = λ e. cond (entity_eq e some_entity) (Some some_facts) (cond (entity_eq e of_seven)
+        entity = λ e. cond (entity_eq e example_entity) (Some some_facts) (cond (entity_eq e of_seven)
             (Some seven_facts) None);
         is_partial = is_partial;
       };
@@ -205,7 +205,7 @@ IsExpectsEntity = Shown false (is_of_type (long 1) (codes "E")) (fails (type_is_
 -- the right of `getTag`
 abbrev pub GetTagExpectsText : Type 0
 GetTagExpectsText =
-    Shown false (binary get_tag_operator (entity some_entity) (long 1))
+    Shown false (binary get_tag_operator (entity example_entity) (long 1))
     (fails (type_is_wrong string_type [] long_type))
 
 -- the right of `hasTag`, before the store is read

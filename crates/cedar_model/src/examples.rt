@@ -21,7 +21,7 @@ ghost use Rattle.cedar_model.specs.Rows.{PathMissingPartial, PathStops, PathOfLo
 ghost use Rattle.cedar_model.specs.Rows.{MappedWithOtherType, KeptBesideTrue, FalseBesideUnknown, OrKeeps};
 ghost use Rattle.cedar_model.specs.Rows.{BestEffortKeeps, BestEffortSimplifies, GuardKeeps, ValueBesideResidual};
 ghost use Rattle.cedar_model.specs.Rows.{RightErrorShows, ApartByAnnotation, KeptByAnnotation, KeptWithoutAnnotation};
-ghost use Rattle.cedar_model.specs.Rows.{UnknownsApart, IsByAnnotation, IsKept, Projected, ProjectedThroughMap};
+ghost use Rattle.cedar_model.specs.Rows.{UnknownsApart, IsByAnnotation, IsTestKept, Projected, ProjectedThroughMap};
 ghost use Rattle.cedar_model.specs.Rows.{NotProjected, KeyNotThere, HasInProjectable, HasKept, SetWithUnknown};
 ghost use Rattle.cedar_model.specs.Rows.{LikeKept, ArgumentErrsFirst, NoSuchFunction, UnknownArgument};
 ghost use Rattle.cedar_model.specs.Rows.{TooManyArguments, TooFewArguments, FunctionAnswers};
@@ -88,7 +88,7 @@ pub fn unknowns_answer()
     ensures kept_without_annotation { KeptWithoutAnnotation }
     ensures unknowns_apart { UnknownsApart }
     ensures is_by_annotation { IsByAnnotation }
-    ensures is_kept { IsKept }
+    ensures is_kept { IsTestKept }
 {}
 
 /// Examples: records, sets and like with unknown parts.

@@ -156,8 +156,8 @@ unknown_text n = codes "unknown(" ++ (quoted n ++ codes ")")
 abbrev pub attribute_text : Text → Text
 attribute_text a = codes "[" ++ (quoted a ++ codes "]")
 
-abbrev pub has_text : Text → Text
-has_text a = codes " has " ++ quoted a
+abbrev pub presence_text : Text → Text
+presence_text a = codes " has " ++ quoted a
 
 abbrev pub path_text : Text → List Text → Text
 path_text a more = codes " has " ++ (quoted a ++ flat_map further_text more)
@@ -165,8 +165,8 @@ path_text a more = codes " has " ++ (quoted a ++ flat_map further_text more)
 abbrev pub like_text : List PatternPart → Text
 like_text ps = codes " like " ++ pattern_text ps
 
-abbrev pub is_text : Text → Text
-is_text t = codes " is " ++ t
+abbrev pub type_test_text : Text → Text
+type_test_text t = codes " is " ++ t
 
 -- what stands before a part of a list
 abbrev pub separator : Bool → Text
@@ -197,10 +197,10 @@ abbrev mutual
       enclosed (is_compound a) (shown m a) ++ (between_parts op ++ (if is_infix op then enclosed (is_compound b) (shown m b) else shown m b ++ codes ")"))
   shown m (call f ts) = f ++ (codes "(" ++ (shown_parts m None true ts ++ codes ")"))
   shown m (get_attribute e a) = enclosed (is_compound e) (shown m e) ++ attribute_text a
-  shown m (has_attribute e a) = enclosed (is_compound e) (shown m e) ++ has_text a
+  shown m (has_attribute e a) = enclosed (is_compound e) (shown m e) ++ presence_text a
   shown m (extended_has e a more) = enclosed (is_compound e) (shown m e) ++ path_text a more
   shown m (like e p) = enclosed (is_compound e) (shown m e) ++ like_text p
-  shown m (is_of_type e t) = enclosed (is_compound e) (shown m e) ++ is_text t
+  shown m (is_of_type e t) = enclosed (is_compound e) (shown m e) ++ type_test_text t
   shown m (set_of ts) = codes "[" ++ (shown_parts m m true ts ++ codes "]")
   shown m (record_of fs) = codes "{" ++ (shown_fields m m true fs ++ codes "}")
 

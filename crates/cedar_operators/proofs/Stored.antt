@@ -13,8 +13,8 @@ use Rattle.cedar_model.specs.Values.{Represented}
 use Rattle.cedar_model.specs.Failures.{Failure, out_of_memory, PartialValue, value, residual, Answer, answers, fails}
 use Rattle.cedar_model.specs.Failures.{answers_bool}
 use Rattle.cedar_model.specs.Settings.{Store}
-use Rattle.cedar_model.specs.Operators.{represented_at, container_of, container_expected, last_in, step_in, step_to}
-use Rattle.cedar_model.specs.Operators.{stored_attribute, mapped, path_answer, after_step, walks_on, stops}
+use Rattle.cedar_model.specs.Operators.{represented_at, container_of, container_expected, last_in, walk_in, walk_to}
+use Rattle.cedar_model.specs.Operators.{stored_attribute, mapped, path_answer, after_walk, walks_on, stops}
 use Rattle.cedar_names.specs.Leaves.{texts_view}
 use Rattle.cedar_values.specs.Sound.{Placed, whats_at}
 use Rattle.cedar_operators.proofs.Keys.{whats-lookup}
@@ -56,15 +56,15 @@ is_at_key name es r is =
     sym (is_some-map (λ (x : Bor Placed). x.now) r) ∙ sym (is_some-map (λ (p : Placed). p.what) (option_copied r)) ∙ ap is_some (at_key name es (option_copied r) is)
 
 -- a step by a key that is there, and by one that is not
-pub step_at_key : (name : Text) (es : List (RcStr Global × Placed)) (o : Option Placed) (v : Placed) → o ≡ lookup (is_at (λ k. slice_cmp nat_cmp name (rc_str_bytes k))) es → o ≡ Some v → walks_on v.what ≡ step_to (represented_at name (whats_at es))
-unfolding step_to
+pub step_at_key : (name : Text) (es : List (RcStr Global × Placed)) (o : Option Placed) (v : Placed) → o ≡ lookup (is_at (λ k. slice_cmp nat_cmp name (rc_str_bytes k))) es → o ≡ Some v → walks_on v.what ≡ walk_to (represented_at name (whats_at es))
+unfolding walk_to
 step_at_key name es o v is some =
-    ap step_to (ap (option_map (λ (p : Placed). p.what)) (sym some) ∙ at_key name es o is)
+    ap walk_to (ap (option_map (λ (p : Placed). p.what)) (sym some) ∙ at_key name es o is)
 
-pub step_at_no_key : (name : Text) (es : List (RcStr Global × Placed)) (o : Option Placed) → o ≡ lookup (is_at (λ k. slice_cmp nat_cmp name (rc_str_bytes k))) es → o ≡ None → stops (answers_bool false) ≡ step_to (represented_at name (whats_at es))
-unfolding step_to
+pub step_at_no_key : (name : Text) (es : List (RcStr Global × Placed)) (o : Option Placed) → o ≡ lookup (is_at (λ k. slice_cmp nat_cmp name (rc_str_bytes k))) es → o ≡ None → stops (answers_bool false) ≡ walk_to (represented_at name (whats_at es))
+unfolding walk_to
 step_at_no_key name es o is none =
-    ap step_to (ap (option_map (λ (p : Placed). p.what)) (sym none) ∙ at_key name es o is)
+    ap walk_to (ap (option_map (λ (p : Placed). p.what)) (sym none) ∙ at_key name es o is)
 
 -- ---- extended `has`
 
@@ -73,13 +73,13 @@ pub path_ends : (store : Store) (v : Represented) (k : Text) → path_answer sto
 unfolding path_answer
 path_ends store v k = refl
 
-pub path_walks : (store : Store) (v u : Represented) (k l : Text) (ls : List Text) → (walks_on u ≢ stops (fails out_of_memory) → walks_on u ≡ step_in store (container_of v) (container_expected v) k l ls) → path_answer store v k (l ∷ ls) ≡ path_answer store u l ls
-unfolding path_answer after_step
-path_walks store v u k l ls is = ap (λ s. after_step s (λ w. path_answer store w l ls)) (sym (is (λ e. cc)))
+pub path_walks : (store : Store) (v u : Represented) (k l : Text) (ls : List Text) → (walks_on u ≢ stops (fails out_of_memory) → walks_on u ≡ walk_in store (container_of v) (container_expected v) k l ls) → path_answer store v k (l ∷ ls) ≡ path_answer store u l ls
+unfolding path_answer after_walk
+path_walks store v u k l ls is = ap (λ s. after_walk s (λ w. path_answer store w l ls)) (sym (is (λ e. cc)))
 
-pub path_stops : (store : Store) (v : Represented) (k l : Text) (ls : List Text) (a : Answer) → (stops a ≢ stops (fails out_of_memory) → stops a ≡ step_in store (container_of v) (container_expected v) k l ls) → a ≢ fails out_of_memory → a ≡ path_answer store v k (l ∷ ls)
-unfolding path_answer after_step
-path_stops store v k l ls a is ok = ap (λ s. after_step s (λ w. path_answer store w l ls)) (is (λ e. ok (cc)))
+pub path_stops : (store : Store) (v : Represented) (k l : Text) (ls : List Text) (a : Answer) → (stops a ≢ stops (fails out_of_memory) → stops a ≡ walk_in store (container_of v) (container_expected v) k l ls) → a ≢ fails out_of_memory → a ≡ path_answer store v k (l ∷ ls)
+unfolding path_answer after_walk
+path_stops store v k l ls a is ok = ap (λ s. after_walk s (λ w. path_answer store w l ls)) (is (λ e. ok (cc)))
 
 pub texts_of_none : (ts : List (RcStr Global)) → length ts ≡ 0 → texts_view ts ≡ []
 texts_of_none [] h = refl

@@ -7,7 +7,7 @@ ghost use Rattle.cedar_model.specs.Failures.{answers_residual};
 ghost use Rattle.cedar_model.specs.Settings.{Setting, look_up, found, part_at};
 ghost use Rattle.cedar_model.specs.Operators.{attribute_answer, attribute_found, has_answer, has_found, path_answer};
 ghost use Rattle.cedar_model.specs.Operators.{key_is_missing, represented_at, represented_names, value_or_failure};
-ghost use Rattle.cedar_model.specs.Operators.{step_in, step_to, step_found, step_to_stored, last_in, last_found};
+ghost use Rattle.cedar_model.specs.Operators.{walk_in, walk_to, walk_found, walk_to_stored, last_in, last_found};
 ghost use Rattle.cedar_model.specs.Operators.{container_of, container_expected};
 ghost use Rattle.cedar_names.specs.Names.{uid_name};
 ghost use Rattle.cedar_names.specs.Leaves.{texts_view};
@@ -16,7 +16,7 @@ ghost use Rattle.cedar_values.specs.Sound.{whats_at};
 ghost use Rattle.cedar_layers.specs.Stores.{store_view, entity_view};
 ghost use Rattle.cedar_errors.specs.Answers.{AnswersWith};
 ghost use Rattle.cedar_operators.specs.Operands.{over, unknown_term};
-ghost use Rattle.cedar_operators.specs.Paths.{container_view, FindsStep};
+ghost use Rattle.cedar_operators.specs.Paths.{container_view, FindsWalk};
 
 use crate::failures::or_entity_expected;
 use crate::missing::{no_such_attribute, no_such_key};
@@ -224,7 +224,7 @@ pub fn has_path(
 }
 
 // A step by an attribute that is not the last, with the attributes after it.
-#[tactic(auto, unfolding(cedar_model::specs::Operators::step_in))]
+#[tactic(auto, unfolding(cedar_model::specs::Operators::walk_in))]
 fn step<'v>(
     alloc: Global,
     entities: &'v Entities,
@@ -232,7 +232,7 @@ fn step<'v>(
     attr: &RcStr,
     after: (&RcStr, &[RcStr]),
 ) -> PathStep<'v>
-    ensures { FindsStep result (step_in (store_view entities.now) (container_of value.now.what)
+    ensures { FindsWalk result (walk_in (store_view entities.now) (container_of value.now.what)
         (container_expected value.now.what) (rc_str_bytes attr.now) (rc_str_bytes after.entry.0.now)
         (texts_view after.entry.1.now)) }
 {
@@ -246,9 +246,9 @@ fn step<'v>(
 }
 
 // The value at the key to walk on from, if there is one.
-#[tactic(auto, unfolding(cedar_model::specs::Operators::step_to))]
+#[tactic(auto, unfolding(cedar_model::specs::Operators::walk_to))]
 fn step_of_record<'v>(pairs: &'v BTreeMap<RcStr, Value>, attr: &RcStr) -> PathStep<'v>
-    ensures { FindsStep result (step_to (represented_at (rc_str_bytes attr.now) (whats_at pairs.now.entries))) }
+    ensures { FindsWalk result (walk_to (represented_at (rc_str_bytes attr.now) (whats_at pairs.now.entries))) }
 {
     match pairs.get(attr) {
         Some(value) => PathStep::WalksOn(value),
@@ -257,7 +257,7 @@ fn step_of_record<'v>(pairs: &'v BTreeMap<RcStr, Value>, attr: &RcStr) -> PathSt
 }
 
 // The stored attribute to walk on from, if there is one.
-#[tactic(auto, unfolding(cedar_model::specs::Operators::step_found))]
+#[tactic(auto, unfolding(cedar_model::specs::Operators::walk_found))]
 fn step_of_entity<'v>(
     alloc: Global,
     entities: &'v Entities,
@@ -265,7 +265,7 @@ fn step_of_entity<'v>(
     attr: &RcStr,
     after: (&RcStr, &[RcStr]),
 ) -> PathStep<'v>
-    ensures { FindsStep result (step_found (look_up (store_view entities.now) (uid_name uid.now)) (uid_name uid.now)
+    ensures { FindsWalk result (walk_found (look_up (store_view entities.now) (uid_name uid.now)) (uid_name uid.now)
         (rc_str_bytes attr.now) (rc_str_bytes after.entry.0.now) (texts_view after.entry.1.now)) }
 {
     match entities.entity(alloc, uid) {
@@ -281,14 +281,14 @@ fn step_of_entity<'v>(
 }
 
 // The attribute, as it is stored, to walk on from; a residual keeps the attributes after it.
-#[tactic(auto, unfolding(cedar_model::specs::Operators::step_to_stored))]
+#[tactic(auto, unfolding(cedar_model::specs::Operators::walk_to_stored))]
 fn stored_step<'v>(
     alloc: Global,
     entity: &'v Entity,
     attr: &RcStr,
     after: (&RcStr, &[RcStr]),
 ) -> PathStep<'v>
-    ensures { FindsStep result (step_to_stored (part_at (rc_str_bytes attr.now) (entity_view entity.now).attributes)
+    ensures { FindsWalk result (walk_to_stored (part_at (rc_str_bytes attr.now) (entity_view entity.now).attributes)
         (rc_str_bytes after.entry.0.now) (texts_view after.entry.1.now)) }
 {
     match entity.get(attr) {

@@ -8,23 +8,23 @@ use Rattle.cedar_model.specs.Shapes.{is_projectable}
 use Rattle.cedar_model.specs.Operators.{term_at, attribute_answer, attribute_residual}
 use Rattle.cedar_model.specs.Rules as Rules
 use Rattle.cedar_model.specs.Rules.{MayAnswer, Resolves, AtKey, AtFields, AtAttribute, fields_of_record}
-use Rattle.cedar_partial_operators.specs.Parts.{Projects, projected, projection_of, projection_at, projection}
+use Rattle.cedar_partial_operators.specs.Parts.{AnswersProjection, projected, projection_of, projection_at, projection}
 
 module _ (May : MayAnswer) where
-  projects : (b : Bool) (r : Term) (k : Text) (part : Term) (a : Answer) → Projects May (projected b r k part) a
+  projects : (b : Bool) (r : Term) (k : Text) (part : Term) (a : Answer) → AnswersProjection May (projected b r k part) a
       → Rules.Projects May b r k part a
   unfolding projected
   projects true r k part a is = is
   projects false r k part a is = is
 
   at_key : (o : Option Term) (fs : Fields) (r : Term) (k : Text) (a : Answer)
-      → Projects May (projection_of o fs r k) a → AtKey May o fs r k a
+      → AnswersProjection May (projection_of o fs r k) a → AtKey May o fs r k a
   unfolding projection_of
   at_key None fs r k a is = is
   at_key (Some part) fs r k a is = projects (is_projectable r) r k part a is
 
   -- of a residual
-  pub at_fields : (o : Option Fields) (r : Term) (k : Text) (a : Answer) → Projects May (projection_at o r k) a
+  pub at_fields : (o : Option Fields) (r : Term) (k : Text) (a : Answer) → AnswersProjection May (projection_at o r k) a
       → AtFields May o r k a
   unfolding projection_at
   at_fields None r k a is = is
@@ -34,7 +34,7 @@ module _ (May : MayAnswer) where
   pub at_attribute : (s : Setting) (p : PartialValue) (k : Text) (a : Answer)
       → ((v : Represented) → p ≡ value v → a ≡ attribute_answer s v k
       → Resolves May s.resolution (attribute_residual s.store v k) (attribute_answer s v k) a)
-      → Projects May (projection s p k) a → AtAttribute May s (answers p) k a
+      → AnswersProjection May (projection s p k) a → AtAttribute May s (answers p) k a
   unfolding projection
   at_attribute s (value v) k a stored is = stored v refl is
   at_attribute s (residual r) k a stored is = at_fields (fields_of_record r) r k a is

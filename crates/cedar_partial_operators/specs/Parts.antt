@@ -3,7 +3,7 @@ use Rattle.std.specs.Prelude.{◌≡◌, ◌≢◌, Bool, true, false, Option, N
 use Rattle.cedar_model.specs.Terms.{Text, Term, get_attribute, Fields}
 use Rattle.cedar_model.specs.Shapes.{is_projectable}
 use Rattle.cedar_model.specs.Failures as model
-use Rattle.cedar_model.specs.Failures.{out_of_memory, value, residual, Answer, answers, fails, answers_residual}
+use Rattle.cedar_model.specs.Failures.{out_of_memory, value, residual, Answer, fails, answers_residual}
 use Rattle.cedar_model.specs.Failures.{FailureKind, of_meaning, of_residual, of_limit, of_memory}
 use Rattle.cedar_model.specs.Settings.{Setting}
 use Rattle.cedar_model.specs.Operators.{attribute_answer, term_at, field_names, key_is_missing}
@@ -42,9 +42,9 @@ projection s (value v) k = answered (attribute_answer s v k)
 projection s (residual r) k = projection_at (fields_of_record r) r k
 
 -- what is answered once a part that is to be interpreted again has answered
-abbrev pub Projects : MayAnswer → Projection → Answer → Type 0
-Projects May (answered b) a = a ≡ b
-Projects May (interpreted_again t) a = May t a
+abbrev pub AnswersProjection : MayAnswer → Projection → Answer → Type 0
+AnswersProjection May (answered b) a = a ≡ b
+AnswersProjection May (interpreted_again t) a = May t a
 
 abbrev pub projected_view : Projected → Projection
 projected_view (projections.Answer r) = answered (partial_answer r)

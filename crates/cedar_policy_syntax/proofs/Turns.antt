@@ -18,7 +18,6 @@ use Rattle.cedar_syntax.specs.Tokens.{kind_at, start_at, end_at}
 use Rattle.cedar_syntax.specs.Trees.{Tree, Trees, none, also, binary, height, count, stacked, gathered, left_below}
 use Rattle.cedar_syntax.specs.Trees.{made, trees, FindParts}
 use Rattle.cedar_syntax.specs.Grammar.{IsPath, one_name, name_inside, IsInBraces}
-use Rattle.cedar_syntax.specs.Reading.{HasReadClause, has_read_clause}
 use Rattle.cedar_policy_syntax.specs.declared.policies.Annotation.{Annotation}
 use Rattle.cedar_policy_syntax.specs.declared.policies.PolicySteps.{PolicySteps}
 use Rattle.cedar_policy_syntax.specs.declared.policies.Variable.{Variable}

@@ -1,24 +1,23 @@
 -- What the grammar derives of policies stands where its tokens do, each part inside what it is a part of.
 use Rattle.std.proofs.Common.{◌≡◌, ℕ, ◌+◌, ◌<◌, ◌≤◌, List, length, refl, sym, subst, arith, Bool, true, false}
 use Rattle.cedar_tokens.specs.declared.tokens.Token.{Token}
-use Rattle.cedar_syntax.specs.declared.steps.Unary.{Unary}
 use Rattle.cedar_syntax.specs.declared.steps.Binary.{Binary}
 use Rattle.cedar_syntax.specs.declared.steps.Binary.TheVariants as binaries
 use Rattle.cedar_syntax.specs.declared.steps.Unary.TheVariants as unaries
 use Rattle.cedar_syntax.specs.Places.{IsInOrder, IsInside, AreInside}
 use Rattle.cedar_syntax.specs.Tokens.{start_at, end_at}
-use Rattle.cedar_syntax.specs.Trees.{Tree, leaf, unary, binary, Trees}
+use Rattle.cedar_syntax.specs.Trees.{Tree, unary, binary, Trees}
 use Rattle.cedar_syntax.proofs.Growing.{path_grows, grows}
-use Rattle.cedar_syntax.proofs.Nested.{Ends, path_ends, starts_before, ends_before, across, wider, braces_nested}
+use Rattle.cedar_syntax.proofs.Nested.{path_ends, starts_before, ends_before, across, wider, braces_nested}
 use Rattle.cedar_syntax.specs.Grammar.{IsInBraces, in_braces}
 use Rattle.cedar_policy_syntax.specs.declared.policies.Annotation.{Annotation}
 use Rattle.cedar_policy_syntax.specs.declared.policies.Variable.{Variable}
 use Rattle.cedar_policy_syntax.specs.Grammar.{variable_at, IsEntity, entity, IsReference, to_entity, to_slot, AreEntities}
-use Rattle.cedar_policy_syntax.specs.Grammar.{one_entity, one_entity_more, IsList, no_entity, some_entities, IsSet, is_set}
+use Rattle.cedar_policy_syntax.specs.Grammar.{one_entity, one_entity_more, no_entity, some_entities, IsSet, is_set}
 use Rattle.cedar_policy_syntax.specs.Grammar.{IsConstraint, unconstrained, compared, in_list, of_type, of_type_in, IsClause}
 use Rattle.cedar_policy_syntax.specs.Grammar.{clause, negated_if, AreClauses, one_clause, one_clause_more, IsCondition}
 use Rattle.cedar_policy_syntax.specs.Grammar.{no_clause, some_clauses, AreAnnotations, no_annotation, one_key, one_value}
-use Rattle.cedar_policy_syntax.specs.Grammar.{IsScope, scope, IsPolicy, policy, PolicyTree}
+use Rattle.cedar_policy_syntax.specs.Grammar.{scope, IsPolicy, policy, PolicyTree}
 use Rattle.cedar_policy_syntax.specs.Reading.{AreBetween}
 
 -- ---- what is derived takes tokens, and ends with the last of them

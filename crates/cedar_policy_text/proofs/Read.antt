@@ -12,10 +12,9 @@ use Rattle.cedar_layers.specs.declared.policies.policy.Annotations.{Annotations}
 use Rattle.cedar_layers.specs.declared.policies.policy.Policy.{Policy}
 use Rattle.cedar_layers.specs.declared.policies.policy.PolicyID.{PolicyID}
 use Rattle.cedar_names.specs.declared.names.Loc.{Loc}
-use Rattle.cedar_tokens.specs.Tokens.{IsTokens}
 use Rattle.cedar_tokens.specs.declared.tokens.Kind.TheVariants as kind
 use Rattle.cedar_tokens.specs.declared.tokens.Token.{Token}
-use Rattle.cedar_syntax.specs.Tokens.{token_at, kind_at, start_at}
+use Rattle.cedar_syntax.specs.Tokens.{token_at, start_at}
 use Rattle.cedar_syntax.specs.Trees.{Tree, trees}
 use Rattle.cedar_policy_syntax.specs.Grammar.{PolicyTree}
 use Rattle.cedar_policy_syntax.specs.Reading.{HasPolicy}
@@ -27,7 +26,7 @@ use Rattle.cedar_text.specs.Reading.{AreFour, four, IsWithin}
 use Rattle.cedar_text.specs.declared.reading.Four.{Four}
 use Rattle.cedar_policy_text.specs.Reading.{IsValueAt, Annotated, is_there, AreAnnotated, annotated_behind}
 use Rattle.cedar_policy_text.specs.Reading.{IsMadeOf, IsPolicyAt, HasSlot, HasNoSlot, ArePolicies, policy_behind}
-use Rattle.cedar_policy_text.specs.Reading.{template_behind, id_of, AreRead, AreWithin, no_error, error_behind}
+use Rattle.cedar_policy_text.specs.Reading.{template_behind, id_of, AreWithin, no_error, error_behind}
 use Rattle.cedar_layers.specs.Policies.{PolicyView, policy_of, condition_parts, ConditionParts, effect_view, SlotValues}
 use Rattle.cedar_layers.specs.declared.policies.policy.Effect.{Effect}
 use Rattle.cedar_layers.proofs.Slots.{slots_view-empty}

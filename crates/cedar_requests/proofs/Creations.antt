@@ -12,7 +12,7 @@ use Rattle.cedar_expressions.specs.declared.expr.Expr.{Expr}
 use Rattle.cedar_expressions.specs.Records.{first_repeated, keys_view}
 use Rattle.cedar_errors.specs.Failures.{failure_of}
 use Rattle.cedar_errors.specs.declared.evaluator.err.EvaluationError.{EvaluationError}
-use Rattle.cedar_restricted_evaluator.specs.Evaluations.{IsBare, bare, IsAnswerWithin}
+use Rattle.cedar_restricted_evaluator.specs.Evaluations.{IsBare, bare_setting, IsAnswerWithin}
 use Rattle.cedar_requests.specs.declared.context.Context.{Context}
 use Rattle.cedar_requests.specs.declared.errors.ContextCreationError.{ContextCreationError}
 use Rattle.cedar_requests.specs.declared.errors.ContextCreationError.TheVariants as refusals
@@ -22,7 +22,7 @@ use Rattle.cedar_requests.specs.Creations.{is_record, IsNoRecord, IsOfRecord, Is
 abbrev Pairs : Type 0
 Pairs = List (RcStr Global × Expr)
 
-pub bare-is_bare : (x : world.Extensions) → IsBare x (bare x)
+pub bare-is_bare : (x : world.Extensions) → IsBare x (bare_setting x)
 bare-is_bare x = record { no_map = refl; has_extensions = refl }
 
 -- the same levels, term and answer

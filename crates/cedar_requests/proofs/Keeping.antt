@@ -31,7 +31,7 @@ use Rattle.cedar_requests.specs.declared.context.Context.{Context}
 use Rattle.cedar_requests.specs.declared.context.pairs.ContextPairs.{ContextPairs}
 use Rattle.cedar_requests.specs.declared.context.pairs.ContextPairs.TheVariants as kinds
 use Rattle.cedar_requests.specs.declared.context.pairs.ResidualPairs.{ResidualPairs}
-use Rattle.cedar_requests.specs.Contexts.{context_part_value, pairs_view, residual_fields}
+use Rattle.cedar_requests.specs.Contexts.{context_part_value, context_pairs_view, residual_fields}
 use Rattle.cedar_requests.specs.Substitutions.{context_answer, CompletesContext, KeepsCompletions}
 use Rattle.cedar_model.proofs.Injections.{some_inj, none_is_not_some}
 
@@ -195,7 +195,7 @@ module _ (x : Extensions) (ans : Functions) (w : World) where
 
   -- what stands for the world's context is a context that it completes
   stands : (p : ContextPairs) (o : Outcome) → o ≡ gives (record_value w.context_record)
-      → StandsFor x ans W (answers (context_value (pairs_view p))) o → CompletesContext x ans w (pairs_view p)
+      → StandsFor x ans W (answers (context_value (context_pairs_view p))) o → CompletesContext x ans w (context_pairs_view p)
   unfolding context_value meaning outcome_value
   stands (kinds.Values m) o e h = record { agrees = record_inj (gives_inj (sym h.1 ∙ e)); fits = tt; faithful = h.0 }
   stands (kinds.Residual r) o e h = record {

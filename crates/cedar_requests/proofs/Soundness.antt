@@ -14,14 +14,14 @@ use Rattle.cedar_requests.specs.declared.context.Context.{Context}
 use Rattle.cedar_requests.specs.declared.context.pairs.ContextPairs.{ContextPairs}
 use Rattle.cedar_requests.specs.declared.context.pairs.ContextPairs.TheVariants as kinds
 use Rattle.cedar_requests.specs.declared.request.Request.{Request}
-use Rattle.cedar_requests.specs.Contexts.{pairs_view, context_view}
+use Rattle.cedar_requests.specs.Contexts.{context_pairs_view, context_view}
 use Rattle.cedar_requests.specs.Requests.{context_given, request_view}
 use Rattle.cedar_requests.specs.Substitutions.{values_for}
 use Rattle.cedar_model.proofs.Injections.{some_inj, none_is_not_some}
 
 -- ---- contexts and requests
 
-pairs_are_sound : (p : ContextPairs) → IsSoundContext (pairs_view p)
+pairs_are_sound : (p : ContextPairs) → IsSoundContext (context_pairs_view p)
 pairs_are_sound (kinds.Values m) = AreSoundAt-whats_at m.entries
 pairs_are_sound (kinds.Residual r) = r.restricted
 

@@ -25,7 +25,7 @@ use Rattle.cedar_requests.specs.declared.context.Context.{Context}
 use Rattle.cedar_requests.specs.declared.context.pairs.ContextPairs.{ContextPairs}
 use Rattle.cedar_requests.specs.declared.context.pairs.ContextPairs.TheVariants as kinds
 use Rattle.cedar_requests.specs.declared.context.pairs.ResidualPairs.{ResidualPairs}
-use Rattle.cedar_requests.specs.Contexts.{context_part_value, pairs_view, residual_fields}
+use Rattle.cedar_requests.specs.Contexts.{context_part_value, context_pairs_view, residual_fields}
 use Rattle.cedar_requests.specs.Substitutions.{values_for, context_answer, IsSubstituted}
 use Rattle.cedar_requests.specs.Substitutions.{IsSubstitutedWithin}
 use Rattle.cedar_model.proofs.Injections.{some_inj}
@@ -50,7 +50,7 @@ record_substituted m fs = refl
 -- ---- answers
 
 -- the context of a context's record is that context
-own_pairs : (p : ContextPairs) → IsContext (answers (context_value (pairs_view p))) (Ok (pairs_view p))
+own_pairs : (p : ContextPairs) → IsContext (answers (context_value (context_pairs_view p))) (Ok (context_pairs_view p))
 unfolding context_value
 own_pairs (kinds.Values m) = refl
 own_pairs (kinds.Residual r) = refl
@@ -82,7 +82,7 @@ low_error (Err e) h = λ w. h (ap fails w)
 
 -- the height of a residual's record with the values in it
 pub residual_height : (m : Mapping) (r : ResidualPairs) →
-    substituted_height m (context_value (pairs_view (kinds.Residual r)))
+    substituted_height m (context_value (context_pairs_view (kinds.Residual r)))
     ≡ height (record_of (substituted_at m (residual_fields r)))
 unfolding context_value part_expression substituted
 residual_height m r = refl

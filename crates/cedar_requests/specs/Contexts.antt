@@ -37,9 +37,9 @@ residual_locs r = map (λ p. expr_loc p.1) r.pairs.entries
 
 -- ---- pairs
 
-abbrev pub pairs_view : ContextPairs → ContextPart
-pairs_view (kinds.Values m) = known_context (whats_at m.entries)
-pairs_view (kinds.Residual r) = residual_context (residual_fields r)
+abbrev pub context_pairs_view : ContextPairs → ContextPart
+context_pairs_view (kinds.Values m) = known_context (whats_at m.entries)
+context_pairs_view (kinds.Residual r) = residual_context (residual_fields r)
 
 -- where the values or expressions stand
 abbrev pub pairs_locs : ContextPairs → List (Option Loc)
@@ -66,7 +66,7 @@ context_pairs c = c.pairs
 
 -- what a context says
 abbrev pub context_view : Context → ContextPart
-context_view c = pairs_view c.pairs
+context_view c = context_pairs_view c.pairs
 
 -- where its values or expressions stand
 abbrev pub context_locs : Context → List (Option Loc)

@@ -89,13 +89,13 @@ request_locs r = (entry_loc r.principal, entry_loc r.action, entry_loc r.resourc
 -- ---- variables
 
 -- the entity type that an unknown is annotated with, whole: its location included
-abbrev pub annotated_type : Option RType → Option EntityType
-annotated_type (Some (types.Entity t)) = Some t
-annotated_type other = None
+abbrev pub annotated_entity_type : Option RType → Option EntityType
+annotated_entity_type (Some (types.Entity t)) = Some t
+annotated_entity_type other = None
 
 -- that of an expression which is an unknown
 abbrev pub node_annotation : Node → Option EntityType
-node_annotation (node.Unknown u) = annotated_type u.type_annotation
+node_annotation (node.Unknown u) = annotated_entity_type u.type_annotation
 node_annotation other = None
 
 -- and of an answer which is an unknown

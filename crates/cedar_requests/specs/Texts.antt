@@ -7,14 +7,14 @@ use Rattle.cedar_model.specs.Settings.{residual_context, RequestPart}
 use Rattle.cedar_names.specs.Texts.{entity_text, shown}
 
 -- that an entity is unknown, with its type where that is known
-abbrev pub unknown_text : Option Text → Text
-unknown_text None = codes "unknown"
-unknown_text (Some t) = codes "unknown of type " ++ t
+abbrev pub unknown_entry_text : Option Text → Text
+unknown_entry_text None = codes "unknown"
+unknown_entry_text (Some t) = codes "unknown of type " ++ t
 
 -- an entity
 abbrev pub entry_text : Entry → Text
 entry_text (known_entry e) = entity_text e
-entry_text (unknown_entry t) = unknown_text t
+entry_text (unknown_entry t) = unknown_entry_text t
 
 -- a context: the record that it is, or that it is unknown
 abbrev pub context_text : ContextPart → Text

@@ -9,7 +9,7 @@ ghost use Rattle.cedar_names.specs.Names.{type_text, uid_name};
 ghost use Rattle.cedar_names.specs.Leaves.{type_view, variable_view};
 ghost use Rattle.cedar_names.specs.Texts.{variable_text};
 ghost use Rattle.cedar_values.specs.Residuals.{partial_view, partial_loc};
-ghost use Rattle.cedar_requests.specs.Requests.{context_given, annotated_type, partial_annotation};
+ghost use Rattle.cedar_requests.specs.Requests.{context_given, annotated_entity_type, partial_annotation};
 
 use crate::context::Context;
 use cedar_expressions::Expr;
@@ -72,7 +72,7 @@ pub(crate) fn unknown_part(
 fn unknown_of(name: RcStr, ty: Option<EntityType>) -> Unknown
     ensures name { rc_str_bytes result.name ≡ rc_str_bytes name }
     ensures annotation { option_map type_view result.type_annotation ≡ type_annotation (option_map type_text ty) }
-    ensures whole { annotated_type result.type_annotation ≡ ty }
+    ensures whole { annotated_entity_type result.type_annotation ≡ ty }
 {
     match ty {
         Some(ty) => Unknown::new_with_type(name, Type::Entity { ty }),

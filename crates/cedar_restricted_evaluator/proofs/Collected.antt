@@ -18,7 +18,8 @@ use Rattle.cedar_expressions.specs.declared.expr.Expr.{Expr}
 use Rattle.cedar_expressions.specs.View.{view, terms_view, fields_view}
 use Rattle.cedar_values.specs.Sound.{Placed, whats}
 use Rattle.cedar_values.proofs.Written.{written}
-use Rattle.cedar_restricted_evaluator.specs.Keys.{key_order, texts_of, fields_named}
+use Rattle.cedar_expressions.specs.Nodes.{key_order}
+use Rattle.cedar_restricted_evaluator.specs.Keys.{texts_of, fields_named}
 use Rattle.cedar_restricted_evaluator.specs.Parts.{all_values}
 use Rattle.cedar_restricted_evaluator.specs.Steps.{HaveKeys}
 

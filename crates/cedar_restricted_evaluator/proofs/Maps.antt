@@ -25,7 +25,8 @@ use Rattle.cedar_model.specs.Sets.{represented_fields_of}
 use Rattle.cedar_expressions.specs.declared.expr.Expr.{Expr}
 use Rattle.cedar_expressions.specs.View.{view, terms_view, fields_view}
 use Rattle.cedar_values.specs.Sound.{Placed, whats, whats_at}
-use Rattle.cedar_restricted_evaluator.specs.Keys.{key_order, texts_of, fields_named, under}
+use Rattle.cedar_expressions.specs.Nodes.{key_order}
+use Rattle.cedar_restricted_evaluator.specs.Keys.{texts_of, fields_named, each_under}
 
 keys_total : IsTotalOrder key_order
 keys_total = record {
@@ -113,7 +114,7 @@ module _ {A : Type 0} where
       (λ q. made.0 q ∙ update_all_none (eq_by_cmp_equiv keys_total) (eq_by_cmp key_order) (λ x y. refl) es q
       (IsDistinct-from_sorted key_order _ sorted))
 
-  named-zip : (ks : List (RcStr Global)) (xs : List A) → named_entries (zip ks xs) ≡ under (texts_of ks) xs
+  named-zip : (ks : List (RcStr Global)) (xs : List A) → named_entries (zip ks xs) ≡ each_under (texts_of ks) xs
   named-zip [] xs = refl
   named-zip (k ∷ ks) [] = refl
   named-zip (k ∷ ks) (x ∷ xs) = ap (λ l. (rc_str_bytes k, x) ∷ l) (named-zip ks xs)
@@ -121,7 +122,7 @@ module _ {A : Type 0} where
   -- a map that is made of keys in order has under them what it is made of
   pub entries_under : (ks : List (RcStr Global)) (xs : List A) (m : BTreeMap (RcStr Global) A Global) →
       (length ks ≡ length xs) × IsStrictlySortedBy key_order ks → IsFromIterResult key_order (zip ks xs) m →
-      named_entries m.entries ≡ under (texts_of ks) xs
+      named_entries m.entries ≡ each_under (texts_of ks) xs
   entries_under ks xs m keys made =
       entries_of_map (zip ks xs) m
       (subst (IsStrictlySortedBy key_order) (sym (firsts-zip ks xs (sym keys.0))) keys.1) made ∙ named-zip ks xs
@@ -136,15 +137,15 @@ whats_at-named : (es : List (RcStr Global × Placed)) → whats_at es ≡ values
 whats_at-named [] = refl
 whats_at-named (e ∷ es) = ap (one_represented_at (rc_str_bytes e.0) e.1.what) (whats_at-named es)
 
-values-under : (ks : List Text) (vs : List Placed) → values_named (under ks vs) ≡
-    represented_fields_of (under ks (whats vs))
+values-under : (ks : List Text) (vs : List Placed) → values_named (each_under ks vs) ≡
+    represented_fields_of (each_under ks (whats vs))
 values-under [] vs = refl
 values-under (k ∷ ks) [] = refl
 values-under (k ∷ ks) (v ∷ vs) = ap (one_represented_at k v.what) (values-under ks vs)
 
 pub values_of_map : (ks : List (RcStr Global)) (vs : List Placed) (m : BTreeMap (RcStr Global) Placed Global) →
     (length ks ≡ length vs) × IsStrictlySortedBy key_order ks → IsFromIterResult key_order (zip ks vs) m →
-    whats_at m.entries ≡ represented_fields_of (under (texts_of ks) (whats vs))
+    whats_at m.entries ≡ represented_fields_of (each_under (texts_of ks) (whats vs))
 values_of_map ks vs m keys made =
     whats_at-named m.entries ∙ ap values_named (entries_under ks vs m keys made) ∙ values-under (texts_of ks) vs
 
@@ -156,7 +157,7 @@ fields_view-named : (es : List (RcStr Global × Expr)) → fields_view es ≡ ex
 fields_view-named [] = refl
 fields_view-named (e ∷ es) = ap (one_field (rc_str_bytes e.0) (view e.1)) (fields_view-named es)
 
-exprs-under : (ks : List Text) (es : List Expr) → exprs_named (under ks es) ≡ fields_named ks (terms_view es)
+exprs-under : (ks : List Text) (es : List Expr) → exprs_named (each_under ks es) ≡ fields_named ks (terms_view es)
 exprs-under [] es = refl
 exprs-under (k ∷ ks) [] = refl
 exprs-under (k ∷ ks) (e ∷ es) = ap (one_field k (view e)) (exprs-under ks es)

@@ -3,7 +3,7 @@ use Rattle.std.proofs.Common.{◌≡◌, ◌≢◌, ℕ, ◌≤◌, ◌<◌, tru
 use Rattle.std.proofs.Common.{subst, arith}
 use Rattle.cedar_model.specs.Terms.{Text, EntityName, bool_literal, Term}
 use Rattle.cedar_model.specs.Values.{AbstractValue, plain, Represented, no_represented_at}
-use Rattle.cedar_model.specs.Agreement.{height, HasNothingUnknown, Answers, own_world}
+use Rattle.cedar_model.specs.Agreement.{height, HasNothingUnknown, AnswersOutcome, own_world}
 use Rattle.cedar_model.specs.Authorizations.{IsExact}
 use Rattle.cedar_model.specs.Alike.{AreFunctional}
 use Rattle.cedar_model.specs.Failures as model
@@ -25,14 +25,14 @@ use Rattle.cedar_values.specs.declared.partial_value.PartialValue.{PartialValue}
 use Rattle.cedar_values.specs.declared.partial_value.PartialValue.TheVariants as partials
 use Rattle.cedar_values.specs.Residuals.{partial_view}
 use Rattle.cedar_errors.specs.declared.evaluator.err.EvaluationError.{EvaluationError}
-use Rattle.cedar_restricted_evaluator.specs.Evaluations.{partial_answer, bare, IsBare, IsAnswerWithin, IsValueWithin}
+use Rattle.cedar_restricted_evaluator.specs.Evaluations.{partial_answer, bare_setting, IsBare, IsAnswerWithin, IsValueWithin}
 use Rattle.cedar_restricted_evaluator.specs.Evaluations.{only_values, IsKnownExactly}
 use Rattle.cedar_restricted_evaluator.specs.Frames.{IsRight}
 use Rattle.cedar_restricted_evaluator.proofs.Unread.{meaning_unread}
 
 -- a stored function answers what is sound, and there is no map
 sound_answers : (x : world.Extensions) (calls : StoredCalls) → ((f : Text) (vs : List Represented)
-    (p : model.PartialValue) → calls f vs (answers p) → IsSoundPart p) → AnswersSound calls (bare x)
+    (p : model.PartialValue) → calls f vs (answers p) → IsSoundPart p) → AnswersSound calls (bare_setting x)
 sound_answers x calls sound = record { mapped_sound = λ n v h. absurd (cc); answers_sound = sound }
 
 no_want : (p : model.PartialValue) → answers p ≢ fails out_of_memory
@@ -50,7 +50,7 @@ module _ (x : world.Extensions) (calls : StoredCalls) (n : ℕ) (t : Expr) (r : 
       Meets (IsAnswerWithin s calls n (view t)) (partial_answer r)
   promised functional s b ok =
       let runs : Runs s calls n (view t) (partial_answer r) =
-      reads_nothing (bare x) s calls (sym b.no_map) (sym b.has_extensions) n (view t) (partial_answer r) is_r
+      reads_nothing (bare_setting x) s calls (sym b.no_map) (sym b.has_extensions) n (view t) (partial_answer r) is_r
       (right.answer is_r ok) in
       record {
         runs = runs;
@@ -63,9 +63,9 @@ module _ (x : world.Extensions) (calls : StoredCalls) (n : ℕ) (t : Expr) (r : 
 
   pub low_enough : FunctionsMeetNoLimit calls → height (view t) ≤ n → partial_answer r ≢ limit
   low_enough meet_none low is =
-      let met : Exceeds (bare x) calls (view t) n =
-      subst (Runs (bare x) calls n (view t)) is (right.answer is_r (λ w. limit_no_want (sym is ∙ w))) in
-      let above : n < height (view t) = restricted_need (bare x) calls meet_none n (view t) is_r met in
+      let met : Exceeds (bare_setting x) calls (view t) n =
+      subst (Runs (bare_setting x) calls n (view t)) is (right.answer is_r (λ w. limit_no_want (sym is ∙ w))) in
+      let above : n < height (view t) = restricted_need (bare_setting x) calls meet_none n (view t) is_r met in
       omega (arith, above, low)
 
 -- ---- where nothing is unknown
@@ -110,10 +110,10 @@ module _ (x : world.Extensions) (calls : StoredCalls) (n : ℕ) (t : Expr) (r : 
   known_exact ok ans agree known below w slots =
       let s : Setting = nothing_else x in
       let runs : Runs s calls n (view t) (partial_answer r) =
-      reads_nothing (bare x) s calls refl refl n (view t) (partial_answer r) is_r (right.answer is_r ok) in
+      reads_nothing (bare_setting x) s calls refl refl n (view t) (partial_answer r) is_r (right.answer is_r ok) in
       let exact : IsExact calls ans (own_world s any_values) s n (view t) (partial_answer r) =
       answer_exact calls ans agree s (nothing_unknown x) any_values n (view t) (partial_answer r) known runs in
-      subst (Answers (partial_answer r))
+      subst (AnswersOutcome (partial_answer r))
       (meaning_unread x ans (own_world s any_values) w s.slots slots (view t) is_r known) (exact.meant below)
 
 pub sound_part : (x : world.Extensions) (calls : StoredCalls) (n : ℕ) (t : Expr)
@@ -121,7 +121,7 @@ pub sound_part : (x : world.Extensions) (calls : StoredCalls) (n : ℕ) (t : Exp
     ((f : Text) (vs : List Represented) (p : model.PartialValue) → calls f vs (answers p) → IsSoundPart p) →
     IfOk r (λ p. IsSoundPart (partial_view p))
 sound_part x calls n t (Ok p) is_r right sound =
-    stays_restricted (bare x) calls (sound_answers x calls sound) (view t) (partial_view p) is_r
+    stays_restricted (bare_setting x) calls (sound_answers x calls sound) (view t) (partial_view p) is_r
     (no_limit (partial_view p), n, right.answer is_r (no_want (partial_view p)))
 sound_part x calls n t (Err e) is_r right sound = tt
 

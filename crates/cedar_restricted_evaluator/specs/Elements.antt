@@ -16,7 +16,7 @@ use Rattle.cedar_values.specs.declared.partial_value.PartialValue.{PartialValue}
 use Rattle.cedar_values.specs.declared.partial_value.PartialValue.TheVariants as partials
 use Rattle.cedar_values.specs.Residuals.{partial_view, partial_loc, partial_inside, IfValue}
 use Rattle.cedar_errors.specs.declared.evaluator.err.EvaluationError.{EvaluationError}
-use Rattle.cedar_frames.specs.declared.machine.Step.TheVariants.{Done, Wait}
+use Rattle.cedar_frames.specs.declared.machine.Transition.TheVariants.{Done, Wait}
 use Rattle.cedar_frames.specs.Frames.{Resumes}
 use Rattle.cedar_restricted_evaluator.specs.declared.answers.Answers.{Answers}
 use Rattle.cedar_restricted_evaluator.specs.declared.answers.Answers.TheVariants as answereds

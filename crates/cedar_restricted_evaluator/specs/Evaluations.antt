@@ -6,7 +6,7 @@ use Rattle.cedar_model.specs.Failures.{residual_is_left, Answer, value, residual
 use Rattle.cedar_model.specs.Settings.{shallow, Setting, unknown_entry, absent_context}
 use Rattle.cedar_model.specs.Meaning.{meaning}
 use Rattle.cedar_model.specs.Rules.{StoredCalls, Runs, Allows, Exceeds}
-use Rattle.cedar_model.specs.Agreement.{AgreesWithFunctions, IsKnown, Answers}
+use Rattle.cedar_model.specs.Agreement.{AgreesWithFunctions, IsKnown, AnswersOutcome}
 use Rattle.cedar_values.specs.declared.partial_value.PartialValue.{PartialValue}
 use Rattle.cedar_errors.specs.declared.evaluator.err.EvaluationError.{EvaluationError}
 use Rattle.cedar_errors.specs.declared.evaluator.err.EvaluationError.TheVariants as errors
@@ -27,8 +27,8 @@ pub record IsBare (x : model.Extensions) (s : Setting) : Type 0 where
   pub has_extensions : s.extensions ≡ x
 
 -- the least that is given
-abbrev pub bare : model.Extensions → Setting
-bare x =
+abbrev pub bare_setting : model.Extensions → Setting
+bare_setting x =
     record {
       request = record {
         principal_entry = unknown_entry None;
@@ -61,7 +61,7 @@ IsValueWithin s calls levels t a = (b : Answer) × IsAnswerWithin s calls levels
 abbrev pub IsKnownExactly : model.Extensions → StoredCalls → Term → Answer → Type 0
 IsKnownExactly x calls t a =
     (ans : model.Functions) → AgreesWithFunctions ans calls → IsKnown ans t → a ≢ limit →
-    (w : model.World) (slots : model.Slots) → Answers a (meaning x ans w slots t)
+    (w : model.World) (slots : model.Slots) → AnswersOutcome a (meaning x ans w slots t)
 
 -- ---- errors that end an evaluation at once
 

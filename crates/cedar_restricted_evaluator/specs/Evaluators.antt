@@ -11,8 +11,8 @@ abbrev pub extensions_of : {X : Type 0} {F : X → Type 0} {g : _} → Restricte
 extensions_of v = v.extensions.now
 
 -- the same as plain data
-abbrev pub extensions_in : {X : Type 0} {F : X → Type 0} {g : _} → RestrictedEvaluator X F g → model.Extensions
-extensions_in v = extensions_view v.extensions.now
+abbrev pub extensions_read : {X : Type 0} {F : X → Type 0} {g : _} → RestrictedEvaluator X F g → model.Extensions
+extensions_read v = extensions_view v.extensions.now
 
 -- what their functions may answer
 abbrev pub calls_in : {X : Type 0} {F : X → Type 0} {g : _} → RestrictedEvaluator X F g → StoredCalls

@@ -18,36 +18,36 @@ use Rattle.cedar_values.specs.Residuals.{partial_view, partial_loc}
 use Rattle.cedar_errors.specs.declared.evaluator.err.EvaluationError.{EvaluationError}
 use Rattle.cedar_errors.specs.Failures.{failure_of}
 use Rattle.cedar_frames.specs.Frames.{Resumes}
-use Rattle.cedar_frames.specs.declared.machine.Step.{Step}
-use Rattle.cedar_frames.specs.declared.machine.Step.TheVariants.{Done, Wait}
+use Rattle.cedar_frames.specs.declared.machine.Transition.{Transition}
+use Rattle.cedar_frames.specs.declared.machine.Transition.TheVariants.{Done, Wait}
 use Rattle.cedar_restricted_evaluator.specs.declared.answers.Answers.{Answers}
 use Rattle.cedar_restricted_evaluator.specs.declared.parts.PartsFrame.{PartsFrame}
 use Rattle.cedar_restricted_evaluator.specs.declared.whole.Whole.{Whole}
-use Rattle.cedar_restricted_evaluator.specs.Evaluations.{partial_answer, bare}
+use Rattle.cedar_restricted_evaluator.specs.Evaluations.{partial_answer, bare_setting}
 use Rattle.cedar_restricted_evaluator.specs.Parts.{whole_term, HasKeys, count, Are, Makes, SoFar}
 use Rattle.cedar_restricted_evaluator.specs.Literals.{literals_then, literal_answers}
 
 -- what comes next of a set, a record or a call
 abbrev pub NextPart : Type 0
-NextPart = Step PartsFrame Expr (Result PartialValue EvaluationError)
+NextPart = Transition PartsFrame Expr (Result PartialValue EvaluationError)
 
-abbrev pub Parts : Type 0
-Parts = Rc (Vec Expr Global) Global
+abbrev pub SharedParts : Type 0
+SharedParts = Rc (Vec Expr Global) Global
 
 -- the terms of the parts that have not answered yet
-abbrev pub parts_left : Parts → Answers → Terms
+abbrev pub parts_left : SharedParts → Answers → Terms
 parts_left parts answers = terms_view (drop (count answers) parts.value.items)
 
 -- and of those behind the next one
-abbrev pub parts_behind : Parts → Answers → Terms
+abbrev pub parts_behind : SharedParts → Answers → Terms
 parts_behind parts answers = terms_view (drop (suc (count answers)) parts.value.items)
 
 -- this part answers next
-abbrev pub IsNext : Parts → Answers → Expr → Type 0
+abbrev pub IsNext : SharedParts → Answers → Expr → Type 0
 IsNext parts answers c = (rest : Terms) × (parts_left parts answers ≡ one_term (view c) rest)
 
 -- with these extensions, where stored functions may answer this: the next part, or what all answers make
-abbrev pub Reads : world.Extensions → StoredCalls → Whole → Parts → Answers → Option Loc → NextPart → Type 0
+abbrev pub Reads : world.Extensions → StoredCalls → Whole → SharedParts → Answers → Option Loc → NextPart → Type 0
 Reads x calls whole parts answers loc (Wait f c) =
     (f.whole ≡ whole) × (f.parts ≡ parts) × (f.answers ≡ answers) × (f.loc ≡ loc) × IsNext parts answers c
 Reads x calls whole parts answers loc (Done r) =
@@ -59,7 +59,7 @@ Reads x calls whole parts answers loc (Done r) =
 pub record Begun (x : world.Extensions) (calls : StoredCalls) (t : Term) (loc : Option Loc) (s : NextPart) :
     Type 0 where
   pub whole : Whole
-  pub parts : Parts
+  pub parts : SharedParts
   pub answers : Answers
   pub term : whole_term whole (terms_view parts.value.items) ≡ t
   pub keys : HasKeys whole (length parts.value.items)
@@ -95,7 +95,7 @@ ContinuesParts x calls f (Err e) (Done r) = partial_answer r ≡ fails (failure_
 -- ---- right answers
 
 -- the answers so far are those of the first parts
-abbrev pub HasRead : MayAnswer → Parts → Answers → Type 0
+abbrev pub HasRead : MayAnswer → SharedParts → Answers → Type 0
 HasRead May parts answers =
     (ps : List model.PartialValue) × Are answers ps ×
     SoFar May (terms_view parts.value.items) (parts_left parts answers) ps
@@ -105,12 +105,12 @@ pub record WaitsForParts (x : world.Extensions) (calls : StoredCalls) (k : ℕ) 
   pub term : whole_term f.whole (terms_view f.parts.value.items) ≡ view t
   pub place : f.loc ≡ expr_loc t
   pub next : IsNext f.parts f.answers c
-  pub read : is_restricted (view t) ≡ true → HasRead (Runs (bare x) calls k) f.parts f.answers
+  pub read : is_restricted (view t) ≡ true → HasRead (Runs (bare_setting x) calls k) f.parts f.answers
 
 -- the answer is right, with so many levels, and at the expression's location
 pub record IsRight (x : world.Extensions) (calls : StoredCalls) (k : ℕ) (t : Expr)
     (r : Result PartialValue EvaluationError) : Type 0 where
-  pub answer : is_restricted (view t) ≡ true → Meets (Runs (bare x) calls k (view t)) (partial_answer r)
+  pub answer : is_restricted (view t) ≡ true → Meets (Runs (bare_setting x) calls k (view t)) (partial_answer r)
   pub place : IfOk r (λ p. partial_loc p ≡ expr_loc t)
 
 -- the next step of an expression leads to right answers

@@ -1,16 +1,9 @@
 -- The keys of records, and what stands under them.
 use Rattle.std.specs.Prelude.{List, [], ◌∷◌, map}
-use Rattle.std.specs.Cmp.Lexicographic.{slice_cmp}
-use Rattle.std.specs.Ordering.{nat_cmp}
 use Rattle.std.specs.Rc.{rc_str_bytes}
 use Rattle.std.specs.declared.alloc.Global.{Global}
-use Rattle.std.specs.declared.cmp.Ordering.{Ordering}
 use Rattle.std.specs.declared.rc.RcStr.{RcStr}
 use Rattle.cedar_model.specs.Terms.{Text, Terms, no_terms, one_term, Fields, no_fields, one_field}
-
--- keys by their bytes
-abbrev pub key_order : RcStr Global → RcStr Global → Ordering
-key_order k l = slice_cmp nat_cmp (rc_str_bytes k) (rc_str_bytes l)
 
 abbrev pub texts_of : List (RcStr Global) → List Text
 texts_of ks = map {B = Text} rc_str_bytes ks
@@ -22,7 +15,7 @@ fields_named (k ∷ ks) no_terms = no_fields
 fields_named (k ∷ ks) (one_term t ts) = one_field k t (fields_named ks ts)
 
 -- each under its key
-abbrev pub under : {A : Type 0} → List Text → List A → List (Text × A)
-under [] xs = []
-under (k ∷ ks) [] = []
-under (k ∷ ks) (x ∷ xs) = (k, x) ∷ under ks xs
+abbrev pub each_under : {A : Type 0} → List Text → List A → List (Text × A)
+each_under [] xs = []
+each_under (k ∷ ks) [] = []
+each_under (k ∷ ks) (x ∷ xs) = (k, x) ∷ each_under ks xs

@@ -18,12 +18,12 @@ use Rattle.cedar_values.specs.declared.partial_value.PartialValue.{PartialValue}
 use Rattle.cedar_values.specs.Residuals.{partial_view, partial_loc}
 use Rattle.cedar_errors.specs.declared.evaluator.err.EvaluationError.{EvaluationError}
 use Rattle.cedar_errors.specs.Failures.{failure_of}
-use Rattle.cedar_frames.specs.declared.machine.Step.TheVariants.{Done, Wait}
+use Rattle.cedar_frames.specs.declared.machine.Transition.TheVariants.{Done, Wait}
 use Rattle.cedar_frames.specs.Frames.{Resumes, Fewer, Below}
 use Rattle.cedar_restricted_evaluator.specs.declared.answers.Answers.{Answers}
 use Rattle.cedar_restricted_evaluator.specs.declared.parts.PartsFrame.{PartsFrame}
 use Rattle.cedar_restricted_evaluator.specs.declared.whole.Whole.{Whole}
-use Rattle.cedar_restricted_evaluator.specs.Evaluations.{partial_answer, AnswersWith, bare, ends_all, limit_error}
+use Rattle.cedar_restricted_evaluator.specs.Evaluations.{partial_answer, AnswersWith, bare_setting, ends_all, limit_error}
 use Rattle.cedar_restricted_evaluator.specs.Evaluations.{want_error}
 use Rattle.cedar_restricted_evaluator.specs.Parts as shapes
 use Rattle.cedar_restricted_evaluator.specs.Parts.{whole_term, HasKeys, count, Are, Makes}
@@ -46,18 +46,18 @@ no_place l (Err x) e h = tt
 -- ---- the next part, or the whole
 
 module _ (x : world.Extensions) (calls : StoredCalls) (k : ℕ) (t : Expr) where
-  pub reads_right : (whole : Whole) (parts : frames.Parts) (a : Answers) (loc : Option Loc) (s : NextPart) →
+  pub reads_right : (whole : Whole) (parts : frames.SharedParts) (a : Answers) (loc : Option Loc) (s : NextPart) →
       whole_term whole (terms_view parts.value.items) ≡ view t → HasKeys whole (length parts.value.items) → loc ≡
       expr_loc t →
-      (is_restricted (view t) ≡ true → HasRead (Runs (bare x) calls k) parts a) → Reads x calls whole parts a loc s →
+      (is_restricted (view t) ≡ true → HasRead (Runs (bare_setting x) calls k) parts a) → Reads x calls whole parts a loc s →
       Resumes (IsRight x calls) (WaitsForParts x calls) k t s
   reads_right whole parts a loc (Wait f c) term keys place read (w, p, b, l, n) = record {
     term = ap (λ y. whole_term y (terms_view f.parts.value.items)) w ∙
         ap (λ y. whole_term whole (terms_view y.value.items)) p ∙ term;
     place = l ∙ place;
     next = subst (λ y. IsNext y f.answers c) (sym p) (subst (λ y. IsNext parts y c) (sym b) n);
-    read = λ is_r. subst (λ y. HasRead (Runs (bare x) calls k) y f.answers) (sym p)
-        (subst (λ y. HasRead (Runs (bare x) calls k) parts y) (sym b) (read is_r));
+    read = λ is_r. subst (λ y. HasRead (Runs (bare_setting x) calls k) y f.answers) (sym p)
+        (subst (λ y. HasRead (Runs (bare_setting x) calls k) parts y) (sym b) (read is_r));
   }
   reads_right whole parts a loc (Done r) term keys place read (h, l) = record {
     answer = λ is_r ok. finished is_r (h ok);
@@ -65,26 +65,26 @@ module _ (x : world.Extensions) (calls : StoredCalls) (k : ℕ) (t : Expr) where
   }
     where
       finished : is_restricted (view t) ≡ true → (count a ≡ length parts.value.items) ×
-          Makes x calls whole a (partial_answer r) → Runs (bare x) calls (suc k) (view t) (partial_answer r)
+          Makes x calls whole a (partial_answer r) → Runs (bare_setting x) calls (suc k) (view t) (partial_answer r)
       finished is_r all_made =
           let so_far = read is_r in
           let items = parts.value.items in
-          let all : Parts (Runs (bare x) calls k) (terms_view items) (Ok so_far.0) =
-          so_far_all (Runs (bare x) calls k) (terms_view items) _ so_far.0 so_far.2
+          let all : Parts (Runs (bare_setting x) calls k) (terms_view items) (Ok so_far.0) =
+          so_far_all (Runs (bare_setting x) calls k) (terms_view items) _ so_far.0 so_far.2
           (none_left items (count a) all_made.0) in
-          let rule : Rule (bare x) calls (Runs (bare x) calls k) (whole_term whole (terms_view items))
+          let rule : Rule (bare_setting x) calls (Runs (bare_setting x) calls k) (whole_term whole (terms_view items))
           (partial_answer r) =
-          whole_answers (bare x) calls (Runs (bare x) calls k) whole items a so_far.0 (partial_answer r)
+          whole_answers (bare_setting x) calls (Runs (bare_setting x) calls k) whole items a so_far.0 (partial_answer r)
           keys all_made.0 so_far.1 all all_made.1 in
-          subst (λ u. Runs (bare x) calls (suc k) u (partial_answer r)) term rule
+          subst (λ u. Runs (bare_setting x) calls (suc k) u (partial_answer r)) term rule
 
-  begun_read : (parts : frames.Parts) (a : Answers) → Are a [] → count a ≡ 0 → HasRead (Runs (bare x) calls k) parts a
+  begun_read : (parts : frames.SharedParts) (a : Answers) → Are a [] → count a ≡ 0 → HasRead (Runs (bare_setting x) calls k) parts a
   begun_read parts a none zero_count = (
     [],
     none,
-    subst (λ n. shapes.SoFar (Runs (bare x) calls k) (terms_view parts.value.items)
+    subst (λ n. shapes.SoFar (Runs (bare_setting x) calls k) (terms_view parts.value.items)
         (terms_view (drop n parts.value.items)) []) (sym zero_count)
-        (so_far_none (Runs (bare x) calls k) (terms_view parts.value.items)),
+        (so_far_none (Runs (bare_setting x) calls k) (terms_view parts.value.items)),
   )
 
   begun_right : (loc : Option Loc) (s : NextPart) → loc ≡ expr_loc t → Begun x calls (view t) loc s →
@@ -135,7 +135,7 @@ grown_read May x calls f p s c rest literals read next gives h =
 -- this failure of the part is right
 abbrev pub IsRightFailure : world.Extensions → StoredCalls → ℕ → Expr → Failure → Type 0
 IsRightFailure x calls k c e =
-    is_restricted (view c) ≡ true → fails e ≢ fails out_of_memory → Runs (bare x) calls k (view c) (fails e)
+    is_restricted (view c) ≡ true → fails e ≢ fails out_of_memory → Runs (bare_setting x) calls k (view c) (fails e)
 
 module _ (x : world.Extensions) (calls : StoredCalls) (k : ℕ) (f : PartsFrame) (t c : Expr)
     (w : WaitsForParts x calls k f t c) where
@@ -153,25 +153,25 @@ module _ (x : world.Extensions) (calls : StoredCalls) (k : ℕ) (f : PartsFrame)
         let no_memory : fails e ≢ fails out_of_memory = λ y. ok (is ∙ y) in
         let items = f.parts.value.items in
         let so_far = w.read is_r in
-        let parts : Parts (Runs (bare x) calls k) (terms_view items) (Err e) =
-        so_far_fails (Runs (bare x) calls k)
+        let parts : Parts (Runs (bare_setting x) calls k) (terms_view items) (Err e) =
+        so_far_fails (Runs (bare_setting x) calls k)
         (terms_view items) _ w.next.0 (view c) so_far.0 e
         so_far.2 w.next.1 (right (part_restricted is_r) no_memory) in
-        let rule : Rule (bare x) calls (Runs (bare x) calls k) (whole_term f.whole (terms_view items)) (fails e) =
-        whole_fails (bare x) calls (Runs (bare x) calls k) f.whole items e f.keys parts in
-        subst (λ b. Runs (bare x) calls (suc k) (view t) b) (sym is)
-        (subst (λ u. Runs (bare x) calls (suc k) u (fails e)) w.term rule);
+        let rule : Rule (bare_setting x) calls (Runs (bare_setting x) calls k) (whole_term f.whole (terms_view items)) (fails e) =
+        whole_fails (bare_setting x) calls (Runs (bare_setting x) calls k) f.whole items e f.keys parts in
+        subst (λ b. Runs (bare_setting x) calls (suc k) (view t) b) (sym is)
+        (subst (λ u. Runs (bare_setting x) calls (suc k) u (fails e)) w.term rule);
     place = no_place (expr_loc t) r e is;
   }
 
   continued_read : (p : PartialValue) (s : NextPart) → IsRight x calls k c (Ok p) →
       (more : Continued x calls f p s) → is_restricted (view t) ≡ true →
-      HasRead (Runs (bare x) calls k) f.parts more.answers
+      HasRead (Runs (bare_setting x) calls k) f.parts more.answers
   continued_read p s right more is_r =
-      let gives : Runs (bare x) calls k (view c) (answers (partial_view p)) =
+      let gives : Runs (bare_setting x) calls k (view c) (answers (partial_view p)) =
       right.answer (part_restricted is_r) (no_fail (partial_view p) out_of_memory) in
-      grown_read (Runs (bare x) calls k) x calls f p s (view c) w.next.0
-      (literal_runs (bare x) calls k (view c) (partial_view p) gives) (w.read is_r) w.next.1 gives more
+      grown_read (Runs (bare_setting x) calls k) x calls f p s (view c) w.next.0
+      (literal_runs (bare_setting x) calls k (view c) (partial_view p) gives) (w.read is_r) w.next.1 gives more
 
   continued_right : (p : PartialValue) (s : NextPart) → IsRight x calls k c (Ok p) → Continued x calls f p s →
       Resumes (IsRight x calls) (WaitsForParts x calls) k t s
@@ -240,7 +240,7 @@ module _ (x : world.Extensions) (calls : StoredCalls) where
 
   -- ---- what the steps say
 
-  pub begins : (whole : Whole) (parts : frames.Parts) (a : Answers) (loc : Option Loc) (t : Term) (s : NextPart) →
+  pub begins : (whole : Whole) (parts : frames.SharedParts) (a : Answers) (loc : Option Loc) (t : Term) (s : NextPart) →
       whole_term whole (terms_view parts.value.items) ≡ t → HasKeys whole (length parts.value.items) →
       Are a [] × (count a ≡ 0) → Reads x calls whole parts a loc s → StartsParts x calls t loc s
   begins whole parts a loc t (Wait f c) term keys none reads =
@@ -289,7 +289,7 @@ pub literal_right : (x : world.Extensions) (calls : StoredCalls) (k : ℕ) (t : 
     AnswersWith r (answers (model.value (plain_represented l))) → IfOk r (λ p. partial_loc p ≡ expr_loc t) →
     IsRight x calls (suc k) t r
 literal_right x calls k t l r is answer place = record {
-  answer = λ is_r ok. subst (λ u. Runs (bare x) calls (suc k) u (partial_answer r)) (sym is) (answer ok);
+  answer = λ is_r ok. subst (λ u. Runs (bare_setting x) calls (suc k) u (partial_answer r)) (sym is) (answer ok);
   place = place;
 }
 
@@ -300,7 +300,7 @@ pub unknown_right : (x : world.Extensions) (calls : StoredCalls) (k : ℕ) (t : 
     IsRight x calls (suc k) t r
 unfolding mapped
 unknown_right x calls k t n ty r is answer place = record {
-  answer = λ is_r ok. subst (λ u. Runs (bare x) calls (suc k) u (partial_answer r)) (sym is)
+  answer = λ is_r ok. subst (λ u. Runs (bare_setting x) calls (suc k) u (partial_answer r)) (sym is)
       (answer ok ∙ ap (λ u. answers (model.residual u)) is);
   place = place;
 }

@@ -21,7 +21,8 @@ use Rattle.cedar_restricted_evaluator.specs.declared.whole.Whole.{Whole}
 use Rattle.cedar_restricted_evaluator.specs.declared.whole.Whole.TheVariants as wholes
 use Rattle.cedar_restricted_evaluator.specs.declared.answers.Answers.{Answers}
 use Rattle.cedar_restricted_evaluator.specs.declared.answers.Answers.TheVariants as answereds
-use Rattle.cedar_restricted_evaluator.specs.Keys.{key_order, texts_of, fields_named, under}
+use Rattle.cedar_expressions.specs.Nodes.{key_order}
+use Rattle.cedar_restricted_evaluator.specs.Keys.{texts_of, fields_named, each_under}
 
 -- ---- a whole and its parts
 
@@ -65,7 +66,7 @@ set_made (answereds.Mixed m) = answers_residual (set_of (terms_view m.exprs.item
 -- what they make as a record, under these keys
 abbrev pub record_made : Vec (RcStr Global) Global → Answers → Answer
 record_made ks (answereds.Values vs) =
-    answers_value (record_represented (represented_fields_of (under (texts_of ks.items) (whats vs.items))))
+    answers_value (record_represented (represented_fields_of (each_under (texts_of ks.items) (whats vs.items))))
 record_made ks (answereds.Mixed m) =
     answers_residual (record_of (fields_named (texts_of ks.items) (terms_view m.exprs.items)))
 

@@ -24,7 +24,7 @@ use Rattle.cedar_restricted_evaluator.specs.declared.whole.Whole.{Whole}
 use Rattle.cedar_restricted_evaluator.specs.declared.whole.Whole.TheVariants as wholes
 use Rattle.cedar_restricted_evaluator.specs.declared.answers.Answers.{Answers}
 use Rattle.cedar_restricted_evaluator.specs.declared.answers.Answers.TheVariants as answereds
-use Rattle.cedar_restricted_evaluator.specs.Keys.{texts_of, fields_named, under}
+use Rattle.cedar_restricted_evaluator.specs.Keys.{texts_of, fields_named, each_under}
 use Rattle.cedar_restricted_evaluator.specs.Parts.{whole_term, HasKeys, count, all_values, Are, Makes, parts_after, SoFar}
 use Rattle.cedar_restricted_evaluator.specs.Literals.{literals_then, literal_answers}
 
@@ -98,7 +98,7 @@ have_keys (k ∷ ks) [] h = absurd (omega (arith, h))
 have_keys (k ∷ ks) (e ∷ es) h = have_keys ks es (omega (arith, h))
 
 abbrev named : List Text → Found → Result (List (Text × model.PartialValue)) Failure
-named ks (Ok ps) = Ok (under ks ps)
+named ks (Ok ps) = Ok (each_under ks ps)
 named ks (Err e) = Err e
 
 named_then : (k : Text) (ks : List Text) (p : model.PartialValue) (r : Found) → named (k ∷ ks) (part_then p r) ≡
@@ -124,14 +124,14 @@ unfolding values_of_parts add_value
 values-all [] = refl
 values-all (v ∷ vs) = ap (add_value (value v)) (values-all vs)
 
-values-under : (ks : List Text) (vs : List Represented) → values_of_field_parts (under ks (all_values vs)) ≡
-    Some (under ks vs)
+values-under : (ks : List Text) (vs : List Represented) → values_of_field_parts (each_under ks (all_values vs)) ≡
+    Some (each_under ks vs)
 unfolding values_of_field_parts add_value_at
 values-under [] vs = refl
 values-under (k ∷ ks) [] = refl
 values-under (k ∷ ks) (v ∷ vs) = ap (add_value_at k (value v)) (values-under ks vs)
 
-terms-under : (ks : List Text) (ps : List model.PartialValue) → fields_of_parts (under ks ps) ≡
+terms-under : (ks : List Text) (ps : List model.PartialValue) → fields_of_parts (each_under ks ps) ≡
     fields_named ks (terms_of_parts ps)
 terms-under [] ps = refl
 terms-under (k ∷ ks) [] = refl
@@ -144,7 +144,7 @@ none_added v None h = refl
 none_added v (Some vs) h = cc
 
 none-under : (ks : List Text) (ps : List model.PartialValue) → HaveKeys ks (terms_of_parts ps) → values_of_parts ps ≡
-    None → values_of_field_parts (under ks ps) ≡ None
+    None → values_of_field_parts (each_under ks ps) ≡ None
 unfolding values_of_parts values_of_field_parts add_value add_value_at
 none-under [] [] have h = absurd (cc)
 none-under [] (p ∷ ps) have h = absurd have
@@ -180,18 +180,18 @@ module _ (s : Setting) (calls : StoredCalls) (May : MayAnswer) where
       (Ok ps, h, made ∙ sym (ap (λ o. set_of_parts o ps) are.1 ∙ ap (λ ts. answers_residual (set_of ts)) are.0))
   whole_answers (wholes.Record ks) es (answereds.Values vs) ps b keys counted are h made =
       let kt = texts_of ks.items in (
-        Ok (under kt ps),
+        Ok (each_under kt ps),
         field_parts May kt (terms_view es) (Ok ps) (have_keys ks.items es keys.0) h,
-        made ∙ sym (ap (λ qs. record_of_parts (values_of_field_parts (under kt qs)) (under kt qs)) are ∙
-            ap (λ o. record_of_parts o (under kt (all_values (whats vs.items)))) (values-under kt (whats vs.items))),
+        made ∙ sym (ap (λ qs. record_of_parts (values_of_field_parts (each_under kt qs)) (each_under kt qs)) are ∙
+            ap (λ o. record_of_parts o (each_under kt (all_values (whats vs.items)))) (values-under kt (whats vs.items))),
       )
   whole_answers (wholes.Record ks) es (answereds.Mixed m) ps b keys counted are h made =
       let kt = texts_of ks.items in
       let have : HaveKeys kt (terms_of_parts ps) =
       subst (HaveKeys kt) (sym are.0) (have_keys ks.items m.exprs.items (keys.0 ∙ sym counted)) in (
-        Ok (under kt ps),
+        Ok (each_under kt ps),
         field_parts May kt (terms_view es) (Ok ps) (have_keys ks.items es keys.0) h,
-        made ∙ sym (ap (λ o. record_of_parts o (under kt ps)) (none-under kt ps have are.1) ∙
+        made ∙ sym (ap (λ o. record_of_parts o (each_under kt ps)) (none-under kt ps have are.1) ∙
             ap (λ fs. answers_residual (record_of fs)) (terms-under kt ps) ∙
             ap (λ ts. answers_residual (record_of (fields_named kt ts))) are.0),
       )

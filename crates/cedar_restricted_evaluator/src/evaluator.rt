@@ -10,7 +10,7 @@ ghost use Rattle.cedar_restricted_expressions.specs.Views.{borrowed_expr, borrow
 ghost use Rattle.cedar_values.specs.Residuals.{partial_view, partial_loc, IfValue};
 ghost use Rattle.cedar_restricted_evaluator.specs.Evaluations.{partial_answer, value_answer, IsBare, IsAnswerWithin};
 ghost use Rattle.cedar_restricted_evaluator.specs.Evaluations.{IsValueWithin, IsKnownExactly};
-ghost use Rattle.cedar_restricted_evaluator.specs.Evaluators.{extensions_of, extensions_in, calls_in, limit_of};
+ghost use Rattle.cedar_restricted_evaluator.specs.Evaluators.{extensions_of, extensions_read, calls_in, limit_of};
 ghost use Rattle.cedar_restricted_evaluator.specs.Elements.{ElementsStand};
 
 use crate::errors::residual_left;
@@ -55,10 +55,10 @@ impl<'x, 'f> RestrictedEvaluator<'x, 'f> {
         alloc: Global,
         e: BorrowedRestrictedExpr<'_>,
     ) -> Result<PartialValue, EvaluationError>
-        ensures answer { (s : Setting) → IsBare (extensions_in self.now) s →
+        ensures answer { (s : Setting) → IsBare (extensions_read self.now) s →
             Meets (IsAnswerWithin s (calls_in self.now) (limit_of self.now) (borrowed_term e.entry))
             (partial_answer result) }
-        ensures known { Meets (IsKnownExactly (extensions_in self.now) (calls_in self.now) (borrowed_term e.entry))
+        ensures known { Meets (IsKnownExactly (extensions_read self.now) (calls_in self.now) (borrowed_term e.entry))
             (partial_answer result) }
         ensures place { IfOk result (λ p. partial_loc p ≡ borrowed_loc e.entry) }
         ensures restricted { IfOk result (λ p. IsSoundPart (partial_view p)) }
@@ -85,10 +85,10 @@ impl<'x, 'f> RestrictedEvaluator<'x, 'f> {
         alloc: Global,
         e: BorrowedRestrictedExpr<'_>,
     ) -> Result<Value, EvaluationError>
-        ensures answer { (s : Setting) → IsBare (extensions_in self.now) s →
+        ensures answer { (s : Setting) → IsBare (extensions_read self.now) s →
             Meets (IsValueWithin s (calls_in self.now) (limit_of self.now) (borrowed_term e.entry))
             (value_answer result) }
-        ensures known { Meets (IsKnownExactly (extensions_in self.now) (calls_in self.now) (borrowed_term e.entry))
+        ensures known { Meets (IsKnownExactly (extensions_read self.now) (calls_in self.now) (borrowed_term e.entry))
             (value_answer result) }
         ensures place { IfOk result (λ v. v.loc ≡ borrowed_loc e.entry) }
         ensures elements { (n : ℕ) → IfOk result (ElementsStand n (borrowed_expr e.entry)) }

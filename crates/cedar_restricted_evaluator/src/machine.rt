@@ -14,7 +14,7 @@ use crate::parts::{NextPart, PartsFrame};
 use cedar_errors::evaluator::err::{EvaluationError, evaluation_errors};
 use cedar_expressions::{Expr, ExprKind};
 use cedar_extensions::Extensions;
-use cedar_frames::{Machine, Stack, Step, interpret_on};
+use cedar_frames::{Machine, Stack, Transition, interpret_on};
 use cedar_names::{Literal, Loc};
 use cedar_values::{PartialValue, ResidualExpr, Value, ValueKind};
 use evaluation_errors::RecursionLimitError;

@@ -17,7 +17,8 @@ ghost use Rattle.cedar_restricted_evaluator.specs.Evaluations.{AnswersWith, part
 ghost use Rattle.cedar_restricted_evaluator.specs.declared.whole.Whole.TheVariants as wholes;
 ghost use Rattle.cedar_restricted_evaluator.specs.Parts.{HasKeys, count, set_made, record_made, CallMakes, Makes};
 ghost use Rattle.cedar_restricted_evaluator.specs.Elements.{IsMadeOf};
-ghost use Rattle.cedar_restricted_evaluator.specs.Keys.{key_order, texts_of, fields_named, under};
+ghost use Rattle.cedar_expressions.specs.Nodes.{key_order};
+ghost use Rattle.cedar_restricted_evaluator.specs.Keys.{texts_of, fields_named, each_under};
 
 use crate::answers::{Answers, Mixed};
 use crate::whole::Whole;
@@ -122,7 +123,7 @@ pub fn record_value(
 ) -> Result<Value, AllocError>
     requires { (length keys.items ≡ length values.items) × IsStrictlySortedBy key_order keys.items }
     ensures { IfOk result
-        (λ v. v.what ≡ record_represented (represented_fields_of (under (texts_of keys.items) (whats values.items)))) }
+        (λ v. v.what ≡ record_represented (represented_fields_of (each_under (texts_of keys.items) (whats values.items)))) }
 {
     let fields = map_under(alloc, keys, values)?;
     Ok(Value::record(alloc, fields, None)?)

@@ -2,7 +2,8 @@
 ghost use Rattle.std.specs.Prelude.{◌≡◌, ℕ, ◌<◌, ◌≤◌, length, IfOk, IfSome};
 ghost use Rattle.std.specs.List.Sorted.{IsStrictlySortedBy};
 ghost use Rattle.cedar_expressions.specs.View.{terms_view, fields_view};
-ghost use Rattle.cedar_restricted_evaluator.specs.Keys.{key_order, texts_of, fields_named};
+ghost use Rattle.cedar_expressions.specs.Nodes.{key_order};
+ghost use Rattle.cedar_restricted_evaluator.specs.Keys.{texts_of, fields_named};
 ghost use Rattle.cedar_restricted_evaluator.specs.Parts.{HasKeys, HasKeys-prop, count};
 ghost use Rattle.cedar_restricted_evaluator.specs.declared.whole.Whole.TheVariants as wholes;
 
@@ -13,7 +14,7 @@ use crate::whole::Whole;
 use cedar_errors::evaluator::err::EvaluationError;
 use cedar_expressions::Expr;
 use cedar_extensions::Extensions;
-use cedar_frames::Step;
+use cedar_frames::Transition;
 use cedar_names::{Loc, Name};
 use cedar_values::PartialValue;
 use std::alloc::{AllocError, Global};
@@ -21,7 +22,7 @@ use std::collections::BTreeMap;
 use std::rc::{Rc, RcStr};
 
 /// What comes next of a set, a record or a call: its answer, or the part that it waits for.
-pub type NextPart = Step<PartsFrame, Expr, Result<PartialValue, EvaluationError>>;
+pub type NextPart = Transition<PartsFrame, Expr, Result<PartialValue, EvaluationError>>;
 
 /// A set, a record or a call that waits for the answer of a part: what the parts make, the parts, the answers of those
 /// before,
@@ -63,7 +64,7 @@ impl PartsFrame {
                 Answers::Values(Vec::new(alloc)),
                 loc,
             ),
-            Err(error) => Step::Done(Err(EvaluationError::Memory(error))),
+            Err(error) => Transition::Done(Err(EvaluationError::Memory(error))),
         }
     }
 
@@ -89,9 +90,9 @@ impl PartsFrame {
                     Answers::Values(Vec::new(alloc)),
                     loc,
                 ),
-                Err(error) => Step::Done(Err(EvaluationError::Memory(error))),
+                Err(error) => Transition::Done(Err(EvaluationError::Memory(error))),
             },
-            Err(error) => Step::Done(Err(EvaluationError::Memory(error))),
+            Err(error) => Transition::Done(Err(EvaluationError::Memory(error))),
         }
     }
 
@@ -114,7 +115,7 @@ impl PartsFrame {
                 Answers::Values(Vec::new(alloc)),
                 loc,
             ),
-            Err(error) => Step::Done(Err(EvaluationError::Memory(error))),
+            Err(error) => Transition::Done(Err(EvaluationError::Memory(error))),
         }
     }
 
@@ -141,13 +142,13 @@ impl PartsFrame {
                 ),
                 Err(error) => {
                     drop((self.whole, self.parts));
-                    Step::Done(Err(EvaluationError::Memory(error)))
+                    Transition::Done(Err(EvaluationError::Memory(error)))
                 }
             },
             Err(error) => {
                 let place = self.loc;
                 drop(self);
-                Step::Done(Err(error.with_enclosing_loc(place)))
+                Transition::Done(Err(error.with_enclosing_loc(place)))
             }
         }
     }
@@ -171,7 +172,7 @@ impl PartsFrame {
         let done = answers.len();
         if done < parts.len() {
             match parts[done].clone() {
-                Ok(part) => Step::Wait(
+                Ok(part) => Transition::Wait(
                     PartsFrame {
                         whole,
                         parts,
@@ -182,13 +183,13 @@ impl PartsFrame {
                 ),
                 Err(error) => {
                     drop((whole, parts, answers));
-                    Step::Done(Err(EvaluationError::Memory(error)))
+                    Transition::Done(Err(EvaluationError::Memory(error)))
                 }
             }
         } else {
             match whole_of(alloc, extensions, whole, answers) {
-                Ok(answer) => Step::Done(Ok(answer.with_maybe_source_loc(loc))),
-                Err(error) => Step::Done(Err(error.with_enclosing_loc(loc))),
+                Ok(answer) => Transition::Done(Ok(answer.with_maybe_source_loc(loc))),
+                Err(error) => Transition::Done(Err(error.with_enclosing_loc(loc))),
             }
         }
     }

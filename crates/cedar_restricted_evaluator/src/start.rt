@@ -16,7 +16,7 @@ use crate::machine::Restricted;
 use crate::parts::{NextPart, PartsFrame};
 use cedar_errors::evaluator::err::{EvaluationError, evaluation_errors};
 use cedar_expressions::{Expr, ExprKind};
-use cedar_frames::Step;
+use cedar_frames::Transition;
 use cedar_names::{Literal, Loc, Name, Unknown};
 use cedar_values::{PartialValue, ResidualExpr, Value, ValueKind};
 use evaluation_errors::NonValueError;
@@ -76,7 +76,7 @@ impl<'x, 'f> Restricted<'x, 'f> {
         ensures { (k : ℕ) → Leads (extensions_view self.now.extensions.now)
             (calls_of self.now.extensions.now) k e.now result }
     {
-        Step::Done(literal_part(value, e.source_loc().copied()))
+        Transition::Done(literal_part(value, e.source_loc().copied()))
     }
 
     fn unknown_left(&self, e: &Expr, unknown: &Unknown) -> NextPart
@@ -85,7 +85,7 @@ impl<'x, 'f> Restricted<'x, 'f> {
         ensures { (k : ℕ) → Leads (extensions_view self.now.extensions.now)
             (calls_of self.now.extensions.now) k e.now result }
     {
-        Step::Done(residual_of(e))
+        Transition::Done(residual_of(e))
     }
 
     fn set(&self, alloc: Global, e: &Expr, parts: &Rc<Vec<Expr>>) -> NextPart
@@ -130,9 +130,9 @@ impl<'x, 'f> Restricted<'x, 'f> {
         match e.clone() {
             Ok(expr) => {
                 let source_loc: Option<Loc> = expr.source_loc().copied();
-                Step::Done(Err(EvaluationError::NonValue(NonValueError { expr, source_loc })))
+                Transition::Done(Err(EvaluationError::NonValue(NonValueError { expr, source_loc })))
             }
-            Err(error) => Step::Done(Err(EvaluationError::Memory(error))),
+            Err(error) => Transition::Done(Err(EvaluationError::Memory(error))),
         }
     }
 }

@@ -35,8 +35,8 @@ abbrev pub with_its_text : Disallowed → Text × Term
 with_its_text d = (feature_text d.feature, d.part)
 
 -- the same of a part that was found
-abbrev pub found_view : Found → Text × Term
-found_view f = (f.feature.now, view f.part.now)
+abbrev pub disallowed_view : Found → Text × Term
+disallowed_view f = (f.feature.now, view f.part.now)
 
 -- a part is refused: the first disallowed one, by the text of what it uses
 abbrev pub IsFirst : Option Disallowed → Text × Term → Type 0

@@ -6,7 +6,6 @@ use Rattle.cedar_syntax.specs.declared.levels.Operator.{Operator}
 use Rattle.cedar_syntax.specs.declared.steps.Sign.{Sign}
 use Rattle.cedar_syntax.specs.declared.steps.Unary.{Unary}
 use Rattle.cedar_syntax.specs.declared.steps.Unary.TheVariants as unaries
-use Rattle.cedar_syntax.specs.declared.steps.Binary.{Binary}
 use Rattle.cedar_syntax.specs.declared.steps.Bracketed.{Bracketed}
 use Rattle.cedar_syntax.specs.declared.steps.What.TheVariants as what
 use Rattle.cedar_syntax.specs.declared.steps.Step.{Step}

@@ -7,7 +7,7 @@ use Rattle.std.specs.declared.rc.RcStr.{RcStr}
 use Rattle.std.proofs.lemmas.List.{take_more, reverse-append, reverse-reverse, length-reverse}
 use Rattle.cedar_tokens.specs.declared.errors.ReadError.{ReadError}
 use Rattle.cedar_tokens.specs.declared.tokens.Token.{Token}
-use Rattle.cedar_expressions.specs.Nodes.{Node, node_of, entries_in_order}
+use Rattle.cedar_expressions.specs.Nodes.{Node, entries_in_order}
 use Rattle.cedar_expressions.specs.Nodes as node
 use Rattle.cedar_expressions.specs.Records.{first_repeated, keys_view}
 use Rattle.cedar_expressions.specs.declared.expr.Expr.{Expr}

@@ -1,5 +1,5 @@
 -- A character more of a text or a pattern, and a digit more of a number.
-use Rattle.std.proofs.Common.{◌≡◌, ℕ, ◌+◌, ◌-◌, ◌*◌, ◌<◌, ◌≤◌, List, [], ◌∷◌, ◌++◌, length, drop, take, map, encode_utf8, ap, ◌∙◌, subst, arith, append_assoc, length-append, length-drop, append-nil, take-append-drop, Bool, true, false, get_or}
+use Rattle.std.proofs.Common.{◌≡◌, ℕ, ◌+◌, ◌-◌, ◌*◌, ◌<◌, ◌≤◌, List, [], ◌∷◌, ◌++◌, length, drop, take, map, encode_utf8, ap, ◌∙◌, subst, arith, append_assoc, length-drop, append-nil, take-append-drop, Bool, true, false, get_or}
 use Rattle.std.specs.Char.{digit_value}
 use Rattle.std.specs.Str.Parse.{digits_value}
 use Rattle.std.specs.Int.Digits.{number_from_digits, number_from_digits_after}
@@ -7,7 +7,7 @@ use Rattle.std.proofs.lemmas.List.{map-append}
 use Rattle.std.proofs.lemmas.Int.Digits.{digits_value_is, number_after_append, number_after_ge, digits_value_more}
 use Rattle.cedar_tokens.specs.declared.escapes.Piece.{Piece}
 use Rattle.cedar_tokens.specs.declared.values.PatternPart.{PatternPart}
-use Rattle.cedar_tokens.specs.Values.{IsPiece, IsNoPiece, unknown, alone, IsTextOf, nothing, next, IsPatternOf, no_part, next_part, part_of, IsRefused, here, later, IsRefusedThere, there}
+use Rattle.cedar_tokens.specs.Values.{IsPiece, IsNoPiece, IsTextOf, nothing, next, IsPatternOf, no_part, next_part, part_of, IsRefused, here, later, IsRefusedThere, there}
 
 -- what the rest stands for, behind this, is what the whole stands for
 abbrev pub TextSoFar : List ℕ → List ℕ → List ℕ → Type 0

@@ -5,7 +5,7 @@ use Rattle.cedar_expressions.specs.View.{fields_view}
 use Rattle.cedar_requests.specs.declared.context.Context.{Context}
 use Rattle.cedar_requests.specs.declared.context.pairs.ContextPairs.{ContextPairs}
 use Rattle.cedar_requests.specs.declared.context.pairs.ContextPairs.TheVariants as kinds
-use Rattle.cedar_requests.specs.Contexts.{ExprMap, pairs_view, pairs_residual, context_view, context_residual}
+use Rattle.cedar_requests.specs.Contexts.{ExprMap, context_pairs_view, pairs_residual, context_view, context_residual}
 use Rattle.cedar_unknowns.specs.Occurrences.{Asked, part_occurrences, occurrences_at, request_occurrences, noted_each}
 use Rattle.cedar_unknowns.proofs.Noted.{noted_each-append}
 
@@ -14,7 +14,7 @@ abbrev pub map_occurrences : Option ExprMap → List Asked
 map_occurrences None = []
 map_occurrences (Some m) = occurrences_at (fields_view m.entries)
 
-pairs_occurrences : (p : ContextPairs) → part_occurrences (context_value (pairs_view p)) ≡ map_occurrences (pairs_residual p)
+pairs_occurrences : (p : ContextPairs) → part_occurrences (context_value (context_pairs_view p)) ≡ map_occurrences (pairs_residual p)
 unfolding context_value
 pairs_occurrences (kinds.Values m) = refl
 pairs_occurrences (kinds.Residual r) = refl

@@ -1,5 +1,5 @@
 -- How large a set is against what is in it, and that it does not matter which of two sets is walked over.
-use Rattle.std.proofs.Common.{◌≡◌, ℕ, ◌+◌, ◌<◌, ◌≤◌, Bool, true, false, ◌||◌, ◌&&◌, List, [], ◌∷◌, length, refl, sym, ap, ◌∙◌, ⊎_elim, Less, arith}
+use Rattle.std.proofs.Common.{◌≡◌, ℕ, ◌+◌, ◌<◌, ◌≤◌, Bool, true, false, ◌||◌, ◌&&◌, [], ◌∷◌, length, refl, sym, ap, ◌∙◌, ⊎_elim, Less, arith}
 use Rattle.std.proofs.lemmas.Bool.{or_cases, and_parts, true≢false}
 use Rattle.std.proofs.lemmas.Map.Keys.{IsDistinct-from_sorted}
 use Rattle.std.proofs.lemmas.Map.Made.{length-le_from_is_member}

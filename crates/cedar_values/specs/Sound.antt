@@ -207,12 +207,12 @@ placed_code =
     code_by (Represented × (Option Loc × List (Option Loc))) (coded× represented_code (coded× (coded_option loc_code) (coded_list (coded_option loc_code)))) (λ p. (p.what, (p.loc, p.inside))) (λ q. settled q.0 q.1.0 q.1.1) settled-placed
 
 -- the set of a list of sound values, with these members
-abbrev pub elements_of : (vs : List Represented) → AreSound (represented_values_of vs) → List Placed → Elements
-elements_of vs h ps =
+abbrev pub canonical_elements : (vs : List Represented) → AreSound (represented_values_of vs) → List Placed → Elements
+canonical_elements vs h ps =
     record { all = canonical_set vs; members = ps; in_order = IsStrictlyInOrder-canonical_set vs; sound = AreSound-canonical_set vs h }
 
 abbrev pub settled_elements : RepresentedValues → List Placed → Elements
-settled_elements vs ps = elements_of (settle_each vs) (AreSound-settle_each vs) ps
+settled_elements vs ps = canonical_elements (settle_each vs) (AreSound-settle_each vs) ps
 
 pub settled_elements-elements : (s : Elements) → settled_elements s.all s.members ≡ s
 settled_elements-elements s =
@@ -234,12 +234,12 @@ AreSound-whats [] = tt
 AreSound-whats (p ∷ ps) = (p.sound, AreSound-whats ps)
 
 -- a list of values is in the order of values, each once
-abbrev pub AreInOrder : List Placed → Type 0
-AreInOrder ps = canonical_set (whats ps) ≡ represented_values_of (whats ps)
+abbrev pub AreStrictlyInOrder : List Placed → Type 0
+AreStrictlyInOrder ps = canonical_set (whats ps) ≡ represented_values_of (whats ps)
 
 -- the set of a list of values
 abbrev pub elements_seen : List Placed → Elements
-elements_seen ps = elements_of (whats ps) (AreSound-whats ps) ps
+elements_seen ps = canonical_elements (whats ps) (AreSound-whats ps) ps
 
 -- where the values of a list stand, and those inside each
 abbrev pub inside_each : List Placed → List (Option Loc)

@@ -75,11 +75,11 @@ impl Model for Set {
     ghost coded = { elements_code };
 
     ghost use Rattle.cedar_model.specs.Sets.{represented_values_size};
-    ghost use Rattle.cedar_values.specs.Sound.{elements_seen, AreInOrder};
+    ghost use Rattle.cedar_values.specs.Sound.{elements_seen, AreStrictlyInOrder};
 
     ghost view = { λ a. elements_seen a.elements.value.items };
 
-    ghost invariant = { λ a. AreInOrder a.elements.value.items };
+    ghost invariant = { λ a. AreStrictlyInOrder a.elements.value.items };
 
     ghost size = { λ s. represented_values_size s.all };
 

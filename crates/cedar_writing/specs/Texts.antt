@@ -2,7 +2,7 @@
 use Rattle.std.specs.Prelude.{ℕ, Bool, true, false, [], ◌∷◌, ◌++◌, Option, Some, None, if◌then◌else◌, codes}
 use Rattle.cedar_model.specs.Terms.{Text, EntityName, Slot, BinaryOperator, Term, literal, variable, slot, unknown, if_then_else, both, either, unary, binary, call, get_attribute, has_attribute, extended_has, like, is_of_type, set_of, record_of, Terms, no_terms, one_term, Fields, no_fields, one_field}
 use Rattle.cedar_model.specs.World.{Slots}
-use Rattle.cedar_names.specs.Texts.{slot_text, variable_text, before_part, after_part, between_parts, is_infix, separator, is_text}
+use Rattle.cedar_names.specs.Texts.{slot_text, variable_text, before_part, after_part, between_parts, is_infix, separator, type_test_text}
 use Rattle.cedar_writing.specs.Levels.{fits, lowest_level, left_level, right_level}
 use Rattle.cedar_writing.specs.Methods.{is_method}
 use Rattle.cedar_writing.specs.Names.{literal_text, entity_text, unknown_text, key_text, attribute_text, has_text, path_text, like_text}
@@ -44,7 +44,7 @@ abbrev mutual
   written s (has_attribute e a) = bracketed (fits 0 4 e) (written s e) ++ has_text a
   written s (extended_has e a more) = bracketed (fits 0 4 e) (written s e) ++ path_text a more
   written s (like e p) = bracketed (fits 0 4 e) (written s e) ++ like_text p
-  written s (is_of_type e t) = bracketed (fits 0 4 e) (written s e) ++ is_text t
+  written s (is_of_type e t) = bracketed (fits 0 4 e) (written s e) ++ type_test_text t
   written s (set_of ts) = codes "[" ++ (written_parts s true ts ++ codes "]")
   written s (record_of fs) = codes "{" ++ (written_fields s true fs ++ codes "}")
 

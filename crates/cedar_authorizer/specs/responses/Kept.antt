@@ -19,5 +19,5 @@ abbrev pub Keeps : {S V : Type 0} → (S → Option (PolicyID × V) → S → Ty
 Keeps {V = V} steps it entries = (pairs : List (PolicyID × V)) × Drains steps it pairs × (entries ≡ kept pairs)
 
 -- the items are all that an iterator gives, in order
-abbrev pub Gives : {S A : Type 0} → (S → Option A → S → Type 0) → S → List A → Type 0
-Gives {A = A} steps it items = (given : List A) × Drains steps it given × (items ≡ given)
+abbrev pub GivesItems : {S A : Type 0} → (S → Option A → S → Type 0) → S → List A → Type 0
+GivesItems {A = A} steps it items = (given : List A) × Drains steps it given × (items ≡ given)

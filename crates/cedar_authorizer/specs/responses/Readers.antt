@@ -105,11 +105,11 @@ abbrev pub found_policy : Option Policy → Option model.Policy
 found_policy o = option_map (λ p. decides_as (policy_view p)) o
 
 -- a policy is what the row is carried on as, and there is none where there is no row
-abbrev pub IsFound : Option Located → Option Policy → Type 0
-IsFound None None = Unit {0}
-IsFound None (Some p) = ⊥
-IsFound (Some l) None = ⊥
-IsFound (Some l) (Some p) = IsCarriedOn l p
+abbrev pub IsPolicyFound : Option Located → Option Policy → Type 0
+IsPolicyFound None None = Unit {0}
+IsPolicyFound None (Some p) = ⊥
+IsPolicyFound (Some l) None = ⊥
+IsPolicyFound (Some l) (Some p) = IsCarriedOn l p
 
 -- ---- ids
 

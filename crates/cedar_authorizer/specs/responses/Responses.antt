@@ -1,5 +1,5 @@
 -- Responses as plain data.
-use Rattle.std.specs.Prelude.{Bool, List, map, Option, codes}
+use Rattle.std.specs.Prelude.{Bool, List, map, Option}
 use Rattle.std.specs.List.{list_any}
 use Rattle.std.specs.declared.hash.BuildHasherDefault.{BuildHasherDefault}
 use Rattle.std.specs.declared.hash.FoldHasher.{FoldHasher}

@@ -3,7 +3,7 @@ ghost use Rattle.std.specs.Prelude.{◌≡◌, ◌||◌, cond, not, Some, None, 
 ghost use Rattle.std.specs.Iterator.{IsFinite};
 ghost use Rattle.cedar_model.specs.Policies.{permit, forbid, allow, deny, skip};
 ghost use Rattle.cedar_model.specs.Reports.{some_row, trues, residuals, given_decision, concrete_decision};
-ghost use Rattle.cedar_authorizer.specs.responses.Kept.{Keeps, Gives};
+ghost use Rattle.cedar_authorizer.specs.responses.Kept.{Keeps, GivesItems};
 ghost use Rattle.cedar_decisions.specs.Decisions.{decision_view, mode_view};
 ghost use Rattle.cedar_authorizer.specs.responses.Rows.{mode_of, rows_view};
 ghost use Rattle.cedar_authorizer.specs.responses.Promises.{IsDecisionOf};
@@ -94,7 +94,7 @@ impl PartialResponse {
         ensures true_forbids { IfOk result (λ r. Keeps TF.next_gives true_forbids r.satisfied_forbids.entries) }
         ensures false_forbids { IfOk result (λ r. Keeps FF.next_gives false_forbids r.false_forbids.entries) }
         ensures residual_forbids { IfOk result (λ r. Keeps RF.next_gives residual_forbids r.residual_forbids.entries) }
-        ensures errors { IfOk result (λ r. Gives E.next_gives errors r.errors.items) }
+        ensures errors { IfOk result (λ r. GivesItems E.next_gives errors r.errors.items) }
         ensures request { IfOk result (λ r. r.request ≡ request) }
         ensures mode { IfOk result (λ r. mode_of r ≡ skip) }
     {
@@ -146,7 +146,7 @@ impl PartialResponse {
         ensures true_forbids { IfOk result (λ r. Keeps TF.next_gives true_forbids r.satisfied_forbids.entries) }
         ensures false_forbids { IfOk result (λ r. Keeps FF.next_gives false_forbids r.false_forbids.entries) }
         ensures residual_forbids { IfOk result (λ r. Keeps RF.next_gives residual_forbids r.residual_forbids.entries) }
-        ensures errors { IfOk result (λ r. Gives E.next_gives errors r.errors.items) }
+        ensures errors { IfOk result (λ r. GivesItems E.next_gives errors r.errors.items) }
         ensures request { IfOk result (λ r. r.request ≡ request) }
         ensures mode { IfOk result (λ r. mode_of r ≡ mode_view mode) }
     {
@@ -292,7 +292,7 @@ fn given<I: Iterator<Item = AuthorizationError> + Drop>(
     errors: I,
 ) -> Result<Vec<AuthorizationError>, AllocError>
     requires { I.can_next errors × IsFinite (I.remaining errors) }
-    ensures { IfOk result (λ es. Gives I.next_gives errors es.items) }
+    ensures { IfOk result (λ es. GivesItems I.next_gives errors es.items) }
 {
     Vec::from_iter(alloc, errors)
 }

@@ -103,7 +103,11 @@ fn put(
 }
 
 // What stands under the uid, which is taken out.
-fn taken_out(alloc: Global, groups: &mut HashMap<EntityUID, Vec<usize>>, uid: &EntityUID) -> Vec<usize>
+fn taken_out(
+    alloc: Global,
+    groups: &mut HashMap<EntityUID, Vec<usize>>,
+    uid: &EntityUID,
+) -> Vec<usize>
     ensures items { result.items ≡ standing_under groups.old.entries (uid_name uid.now) }
     ensures others { (n : EntityName) → entity_eq n (uid_name uid.now) ≡ false →
         standing_under groups.new.entries n ≡ standing_under groups.old.entries n }

@@ -109,7 +109,7 @@ pub fn write_attribute<W: fmt::Write>(attr: &RcStr, f: &mut fmt::Formatter<W>) -
 
 /// Writes ` has "attr"`, which stands after a part.
 pub fn write_has<W: fmt::Write>(attr: &RcStr, f: &mut fmt::Formatter<W>) -> fmt::Result
-    ensures { WritesOnOk W.write_str_gives f.old result (text.has_text (rc_str_bytes attr.now)) f.new }
+    ensures { WritesOnOk W.write_str_gives f.old result (text.presence_text (rc_str_bytes attr.now)) f.new }
 {
     f.write_str(" has ")?;
     write_quoted(attr.as_str(), f)
@@ -154,7 +154,7 @@ pub fn write_like<W: fmt::Write>(pattern: &Pattern, f: &mut fmt::Formatter<W>) -
 
 /// Writes ` is` and the type, which stand after a part.
 pub fn write_is<W: fmt::Write>(entity_type: &EntityType, f: &mut fmt::Formatter<W>) -> fmt::Result
-    ensures { WritesOnOk W.write_str_gives f.old result (text.is_text (type_text entity_type.now)) f.new }
+    ensures { WritesOnOk W.write_str_gives f.old result (text.type_test_text (type_text entity_type.now)) f.new }
 {
     f.write_str(" is ")?;
     entity_type.fmt(f)

@@ -20,11 +20,11 @@ impl Clone for Context {
 }
 
 impl ContextPairs {
-    ghost use Rattle.cedar_requests.specs.Contexts.{pairs_view, pairs_locs};
+    ghost use Rattle.cedar_requests.specs.Contexts.{context_pairs_view, pairs_locs};
 
     // The same pairs. Values are shared by all further copies.
     fn copied(&self, alloc: Global) -> Result<ContextPairs, AllocError>
-        ensures view { IfOk result (λ p. pairs_view p ≡ pairs_view self.now) }
+        ensures view { IfOk result (λ p. context_pairs_view p ≡ context_pairs_view self.now) }
         ensures locs { IfOk result (λ p. pairs_locs p ≡ pairs_locs self.now) }
     {
         match self {

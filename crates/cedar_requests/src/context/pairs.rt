@@ -43,11 +43,11 @@ impl Model for ResidualPairs {
 }
 
 impl ContextPairs {
-    ghost use Rattle.cedar_requests.specs.Contexts.{pairs_view, context_keys};
+    ghost use Rattle.cedar_requests.specs.Contexts.{context_pairs_view, context_keys};
 
     // How many there are.
     pub(crate) fn len(&self) -> usize
-        ensures { result ≡ length (context_keys (pairs_view self.now)) }
+        ensures { result ≡ length (context_keys (context_pairs_view self.now)) }
     {
         match self {
             ContextPairs::Values(values) => values.as_map().len(),

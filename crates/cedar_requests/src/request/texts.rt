@@ -4,7 +4,7 @@ ghost use Rattle.std.specs.Fmt.{WritesOnOk};
 ghost use Rattle.cedar_names.specs.Names.{type_text};
 ghost use Rattle.cedar_requests.specs.Requests.{entry_view, context_given};
 ghost use Rattle.cedar_requests.specs.Contexts.{context_view};
-ghost use Rattle.cedar_requests.specs.Texts.{entry_text, context_text, unknown_text};
+ghost use Rattle.cedar_requests.specs.Texts.{entry_text, context_text, unknown_entry_text};
 
 use super::Request;
 use crate::context::Context;
@@ -53,7 +53,7 @@ fn write_entry<W: fmt::Write>(entry: &EntityUIDEntry, f: &mut fmt::Formatter<W>)
 
 // Writes that an entity is unknown, and its type if that is known.
 fn write_unknown<W: fmt::Write>(ty: &Option<EntityType>, f: &mut fmt::Formatter<W>) -> fmt::Result
-    ensures { WritesOnOk W.write_str_gives f.old result (unknown_text (option_map type_text ty.now)) f.new }
+    ensures { WritesOnOk W.write_str_gives f.old result (unknown_entry_text (option_map type_text ty.now)) f.new }
 {
     match ty {
         Some(ty) => write_unknown_of(ty, f),
@@ -62,7 +62,7 @@ fn write_unknown<W: fmt::Write>(ty: &Option<EntityType>, f: &mut fmt::Formatter<
 }
 
 fn write_unknown_of<W: fmt::Write>(ty: &EntityType, f: &mut fmt::Formatter<W>) -> fmt::Result
-    ensures { WritesOnOk W.write_str_gives f.old result (unknown_text (Some (type_text ty.now))) f.new }
+    ensures { WritesOnOk W.write_str_gives f.old result (unknown_entry_text (Some (type_text ty.now))) f.new }
 {
     f.write_str("unknown of type ")?;
     ty.fmt(f)

@@ -6,7 +6,7 @@ ghost use Rattle.cedar_model.specs.Restricted.{first_disallowed, first_disallowe
 ghost use Rattle.cedar_names.specs.Leaves.{unary_view, binary_view};
 ghost use Rattle.cedar_names.specs.Texts.{unary_text, binary_text};
 ghost use Rattle.cedar_expressions.specs.View.{view, terms_view, fields_view};
-ghost use Rattle.cedar_restricted_expressions.specs.Refusals.{with_its_text, found_view, IsRefusal};
+ghost use Rattle.cedar_restricted_expressions.specs.Refusals.{with_its_text, disallowed_view, IsRefusal};
 ghost use Rattle.cedar_restricted_expressions.specs.Refusals.{is_disallowed, IsFirstDisallowed, IsFirstAmong};
 ghost use Rattle.cedar_restricted_expressions.specs.Refusals.{HoldsFirstPart, entry_parts};
 
@@ -49,7 +49,7 @@ pub(crate) fn check(expr: &Expr) -> Result<(), RestrictedExpressionError>
 #[cycle(found)]
 #[tactic(auto, using(crate::proofs::Levels::terms), unfolding(cedar_model::specs::Restricted::first_disallowed, cedar_model::specs::Restricted::feature_of))]
 fn first_found(expr: &Expr) -> Option<Found<'_>>
-    ensures view { option_map found_view result ≡ option_map with_its_text (first_disallowed (view expr.now)) }
+    ensures view { option_map disallowed_view result ≡ option_map with_its_text (first_disallowed (view expr.now)) }
     ensures whole { IfSome result (λ f. IsFirstDisallowed expr.now f.part.now) }
 {
     match expr.expr_kind() {
@@ -90,7 +90,7 @@ fn first_found(expr: &Expr) -> Option<Found<'_>>
 #[cycle(found)]
 #[tactic(auto, unfolding(cedar_model::specs::Restricted::first_disallowed, cedar_model::specs::Restricted::or_else))]
 fn first_found_of(parts: &Vec<Expr>) -> Option<Found<'_>>
-    ensures view { option_map found_view result ≡
+    ensures view { option_map disallowed_view result ≡
         option_map with_its_text (first_disallowed_of (terms_view parts.now.items)) }
     ensures whole { IfSome result (λ f. IsFirstAmong parts.now.items f.part.now) }
 {
@@ -105,7 +105,7 @@ fn first_found_of(parts: &Vec<Expr>) -> Option<Found<'_>>
 #[cycle(found)]
 #[tactic(auto, unfolding(cedar_model::specs::Restricted::first_disallowed, cedar_model::specs::Restricted::or_else))]
 fn first_found_at(pairs: &BTreeMap<RcStr, Expr>) -> Option<Found<'_>>
-    ensures view { option_map found_view result ≡
+    ensures view { option_map disallowed_view result ≡
         option_map with_its_text (first_disallowed_at (fields_view pairs.now.entries)) }
     ensures whole { IfSome result (λ f. IsFirstAmong (entry_parts pairs.now.entries) f.part.now) }
 {
@@ -119,7 +119,7 @@ fn first_found_at(pairs: &BTreeMap<RcStr, Expr>) -> Option<Found<'_>>
 
 fn refused<'a>(feature: &'static str, part: &'a Expr) -> Option<Found<'a>>
     requires { is_disallowed part.now ≡ true }
-    ensures view { option_map found_view result ≡ Some (feature.now, view part.now) }
+    ensures view { option_map disallowed_view result ≡ Some (feature.now, view part.now) }
     ensures whole { IfSome result (λ f. IsFirstDisallowed part.now f.part.now) }
 {
     Some(Found { feature, part })

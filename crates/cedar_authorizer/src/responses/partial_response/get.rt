@@ -3,9 +3,9 @@ ghost use Rattle.std.specs.Prelude.{◌≡◌, ◌++◌, IfOk};
 ghost use Rattle.cedar_model.specs.Policies.{permit, forbid};
 ghost use Rattle.cedar_model.specs.Reports as reports;
 ghost use Rattle.cedar_layers.specs.Policies.{effect_view, policy_id_text};
-ghost use Rattle.cedar_authorizer.specs.responses.Found.{found_in};
+ghost use Rattle.cedar_authorizer.specs.responses.Found.{as_found};
 ghost use Rattle.cedar_authorizer.specs.responses.Rows.{located_view, rows_view, true_rows, false_rows, residual_rows};
-ghost use Rattle.cedar_authorizer.specs.responses.Readers.{found_policy, IsFound, first_at, in_order_of_get};
+ghost use Rattle.cedar_authorizer.specs.responses.Readers.{found_policy, IsPolicyFound, first_at, in_order_of_get};
 ghost use Rattle.cedar_authorizer.specs.responses.Readers.{located_at};
 
 use super::made::{policy_of_residual, policy_of_truth};
@@ -22,7 +22,7 @@ impl PartialResponse {
     /// Refuses only for want of memory.
     pub fn get(&self, alloc: Global, id: &PolicyID) -> Result<Option<Policy>, AllocError>
         ensures policy { IfOk result (λ o. found_policy o ≡ reports.get (policy_id_text id.now) (rows_view self.now)) }
-        ensures located { IfOk result (IsFound (located_at (policy_id_text id.now) (located_view self.now))) }
+        ensures located { IfOk result (IsPolicyFound (located_at (policy_id_text id.now) (located_view self.now))) }
     {
         match self.get_permit(alloc, id)? {
             Some(policy) => Ok(Some(policy)),
@@ -32,7 +32,7 @@ impl PartialResponse {
 
     fn get_permit(&self, alloc: Global, id: &PolicyID) -> Result<Option<Policy>, AllocError>
         ensures { IfOk result
-            (IsFound (first_at (policy_id_text id.now) (in_order_of_get permit (located_view self.now)))) }
+            (IsPolicyFound (first_at (policy_id_text id.now) (in_order_of_get permit (located_view self.now)))) }
     {
         get_of(
             alloc,
@@ -46,7 +46,7 @@ impl PartialResponse {
 
     fn get_forbid(&self, alloc: Global, id: &PolicyID) -> Result<Option<Policy>, AllocError>
         ensures { IfOk result
-            (IsFound (first_at (policy_id_text id.now) (in_order_of_get forbid (located_view self.now)))) }
+            (IsPolicyFound (first_at (policy_id_text id.now) (in_order_of_get forbid (located_view self.now)))) }
     {
         get_of(
             alloc,
@@ -68,7 +68,7 @@ fn get_of(
     satisfied: &IndexMap<PolicyID, Rc<Annotations>>,
     unsatisfied: &IndexMap<PolicyID, (ErrorState, Rc<Annotations>)>,
 ) -> Result<Option<Policy>, AllocError>
-    ensures { IfOk result (IsFound (first_at (policy_id_text id.now)
+    ensures { IfOk result (IsPolicyFound (first_at (policy_id_text id.now)
         (residual_rows (effect_view effect) residual.now.entries
         ++ (true_rows (effect_view effect) satisfied.now.entries
         ++ false_rows (effect_view effect) unsatisfied.now.entries)))) }
@@ -87,7 +87,7 @@ fn get_of(
 
 // What was made, as what is found.
 fn found<T: Drop>(made: Result<T, AllocError>) -> Result<Option<T>, AllocError>
-    ensures { result ≡ found_in made }
+    ensures { result ≡ as_found made }
 {
     match made {
         Ok(made) => Ok(Some(made)),

@@ -1,7 +1,7 @@
 use Rattle.std.proofs.Common.{◌≡◌, [], ◌∷◌, ◌++◌, List, sym, ap, ◌∙◌, subst, append_assoc, append-nil, rules}
 use Rattle.std.specs.Vec.Iter.{into_iter_items}
 use Rattle.cedar_layers.specs.declared.policies.entities.Entity.{Entity}
-use Rattle.cedar_restricted_evaluator.specs.Evaluators.{extensions_in, calls_in, limit_of}
+use Rattle.cedar_restricted_evaluator.specs.Evaluators.{extensions_read, calls_in, limit_of}
 use Rattle.cedar_json.specs.declared.entities.StatedEntity.{StatedEntity}
 use Rattle.cedar_json.specs.SaidEntities.{SaidEntity}
 use Rattle.cedar_json.specs.StatedEntities.{stated_view, stated_views}
@@ -11,7 +11,7 @@ use Rattle.cedar_json.proofs.evaluation.evaluate_all.Goals as goal
 
 pub stated-init : goal.stated-init
 stated-init g c =
-    let x = extensions_in c.args.evaluator.now in
+    let x = extensions_read c.args.evaluator.now in
     let calls = calls_in c.args.evaluator.now in
     let n = limit_of c.args.evaluator.now in
     let all : into_iter_items c.into_iter-entity-iterator.result ≡ c.args.stated.items = search rules in (
@@ -33,7 +33,7 @@ stated-preserved g c =
 pub returns-clause-evaluated : goal.returns-clause-evaluated
 returns-clause-evaluated g c =
     let l = c.stated in
-    let x = extensions_in c.args.evaluator.now in
+    let x = extensions_read c.args.evaluator.now in
     let calls = calls_in c.args.evaluator.now in
     let n = limit_of c.args.evaluator.now in
     let none : into_iter_items l.entity-iterator ≡ [] = empty_list (into_iter_items l.entity-iterator) (sym l.entity-iterator.rest.ok.0 ∙ c.in-None.ensures.steps.0) in

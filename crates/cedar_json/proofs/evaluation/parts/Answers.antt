@@ -6,7 +6,7 @@ use Rattle.cedar_model.specs.Terms.{Fields, no_fields}
 use Rattle.cedar_expressions.specs.Records.{put_field, put_fields}
 use Rattle.cedar_values.specs.declared.partial_value.PartialValue.{PartialValue}
 use Rattle.cedar_layers.specs.Parts.{parts_view}
-use Rattle.cedar_restricted_evaluator.specs.Evaluators.{extensions_in, calls_in, limit_of}
+use Rattle.cedar_restricted_evaluator.specs.Evaluators.{extensions_read, calls_in, limit_of}
 use Rattle.cedar_restricted_expressions.specs.declared.restricted_expr.RestrictedExpr.{RestrictedExpr}
 use Rattle.cedar_restricted_expressions.specs.Views.{restricted_term}
 use Rattle.cedar_json.specs.Lists.{pairs_said}
@@ -16,7 +16,7 @@ use Rattle.cedar_json.proofs.evaluation.parts.Goals as goal
 
 pub pairs-init : goal.pairs-init
 pairs-init g c =
-    let x = extensions_in c.args.evaluator.now in
+    let x = extensions_read c.args.evaluator.now in
     let calls = calls_in c.args.evaluator.now in
     let n = limit_of c.args.evaluator.now in
     let all : into_iter_items c.into_iter-key-iterator.result ≡ c.args.pairs.items = search rules in (
@@ -37,7 +37,7 @@ pairs-preserved g c =
 pub returns-clause-answered : goal.returns-clause-answered
 returns-clause-answered g c =
     let l = c.pairs in
-    let x = extensions_in c.args.evaluator.now in
+    let x = extensions_read c.args.evaluator.now in
     let calls = calls_in c.args.evaluator.now in
     let n = limit_of c.args.evaluator.now in
     let none : into_iter_items l.key-iterator ≡ [] = empty_list (into_iter_items l.key-iterator) (sym l.key-iterator.rest.ok.0 ∙ c.in-None.ensures.steps.0) in

@@ -1,6 +1,6 @@
 use Rattle.std.proofs.Common.{◌≡◌, [], ◌∷◌, ◌++◌, List, sym, subst, rules}
 use Rattle.cedar_layers.specs.declared.policies.entities.Entity.{Entity}
-use Rattle.cedar_restricted_evaluator.specs.Evaluators.{extensions_in, calls_in, limit_of}
+use Rattle.cedar_restricted_evaluator.specs.Evaluators.{extensions_read, calls_in, limit_of}
 use Rattle.cedar_json.specs.StatedEntities.{stated_view}
 use Rattle.cedar_json.specs.Evaluated.{AreEvaluated}
 use Rattle.cedar_json.proofs.Answered.{one_more_evaluated}
@@ -8,7 +8,7 @@ use Rattle.cedar_json.proofs.evaluation.put_evaluated.Goals as goal
 
 pub returns-in-Ok-push-clause-adds : goal.returns-in-Ok-push-clause-adds
 returns-in-Ok-push-clause-adds g c =
-    let x = extensions_in c.args.evaluator.now in
+    let x = extensions_read c.args.evaluator.now in
     let calls = calls_in c.args.evaluator.now in
     let n = limit_of c.args.evaluator.now in
     let e = stated_view c.args.stated in

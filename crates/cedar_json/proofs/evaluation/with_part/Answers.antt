@@ -4,7 +4,7 @@ use Rattle.std.specs.declared.rc.RcStr.{RcStr}
 use Rattle.cedar_expressions.specs.Records.{put_field}
 use Rattle.cedar_values.specs.declared.partial_value.PartialValue.{PartialValue}
 use Rattle.cedar_layers.specs.Parts.{parts_view}
-use Rattle.cedar_restricted_evaluator.specs.Evaluators.{extensions_in, calls_in, limit_of}
+use Rattle.cedar_restricted_evaluator.specs.Evaluators.{extensions_read, calls_in, limit_of}
 use Rattle.cedar_restricted_expressions.specs.Views.{restricted_term}
 use Rattle.cedar_json.specs.Evaluated.{AreAnswered}
 use Rattle.cedar_json.proofs.Answered.{answered_insert}
@@ -12,7 +12,7 @@ use Rattle.cedar_json.proofs.evaluation.with_part.Goals as goal
 
 pub returns-in-Ok-with-clause-adds : goal.returns-in-Ok-with-clause-adds
 returns-in-Ok-with-clause-adds g c =
-    let x = extensions_in c.args.evaluator.now in
+    let x = extensions_read c.args.evaluator.now in
     let calls = calls_in c.args.evaluator.now in
     let n = limit_of c.args.evaluator.now in
     let t = restricted_term c.args.expr in

@@ -2,7 +2,7 @@ use Rattle.std.proofs.Common.{◌∙◌, ap}
 use Rattle.std.proofs.lemmas.Iterator.{YieldsList-from_zip}
 use Rattle.std.proofs.lemmas.Iterator.Adapters.{fact_from_collect, YieldsList-from_vec}
 use Rattle.std.specs.BTreeMap.{IsFromIterResult}
-use Rattle.cedar_restricted_evaluator.specs.Keys.{key_order}
+use Rattle.cedar_expressions.specs.Nodes.{key_order}
 use Rattle.cedar_restricted_evaluator.proofs.made.map_under.Goals as goal
 
 pub returns : goal.returns

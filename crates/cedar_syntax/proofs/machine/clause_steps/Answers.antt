@@ -1,6 +1,6 @@
-use Rattle.std.proofs.Common.{◌≡◌, ◌+◌, ◌<◌, ◌≤◌, length, subst, sym, arith, refl}
+use Rattle.std.proofs.Common.{◌≡◌, ◌+◌, ◌<◌, ◌≤◌, subst, arith, refl}
 use Rattle.cedar_syntax.specs.Standing.{look, Stands}
-use Rattle.cedar_syntax.specs.Reading.{IsClosed, HasReadClause}
+use Rattle.cedar_syntax.specs.Reading.{IsClosed}
 use Rattle.cedar_syntax.specs.Trees.{trees}
 use Rattle.cedar_syntax.specs.declared.machine.State.TheVariants as state
 use Rattle.cedar_syntax.proofs.Nested.{clause_read}

@@ -1,7 +1,6 @@
-use Rattle.std.proofs.Common.{◌≡◌, ap, ◌∙◌, refl, ◌∷◌}
+use Rattle.std.proofs.Common.{◌≡◌, ap, ◌∙◌, ◌∷◌}
 use Rattle.cedar_syntax.specs.Places.{for_memory}
 use Rattle.cedar_syntax.specs.Trees.{trees}
-use Rattle.cedar_syntax.specs.declared.frames.Frame.{Frame}
 use Rattle.cedar_syntax.specs.declared.frames.Wait.TheVariants as wait
 use Rattle.cedar_syntax.proofs.Turns.{clause_begun}
 use Rattle.cedar_syntax.proofs.machine.clause_work.Goals as goal

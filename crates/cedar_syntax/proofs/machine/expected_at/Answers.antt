@@ -1,4 +1,4 @@
-use Rattle.std.proofs.Common.{◌<◌, length, arith}
+use Rattle.std.proofs.Common.{◌<◌, arith}
 use Rattle.cedar_syntax.proofs.Erring.{token_placed, end_placed}
 use Rattle.cedar_syntax.proofs.machine.expected_at.Goals as goal
 

@@ -1,5 +1,5 @@
 use Rattle.std.proofs.Common.{◌≡◌, sym, ap, ◌∙◌, subst, IfSome}
-use Rattle.cedar_model.specs.Terms.{Term, entity_literal, variable}
+use Rattle.cedar_model.specs.Terms.{Term, entity_literal}
 use Rattle.cedar_model.specs.Values.{plain_represented}
 use Rattle.cedar_model.specs.Failures.{value, answers_value}
 use Rattle.cedar_names.specs.Names.{uid_name}

@@ -1,7 +1,7 @@
-use Rattle.std.proofs.Common.{sym, ap, ◌≡◌, ◌∙◌, subst, Bool, Some, Ok}
+use Rattle.std.proofs.Common.{sym, ap, ◌≡◌, ◌∙◌, subst, Some, Ok}
 use Rattle.cedar_model.specs.Failures.{answers}
 use Rattle.cedar_model.specs.Rules.{Runs}
-use Rattle.cedar_frames.specs.declared.machine.Step.TheVariants.{Done}
+use Rattle.cedar_frames.specs.declared.machine.Transition.TheVariants.{Done}
 use Rattle.cedar_expressions.specs.View.{view}
 use Rattle.cedar_values.specs.Residuals.{partial_view}
 use Rattle.cedar_partial_operators.specs.Connectives.{deciding, neutral}

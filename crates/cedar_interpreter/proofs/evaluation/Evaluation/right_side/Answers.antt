@@ -1,7 +1,7 @@
 use Rattle.std.proofs.Common.{◌≡◌, ap, ◌∙◌, subst, Ok}
 use Rattle.cedar_model.specs.Terms.{bool_literal, literal}
 use Rattle.cedar_model.specs.Failures.{answers}
-use Rattle.cedar_frames.specs.declared.machine.Step.TheVariants.{Done}
+use Rattle.cedar_frames.specs.declared.machine.Transition.TheVariants.{Done}
 use Rattle.cedar_expressions.specs.View.{view}
 use Rattle.cedar_interpreter.specs.declared.frame.Pending.TheVariants as pendings
 use Rattle.cedar_interpreter.proofs.DirectLaws.{literal_right}

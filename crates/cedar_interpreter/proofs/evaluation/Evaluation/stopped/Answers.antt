@@ -1,6 +1,6 @@
 use Rattle.std.proofs.Common.{sym, subst, Err}
 use Rattle.cedar_model.specs.Failures.{fails}
-use Rattle.cedar_frames.specs.declared.machine.Step.TheVariants.{Done}
+use Rattle.cedar_frames.specs.declared.machine.Transition.TheVariants.{Done}
 use Rattle.cedar_interpreter.specs.declared.stopped.Stopped.TheVariants as stops
 use Rattle.cedar_interpreter.specs.Endings.{stopped_failure}
 use Rattle.cedar_interpreter.specs.Elements.{TaskContinues}

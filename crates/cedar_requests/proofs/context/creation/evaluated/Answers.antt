@@ -4,7 +4,7 @@ use Rattle.cedar_model.specs.Rules.{Meets}
 use Rattle.cedar_values.specs.Residuals.{partial_view}
 use Rattle.cedar_errors.specs.Failures.{failure_of}
 use Rattle.cedar_extensions.specs.Extensions.{extensions_view, calls_of}
-use Rattle.cedar_restricted_evaluator.specs.Evaluations.{bare, IsBare, IsAnswerWithin}
+use Rattle.cedar_restricted_evaluator.specs.Evaluations.{bare_setting, IsBare, IsAnswerWithin}
 use Rattle.cedar_restricted_expressions.specs.Views.{borrowed_term}
 use Rattle.cedar_requests.specs.Contexts.{context_part_value}
 use Rattle.cedar_requests.proofs.Creations.{bare-is_bare, same_answer}
@@ -18,8 +18,8 @@ pub of_part-requires-clause-record : goal.of_part-requires-clause-record
 of_part-requires-clause-record g c =
     let stored = c.new-evaluator.result.extensions.now in
     let x = extensions_view stored in
-    record_part (bare x) (calls_of stored) c.new-evaluator.result.limit (borrowed_term c.args.expr)
-    (partial_view c.in-Ok.part) c.requires (c.in-Ok.ensures.answer (bare x) (bare-is_bare x) (no_want _)).runs
+    record_part (bare_setting x) (calls_of stored) c.new-evaluator.result.limit (borrowed_term c.args.expr)
+    (partial_view c.in-Ok.part) c.requires (c.in-Ok.ensures.answer (bare_setting x) (bare-is_bare x) (no_want _)).runs
 
 pub returns-in-Ok-of_part-clause-answer : goal.returns-in-Ok-of_part-clause-answer
 returns-in-Ok-of_part-clause-answer g c = λ s is_bare want.

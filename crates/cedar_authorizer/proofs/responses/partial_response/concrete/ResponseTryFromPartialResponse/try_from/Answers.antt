@@ -1,7 +1,5 @@
 use Rattle.std.proofs.Common.{Result, Ok, Err, IfOk}
-use Rattle.cedar_authorizer.specs.declared.responses.partial_response.PartialResponse.{PartialResponse}
-use Rattle.cedar_authorizer.specs.declared.responses.response.Response.{Response}
-use Rattle.cedar_authorizer.specs.responses.Concrete.{concrete_response, concrete_places, IsConcreteOf}
+use Rattle.cedar_authorizer.specs.responses.Concrete.{IsConcreteOf}
 use Rattle.cedar_authorizer.proofs.responses.partial_response.concrete.ResponseTryFromPartialResponse.try_from.Goals as goal
 
 if_all : {A E : Type 0} (r : Result A E) (P Q R S T : A → Type 0) → ((x : A) → P x → Q x → R x → S x → T x)
