@@ -9,7 +9,6 @@
 #![tactic(auto)]
 
 mod expressions;
-mod parts;
 mod policies;
 
 pub use expressions::{

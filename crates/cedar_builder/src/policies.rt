@@ -13,10 +13,10 @@ mod annotations;
 mod scopes;
 
 use crate::expressions::ExprBuilder;
-use crate::parts::together;
 use cedar_expressions::Expr;
 use cedar_layers::policies::{Annotations, Effect, Policy, PolicyID};
 use cedar_names::{Literal, SlotEnv};
+use cedar_results::pair_of;
 use std::alloc::{AllocError, Global};
 use std::marker::Model;
 use std::rc::RcStr;
@@ -175,7 +175,7 @@ fn with_condition(
 ) -> Result<PolicyParts, AllocError>
     ensures { SaysIn result (of_two with_clause (said_in parts) (term_in clause)) }
 {
-    let (parts, clause) = together(parts, clause)?;
+    let (parts, clause) = pair_of(parts, clause)?;
     let PolicyParts {
         effect,
         id,

@@ -1,5 +1,5 @@
 //! Stores whose ancestors are closed under "parent of".
-ghost use Rattle.std.specs.Prelude.{◌≡◌, ◌↔◌, true, [], ◌∷◌, ◌++◌, IfOk, OnOk, IfErr};
+ghost use Rattle.std.specs.Prelude.{◌≡◌, ◌↔◌, true, IfOk, OnOk, IfErr};
 ghost use Rattle.std.specs.List.{AllZip};
 ghost use Rattle.cedar_model.specs.Terms.{EntityName};
 ghost use Rattle.cedar_model.specs.Settings.{is_among};
@@ -12,7 +12,8 @@ use crate::error::ClosureError;
 use crate::parents::{ParentMap, copied, recorded_parents};
 use crate::walk::led_to;
 use cedar_layers::policies::{Entities, Entity};
-use std::alloc::{AllocError, Global};
+use cedar_results::add_last;
+use std::alloc::Global;
 
 /// The store of these entities, whose recorded ancestors are taken to be their parents: in the store, each records all that
 /// parents lead to in one step or more. Apart from its ancestors each entity is the one that was handed in, its uid, attributes
@@ -60,12 +61,4 @@ fn closed_entity(alloc: Global, parents: &ParentMap, entity: Entity) -> Result<E
         return Err(ClosureError::Cycle(copied(entity.uid())?));
     }
     Ok(entity.with_ancestors(ancestors))
-}
-
-// Puts the value behind the others.
-fn add_last<T: Drop>(values: &mut Vec<T>, value: T) -> Result<(), AllocError>
-    ensures { OnOk result (values.new.items ≡ values.old.items ++ value ∷ []) }
-{
-    values.push(value)?;
-    Ok(())
 }

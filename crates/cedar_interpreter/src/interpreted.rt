@@ -15,7 +15,6 @@ use crate::frame::Frame;
 use cedar_errors::evaluator::err::EvaluationError;
 use cedar_expressions::Expr;
 use cedar_frames::{Stack, interpret_on};
-use cedar_names::Loc;
 use cedar_values::PartialValue;
 use std::alloc::{AllocError, Global};
 use std::rc::Rc;
@@ -78,19 +77,5 @@ fn copied(alloc: Global, e: &Expr) -> Result<Rc<Expr>, AllocError>
 fn within(frames: &[Frame], error: EvaluationError) -> EvaluationError
     ensures { failure_of result ≡ failure_of error }
 {
-    if error.source_loc().is_none() {
-        error.with_maybe_source_loc(last_loc(frames))
-    } else {
-        error
-    }
-}
-
-fn last_loc(frames: &[Frame]) -> Option<Loc> {
-    for frame in frames.iter().rev() {
-        let loc = loc_of(&frame.whole);
-        if loc.is_some() {
-            return loc;
-        }
-    }
-    None
+    error.with_enclosing_loc(frames.iter().rev().find_map(|frame| loc_of(&frame.whole)))
 }

@@ -5,7 +5,7 @@ ghost use Rattle.cedar_names.specs.Names.{name_text, name_loc, type_text, type_n
 ghost use Rattle.cedar_names.specs.Names.{type_loc, uid_name, uid_type, uid_loc};
 
 mod parts;
-mod texts;
+pub(crate) mod texts;
 
 use std::alloc::{AllocError, Global};
 use std::collections::HashMap;

@@ -1,5 +1,5 @@
 //! Residuals: an operator around what is not known. None stands at a location.
-ghost use Rattle.std.specs.Prelude.{◌≡◌, ◌∷◌, ◌++◌, Ok, IfOk};
+ghost use Rattle.std.specs.Prelude.{◌≡◌, ◌∷◌, ◌++◌, IfOk};
 ghost use Rattle.std.specs.Rc.{rc_str_bytes};
 ghost use Rattle.cedar_model.specs.Terms.{binary, get_attribute, has_attribute, extended_has};
 ghost use Rattle.cedar_model.specs.Failures.{answers_residual};
@@ -11,6 +11,7 @@ ghost use Rattle.cedar_errors.specs.Answers.{AnswersWith};
 
 use cedar_errors::evaluator::err::EvaluationError;
 use cedar_layers::expressions::{BinaryOp, Expr, FirstRest, PartialValue, ResidualExpr, Unknown};
+use cedar_results::beside;
 use std::alloc::{AllocError, Global};
 use std::rc::RcStr;
 
@@ -58,18 +59,6 @@ pub fn residual_has(
     let (part, attr) = beside(part, attr.clone())?;
     let expr = Expr::has_attr(alloc, part.into_expr(), attr)?;
     Ok(PartialValue::Residual(ResidualExpr::new(expr)))
-}
-
-/// What is held, and the answer beside it. Refuses only where that is refused.
-pub fn beside<H: Drop, T: Drop>(
-    held: H,
-    answer: Result<T, AllocError>,
-) -> Result<(H, T), AllocError>
-    ensures held { IfOk result (λ p. p.0 ≡ held) }
-    ensures answer { IfOk result (λ p. answer ≡ Ok p.1) }
-{
-    let answer = answer?;
-    Ok((held, answer))
 }
 
 /// `part has first.other..`, at no location. Refuses only for want of memory.

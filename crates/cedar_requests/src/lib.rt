@@ -1,7 +1,6 @@
 //! Requests: who asks to do what with what, and in which context.
 #![tactic(auto)]
 
-mod beside;
 mod context;
 mod entry;
 mod errors;

@@ -13,6 +13,7 @@ ghost use Rattle.cedar_requests.specs.Requests.{context_given, annotated_entity_
 
 use crate::context::Context;
 use cedar_expressions::Expr;
+use cedar_names::shared::variable_text;
 use cedar_names::{EntityType, EntityUID, Literal, Loc, Type, Unknown, Var};
 use cedar_values::{PartialValue, ResidualExpr, Value, ValueKind};
 use std::alloc::{AllocError, Global};
@@ -76,17 +77,5 @@ fn unknown_of(name: RcStr, ty: Option<EntityType>) -> Unknown
     match ty {
         Some(ty) => Unknown::new_with_type(name, Type::Entity { ty }),
         None => Unknown::new_untyped(name),
-    }
-}
-
-// The variable's name.
-fn variable_text(var: Var) -> &'static str
-    ensures { result.now ≡ variable_text (variable_view var) }
-{
-    match var {
-        Var::Principal => "principal",
-        Var::Action => "action",
-        Var::Resource => "resource",
-        Var::Context => "context",
     }
 }

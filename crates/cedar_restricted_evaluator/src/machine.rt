@@ -121,11 +121,5 @@ impl<'x, 'f> Restricted<'x, 'f> {
 
 // The location of the last frame that has one.
 fn last_loc(frames: &[PartsFrame]) -> Option<Loc> {
-    for frame in frames.iter().rev() {
-        let loc = frame.loc();
-        if loc.is_some() {
-            return loc;
-        }
-    }
-    None
+    frames.iter().rev().find_map(PartsFrame::loc)
 }

@@ -76,7 +76,7 @@ impl<'x, 'f> Restricted<'x, 'f> {
         ensures { (k : ℕ) → Leads (extensions_view self.now.extensions.now)
             (calls_of self.now.extensions.now) k e.now result }
     {
-        Transition::Done(literal_value(value, e.source_loc().copied()))
+        Transition::Done(literal_part(value, e.source_loc().copied()))
     }
 
     fn unknown_left(&self, e: &Expr, unknown: &Unknown) -> NextPart
@@ -137,8 +137,8 @@ impl<'x, 'f> Restricted<'x, 'f> {
     }
 }
 
-// The value of the literal, at this location.
-fn literal_value(literal: &Literal, loc: Option<Loc>) -> Result<PartialValue, EvaluationError>
+// The value of the literal, as a part, at this location.
+fn literal_part(literal: &Literal, loc: Option<Loc>) -> Result<PartialValue, EvaluationError>
     ensures answer { AnswersWith result (answers (value (plain_represented (literal_view literal.now)))) }
     ensures place { IfOk result (λ p. partial_loc p ≡ loc) }
 {

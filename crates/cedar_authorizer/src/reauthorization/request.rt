@@ -21,6 +21,7 @@ mod refusals;
 use crate::reauthorization::err::ConcretizationError;
 use cedar_extensions::Extensions;
 use cedar_names::Var;
+use cedar_names::shared::variable_text;
 use cedar_requests::{EntityUIDEntry, Request};
 use cedar_values::Value;
 use context::{mapped_context, with_values};
@@ -170,16 +171,4 @@ fn value_for<'m>(map: &'m HashMap<RcStr, Value>, var: Var) -> Option<&'m Value>
         ≡ values_for map.now.entries (variable_text (variable_view var)) }
 {
     map.get(variable_text(var))
-}
-
-// The variable's name.
-fn variable_text(var: Var) -> &'static str
-    ensures { result.now ≡ variable_text (variable_view var) }
-{
-    match var {
-        Var::Principal => "principal",
-        Var::Action => "action",
-        Var::Resource => "resource",
-        Var::Context => "context",
-    }
 }

@@ -15,12 +15,12 @@ mod ids;
 mod made;
 mod policies;
 
-use crate::responses::beside::beside;
 use crate::responses::err::AuthorizationError;
 use cedar_decisions::{Decision, ErrorHandling, decide, decide_concretely};
 use cedar_expressions::Expr;
 use cedar_layers::policies::{Annotations, PolicyID};
 use cedar_requests::Request;
+use cedar_results::beside;
 pub use ids::ReportedIds;
 use indexmap::IndexMap;
 pub use policies::ReportedPolicies;

@@ -8,13 +8,13 @@ ghost use Rattle.cedar_errors.specs.Failures.{failure_of};
 ghost use Rattle.cedar_authorizer.specs.responses.Rows.{located};
 ghost use Rattle.cedar_authorizer.specs.responses.Sheets.{sheet_view, nothing_noted, noted_also, noting};
 
-use crate::responses::beside::{add_last, beside};
 use crate::responses::err::AuthorizationError;
 use crate::responses::partial_response::ErrorState;
 use cedar_decisions::ErrorHandling;
 use cedar_errors::evaluator::err::EvaluationError;
 use cedar_expressions::Expr;
 use cedar_layers::policies::{Annotations, Effect, Policy, PolicyID};
+use cedar_results::{add_last, beside};
 use std::alloc::{AllocError, Global};
 use std::rc::Rc;
 

@@ -9,9 +9,9 @@ ghost use Rattle.cedar_builder.specs.Building.{Builds, BuildsField, Makes, under
 ghost use Rattle.cedar_builder.specs.Building.{set_term, record_term, call_term};
 
 use super::ExprBuilder;
-use crate::parts::together;
 use cedar_expressions::Expr;
 use cedar_names::Name;
+use cedar_results::pair_of;
 use std::alloc::{AllocError, Global};
 use std::collections::BTreeMap;
 use std::marker::Model;
@@ -73,7 +73,7 @@ fn keyed(
     ensures { IfOk result (λ p.
         option_map (under key.now) (term_in part) ≡ Some (under (rc_str_bytes p.0) (view p.1))) }
 {
-    let (key, part) = together(RcStr::from_str(alloc, key), part)?;
+    let (key, part) = pair_of(RcStr::from_str(alloc, key), part)?;
     Ok((key, part))
 }
 
@@ -114,7 +114,7 @@ fn call_of_parts<const N: usize>(
 ) -> Result<Expr, AllocError>
     ensures { Makes result (option_map (call_term name.now) (terms_of_all args.entry)) }
 {
-    let (args, name) = together(parts_of(alloc, args), RcStr::from_str(alloc, name))?;
+    let (args, name) = pair_of(parts_of(alloc, args), RcStr::from_str(alloc, name))?;
     let made = Expr::call_extension_fn(alloc, Name::new(name, None), args)?;
     Ok(made)
 }

@@ -14,9 +14,9 @@ ghost use Rattle.cedar_expressions.specs.View.{view};
 ghost use Rattle.cedar_builder.specs.Building.{term_of, term_in, of_two, of_three, is_of_type_in, Builds, Makes};
 
 use super::ExprBuilder;
-use crate::parts::together;
 use cedar_expressions::Expr;
 use cedar_names::{BinaryOp, EntityType, FirstRest, Name, UnaryOp};
+use cedar_results::pair_of;
 use std::alloc::{AllocError, Global};
 use std::rc::RcStr;
 
@@ -283,7 +283,7 @@ fn binary_of(
 ) -> Result<Expr, AllocError>
     ensures { Makes result (of_two (binary (binary_view op)) (term_in left) (term_in right)) }
 {
-    let (left, right) = together(left, right)?;
+    let (left, right) = pair_of(left, right)?;
     let made = Expr::binary_app(alloc, op, left, right)?;
     Ok(made)
 }
@@ -295,7 +295,7 @@ fn both_of(
 ) -> Result<Expr, AllocError>
     ensures { Makes result (of_two both (term_in left) (term_in right)) }
 {
-    let (left, right) = together(left, right)?;
+    let (left, right) = pair_of(left, right)?;
     let made = Expr::and(alloc, left, right)?;
     Ok(made)
 }
@@ -307,7 +307,7 @@ fn either_of(
 ) -> Result<Expr, AllocError>
     ensures { Makes result (of_two either (term_in left) (term_in right)) }
 {
-    let (left, right) = together(left, right)?;
+    let (left, right) = pair_of(left, right)?;
     let made = Expr::or(alloc, left, right)?;
     Ok(made)
 }
@@ -320,7 +320,7 @@ fn conditional_of(
 ) -> Result<Expr, AllocError>
     ensures { Makes result (of_three if_then_else (term_in test_expr) (term_in then_expr) (term_in else_expr)) }
 {
-    let (test_expr, branches) = together(test_expr, together(then_expr, else_expr))?;
+    let (test_expr, branches) = pair_of(test_expr, pair_of(then_expr, else_expr))?;
     let (then_expr, else_expr) = branches;
     let made = Expr::ite(alloc, test_expr, then_expr, else_expr)?;
     Ok(made)
@@ -333,7 +333,7 @@ fn attribute_of(
 ) -> Result<Expr, AllocError>
     ensures { Makes result (option_map (λ t. get_attribute t attr.now) (term_in part)) }
 {
-    let (part, attr) = together(part, RcStr::from_str(alloc, attr))?;
+    let (part, attr) = pair_of(part, RcStr::from_str(alloc, attr))?;
     let made = Expr::get_attr(alloc, part, attr)?;
     Ok(made)
 }
@@ -345,7 +345,7 @@ fn has_attribute_of(
 ) -> Result<Expr, AllocError>
     ensures { Makes result (option_map (λ t. has_attribute t attr.now) (term_in part)) }
 {
-    let (part, attr) = together(part, RcStr::from_str(alloc, attr))?;
+    let (part, attr) = pair_of(part, RcStr::from_str(alloc, attr))?;
     let made = Expr::has_attr(alloc, part, attr)?;
     Ok(made)
 }
@@ -358,7 +358,7 @@ fn extended_has_attribute_of(
 ) -> Result<Expr, AllocError>
     ensures { Makes result (option_map (λ t. extended_has t attr.now (map (λ a. a.now) more.now)) (term_in part)) }
 {
-    let (part, attrs) = together(part, path_of(alloc, attr, more))?;
+    let (part, attrs) = pair_of(part, path_of(alloc, attr, more))?;
     let made = Expr::extended_has_attr(alloc, part, attrs)?;
     Ok(made)
 }
@@ -368,7 +368,7 @@ fn path_of(alloc: Global, attr: &str, more: &[&str]) -> Result<FirstRest<RcStr>,
     ensures first { IfOk result (λ p. rc_str_bytes p.first ≡ attr.now) }
     ensures rest { IfOk result (λ p. texts_view p.rest.items ≡ map (λ a. a.now) more.now) }
 {
-    let (first, rest) = together(RcStr::from_str(alloc, attr), texts_of(alloc, more))?;
+    let (first, rest) = pair_of(RcStr::from_str(alloc, attr), texts_of(alloc, more))?;
     Ok(FirstRest { first, rest })
 }
 
@@ -395,7 +395,7 @@ fn put_text(alloc: Global, made: &mut Vec<RcStr>, text: &str) -> Result<(), Allo
 fn of_type(alloc: Global, part: Result<Expr, AllocError>, ty: &str) -> Result<Expr, AllocError>
     ensures { Makes result (option_map (λ t. is_of_type t ty.now) (term_in part)) }
 {
-    let (part, name) = together(part, RcStr::from_str(alloc, ty))?;
+    let (part, name) = pair_of(part, RcStr::from_str(alloc, ty))?;
     let made = Expr::is_entity_type(alloc, part, EntityType::new(Name::new(name, None)))?;
     Ok(made)
 }
@@ -421,5 +421,5 @@ fn twice(part: Result<Expr, AllocError>) -> Result<(Expr, Expr), AllocError>
 {
     let part = part?;
     let copy: Result<Expr, AllocError> = part.clone();
-    together(Ok(part), copy)
+    pair_of(Ok(part), copy)
 }

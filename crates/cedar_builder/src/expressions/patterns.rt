@@ -8,9 +8,9 @@ ghost use Rattle.cedar_builder.specs.Building.{term_of, term_in, Builds, Makes};
 ghost use Rattle.cedar_builder.specs.Patterns.{pattern_behind, pattern_said};
 
 use super::ExprBuilder;
-use crate::parts::together;
 use cedar_expressions::Expr;
 use cedar_names::{Pattern, PatternElem};
+use cedar_results::pair_of;
 use std::alloc::{AllocError, Global};
 
 impl ExprBuilder {
@@ -30,7 +30,7 @@ impl ExprBuilder {
 fn like_of(alloc: Global, part: Result<Expr, AllocError>, pattern: &str) -> Result<Expr, AllocError>
     ensures { Makes result (option_map (λ t. like t (pattern_said (chars pattern.now))) (term_in part)) }
 {
-    let (part, elems) = together(part, elems_of(alloc, pattern))?;
+    let (part, elems) = pair_of(part, elems_of(alloc, pattern))?;
     let made = Expr::like(alloc, part, Pattern::new(elems))?;
     Ok(made)
 }

@@ -8,8 +8,8 @@ ghost use Rattle.cedar_layers.specs.Policies.{annotations_view};
 ghost use Rattle.cedar_builder.specs.Saying.{said, said_in, Says, SaysIn, put_text, with_annotation};
 
 use super::{PolicyBuilder, PolicyParts};
-use crate::parts::together;
 use cedar_layers::policies::Annotations;
+use cedar_results::pair_of;
 use std::alloc::{AllocError, Global};
 use std::collections::BTreeMap;
 use std::rc::RcStr;
@@ -36,8 +36,8 @@ fn annotated(
 ) -> Result<PolicyParts, AllocError>
     ensures { SaysIn result (option_map (with_annotation key.now value.now) (said_in parts)) }
 {
-    let texts = together(RcStr::from_str(alloc, key), RcStr::from_str(alloc, value));
-    let (parts, texts) = together(parts, texts)?;
+    let texts = pair_of(RcStr::from_str(alloc, key), RcStr::from_str(alloc, value));
+    let (parts, texts) = pair_of(parts, texts)?;
     let (key, value) = texts;
     let PolicyParts {
         effect,

@@ -10,9 +10,9 @@ mod constraints;
 
 use super::{PolicyBuilder, PolicyParts};
 use crate::expressions::ExprBuilder;
-use crate::parts::together;
 use cedar_expressions::Expr;
 use cedar_names::{BinaryOp, Var};
+use cedar_results::pair_of;
 use constraints::{compared, typed, typed_in};
 use std::alloc::AllocError;
 
@@ -148,7 +148,7 @@ fn principal_constrained(
 ) -> Result<PolicyParts, AllocError>
     ensures { SaysIn result (of_two with_principal (said_in parts) (term_in constraint)) }
 {
-    let (parts, constraint) = together(parts, constraint)?;
+    let (parts, constraint) = pair_of(parts, constraint)?;
     let PolicyParts {
         effect,
         id,
@@ -175,7 +175,7 @@ fn action_constrained(
 ) -> Result<PolicyParts, AllocError>
     ensures { SaysIn result (of_two with_action (said_in parts) (term_in constraint)) }
 {
-    let (parts, constraint) = together(parts, constraint)?;
+    let (parts, constraint) = pair_of(parts, constraint)?;
     let PolicyParts {
         effect,
         id,
@@ -202,7 +202,7 @@ fn resource_constrained(
 ) -> Result<PolicyParts, AllocError>
     ensures { SaysIn result (of_two with_resource (said_in parts) (term_in constraint)) }
 {
-    let (parts, constraint) = together(parts, constraint)?;
+    let (parts, constraint) = pair_of(parts, constraint)?;
     let PolicyParts {
         effect,
         id,

@@ -1,5 +1,5 @@
 //! How names print.
-ghost use Rattle.std.specs.Prelude.{Some};
+ghost use Rattle.std.specs.Prelude.{◌≡◌, Some};
 ghost use Rattle.cedar_names.specs.Names.{name_text, type_text, uid_name};
 ghost use Rattle.cedar_names.specs.Leaves.{slot_view, variable_view};
 ghost use Rattle.cedar_names.specs.Texts.{entity_text, slot_text, variable_text};
@@ -54,11 +54,18 @@ impl fmt::Display for Var {
     ghost output = { λ var. Some (variable_text (variable_view var)) };
 
     fn fmt<W: fmt::Write>(&self, f: &mut fmt::Formatter<W>) -> fmt::Result {
-        match self {
-            Var::Principal => f.write_str("principal"),
-            Var::Action => f.write_str("action"),
-            Var::Resource => f.write_str("resource"),
-            Var::Context => f.write_str("context"),
-        }
+        f.write_str(variable_text(*self))
+    }
+}
+
+/// The variable's name, in lower case.
+pub fn variable_text(var: Var) -> &'static str
+    ensures { result.now ≡ variable_text (variable_view var) }
+{
+    match var {
+        Var::Principal => "principal",
+        Var::Action => "action",
+        Var::Resource => "resource",
+        Var::Context => "context",
     }
 }

@@ -1,5 +1,5 @@
 //! Operators on two parts.
-ghost use Rattle.std.specs.Prelude.{◌≡◌, ◌||◌, true, Ok, IfOk};
+ghost use Rattle.std.specs.Prelude.{◌≡◌, ◌||◌, true, IfOk};
 ghost use Rattle.cedar_model.specs.Terms.{binary};
 ghost use Rattle.cedar_model.specs.Failures.{part_expression, answers_residual};
 ghost use Rattle.cedar_model.specs.Settings.{Setting};
@@ -21,6 +21,7 @@ use cedar_errors::evaluator::err::EvaluationError;
 use cedar_extensions::Extensions;
 use cedar_layers::expressions::{BinaryOp, Expr, Loc, PartialValue, ResidualExpr};
 use cedar_layers::policies::Entities;
+use cedar_results::pair_of;
 use std::alloc::{AllocError, Global};
 
 /// An operator on two parts: of two values as `binary_app` answers; where one is a residual, the operator around both
@@ -109,19 +110,6 @@ fn residual_binary(
 {
     let expr = Expr::binary_app(alloc, op, first, second)?;
     Ok(PartialValue::Residual(ResidualExpr::new(expr)))
-}
-
-// Both, or the first error.
-fn pair_of<A: Drop, B: Drop>(
-    first: Result<A, AllocError>,
-    second: Result<B, AllocError>,
-) -> Result<(A, B), AllocError>
-    ensures first { IfOk result (λ p. first ≡ Ok p.0) }
-    ensures second { IfOk result (λ p. second ≡ Ok p.1) }
-{
-    let first = first?;
-    let second = second?;
-    Ok((first, second))
 }
 
 // Whether `==` is false by the types of the parts.

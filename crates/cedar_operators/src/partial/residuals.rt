@@ -6,9 +6,9 @@ ghost use Rattle.cedar_names.specs.Leaves.{unary_view, pattern_view};
 ghost use Rattle.cedar_values.specs.Residuals.{residual_term};
 ghost use Rattle.cedar_errors.specs.Answers.{AnswersWith};
 
-use crate::residuals::beside;
 use cedar_errors::evaluator::err::EvaluationError;
 use cedar_layers::expressions::{EntityType, Expr, PartialValue, Pattern, ResidualExpr, UnaryOp};
+use cedar_results::beside;
 use std::alloc::Global;
 
 // The operator on the residual.

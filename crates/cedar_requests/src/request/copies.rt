@@ -3,9 +3,9 @@ ghost use Rattle.std.specs.Prelude.{◌≡◌, IfOk};
 ghost use Rattle.cedar_requests.specs.Requests.{entry_view, entry_loc, context_given, given_locs};
 
 use super::Request;
-use crate::beside::beside;
 use crate::context::Context;
 use crate::entry::EntityUIDEntry;
+use cedar_results::beside;
 use std::alloc::AllocError;
 
 impl Clone for Request {

@@ -1,5 +1,5 @@
 //! What the variables of a request answer.
-ghost use Rattle.std.specs.Prelude.{◌≡◌, Ok, IfOk};
+ghost use Rattle.std.specs.Prelude.{◌≡◌, IfOk};
 ghost use Rattle.cedar_model.specs.Terms.{principal, action, resource, context};
 ghost use Rattle.cedar_model.specs.Settings.{variable_part};
 ghost use Rattle.cedar_values.specs.Residuals.{partial_view};
@@ -9,6 +9,7 @@ ghost use Rattle.cedar_requests.specs.Requests.{answer_annotations, variable_ann
 use super::Request;
 use crate::variables::context_part;
 use cedar_names::Var;
+use cedar_results::all_four;
 use cedar_values::PartialValue;
 use std::alloc::{AllocError, Global};
 
@@ -29,7 +30,7 @@ impl Request {
         ensures annotations { IfOk result (λ p. answer_annotations p ≡ variable_annotations self) }
     {
         let (principal, action, resource, context) = self.into_parts();
-        let (principal, action, resource, context) = all(
+        let (principal, action, resource, context) = all_four(
             principal.into_part(alloc, Var::Principal),
             action.into_part(alloc, Var::Action),
             resource.into_part(alloc, Var::Resource),
@@ -37,23 +38,4 @@ impl Request {
         )?;
         Ok((principal, action, resource, context))
     }
-}
-
-// All four, or the first error.
-fn all<T: Drop>(
-    first: Result<T, AllocError>,
-    second: Result<T, AllocError>,
-    third: Result<T, AllocError>,
-    fourth: Result<T, AllocError>,
-) -> Result<(T, T, T, T), AllocError>
-    ensures first { IfOk result (λ p. first ≡ Ok p.0) }
-    ensures second { IfOk result (λ p. second ≡ Ok p.1) }
-    ensures third { IfOk result (λ p. third ≡ Ok p.2) }
-    ensures fourth { IfOk result (λ p. fourth ≡ Ok p.3) }
-{
-    let first = first?;
-    let second = second?;
-    let third = third?;
-    let fourth = fourth?;
-    Ok((first, second, third, fourth))
 }

@@ -7,8 +7,8 @@ ghost use Rattle.cedar_names.specs.Texts.{variable_text};
 ghost use Rattle.cedar_values.specs.Residuals.{partial_view};
 ghost use Rattle.cedar_authorizer.specs.reauthorization.Errors.{refusal_of};
 
-use super::variable_text;
 use crate::reauthorization::err::ConcretizationError;
+use cedar_names::shared::variable_text;
 use cedar_names::{EntityType, Var};
 use cedar_values::{PartialValue, Value};
 use std::alloc::{AllocError, Global};

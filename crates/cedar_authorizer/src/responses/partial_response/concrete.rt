@@ -15,7 +15,6 @@ ghost use Rattle.cedar_authorizer.specs.responses.Concrete.{id_texts, reason_tex
 ghost use Rattle.cedar_authorizer.specs.responses.Readers.{entry_ids};
 
 use super::PartialResponse;
-use crate::responses::beside::{add_last, beside, pair_of};
 use crate::responses::err::AuthorizationError;
 use crate::responses::response::{Diagnostics, Response};
 use cedar_decisions::ErrorHandling;
@@ -23,6 +22,7 @@ use cedar_errors::evaluator::err::EvaluationError;
 use cedar_errors::evaluator::err::evaluation_errors::NonValueError;
 use cedar_expressions::Expr;
 use cedar_layers::policies::{Annotations, PolicyID};
+use cedar_results::{add_last, beside, pair_of};
 use indexmap::IndexMap;
 use std::alloc::{AllocError, Global};
 use std::collections::HashSet;

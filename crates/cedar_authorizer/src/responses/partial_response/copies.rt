@@ -5,10 +5,10 @@ ghost use Rattle.cedar_authorizer.specs.responses.Copies.{AreSameResidual};
 ghost use Rattle.cedar_authorizer.specs.responses.Responses.{errors_view, error_places};
 
 use super::{EffectEntries, ErrorState, PartialResponse};
-use crate::responses::beside::all_four;
 use crate::responses::err::AuthorizationError;
 use cedar_expressions::Expr;
 use cedar_layers::policies::{Annotations, PolicyID};
+use cedar_results::all_four;
 use indexmap::IndexMap;
 use std::alloc::AllocError;
 use std::rc::Rc;

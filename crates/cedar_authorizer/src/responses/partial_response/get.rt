@@ -3,13 +3,13 @@ ghost use Rattle.std.specs.Prelude.{◌≡◌, ◌++◌, IfOk};
 ghost use Rattle.cedar_model.specs.Policies.{permit, forbid};
 ghost use Rattle.cedar_model.specs.Reports as reports;
 ghost use Rattle.cedar_layers.specs.Policies.{effect_view, policy_id_text};
+ghost use Rattle.cedar_authorizer.specs.responses.Found.{as_found};
 ghost use Rattle.cedar_authorizer.specs.responses.Rows.{located_view, rows_view, true_rows, false_rows, residual_rows};
 ghost use Rattle.cedar_authorizer.specs.responses.Readers.{found_policy, IsPolicyFound, first_at, in_order_of_get};
 ghost use Rattle.cedar_authorizer.specs.responses.Readers.{located_at};
 
 use super::made::{policy_of_residual, policy_of_truth};
 use super::{ErrorState, PartialResponse};
-use crate::responses::beside::found;
 use cedar_expressions::Expr;
 use cedar_layers::policies::{Annotations, Effect, Policy, PolicyID};
 use indexmap::IndexMap;
@@ -83,4 +83,14 @@ fn get_of(
         return found(policy_of_truth(alloc, effect, false, id, &entry.1));
     }
     Ok(None)
+}
+
+// What was made, as what is found.
+fn found<T: Drop>(made: Result<T, AllocError>) -> Result<Option<T>, AllocError>
+    ensures { result ≡ as_found made }
+{
+    match made {
+        Ok(made) => Ok(Some(made)),
+        Err(refused) => Err(refused),
+    }
 }

@@ -5,10 +5,10 @@ ghost use Rattle.cedar_expressions.specs.View.{view, expr_loc};
 ghost use Rattle.cedar_layers.specs.Policies.{effect_view, policy_id_text, annotations_view, policy_parts};
 ghost use Rattle.cedar_authorizer.specs.responses.Readers.{made_view, made};
 
-use crate::responses::beside::{in_rc, pair_of};
 use cedar_expressions::Expr;
 use cedar_layers::policies::{Annotations, Effect, Policy, PolicyID};
 use cedar_names::Literal;
+use cedar_results::{in_rc, pair_of};
 use std::alloc::{AllocError, Global};
 use std::rc::Rc;
 

@@ -5,9 +5,9 @@ ghost use Rattle.cedar_model.specs.Terms.{binary, variable, is_of_type, in_opera
 ghost use Rattle.cedar_names.specs.Leaves.{variable_view, binary_view};
 ghost use Rattle.cedar_builder.specs.Building.{term_in, is_of_type_in, Makes};
 
-use crate::parts::together;
 use cedar_expressions::Expr;
 use cedar_names::{BinaryOp, EntityType, Name, Var};
+use cedar_results::pair_of;
 use std::alloc::{AllocError, Global};
 use std::rc::RcStr;
 
@@ -45,7 +45,7 @@ pub(crate) fn typed_in(
     ensures { Makes result (option_map (is_of_type_in ty.now (variable (variable_view var))) (term_in other)) }
 {
     let is_in = compared(alloc, var, BinaryOp::In, other);
-    let (is, is_in) = together(typed(alloc, var, ty), is_in)?;
+    let (is, is_in) = pair_of(typed(alloc, var, ty), is_in)?;
     let made = Expr::and(alloc, is, is_in)?;
     Ok(made)
 }
