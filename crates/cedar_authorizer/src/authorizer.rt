@@ -71,8 +71,8 @@ pub struct EvaluationResponse {
     pub forbid_residuals: PolicySet,
 }
 
-/// Decides requests, with these extensions, within so many levels of evaluation, in one of two ways to handle errors and in one of
-/// two to answer what reads a stored residual.
+/// Decides requests, with these extensions, within so many levels of evaluation, in one of two ways to handle errors
+/// and in one of two to answer what reads a stored residual.
 #[derive(Clone, Copy)]
 pub struct Authorizer<'f> {
     extensions: Extensions<'f>,
@@ -90,9 +90,9 @@ impl<'f> Authorizer<'f> {
     ghost use Rattle.cedar_authorizer.specs.Responding.{OwnWorldCompletesCall};
     ghost use Rattle.cedar_authorizer.specs.Headline.{steps_view, IsChain, IsHeadline, LeavesNothing};
 
-    /// The authorizer that uses these extensions, skips errors, and answers stored residuals as they are stored. A condition whose evaluation goes more than `limit` levels deep
-    /// counts as erring, with `RecursionLimit`: an expression is one level and its parts one more, and a part that is not read
-    /// takes none.
+    /// The authorizer that uses these extensions, skips errors, and answers stored residuals as they are stored. A
+    /// condition whose evaluation goes more than `limit` levels deep counts as erring, with `RecursionLimit`: an
+    /// expression is one level and its parts one more, and a part that is not read takes none.
     pub fn new(extensions: &Extensions<'f>, limit: usize) -> Authorizer<'f>
         ensures extensions { extensions_of result ≡ extensions.now }
         ensures limit { limit_of result ≡ limit }
@@ -151,10 +151,11 @@ impl<'f> Authorizer<'f> {
         self.resolution
     }
 
-    /// What the policies decide for the request over this store: a satisfied forbid denies, else a satisfied permit allows, else it
-    /// is denied. A policy that errs is skipped, and its error is recorded; so is one of whose condition something is left, with
-    /// `NonValue`. In `ForbidOnError` a forbid that errs, or of whose condition something is left, denies too. It is what
-    /// `is_authorized_core` answers, made concrete. Refuses only for want of memory.
+    /// What the policies decide for the request over this store: a satisfied forbid denies, else a satisfied permit
+    /// allows, else it is denied. A policy that errs is skipped, and its error is recorded; so is one of whose
+    /// condition something is left, with `NonValue`. In `ForbidOnError` a forbid that errs, or of whose condition
+    /// something is left, denies too. It is what `is_authorized_core` answers, made concrete. Refuses only for want of
+    /// memory.
     pub fn is_authorized(
         &self,
         alloc: Global,
@@ -179,11 +180,11 @@ impl<'f> Authorizer<'f> {
         response.concretize(alloc)
     }
 
-    /// What is known of each policy for the request over this store: whether it is satisfied, or what is left of its condition. A
-    /// policy that errs is false with `ErrorState::Error`, and its error is recorded, the recursion limit included; in
-    /// `ForbidOnError` a forbid that errs is satisfied, and its error recorded. In every completion of the request and the store
-    /// what is reported stands, if no recursion limit is recorded. Where nothing is unknown no residual is left, and the decision
-    /// is given. Refuses only for want of memory.
+    /// What is known of each policy for the request over this store: whether it is satisfied, or what is left of its
+    /// condition. A policy that errs is false with `ErrorState::Error`, and its error is recorded, the recursion limit
+    /// included; in `ForbidOnError` a forbid that errs is satisfied, and its error recorded. In every completion of the
+    /// request and the store what is reported stands, if no recursion limit is recorded. Where nothing is unknown no
+    /// residual is left, and the decision is given. Refuses only for want of memory.
     pub fn is_authorized_core(
         &self,
         alloc: Global,
@@ -208,10 +209,10 @@ impl<'f> Authorizer<'f> {
         response_of(alloc, self.error_handling, sheet, Rc::new(alloc, request)?)
     }
 
-    /// The core call, and then one `reauthorize` a step, each with the step's map of values for unknowns and its store. Where the
-    /// errors of a response hold the recursion limit, that response is the answer, and no step after it is taken: the limit can
-    /// stand for a forbid that errs, which a further step would carry on as false. Refuses as the first step that is refused,
-    /// or for want of memory.
+    /// The core call, and then one `reauthorize` a step, each with the step's map of values for unknowns and its store.
+    /// Where the errors of a response hold the recursion limit, that response is the answer, and no step after it is
+    /// taken: the limit can stand for a forbid that errs, which a further step would carry on as false. Refuses as the
+    /// first step that is refused, or for want of memory.
     #[tactic(auto, using(crate::proofs::Joined::memory_unwrapped))]
     pub fn authorize_in_steps(
         &self,

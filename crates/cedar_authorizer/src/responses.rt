@@ -1,5 +1,5 @@
-//! Responses: what is answered to a request, also where parts of it are unknown. Users name them by `authorizer`; the sheet, which
-//! an authorizer fills policy by policy, they don't need.
+//! Responses: what is answered to a request, also where parts of it are unknown. Users name them by `authorizer`; the
+//! sheet, which an authorizer fills policy by policy, they don't need.
 mod err;
 pub mod laws;
 mod partial_response;

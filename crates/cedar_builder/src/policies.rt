@@ -99,8 +99,8 @@ fn any() -> Expr
 }
 
 impl PolicyBuilder {
-    /// The policy with this clause more: `when { condition }`. Clauses are joined by `&&` in the order in which they are said, the
-    /// first two first.
+    /// The policy with this clause more: `when { condition }`. Clauses are joined by `&&` in the order in which they
+    /// are said, the first two first.
     pub fn when(self, condition: ExprBuilder) -> PolicyBuilder
         ensures { Says result (of_two with_clause (said self) (term_of condition)) }
     {

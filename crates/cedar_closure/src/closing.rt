@@ -15,11 +15,12 @@ use cedar_layers::policies::{Entities, Entity};
 use cedar_results::add_last;
 use std::alloc::Global;
 
-/// The store of these entities, whose recorded ancestors are taken to be their parents: in the store, each records all that
-/// parents lead to in one step or more. Apart from its ancestors each entity is the one that was handed in, its uid, attributes
-/// and tags whole; of those of one uid the last counts, as in `Entities::with`. An entity that is not among them has no
-/// parents. `partial` is as in `Entities::with`. Refuses with `Cycle` where an entity's parents lead back to it, and names one
-/// such entity; else only for want of memory. For each entity the parents of each of its ancestors are looked at once.
+/// The store of these entities, whose recorded ancestors are taken to be their parents: in the store, each records all
+/// that parents lead to in one step or more. Apart from its ancestors each entity is the one that was handed in, its
+/// uid, attributes and tags whole; of those of one uid the last counts, as in `Entities::with`. An entity that is not
+/// among them has no parents. `partial` is as in `Entities::with`. Refuses with `Cycle` where an entity's parents lead
+/// back to it, and names one such entity; else only for want of memory. For each entity the parents of each of its
+/// ancestors are looked at once.
 pub fn closed(alloc: Global, entities: Vec<Entity>, partial: bool) -> Result<Entities, ClosureError>
     ensures entities { IfOk result (λ s. (n : EntityName) →
         AreAlike (last_of_each_name entities.items n) (stored_entity s n)) }

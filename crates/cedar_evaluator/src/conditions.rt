@@ -30,8 +30,8 @@ use either::{Either, Left};
 use std::alloc::Global;
 
 impl<'e, 'f> Evaluator<'e, 'f> {
-    // What the policy's condition decides: by its scope, where that is decided at once, and then by its clause alone; else
-    // by its parts one after another. A scope is decided with four levels, and the condition has one more.
+    // What the policy's condition decides: by its scope, where that is decided at once, and then by its clause alone;
+    // else by its parts one after another. A scope is decided with four levels, and the condition has one more.
     pub(crate) fn decide_condition(
         &self,
         alloc: Global,

@@ -1,5 +1,5 @@
-//! What is evaluated directly, without a turn of the loop: the value of an expression that is low, of operators on literals
-//! and known variables.
+//! What is evaluated directly, without a turn of the loop: the value of an expression that is low, of operators on
+//! literals and known variables.
 ghost use Rattle.std.specs.Prelude.{◌≡◌, ◌≤◌, true, IfSome};
 ghost use Rattle.cedar_model.specs.Failures.{answers_value};
 ghost use Rattle.cedar_model.specs.Values.{plain_represented};

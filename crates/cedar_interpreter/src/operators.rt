@@ -208,8 +208,8 @@ impl<'e, 'g, 'f> Evaluation<'e, 'g, 'f> {
         )
     }
 
-    // Whether there are the attributes, one in the other. With deep resolution a stored residual before the last of them is
-    // evaluated.
+    // Whether there are the attributes, one in the other. With deep resolution a stored residual before the last of
+    // them is evaluated.
     pub(crate) fn after_walked(
         &self,
         alloc: Global,

@@ -28,7 +28,8 @@ impl<'e, 'g, 'f> Evaluation<'e, 'g, 'f> {
         value_of_part(self.given.given_for(var))
     }
 
-    // The value of an attribute of a variable, if the variable is known and has it: that of a known entity is read at once.
+    // The value of an attribute of a variable, if the variable is known and has it: that of a known entity is read at
+    // once.
     pub(crate) fn attribute_of_variable(
         &self,
         alloc: Global,

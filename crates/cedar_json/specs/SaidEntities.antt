@@ -24,8 +24,8 @@ abbrev pub escaped_in : Member → Option Json
 escaped_in m = if bytes_eq m.0 (codes "__entity") then Some m.1 else None
 
 -- what stands at `__entity`, where it stands alone
-abbrev pub escaped : Json → Option Json
-escaped j = option_and_then escaped_in (option_and_then sole (as_object j))
+abbrev pub entity_escape : Json → Option Json
+entity_escape j = option_and_then escaped_in (option_and_then sole (as_object j))
 
 abbrev pub from_escaped : Option Json → Said EntityName → Said EntityName
 from_escaped None plain = plain
@@ -33,7 +33,7 @@ from_escaped (Some j) plain = under (at_key (codes "__entity")) (uid_said j)
 
 -- an entity, with or without `__entity` round its type and its id
 abbrev pub plain_uid_said : Json → Said EntityName
-plain_uid_said j = from_escaped (escaped j) (uid_said j)
+plain_uid_said j = from_escaped (entity_escape j) (uid_said j)
 
 -- what the member of this key says, which must be there
 abbrev pub member_says : {T : Type 0} → Text → (Json → Said T) → Option Json → Said T

@@ -330,7 +330,7 @@ pub(crate) fn plain_uid(alloc: Global, value: &Value<'_>) -> Result<EntityUID, J
 
 // What stands at `__entity`, where it stands alone.
 fn escaped<'v, 'a>(value: &'v Value<'a>) -> Option<&'v Value<'a>>
-    ensures { option_map (λ v. value_view v.now) result ≡ stated.escaped (value_view value.now) }
+    ensures { option_map (λ v. value_view v.now) result ≡ stated.entity_escape (value_view value.now) }
 {
     match object(value) {
         Some(members) => match sole(members) {

@@ -18,16 +18,16 @@ use crate::names::{EntityType, EntityUID, Name};
 use crate::pattern::Pattern;
 use crate::types::{Literal, Type, Unknown};
 
-/// Names and entity types are equal exactly where their texts are, and names of entities where their types and ids are: locations
-/// change nothing.
+/// Names and entity types are equal exactly where their texts are, and names of entities where their types and ids are:
+/// locations change nothing.
 pub fn names_are_equal_by_text()
     ensures names { (a b : Name) → Decides (⟦<Name as PartialEq>⟧.eq a b) (name_text a ≡ name_text b) }
     ensures types { (a b : EntityType) → Decides (⟦<EntityType as PartialEq>⟧.eq a b) (type_text a ≡ type_text b) }
     ensures entities { (a b : EntityUID) → Decides (⟦<EntityUID as PartialEq>⟧.eq a b) (uid_name a ≡ uid_name b) }
 {}
 
-/// Names of entities have a total order: that of the texts of their types and, of one type, that of their ids. It tells two apart
-/// exactly where `==` does: locations change nothing.
+/// Names of entities have a total order: that of the texts of their types and, of one type, that of their ids. It tells
+/// two apart exactly where `==` does: locations change nothing.
 pub fn entities_are_in_order()
     ensures total { IsTotalOrder ⟦<EntityUID as Ord>⟧.cmp }
     ensures by_text { (a b : EntityUID) → ⟦<EntityUID as Ord>⟧.cmp a b ≡

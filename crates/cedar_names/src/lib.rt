@@ -1,4 +1,5 @@
-//! The leaves of expressions in Cedar's policy language: names, types, literals, operators and patterns, and how they print.
+//! The leaves of expressions in Cedar's policy language: names, types, literals, operators and patterns, and how they
+//! print.
 #![tactic(auto)]
 
 pub mod laws;

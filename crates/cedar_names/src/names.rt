@@ -83,8 +83,8 @@ impl EntityType {
     }
 }
 
-/// The name of an entity: its type and its id. Equality, order and hash ignore its location; the order is that of the types'
-/// texts, and of one type that of the ids, byte by byte.
+/// The name of an entity: its type and its id. Equality, order and hash ignore its location; the order is that of the
+/// types' texts, and of one type that of the ids, byte by byte.
 #[derive(Clone, Debug)]
 #[derive_where(PartialEq, Eq, PartialOrd, Ord, Hash)]
 pub struct EntityUID {
@@ -124,8 +124,8 @@ impl EntityUID {
         EntityUID { ty, eid, loc }
     }
 
-    /// The entity of the type of this name with this id, both at no location. The name is taken as it stands, unchecked: a path
-    /// is one text, as `App::User`. Refuses only for want of memory.
+    /// The entity of the type of this name with this id, both at no location. The name is taken as it stands,
+    /// unchecked: a path is one text, as `App::User`. Refuses only for want of memory.
     pub fn of(alloc: Global, ty: &str, id: &str) -> Result<EntityUID, AllocError>
         ensures name { IfOk result (λ u. uid_name u ≡ record { type_name = ty.now; id = id.now }) }
         ensures type_loc { IfOk result (λ u. type_loc (uid_type u) ≡ None) }

@@ -1,5 +1,5 @@
-//! What the crates above share with this one, and their users need not know: equality and hashes of leaves, the names of
-//! variables, and the pieces of texts.
+//! What the crates above share with this one, and their users need not know: equality and hashes of leaves, the names
+//! of variables, and the pieces of texts.
 pub use crate::leaf_equality::{
     same_annotation, same_binary, same_literal, same_name, same_pattern, same_slot, same_text,
     same_texts, same_type, same_unary, same_variable,

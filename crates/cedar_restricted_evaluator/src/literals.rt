@@ -1,5 +1,5 @@
-//! Literals among parts. Those that follow an answered part are their values, and take no turn of their own: an answer shows that
-//! parts have at least one level, and a literal needs no more.
+//! Literals among parts. Those that follow an answered part are their values, and take no turn of their own: an answer
+//! shows that parts have at least one level, and a literal needs no more.
 ghost use Rattle.std.specs.Prelude.{◌≡◌, ◌<◌, ◌≤◌, length, IfOk};
 ghost use Rattle.cedar_model.specs.Values.{plain_represented};
 ghost use Rattle.cedar_names.specs.Leaves.{literal_view};
@@ -14,8 +14,8 @@ use cedar_names::Literal;
 use cedar_values::{PartialValue, Value, ValueKind};
 use std::alloc::{AllocError, Global};
 
-// These answers and one more, and behind it the values of the literals that follow it in the parts; where an answer is a residual
-// none of them. Refuses only for want of memory.
+// These answers and one more, and behind it the values of the literals that follow it in the parts; where an answer is
+// a residual none of them. Refuses only for want of memory.
 pub(crate) fn answers_with(
     alloc: Global,
     answers: Answers,

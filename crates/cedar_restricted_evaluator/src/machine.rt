@@ -99,8 +99,8 @@ impl<'x, 'f> Machine for Restricted<'x, 'f> {
 }
 
 impl<'x, 'f> Restricted<'x, 'f> {
-    // What the expression is answered within so many levels. An error that came up in an expression that was not looked at stands
-    // at the nearest one around it that has a location.
+    // What the expression is answered within so many levels. An error that came up in an expression that was not looked
+    // at stands at the nearest one around it that has a location.
     pub(crate) fn evaluated(
         &self,
         alloc: Global,

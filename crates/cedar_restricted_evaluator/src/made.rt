@@ -126,8 +126,8 @@ pub fn record_value(
     values: Vec<Value>,
 ) -> Result<Value, AllocError>
     requires { (length keys.items ≡ length values.items) × IsStrictlySortedBy key_order keys.items }
-    ensures what { IfOk result
-        (λ v. v.what ≡ record_represented (represented_fields_of (each_under (texts_of keys.items) (whats values.items)))) }
+    ensures what { IfOk result (λ v. v.what ≡ record_represented
+        (represented_fields_of (each_under (texts_of keys.items) (whats values.items)))) }
     ensures inside { IfOk result (λ v. v.inside ≡ inside_each values.items) }
     ensures loc { IfOk result (λ v. v.loc ≡ None) }
 {

@@ -16,8 +16,8 @@ abbrev pub is_control : ℕ → Bool
 is_control b = nat_lt b 32 || (b == 127)
 
 -- a byte inside double quotes: 34 is `"`, 92 is `\`, and 10, 13, 9 and 0 are the end of a line, a return, a tab and zero
-abbrev pub escaped_byte : ℕ → Text
-escaped_byte b =
+abbrev pub written_byte : ℕ → Text
+written_byte b =
     if b == 34 then codes "\\\"" else (
     if b == 92 then codes "\\\\" else (
     if b == 10 then codes "\\n" else (
@@ -28,16 +28,16 @@ escaped_byte b =
     b ∷ []))))))
 
 -- a text inside double quotes
-unfoldable pub escaped : Text → Text
-escaped t = flat_map escaped_byte t
+unfoldable pub written_escaped : Text → Text
+written_escaped t = flat_map written_byte t
 
 -- a text in double quotes
-abbrev pub quoted : Text → Text
-quoted t = 34 ∷ (escaped t ++ 34 ∷ [])
+abbrev pub written_quoted : Text → Text
+written_quoted t = 34 ∷ (written_escaped t ++ 34 ∷ [])
 
 -- a part of a pattern inside double quotes: 42 is `*`, which stands for itself behind a `\`
 abbrev pub pattern_part_text : PatternPart → Text
-pattern_part_text (character c) = if c == 42 then codes "\\*" else escaped (encode_utf8 c)
+pattern_part_text (character c) = if c == 42 then codes "\\*" else written_escaped (encode_utf8 c)
 pattern_part_text wildcard = 42 ∷ []
 
 -- a pattern in double quotes

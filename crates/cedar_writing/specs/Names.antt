@@ -6,7 +6,7 @@ use Rattle.cedar_tokens.specs.Kinds.{is_identifier}
 use Rattle.cedar_tokens.specs.Scanning.{begins_with}
 use Rattle.cedar_tokens.specs.Words.{starts_word, is_word_byte, word_kind}
 use Rattle.cedar_names.specs.Texts as names
-use Rattle.cedar_writing.specs.Escapes.{quoted, pattern_text}
+use Rattle.cedar_writing.specs.Escapes.{written_quoted, pattern_text}
 
 -- the words that stand for themselves alone
 unfoldable pub is_reserved : Text → Bool
@@ -25,11 +25,11 @@ is_name t = is_word t && is_identifier (word_kind t)
 
 -- the key of a field, or an attribute behind `has`
 abbrev pub key_text : Text → Text
-key_text k = if is_name k then k else quoted k
+key_text k = if is_name k then k else written_quoted k
 
 -- `["a b"]`
 abbrev pub index_text : Text → Text
-index_text a = codes "[" ++ (quoted a ++ codes "]")
+index_text a = codes "[" ++ (written_quoted a ++ codes "]")
 
 -- `.a`, or `["a b"]`
 abbrev pub attribute_text : Text → Text
@@ -50,14 +50,14 @@ like_text ps = codes " like " ++ pattern_text ps
 
 -- an entity: its type, `::` and its id in double quotes
 abbrev pub entity_text : EntityName → Text
-entity_text e = e.type_name ++ (codes "::" ++ quoted e.id)
+entity_text e = e.type_name ++ (codes "::" ++ written_quoted e.id)
 
 abbrev pub literal_text : Literal → Text
 literal_text (bool_literal b) = names.literal_text (bool_literal b)
 literal_text (long_literal z) = names.literal_text (long_literal z)
-literal_text (text_literal t) = quoted t
+literal_text (text_literal t) = written_quoted t
 literal_text (entity_literal e) = entity_text e
 
 -- an unknown: its name, and no annotation
 abbrev pub unknown_text : Text → Text
-unknown_text n = codes "unknown(" ++ (quoted n ++ codes ")")
+unknown_text n = codes "unknown(" ++ (written_quoted n ++ codes ")")

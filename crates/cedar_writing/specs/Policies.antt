@@ -5,13 +5,13 @@ use Rattle.cedar_model.specs.World.{Slots}
 use Rattle.cedar_model.specs.Policies.{Effect, permit, forbid}
 use Rattle.cedar_names.specs.Texts.{variable_text}
 use Rattle.cedar_layers.specs.Policies.{PolicyView}
-use Rattle.cedar_writing.specs.Escapes.{quoted}
+use Rattle.cedar_writing.specs.Escapes.{written_quoted}
 use Rattle.cedar_writing.specs.Texts.{written}
 use Rattle.cedar_writing.specs.Scopes.{is_true, is_scope, scope_text}
 
 -- `@key("value")`, and the end of its line
 abbrev pub annotation_text : Text × Text → Text
-annotation_text a = codes "@" ++ (a.0 ++ (codes "(" ++ (quoted a.1 ++ codes ")\n")))
+annotation_text a = codes "@" ++ (a.0 ++ (codes "(" ++ (written_quoted a.1 ++ codes ")\n")))
 
 abbrev pub effect_text : Effect → Text
 effect_text permit = codes "permit"

@@ -12,7 +12,7 @@ use std::fmt::Write;
 
 /// Writes a text in double quotes, with escapes.
 pub(crate) fn write_text<W: fmt::Write>(text: &str, f: &mut fmt::Formatter<W>) -> fmt::Result
-    ensures { WritesOnOk W.write_str_gives f.old result (texts.quoted text.now) f.new }
+    ensures { WritesOnOk W.write_str_gives f.old result (texts.written_quoted text.now) f.new }
 {
     f.write_str("\"")?;
     write_escaped(text, f)?;
@@ -21,7 +21,7 @@ pub(crate) fn write_text<W: fmt::Write>(text: &str, f: &mut fmt::Formatter<W>) -
 
 #[tactic(auto, using(crate::proofs::Escaping::escapes))]
 fn write_escaped<W: fmt::Write>(text: &str, f: &mut fmt::Formatter<W>) -> fmt::Result
-    ensures { WritesOnOk W.write_str_gives f.old result (texts.escaped text.now) f.new }
+    ensures { WritesOnOk W.write_str_gives f.old result (texts.written_escaped text.now) f.new }
 {
     'characters: for character in text.chars() {
         write_character(character, f)?;
@@ -32,7 +32,7 @@ fn write_escaped<W: fmt::Write>(text: &str, f: &mut fmt::Formatter<W>) -> fmt::R
 /// Writes a character as it stands in double quotes.
 #[tactic(auto, using(crate::proofs::Escaping::escapes))]
 fn write_character<W: fmt::Write>(character: char, f: &mut fmt::Formatter<W>) -> fmt::Result
-    ensures { WritesOnOk W.write_str_gives f.old result (texts.escaped (encode_utf8 character)) f.new }
+    ensures { WritesOnOk W.write_str_gives f.old result (texts.written_escaped (encode_utf8 character)) f.new }
 {
     if character == '"' {
         f.write_str("\\\"")

@@ -36,8 +36,8 @@ pub enum ErrorState {
     Error,
 }
 
-/// What is known of each policy, where parts of a request or of the store are unknown: whether it is satisfied, or what is left of
-/// its condition; and how errors are handled. The maps keep the order in which the policies were decided.
+/// What is known of each policy, where parts of a request or of the store are unknown: whether it is satisfied, or what
+/// is left of its condition; and how errors are handled. The maps keep the order in which the policies were decided.
 #[derive(Debug, Drop)]
 pub struct PartialResponse {
     /// The permits that are satisfied.
@@ -60,8 +60,9 @@ pub struct PartialResponse {
 }
 
 impl PartialResponse {
-    /// The response of these policies and errors, where errors are skipped. An id that comes again within one of the six keeps its
-    /// first place and takes its last value. Each iterator must come to an end. Refuses only for want of memory.
+    /// The response of these policies and errors, where errors are skipped. An id that comes again within one of the
+    /// six keeps its first place and takes its last value. Each iterator must come to an end. Refuses only for want of
+    /// memory.
     pub fn new<
         TP: Iterator<Item = (PolicyID, Rc<Annotations>)> + Drop,
         FP: Iterator<Item = (PolicyID, (ErrorState, Rc<Annotations>))> + Drop,
@@ -184,9 +185,9 @@ impl PartialResponse {
         self.error_handling
     }
 
-    /// The decision, where it is known: `Deny` with a satisfied forbid, or where no permit is satisfied or residual; else none
-    /// beside a residual forbid; else `Allow` with a satisfied permit; else none. A decision that is given is that of the policies
-    /// in every world in which what is reported of them stands.
+    /// The decision, where it is known: `Deny` with a satisfied forbid, or where no permit is satisfied or residual;
+    /// else none beside a residual forbid; else `Allow` with a satisfied permit; else none. A decision that is given is
+    /// that of the policies in every world in which what is reported of them stands.
     pub fn decision(&self) -> Option<Decision>
         ensures given { option_map decision_view result ≡ given_decision (rows_view self.now) }
         ensures holds { IfSome result (λ d. IsDecisionOf (rows_view self.now) (decision_view d)) }

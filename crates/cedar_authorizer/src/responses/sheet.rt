@@ -29,7 +29,8 @@ pub enum ConditionOutcome {
     Failed(EvaluationError),
 }
 
-/// Policies by effect and outcome, each list in the order in which they were noted. They are what `PartialResponse::new` takes.
+/// Policies by effect and outcome, each list in the order in which they were noted. They are what
+/// `PartialResponse::new` takes.
 #[derive(Drop)]
 pub struct Sheet {
     /// The permits that are satisfied.
@@ -64,8 +65,8 @@ impl Sheet {
         }
     }
 
-    /// Notes how one more policy came out; where it erred, its error is noted too, and it is false, but that a forbid is satisfied
-    /// where one that errs forbids. Refuses only for want of memory.
+    /// Notes how one more policy came out; where it erred, its error is noted too, and it is false, but that a forbid
+    /// is satisfied where one that errs forbids. Refuses only for want of memory.
     #[tactic(auto, using(crate::proofs::Noted::true_stays, crate::proofs::Noted::false_stays, crate::proofs::Noted::residual_stays), unfolding(cedar_model::specs::Responses::reported_of, cedar_model::specs::Responses::error_of))]
     pub fn place(
         &mut self,

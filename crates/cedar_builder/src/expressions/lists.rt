@@ -77,8 +77,8 @@ fn keyed(
     Ok((key, part))
 }
 
-/// A call of the extension function of this name on these arguments: `name(a, b)`, or `a.name(b)` where the function is a method.
-/// The name is taken as it stands.
+/// A call of the extension function of this name on these arguments: `name(a, b)`, or `a.name(b)` where the function is
+/// a method. The name is taken as it stands.
 pub fn call<const N: usize>(alloc: Global, name: &str, args: [ExprBuilder; N]) -> ExprBuilder
     ensures { Builds result (option_map (call_term name.now) (terms_of_all args.entry)) }
 {

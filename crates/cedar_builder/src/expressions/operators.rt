@@ -172,7 +172,8 @@ impl ExprBuilder {
         self.binary_app(BinaryOp::HasTag, tag)
     }
 
-    /// `self.attr`, of a record or an entity. The name is taken as it stands: one that is no identifier is `self["a b"]`.
+    /// `self.attr`, of a record or an entity. The name is taken as it stands: one that is no identifier is
+    /// `self["a b"]`.
     pub fn attr(self, attr: &str) -> ExprBuilder
         ensures { Builds result (option_map (λ t. get_attribute t attr.now) (term_of self)) }
     {
@@ -194,9 +195,9 @@ impl ExprBuilder {
         }
     }
 
-    /// `self has attr.next..`, of a record or an entity: that each attribute is there, one behind the other, `attr` first and
-    /// then `more` in order. The names are taken as they stand. With none in `more` it is the extended `has` of one
-    /// attribute, which no text is read as: `has_attr` is what `self has attr` says.
+    /// `self has attr.next..`, of a record or an entity: that each attribute is there, one behind the other, `attr`
+    /// first and then `more` in order. The names are taken as they stand. With none in `more` it is the extended `has`
+    /// of one attribute, which no text is read as: `has_attr` is what `self has attr` says.
     pub fn extended_has_attr(self, attr: &str, more: &[&str]) -> ExprBuilder
         ensures { Builds result (option_map (λ t. extended_has t attr.now (map (λ a. a.now) more.now)) (term_of self)) }
     {

@@ -14,8 +14,8 @@ use cedar_results::pair_of;
 use std::alloc::{AllocError, Global};
 
 impl ExprBuilder {
-    /// `self like pattern`, of a text: a `*` stands for any run of characters, `\*` for a star, `\\` for a backslash, and each
-    /// other character for itself. A `\` before another character, or at the end, is left out.
+    /// `self like pattern`, of a text: a `*` stands for any run of characters, `\*` for a star, `\\` for a backslash,
+    /// and each other character for itself. A `\` before another character, or at the end, is left out.
     pub fn like(self, pattern: &str) -> ExprBuilder
         ensures { Builds result (option_map (λ t. like t (pattern_said (chars pattern.now))) (term_of self)) }
     {
@@ -47,7 +47,8 @@ fn elems_of(alloc: Global, pattern: &str) -> Result<Vec<PatternElem>, AllocError
     Ok(elems)
 }
 
-// Puts the part that the character is behind these, unless it is a `\` that stands before another character; whether it is one.
+// Puts the part that the character is behind these, unless it is a `\` that stands before another character; whether it
+// is one.
 fn put(elems: &mut Vec<PatternElem>, character: char, is_escaped: bool) -> Result<bool, AllocError>
     ensures { IfOk result (λ next. (rest : List ℕ) → map part_view elems.new.items ++ pattern_behind next rest
         ≡ map part_view elems.old.items ++ pattern_behind is_escaped (character ∷ rest)) }

@@ -15,8 +15,8 @@ use std::collections::BTreeMap;
 use std::rc::RcStr;
 
 impl PolicyBuilder {
-    /// The policy with this annotation more: `@key("value")`. Both are taken as they stand. One whose key comes again takes the
-    /// place of the one before.
+    /// The policy with this annotation more: `@key("value")`. Both are taken as they stand. One whose key comes again
+    /// takes the place of the one before.
     pub fn annotation(self, key: &str, value: &str) -> PolicyBuilder
         ensures { Says result (option_map (with_annotation key.now value.now) (said self)) }
     {

@@ -16,9 +16,10 @@ use cedar_results::pair_of;
 use constraints::{compared, typed, typed_in};
 use std::alloc::AllocError;
 
-/// The scope. What a variable is compared with is a literal of an entity (`entity`, `uid`), for `action_in` also a `set` of such,
-/// and in a template a `slot`; any other expression is taken as well, and then no scope of Cedar's text can say the constraint.
-/// Names of types are taken as they stand. A constraint that is said again takes the place of the one before.
+/// The scope. What a variable is compared with is a literal of an entity (`entity`, `uid`), for `action_in` also a
+/// `set` of such, and in a template a `slot`; any other expression is taken as well, and then no scope of Cedar's text
+/// can say the constraint. Names of types are taken as they stand. A constraint that is said again takes the place of
+/// the one before.
 impl PolicyBuilder {
     /// `principal == uid`
     pub fn principal_eq(self, uid: ExprBuilder) -> PolicyBuilder

@@ -18,8 +18,8 @@ use std::collections::BTreeMap;
 use std::rc::{Rc, RcStr};
 
 impl Expr {
-    /// A record of these parts under their keys, in byte order of the keys. Refuses the first key that comes again, with
-    /// the context `in record literal`, and for want of memory.
+    /// A record of these parts under their keys, in byte order of the keys. Refuses the first key that comes again,
+    /// with the context `in record literal`, and for want of memory.
     pub fn record(
         alloc: Global,
         pairs: Vec<(RcStr, Expr)>,

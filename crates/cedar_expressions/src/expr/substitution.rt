@@ -27,8 +27,8 @@ pub trait AsExpression {
 }
 
 impl Expr {
-    /// The expression with the map's values for the unknowns that it names, at any depth. An annotation is not looked at,
-    /// and the rest is unchanged. The result has the location of the expression, so a value for an unknown has the
+    /// The expression with the map's values for the unknowns that it names, at any depth. An annotation is not looked
+    /// at, and the rest is unchanged. The result has the location of the expression, so a value for an unknown has the
     /// location of that unknown; the locations of parts are not promised. Refuses only for want of memory.
     #[cycle(substitute)]
     pub fn substitute<V: AsExpression>(

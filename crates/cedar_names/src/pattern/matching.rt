@@ -22,8 +22,8 @@ impl Pattern {
         self.elems.as_slice()
     }
 
-    /// Whether the text matches: each character matches itself, and a wildcard any run of characters, the empty one too. Takes at
-    /// most (parts + 1) times (characters + 1) steps.
+    /// Whether the text matches: each character matches itself, and a wildcard any run of characters, the empty one
+    /// too. Takes at most (parts + 1) times (characters + 1) steps.
     pub fn wildcard_match(&self, text: &str) -> bool
         ensures { result ≡ matches (pattern_view self.now) (chars text.now) }
     {
@@ -78,8 +78,9 @@ fn beginning<'a>(parts: &'a [PatternElem], text: &'a str) -> Look<'a>
     }
 }
 
-// Matches from the left. A wildcard takes no character at first. Where what follows the last wildcard does not match, that wildcard
-// takes one character more, and the walk goes on behind it: the wildcards before it never need to take more.
+// Matches from the left. A wildcard takes no character at first. Where what follows the last wildcard does not match,
+// that wildcard takes one character more, and the walk goes on behind it: the wildcards before it never need to take
+// more.
 #[tactic(auto, unfolding(cedar_model::specs::Outcomes::matches, cedar_model::specs::Outcomes::some_end))]
 fn matches_parts(elems: &[PatternElem], text: &str) -> bool
     ensures { result ≡ matches (map part_view elems.now) (chars text.now) }

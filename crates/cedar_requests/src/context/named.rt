@@ -20,8 +20,8 @@ use std::rc::{Rc, RcStr};
 
 impl Context {
     /// The context of these values under their names. Refuses the first name that comes again with
-    /// `ExpressionConstruction`, which holds a `DuplicateKey` in the context `in context`, as `from_pairs` does; else only for
-    /// want of memory, with `Memory`.
+    /// `ExpressionConstruction`, which holds a `DuplicateKey` in the context `in context`, as `from_pairs` does; else
+    /// only for want of memory, with `Memory`.
     pub fn of(alloc: Global, pairs: Vec<(&str, Value)>) -> Result<Context, ContextCreationError>
         ensures view { IfOk result (λ c. context_view c ≡ known_context (values_in_order pairs.entry.items)) }
         ensures distinct { IfOk result (λ c. first_repeated (names_given pairs.entry.items) ≡ None) }

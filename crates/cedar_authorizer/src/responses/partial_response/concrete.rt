@@ -29,12 +29,12 @@ use std::collections::HashSet;
 use std::rc::Rc;
 
 impl PartialResponse {
-    /// The response where each residual counts as an error, `NonValue` at the residual's location: `Allow` where a permit is
-    /// satisfied and no forbid is, for the reasons that must determine the decision; with the errors of residual forbids, then of
-    /// residual permits, then those recorded. Where a forbid that errs forbids, a residual forbid denies too, and the reasons are
-    /// the satisfied and the residual forbids or, with none, the satisfied permits. A decision that is given stays. Where no
-    /// residual is left, decision and reasons are those of the policies, wherever what is reported of them stands. Refuses only for
-    /// want of memory.
+    /// The response where each residual counts as an error, `NonValue` at the residual's location: `Allow` where a
+    /// permit is satisfied and no forbid is, for the reasons that must determine the decision; with the errors of
+    /// residual forbids, then of residual permits, then those recorded. Where a forbid that errs forbids, a residual
+    /// forbid denies too, and the reasons are the satisfied and the residual forbids or, with none, the satisfied
+    /// permits. A decision that is given stays. Where no residual is left, decision and reasons are those of the
+    /// policies, wherever what is reported of them stands. Refuses only for want of memory.
     pub fn concretize(self, alloc: Global) -> Result<Response, AllocError>
         ensures response { IfOk result (λ r. response_view r ≡ concrete_response self) }
         ensures places { IfOk result (λ r. response_places r ≡ concrete_places self) }
@@ -103,8 +103,8 @@ fn diagnostics_of(
     Ok(Diagnostics { reason, errors })
 }
 
-// The ids of the satisfied forbids where a forbid is satisfied or may be, else of the satisfied permits; where a forbid that errs
-// forbids, those of the residual forbids beside the satisfied ones.
+// The ids of the satisfied forbids where a forbid is satisfied or may be, else of the satisfied permits; where a forbid
+// that errs forbids, those of the residual forbids beside the satisfied ones.
 fn reasons(
     alloc: Global,
     mode: ErrorHandling,

@@ -13,8 +13,8 @@ use indexmap::IndexMap;
 use std::alloc::AllocError;
 use std::rc::Rc;
 
-/// The copy handles errors in the same way, and has the same policies and, in order, the same errors, each with its fields and its
-/// location; it shares the residuals, the annotations and the request.
+/// The copy handles errors in the same way, and has the same policies and, in order, the same errors, each with its
+/// fields and its location; it shares the residuals, the annotations and the request.
 impl Clone for PartialResponse {
     ghost is_clone = { IsCopyOfPartialResponse };
 

@@ -17,9 +17,9 @@ use std::alloc::{AllocError, Global};
 use std::rc::Rc;
 
 impl PartialResponse {
-    /// The policy under an id, as the iterators of policies make it, where there is one: among the residual, the satisfied and the
-    /// other permits, then among the same of forbids. The clause of a residual policy is the residual, with its own locations.
-    /// Refuses only for want of memory.
+    /// The policy under an id, as the iterators of policies make it, where there is one: among the residual, the
+    /// satisfied and the other permits, then among the same of forbids. The clause of a residual policy is the
+    /// residual, with its own locations. Refuses only for want of memory.
     pub fn get(&self, alloc: Global, id: &PolicyID) -> Result<Option<Policy>, AllocError>
         ensures policy { IfOk result (λ o. found_policy o ≡ reports.get (policy_id_text id.now) (rows_view self.now)) }
         ensures located { IfOk result (IsPolicyFound (located_at (policy_id_text id.now) (located_view self.now))) }

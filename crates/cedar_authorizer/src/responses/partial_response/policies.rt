@@ -18,10 +18,10 @@ use indexmap::map::{Iter, Slice};
 use std::alloc::{AllocError, Global};
 use std::rc::Rc;
 
-/// Policies of a partial response, permits first, and true ones before false ones before residual ones. A policy has the effect,
-/// the id and the annotations that it was decided with, constraints that are all `true`, the clause `true`, `false` or its
-/// residual, with the residual's own locations, and that clause's location. Where memory is wanting for one, an `Err` stands in its
-/// place, and the walk goes on.
+/// Policies of a partial response, permits first, and true ones before false ones before residual ones. A policy has
+/// the effect, the id and the annotations that it was decided with, constraints that are all `true`, the clause `true`,
+/// `false` or its residual, with the residual's own locations, and that clause's location. Where memory is wanting for
+/// one, an `Err` stands in its place, and the walk goes on.
 #[derive(Drop)]
 pub struct ReportedPolicies<'a> {
     alloc: Global,
@@ -172,8 +172,9 @@ impl PartialResponse {
         })
     }
 
-    /// The policies that determine the decision whatever the unknowns are: the satisfied permits where no forbid is satisfied or
-    /// residual, else the satisfied forbids. In every world in which what is reported stands, each of them is a reason.
+    /// The policies that determine the decision whatever the unknowns are: the satisfied permits where no forbid is
+    /// satisfied or residual, else the satisfied forbids. In every world in which what is reported stands, each of them
+    /// is a reason.
     pub fn must_be_determining(&self) -> ReportedPolicies<'_>
         ensures policies { policies_left result ≡ reports.must_be_determining (rows_view self.now) }
         ensures located { AreAmong (left result) (located_view self.now) }
@@ -192,9 +193,9 @@ impl PartialResponse {
         }
     }
 
-    /// The policies that may determine the decision: with a satisfied forbid, the satisfied and the residual forbids; else the
-    /// satisfied and the residual permits and the residual forbids. In every world in which what is reported stands, each reason
-    /// is one of them.
+    /// The policies that may determine the decision: with a satisfied forbid, the satisfied and the residual forbids;
+    /// else the satisfied and the residual permits and the residual forbids. In every world in which what is reported
+    /// stands, each reason is one of them.
     pub fn may_be_determining(&self) -> ReportedPolicies<'_>
         ensures policies { policies_left result ≡ reports.may_be_determining (rows_view self.now) }
         ensures located { AreAmong (left result) (located_view self.now) }

@@ -1,7 +1,7 @@
 use Rattle.std.proofs.Common.{◌++◌, encode_utf8, rules, append-nil, append_assoc}
 use Rattle.std.proofs.lemmas.List.{nil_from_length}
 use Rattle.std.proofs.Output.{has_written_append, has_written_of_eq}
-use Rattle.cedar_writing.specs.Escapes.{escaped}
+use Rattle.cedar_writing.specs.Escapes.{written_escaped}
 use Rattle.cedar_writing.proofs.Escaping.{escaped-append, escaped-nil}
 use Rattle.cedar_writing.proofs.escapes.write_escaped.Goals as goal
 
@@ -9,7 +9,7 @@ pub characters-preserved : goal.characters-preserved
 characters-preserved g c = λ plain.
     let (done, wrote, whole) = c.characters.invariant plain in
     let step = c.in-Some.ensures.steps.0 in
-    (done ++ escaped (encode_utf8 c.in-Some.character), has_written_append _ _ _ _ _ _ wrote (search rules), rw (append_assoc, ← escaped-append, ← step) whole)
+    (done ++ written_escaped (encode_utf8 c.in-Some.character), has_written_append _ _ _ _ _ _ wrote (search rules), rw (append_assoc, ← escaped-append, ← step) whole)
 
 pub returns : goal.returns
 returns g c = λ plain ok.
