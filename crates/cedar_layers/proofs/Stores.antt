@@ -7,6 +7,7 @@ use Rattle.std.specs.Map.{lookup, KeepsOthers}
 use Rattle.cedar_model.specs.Terms.{EntityName}
 use Rattle.cedar_model.specs.Outcomes.{text_eq, entity_eq}
 use Rattle.cedar_model.specs.Settings.{StoredEntity, found, not_there, not_known, found_in, is_among, printed_entity}
+use Rattle.cedar_model.proofs.Injections.{none_is_not_some}
 use Rattle.cedar_names.specs.declared.names.EntityUID.{EntityUID}
 use Rattle.cedar_names.specs.Names.{uid_name}
 use Rattle.cedar_names.specs.Order.{is_tied, is_tied-by_name}
