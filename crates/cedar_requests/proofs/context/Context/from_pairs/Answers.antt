@@ -12,7 +12,7 @@ of_record-context-requires g c =
 
 pub returns-in-Ok-clause-created : goal.returns-in-Ok-clause-created
 returns-in-Ok-clause-created g c = λ s is_bare.
-    pairs_answer s (calls_of c.args.extensions.now) _ _ c.of_record-context.result c.in-Ok.ensures.distinct
+    pairs_answer s (calls_of c.args.extensions.now) _ c.args.pairs.items c.of_record-context.result c.in-Ok.ensures.distinct
     (subst (λ t. IsOfRecord s (calls_of c.args.extensions.now) c.args.limit t c.of_record-context.result)
     (ap view c.as_borrowed.ensures
     ∙ c.in-Ok.ensures.view) (c.of_record-context.ensures.created s is_bare))
