@@ -1,6 +1,7 @@
 //! The conditions of the policies.
-use crate::entities::{both, literal, name};
+use crate::entities::{literal, name};
 use cedar_layers::expressions::{BinaryOp, Expr, Literal, Unknown, Var};
+use cedar_results::pair_of;
 use std::alloc::{AllocError, Global};
 use std::rc::RcStr;
 
@@ -34,7 +35,7 @@ pub fn attribute_is(alloc: Global, name: &str, number: i64) -> Result<Expr, Allo
 
 /// `principal == NS::"a" && resource == NS::"b"`
 pub fn of_a_and_b(alloc: Global) -> Result<Expr, AllocError> {
-    let (is_a, is_b) = both(
+    let (is_a, is_b) = pair_of(
         variable_is(alloc, Var::Principal, "a"),
         variable_is(alloc, Var::Resource, "b"),
     )?;
@@ -49,13 +50,13 @@ fn variable_is(alloc: Global, variable: Var, id: &str) -> Result<Expr, AllocErro
 
 /// `context.c && context.d == 10`
 pub fn of_c_and_d(alloc: Global) -> Result<Expr, AllocError> {
-    let (c, d_is_ten) = both(attribute(alloc, "c"), attribute_is(alloc, "d", 10))?;
+    let (c, d_is_ten) = pair_of(attribute(alloc, "c"), attribute_is(alloc, "d", 10))?;
     Expr::and(alloc, c, d_is_ten)
 }
 
 /// `unknown("x") && (1 + "a")`
 pub fn of_wrong_sum(alloc: Global) -> Result<Expr, AllocError> {
-    let (x, sum) = both(unknown(alloc, "x"), wrong_sum(alloc))?;
+    let (x, sum) = pair_of(unknown(alloc, "x"), wrong_sum(alloc))?;
     Expr::and(alloc, x, sum)
 }
 

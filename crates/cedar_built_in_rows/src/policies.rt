@@ -7,10 +7,10 @@ use crate::conditions::{
     attribute, attribute_is, of_a_and_b, of_c_and_d, of_even_number, of_one_in_g, of_wrong_sum,
     truth, unknown,
 };
-use crate::entities::both;
 use crate::rows::Row;
 use cedar_layers::expressions::{Expr, SlotEnv};
 use cedar_layers::policies::{Annotations, Effect, Policy, PolicyID};
+use cedar_results::pair_of;
 use std::alloc::{AllocError, Global};
 use std::rc::RcStr;
 
@@ -153,7 +153,7 @@ fn when_c_and_d(alloc: Global, effect: Effect, id: &str) -> Result<Policy, Alloc
 fn when(alloc: Global, effect: Effect, id: &str, condition: Expr) -> Result<Policy, AllocError>
     ensures { IfOk result (λ p. (policy_view p).id ≡ id.now) }
 {
-    let (id, condition) = both(RcStr::from_str(alloc, id), Ok(condition))?;
+    let (id, condition) = pair_of(RcStr::from_str(alloc, id), Ok(condition))?;
     policy(alloc, effect, PolicyID::from_string(id), condition)
 }
 

@@ -1,5 +1,5 @@
 //! The requests of the rows.
-use crate::entities::{both, entity};
+use crate::entities::entity;
 use crate::lines::LIMIT;
 use crate::rows::Row;
 use crate::stop::{Stop, context_refused};
@@ -7,6 +7,7 @@ use cedar_evaluator::request::{Context, EntityUIDEntry, Request};
 use cedar_extensions::Extensions;
 use cedar_layers::expressions::Unknown;
 use cedar_restricted_expressions::RestrictedExpr;
+use cedar_results::pair_of;
 use std::alloc::{AllocError, Global};
 use std::rc::RcStr;
 
@@ -47,12 +48,12 @@ fn in_unknown_context(alloc: Global, attribute: &str, name: &str) -> Result<Requ
 }
 
 fn in_context(alloc: Global, context: Context) -> Result<Request, AllocError> {
-    let ((user, action), (photo, context)) = both(
-        both(
+    let ((user, action), (photo, context)) = pair_of(
+        pair_of(
             entity(alloc, "User", "alice"),
             entity(alloc, "Action", "view"),
         ),
-        both(entity(alloc, "Photo", "sunset"), Ok(context)),
+        pair_of(entity(alloc, "Photo", "sunset"), Ok(context)),
     )?;
     Ok(Request::new((user, None), (action, None), (photo, None), context))
 }
@@ -69,7 +70,7 @@ fn of_a_alone(alloc: Global) -> Result<Request, Stop> {
 }
 
 fn of_a_in_context(alloc: Global, context: Context) -> Result<Request, AllocError> {
-    let (a, context) = both(entity(alloc, "NS", "a"), Ok(context))?;
+    let (a, context) = pair_of(entity(alloc, "NS", "a"), Ok(context))?;
     Ok(Request::new_with_unknowns(
         EntityUIDEntry::known(a, None),
         EntityUIDEntry::unknown(),
@@ -80,7 +81,7 @@ fn of_a_in_context(alloc: Global, context: Context) -> Result<Request, AllocErro
 
 // The principal is not known, and the context is empty.
 fn of_someone(alloc: Global) -> Result<Request, AllocError> {
-    let (action, photo) = both(
+    let (action, photo) = pair_of(
         entity(alloc, "Action", "view"),
         entity(alloc, "Photo", "sunset"),
     )?;
