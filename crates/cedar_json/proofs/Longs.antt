@@ -1,5 +1,6 @@
 -- Texts that write longs.
 use Rattle.std.proofs.Common.{◌≡◌, ℤ, pos, negsuc, Bool, true, false, cond, ◌&&◌, [], ◌∷◌, length, Option, Some, None, MatchOption, refl, sym, ap, ◌∙◌, FitsSigned, w64, leb-true, lt-ltb, ltb-true, nat_lt, arith, ok_or, Ok}
+use Rattle.std.proofs.lemmas.Bool.{and_from, and_parts}
 use Rattle.std.specs.List.{list_all}
 use Rattle.std.specs.Option.{option_and_then}
 use Rattle.std.specs.Str.Parse.{AllDigits, IsNumeral, without_leading_sign, signed_digits_value, ParsesSigned}
@@ -16,34 +17,26 @@ unfolding is_long
 long_fits (pos n) h = record { sfits = omega (arith, leb-true n 9223372036854775807 h) }
 long_fits (negsuc n) h = record { sfits = omega (arith, leb-true n 9223372036854775807 h) }
 
-both : (a b : Bool) → a ≡ true → b ≡ true → a && b ≡ true
-both true b h g = g
-both false b h g = absurd (cc)
-
-each_of : (a b : Bool) → a && b ≡ true → (a ≡ true) × (b ≡ true)
-each_of true b h = (refl, h)
-each_of false b h = absurd (cc)
-
 digits_all : (cs : Text) → AllDigits 10 cs → list_all is_digit cs ≡ true
 digits_all [] h = refl
-digits_all (c ∷ cs) h = both (is_digit c) (list_all is_digit cs) (lt-ltb (digit_value c) 10 h.0) (digits_all cs h.1)
+digits_all (c ∷ cs) h = and_from (is_digit c) (list_all is_digit cs) (lt-ltb (digit_value c) 10 h.0) (digits_all cs h.1)
 
 all_digits : (cs : Text) → list_all is_digit cs ≡ true → AllDigits 10 cs
 all_digits [] h = tt
 all_digits (c ∷ cs) h =
-    let e = each_of (is_digit c) (list_all is_digit cs) h in
+    let e = and_parts (is_digit c) (list_all is_digit cs) h in
     (ltb-true (digit_value c) 10 e.0, all_digits cs e.1)
 
 long_written : (t : Text) → IsNumeral 10 (without_leading_sign t) × FitsSigned w64 (signed_digits_value 10 t) → is_long_text t ≡ true
 long_written t h =
-    both (are_digits (without_leading_sign t)) (is_long (signed_digits_value 10 t))
-    (both (nat_lt 0 (length (without_leading_sign t))) (list_all is_digit (without_leading_sign t)) (lt-ltb 0 (length (without_leading_sign t)) h.0.0) (digits_all (without_leading_sign t) h.0.1))
+    and_from (are_digits (without_leading_sign t)) (is_long (signed_digits_value 10 t))
+    (and_from (nat_lt 0 (length (without_leading_sign t))) (list_all is_digit (without_leading_sign t)) (lt-ltb 0 (length (without_leading_sign t)) h.0.0) (digits_all (without_leading_sign t) h.0.1))
     (fits_long (signed_digits_value 10 t) h.1)
 
 writes_long : (t : Text) → is_long_text t ≡ true → IsNumeral 10 (without_leading_sign t) × FitsSigned w64 (signed_digits_value 10 t)
 writes_long t h =
-    let e = each_of (are_digits (without_leading_sign t)) (is_long (signed_digits_value 10 t)) h in
-    let d = each_of (nat_lt 0 (length (without_leading_sign t))) (list_all is_digit (without_leading_sign t)) e.0 in
+    let e = and_parts (are_digits (without_leading_sign t)) (is_long (signed_digits_value 10 t)) h in
+    let d = and_parts (nat_lt 0 (length (without_leading_sign t))) (list_all is_digit (without_leading_sign t)) e.0 in
     ((ltb-true 0 (length (without_leading_sign t)) d.0, all_digits (without_leading_sign t) d.1), long_fits (signed_digits_value 10 t) e.1)
 
 none_written : (t : Text) (b : Bool) → is_long_text t ≡ b → (IsNumeral 10 (without_leading_sign t) × FitsSigned w64 (signed_digits_value 10 t) → ⊥) → None ≡ cond b (Some (signed_digits_value 10 t)) None

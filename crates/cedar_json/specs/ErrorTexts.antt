@@ -2,6 +2,7 @@
 use Rattle.std.specs.Prelude.{ℕ, List, ◌∷◌, ◌++◌, if◌then◌else◌, flat_map, Option, Some, None, codes}
 use Rattle.std.specs.Fmt.{decimal}
 use Rattle.cedar_tokens.specs.Names.{expected_text}
+use Rattle.cedar_tokens.specs.Words.{is_word}
 use Rattle.cedar_tokens.specs.declared.errors.Expected.{Expected}
 use Rattle.cedar_model.specs.Terms.{Text}
 use Rattle.cedar_names.specs.Texts.{quoted}
@@ -10,7 +11,6 @@ use Rattle.cedar_json.specs.declared.errors.JsonError.TheVariants as errors
 use Rattle.cedar_json.specs.declared.errors.RefusalReason.{RefusalReason}
 use Rattle.cedar_json.specs.declared.errors.RefusalReason.TheVariants as reasons
 use Rattle.cedar_json.specs.Paths.{Step, at_key, at_index, path_view}
-use Rattle.cedar_json.specs.Words.{is_word}
 
 -- `.key`, or `["a key"]` where the key is no word
 abbrev pub key_text : Text → Text

@@ -79,9 +79,6 @@ IsEntitiesError s (errors.Memory error) = ⊤
 
 -- ---- how they are collected; for private clauses
 
-abbrev pub key_cmp : RcStr Global → RcStr Global → Ordering
-key_cmp k l = slice_cmp nat_cmp (rc_str_bytes k) (rc_str_bytes l)
-
 -- the new parts have one more, which answers this expression
 abbrev pub AddsPart : Extensions → StoredCalls → ℕ → Text → Term → List (RcStr Global × parts.PartialValue) → List (RcStr Global × parts.PartialValue) → Type 0
 AddsPart x calls n k t old new =

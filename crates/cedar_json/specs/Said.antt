@@ -73,14 +73,14 @@ abbrev pub set_said : Said (List Term) → Said Term
 set_said ts = made_of (λ us. set_of (terms_of us)) ts
 
 -- the keys that no attribute has
-abbrev pub is_reserved : Text → Bool
-is_reserved k = bytes_eq k (codes "__entity") || (bytes_eq k (codes "__extn") || bytes_eq k (codes "__expr"))
+abbrev pub is_reserved_key : Text → Bool
+is_reserved_key k = bytes_eq k (codes "__entity") || (bytes_eq k (codes "__extn") || bytes_eq k (codes "__expr"))
 
 abbrev pub pair_of : Text → Term → Text × Term
 pair_of k t = (k, t)
 
 abbrev pub member_said : Text → Said Term → Said (Text × Term)
-member_said k t = if is_reserved k then under (at_key k) (refused reasons.ReservedKey) else made_of (pair_of k) (under (at_key k) t)
+member_said k t = if is_reserved_key k then under (at_key k) (refused reasons.ReservedKey) else made_of (pair_of k) (under (at_key k) t)
 
 -- the record of pairs whose keys differ
 abbrev pub unique_said : Option Text → List (Text × Term) → Said Term

@@ -20,8 +20,8 @@ use std::alloc::Global;
 use std::rc::{Rc, RcStr};
 
 /// Whether no attribute can have this key: that of an entity, of a call, or one that Cedar's JSON had once.
-pub(crate) fn is_reserved(key: &str) -> bool
-    ensures { result ≡ says.is_reserved key.now }
+pub(crate) fn is_reserved_key(key: &str) -> bool
+    ensures { result ≡ says.is_reserved_key key.now }
 {
     key == "__entity" || key == "__extn" || key == "__expr"
 }

@@ -3,6 +3,7 @@
 ghost use Rattle.std.specs.Prelude.{◌≡◌, true, [], OnOk, IfOk, IfErr};
 ghost use Rattle.std.specs.BTreeMap.{insert_entry};
 ghost use Rattle.std.specs.Rc.{rc_str_bytes};
+ghost use Rattle.cedar_expressions.specs.Nodes.{key_order};
 ghost use Rattle.cedar_expressions.specs.Records.{fields_in_order};
 ghost use Rattle.cedar_names.specs.Names.{uid_name};
 ghost use Rattle.cedar_extensions.specs.Extensions.{extensions_view, calls_of};
@@ -11,7 +12,7 @@ ghost use Rattle.cedar_restricted_expressions.specs.Views.{restricted_term};
 ghost use Rattle.cedar_json.specs.Lists.{pairs_said};
 ghost use Rattle.cedar_json.specs.StatedEntities.{names_of, stated_view, stated_views};
 ghost use Rattle.cedar_json.specs.Evaluated.{IsAnswerOf, AreAnswered, AreAmong, IsEvaluated, AreEvaluated};
-ghost use Rattle.cedar_json.specs.Evaluated.{IsEvaluationError, key_cmp, AddsPart, AddsEntity, PutsName};
+ghost use Rattle.cedar_json.specs.Evaluated.{IsEvaluationError, AddsPart, AddsEntity, PutsName};
 ghost use Rattle.cedar_values.specs.Residuals.{partial_view};
 ghost use Rattle.cedar_layers.specs.Parts.{parts_view, are_restricted_parts, is_restricted_part};
 ghost use mathlib.Core.Bool.{Bool-set};
@@ -46,10 +47,10 @@ impl StoredParts {
     }
 
     // The parts, and this one under its name.
-    #[tactic(auto, using(crate::proofs::Stored::restricted_insert))]
+    #[tactic(auto, using(cedar_layers::proofs::Parts::restricted_insert))]
     fn with(self, name: RcStr, part: PartialValue) -> Result<StoredParts, AllocError>
         requires { is_restricted_part (partial_view part) ≡ true }
-        ensures { IfOk result (λ r. r.map.entries ≡ insert_entry key_cmp self.map.entries name part) }
+        ensures { IfOk result (λ r. r.map.entries ≡ insert_entry key_order self.map.entries name part) }
     {
         let mut map = self.map;
         let replaced = map.insert(name, part)?;

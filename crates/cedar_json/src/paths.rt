@@ -1,8 +1,8 @@
 //! Where a part stands in a JSON value.
 ghost use Rattle.std.specs.Prelude.{◌≡◌, ◌∷◌, IfOk};
 
-use crate::names::is_word;
 use cedar_names::shared::write_quoted;
+use cedar_tokens::words::is_word;
 use std::alloc::AllocError;
 use std::fmt;
 use std::fmt::Display;

@@ -15,7 +15,7 @@ ghost use Rattle.cedar_json.specs.declared.errors.RefusalReason.TheVariants as r
 ghost use Rattle.cedar_json.specs.Lists.{pairs_said, IsOneMore, IsUnrecorded, arguments_of, shape_said};
 
 use crate::errors::{JsonError, RefusalReason};
-use crate::escapes::{called, entity, is_reserved};
+use crate::escapes::{called, entity, is_reserved_key};
 use crate::shapes::{CallShape, array, call_shape, sole};
 use cedar_expressions::ExpressionConstructionError;
 use cedar_names::Literal;
@@ -241,7 +241,7 @@ fn read_member(
         (says.member_said key.now (says.said (value_view value.now))) (pairs_said pairs.new.items)) }
     ensures refused { IfErr result (IsRefusal (says.member_said key.now (says.said (value_view value.now)))) }
 {
-    if is_reserved(key) {
+    if is_reserved_key(key) {
         let error = JsonError::refusal(alloc, RefusalReason::ReservedKey);
         return Err(error.under_key(alloc, key));
     }

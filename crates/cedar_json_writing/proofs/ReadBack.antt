@@ -1,5 +1,6 @@
 -- What is written of a restricted expression is read as the same.
 use Rattle.std.proofs.Common.{◌≡◌, ℕ, ◌+◌, ◌||◌, Bool, true, false, List, [], ◌∷◌, ◌++◌, Result, Ok, Err, IfOk, OnOk, Global, refl, sym, ap, ◌∙◌}
+use Rattle.std.proofs.lemmas.Bool.{or_parts}
 use Rattle.std.specs.Prelude.{bytes_eq, codes}
 use Rattle.cedar_model.specs.Terms.{Text, bool_literal, long_literal, text_literal, entity_literal}
 use Rattle.cedar_model.specs.Terms.{Term, literal, variable, slot, unknown, if_then_else, both, either, unary, binary, call}
@@ -10,7 +11,7 @@ use Rattle.cedar_expressions.specs.declared.expr.Expr.{Expr}
 use Rattle.cedar_expressions.specs.View.{view, terms_view, fields_view}
 use Rattle.cedar_json.specs.Paths.{at_key, at_index}
 use Rattle.cedar_json.specs.Refusals.{Said, under, before, made_of, and_then}
-use Rattle.cedar_json.specs.Said.{said, said_items, said_members, is_reserved, pair_of, member_said, called, long_said}
+use Rattle.cedar_json.specs.Said.{said, said_items, said_members, is_reserved_key, pair_of, member_said, called, long_said}
 use Rattle.cedar_json.specs.Said.{record_said, set_said, one, sole_said, entity_said, said_call}
 use Rattle.cedar_json.specs.Words.{is_name}
 use Rattle.cedar_json.proofs.Longs.{long_read}
@@ -31,16 +32,7 @@ listed (one_term t ts) = ap (one_term t) (listed ts)
 called_back : (f : Text) (ts : List Term) → is_name f ≡ true → bytes_eq f (codes "unknown") ≡ false → called f ts ≡ Ok (call f (terms_of ts))
 called_back f ts named other = rw (other, named) refl
 
--- a key that isn't reserved is none of the three
-first_no : (a b : Bool) → a || b ≡ false → a ≡ false
-first_no true b h = h
-first_no false b h = refl
-
-second_no : (a b : Bool) → a || b ≡ false → b ≡ false
-second_no true b h = absurd (cc)
-second_no false b h = h
-
-key_free : (k : Text) (t : Term) → is_reserved k ≡ false → member_said k (Ok t) ≡ Ok (pair_of k t)
+key_free : (k : Text) (t : Term) → is_reserved_key k ≡ false → member_said k (Ok t) ≡ Ok (pair_of k t)
 key_free k t free = rw free refl
 
 record_back : (fs : Fields) → AreInOrder fs → record_said (Ok (pairs_in fs)) ≡ Ok (record_of fs)
@@ -62,12 +54,12 @@ call_back f (one_term t (one_term u ts)) named other all =
     ∙ ap (λ us. Ok (call f us)) (listed (one_term t (one_term u ts)))
 
 -- a key that isn't reserved stands for no entity and no call
-sole_record : (k : Text) (a b c : Said Term) → is_reserved k ≡ false → sole_said k a b c ≡ c
+sole_record : (k : Text) (a b c : Said Term) → is_reserved_key k ≡ false → sole_said k a b c ≡ c
 sole_record k a b c free =
     let rest = bytes_eq k (codes "__extn") || bytes_eq k (codes "__expr") in
-    let no_entity : bytes_eq k (codes "__entity") ≡ false = first_no (bytes_eq k (codes "__entity")) rest free in
+    let no_entity : bytes_eq k (codes "__entity") ≡ false = (or_parts (bytes_eq k (codes "__entity")) rest free).0 in
     let no_call : bytes_eq k (codes "__extn") ≡ false =
-    first_no (bytes_eq k (codes "__extn")) (bytes_eq k (codes "__expr")) (second_no (bytes_eq k (codes "__entity")) rest free) in
+    (or_parts (bytes_eq k (codes "__extn")) (bytes_eq k (codes "__expr")) (or_parts (bytes_eq k (codes "__entity")) rest free).1).0 in
     rw (no_entity, no_call) refl
 
 fields_back : (fs : Fields) → AreInOrder fs → FieldsHaveJson fs → said_members (written_members fs) ≡ Ok (pairs_in fs)

@@ -7,7 +7,7 @@ use Rattle.cedar_model.specs.Terms.{get_attribute, has_attribute, extended_has, 
 use Rattle.cedar_model.specs.Terms.{Terms, no_terms, one_term, Fields, no_fields, one_field}
 use Rattle.cedar_model.specs.Refusals.{first_repeated}
 use Rattle.cedar_expressions.specs.Records.{fields_in_order}
-use Rattle.cedar_json.specs.Said.{is_reserved, keys_of_pairs}
+use Rattle.cedar_json.specs.Said.{is_reserved_key, keys_of_pairs}
 use Rattle.cedar_json.specs.Words.{is_name}
 
 abbrev pub LiteralHasJson : Literal → Type 0
@@ -44,7 +44,7 @@ abbrev mutual
 
   pub FieldsHaveJson : Fields → Type 0
   FieldsHaveJson no_fields = ⊤
-  FieldsHaveJson (one_field k t fs) = (is_reserved k ≡ false) × HasJson t × FieldsHaveJson fs
+  FieldsHaveJson (one_field k t fs) = (is_reserved_key k ≡ false) × HasJson t × FieldsHaveJson fs
 
 -- ---- what the types of expressions keep, at any depth: longs are longs, and records have each key once, in order
 

@@ -2,7 +2,6 @@
 use Rattle.std.proofs.Common.{◌≡◌, ℕ, ◌+◌, ◌<◌, ◌≤◌, List, [], ◌∷◌, ◌++◌, length, refl, ap, arith}
 use Rattle.std.proofs.Common.{Bool, true, false, Some, None, add-one, if◌then◌else◌}
 use Prim.Native.Nat.{max}
-use Rattle.cedar_tokens.specs.Kinds.{is_identifier}
 use Rattle.cedar_tokens.specs.declared.tokens.Kind.{Kind}
 use Rattle.cedar_tokens.specs.declared.tokens.Kind.TheVariants as kind
 use Rattle.cedar_tokens.specs.declared.tokens.Token.{Token}
@@ -14,35 +13,28 @@ use Rattle.cedar_syntax.specs.declared.steps.Binary.TheVariants as binaries
 use Rattle.cedar_syntax.specs.declared.steps.Bracketed.TheVariants.{Set}
 use Rattle.cedar_syntax.specs.declared.steps.What.TheVariants as what
 use Rattle.cedar_syntax.specs.declared.steps.Step.{Step}
-use Rattle.cedar_syntax.specs.Tokens.{kind_at, start_at, end_at}
+use Rattle.cedar_tokens.specs.Sequence.{kind_at, start_at, end_at}
 use Rattle.cedar_syntax.specs.Trees.{Tree, Trees, none, also, binary, height, count, stacked, gathered, left_below}
 use Rattle.cedar_syntax.specs.Trees.{made, trees, FindParts}
-use Rattle.cedar_syntax.specs.Grammar.{IsPath, one_name, name_inside, IsInBraces}
+use Rattle.cedar_syntax.specs.Grammar.{IsPath, IsInBraces}
+use Rattle.cedar_syntax.proofs.Listed.{gathered-stacked, left_below-stacked}
+use Rattle.cedar_syntax.proofs.Parts.{stacked_count}
 use Rattle.cedar_policy_syntax.specs.declared.policies.Annotation.{Annotation}
 use Rattle.cedar_policy_syntax.specs.declared.policies.PolicySteps.{PolicySteps}
 use Rattle.cedar_policy_syntax.specs.declared.policies.Variable.{Variable}
 use Rattle.cedar_policy_syntax.specs.declared.policies.Variable.TheVariants as variable
-use Rattle.cedar_policy_syntax.specs.Grammar.{kind_of, is_slot_of, has_type, effect_of, relation_of, negates, is_word}
+use Rattle.cedar_policy_syntax.specs.Grammar.{variable_kind, is_slot_of, has_type, effect_of, relation_of, negates}
+use Rattle.cedar_policy_syntax.specs.Grammar.{is_word}
 use Rattle.cedar_policy_syntax.specs.Grammar.{variable_at, IsEntity, entity, IsReference, to_entity, to_slot}
 use Rattle.cedar_policy_syntax.specs.Grammar.{one_entity, one_entity_more, no_entity}
 use Rattle.cedar_policy_syntax.specs.Grammar.{some_entities, IsSet, is_set, IsConstraint, unconstrained, compared}
 use Rattle.cedar_policy_syntax.specs.Grammar.{in_list, of_type, of_type_in, clause, one_clause}
-use Rattle.cedar_policy_syntax.specs.Grammar.{one_clause_more, IsCondition, no_clause, some_clauses, AreAnnotations}
+use Rattle.cedar_policy_syntax.specs.Grammar.{one_clause_more, HasConditions, no_clause, some_clauses, AreAnnotations}
 use Rattle.cedar_policy_syntax.specs.Grammar.{one_key, one_value, scope, policy}
 use Rattle.cedar_policy_syntax.specs.Reading.{Puts, puts, PutsEntities, puts_entities, PutsClause, puts_clause}
 use Rattle.cedar_policy_syntax.specs.Reading.{PutsClauses, puts_clauses, PutsScope, puts_scope, HasPolicy}
 use Rattle.cedar_policy_syntax.proofs.Joining.{find_appended}
 use Rattle.cedar_policy_syntax.proofs.Within.{policy_nested}
-
--- ---- names
-
-pub one_read : {all : List Token} {i e : ℕ} → is_identifier (kind_at all i) ≡ true → e ≡ end_at all i →
-    IsPath all i (i + 1) (start_at all i) e
-one_read w e_is = rw e_is (one_name w)
-
-pub name_more : {all : List Token} {i k n s e f : ℕ} → kind_at all k ≡ kind.Colons → n ≡ k + 1 →
-    is_identifier (kind_at all n) ≡ true → f ≡ end_at all n → IsPath all i k s e → IsPath all i (n + 1) s f
-name_more c n_is w f_is h = rw (f_is, n_is) (name_inside h c (rw n_is at w))
 
 -- ---- steps behind others
 
@@ -78,18 +70,6 @@ pub another_put : {all : List Token} {i j k n at e : ℕ} {ts us ws : List Tree}
 another_put {ts = ts} (puts_entities {ps = ps} hs) k at_is (puts h) =
     rw (add-one (count ps)) (puts_entities (one_entity_more hs k (rw at_is at h)))
 
-gathered-stacked : (ps : Trees) (ts : List Tree) → gathered (count ps) (stacked ps ts) ≡ ps
-gathered-stacked none ts = refl
-gathered-stacked (also ps p) ts = ap (λ (qs : Trees). also qs p) (gathered-stacked ps ts)
-
-left_below-stacked : (ps : Trees) (ts : List Tree) → left_below (count ps) (stacked ps ts) ≡ ts
-left_below-stacked none ts = refl
-left_below-stacked (also ps p) ts = left_below-stacked ps ts
-
-stacked_count : (ps : Trees) (ts : List Tree) → count ps ≤ length (stacked ps ts)
-stacked_count none ts = omega arith
-stacked_count (also ps p) ts = omega (arith, stacked_count ps ts)
-
 pub entities_count : {all : List Token} {i j n : ℕ} {ts us : List Tree} → PutsEntities all i j n ts us → n ≤ length us
 entities_count {ts = ts} (puts_entities {ps = ps} hs) = stacked_count ps ts
 
@@ -107,7 +87,7 @@ set_made {ts = ts} k first_is (puts_entities {ps = ps} hs) l s_is e_is w_is =
     (puts (is_set (some_entities k (rw first_is at hs) l)))
 
 pub unconstrained_made : {all : List Token} {v : Variable} {i s e : ℕ} {ts ws : List Tree} →
-    kind_at all i ≡ kind_of v → s ≡ start_at all i → e ≡ end_at all i →
+    kind_at all i ≡ variable_kind v → s ≡ start_at all i → e ≡ end_at all i →
     ws ≡ made (what.Leaf (leaves.Bool true)) s e ts → Puts (IsConstraint all v i (i + 1)) ts ws
 unconstrained_made k s_is e_is w_is = rw (w_is, s_is, e_is) (puts (unconstrained k))
 
@@ -116,7 +96,7 @@ both_made : {b : Binary} {s e : ℕ} {x p : Tree} {ts us : List Tree} → us ≡
 both_made u_is = rw u_is refl
 
 pub compared_made : {all : List Token} {v : Variable} {b : Binary} {o : Kind} {i at j s e : ℕ}
-    {ts us vs ws : List Tree} → kind_at all i ≡ kind_of v → kind_at all (i + 1) ≡ o → relation_of o ≡ Some b →
+    {ts us vs ws : List Tree} → kind_at all i ≡ variable_kind v → kind_at all (i + 1) ≡ o → relation_of o ≡ Some b →
     at ≡ i + 1 + 1 → us ≡ variable_at all i ∷ ts → Puts (IsReference all v at j e) us vs → s ≡ start_at all i →
     ws ≡ made (what.Binary b) s e vs → Puts (IsConstraint all v i j) ts ws
 compared_made {b = b} k o_is r at_is u_is (puts h) s_is w_is =
@@ -130,13 +110,13 @@ list_made k o at_is u_is (puts h) s_is e_is w_is n_is =
     rw (w_is, both_made u_is, s_is, e_is, n_is) (puts (in_list refl k o (rw at_is at h)))
 
 pub type_made : {all : List Token} {v : Variable} {i at k s t e : ℕ} {ts us ws : List Tree} → has_type v ≡ true →
-    kind_at all i ≡ kind_of v → kind_at all (i + 1) ≡ kind.Is → at ≡ i + 1 + 1 → us ≡ variable_at all i ∷ ts →
+    kind_at all i ≡ variable_kind v → kind_at all (i + 1) ≡ kind.Is → at ≡ i + 1 + 1 → us ≡ variable_at all i ∷ ts →
     IsPath all at k t e → s ≡ start_at all i → ws ≡ made (what.Unary (unaries.Is at k)) s e us →
     Puts (IsConstraint all v i k) ts ws
 type_made h k o at_is u_is p s_is w_is = rw (w_is, s_is, u_is, at_is) (puts (of_type h k o (rw at_is at p)))
 
 pub type_in_made : {all : List Token} {v : Variable} {i name k at j s t e f : ℕ} {ts us vs ws : List Tree} →
-    has_type v ≡ true → kind_at all i ≡ kind_of v → kind_at all (i + 1) ≡ kind.Is → name ≡ i + 1 + 1 →
+    has_type v ≡ true → kind_at all i ≡ variable_kind v → kind_at all (i + 1) ≡ kind.Is → name ≡ i + 1 + 1 →
     IsPath all (i + 1 + 1) k t f → kind_at all k ≡ kind.In → at ≡ k + 1 → us ≡ variable_at all i ∷ ts →
     Puts (IsReference all v at j e) us vs → s ≡ start_at all i →
     ws ≡ made (what.Binary (binaries.IsIn name k)) s e vs → Puts (IsConstraint all v i j) ts ws
@@ -190,12 +170,12 @@ clause_two le (puts_clause h) = omega (arith, le)
 
 pub condition_made : {all : List Token} {i j s e h limit : ℕ} {ts us : List Tree} → PutsClauses all i s j e h ts us →
     h ≤ limit → kind_at all j ≡ kind.Semicolon →
-    Puts (λ p. IsCondition all i j p × (height p ≤ limit)) ts us
+    Puts (λ p. HasConditions all i j p × (height p ≤ limit)) ts us
 condition_made (puts_clauses hs) le k = puts (some_clauses hs k, le)
 
 pub no_condition_made : {all : List Token} {i s e limit : ℕ} {ts ws : List Tree} → kind_at all i ≡ kind.Semicolon →
     1 ≤ limit → s ≡ start_at all i → e ≡ end_at all i → ws ≡ made (what.Leaf (leaves.Bool true)) s e ts →
-    Puts (λ p. IsCondition all i i p × (height p ≤ limit)) ts ws
+    Puts (λ p. HasConditions all i i p × (height p ≤ limit)) ts ws
 no_condition_made k le s_is e_is w_is = rw (w_is, s_is, e_is) (puts (no_clause k, le))
 
 -- ---- annotations
@@ -219,7 +199,7 @@ value_read k key_is w paren_is l text_is m close_is o n_is y_is h =
 
 pub policy_read : {all : List Token} {i limit k l last : ℕ} {us vs : List Tree} (out : PolicySteps) →
     AreAnnotations all i k out.annotations.items → effect_of (kind_at all k) ≡ Some out.permits →
-    PutsScope all (k + 1) l [] us → Puts (λ p. IsCondition all l last p × (height p ≤ limit)) us vs →
+    PutsScope all (k + 1) l [] us → Puts (λ p. HasConditions all l last p × (height p ≤ limit)) us vs →
     trees out.steps.items ≡ vs → out.start ≡ start_at all i → out.end ≡ end_at all last → out.next ≡ last + 1 →
     last < length all → HasPolicy all i limit out
 policy_read {all = all} {i = i} {last = last} out xs b (puts_scope {p = p} {q = q} {r = r} s) (puts {p = t} c) t_is s_is e_is n_is lt =

@@ -5,17 +5,17 @@ use Rattle.cedar_syntax.specs.declared.steps.Binary.{Binary}
 use Rattle.cedar_syntax.specs.declared.steps.Binary.TheVariants as binaries
 use Rattle.cedar_syntax.specs.declared.steps.Unary.TheVariants as unaries
 use Rattle.cedar_syntax.specs.Places.{IsInOrder, IsInside, AreInside}
-use Rattle.cedar_syntax.specs.Tokens.{start_at, end_at}
+use Rattle.cedar_tokens.specs.Sequence.{start_at, end_at}
 use Rattle.cedar_syntax.specs.Trees.{Tree, unary, binary, Trees}
 use Rattle.cedar_syntax.proofs.Growing.{path_grows, grows}
 use Rattle.cedar_syntax.proofs.Nested.{path_ends, starts_before, ends_before, across, wider, braces_nested}
-use Rattle.cedar_syntax.specs.Grammar.{IsInBraces, in_braces}
+use Rattle.cedar_syntax.specs.Grammar.{IsInBraces, in_braces, negated_if}
 use Rattle.cedar_policy_syntax.specs.declared.policies.Annotation.{Annotation}
 use Rattle.cedar_policy_syntax.specs.declared.policies.Variable.{Variable}
 use Rattle.cedar_policy_syntax.specs.Grammar.{variable_at, IsEntity, entity, IsReference, to_entity, to_slot, AreEntities}
 use Rattle.cedar_policy_syntax.specs.Grammar.{one_entity, one_entity_more, no_entity, some_entities, IsSet, is_set}
 use Rattle.cedar_policy_syntax.specs.Grammar.{IsConstraint, unconstrained, compared, in_list, of_type, of_type_in, IsClause}
-use Rattle.cedar_policy_syntax.specs.Grammar.{clause, negated_if, AreClauses, one_clause, one_clause_more, IsCondition}
+use Rattle.cedar_policy_syntax.specs.Grammar.{clause, AreClauses, one_clause, one_clause_more, HasConditions}
 use Rattle.cedar_policy_syntax.specs.Grammar.{no_clause, some_clauses, AreAnnotations, no_annotation, one_key, one_value}
 use Rattle.cedar_policy_syntax.specs.Grammar.{scope, IsPolicy, policy, PolicyTree}
 use Rattle.cedar_policy_syntax.specs.Reading.{AreBetween}
@@ -89,7 +89,7 @@ annotations_grow no_annotation = omega arith
 annotations_grow (one_key h k w) = omega (arith, annotations_grow h)
 annotations_grow (one_value h k w l m n) = omega (arith, annotations_grow h)
 
-condition_grows : {all : List Token} {i j : ℕ} {p : Tree} → IsCondition all i j p → i ≤ j
+condition_grows : {all : List Token} {i j : ℕ} {p : Tree} → HasConditions all i j p → i ≤ j
 condition_grows (no_clause k) = omega arith
 condition_grows (some_clauses hs k) =
     let g = clauses_reach hs in
@@ -222,7 +222,7 @@ module _ {all : List Token} (ordered : IsInOrder all) where
         clause_inside i g.last h (omega (arith, f.before, f.order)) (omega (arith, g.before)) before,
       )
 
-  condition_inside : {i j : ℕ} {p : Tree} (b z : ℕ) → IsCondition all i j p → b ≤ i → j ≤ z → z < length all →
+  condition_inside : {i j : ℕ} {p : Tree} (b z : ℕ) → HasConditions all i j p → b ≤ i → j ≤ z → z < length all →
       IsInside (start_at all b) (end_at all z) p
   condition_inside b z (no_clause {j = j} k) low high lt = token_inside b j z low high lt
   condition_inside b z (some_clauses hs k) low high lt = clauses_inside b z hs low (omega (arith, high)) lt

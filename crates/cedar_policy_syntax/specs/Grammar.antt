@@ -21,14 +21,13 @@ use Rattle.cedar_tokens.specs.declared.tokens.Kind.{Kind}
 use Rattle.cedar_tokens.specs.declared.tokens.Kind.TheVariants as kind
 use Rattle.cedar_tokens.specs.declared.tokens.Token.{Token}
 use Rattle.cedar_syntax.specs.declared.steps.Leaf.TheVariants as leaves
-use Rattle.cedar_syntax.specs.declared.steps.Sign.TheVariants.{Not}
 use Rattle.cedar_syntax.specs.declared.steps.Unary.TheVariants as unaries
 use Rattle.cedar_syntax.specs.declared.steps.Binary.{Binary}
 use Rattle.cedar_syntax.specs.declared.steps.Binary.TheVariants as binaries
 use Rattle.cedar_syntax.specs.declared.steps.Bracketed.TheVariants.{Set}
-use Rattle.cedar_syntax.specs.Tokens.{kind_at, start_at, end_at}
+use Rattle.cedar_tokens.specs.Sequence.{kind_at, start_at, end_at}
 use Rattle.cedar_syntax.specs.Trees.{Tree, leaf, unary, binary, bracketed, Trees, none, also}
-use Rattle.cedar_syntax.specs.Grammar.{IsPath, IsInBraces}
+use Rattle.cedar_syntax.specs.Grammar.{IsPath, IsInBraces, negated_if}
 use Rattle.cedar_policy_syntax.specs.declared.policies.Annotation.{Annotation}
 use Rattle.cedar_policy_syntax.specs.declared.policies.Variable.{Variable}
 use Rattle.cedar_policy_syntax.specs.declared.policies.Variable.TheVariants as variable
@@ -36,10 +35,10 @@ use Rattle.cedar_policy_syntax.specs.declared.policies.Variable.TheVariants as v
 -- ---- tokens
 
 -- what names the variable
-abbrev pub kind_of : Variable → Kind
-kind_of variable.Principal = kind.Principal
-kind_of variable.Action = kind.Action
-kind_of variable.Resource = kind.Resource
+abbrev pub variable_kind : Variable → Kind
+variable_kind variable.Principal = kind.Principal
+variable_kind variable.Action = kind.Action
+variable_kind variable.Resource = kind.Resource
 
 -- whether the token is the slot that may stand in the variable's constraint
 abbrev pub is_slot_of : Variable → Kind → Bool
@@ -114,26 +113,22 @@ pub data IsSet (all : List Token) : ℕ → ℕ → Tree → Type 0 where
 
 -- the constraint on a variable: tokens i up to, but not including, j
 pub data IsConstraint (all : List Token) (v : Variable) : ℕ → ℕ → Tree → Type 0 where
-  unconstrained : {i : ℕ} → kind_at all i ≡ kind_of v → IsConstraint all v i (i + 1) (true_at all i)
-  compared : {i j e : ℕ} {b : Binary} {p : Tree} → kind_at all i ≡ kind_of v →
+  unconstrained : {i : ℕ} → kind_at all i ≡ variable_kind v → IsConstraint all v i (i + 1) (true_at all i)
+  compared : {i j e : ℕ} {b : Binary} {p : Tree} → kind_at all i ≡ variable_kind v →
       relation_of (kind_at all (i + 1)) ≡ Some b → IsReference all v (i + 1 + 1) j e p →
       IsConstraint all v i j (binary b (variable_at all i) p (start_at all i) e)
-  in_list : {i j : ℕ} {p : Tree} → v ≡ variable.Action → kind_at all i ≡ kind_of v → kind_at all (i + 1) ≡ kind.In →
-      IsSet all (i + 1 + 1) j p →
+  in_list : {i j : ℕ} {p : Tree} → v ≡ variable.Action → kind_at all i ≡ variable_kind v →
+      kind_at all (i + 1) ≡ kind.In → IsSet all (i + 1 + 1) j p →
       IsConstraint all v i (j + 1) (binary binaries.In (variable_at all i) p (start_at all i) (end_at all j))
-  of_type : {i k s e : ℕ} → has_type v ≡ true → kind_at all i ≡ kind_of v → kind_at all (i + 1) ≡ kind.Is →
+  of_type : {i k s e : ℕ} → has_type v ≡ true → kind_at all i ≡ variable_kind v → kind_at all (i + 1) ≡ kind.Is →
       IsPath all (i + 1 + 1) k s e →
       IsConstraint all v i k (unary (unaries.Is (i + 1 + 1) k) (variable_at all i) (start_at all i) e)
-  of_type_in : {i j k s e f : ℕ} {p : Tree} → has_type v ≡ true → kind_at all i ≡ kind_of v →
+  of_type_in : {i j k s e f : ℕ} {p : Tree} → has_type v ≡ true → kind_at all i ≡ variable_kind v →
       kind_at all (i + 1) ≡ kind.Is → IsPath all (i + 1 + 1) k s e → kind_at all k ≡ kind.In →
       IsReference all v (k + 1) j f p →
       IsConstraint all v i j (binary (binaries.IsIn (i + 1 + 1) k) (variable_at all i) p (start_at all i) f)
 
 -- ---- clauses: tokens i up to, but not including, j, from byte s to byte e
-
-abbrev pub negated_if : Bool → Tree → ℕ → ℕ → Tree
-negated_if true p s e = unary (unaries.Sign Not) p s e
-negated_if false p s e = p
 
 pub data IsClause (all : List Token) : ℕ → ℕ → ℕ → ℕ → Tree → Type 0 where
   clause : {i j : ℕ} {b : Bool} {p : Tree} → negates (kind_at all i) ≡ Some b → IsInBraces all (i + 1) j p →
@@ -145,10 +140,10 @@ pub data AreClauses (all : List Token) : ℕ → ℕ → ℕ → ℕ → Tree �
       AreClauses all i k s g (binary binaries.And p q s g)
 
 -- what stands behind the scope, up to the semicolon, token j
-pub data IsCondition (all : List Token) : ℕ → ℕ → Tree → Type 0 where
-  no_clause : {j : ℕ} → kind_at all j ≡ kind.Semicolon → IsCondition all j j (true_at all j)
+pub data HasConditions (all : List Token) : ℕ → ℕ → Tree → Type 0 where
+  no_clause : {j : ℕ} → kind_at all j ≡ kind.Semicolon → HasConditions all j j (true_at all j)
   some_clauses : {i j s e : ℕ} {p : Tree} → AreClauses all i j s e p → kind_at all j ≡ kind.Semicolon →
-      IsCondition all i j p
+      HasConditions all i j p
 
 -- ---- policies
 
@@ -182,6 +177,6 @@ pub data IsScope (all : List Token) : ℕ → ℕ → Tree → Tree → Tree →
 -- tokens i up to j, the semicolon, derive the policy
 pub data IsPolicy (all : List Token) : ℕ → ℕ → PolicyTree → Type 0 where
   policy : {i j k l : ℕ} {xs : List Annotation} {b : Bool} {p q r t : Tree} → AreAnnotations all i k xs →
-      effect_of (kind_at all k) ≡ Some b → IsScope all (k + 1) l p q r → IsCondition all l j t →
+      effect_of (kind_at all k) ≡ Some b → IsScope all (k + 1) l p q r → HasConditions all l j t →
       IsPolicy all i j
       (record { annotations = xs; permits = b; principal = p; action = q; resource = r; condition = t })

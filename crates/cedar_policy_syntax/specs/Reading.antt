@@ -2,7 +2,7 @@
 use Rattle.std.specs.Prelude.{◌≡◌, ℕ, ◌+◌, ◌<◌, ◌≤◌, List, [], ◌∷◌, length}
 use Rattle.cedar_tokens.specs.declared.tokens.Token.{Token}
 use Rattle.cedar_syntax.specs.Places.{IsInOrder, IsInside}
-use Rattle.cedar_syntax.specs.Tokens.{start_at, end_at}
+use Rattle.cedar_tokens.specs.Sequence.{start_at, end_at}
 use Rattle.cedar_syntax.specs.Trees.{Tree, Trees, height, stacked, count, trees}
 use Rattle.cedar_policy_syntax.specs.declared.policies.PolicySteps.{PolicySteps}
 use Rattle.cedar_policy_syntax.specs.Grammar.{AreEntities, AreClauses, IsClause, IsScope, IsPolicy}

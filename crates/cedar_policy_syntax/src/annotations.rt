@@ -1,14 +1,16 @@
 //! The annotations of a policy, before its effect.
 ghost use Rattle.std.specs.Prelude.{◌≡◌, ◌+◌, ◌<◌, ◌++◌, ◌∷◌, [], true, length, IfOk, IfErr, ℕ};
 ghost use Rattle.cedar_syntax.specs.Places.{IsPlaced};
-ghost use Rattle.cedar_syntax.specs.Tokens as Tokens;
+ghost use Rattle.cedar_tokens.specs.Sequence as Tokens;
 ghost use Rattle.cedar_tokens.specs.declared.tokens.Kind.TheVariants as kind;
 ghost use Rattle.cedar_policy_syntax.specs.Grammar.{AreAnnotations};
 ghost use Rattle.cedar_policy_syntax.specs.Grammar as Grammar;
 
-use crate::looking::{expect, kind_at, word};
+use crate::looking::expect_word;
 use crate::policies::Annotation;
+use cedar_syntax::expect;
 use cedar_tokens::errors::{Expected, ReadError};
+use cedar_tokens::sequence::kind_at;
 use cedar_tokens::tokens::{Kind, Token};
 use std::alloc::Global;
 
@@ -48,7 +50,7 @@ fn annotation(
     ensures err { IfErr result (λ error. IsPlaced tokens.now error) }
 {
     let key = expect(tokens, index, Kind::At, Expected::Policy)?;
-    let behind = word(tokens, key)?;
+    let behind = expect_word(tokens, key)?;
     if kind_at(tokens, behind) == Kind::OpenParen {
         let next = annotation_value(annotations, tokens, index, key, behind)?;
         return Ok(next);

@@ -1,19 +1,20 @@
 //! The clauses of a policy, behind its scope.
 ghost use Rattle.std.specs.Prelude.{◌≡◌, ◌+◌, ◌<◌, ◌≤◌, ◌∷◌, ℕ, List, length, IfOk, IfErr, Some};
 ghost use Rattle.cedar_syntax.specs.Places.{IsPlaced};
-ghost use Rattle.cedar_syntax.specs.Tokens as Tokens;
+ghost use Rattle.cedar_tokens.specs.Sequence as Tokens;
 ghost use Rattle.cedar_syntax.specs.Trees as Trees;
 ghost use Rattle.cedar_syntax.specs.Trees.{Tree, trees};
 ghost use Rattle.cedar_syntax.specs.Grammar.{IsInBraces};
 ghost use Rattle.cedar_policy_syntax.specs.Grammar as Grammar;
-ghost use Rattle.cedar_policy_syntax.specs.Grammar.{IsCondition};
+ghost use Rattle.cedar_policy_syntax.specs.Grammar.{HasConditions};
 ghost use Rattle.cedar_policy_syntax.specs.Reading.{Puts, PutsClause, PutsClauses};
 
-use crate::looking::{self, end_at, expect, kind_at, start_at};
+use crate::looking;
 use crate::written::Written;
 use cedar_syntax::steps::{Binary, Leaf, Sign, Unary, What};
-use cedar_syntax::{ClauseSteps, clause_steps, expected_at, too_deep};
+use cedar_syntax::{ClauseSteps, clause_steps, expect, expected_at, too_deep};
 use cedar_tokens::errors::{Expected, ReadError};
+use cedar_tokens::sequence::{end_at, kind_at, start_at};
 use cedar_tokens::tokens::{Kind, Token};
 use std::alloc::Global;
 
@@ -34,7 +35,7 @@ impl Written {
         index: usize,
         limit: usize,
     ) -> Result<usize, ReadError>
-        ensures ok { IfOk result (λ last. Puts (λ p. IsCondition tokens.now index last p × (Trees.height p ≤ limit))
+        ensures ok { IfOk result (λ last. Puts (λ p. HasConditions tokens.now index last p × (Trees.height p ≤ limit))
             (trees self.old.steps.items) (trees self.new.steps.items)) }
         ensures within { IfOk result (λ last. last < length tokens.now) }
         ensures err { IfErr result (λ error. IsPlaced tokens.now error) }
@@ -54,7 +55,7 @@ impl Written {
         index: usize,
         limit: usize,
     ) -> Result<usize, ReadError>
-        ensures ok { IfOk result (λ last. Puts (λ p. IsCondition tokens.now index last p × (Trees.height p ≤ limit))
+        ensures ok { IfOk result (λ last. Puts (λ p. HasConditions tokens.now index last p × (Trees.height p ≤ limit))
             (trees self.old.steps.items) (trees self.new.steps.items)) }
         ensures within { IfOk result (λ last. last < length tokens.now) }
         ensures err { IfErr result (λ error. IsPlaced tokens.now error) }
@@ -109,7 +110,7 @@ impl Written {
         ensures err { IfErr result (λ error. IsPlaced tokens.now error) }
     {
         let more = self.clause(alloc, tokens, before.next, limit)?;
-        let below = looking::higher(before.height, more.height);
+        let below = before.height.max(more.height);
         if limit <= below {
             return Err(too_deep(tokens, start, more.next));
         }

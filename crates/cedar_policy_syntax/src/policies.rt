@@ -1,17 +1,18 @@
 //! A policy as it is read: its annotations and effect, and the steps of its constraints and its condition.
 ghost use Rattle.std.specs.Prelude.{◌≡◌, ◌<◌, length, [], IfOk, IfErr, Some};
 ghost use Rattle.cedar_syntax.specs.Places.{IsPlaced};
-ghost use Rattle.cedar_syntax.specs.Tokens as Tokens;
+ghost use Rattle.cedar_tokens.specs.Sequence as Tokens;
 ghost use Rattle.cedar_syntax.specs.Trees.{FindParts};
 ghost use Rattle.cedar_policy_syntax.specs.Grammar as Grammar;
 ghost use Rattle.cedar_policy_syntax.specs.Reading.{HasPolicy};
 
 use crate::annotations::{Annotated, annotations};
-use crate::looking::{self, end_at, kind_at, start_at};
+use crate::looking;
 use crate::written::Written;
 use cedar_syntax::expected_at;
 use cedar_syntax::steps::Step;
 use cedar_tokens::errors::{Expected, ReadError};
+use cedar_tokens::sequence::{end_at, kind_at, start_at};
 use cedar_tokens::tokens::Token;
 use std::alloc::Global;
 

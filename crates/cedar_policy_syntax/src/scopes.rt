@@ -1,7 +1,7 @@
 //! The scope of a policy: what its principal, its action and its resource must be.
 ghost use Rattle.std.specs.Prelude.{◌≡◌, ◌+◌, ◌<◌, ◌∷◌, ℕ, List, length, IfOk, IfErr, Some, true};
 ghost use Rattle.cedar_syntax.specs.Places.{IsPlaced};
-ghost use Rattle.cedar_syntax.specs.Tokens as Tokens;
+ghost use Rattle.cedar_tokens.specs.Sequence as Tokens;
 ghost use Rattle.cedar_syntax.specs.Trees.{trees, Tree};
 ghost use Rattle.cedar_syntax.specs.Grammar.{IsPath};
 ghost use Rattle.cedar_tokens.specs.declared.tokens.Kind.TheVariants as kind;
@@ -9,12 +9,13 @@ ghost use Rattle.cedar_policy_syntax.specs.Grammar as Grammar;
 ghost use Rattle.cedar_policy_syntax.specs.Grammar.{IsEntity, IsReference, IsSet, IsConstraint};
 ghost use Rattle.cedar_policy_syntax.specs.Reading.{Puts, PutsEntities, PutsScope};
 
-use crate::looking::{self, Reach, end_at, expect, kind_at, start_at};
+use crate::looking;
 use crate::policies::Variable;
 use crate::written::Written;
-use cedar_syntax::expected_at;
 use cedar_syntax::steps::{Binary, Bracketed, Leaf, Unary, What};
+use cedar_syntax::{Reach, accept, expect, expected_at, path};
 use cedar_tokens::errors::{Expected, ReadError};
+use cedar_tokens::sequence::{end_at, kind_at, start_at};
 use cedar_tokens::tokens::{Kind, Token};
 
 // Entities were read, so many, up to this token.
@@ -53,7 +54,7 @@ impl Written {
         ensures err { IfErr result (λ error. IsPlaced tokens.now error) }
     {
         let what = looking::expected_variable(variable);
-        let next = expect(tokens, index, looking::kind_of(variable), what)?;
+        let next = expect(tokens, index, looking::variable_kind(variable), what)?;
         self.constraint_at(variable, tokens, index, kind_at(tokens, next))
     }
 
@@ -66,7 +67,7 @@ impl Written {
         behind: Kind,
     ) -> Result<usize, ReadError>
         requires within { index < length tokens.now }
-        requires is { Tokens.kind_at tokens.now index ≡ Grammar.kind_of variable }
+        requires is { Tokens.kind_at tokens.now index ≡ Grammar.variable_kind variable }
         ensures ok { IfOk result (λ next. Puts (IsConstraint tokens.now variable index next)
             (trees self.old.steps.items) (trees self.new.steps.items)) }
         ensures err { IfErr result (λ error. IsPlaced tokens.now error) }
@@ -86,7 +87,7 @@ impl Written {
         index: usize,
     ) -> Result<usize, ReadError>
         requires within { index < length tokens.now }
-        requires is { Tokens.kind_at tokens.now index ≡ Grammar.kind_of variable }
+        requires is { Tokens.kind_at tokens.now index ≡ Grammar.variable_kind variable }
         ensures ok { IfOk result (λ next. Puts (IsConstraint tokens.now variable index next)
             (trees self.old.steps.items) (trees self.new.steps.items)) }
         ensures err { IfErr result (λ error. IsPlaced tokens.now error) }
@@ -117,7 +118,7 @@ impl Written {
         index: usize,
     ) -> Result<usize, ReadError>
         requires within { index < length tokens.now }
-        requires is { Tokens.kind_at tokens.now index ≡ Grammar.kind_of variable }
+        requires is { Tokens.kind_at tokens.now index ≡ Grammar.variable_kind variable }
         requires relation { Grammar.relation_of kind ≡ Some binary }
         ensures ok { IfOk result (λ next. Puts (IsConstraint tokens.now variable index next)
             (trees self.old.steps.items) (trees self.new.steps.items)) }
@@ -143,7 +144,7 @@ impl Written {
         index: usize,
     ) -> Result<usize, ReadError>
         requires within { index < length tokens.now }
-        requires is { Tokens.kind_at tokens.now index ≡ Grammar.kind_of variable }
+        requires is { Tokens.kind_at tokens.now index ≡ Grammar.variable_kind variable }
         ensures ok { IfOk result (λ next. Puts (IsConstraint tokens.now variable index next)
             (trees self.old.steps.items) (trees self.new.steps.items)) }
         ensures err { IfErr result (λ error. IsPlaced tokens.now error) }
@@ -187,7 +188,7 @@ impl Written {
         index: usize,
     ) -> Result<usize, ReadError>
         requires within { index < length tokens.now }
-        requires is { Tokens.kind_at tokens.now index ≡ Grammar.kind_of variable }
+        requires is { Tokens.kind_at tokens.now index ≡ Grammar.variable_kind variable }
         ensures ok { IfOk result (λ next. Puts (IsConstraint tokens.now variable index next)
             (trees self.old.steps.items) (trees self.new.steps.items)) }
         ensures err { IfErr result (λ error. IsPlaced tokens.now error) }
@@ -206,7 +207,7 @@ impl Written {
         index: usize,
     ) -> Result<usize, ReadError>
         requires within { index < length tokens.now }
-        requires is { Tokens.kind_at tokens.now index ≡ Grammar.kind_of variable }
+        requires is { Tokens.kind_at tokens.now index ≡ Grammar.variable_kind variable }
         requires typed { Grammar.has_type variable ≡ true }
         ensures ok { IfOk result (λ next. Puts (IsConstraint tokens.now variable index next)
             (trees self.old.steps.items) (trees self.new.steps.items)) }
@@ -232,7 +233,7 @@ impl Written {
         path: Reach,
     ) -> Result<usize, ReadError>
         requires within { index < length tokens.now }
-        requires is { Tokens.kind_at tokens.now index ≡ Grammar.kind_of variable }
+        requires is { Tokens.kind_at tokens.now index ≡ Grammar.variable_kind variable }
         requires typed { Grammar.has_type variable ≡ true }
         requires behind { Tokens.kind_at tokens.now (index + 1) ≡ kind.Is }
         requires path { IsPath tokens.now (index + 1 + 1) path.next
@@ -297,7 +298,7 @@ impl Written {
             (trees self.old.steps.items) (trees self.new.steps.items)) }
         ensures err { IfErr result (λ error. IsPlaced tokens.now error) }
     {
-        let path = looking::path(tokens, index, what)?;
+        let path = path(tokens, index, what)?;
         let id = expect(tokens, path.next, Kind::Colons, Expected::Name)?;
         let next = expect(tokens, id, Kind::Text, Expected::NameOrId)?;
         let end = end_at(tokens, id);
@@ -313,7 +314,7 @@ impl Written {
         ensures err { IfErr result (λ error. IsPlaced tokens.now error) }
     {
         let first = expect(tokens, index, Kind::OpenBracket, Expected::Entity)?;
-        match looking::behind(tokens, first, Kind::CloseBracket) {
+        match accept(tokens, first, Kind::CloseBracket) {
             Some(_) => {
                 let what = What::Bracketed(Bracketed::Set, 0);
                 self.put(tokens, what, start_at(tokens, index), end_at(tokens, first))?;

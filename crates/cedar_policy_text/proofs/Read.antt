@@ -12,9 +12,8 @@ use Rattle.cedar_layers.specs.declared.policies.policy.Annotations.{Annotations}
 use Rattle.cedar_layers.specs.declared.policies.policy.Policy.{Policy}
 use Rattle.cedar_layers.specs.declared.policies.policy.PolicyID.{PolicyID}
 use Rattle.cedar_names.specs.declared.names.Loc.{Loc}
-use Rattle.cedar_tokens.specs.declared.tokens.Kind.TheVariants as kind
 use Rattle.cedar_tokens.specs.declared.tokens.Token.{Token}
-use Rattle.cedar_syntax.specs.Tokens.{token_at, start_at}
+use Rattle.cedar_tokens.specs.Sequence.{token_at, start_at}
 use Rattle.cedar_syntax.specs.Trees.{Tree, trees}
 use Rattle.cedar_policy_syntax.specs.Grammar.{PolicyTree}
 use Rattle.cedar_policy_syntax.specs.Reading.{HasPolicy}

@@ -20,7 +20,7 @@ use Rattle.cedar_tokens.specs.Tokens.{IsTokens}
 use Rattle.cedar_tokens.specs.declared.tokens.Kind.{Kind}
 use Rattle.cedar_tokens.specs.declared.tokens.Kind.TheVariants as kind
 use Rattle.cedar_tokens.specs.declared.tokens.Token.{Token}
-use Rattle.cedar_syntax.specs.Tokens.{kind_at, start_at, end_at}
+use Rattle.cedar_tokens.specs.Sequence.{kind_at, start_at, end_at}
 use Rattle.cedar_syntax.specs.Trees.{height}
 use Rattle.cedar_policy_syntax.specs.Grammar.{PolicyTree, IsPolicy}
 use Rattle.cedar_policy_syntax.specs.declared.policies.Annotation.{Annotation}

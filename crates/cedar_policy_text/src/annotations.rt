@@ -2,7 +2,7 @@
 ghost use Rattle.std.specs.Prelude.{◌≡◌, ◌<◌, ◌∷◌, ◌++◌, [], List, Some, length, All, IfOk, IfErr};
 ghost use Rattle.std.specs.Rc.{rc_str_bytes};
 ghost use Rattle.cedar_tokens.specs.Values.{Stands};
-ghost use Rattle.cedar_syntax.specs.Tokens as Tokens;
+ghost use Rattle.cedar_tokens.specs.Sequence as Tokens;
 ghost use Rattle.cedar_policy_syntax.specs.declared.policies.Annotation as declared;
 ghost use Rattle.cedar_text.specs.Reading.{IsWithin};
 ghost use Rattle.cedar_policy_text.specs.Reading.{AreAnnotated, IsValueAt};
@@ -11,6 +11,7 @@ use cedar_layers::policies::Annotations;
 use cedar_policy_syntax::policies::Annotation;
 use cedar_syntax::expected_at;
 use cedar_tokens::errors::{Expected, ReadError};
+use cedar_tokens::sequence::token_at;
 use cedar_tokens::tokens::{Kind, Token};
 use cedar_tokens::values;
 use std::alloc::Global;
@@ -103,20 +104,5 @@ fn token_there(text: &str, tokens: &[Token], index: usize) -> Result<Token, Read
         Ok(token_at(tokens, index))
     } else {
         Err(expected_at(tokens, index, Expected::Steps))
-    }
-}
-
-/// The token of this number; behind the last one, one of kind `End`.
-#[tactic(auto, unfolding(cedar_syntax::specs::Tokens::token_at))]
-pub(crate) fn token_at(tokens: &[Token], index: usize) -> Token
-    ensures { result ≡ Tokens.token_at tokens.now index }
-{
-    match tokens.get(index) {
-        Some(token) => *token,
-        None => Token {
-            kind: Kind::End,
-            start: 0,
-            end: 0,
-        },
     }
 }

@@ -3,20 +3,20 @@ ghost use Rattle.std.specs.Prelude.{◌≡◌, ◌+◌, ◌++◌, ◌∷◌, ℕ
 ghost use Rattle.cedar_layers.specs.Policies.{policy_id_text};
 ghost use Rattle.cedar_tokens.specs.Values.{Stands};
 ghost use Rattle.cedar_tokens.specs.declared.tokens.Kind.TheVariants as kind;
-ghost use Rattle.cedar_syntax.specs.Tokens as Tokens;
+ghost use Rattle.cedar_tokens.specs.Sequence as Tokens;
 ghost use Rattle.cedar_policy_text.specs.Reading.{IsPolicyText, IsPolicyAt, AreAllRead, HasSlot, HasNoSlot};
 ghost use Rattle.cedar_policy_text.specs.Reading.{is_slot, id_of, IsSoFar, IsRead, AreWithin};
 ghost use Rattle.cedar_syntax.specs.Places.{IsPlaced};
 ghost use Rattle.cedar_text.specs.Reading.{IsWithin};
 ghost use Rattle.cedar_tokens.specs.Tokens.{IsTokens};
 
-use crate::annotations::token_at;
 use crate::reading::{Read, policy_at};
 use cedar_layers::policies::{Policy, PolicyID, PolicySet, PolicySetError};
 use cedar_names::FirstRest;
-use cedar_syntax::expected_at;
+use cedar_syntax::{expect, expected_at};
 use cedar_tokens::errors::{Expected, ReadError};
 use cedar_tokens::lexer;
+use cedar_tokens::sequence::kind_at;
 use cedar_tokens::tokens::{Kind, Token};
 use std::alloc::{AllocError, Global};
 use std::rc::RcStr;
@@ -58,20 +58,11 @@ fn ends_at(tokens: &[Token], index: usize) -> Result<(), ReadError>
     ensures last { IfOk result (λ _. index + 1 ≡ length tokens.now) }
     ensures err { IfErr result (IsPlaced tokens.now) }
 {
-    if index < tokens.len() && index + 1 == tokens.len() {
-        end_there(tokens, index)
+    let next = expect(tokens, index, Kind::End, Expected::End)?;
+    if next == tokens.len() {
+        Ok(())
     } else {
         Err(expected_at(tokens, index, Expected::End))
-    }
-}
-
-fn end_there(tokens: &[Token], index: usize) -> Result<(), ReadError>
-    ensures is { IfOk result (λ _. Tokens.kind_at tokens.now index ≡ kind.End) }
-    ensures err { IfErr result (IsPlaced tokens.now) }
-{
-    match token_at(tokens, index).kind {
-        Kind::End => Ok(()),
-        _ => Err(expected_at(tokens, index, Expected::End)),
     }
 }
 
@@ -301,7 +292,7 @@ fn slot_among(tokens: &[Token], from: usize, to: usize) -> Option<usize>
     ensures none { IfNone result (HasNoSlot tokens.now from to) }
 {
     for index in from..to {
-        if is_slot(token_at(tokens, index).kind) {
+        if is_slot(kind_at(tokens, index)) {
             return Some(index);
         }
     }

@@ -6,7 +6,7 @@ use Rattle.cedar_tokens.specs.declared.errors.ReadError.{ReadError}
 use Rattle.cedar_tokens.specs.declared.errors.ReadError.TheVariants as error
 use Rattle.cedar_tokens.specs.declared.tokens.Kind.{Kind}
 use Rattle.cedar_tokens.specs.declared.tokens.Token.{Token}
-use Rattle.cedar_syntax.specs.Tokens.{token_at, end_at}
+use Rattle.cedar_tokens.specs.Sequence.{token_at, end_at}
 use Rattle.cedar_syntax.specs.Places.{IsPlaced, at_token, at_end, up_to_token, end_of}
 
 pub token_placed : {all : List Token} {i : ℕ} {t : Token} {r : ReadError} (what : Expected) → i < length all →

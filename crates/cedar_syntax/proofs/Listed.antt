@@ -11,7 +11,7 @@ use Rattle.cedar_syntax.specs.declared.steps.Bracketed.TheVariants.{Set, Record,
 use Rattle.cedar_syntax.specs.declared.steps.What.TheVariants as what
 use Rattle.cedar_syntax.specs.declared.frames.Frame.{Frame}
 use Rattle.cedar_syntax.specs.declared.frames.Wait.TheVariants as wait
-use Rattle.cedar_syntax.specs.Tokens.{kind_at, start_at, end_at}
+use Rattle.cedar_tokens.specs.Sequence.{kind_at, start_at, end_at}
 use Rattle.cedar_syntax.specs.Trees.{Tree, Trees, none, also, height, count, stacked, gathered, left_below, made}
 use Rattle.cedar_syntax.specs.Grammar.{is_key, closes, takes_expressions, IsPath, by_brackets}
 use Rattle.cedar_syntax.specs.Grammar.{opens_set, opens_record, opens_call, opens_method, nothing, comma, empty}
@@ -21,11 +21,11 @@ use Rattle.cedar_syntax.specs.Reading.{AwaitsKey, for_key, Reads, part, Behind, 
 use Rattle.cedar_syntax.proofs.Growing.{grows, opens_count, begins_count, item_grows}
 use Rattle.cedar_syntax.proofs.Turns.{some_awaited}
 
-gathered-stacked : (ps : Trees) (ts : List Tree) → gathered (count ps) (stacked ps ts) ≡ ps
+pub gathered-stacked : (ps : Trees) (ts : List Tree) → gathered (count ps) (stacked ps ts) ≡ ps
 gathered-stacked none ts = refl
 gathered-stacked (also ps p) ts = ap (λ (qs : Trees). also qs p) (gathered-stacked ps ts)
 
-left_below-stacked : (ps : Trees) (ts : List Tree) → left_below (count ps) (stacked ps ts) ≡ ts
+pub left_below-stacked : (ps : Trees) (ts : List Tree) → left_below (count ps) (stacked ps ts) ≡ ts
 left_below-stacked none ts = refl
 left_below-stacked (also ps p) ts = left_below-stacked ps ts
 

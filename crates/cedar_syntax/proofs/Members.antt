@@ -9,7 +9,7 @@ use Rattle.cedar_syntax.specs.declared.steps.What.TheVariants as what
 use Rattle.cedar_syntax.specs.declared.frames.Frame.{Frame}
 use Rattle.cedar_syntax.specs.declared.frames.Wait.TheVariants as wait
 use Rattle.cedar_syntax.specs.Levels.{awaited}
-use Rattle.cedar_syntax.specs.Tokens.{kind_at, start_at, end_at}
+use Rattle.cedar_tokens.specs.Sequence.{kind_at, start_at, end_at}
 use Rattle.cedar_syntax.specs.Trees.{Tree, leaf, made}
 use Rattle.cedar_syntax.specs.Grammar.{IsPath, one_name, name_inside, IsDotted, one_attribute}
 use Rattle.cedar_syntax.specs.Grammar.{attribute_inside, by_entity, by_attribute, by_index, by_has, by_has_text}
@@ -27,6 +27,10 @@ path_one k s_is e_is = rw (s_is, e_is) (one_name k)
 pub path_more : {all : List Token} {from i s e : ℕ} → BehindColons all from i s →
     is_identifier (kind_at all i) ≡ true → e ≡ end_at all i → IsPath all from (i + 1) s e
 path_more (colons h c) k e_is = rw e_is (name_inside h c k)
+
+pub name_more : {all : List Token} {i k n s e f : ℕ} → kind_at all k ≡ kind.Colons → n ≡ k + 1 →
+    is_identifier (kind_at all n) ≡ true → f ≡ end_at all n → IsPath all i k s e → IsPath all i (n + 1) s f
+name_more c n_is w f_is h = rw (f_is, n_is) (name_inside h c (rw n_is at w))
 
 pub entity_read : {all : List Token} {fs : List Frame} {ts : List Tree} {from i s e : ℕ} {m : Look} →
     Waits all fs ts from → BehindColons all from i s → kind_at all i ≡ kind.Text → e ≡ end_at all i → m ≡ record

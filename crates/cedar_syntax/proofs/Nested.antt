@@ -6,7 +6,7 @@ use Rattle.cedar_tokens.specs.declared.tokens.Token.{Token}
 use Rattle.cedar_syntax.specs.declared.steps.Sign.{Sign}
 use Rattle.cedar_syntax.specs.declared.steps.Sign.TheVariants.{Neg}
 use Rattle.cedar_syntax.specs.declared.steps.Bracketed.{Bracketed}
-use Rattle.cedar_syntax.specs.Tokens.{start_at, end_at}
+use Rattle.cedar_tokens.specs.Sequence.{start_at, end_at}
 use Rattle.cedar_syntax.specs.Trees.{Tree, leaf, unary, binary, conditional, field, bracketed, Trees, signed, height}
 use Rattle.cedar_syntax.specs.Places.{IsInOrder, IsInside, AreInside, IsNested}
 use Rattle.cedar_syntax.specs.Grammar.{negated_if, is_negated, binary_of, IsPath, one_name, name_inside, IsDotted}

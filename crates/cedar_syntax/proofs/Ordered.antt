@@ -1,8 +1,8 @@
 -- The tokens of a text stand in order.
-use Rattle.std.proofs.Common.{ℕ, ◌+◌, ◌<◌, ◌≤◌, List, length, arith, suc, zero}
+use Rattle.std.proofs.Common.{ℕ, ◌<◌, ◌≤◌, List, length, arith, suc, zero}
 use Rattle.cedar_tokens.specs.declared.tokens.Token.{Token}
 use Rattle.cedar_tokens.specs.Tokens.{IsTokens, end, skips, has}
-use Rattle.cedar_syntax.specs.Tokens.{token_at, start_at, end_at}
+use Rattle.cedar_tokens.specs.Sequence.{token_at, start_at, end_at}
 use Rattle.cedar_syntax.specs.Places.{IsInOrder}
 
 -- no token starts before the bytes do

@@ -76,7 +76,7 @@ pub signs_one : (u : Sign) (c s e : ℕ) (ts : List Tree) → 1 ≤ length ts �
 signs_one u zero s e ts le = le
 signs_one u (suc c) s e ts le = unary_one (unaries.Sign u) s e (signs_made u c s e ts) (signs_one u c s e ts le)
 
-stacked_count : (ps : Trees) (ts : List Tree) → count ps ≤ length (stacked ps ts)
+pub stacked_count : (ps : Trees) (ts : List Tree) → count ps ≤ length (stacked ps ts)
 stacked_count none ts = omega arith
 stacked_count (also ps p) ts = omega (arith, stacked_count ps ts)
 

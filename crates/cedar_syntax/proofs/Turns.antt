@@ -16,7 +16,7 @@ use Rattle.cedar_syntax.specs.declared.steps.What.TheVariants as what
 use Rattle.cedar_syntax.specs.declared.frames.Frame.{Frame}
 use Rattle.cedar_syntax.specs.declared.frames.Wait.TheVariants as wait
 use Rattle.cedar_syntax.specs.Levels.{level_of, left_level_of, lowest_of, awaited}
-use Rattle.cedar_syntax.specs.Tokens.{kind_at, start_at, end_at}
+use Rattle.cedar_tokens.specs.Sequence.{kind_at, start_at, end_at}
 use Rattle.cedar_syntax.specs.Trees.{Tree, leaf, height, levels_of, made, signed, signs_made}
 use Rattle.cedar_syntax.specs.Grammar.{leaf_of, operator_of, kind_of, binary_of, is_negated, negated_if, no_sign}
 use Rattle.cedar_syntax.specs.Grammar.{one_more, Derives, by_leaf, by_number, by_parens, by_signs, by_negative}

@@ -52,7 +52,7 @@ use Rattle.cedar_syntax.specs.declared.steps.Binary.TheVariants as binaries
 use Rattle.cedar_syntax.specs.declared.steps.Bracketed.{Bracketed}
 use Rattle.cedar_syntax.specs.declared.steps.Bracketed.TheVariants.{Set, Record, Call, Method}
 use Rattle.cedar_syntax.specs.Levels.{level_of, left_level_of, lowest_of}
-use Rattle.cedar_syntax.specs.Tokens.{kind_at, start_at, end_at}
+use Rattle.cedar_tokens.specs.Sequence.{kind_at, start_at, end_at}
 use Rattle.cedar_syntax.specs.Trees.{Tree, leaf, unary, binary, conditional, field, bracketed, Trees, none, also}
 use Rattle.cedar_syntax.specs.Trees.{signed}
 

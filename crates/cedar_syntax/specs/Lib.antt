@@ -3,5 +3,4 @@ pub mod Levels
 pub mod Places
 pub mod Reading
 pub mod Standing
-pub mod Tokens
 pub mod Trees

@@ -6,7 +6,7 @@ use Rattle.cedar_tokens.specs.declared.errors.ReadError.{ReadError}
 use Rattle.cedar_tokens.specs.declared.errors.ReadError.TheVariants as error
 use Rattle.cedar_tokens.specs.declared.tokens.Kind.{Kind}
 use Rattle.cedar_tokens.specs.declared.tokens.Token.{Token}
-use Rattle.cedar_syntax.specs.Tokens.{kind_at, start_at, end_at}
+use Rattle.cedar_tokens.specs.Sequence.{kind_at, start_at, end_at}
 use Rattle.cedar_syntax.specs.Trees.{Tree, leaf, unary, binary, conditional, field, bracketed, Trees, none, also}
 
 -- no token ends before it starts, or starts before one ends that comes before it

@@ -15,7 +15,7 @@ use Rattle.cedar_syntax.specs.declared.frames.Frame.{Frame}
 use Rattle.cedar_syntax.specs.declared.frames.Wait.{Wait}
 use Rattle.cedar_syntax.specs.declared.frames.Wait.TheVariants as wait
 use Rattle.cedar_syntax.specs.Levels.{level_of, left_level_of, awaited}
-use Rattle.cedar_syntax.specs.Tokens.{kind_at, start_at, end_at}
+use Rattle.cedar_tokens.specs.Sequence.{kind_at, start_at, end_at}
 use Rattle.cedar_syntax.specs.Trees.{Tree, Trees, height, tallest, count, stacked, made}
 use Rattle.cedar_syntax.specs.Places.{IsInOrder, IsInside, IsNested}
 use Rattle.cedar_syntax.specs.Grammar.{is_key, binary_of, is_negated, takes_expressions, operator_of, IsPath}

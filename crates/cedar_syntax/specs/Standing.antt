@@ -6,7 +6,7 @@ use Rattle.cedar_tokens.specs.declared.tokens.Token.{Token}
 use Rattle.cedar_syntax.specs.declared.machine.work.Work.{Work}
 use Rattle.cedar_syntax.specs.declared.machine.State.{State}
 use Rattle.cedar_syntax.specs.declared.machine.State.TheVariants as state
-use Rattle.cedar_syntax.specs.Tokens.{kind_at}
+use Rattle.cedar_tokens.specs.Sequence.{kind_at}
 use Rattle.cedar_syntax.specs.Trees.{trees}
 use Rattle.cedar_syntax.specs.Grammar.{is_key, IsPath, IsDotted}
 use Rattle.cedar_syntax.specs.Reading.{Look, Waits, HasOpened, AwaitsKey, Reads, Behind, IsRelated, BehindColons}

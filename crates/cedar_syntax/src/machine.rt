@@ -6,21 +6,21 @@
 ghost use Rattle.std.specs.Prelude.{◌≡◌, ◌+◌, ◌<◌, ◌≤◌, [], length, IfOk, IfErr};
 ghost use Rattle.cedar_syntax.specs.Grammar as Grammar;
 ghost use Rattle.cedar_syntax.specs.Levels.{IsAbove};
-ghost use Rattle.cedar_syntax.specs.Places.{IsPlaced, end_of};
+ghost use Rattle.cedar_syntax.specs.Places.{IsPlaced};
 ghost use Rattle.cedar_syntax.specs.Reading.{Reads, HasRead, HasReadClause, under};
 ghost use Rattle.cedar_syntax.specs.Standing.{look, Stands};
-ghost use Rattle.cedar_syntax.specs.Tokens as Tokens;
-ghost use Rattle.cedar_tokens.specs.Kinds as Kinds;
+ghost use Rattle.cedar_tokens.specs.Sequence as Tokens;
 ghost use Rattle.cedar_tokens.specs.declared.tokens.Kind.TheVariants as kind;
 ghost use Rattle.cedar_syntax.specs.Trees.{trees, made, parts_of, FindParts};
-ghost use Prim.Native.Nat.{max};
 
+use crate::expecting::{at_end, expect};
 use crate::frames::{Frame, Frames, Wait};
 use crate::kinds;
 use crate::levels::Operator;
 use crate::machine::work::Work;
 use crate::steps::{Bracketed, Leaf, Step, What};
 use cedar_tokens::errors::{Expected, ReadError};
+use cedar_tokens::sequence::{kind_at, start_at, token_at};
 use cedar_tokens::tokens::{Kind, Token};
 use std::alloc::Global;
 
@@ -136,7 +136,7 @@ pub fn clause_steps(
     ensures parts { IfOk result (λ c. FindParts [] c.steps.items) }
     ensures err { IfErr result (λ error. IsPlaced tokens.now error) }
 {
-    open_brace(tokens, brace)?;
+    expect(tokens, brace, Kind::OpenBrace, Expected::OpenBrace)?;
     let mut work = clause_work(alloc, tokens, brace, limit)?;
     let mut state = State::Operand;
     for index in brace + 1..tokens.len() {
@@ -178,53 +178,6 @@ fn clause_work(
     }
 }
 
-// That the token of this number opens braces.
-fn open_brace(tokens: &[Token], index: usize) -> Result<(), ReadError>
-    ensures within { IfOk result (λ _. index < length tokens.now) }
-    ensures opens { IfOk result (λ _. Tokens.kind_at tokens.now index ≡ kind.OpenBrace) }
-    ensures err { IfErr result (λ error. IsPlaced tokens.now error) }
-{
-    if index >= tokens.len() {
-        return Err(expected_at(tokens, index, Expected::OpenBrace));
-    }
-    match kind_at(tokens, index) {
-        Kind::OpenBrace => Ok(()),
-        _ => Err(expected_at(tokens, index, Expected::OpenBrace)),
-    }
-}
-
-/// The error that this was expected where the token of this number stands, or behind the last token.
-pub fn expected_at(tokens: &[Token], index: usize, what: Expected) -> ReadError
-    ensures { IsPlaced tokens.now result }
-{
-    if index < tokens.len() {
-        ReadError::expected(what, token_at(tokens, index))
-    } else {
-        let end = end_of(tokens);
-        ReadError::Expected {
-            what,
-            found: Kind::End,
-            start: end,
-            end,
-        }
-    }
-}
-
-/// The error that what stands from this byte on, and ends with the token of this number, is too high.
-pub fn too_deep(tokens: &[Token], start: usize, index: usize) -> ReadError
-    ensures { IsPlaced tokens.now result }
-{
-    if index < tokens.len() {
-        let end = end_at(tokens, index);
-        ReadError::TooDeep {
-            start: lower(start, end),
-            end,
-        }
-    } else {
-        at_end(tokens)
-    }
-}
-
 // Takes the token of this number, or says where it can't be taken.
 fn turn(work: &mut Work, state: State, tokens: &[Token], index: usize) -> Result<State, ReadError>
     requires within { index < length tokens.now }
@@ -249,70 +202,10 @@ fn placed(refusal: Refusal, tokens: &[Token], index: usize, start: usize) -> Rea
         Refusal::Memory => ReadError::Memory,
         Refusal::Expected(what) => ReadError::expected(what, token),
         Refusal::TooDeep => ReadError::TooDeep {
-            start: lower(start, token.end),
+            start: start.min(token.end),
             end: token.end,
         },
     }
-}
-
-// The error that no token of kind `End` stands behind the others.
-fn at_end(tokens: &[Token]) -> ReadError
-    ensures { IsPlaced tokens.now result }
-{
-    let end = end_of(tokens);
-    ReadError::Expected {
-        what: Expected::End,
-        found: Kind::End,
-        start: end,
-        end,
-    }
-}
-
-// The byte before which the last token ends.
-fn end_of(tokens: &[Token]) -> usize
-    ensures { result ≡ end_of tokens.now }
-{
-    if tokens.is_empty() {
-        0
-    } else {
-        end_at(tokens, tokens.len() - 1)
-    }
-}
-
-fn lower(one: usize, other: usize) -> usize
-    ensures { result ≤ other }
-{
-    if one < other { one } else { other }
-}
-
-// The token of this number, its kind, and its bytes.
-#[tactic(auto, unfolding(crate::specs::Tokens::token_at))]
-fn token_at(tokens: &[Token], index: usize) -> Token
-    requires { index < length tokens.now }
-    ensures { result ≡ Tokens.token_at tokens.now index }
-{
-    tokens[index]
-}
-
-fn kind_at(tokens: &[Token], index: usize) -> Kind
-    requires { index < length tokens.now }
-    ensures { result ≡ Tokens.kind_at tokens.now index }
-{
-    token_at(tokens, index).kind
-}
-
-fn start_at(tokens: &[Token], index: usize) -> usize
-    requires { index < length tokens.now }
-    ensures { result ≡ Tokens.start_at tokens.now index }
-{
-    token_at(tokens, index).start
-}
-
-fn end_at(tokens: &[Token], index: usize) -> usize
-    requires { index < length tokens.now }
-    ensures { result ≡ Tokens.end_at tokens.now index }
-{
-    token_at(tokens, index).end
 }
 
 fn leaf_at(tokens: &[Token], index: usize) -> Option<Leaf>
@@ -329,13 +222,6 @@ fn operator_at(tokens: &[Token], index: usize) -> Option<Operator>
     kinds::operator(kind_at(tokens, index))
 }
 
-fn is_identifier_at(tokens: &[Token], index: usize) -> bool
-    requires { index < length tokens.now }
-    ensures { result ≡ Kinds.is_identifier (Tokens.kind_at tokens.now index) }
-{
-    kind_at(tokens, index).is_identifier()
-}
-
 fn is_key_at(tokens: &[Token], index: usize) -> bool
     requires { index < length tokens.now }
     ensures { result ≡ Grammar.is_key (Tokens.kind_at tokens.now index) }
@@ -348,12 +234,6 @@ fn closes_at(bracketed: Bracketed, tokens: &[Token], index: usize) -> bool
     ensures { result ≡ Grammar.closes bracketed (Tokens.kind_at tokens.now index) }
 {
     kinds::closes(bracketed, kind_at(tokens, index))
-}
-
-fn higher(one: usize, other: usize) -> usize
-    ensures { result ≡ max one other }
-{
-    if one < other { other } else { one }
 }
 
 impl Work {

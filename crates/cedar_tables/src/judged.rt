@@ -12,7 +12,8 @@ use cedar_authorizer::authorizer::{
 use cedar_built_in_rows::lines::{decision_text, reasons_text};
 use cedar_evaluator::evaluator::{EvaluationError, Evaluator};
 use cedar_layers::expressions::{Expr, ExprKind};
-use cedar_layers::policies::{Effect, Policy, PolicySet};
+use cedar_layers::policies::{Policy, PolicySet};
+use cedar_writing::effect_text;
 use either::Either;
 use std::alloc::{AllocError, Global};
 
@@ -393,13 +394,6 @@ pub fn put_named(answer: &mut Answer, policy: &Policy) {
     answer.put(effect_text(policy.effect()));
     answer.put(" ");
     answer.show(policy.id());
-}
-
-fn effect_text(effect: Effect) -> &'static str {
-    match effect {
-        Effect::Permit => "permit",
-        Effect::Forbid => "forbid",
-    }
 }
 
 /// What the policy holds, or its condition.

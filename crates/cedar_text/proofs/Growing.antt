@@ -4,17 +4,20 @@ use Rattle.std.proofs.Common.{ap, ◌∙◌, arith}
 use Rattle.std.specs.declared.alloc.Global.{Global}
 use Rattle.std.specs.declared.rc.RcStr.{RcStr}
 use Rattle.cedar_tokens.specs.Kinds.{is_identifier}
+use Rattle.cedar_tokens.specs.Tokens.{IsTokens}
 use Rattle.cedar_tokens.specs.Values.{word_of}
 use Rattle.cedar_tokens.specs.declared.tokens.Token.{Token}
 use Rattle.cedar_tokens.specs.declared.tokens.Kind.TheVariants as kind
-use Rattle.cedar_syntax.specs.Grammar.{name_inside}
-use Rattle.cedar_syntax.specs.Tokens.{token_at, kind_at}
-use Rattle.cedar_text.specs.Paths.{StartsWithPath, path_up_to}
+use Rattle.cedar_syntax.specs.Grammar.{IsPath}
+use Rattle.cedar_tokens.specs.Sequence.{token_at, kind_at, start_at, end_at}
+use Rattle.cedar_text.specs.Paths.{path_up_to, IsEntityRead, entity_read}
 use Rattle.std.specs.Rc.{rc_str_bytes}
+use Rattle.std.proofs.lemmas.List.{nil_from_length}
 use Rattle.cedar_names.specs.declared.types.FirstRest.{FirstRest}
+use Rattle.cedar_names.specs.declared.names.EntityUID.{EntityUID}
 use Rattle.cedar_expressions.specs.Nodes as node
 use Rattle.cedar_text.specs.Building.{IsHas, has_one, has_more}
-use Rattle.cedar_text.specs.Wording.{IsKeyAt, bare, AreKeysAt, one_key, key_behind}
+use Rattle.cedar_text.specs.Wording.{IsKeyAt, bare, AreKeysAt, one_key, key_behind, IsEntityAt}
 use Rattle.cedar_expressions.specs.declared.expr.Expr.{Expr}
 use Rattle.cedar_text.specs.Finished.{unkeyed, keyed, all_unkeyed, all_keyed}
 use Rattle.cedar_text.specs.declared.builder.Part.{Part}
@@ -46,12 +49,15 @@ pub bare_key : {text : List ℕ} {all : List Token} {i : ℕ} {t : Token} {w v :
     t ≡ token_at all i → is_identifier t.kind ≡ true → w ≡ word_of text t → v ≡ w → IsKeyAt text all i v
 bare_key {text} {all} {i} {t} lt is named word same = rw (same, word, is) (bare lt (rw is at named))
 
--- a path that is one name longer
-pub path_more : {all : List Token} {k : ℕ} → StartsWithPath all k → kind_at all k ≡ kind.Colons →
-    is_identifier (kind_at all (k + 1)) ≡ true → StartsWithPath all (k + 2)
-path_more {all} {k} (path_up_to h) colons named =
-    let two : k + 1 + 1 ≡ k + 2 = omega arith in
-    rw two at (path_up_to (name_inside h colons named))
+-- ---- entities
+
+-- a path, `::` and a text are an entity
+pub entity_there : {text : List ℕ} {all : List Token} {k s e i l : ℕ} {u : EntityUID} → IsTokens 0 text all →
+    IsPath all 0 k s e → kind_at all k ≡ kind.Colons → i ≡ k + 1 → kind_at all i ≡ kind.Text → l ≡ i + 1 →
+    kind_at all l ≡ kind.End → IsEntityAt text all 0 i (start_at all 0) (end_at all i) u → IsEntityRead text u
+entity_there {text} {all} {k} {s} {e} {i} {l} cut h colons i_is id l_is ends is =
+    let two : l ≡ k + 2 = omega (arith, l_is, i_is) in
+    entity_read cut (path_up_to h) colons (rw i_is at id) (rw two at ends) (rw i_is at is)
 
 -- ---- attributes
 
@@ -66,16 +72,12 @@ keys_more {text} {all} {i} {k} {ws} w h named =
     let two : k + 1 + 1 ≡ k + 2 = omega arith in
     subst (λ j. AreKeysAt text all i j (ws ++ w ∷ [])) two (key_behind w h named)
 
-empty_is : {A : Type 0} (xs : List A) → length xs ≡ 0 → xs ≡ []
-empty_is [] h = refl
-empty_is (x ∷ xs) h = absurd (omega (arith, h))
-
 pub has_one_key : {text : List ℕ} {all : List Token} {i k : ℕ} {y : Expr} {b : Bool} (ws : FirstRest (RcStr Global)) →
     AreKeysAt text all i k (ws.first ∷ ws.rest.items) → b ≡ (length ws.rest.items == 0) → b ≡ true →
     IsHas text all i k y (node.HasAttr y ws.first)
 has_one_key {text} {all} {i} {k} ws h test is =
     let none : length ws.rest.items ≡ 0 = grind (arith, test, is) in
-    has_one (subst (λ vs. AreKeysAt text all i k (ws.first ∷ vs)) (empty_is ws.rest.items none) h)
+    has_one (subst (λ vs. AreKeysAt text all i k (ws.first ∷ vs)) (nil_from_length ws.rest.items none) h)
 
 pub has_more_keys : {text : List ℕ} {all : List Token} {i k : ℕ} {y : Expr} {b : Bool} (ws : FirstRest (RcStr Global)) →
     AreKeysAt text all i k (ws.first ∷ ws.rest.items) → b ≡ (length ws.rest.items == 0) → b ≡ false →

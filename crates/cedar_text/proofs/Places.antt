@@ -22,7 +22,7 @@ use Rattle.cedar_syntax.specs.declared.steps.What.{What}
 use Rattle.cedar_syntax.proofs.Ordered.{in_order}
 use Rattle.cedar_tokens.specs.Tokens.{IsTokens}
 use Rattle.cedar_text.specs.Reading.{IsWithin, IsOnly, only, AreFour, four, IsRead, is_read, IsUnread, in_step}
-use Rattle.cedar_syntax.specs.Tokens.{token_at, kind_at, start_at, end_at}
+use Rattle.cedar_tokens.specs.Sequence.{token_at, kind_at, start_at, end_at}
 use Rattle.cedar_text.specs.Refusals.{AreRefused, at_step, at_last, IsRefusedOn, by_tokens, by_key, IsRefused}
 use Rattle.cedar_text.specs.Refusals.{Expects, for_long, for_escape, for_one_argument, for_no_argument, for_steps}
 use Rattle.cedar_text.specs.Building.{Are, no_more, one_more, is_whole}

@@ -29,7 +29,7 @@ use Rattle.cedar_model.specs.Refusals.{first_repeated}
 use Rattle.cedar_expressions.specs.Records.{keys_view}
 use Rattle.cedar_expressions.specs.View.{view, expr_loc}
 use Rattle.cedar_expressions.specs.declared.expr.Expr.{Expr}
-use Rattle.cedar_syntax.specs.Tokens.{kind_at}
+use Rattle.cedar_tokens.specs.Sequence.{kind_at}
 use Rattle.cedar_syntax.specs.Trees.{Tree, leaf, unary, binary, conditional, field, bracketed, Trees, none, also, made}
 use Rattle.cedar_syntax.specs.declared.steps.Binary.{Binary}
 use Rattle.cedar_syntax.specs.declared.steps.Binary.TheVariants as binaries

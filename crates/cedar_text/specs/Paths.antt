@@ -9,7 +9,7 @@ use Rattle.cedar_names.specs.declared.names.EntityUID.{EntityUID}
 use Rattle.cedar_names.specs.declared.names.Name.{Name}
 use Rattle.cedar_syntax.specs.Grammar.{IsPath}
 use Rattle.cedar_syntax.specs.Places.{IsPlaced}
-use Rattle.cedar_syntax.specs.Tokens.{kind_at, start_at, end_at}
+use Rattle.cedar_tokens.specs.Sequence.{kind_at, start_at, end_at}
 use Rattle.cedar_text.specs.Refusals.{IsRefused}
 use Rattle.cedar_text.specs.Wording.{IsNameAt, IsEntityAt}
 

@@ -10,7 +10,7 @@ use Rattle.cedar_tokens.specs.declared.errors.ReadError.TheVariants as error
 use Rattle.cedar_tokens.specs.declared.tokens.Kind.{Kind}
 use Rattle.cedar_tokens.specs.declared.tokens.Kind.TheVariants as kind
 use Rattle.cedar_tokens.specs.declared.tokens.Token.{Token}
-use Rattle.cedar_syntax.specs.Tokens.{kind_at, start_at, end_at}
+use Rattle.cedar_tokens.specs.Sequence.{kind_at, start_at, end_at}
 use Rattle.cedar_syntax.specs.Trees.{Tree, leaf, unary, binary, conditional, field, bracketed, Trees, none, also}
 use Rattle.cedar_syntax.specs.Trees.{gathered, trees}
 use Rattle.cedar_syntax.specs.declared.steps.Bracketed.TheVariants.{Record}

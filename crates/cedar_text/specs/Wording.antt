@@ -9,7 +9,7 @@ use Rattle.cedar_tokens.specs.Values.{word_of, inside_of, IsTextOf}
 use Rattle.cedar_tokens.specs.declared.tokens.Kind.{Kind}
 use Rattle.cedar_tokens.specs.declared.tokens.Kind.TheVariants as kind
 use Rattle.cedar_tokens.specs.declared.tokens.Token.{Token}
-use Rattle.cedar_syntax.specs.Tokens.{token_at, kind_at, start_at, end_at}
+use Rattle.cedar_tokens.specs.Sequence.{token_at, kind_at, start_at, end_at}
 use Rattle.cedar_names.specs.Names.{name_text, name_loc, uid_type, uid_name, uid_loc, type_name_of}
 use Rattle.cedar_names.specs.declared.names.EntityUID.{EntityUID}
 use Rattle.cedar_names.specs.declared.names.Loc.{Loc}

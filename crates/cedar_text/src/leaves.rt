@@ -9,14 +9,15 @@ ghost use Rattle.std.specs.declared.rc.RcStr.{RcStr};
 ghost use Rattle.cedar_names.specs.Leaves.{pattern_view};
 ghost use Rattle.cedar_names.specs.Leaves.{part_view};
 ghost use Rattle.cedar_names.specs.Names.{type_name_of};
-ghost use Rattle.cedar_syntax.specs.Tokens as Tokens;
+ghost use Rattle.cedar_tokens.specs.Sequence as Tokens;
 ghost use Rattle.cedar_text.specs.Building.{number_at, IsPatternAt, pattern_part};
 ghost use Rattle.cedar_text.specs.Refusals.{IsRefused};
 ghost use Rattle.cedar_text.specs.Wording.{word_at, spelled, place, IsTextAt, IsKeyAt, AreKeysAt, IsNameAt, IsEntityAt};
 
-use crate::refusals::{ill_made, token_at, too_large};
+use crate::refusals::{ill_made, too_large};
 use cedar_names::{EntityType, EntityUID, FirstRest, Loc, Name, Pattern, PatternElem};
 use cedar_tokens::errors::ReadError;
+use cedar_tokens::sequence::{end_at, start_at, token_at};
 use cedar_tokens::tokens::{Kind, Token};
 use cedar_tokens::values;
 use cedar_tokens::values::PatternPart;
@@ -191,8 +192,8 @@ pub(crate) fn name(
 {
     if from < to && to <= tokens.len() {
         let words = words(alloc, text, tokens, from, to)?;
-        let start = token_at(tokens, from).start;
-        let end = token_at(tokens, to - 1).end;
+        let start = start_at(tokens, from);
+        let end = end_at(tokens, to - 1);
         Ok(Name::new(RcStr::from_string(words)?, Some(Loc { start, end })))
     } else {
         Err(ill_made(text, tokens))

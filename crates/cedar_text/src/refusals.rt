@@ -1,13 +1,14 @@
 //! Why a step is refused, and where.
 ghost use Rattle.std.specs.Prelude.{◌≡◌, ◌<◌, ◌≤◌, ◌^◌, length};
 ghost use Rattle.std.specs.Str.Parse.{digits_value};
-ghost use Rattle.cedar_syntax.specs.Tokens as Tokens;
+ghost use Rattle.cedar_tokens.specs.Sequence as Tokens;
 ghost use Rattle.cedar_text.specs.Wording.{word_at, IsOperatorAt, IsEmptyAt};
 ghost use Rattle.cedar_text.specs.Refusals.{IsRefused};
 ghost use Rattle.cedar_tokens.specs.declared.errors.Expected.TheVariants as wanted;
 ghost use Rattle.cedar_tokens.specs.declared.errors.ReadError.TheVariants as error;
 
 use cedar_tokens::errors::{Expected, ReadError};
+use cedar_tokens::sequence::token_at;
 use cedar_tokens::tokens::{Kind, Token};
 
 /// The steps are not well made: no part of the text is at fault.
@@ -20,15 +21,6 @@ pub(crate) fn ill_made(text: &str, tokens: &[Token]) -> ReadError
         start: text.len(),
         end: text.len(),
     }
-}
-
-/// The token of this number.
-#[tactic(auto, unfolding(cedar_syntax::specs::Tokens::token_at))]
-pub(crate) fn token_at(tokens: &[Token], at: usize) -> Token
-    requires { at < length tokens.now }
-    ensures { result ≡ Tokens.token_at tokens.now at }
-{
-    tokens[at]
 }
 
 /// This should have stood where the token of this number does.

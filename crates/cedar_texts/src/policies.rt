@@ -4,7 +4,8 @@ use crate::answer::Answer;
 use crate::places::put_place;
 use crate::questions::{Shown, put_shown};
 use cedar_expressions::Expr;
-use cedar_layers::policies::{Annotations, Effect, Policy, PolicySet};
+use cedar_layers::policies::{Annotations, Policy, PolicySet};
+use cedar_writing::effect_text;
 use std::rc::RcStr;
 
 /// Writes the policies, and `template` and a template for each of those, with `; ` between them; `none` where there is
@@ -49,13 +50,6 @@ fn put_parts(answer: &mut Answer, before: &str, shown: Shown, policy: &Policy) {
 fn put_part(answer: &mut Answer, before: &str, shown: Shown, part: &Expr) {
     answer.put(before);
     put_shown(answer, shown, part);
-}
-
-fn effect_text(effect: Effect) -> &'static str {
-    match effect {
-        Effect::Permit => "permit",
-        Effect::Forbid => "forbid",
-    }
 }
 
 fn put_annotations(answer: &mut Answer, annotations: &Annotations) {

@@ -2,14 +2,14 @@
 use Rattle.std.proofs.Common.{◌≡◌, ◌≢◌, ℕ, suc, ◌<◌, ◌≤◌, Bool, true, false, cond, not, ◌&&◌, ◌||◌, ◌==◌, Option, Some, None, is_some, List, [], ◌∷◌, ◌++◌, length, take, drop, codes, nat_lt, bytes_eq, encode_utf8, refl, sym, ap, ◌∙◌, subst, ◌⊎◌, inl, inr, arith, tests, rules, one-add, append-nil, append_assoc, length-append, take_at, ne_eqb, add-one}
 use Rattle.std.specs.List.{list_all, prefix_len}
 use Rattle.std.specs.Char.{is_ascii_digit, is_whitespace}
-use Rattle.std.proofs.lemmas.Bool.{false≢true, and_parts, cases_lt}
+use Rattle.std.proofs.lemmas.Bool.{false≢true, and_parts, cases_lt, not-true, or_parts}
 use Rattle.std.proofs.lemmas.Bool.Decides.{nat_tests}
 use Rattle.std.proofs.lemmas.Slice.Eq.{bytes_eq-Decides}
 use Rattle.std.proofs.lemmas.Str.{char_from_byte, length-encode, len_utf8_bounds}
 use Rattle.cedar_tokens.specs.declared.tokens.Kind.{Kind}
 use Rattle.cedar_tokens.specs.declared.tokens.Kind.TheVariants as kind
 use Rattle.cedar_tokens.specs.Lexicon.{IsToken, IsSkipped, IsQuoted, IsUnclosed, IsWord, makes_operator, word, slot, number, text, unclosed, double, single, unreadable, blank, comment, empty, plain, escaped, ends, ends_escaping, goes_on, goes_on_escaped}
-use Rattle.cedar_tokens.specs.Operators.{operator_of}
+use Rattle.cedar_tokens.specs.Operators.{operator_kind}
 use Rattle.cedar_tokens.specs.Scanning.{begins_with, begins_slot, begins_comment, begins_operator, begins_token, is_line_byte, quote_from, double_of, single_of}
 use Rattle.cedar_tokens.specs.Words.{starts_word, is_word_byte, word_kind, slot_kind}
 
@@ -75,7 +75,7 @@ row w t k j r h rest = at (bytes_eq w t) (bytes_eq-Decides w t).0
     at true is e = rw (is refl) h
     at false is e = rest e
 
-operator_opens : (w : List ℕ) (j : Kind) → operator_of w ≡ Some j → opens w ≡ true
+operator_opens : (w : List ℕ) (j : Kind) → operator_kind w ≡ Some j → opens w ≡ true
 operator_opens w j =
     row w (codes "@") kind.At j _ refl (
     row w (codes "(") kind.OpenParen j _ refl (
@@ -113,10 +113,6 @@ record Opening (b : ℕ) : Type 0 where
   no_mark : (b == 63) ≡ false
   no_slash : (b == 47) ≡ false
 
-negated : (b : Bool) → not b ≡ true → b ≡ false
-negated true e = absurd (false≢true e)
-negated false e = refl
-
 opening : (b : ℕ) (bs : List ℕ) → opens (b ∷ bs) ≡ true → Opening b
 opening b bs h =
     let p1 = and_parts (nat_lt 32 b) _ h in
@@ -128,11 +124,11 @@ opening b bs h =
     record {
       above = search (tests, p1.0);
       low = search (tests, p2.0);
-      no_word = negated (starts_word b) p3.0;
-      no_digit = negated (is_ascii_digit b) p4.0;
-      no_quote = negated (b == 34) p5.0;
-      no_mark = negated (b == 63) p6.0;
-      no_slash = negated (b == 47) p6.1;
+      no_word = not-true (starts_word b) p3.0;
+      no_digit = not-true (is_ascii_digit b) p4.0;
+      no_quote = not-true (b == 34) p5.0;
+      no_mark = not-true (b == 63) p6.0;
+      no_slash = not-true (b == 47) p6.1;
     }
 
 -- ---- what a token or a blank is, as computed
@@ -149,20 +145,20 @@ none_of : (o : Option Kind) → is_some o ≡ false → o ≡ None
 none_of None h = refl
 none_of (Some k) h = absurd (false≢true (sym h))
 
-double_cut : (k : Kind) (a b : ℕ) (after : List ℕ) → operator_of (a ∷ b ∷ []) ≡ Some k → cut_of (a ∷ b ∷ after) ≡ record { kind = Some k; len = 2 }
+double_cut : (k : Kind) (a b : ℕ) (after : List ℕ) → operator_kind (a ∷ b ∷ []) ≡ Some k → cut_of (a ∷ b ∷ after) ≡ record { kind = Some k; len = 2 }
 unfolding cut_of
 double_cut k a b after h =
     let o = opening a (b ∷ []) (operator_opens (a ∷ b ∷ []) k h) in
     rw (o.no_word, o.no_digit, o.no_quote, o.no_mark, o.no_slash, h) refl
 
-single_cut : (k : Kind) (a : ℕ) (after : List ℕ) → operator_of (a ∷ []) ≡ Some k → begins_with (makes_operator a) after ≡ false → cut_of (a ∷ after) ≡ record { kind = Some k; len = 1 }
+single_cut : (k : Kind) (a : ℕ) (after : List ℕ) → operator_kind (a ∷ []) ≡ Some k → begins_with (makes_operator a) after ≡ false → cut_of (a ∷ after) ≡ record { kind = Some k; len = 1 }
 unfolding cut_of
 single_cut k a [] h n =
     let o = opening a [] (operator_opens (a ∷ []) k h) in
     rw (o.no_word, o.no_digit, o.no_quote, o.no_mark, o.no_slash, h) refl
 single_cut k a (b ∷ after) h n =
     let o = opening a [] (operator_opens (a ∷ []) k h) in
-    rw (o.no_word, o.no_digit, o.no_quote, o.no_mark, o.no_slash, none_of (operator_of (a ∷ b ∷ [])) n, h) refl
+    rw (o.no_word, o.no_digit, o.no_quote, o.no_mark, o.no_slash, none_of (operator_kind (a ∷ b ∷ [])) n, h) refl
 
 word_cut : (b : ℕ) (bs after : List ℕ) → IsWord b bs after → cut_of (b ∷ (bs ++ after)) ≡ record { kind = Some (word_kind (b ∷ bs)); len = suc (length bs) }
 unfolding cut_of
@@ -187,10 +183,6 @@ unclosed_cut bs u = rw (unclosed_none u) refl
 comment_cut : (bs after : List ℕ) → list_all is_line_byte bs ≡ true → begins_with is_line_byte after ≡ false → cut_of (47 ∷ 47 ∷ (bs ++ after)) ≡ record { kind = None; len = suc (suc (length bs)) }
 unfolding cut_of
 comment_cut bs after all stops = rw (run_len is_line_byte bs after all stops) refl
-
-or_parts : (a b : Bool) → a || b ≡ false → (a ≡ false) × (b ≡ false)
-or_parts true b e = absurd (false≢true (sym e))
-or_parts false b e = (refl, e)
 
 other_cut : (bs : List ℕ) → begins_token bs ≡ false → cut_of bs ≡ record { kind = None; len = 0 }
 unfolding cut_of
@@ -222,7 +214,7 @@ blank_nothing b bs far =
     let p3 : (b == 34) ≡ false = ne_eqb b 34 (apart 34 (omega arith) (omega arith) far) in
     let p4 : (b == 63) ≡ false = ne_eqb b 63 (apart 63 (omega arith) (omega arith) far) in
     let p5 : (b == 47) ≡ false = ne_eqb b 47 (apart 47 (omega arith) (omega arith) far) in
-    let p6 : is_some (single_of (b ∷ bs)) ≡ false = no_such b [] far (operator_of (b ∷ [])) (λ k. operator_opens (b ∷ []) k) in
+    let p6 : is_some (single_of (b ∷ bs)) ≡ false = no_such b [] far (operator_kind (b ∷ [])) (λ k. operator_opens (b ∷ []) k) in
     let p7 : is_some (double_of (b ∷ bs)) ≡ false = double_far bs in
     rw (p1, p2, p3, p4, p5, p7, p6) refl
   where
@@ -240,7 +232,7 @@ blank_nothing b bs far =
 
     double_far : (xs : List ℕ) → is_some (double_of (b ∷ xs)) ≡ false
     double_far [] = refl
-    double_far (x ∷ xs) = no_such b (x ∷ []) far (operator_of (b ∷ x ∷ [])) (λ k. operator_opens (b ∷ x ∷ []) k)
+    double_far (x ∷ xs) = no_such b (x ∷ []) far (operator_kind (b ∷ x ∷ [])) (λ k. operator_opens (b ∷ x ∷ []) k)
 
 blank_cut : (c : ℕ) (after bs : List ℕ) → is_whitespace c ≡ true → encode_utf8 c ++ after ≡ bs → begins_token bs ≡ false
 blank_cut c after [] h e = absurd (omega (arith, ap length e, length-append (encode_utf8 c) after, length-encode c, (len_utf8_bounds c).0))

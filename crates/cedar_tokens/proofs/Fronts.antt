@@ -156,7 +156,7 @@ unclosed_cut (b ∷ bs) h e = at (quote_from false bs) (unclosed_of bs false) e
 starts_low : (b : ℕ) → starts_word b ≡ true → b < 128
 starts_low b h = grind (arith, tests)
 
-word_low : (b : ℕ) → is_word_byte b ≡ true → b < 128
+pub word_low : (b : ℕ) → is_word_byte b ≡ true → b < 128
 word_low b h = grind (arith, tests)
 
 digit_low : (b : ℕ) → is_ascii_digit b ≡ true → b < 128

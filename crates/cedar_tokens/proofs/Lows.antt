@@ -6,7 +6,7 @@ use Rattle.std.proofs.lemmas.Slice.Eq.{bytes_eq-Decides}
 use Rattle.std.proofs.lemmas.Str.{IsCharBoundary-after_ascii}
 use Rattle.cedar_tokens.specs.declared.tokens.Kind.{Kind}
 use Rattle.cedar_tokens.specs.declared.tokens.Kind.TheVariants as kind
-use Rattle.cedar_tokens.specs.Operators.{operator_of}
+use Rattle.cedar_tokens.specs.Operators.{operator_kind}
 use Rattle.cedar_tokens.specs.Scanning.{double_of, single_of}
 
 abbrev low : List ℕ → Bool
@@ -20,7 +20,7 @@ row w t k j r h rest = at (bytes_eq w t) (bytes_eq-Decides w t).0
     at true is e = rw (is refl) h
     at false is e = rest e
 
-operator_low : (w : List ℕ) (j : Kind) → operator_of w ≡ Some j → low w ≡ true
+operator_low : (w : List ℕ) (j : Kind) → operator_kind w ≡ Some j → low w ≡ true
 operator_low w j =
     row w (codes "@") kind.At j _ refl (
     row w (codes "(") kind.OpenParen j _ refl (

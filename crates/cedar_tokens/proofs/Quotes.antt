@@ -4,7 +4,7 @@ use Rattle.std.proofs.lemmas.Bool.{false≢true}
 use Rattle.cedar_tokens.specs.declared.tokens.Kind.{Kind}
 use Rattle.cedar_tokens.specs.declared.tokens.Kind.TheVariants as kind
 use Rattle.cedar_tokens.specs.Lexicon.{IsToken, word, slot, number, text, unclosed, double, single, unreadable}
-use Rattle.cedar_tokens.specs.Operators.{operator_of}
+use Rattle.cedar_tokens.specs.Operators.{operator_kind}
 use Rattle.cedar_tokens.specs.Values.{HasQuotes}
 use Rattle.cedar_tokens.specs.Words.{word_kind, slot_kind}
 
@@ -50,7 +50,7 @@ slot_no_text : (w : List ℕ) → is_text (slot_kind w) ≡ false
 slot_no_text w =
     row (bytes_eq w (codes "principal")) kind.PrincipalSlot _ refl (row (bytes_eq w (codes "resource")) kind.ResourceSlot _ refl refl)
 
-operator_no_text : (w : List ℕ) → is_some_text (operator_of w) ≡ false
+operator_no_text : (w : List ℕ) → is_some_text (operator_kind w) ≡ false
 operator_no_text w =
     some_row (bytes_eq w (codes "@")) kind.At _ refl (
     some_row (bytes_eq w (codes "(")) kind.OpenParen _ refl (
@@ -78,7 +78,7 @@ operator_no_text w =
     some_row (bytes_eq w (codes "*")) kind.Star _ refl (
     refl))))))))))))))))))))))))
 
-no_operator : (w : List ℕ) (k : Kind) → operator_of w ≡ Some k → is_text k ≡ false
+no_operator : (w : List ℕ) (k : Kind) → operator_kind w ≡ Some k → is_text k ≡ false
 no_operator w k h = sym (ap is_some_text h) ∙ operator_no_text w
 
 between : (bs : List ℕ) → HasQuotes (34 ∷ (bs ++ 34 ∷ []))

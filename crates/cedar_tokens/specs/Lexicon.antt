@@ -6,7 +6,7 @@ use Rattle.std.specs.List.{list_all}
 use Rattle.std.specs.Char.{is_ascii_digit, is_whitespace}
 use Rattle.cedar_tokens.specs.declared.tokens.Kind.{Kind}
 use Rattle.cedar_tokens.specs.declared.tokens.Kind.TheVariants as kind
-use Rattle.cedar_tokens.specs.Operators.{operator_of}
+use Rattle.cedar_tokens.specs.Operators.{operator_kind}
 use Rattle.cedar_tokens.specs.Scanning.{begins_with, begins_token, is_line_byte}
 use Rattle.cedar_tokens.specs.Words.{starts_word, is_word_byte, word_kind, slot_kind}
 
@@ -37,7 +37,7 @@ pub record IsWholeNumber (b : ℕ) (bs after : List ℕ) : Type 0 where
 
 -- the byte and the one behind it are an operator
 abbrev pub makes_operator : ℕ → ℕ → Bool
-makes_operator a b = is_some (operator_of (a ∷ b ∷ []))
+makes_operator a b = is_some (operator_kind (a ∷ b ∷ []))
 
 -- the bytes are a token of this kind, where these others stand behind them
 pub data IsToken : Kind → List ℕ → List ℕ → Type 0 where
@@ -49,10 +49,10 @@ pub data IsToken : Kind → List ℕ → List ℕ → Type 0 where
   text : {bs after : List ℕ} → IsQuoted bs → IsToken kind.Text (34 ∷ (bs ++ 34 ∷ [])) after
   unclosed : {bs : List ℕ} → IsUnclosed bs → IsToken kind.UnclosedText (34 ∷ bs) []
   -- an operator of two bytes
-  double : {k : Kind} {a b : ℕ} {after : List ℕ} → operator_of (a ∷ b ∷ []) ≡ Some k → IsToken k (a ∷ b ∷ []) after
+  double : {k : Kind} {a b : ℕ} {after : List ℕ} → operator_kind (a ∷ b ∷ []) ≡ Some k → IsToken k (a ∷ b ∷ []) after
   -- an operator of one byte, which with the next one is none of two
   single : {k : Kind} {a : ℕ} {after : List ℕ} →
-      operator_of (a ∷ []) ≡ Some k → IsFalse (begins_with (makes_operator a) after) → IsToken k (a ∷ []) after
+      operator_kind (a ∷ []) ≡ Some k → IsFalse (begins_with (makes_operator a) after) → IsToken k (a ∷ []) after
   -- one character, no blank, with which no token and no comment begins
   unreadable : (c : ℕ) {after : List ℕ} →
       IsFalse (is_whitespace c) → IsFalse (begins_token (encode_utf8 c ++ after)) →

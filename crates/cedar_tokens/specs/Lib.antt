@@ -5,6 +5,7 @@ pub mod Names
 pub mod Operators
 pub mod Positions
 pub mod Scanning
+pub mod Sequence
 pub mod Tokens
 pub mod Values
 pub mod Words

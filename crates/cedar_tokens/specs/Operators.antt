@@ -4,8 +4,8 @@ use Rattle.cedar_tokens.specs.declared.tokens.Kind.{Kind}
 use Rattle.cedar_tokens.specs.declared.tokens.Kind.TheVariants as kind
 
 -- the operator or bracket that these bytes are, if any
-abbrev pub operator_of : List ℕ → Option Kind
-operator_of w =
+abbrev pub operator_kind : List ℕ → Option Kind
+operator_kind w =
     if bytes_eq w (codes "@") then Some kind.At else (
     if bytes_eq w (codes "(") then Some kind.OpenParen else (
     if bytes_eq w (codes ")") then Some kind.CloseParen else (

@@ -1,5 +1,6 @@
 -- Lines and columns.
-use Rattle.std.specs.Prelude.{◌≡◌, ◌++◌, min, length, codes, decimal, ℕ, ◌+◌, Bool, ◌==◌, ◌&&◌, nat_le, nat_lt, if◌then◌else◌, List, take}
+use Rattle.std.specs.Prelude.{◌≡◌, ◌++◌, min, length, codes, decimal, ℕ, ◌+◌, Bool, ◌==◌, ◌&&◌, nat_le, nat_lt, if◌then◌else◌, List, map, take}
+use Rattle.std.specs.Str.{chars}
 use Rattle.std.specs.List.{fold}
 use Rattle.cedar_tokens.specs.declared.errors.Expected.{Expected}
 use Rattle.cedar_tokens.specs.declared.errors.ReadError.{ReadError}
@@ -38,6 +39,14 @@ told_of text (error.Expected what found start end) =
     headline_of (position_of text (min start (length text))) (expected_found what found)
 told_of text (error.TooDeep start end) =
     headline_of (position_of text (min start (length text))) (codes "the expression is nested too deeply")
+
+-- what stands under a character: the mark, and under a tab a tab
+abbrev pub mark_for : ℕ → ℕ → ℕ
+mark_for mark c = if c == 9 then 9 else mark
+
+-- what stands under a text
+unfoldable pub marks_under : ℕ → List ℕ → List ℕ
+marks_under mark text = map (mark_for mark) (chars text)
 
 -- these bytes begin with those
 abbrev pub BeginsWith : List ℕ → List ℕ → Type 0

@@ -2,7 +2,7 @@
 use Rattle.std.specs.Prelude.{ℕ, ◌+◌, Bool, false, not, ◌&&◌, ◌||◌, ◌==◌, if◌then◌else◌, Option, Some, None, is_some, option_map, List, [], ◌∷◌}
 use Rattle.std.specs.Char.{is_ascii_digit}
 use Rattle.cedar_tokens.specs.declared.tokens.Kind.{Kind}
-use Rattle.cedar_tokens.specs.Operators.{operator_of}
+use Rattle.cedar_tokens.specs.Operators.{operator_kind}
 use Rattle.cedar_tokens.specs.Words.{starts_word}
 
 -- the first byte passes the test
@@ -23,13 +23,13 @@ begins_comment (b ∷ bs) = (b == 47) && begins_with (λ c. c == 47) bs
 -- the operator of one byte with which the bytes begin, if any
 abbrev pub single_of : List ℕ → Option Kind
 single_of [] = None
-single_of (a ∷ bs) = operator_of (a ∷ [])
+single_of (a ∷ bs) = operator_kind (a ∷ [])
 
 -- the operator of two bytes
 abbrev pub double_of : List ℕ → Option Kind
 double_of [] = None
 double_of (a ∷ []) = None
-double_of (a ∷ b ∷ bs) = operator_of (a ∷ b ∷ [])
+double_of (a ∷ b ∷ bs) = operator_kind (a ∷ b ∷ [])
 
 -- an operator
 abbrev pub begins_operator : List ℕ → Bool
@@ -50,11 +50,11 @@ abbrev pub escapes : Bool → ℕ → Bool
 escapes escaped b = not escaped && (b == 92)
 
 -- the byte is a quote, which closes a text, where no backslash escapes it
-abbrev pub closes : Bool → ℕ → Bool
-closes escaped b = not escaped && (b == 34)
+abbrev pub closes_text : Bool → ℕ → Bool
+closes_text escaped b = not escaped && (b == 34)
 
 -- how many bytes stand before the first quote that closes; whether a backslash escapes the first byte
 abbrev pub quote_from : Bool → List ℕ → Option ℕ
 quote_from escaped [] = None
 quote_from escaped (b ∷ bs) =
-    if closes escaped b then Some 0 else option_map (λ n. n + 1) (quote_from (escapes escaped b) bs)
+    if closes_text escaped b then Some 0 else option_map (λ n. n + 1) (quote_from (escapes escaped b) bs)

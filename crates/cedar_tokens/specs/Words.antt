@@ -1,8 +1,10 @@
 -- Words: identifiers, keywords and slots, by their bytes.
-use Rattle.std.specs.Prelude.{ℕ, Bool, List, ◌==◌, ◌||◌, if◌then◌else◌, codes, bytes_eq}
+use Rattle.std.specs.Prelude.{ℕ, Bool, false, List, [], ◌∷◌, ◌==◌, ◌||◌, ◌&&◌, if◌then◌else◌, codes, bytes_eq, take}
+use Rattle.std.specs.List.{list_all, prefix_len}
 use Rattle.std.specs.Char.{is_ascii_alphabetic, is_ascii_alphanumeric}
 use Rattle.cedar_tokens.specs.declared.tokens.Kind.{Kind}
 use Rattle.cedar_tokens.specs.declared.tokens.Kind.TheVariants as kind
+use Rattle.cedar_tokens.specs.Kinds as Kinds
 
 -- a letter or `_`
 abbrev pub starts_word : ℕ → Bool
@@ -11,6 +13,11 @@ starts_word b = is_ascii_alphabetic b || (b == 95)
 -- a letter, a digit or `_`
 abbrev pub is_word_byte : ℕ → Bool
 is_word_byte b = is_ascii_alphanumeric b || (b == 95)
+
+-- a letter or `_`, and then letters, digits and `_`
+abbrev pub is_word : List ℕ → Bool
+is_word [] = false
+is_word (b ∷ bs) = starts_word b && list_all is_word_byte bs
 
 -- the keyword that the word is, or else an identifier
 abbrev pub word_kind : List ℕ → Kind
@@ -33,6 +40,14 @@ word_kind w =
     if bytes_eq w (codes "like") then kind.Like else (
     if bytes_eq w (codes "is") then kind.Is else
     kind.Identifier))))))))))))))))
+
+-- one word, and none that is reserved
+unfoldable pub is_identifier : List ℕ → Bool
+is_identifier w = is_word w && Kinds.is_identifier (word_kind w)
+
+-- the bytes up to the first one that no word goes on with are a reserved word
+unfoldable pub begins_reserved : List ℕ → Bool
+begins_reserved bs = Kinds.is_reserved (word_kind (take (prefix_len is_word_byte bs) bs))
 
 -- the slot that the word behind `?` names, or else one that the language doesn't have
 abbrev pub slot_kind : List ℕ → Kind

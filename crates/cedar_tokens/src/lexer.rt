@@ -184,7 +184,7 @@ fn double_operator(bytes: &[u8]) -> Option<Kind>
     ensures { result ≡ double_of bytes.now }
 {
     if bytes.len() > 1 {
-        operators::operator(&bytes[..2])
+        operators::operator_kind(&bytes[..2])
     } else {
         None
     }
@@ -194,7 +194,7 @@ fn single_operator(bytes: &[u8]) -> Option<Kind>
     ensures { result ≡ single_of bytes.now }
 {
     if bytes.len() > 0 {
-        operators::operator(&bytes[..1])
+        operators::operator_kind(&bytes[..1])
     } else {
         None
     }

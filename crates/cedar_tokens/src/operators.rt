@@ -5,8 +5,8 @@ ghost use Rattle.cedar_tokens.specs.Operators as Operators;
 use crate::tokens::Kind;
 
 /// The operator or bracket that these bytes are, if any.
-pub(crate) fn operator(word: &[u8]) -> Option<Kind>
-    ensures { result ≡ Operators.operator_of word.now }
+pub(crate) fn operator_kind(word: &[u8]) -> Option<Kind>
+    ensures { result ≡ Operators.operator_kind word.now }
 {
     match word {
         b"@" => Some(Kind::At),

@@ -3,7 +3,7 @@ ghost use Rattle.std.specs.Prelude.{◌≡◌, ◌+◌, ◌≤◌, false, length
 ghost use Rattle.std.specs.List.{prefix_len};
 ghost use Rattle.std.specs.Char.{is_ascii_digit};
 ghost use Rattle.cedar_tokens.specs.Words.{is_word_byte};
-ghost use Rattle.cedar_tokens.specs.Scanning.{is_line_byte, closes, escapes, quote_from};
+ghost use Rattle.cedar_tokens.specs.Scanning.{is_line_byte, closes_text, escapes, quote_from};
 
 use crate::words;
 
@@ -60,7 +60,7 @@ pub(crate) fn closing_quote(bytes: &[u8], from: usize) -> Option<usize>
 {
     let mut is_escaped = false;
     for i in from..bytes.len() {
-        if closes(is_escaped, bytes[i]) {
+        if closes_text(is_escaped, bytes[i]) {
             return Some(i);
         }
         is_escaped = escapes(is_escaped, bytes[i]);
@@ -69,8 +69,8 @@ pub(crate) fn closing_quote(bytes: &[u8], from: usize) -> Option<usize>
 }
 
 // A quote that no backslash escapes.
-fn closes(is_escaped: bool, byte: u8) -> bool
-    ensures { result ≡ closes is_escaped byte }
+fn closes_text(is_escaped: bool, byte: u8) -> bool
+    ensures { result ≡ closes_text is_escaped byte }
 {
     !is_escaped && byte == b'"'
 }

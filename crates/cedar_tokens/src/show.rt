@@ -1,5 +1,5 @@
 //! Shows why a text can't be read, and where.
-ghost use Rattle.std.specs.Prelude.{◌≡◌, ◌+◌, ◌^◌, ◌<◌, ◌≤◌, min, length, string_bytes, IfOk};
+ghost use Rattle.std.specs.Prelude.{◌≡◌, ◌+◌, ◌^◌, ◌<◌, ◌≤◌, ◌++◌, min, length, codes, string_bytes, IfOk};
 ghost use Rattle.cedar_tokens.specs.Positions as Positions;
 
 use crate::errors::ReadError;
@@ -106,7 +106,16 @@ fn marked(
     let start = start.min(text.len());
     let position = locate(text, start);
     let mut told = headline(alloc, position, why)?;
-    let below = line_and_mark(alloc, text, position.start, start, end)?;
+    let from = position.start;
+    let line_end = scanning::line_end(text.as_bytes(), start);
+    let line = text.get(from..line_end).unwrap_or("");
+    let below = marked_line(
+        alloc,
+        line,
+        start.saturating_sub(from),
+        end.saturating_sub(from),
+    )?;
+    told.push('\n')?;
     told.push_str(&below)?;
     Ok(told)
 }
@@ -119,31 +128,43 @@ fn headline(alloc: Global, position: Position, why: &str) -> Result<String, Allo
     Ok(format!(in alloc; "line {line}, column {column}: {why}")?)
 }
 
-// The line that starts at byte `from`, and under it a mark for each of its characters from `start` up to `end`.
-fn line_and_mark(
+/// The line, and below it marks for its bytes from `start` up to `end`: `^` under each character of them, and blanks
+/// before; a tab stands as it is. What lies behind the line is not marked. One `^` marks the place where these bytes
+/// are none, as where `end` is not behind `start` or no character ends there, and the line's first where none begins
+/// at `start`.
+///
+/// # Errors
+///
+/// Memory was wanting.
+pub fn marked_line(
     alloc: Global,
-    text: &str,
-    from: usize,
+    line: &str,
     start: usize,
     end: usize,
 ) -> Result<String, AllocError>
-    requires { start ≤ length text.now }
+    ensures { IfOk result (λ told. Positions.BeginsWith (string_bytes told) (line.now ++ codes "\n")) }
 {
-    let line_end = scanning::line_end(text.as_bytes(), start);
-    let end = end.min(line_end);
-    let before = text.get(from..start).unwrap_or("");
-    let place = text.get(start..end).unwrap_or("");
-    let behind = text.get(end..line_end).unwrap_or("");
+    let before = line.get(..start).unwrap_or("");
+    let place = line.get(start..end.min(line.len())).unwrap_or("");
     let blanks = marks(alloc, before, ' ')?;
     let marks = marks(alloc, if place.is_empty() { " " } else { place }, '^')?;
-    format!(in alloc; "\n{before}{place}{behind}\n{blanks}{marks}")
+    Ok(format!(in alloc; "{line}\n{blanks}{marks}")?)
 }
 
 // The mark for each character of the text, and each tab as it stands.
-fn marks(alloc: Global, text: &str, mark: char) -> Result<String, AllocError> {
+fn marks(alloc: Global, text: &str, mark: char) -> Result<String, AllocError>
+    requires { mark < 128 }
+    ensures { IfOk result (λ told. string_bytes told ≡ Positions.marks_under mark text.now) }
+{
     let mut marks = String::new(alloc);
-    for c in text.chars() {
-        marks.push(if c == '\t' { c } else { mark })?;
+    'characters: for character in text.chars() {
+        marks.push(mark_for(mark, character))?;
     }
     Ok(marks)
+}
+
+fn mark_for(mark: char, character: char) -> char
+    ensures { result ≡ Positions.mark_for mark character }
+{
+    if character == '\t' { character } else { mark }
 }

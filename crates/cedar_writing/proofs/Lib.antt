@@ -1,4 +1,3 @@
 pub mod Escaping
-pub mod Reserved
 pub mod Loops
 pub mod ScopeKinds

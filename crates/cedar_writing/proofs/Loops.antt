@@ -4,6 +4,7 @@ use Rattle.std.proofs.lemmas.List.{drop_more}
 use Rattle.cedar_model.specs.Terms.{Text, Term, Terms, one_term, Fields, one_field}
 use Rattle.cedar_model.specs.World.{Slots}
 use Rattle.cedar_names.specs.Texts.{separator}
+use Rattle.cedar_names.proofs.Loops.{flat_map_left}
 use Rattle.std.specs.Rc.{rc_str_bytes}
 use Rattle.std.specs.declared.alloc.Global.{Global}
 use Rattle.std.specs.declared.rc.RcStr.{RcStr}
@@ -12,11 +13,6 @@ use Rattle.cedar_writing.specs.Policies as policies
 use Rattle.cedar_writing.specs.Policies.{annotation_text, policy_text, policies_text}
 use Rattle.cedar_writing.specs.Names.{key_text}
 use Rattle.cedar_writing.specs.Texts.{written, written_parts, written_fields}
-
--- one text of a list
-pub flat_map_left : {X Y : Type 0} (f : Y → List ℕ) (v : X → Y) (xs : List X) (i : ℕ) (d : X) (done total : List ℕ) → i < length xs
-    → done ++ flat_map f (map v (drop i xs)) ≡ total → (done ++ f (v (get_or xs i d))) ++ flat_map f (map v (drop (i + 1) xs)) ≡ total
-flat_map_left f v xs i d done total h whole = rw append_assoc (rw (drop_more xs i d h) at whole)
 
 -- one part of a list
 pub parts_left : (s : Slots) (first : Bool) (t : Term) (ts rest : Terms) (done total : List ℕ) → ts ≡ one_term t rest

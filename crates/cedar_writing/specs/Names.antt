@@ -1,31 +1,13 @@
 -- Names of attributes, and what stands behind a part: bare where they are identifiers, else as texts in double quotes.
-use Rattle.std.specs.Prelude.{Bool, ◌&&◌, ◌||◌, bytes_eq, List, ◌∷◌, ◌++◌, if◌then◌else◌, codes, flat_map}
-use Rattle.std.specs.List.{list_all}
+use Rattle.std.specs.Prelude.{List, ◌∷◌, ◌++◌, if◌then◌else◌, codes, flat_map}
 use Rattle.cedar_model.specs.Terms.{Text, EntityName, Literal, bool_literal, long_literal, text_literal, entity_literal, PatternPart}
-use Rattle.cedar_tokens.specs.Kinds.{is_identifier}
-use Rattle.cedar_tokens.specs.Scanning.{begins_with}
-use Rattle.cedar_tokens.specs.Words.{starts_word, is_word_byte, word_kind}
+use Rattle.cedar_tokens.specs.Words.{is_identifier}
 use Rattle.cedar_names.specs.Texts as names
 use Rattle.cedar_writing.specs.Escapes.{written_quoted, pattern_text}
 
--- the words that stand for themselves alone
-unfoldable pub is_reserved : Text → Bool
-is_reserved t =
-    bytes_eq t (codes "true") || (bytes_eq t (codes "false") || (bytes_eq t (codes "if")
-    || (bytes_eq t (codes "then") || (bytes_eq t (codes "else") || (bytes_eq t (codes "in")
-    || (bytes_eq t (codes "has") || (bytes_eq t (codes "like") || bytes_eq t (codes "is"))))))))
-
--- a letter or `_`, and then letters, digits and `_`
-unfoldable pub is_word : Text → Bool
-is_word t = begins_with starts_word t && list_all is_word_byte t
-
--- whether the text is one word, and none that is reserved
-unfoldable pub is_name : Text → Bool
-is_name t = is_word t && is_identifier (word_kind t)
-
 -- the key of a field, or an attribute behind `has`
 abbrev pub key_text : Text → Text
-key_text k = if is_name k then k else written_quoted k
+key_text k = if is_identifier k then k else written_quoted k
 
 -- `["a b"]`
 abbrev pub index_text : Text → Text
@@ -33,7 +15,7 @@ index_text a = codes "[" ++ (written_quoted a ++ codes "]")
 
 -- `.a`, or `["a b"]`
 abbrev pub attribute_text : Text → Text
-attribute_text a = if is_name a then 46 ∷ a else index_text a
+attribute_text a = if is_identifier a then 46 ∷ a else index_text a
 
 -- a further attribute of an extended has
 abbrev pub further_text : Text → Text

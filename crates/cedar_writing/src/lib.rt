@@ -35,4 +35,4 @@ mod policies;
 mod scopes;
 
 pub use expressions::to_cedar;
-pub use policies::{policies_to_cedar, policy_to_cedar};
+pub use policies::{effect_text, policies_to_cedar, policy_to_cedar};

@@ -1,9 +1,7 @@
 //! Names, entities and literals, and what stands behind a part.
-ghost use Rattle.std.specs.Prelude.{◌≡◌, ◌∷◌, not, flat_map};
+ghost use Rattle.std.specs.Prelude.{◌∷◌, flat_map};
 ghost use Rattle.std.specs.Rc.{rc_str_bytes};
-ghost use Rattle.std.specs.List.{list_all};
 ghost use Rattle.std.specs.Fmt.{WritesOnOk};
-ghost use Rattle.cedar_tokens.specs.Words as Words;
 ghost use Rattle.cedar_names.specs.Names.{uid_name};
 ghost use Rattle.cedar_names.specs.Leaves.{literal_view, pattern_view, texts_view};
 ghost use Rattle.cedar_writing.specs.Names as texts;
@@ -11,67 +9,10 @@ ghost use Rattle.cedar_writing.specs.Names as texts;
 use crate::escapes::{write_pattern, write_text};
 use cedar_names::shared::write_literal;
 use cedar_names::{EntityUID, FirstRest, Literal, Pattern};
+use cedar_tokens::words::is_identifier;
 use std::fmt;
 use std::fmt::Display;
 use std::rc::RcStr;
-
-/// Whether the text is an identifier: one word, and none that is reserved.
-#[tactic(auto, using(crate::proofs::Reserved::identifiers), unfolding(crate::specs::Names::is_name))]
-fn is_name(text: &str) -> bool
-    ensures { result ≡ texts.is_name text.now }
-{
-    is_word(text.as_bytes()) && !is_reserved(text)
-}
-
-/// A letter or `_`, and then letters, digits and `_`.
-#[tactic(auto, unfolding(crate::specs::Names::is_word))]
-fn is_word(bytes: &[u8]) -> bool
-    ensures { result ≡ texts.is_word bytes.now }
-{
-    if bytes.len() == 0 {
-        return false;
-    }
-    starts_word(bytes[0]) && are_word_bytes(bytes)
-}
-
-fn are_word_bytes(bytes: &[u8]) -> bool
-    ensures { result ≡ list_all Words.is_word_byte bytes.now }
-{
-    bytes.iter().all(|byte| is_word_byte(*byte))
-}
-
-/// A letter or `_`.
-fn starts_word(byte: u8) -> bool
-    ensures { result ≡ Words.starts_word byte }
-{
-    byte.is_ascii_alphabetic() || byte == b'_'
-}
-
-/// A letter, a digit or `_`.
-fn is_word_byte(byte: u8) -> bool
-    ensures { result ≡ Words.is_word_byte byte }
-{
-    byte.is_ascii_alphanumeric() || byte == b'_'
-}
-
-/// Whether the word stands for itself alone.
-#[tactic(auto, unfolding(crate::specs::Names::is_reserved))]
-fn is_reserved(word: &str) -> bool
-    ensures { result ≡ texts.is_reserved word.now }
-{
-    match word {
-        "true" => true,
-        "false" => true,
-        "if" => true,
-        "then" => true,
-        "else" => true,
-        "in" => true,
-        "has" => true,
-        "like" => true,
-        "is" => true,
-        _ => false,
-    }
-}
 
 /// Writes the key of a field, or an attribute behind `has`.
 pub(crate) fn write_key<W: fmt::Write>(key: &RcStr, f: &mut fmt::Formatter<W>) -> fmt::Result
@@ -83,7 +24,7 @@ pub(crate) fn write_key<W: fmt::Write>(key: &RcStr, f: &mut fmt::Formatter<W>) -
 fn write_word<W: fmt::Write>(word: &str, f: &mut fmt::Formatter<W>) -> fmt::Result
     ensures { WritesOnOk W.write_str_gives f.old result (texts.key_text word.now) f.new }
 {
-    if is_name(word) {
+    if is_identifier(word) {
         f.write_str(word)
     } else {
         write_text(word, f)
@@ -100,7 +41,7 @@ pub(crate) fn write_attribute<W: fmt::Write>(attr: &RcStr, f: &mut fmt::Formatte
 fn write_access<W: fmt::Write>(attr: &str, f: &mut fmt::Formatter<W>) -> fmt::Result
     ensures { WritesOnOk W.write_str_gives f.old result (texts.attribute_text attr.now) f.new }
 {
-    if is_name(attr) {
+    if is_identifier(attr) {
         write_dotted(attr, f)
     } else {
         write_index(attr, f)

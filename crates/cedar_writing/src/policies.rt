@@ -146,7 +146,8 @@ fn write_effect<W: fmt::Write>(policy: &Policy, f: &mut fmt::Formatter<W>) -> fm
     f.write_str(effect_text(policy.effect()))
 }
 
-fn effect_text(effect: Effect) -> &'static str
+/// The effect, as a policy begins with it.
+pub fn effect_text(effect: Effect) -> &'static str
     ensures { result.now ≡ texts.effect_text (effect_view effect) }
 {
     match effect {

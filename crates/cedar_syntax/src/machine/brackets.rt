@@ -3,15 +3,16 @@ ghost use Rattle.std.specs.Prelude.{◌≡◌, ◌+◌, ◌<◌, ◌∷◌, leng
 ghost use Rattle.cedar_syntax.specs.Grammar as Grammar;
 ghost use Rattle.cedar_syntax.specs.Reading.{IsOpened, IsAwaitingKey, IsItemRead, Reads, under};
 ghost use Rattle.cedar_syntax.specs.Standing.{look, Stands};
-ghost use Rattle.cedar_syntax.specs.Tokens as Tokens;
+ghost use Rattle.cedar_tokens.specs.Sequence as Tokens;
 ghost use Rattle.cedar_tokens.specs.declared.tokens.Kind.TheVariants as kind;
 
 use crate::frames::Wait;
 use crate::levels;
 use crate::machine::work::Work;
-use crate::machine::{Refusal, State, closes_at, end_at, higher, is_key_at, kind_at, start_at};
+use crate::machine::{Refusal, State, closes_at, is_key_at};
 use crate::steps::{Bracketed, What};
 use cedar_tokens::errors::Expected;
+use cedar_tokens::sequence::{end_at, kind_at, start_at};
 use cedar_tokens::tokens::{Kind, Token};
 
 impl Work {
@@ -230,7 +231,7 @@ impl Work {
         ensures limit { self.new.limit ≡ self.old.limit }
         ensures ok { IfOk result (λ next. Stands tokens.now next (look self.new) (index + 1)) }
     {
-        let height = higher(height, self.height);
+        let height = height.max(self.height);
         self.wait(Wait::Item(bracketed, count + 1), start, height)?;
         match bracketed {
             Bracketed::Record => Ok(State::Key),
@@ -257,7 +258,7 @@ impl Work {
         if closes_at(bracketed, tokens, index) {
             let end = end_at(tokens, index);
             let what = What::Bracketed(bracketed, count + 1);
-            let below = higher(height, self.height);
+            let below = height.max(self.height);
             self.make(what, levels::MEMBER, start, end, below, 1)?;
             Ok(State::Operator)
         } else {

@@ -3,15 +3,16 @@ ghost use Rattle.std.specs.Prelude.{◌≡◌, ◌+◌, ◌<◌, ◌≤◌, ◌�
 ghost use Rattle.cedar_syntax.specs.Grammar as Grammar;
 ghost use Rattle.cedar_syntax.specs.Reading.{IsAwaiting, Reads, under};
 ghost use Rattle.cedar_syntax.specs.Standing.{look, Stands};
-ghost use Rattle.cedar_syntax.specs.Tokens as Tokens;
+ghost use Rattle.cedar_tokens.specs.Sequence as Tokens;
 ghost use Rattle.cedar_tokens.specs.declared.tokens.Kind.TheVariants as kind;
 
 use crate::frames::Wait;
 use crate::levels;
 use crate::machine::work::Work;
-use crate::machine::{Refusal, State, end_at, is_identifier_at, kind_at, leaf_at, start_at};
+use crate::machine::{Refusal, State, leaf_at};
 use crate::steps::{Bracketed, Leaf, Sign, What};
 use cedar_tokens::errors::Expected;
+use cedar_tokens::sequence::{end_at, is_identifier_at, kind_at, start_at};
 use cedar_tokens::tokens::{Kind, Token};
 
 impl Work {

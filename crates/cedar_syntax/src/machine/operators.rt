@@ -4,7 +4,7 @@ ghost use Rattle.cedar_syntax.specs.Levels.{awaited, frame_level_of, lowest_of};
 ghost use Rattle.cedar_syntax.specs.Grammar as Grammar;
 ghost use Rattle.cedar_syntax.specs.Reading.{Reads, join_made, under};
 ghost use Rattle.cedar_syntax.specs.Standing.{look, Stands};
-ghost use Rattle.cedar_syntax.specs.Tokens as Tokens;
+ghost use Rattle.cedar_tokens.specs.Sequence as Tokens;
 ghost use Rattle.cedar_syntax.specs.Trees.{trees, made, signs_made};
 ghost use Rattle.cedar_tokens.specs.declared.tokens.Kind.TheVariants as kind;
 ghost use Prim.Native.Nat.{max};
@@ -12,9 +12,10 @@ ghost use Prim.Native.Nat.{max};
 use crate::frames::Wait;
 use crate::levels::{self, Operator};
 use crate::machine::work::Work;
-use crate::machine::{Refusal, State, end_at, higher, kind_at, operator_at};
+use crate::machine::{Refusal, State, operator_at};
 use crate::steps::{Binary, Sign, Unary, What};
 use cedar_tokens::errors::Expected;
+use cedar_tokens::sequence::{end_at, kind_at};
 use cedar_tokens::tokens::{Kind, Token};
 
 impl Work {
@@ -210,7 +211,7 @@ impl Work {
     {
         match kind_at(tokens, index) {
             Kind::Else => {
-                self.wait(Wait::Else, start, higher(height, self.height))?;
+                self.wait(Wait::Else, start, height.max(self.height))?;
                 Ok(State::Operand)
             }
             _ => Err(Refusal::Expected(Expected::Else)),
@@ -245,7 +246,7 @@ impl Work {
                 levels::RELATION,
                 start,
                 self.end,
-                higher(height, self.height),
+                height.max(self.height),
                 2,
             ),
             Wait::Else => self.make(
@@ -253,7 +254,7 @@ impl Work {
                 levels::CONDITIONAL,
                 start,
                 self.end,
-                higher(height, self.height),
+                height.max(self.height),
                 1,
             ),
             _ => Err(Refusal::Expected(Expected::Operator)),
@@ -269,7 +270,7 @@ impl Work {
     {
         let level = levels::level(operator);
         let what = What::Binary(levels::binary(operator));
-        self.make(what, level, start, self.end, higher(height, self.height), 1)?;
+        self.make(what, level, start, self.end, height.max(self.height), 1)?;
         if levels::is_negated(operator) {
             let what = What::Unary(Unary::Sign(Sign::Not));
             self.make(what, level, start, self.end, self.height, 1)?;

@@ -7,9 +7,10 @@ ghost use Rattle.cedar_syntax.specs.Standing.{look, Stands};
 use crate::frames::Wait;
 use crate::levels;
 use crate::machine::work::Work;
-use crate::machine::{Refusal, State, end_at, is_identifier_at, kind_at, start_at};
+use crate::machine::{Refusal, State};
 use crate::steps::{Unary, What};
 use cedar_tokens::errors::Expected;
+use cedar_tokens::sequence::{end_at, is_identifier_at, kind_at, start_at};
 use cedar_tokens::tokens::{Kind, Token};
 
 impl Work {

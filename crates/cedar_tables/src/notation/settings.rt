@@ -54,7 +54,7 @@ impl StoredParts {
     }
 
     // The parts, and this value under its name.
-    #[tactic(auto, using(crate::proofs::StoredValues::restricted_insert))]
+    #[tactic(auto, using(cedar_layers::proofs::Parts::restricted_insert))]
     fn with(self, name: RcStr, value: Value) -> Result<StoredParts, AllocError> {
         let mut parts = self.parts;
         let replaced = parts.insert(name, PartialValue::Value(value))?;
@@ -63,7 +63,7 @@ impl StoredParts {
     }
 
     // The parts, and this residual under its name.
-    #[tactic(auto, using(crate::proofs::StoredValues::restricted_insert))]
+    #[tactic(auto, using(cedar_layers::proofs::Parts::restricted_insert))]
     fn with_residual(
         self,
         name: RcStr,

@@ -1,12 +1,12 @@
 use Rattle.std.proofs.Common.{◌≡◌, [], ◌∷◌, ◌++◌, List, sym, ap, ◌∙◌, subst, append_assoc, append-nil, rules}
 use Rattle.std.specs.Vec.Iter.{into_iter_items}
+use Rattle.std.proofs.lemmas.List.{nil_from_length}
 use Rattle.cedar_layers.specs.declared.policies.entities.Entity.{Entity}
 use Rattle.cedar_restricted_evaluator.specs.Evaluators.{extensions_read, calls_in, limit_of}
 use Rattle.cedar_json.specs.declared.entities.StatedEntity.{StatedEntity}
 use Rattle.cedar_json.specs.SaidEntities.{SaidEntity}
 use Rattle.cedar_json.specs.StatedEntities.{stated_view, stated_views}
 use Rattle.cedar_json.specs.Evaluated.{AreEvaluated}
-use Rattle.cedar_json.proofs.Answered.{empty_list}
 use Rattle.cedar_json.proofs.evaluation.evaluate_all.Goals as goal
 
 pub stated-init : goal.stated-init
@@ -36,6 +36,6 @@ returns-clause-evaluated g c =
     let x = extensions_read c.args.evaluator.now in
     let calls = calls_in c.args.evaluator.now in
     let n = limit_of c.args.evaluator.now in
-    let none : into_iter_items l.entity-iterator ≡ [] = empty_list (into_iter_items l.entity-iterator) (sym l.entity-iterator.rest.ok.0 ∙ c.in-None.ensures.steps.0) in
+    let none : into_iter_items l.entity-iterator ≡ [] = nil_from_length (into_iter_items l.entity-iterator) (sym l.entity-iterator.rest.ok.0 ∙ c.in-None.ensures.steps.0) in
     let whole = l.invariant.1 ∙ ap (λ (es : List StatedEntity). l.invariant.0 ++ stated_views es) none ∙ append-nil l.invariant.0 in
     subst (λ (es : List SaidEntity). AreEvaluated x calls n es l.entities.items) (sym whole) l.invariant.2

@@ -2,6 +2,7 @@ use Rattle.std.proofs.Common.{◌≡◌, [], List, sym, ap, ◌∙◌, subst, ru
 use Rattle.std.specs.Rc.{rc_str_bytes}
 use Rattle.std.specs.Vec.Iter.{into_iter_items}
 use Rattle.std.specs.declared.rc.RcStr.{RcStr}
+use Rattle.std.proofs.lemmas.List.{nil_from_length}
 use Rattle.cedar_model.specs.Terms.{Fields, no_fields}
 use Rattle.cedar_expressions.specs.Records.{put_field, put_fields}
 use Rattle.cedar_values.specs.declared.partial_value.PartialValue.{PartialValue}
@@ -11,7 +12,6 @@ use Rattle.cedar_restricted_expressions.specs.declared.restricted_expr.Restricte
 use Rattle.cedar_restricted_expressions.specs.Views.{restricted_term}
 use Rattle.cedar_json.specs.Lists.{pairs_said}
 use Rattle.cedar_json.specs.Evaluated.{AreAnswered}
-use Rattle.cedar_json.proofs.Answered.{empty_list}
 use Rattle.cedar_json.proofs.evaluation.parts.Goals as goal
 
 pub pairs-init : goal.pairs-init
@@ -40,5 +40,5 @@ returns-clause-answered g c =
     let x = extensions_read c.args.evaluator.now in
     let calls = calls_in c.args.evaluator.now in
     let n = limit_of c.args.evaluator.now in
-    let none : into_iter_items l.key-iterator ≡ [] = empty_list (into_iter_items l.key-iterator) (sym l.key-iterator.rest.ok.0 ∙ c.in-None.ensures.steps.0) in
+    let none : into_iter_items l.key-iterator ≡ [] = nil_from_length (into_iter_items l.key-iterator) (sym l.key-iterator.rest.ok.0 ∙ c.in-None.ensures.steps.0) in
     subst (λ (gs : Fields). AreAnswered x calls n gs (parts_view l.parts.map.entries)) (sym (l.invariant.1 ∙ ap (λ (ps : List (RcStr Global × RestrictedExpr)). put_fields l.invariant.0 (pairs_said ps)) none)) l.invariant.2

@@ -1,7 +1,7 @@
 use Rattle.std.proofs.Common.{◌≡◌, ◌∙◌, sym, ap, false}
 use Rattle.cedar_tokens.specs.declared.tokens.Kind.TheVariants as kind
 use Rattle.cedar_tokens.specs.declared.tokens.Token.{Token}
-use Rattle.cedar_syntax.specs.Tokens.{kind_at}
+use Rattle.cedar_tokens.specs.Sequence.{kind_at}
 use Rattle.cedar_text.specs.Reading.{IsWithin}
 use Rattle.cedar_text.proofs.Places.{passed_up, escape_refused, refused_within}
 use Rattle.cedar_policy_text.proofs.annotations.value_at.Goals as goal

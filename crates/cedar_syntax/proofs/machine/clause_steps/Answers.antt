@@ -1,4 +1,4 @@
-use Rattle.std.proofs.Common.{◌≡◌, ◌+◌, ◌<◌, ◌≤◌, subst, arith, refl}
+use Rattle.std.proofs.Common.{◌≡◌, ◌+◌, ◌≤◌, subst, arith, refl}
 use Rattle.cedar_syntax.specs.Standing.{look, Stands}
 use Rattle.cedar_syntax.specs.Reading.{IsClosed}
 use Rattle.cedar_syntax.specs.Trees.{trees}

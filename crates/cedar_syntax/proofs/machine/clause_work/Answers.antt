@@ -1,4 +1,4 @@
-use Rattle.std.proofs.Common.{◌≡◌, ap, ◌∙◌, ◌∷◌}
+use Rattle.std.proofs.Common.{ap, ◌∙◌, ◌∷◌}
 use Rattle.cedar_syntax.specs.Places.{for_memory}
 use Rattle.cedar_syntax.specs.Trees.{trees}
 use Rattle.cedar_syntax.specs.declared.frames.Wait.TheVariants as wait

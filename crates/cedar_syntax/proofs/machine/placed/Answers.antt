@@ -1,3 +1,4 @@
+use Rattle.std.proofs.Common.{arith}
 use Rattle.cedar_syntax.specs.Places.{for_memory}
 use Rattle.cedar_syntax.proofs.Erring.{token_placed, deep_placed}
 use Rattle.cedar_syntax.proofs.machine.placed.Goals as goal
@@ -9,4 +10,4 @@ pub returns-in-Expected : goal.returns-in-Expected
 returns-in-Expected c = token_placed c.in-Expected.what c.requires c.token_at-token.ensures c.expected.ensures
 
 pub returns-in-TooDeep : goal.returns-in-TooDeep
-returns-in-TooDeep c = deep_placed c.requires c.token_at-token.ensures c.lower.ensures
+returns-in-TooDeep c = deep_placed c.requires c.token_at-token.ensures (omega (arith, c.min.ensures))

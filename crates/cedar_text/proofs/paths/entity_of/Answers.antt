@@ -1,53 +1,54 @@
-use Rattle.cedar_text.specs.Paths.{IsPathRefused, at_place, at_escape, entity_read}
+use Rattle.cedar_text.specs.Paths.{IsPathRefused, at_place, at_escape}
 use Rattle.cedar_text.specs.Reading.{IsWithin}
+use Rattle.cedar_text.proofs.Growing.{entity_there}
 use Rattle.cedar_text.proofs.Places.{passed_up, placed_within, refused_within}
 use Rattle.cedar_text.proofs.paths.entity_of.Goals as goal
 
-pub returns-in_err-end-clause-err : goal.returns-in_err-end-clause-err
-returns-in_err-end-clause-err c =
+pub returns-in_err-reach-clause-err : goal.returns-in_err-reach-clause-err
+returns-in_err-reach-clause-err c =
     passed_up c.from_residual.result _ (IsPathRefused c.args.text.now) c.from_residual.ensures.1
-    (at_place c.requires.tokens c.in_err-end.ensures.err)
+    (at_place c.requires.tokens c.in_err-reach.ensures.err)
 
-pub returns-in_err-end-clause-placed : goal.returns-in_err-end-clause-placed
-returns-in_err-end-clause-placed c =
+pub returns-in_err-reach-clause-placed : goal.returns-in_err-reach-clause-placed
+returns-in_err-reach-clause-placed c =
     passed_up c.from_residual.result _ (IsWithin c.args.text.now) c.from_residual.ensures.1
-    (placed_within c.args.text.now c.args.tokens.now c.requires.stand _ c.in_err-end.ensures.err)
+    (placed_within c.args.text.now c.args.tokens.now c.requires.stand _ c.in_err-reach.ensures.err)
 
-pub returns-in_err-stands_there-clause-err : goal.returns-in_err-stands_there-clause-err
-returns-in_err-stands_there-clause-err c =
-    passed_up c.from_residual-in_err-stands_there.result _ (IsPathRefused c.args.text.now)
-    c.from_residual-in_err-stands_there.ensures.1
-    (at_place c.requires.tokens c.in_err-stands_there.ensures.err)
+pub returns-in_err-id-clause-err : goal.returns-in_err-id-clause-err
+returns-in_err-id-clause-err c =
+    passed_up c.from_residual-in_err-id.result _ (IsPathRefused c.args.text.now)
+    c.from_residual-in_err-id.ensures.1
+    (at_place c.requires.tokens c.in_err-id.ensures.err)
 
-pub returns-in_err-stands_there-clause-placed : goal.returns-in_err-stands_there-clause-placed
-returns-in_err-stands_there-clause-placed c =
-    passed_up c.from_residual-in_err-stands_there.result _ (IsWithin c.args.text.now)
-    c.from_residual-in_err-stands_there.ensures.1
-    (placed_within c.args.text.now c.args.tokens.now c.requires.stand _ c.in_err-stands_there.ensures.err)
+pub returns-in_err-id-clause-placed : goal.returns-in_err-id-clause-placed
+returns-in_err-id-clause-placed c =
+    passed_up c.from_residual-in_err-id.result _ (IsWithin c.args.text.now)
+    c.from_residual-in_err-id.ensures.1
+    (placed_within c.args.text.now c.args.tokens.now c.requires.stand _ c.in_err-id.ensures.err)
 
-pub returns-in_err-stands_there-2-clause-err : goal.returns-in_err-stands_there-2-clause-err
-returns-in_err-stands_there-2-clause-err c =
-    passed_up c.from_residual-in_err-stands_there-2.result _ (IsPathRefused c.args.text.now)
-    c.from_residual-in_err-stands_there-2.ensures.1
-    (at_place c.requires.tokens c.in_err-stands_there-2.ensures.err)
+pub returns-in_err-last-clause-err : goal.returns-in_err-last-clause-err
+returns-in_err-last-clause-err c =
+    passed_up c.from_residual-in_err-last.result _ (IsPathRefused c.args.text.now)
+    c.from_residual-in_err-last.ensures.1
+    (at_place c.requires.tokens c.in_err-last.ensures.err)
 
-pub returns-in_err-stands_there-2-clause-placed : goal.returns-in_err-stands_there-2-clause-placed
-returns-in_err-stands_there-2-clause-placed c =
-    passed_up c.from_residual-in_err-stands_there-2.result _ (IsWithin c.args.text.now)
-    c.from_residual-in_err-stands_there-2.ensures.1
-    (placed_within c.args.text.now c.args.tokens.now c.requires.stand _ c.in_err-stands_there-2.ensures.err)
+pub returns-in_err-last-clause-placed : goal.returns-in_err-last-clause-placed
+returns-in_err-last-clause-placed c =
+    passed_up c.from_residual-in_err-last.result _ (IsWithin c.args.text.now)
+    c.from_residual-in_err-last.ensures.1
+    (placed_within c.args.text.now c.args.tokens.now c.requires.stand _ c.in_err-last.ensures.err)
 
-pub returns-in_err-stands_there-3-clause-err : goal.returns-in_err-stands_there-3-clause-err
-returns-in_err-stands_there-3-clause-err c =
-    passed_up c.from_residual-in_err-stands_there-3.result _ (IsPathRefused c.args.text.now)
-    c.from_residual-in_err-stands_there-3.ensures.1
-    (at_place c.requires.tokens c.in_err-stands_there-3.ensures.err)
+pub returns-in_err-expect-clause-err : goal.returns-in_err-expect-clause-err
+returns-in_err-expect-clause-err c =
+    passed_up c.from_residual-in_err-expect.result _ (IsPathRefused c.args.text.now)
+    c.from_residual-in_err-expect.ensures.1
+    (at_place c.requires.tokens c.in_err-expect.ensures.err)
 
-pub returns-in_err-stands_there-3-clause-placed : goal.returns-in_err-stands_there-3-clause-placed
-returns-in_err-stands_there-3-clause-placed c =
-    passed_up c.from_residual-in_err-stands_there-3.result _ (IsWithin c.args.text.now)
-    c.from_residual-in_err-stands_there-3.ensures.1
-    (placed_within c.args.text.now c.args.tokens.now c.requires.stand _ c.in_err-stands_there-3.ensures.err)
+pub returns-in_err-expect-clause-placed : goal.returns-in_err-expect-clause-placed
+returns-in_err-expect-clause-placed c =
+    passed_up c.from_residual-in_err-expect.result _ (IsWithin c.args.text.now)
+    c.from_residual-in_err-expect.ensures.1
+    (placed_within c.args.text.now c.args.tokens.now c.requires.stand _ c.in_err-expect.ensures.err)
 
 pub returns-in_err-uid-clause-err : goal.returns-in_err-uid-clause-err
 returns-in_err-uid-clause-err c =
@@ -61,7 +62,8 @@ returns-in_err-uid-clause-placed c =
 
 pub returns-clause-ok : goal.returns-clause-ok
 returns-clause-ok c =
-    entity_read c.requires.tokens c.in_ok-end.ensures.ok c.in_ok-stands_there.ensures.ok
-    c.in_ok-stands_there-2.ensures.ok
-    c.in_ok-stands_there-3.ensures.ok
+    entity_there c.requires.tokens c.in_ok-reach.ensures.ok c.in_ok-id.ensures.is c.in_ok-id.ensures.next
+    c.in_ok-last.ensures.is
+    c.in_ok-last.ensures.next
+    c.in_ok-expect.ensures.is
     (rw (c.loc_up_to-loc.ensures.start, c.loc_up_to-loc.ensures.end) at c.in_ok-uid.ensures.ok)

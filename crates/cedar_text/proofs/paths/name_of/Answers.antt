@@ -1,29 +1,29 @@
-use Rattle.cedar_text.specs.Paths.{IsPathRefused, at_place, at_escape, name_read}
+use Rattle.cedar_text.specs.Paths.{IsPathRefused, at_place, at_escape, name_read, path_up_to}
 use Rattle.cedar_text.specs.Reading.{IsWithin}
 use Rattle.cedar_text.proofs.Places.{passed_up, placed_within, refused_within}
 use Rattle.cedar_text.proofs.paths.name_of.Goals as goal
 
-pub returns-in_err-end-clause-err : goal.returns-in_err-end-clause-err
-returns-in_err-end-clause-err c =
+pub returns-in_err-reach-clause-err : goal.returns-in_err-reach-clause-err
+returns-in_err-reach-clause-err c =
     passed_up c.from_residual.result _ (IsPathRefused c.args.text.now) c.from_residual.ensures.1
-    (at_place c.requires.tokens c.in_err-end.ensures.err)
+    (at_place c.requires.tokens c.in_err-reach.ensures.err)
 
-pub returns-in_err-end-clause-placed : goal.returns-in_err-end-clause-placed
-returns-in_err-end-clause-placed c =
+pub returns-in_err-reach-clause-placed : goal.returns-in_err-reach-clause-placed
+returns-in_err-reach-clause-placed c =
     passed_up c.from_residual.result _ (IsWithin c.args.text.now) c.from_residual.ensures.1
-    (placed_within c.args.text.now c.args.tokens.now c.requires.stand _ c.in_err-end.ensures.err)
+    (placed_within c.args.text.now c.args.tokens.now c.requires.stand _ c.in_err-reach.ensures.err)
 
-pub returns-in_err-stands_there-clause-err : goal.returns-in_err-stands_there-clause-err
-returns-in_err-stands_there-clause-err c =
-    passed_up c.from_residual-in_err-stands_there.result _ (IsPathRefused c.args.text.now)
-    c.from_residual-in_err-stands_there.ensures.1
-    (at_place c.requires.tokens c.in_err-stands_there.ensures.err)
+pub returns-in_err-expect-clause-err : goal.returns-in_err-expect-clause-err
+returns-in_err-expect-clause-err c =
+    passed_up c.from_residual-in_err-expect.result _ (IsPathRefused c.args.text.now)
+    c.from_residual-in_err-expect.ensures.1
+    (at_place c.requires.tokens c.in_err-expect.ensures.err)
 
-pub returns-in_err-stands_there-clause-placed : goal.returns-in_err-stands_there-clause-placed
-returns-in_err-stands_there-clause-placed c =
-    passed_up c.from_residual-in_err-stands_there.result _ (IsWithin c.args.text.now)
-    c.from_residual-in_err-stands_there.ensures.1
-    (placed_within c.args.text.now c.args.tokens.now c.requires.stand _ c.in_err-stands_there.ensures.err)
+pub returns-in_err-expect-clause-placed : goal.returns-in_err-expect-clause-placed
+returns-in_err-expect-clause-placed c =
+    passed_up c.from_residual-in_err-expect.result _ (IsWithin c.args.text.now)
+    c.from_residual-in_err-expect.ensures.1
+    (placed_within c.args.text.now c.args.tokens.now c.requires.stand _ c.in_err-expect.ensures.err)
 
 pub returns-in_err-name-clause-err : goal.returns-in_err-name-clause-err
 returns-in_err-name-clause-err c =
@@ -37,4 +37,4 @@ returns-in_err-name-clause-placed c =
 
 pub returns-clause-ok : goal.returns-clause-ok
 returns-clause-ok c =
-    name_read c.requires.tokens c.in_ok-end.ensures.ok c.in_ok-stands_there.ensures.ok c.in_ok-name.ensures.ok
+    name_read c.requires.tokens (path_up_to c.in_ok-reach.ensures.ok) c.in_ok-expect.ensures.is c.in_ok-name.ensures.ok

@@ -1,8 +1,8 @@
 use Rattle.std.proofs.Common.{rules}
 use Rattle.std.proofs.Output.{has_written_append}
 use Rattle.cedar_names.specs.Leaves.{part_view}
+use Rattle.cedar_names.proofs.Loops.{flat_map_left}
 use Rattle.cedar_writing.specs.Escapes.{pattern_part_text}
-use Rattle.cedar_writing.proofs.Loops.{flat_map_left}
 use Rattle.cedar_writing.proofs.escapes.write_elems.Goals as goal
 
 pub parts-preserved : goal.parts-preserved

@@ -1,8 +1,8 @@
 use Rattle.std.proofs.Common.{rules}
 use Rattle.std.specs.Rc.{rc_str_bytes}
 use Rattle.std.proofs.Output.{has_written_append}
+use Rattle.cedar_names.proofs.Loops.{flat_map_left}
 use Rattle.cedar_writing.specs.Names.{further_text}
-use Rattle.cedar_writing.proofs.Loops.{flat_map_left}
 use Rattle.cedar_writing.proofs.names.write_further.Goals as goal
 
 pub attrs-preserved : goal.attrs-preserved

@@ -6,4 +6,4 @@ put-requires c = clause_two c.requires c.in_ok-more.ensures.ok
 
 pub returns-clause-ok : goal.returns-clause-ok
 returns-clause-ok c =
-    λ i ts h. joined_clauses h c.in_ok-more.ensures.ok c.higher-below.ensures c.in_ok-put.ensures.ok
+    λ i ts h. joined_clauses h c.in_ok-more.ensures.ok c.max-below.ensures c.in_ok-put.ensures.ok

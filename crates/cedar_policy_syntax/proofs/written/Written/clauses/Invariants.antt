@@ -1,5 +1,5 @@
 use Rattle.std.proofs.Common.{◌≡◌, ◌≤◌}
-use Rattle.cedar_syntax.specs.Tokens.{start_at}
+use Rattle.cedar_tokens.specs.Sequence.{start_at}
 use Rattle.cedar_syntax.specs.Trees.{trees}
 use Rattle.cedar_policy_syntax.specs.Reading.{PutsClauses}
 use Rattle.cedar_policy_syntax.proofs.written.Written.clauses.Given as goal

@@ -9,7 +9,7 @@ overflow_add-what c = omega (arith, item_count c.requires.item, c.ranges.index.f
 pub returns-in_ok-make-clause-ok : goal.returns-in_ok-make-clause-ok
 returns-in_ok-make-clause-ok c =
     list_closed c.requires.item (sym c.closes_at.ensures ∙ c.if-closes_at.true) c.end_at-end.ensures
-    c.higher-below.ensures c.in_ok-make.ensures.look
+    c.max-below.ensures c.in_ok-make.ensures.look
 
 pub make-requires : goal.make-requires
 make-requires c = item_parts c.requires.item

@@ -5,6 +5,6 @@ use Rattle.cedar_syntax.proofs.machine.work.Work.is.Goals as goal
 pub returns-then-is_identifier_at-clause-ok : goal.returns-then-is_identifier_at-clause-ok
 returns-then-is_identifier_at-clause-ok c = (
   c.requires.stands,
-  path_one (sym c.is_identifier_at.ensures ∙ c.if-is_identifier_at.true)
+  path_one (sym c.is_identifier_at.ensures.is ∙ c.if-is_identifier_at.true)
       c.start_at-start.ensures c.end_at-end.ensures,
 )

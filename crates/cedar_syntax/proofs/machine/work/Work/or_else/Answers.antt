@@ -4,5 +4,5 @@ use Rattle.cedar_syntax.proofs.machine.work.Work.or_else.Goals as goal
 
 pub returns-in_ok-wait-in-Else-clause-ok : goal.returns-in_ok-wait-in-Else-clause-ok
 returns-in_ok-wait-in-Else-clause-ok c =
-    else_read c.requires.reads (sym c.kind_at.ensures ∙ c.in-Else.is) c.higher.ensures
+    else_read c.requires.reads (sym c.kind_at.ensures ∙ c.in-Else.is) c.max.ensures
     c.in_ok-wait-in-Else.ensures.frames c.wait.ensures.trees

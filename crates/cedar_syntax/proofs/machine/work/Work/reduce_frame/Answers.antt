@@ -17,11 +17,11 @@ returns-else-self-lowest-clause-reads c =
 
 pub returns-in-IsIn-clause-reads : goal.returns-in-IsIn-clause-reads
 returns-in-IsIn-clause-reads c =
-    IfOk-weaker _ _ _ (λ _ e. is_in_read (rw c.in-IsIn.is at c.requires.reads) c.higher.ensures e) c.make.ensures.look
+    IfOk-weaker _ _ _ (λ _ e. is_in_read (rw c.in-IsIn.is at c.requires.reads) c.max.ensures e) c.make.ensures.look
 
 pub returns-in-Else-clause-reads : goal.returns-in-Else-clause-reads
 returns-in-Else-clause-reads c =
-    IfOk-weaker _ _ _ (λ _ e. conditional_read (rw c.in-Else.is at c.requires.reads) c.higher-in-Else.ensures e)
+    IfOk-weaker _ _ _ (λ _ e. conditional_read (rw c.in-Else.is at c.requires.reads) c.max-in-Else.ensures e)
     c.make-in-Else.ensures.look
 
 pub join-requires : goal.join-requires

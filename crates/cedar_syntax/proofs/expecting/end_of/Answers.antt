@@ -1,6 +1,6 @@
 use Rattle.std.proofs.Common.{◌≡◌, length, arith}
 use Rattle.cedar_syntax.proofs.Erring.{no_token}
-use Rattle.cedar_text.proofs.paths.end_of.Goals as goal
+use Rattle.cedar_syntax.proofs.expecting.end_of.Goals as goal
 
 pub returns-then-is_empty : goal.returns-then-is_empty
 returns-then-is_empty c =

@@ -1,6 +1,6 @@
-use Rattle.std.proofs.Common.{◌<◌, arith}
+use Rattle.std.proofs.Common.{arith}
 use Rattle.cedar_syntax.proofs.Erring.{token_placed, end_placed}
-use Rattle.cedar_syntax.proofs.machine.expected_at.Goals as goal
+use Rattle.cedar_syntax.proofs.expecting.expected_at.Goals as goal
 
 pub returns-then-index-tokens : goal.returns-then-index-tokens
 returns-then-index-tokens c =
