@@ -2,6 +2,7 @@
 use Rattle.std.proofs.Common.{◌≡◌, Bool, true, false, cond, not, ◌&&◌, ◌||◌, List, [], ◌∷◌, ◌++◌, map, Option, refl, sym, ap, ◌∙◌, subst, append_assoc}
 use Rattle.std.proofs.lemmas.List.{append-nil, map-append}
 use Rattle.std.specs.Prelude.{Result, Ok, IfOk, OnOk}
+use Rattle.std.proofs.Math.Bool.{or-false}
 use Rattle.cedar_model.specs.Terms.{Text}
 use Rattle.cedar_model.specs.Outcomes.{has_text}
 use Rattle.cedar_model.specs.Failures.{Failure, residual_is_left}
@@ -104,10 +105,6 @@ module _ (r : PartialResponse) where
 
 -- ---- where no residual is left
 
-or_false : (b : Bool) → (b || false) ≡ b
-or_false true = refl
-or_false false = refl
-
 none_here : (rows : List Row) → rows ≡ [] → some_row rows ≡ false
 unfolding some_row
 none_here rows h = ap some_row h
@@ -118,7 +115,7 @@ decision_alike skip rows none = refl
 decision_alike forbid_on_error rows none =
     let f = some_row (trues forbid rows) in
     ap (λ b. cond (some_row (trues permit rows) && not b) allow deny)
-    (sym (ap (λ b. f || b) (none_here (residuals forbid rows) none.1) ∙ or_false f))
+    (sym (ap (λ b. f || b) (none_here (residuals forbid rows) none.1) ∙ or-false f))
 
 -- for the same reasons
 reasons_alike : (mode : ErrorHandling) (rows : List Row) → HaveNoResidual rows → concrete_reasons skip rows ≡ concrete_reasons mode rows

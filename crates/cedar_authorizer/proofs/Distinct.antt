@@ -1,6 +1,7 @@
 -- Maps made of pairs no two of which have one id keep these as they are.
 use Rattle.std.specs.Prelude.{◌≡◌, Bool, true, false, cond, ◌||◌, ◌&&◌, List, [], ◌∷◌, ◌++◌, map, Option, Some, None, if◌then◌else◌}
 use Rattle.std.proofs.Common.{refl, sym, ap, ◌∙◌, append_assoc}
+use Rattle.std.proofs.lemmas.Bool.{or_parts, or_from}
 use Rattle.std.proofs.lemmas.List.{append-nil, map-append}
 use Rattle.std.proofs.lemmas.List.Folds.{list_any-append}
 use Rattle.std.specs.List.{list_any}
@@ -29,18 +30,6 @@ pub seen_later : (b : Bool) (t : Text) (o : Option Text) → (if b then Some t e
 seen_later true t o h = absurd (cc)
 seen_later false t o h = h
 
-or_first : (b c : Bool) → (b || c) ≡ false → b ≡ false
-or_first true c h = h
-or_first false c h = refl
-
-or_second : (b c : Bool) → (b || c) ≡ false → c ≡ false
-or_second true c h = absurd (cc)
-or_second false c h = h
-
-or_none : (b c : Bool) → b ≡ false → c ≡ false → (b || c) ≡ false
-or_none true c h g = h
-or_none false c h g = g
-
 -- each text that is not among the first is not among the second
 abbrev pub Weaker : List Text → List Text → Type 0
 Weaker seen less = (t : Text) → is_seen t seen ≡ false → is_seen t less ≡ false
@@ -49,11 +38,11 @@ weaker_more : (seen less : List Text) (u : Text) → Weaker seen less → Weaker
 weaker_more seen less u w t h =
     let g = sym (list_any-append (text_eq t) seen (u ∷ [])) ∙ h in
     list_any-append (text_eq t) less (u ∷ [])
-    ∙ or_none (is_seen t less) (is_seen t (u ∷ [])) (w t (or_first (is_seen t seen) (is_seen t (u ∷ [])) g)) (or_second (is_seen t seen) (is_seen t (u ∷ [])) g)
+    ∙ or_from (is_seen t less) (is_seen t (u ∷ [])) (w t (or_parts (is_seen t seen) (is_seen t (u ∷ [])) g).0) (or_parts (is_seen t seen) (is_seen t (u ∷ [])) g).1
 
 pub weaker_front : (seen : List Text) (u : Text) → Weaker (seen ++ u ∷ []) seen
 weaker_front seen u t h =
-    or_first (is_seen t seen) (is_seen t (u ∷ [])) (sym (list_any-append (text_eq t) seen (u ∷ [])) ∙ h)
+    (or_parts (is_seen t seen) (is_seen t (u ∷ [])) (sym (list_any-append (text_eq t) seen (u ∷ [])) ∙ h)).0
 
 pub repeated_step : (seen ts : List Text) (t : Text) → is_seen t seen ≡ false → first_repeated_after (seen ++ t ∷ []) ts ≡ None → first_repeated_after seen (t ∷ ts) ≡ None
 repeated_step seen ts t h g = ap (λ (b : Bool). if b then Some t else first_repeated_after (seen ++ t ∷ []) ts) h ∙ g

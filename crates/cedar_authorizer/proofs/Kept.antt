@@ -16,9 +16,6 @@ use Rattle.cedar_authorizer.specs.Configured.{configuration, extensions_of, aske
 use Rattle.cedar_authorizer.specs.Steps.{ValuesByName, step_by, under}
 use Rattle.cedar_model.proofs.Injections.{none_is_not_some}
 
-pub request_sound : (r : Request) → IsSoundContext (request_view r).context_part
-request_sound r = request_is_sound r
-
 pub values_sound : (values : ValuesByName) (n : Text) (v : Represented) → values_for values.entries n ≡ Some v → IsSound v
 values_sound values = mapping_is_sound values.entries
 

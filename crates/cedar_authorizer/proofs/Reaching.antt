@@ -1,7 +1,7 @@
 -- A policy whose scope asks for none of the entities that a request covers is false.
 use Rattle.std.specs.Prelude.{◌≡◌, ◌⊎◌, ℕ, suc, ◌-◌, ◌≤◌, Bool, true, false, cond, ◌||◌, ◌&&◌, List, [], ◌∷◌, ◌++◌, Option, Some, None, is_some, codes}
 use Rattle.std.proofs.Common.{inl, inr, refl, sym, ap, ◌∙◌, subst, arith}
-use Rattle.std.proofs.lemmas.Bool.{and_from, eq-eqb}
+use Rattle.std.proofs.lemmas.Bool.{and_parts, and_from, eq-eqb, or_from}
 use Rattle.cedar_model.specs.Terms.{Text, EntityName, Literal, bool_literal, entity_literal, Variable, principal, action, resource, context}
 use Rattle.cedar_model.specs.Terms.{Term, literal, variable, both, binary, BinaryOperator, eq_operator, in_operator}
 use Rattle.cedar_model.specs.Values.{plain, Represented, plain_represented}
@@ -17,11 +17,12 @@ use Rattle.cedar_model.specs.Responses.{with_slots}
 use Rattle.cedar_requests.specs.Requests.{entry_name}
 use Rattle.cedar_layers.specs.declared.policies.policy.Policy as layers
 use Rattle.cedar_layers.specs.Policies.{PolicyView, policy_view, condition_term, decides_as}
-use Rattle.cedar_layers.proofs.Stores.{entity_eq-true}
 use Rattle.cedar_layers.specs.Scopes.{compares, is_entity_variable, literal_entity, compared_entity, is_truth, IsBoundTo, IsBoundElsewhere, AreAllBut, AreWithinReach}
 use Rattle.cedar_authorizer.specs.Reaching.{IsFoundCovered, IsEntityCovered, IsEntryCovered, AreCovered, IsCoveredBy, Covers}
 use Rattle.cedar_authorizer.specs.Telling.{IsFalse, deciding_these}
 use Rattle.cedar_model.proofs.Injections.{some_inj, none_is_not_some, false_is_not_true, true_is_not_false}
+use Rattle.cedar_names.specs.EqualityLaws.{entity_eq-decides}
+use Rattle.cedar_names.proofs.Among.{is_among-before, is_among-behind, is_among-self}
 
 -- ---- what a scope's part is
 
@@ -85,16 +86,8 @@ record Tells (es : List EntityName) (e : EntityName) (a : Answer) : Type 0 where
   pub is : a ≡ answers_bool truth
   pub elsewhere : is_among e es ≡ false → truth ≡ false
 
-or_neither : (b c : Bool) → b ≡ false → c ≡ false → (b || c) ≡ false
-or_neither true c e f = absurd (cc)
-or_neither false c e f = f
-
 same_entity : {d e : EntityName} → plain (entity_literal d) ≡ plain (entity_literal e) → d ≡ e
 same_entity h = cc
-
-both_true : (a b : Bool) → (a && b) ≡ true → (a ≡ true) × (b ≡ true)
-both_true true b h = (refl, h)
-both_true false b h = cc
 
 module _ (es : List EntityName) (u e : EntityName) (own : is_among u es ≡ true) where
   -- another entity
@@ -115,7 +108,7 @@ module _ (es : List EntityName) (u e : EntityName) (own : is_among u es ≡ true
   stands_in (found d) above = record {
     truth = (entity_eq u e || is_among e d.ancestors) || false;
     is = refl;
-    elsewhere = λ h. or_neither _ false (or_neither (entity_eq u e) (is_among e d.ancestors) (apart (entity_eq u e) (entity_eq-true u e) h) (none_above (is_among e d.ancestors) refl h)) refl;
+    elsewhere = λ h. or_from _ false (or_from (entity_eq u e) (is_among e d.ancestors) (apart (entity_eq u e) ((entity_eq-decides u e).0) h) (none_above (is_among e d.ancestors) refl h)) refl;
   }
     where
       none_above : (b : Bool) → is_among e d.ancestors ≡ b → is_among e es ≡ false → is_among e d.ancestors ≡ false
@@ -124,7 +117,7 @@ module _ (es : List EntityName) (u e : EntityName) (own : is_among u es ≡ true
   stands_in not_there above = record {
     truth = entity_eq u e || false;
     is = refl;
-    elsewhere = λ h. or_neither (entity_eq u e) false (apart (entity_eq u e) (entity_eq-true u e) h) refl;
+    elsewhere = λ h. or_from (entity_eq u e) false (apart (entity_eq u e) ((entity_eq-decides u e).0) h) refl;
   }
   stands_in not_known above = absurd above
 
@@ -279,7 +272,7 @@ module _ (s : Setting) (calls : StoredCalls) where
       bound_is_false (inr (inr h)) =
           let is_bool : Bool = is_truth p.action_constraint || is_some (compared_entity p.action_constraint) in
           let z = if_any (is_truth p.principal_constraint && is_bool) (compared_entity p.resource_constraint) h in
-          let y = both_true (is_truth p.principal_constraint) is_bool z.0 in
+          let y = and_parts (is_truth p.principal_constraint) is_bool z.0 in
           by_resource y.0 y.1 z.1
 
 -- ---- policies that are left out
@@ -299,41 +292,11 @@ others_false s calls levels es enough covered (p ∷ ps) qs (inr h) =
 
 -- ---- entities that are covered
 
-pub text_eq-self : (t : Text) → text_eq t t ≡ true
-text_eq-self [] = refl
-text_eq-self (b ∷ bs) = and_from _ _ (eq-eqb b b refl) (text_eq-self bs)
-
-entity_eq-self : (e : EntityName) → entity_eq e e ≡ true
-entity_eq-self e = and_from _ _ (text_eq-self e.type_name) (text_eq-self e.id)
-
-or_true : (a b : Bool) → (a ≡ true) ⊎ (b ≡ true) → (a || b) ≡ true
-or_true true b h = refl
-or_true false b (inl h) = absurd (false_is_not_true h)
-or_true false b (inr h) = h
-
-or_more : (b x y : Bool) → (x ≡ true → y ≡ true) → (b || x) ≡ true → (b || y) ≡ true
-or_more true x y f h = refl
-or_more false x y f h = f h
-
-in_front : (e : EntityName) (ds es : List EntityName) → is_among e ds ≡ true → is_among e (ds ++ es) ≡ true
-unfolding is_among
-in_front e [] es h = absurd (false_is_not_true h)
-in_front e (d ∷ ds) es h = or_more (entity_eq e d) _ _ (in_front e ds es) h
-
-behind : (e : EntityName) (ds es : List EntityName) → is_among e es ≡ true → is_among e (ds ++ es) ≡ true
-unfolding is_among
-behind e [] es h = h
-behind e (d ∷ ds) es h = or_true (entity_eq e d) _ (inr (behind e ds es h))
-
-alone : (u : EntityName) → is_among u (u ∷ []) ≡ true
-unfolding is_among
-alone u = or_true (entity_eq u u) false (inl (entity_eq-self u))
-
 last_one : (u : EntityName) (ds : List EntityName) → is_among u (ds ++ u ∷ []) ≡ true
-last_one u ds = behind u ds (u ∷ []) (alone u)
+last_one u ds = is_among-behind u ds (u ∷ []) (is_among-self u [])
 
 extended : (e : EntityName) (old more new : List EntityName) → new ≡ old ++ more → is_among e old ≡ true → is_among e new ≡ true
-extended e old more new same h = ap (is_among e) same ∙ in_front e old more h
+extended e old more new same h = ap (is_among e) same ∙ is_among-before e old more h
 
 -- the entity is there, and all that it is in
 pub covers_found : (u : EntityName) (store : Store) (d : StoredEntity) (old mid new : List EntityName) → found d ≡ look_up store u → mid ≡ old ++ u ∷ [] → new ≡ mid ++ d.ancestors → IsCoveredBy u store old new true
@@ -341,7 +304,7 @@ covers_found u store d old mid new e m n = (
   λ v h. extended v mid d.ancestors new n (extended v old (u ∷ []) mid m h),
   λ h. record {
     own = extended u mid d.ancestors new n (ap (is_among u) m ∙ last_one u old);
-    above = subst (IsFoundCovered new) e (λ v g. ap (is_among v) n ∙ behind v mid d.ancestors g);
+    above = subst (IsFoundCovered new) e (λ v g. ap (is_among v) n ∙ is_among-behind v mid d.ancestors g);
   },
 )
 

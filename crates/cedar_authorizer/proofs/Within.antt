@@ -28,9 +28,9 @@ use Rattle.cedar_authorizer.specs.Reaching.{AreFalseBut, is_of_id}
 use Rattle.cedar_authorizer.proofs.Distinct.{is_seen, seen_first, seen_later, repeated_weaker, weaker_front}
 use Rattle.cedar_authorizer.proofs.Noting.{IsNotedSoFar, noted_none, noted_more, set_ids_apart}
 use Rattle.cedar_authorizer.proofs.Placed.{ArePlacedSoFar, none_placed, one_placed}
-use Rattle.cedar_authorizer.proofs.Reaching.{text_eq-self}
 use Rattle.cedar_authorizer.proofs.Telling.{others_apart}
 use Rattle.cedar_model.proofs.Injections.{none_is_not_some, false_is_not_true, true_is_not_false}
+use Rattle.cedar_names.specs.EqualityLaws.{text_eq-decides}
 
 abbrev ids_of : List layers.Policy → List Text
 ids_of ps = map (λ (p : Policy). p.id) (deciding_these ps)
@@ -129,7 +129,7 @@ module _ (mode : ErrorHandling) (s : Setting) (calls : StoredCalls) (levels : �
     passed [] other (inr h) = absurd (nil_is_not_cons h.1)
     passed (q ∷ qs) other (inr h) =
         let same : (policy_view q).id ≡ own = ap (λ (r : Policy). r.id) (same_head h.1) in
-        absurd (true_is_not_false (ap (text_eq own) same ∙ text_eq-self own) (other q qs refl))
+        absurd (true_is_not_false (ap (text_eq own) same ∙ (text_eq-decides own own).1 refl) (other q qs refl))
 
   module _ (all left rest : List layers.Policy) (xs : List layers.Policy) (n : ℕ) (p : layers.Policy) (first : left ≡ p ∷ rest) (old new : Sheet) (before : IsRunSoFar mode s calls levels all old left (drop n xs)) where
     -- a policy of the next one's id

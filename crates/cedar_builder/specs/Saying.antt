@@ -6,6 +6,7 @@ use Rattle.std.specs.declared.alloc.AllocError.{AllocError}
 use Rattle.cedar_model.specs.Terms.{Text, Term, literal, bool_literal, both}
 use Rattle.cedar_model.specs.Policies.{Effect}
 use Rattle.cedar_model.specs.Agreement.{no_slots}
+use Rattle.cedar_model.specs.Responses.{truth}
 use Rattle.cedar_expressions.specs.View.{view}
 use Rattle.cedar_layers.specs.Policies.{PolicyView, effect_view, policy_id_text, annotations_view}
 use Rattle.cedar_builder.specs.declared.policies.PolicyBuilder.{PolicyBuilder}
@@ -20,9 +21,6 @@ pub record PolicySaid : Type 0 where
   pub action_constraint : Term
   pub resource_constraint : Term
   pub condition : Option Term
-
-abbrev pub truth : Term
-truth = literal (bool_literal true)
 
 -- the effect and the id alone
 abbrev pub nothing_said : Effect → Text → PolicySaid

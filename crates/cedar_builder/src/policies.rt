@@ -3,10 +3,11 @@
 ghost use Rattle.std.specs.Prelude.{◌≡◌, IfOk, None, Some, option_map};
 ghost use Rattle.cedar_model.specs.Policies.{permit, forbid};
 ghost use Rattle.cedar_model.specs.Terms.{unary, not_operator};
+ghost use Rattle.cedar_model.specs.Responses.{truth};
 ghost use Rattle.cedar_expressions.specs.View.{view};
 ghost use Rattle.cedar_layers.specs.Policies.{policy_view, policy_location, effect_view};
 ghost use Rattle.cedar_builder.specs.Building.{term_of, term_in, of_two};
-ghost use Rattle.cedar_builder.specs.Saying.{said, said_in, parts_said, Says, SaysIn, truth, nothing_said};
+ghost use Rattle.cedar_builder.specs.Saying.{said, said_in, parts_said, Says, SaysIn, nothing_said};
 ghost use Rattle.cedar_builder.specs.Saying.{with_clause, joined, condition_said, policy_said};
 
 mod annotations;

@@ -11,11 +11,11 @@ use Rattle.cedar_names.specs.Names.{uid_name}
 use Rattle.cedar_names.specs.Order.{is_tied}
 use Rattle.cedar_layers.specs.declared.policies.entities.Entity.{Entity}
 use Rattle.cedar_layers.specs.Stores.{Standing, none_stands, standing_with, standing_with_each, last_of_each_name, entity_name, entity_ancestors}
-use Rattle.cedar_layers.proofs.Stores.{last_is_named}
+use Rattle.cedar_layers.proofs.Stores.{last_is_named, list_any-uids}
+use Rattle.cedar_names.proofs.Among.{is_among-none}
 use Rattle.cedar_closure.specs.Paths.{Parentage, Leads, AreLedTo}
 use Rattle.cedar_closure.specs.Ancestry.{recorded, parents_of, KeepsParts, AreAlike, IsClosed}
-use Rattle.cedar_closure.proofs.Walking.{is_among-none, leads_nowhere}
-use Rattle.cedar_closure.proofs.Marking.{any_of_uid}
+use Rattle.cedar_closure.proofs.Walking.{leads_nowhere}
 
 -- the second is the first closed, or there is neither
 abbrev AreClosed : Parentage → Option Entity → Option Entity → Type 0
@@ -46,7 +46,7 @@ closed_with_each parents f g before (d ∷ ds) (e ∷ es) h n =
 -- an entity that is among what its parents lead to is on a cycle
 pub cycle_found : (parents : Parentage) (d u v w : EntityUID) (us : List EntityUID) (b : Bool) → uid_name u ≡ uid_name d → uid_name v ≡ uid_name d → uid_name w ≡ uid_name d → AreLedTo parents (uid_name u) (map uid_name us) → b ≡ list_any (is_tied v) us → b ≡ true → Leads parents (uid_name w) (uid_name w)
 cycle_found parents d u v w us b of_u of_v of_w led tested h =
-    let among : is_among (uid_name d) (map uid_name us) ≡ true = ap (λ (n : EntityName). is_among n (map uid_name us)) (sym of_v) ∙ sym (any_of_uid v us) ∙ sym tested ∙ h in
+    let among : is_among (uid_name d) (map uid_name us) ≡ true = ap (λ (n : EntityName). is_among n (map uid_name us)) (sym of_v) ∙ sym (list_any-uids v us) ∙ sym tested ∙ h in
     let leads : EntityName → Type 0 = λ n. Leads parents n n in
     let are_led : EntityName → Type 0 = λ n. AreLedTo parents n (map uid_name us) in
     subst leads (sym of_w) ((subst are_led of_u led (uid_name d)).0 among)
@@ -54,7 +54,7 @@ cycle_found parents d u v w us b of_u of_v of_w led tested h =
 -- an entity that isn't, with these ancestors, is closed
 pub is_closed : (parents : Parentage) (e f : Entity) (u v : EntityUID) (us : List EntityUID) (b : Bool) → uid_name u ≡ entity_name e → uid_name v ≡ entity_name e → AreLedTo parents (uid_name u) (map uid_name us) → b ≡ list_any (is_tied v) us → b ≡ false → KeepsParts e f → entity_ancestors f ≡ us → IsClosed parents e f
 is_closed parents e f u v us b of_u of_v led tested h parts own =
-    let apart : is_among (entity_name e) (map uid_name us) ≡ false = ap (λ (n : EntityName). is_among n (map uid_name us)) (sym of_v) ∙ sym (any_of_uid v us) ∙ sym tested ∙ h in
+    let apart : is_among (entity_name e) (map uid_name us) ≡ false = ap (λ (n : EntityName). is_among n (map uid_name us)) (sym of_v) ∙ sym (list_any-uids v us) ∙ sym tested ∙ h in
     let are_led : EntityName → Type 0 = λ n. AreLedTo parents n (map uid_name us) in
     let all_led : AreLedTo parents (entity_name e) (map uid_name us) = subst are_led of_u led in
     let of_these : List EntityUID → Type 0 = λ vs. AreLedTo parents (entity_name e) (map uid_name vs) in

@@ -6,15 +6,16 @@ use Rattle.std.specs.declared.vec.Vec.{Vec}
 use Rattle.cedar_model.specs.Terms.{EntityName}
 use Rattle.cedar_model.specs.Outcomes.{entity_eq}
 use Rattle.cedar_model.specs.Settings.{is_among}
+use Rattle.cedar_names.specs.EqualityLaws.{entity_eq-decides}
 use Rattle.cedar_names.specs.declared.names.EntityUID.{EntityUID}
 use Rattle.cedar_names.specs.Names.{uid_name}
 use Rattle.cedar_names.specs.Order.{is_tied, is_tied-by_name}
+use Rattle.cedar_names.proofs.Among.{is_among-none, is_among-before, is_among-behind}
 use Rattle.cedar_layers.specs.declared.policies.entities.Entity.{Entity}
 use Rattle.cedar_layers.specs.Stores.{Standing, none_stands, standing_with, standing_with_each, entity_name, entity_ancestors}
 use Rattle.cedar_closure.specs.Paths.{Parentage}
 use Rattle.cedar_closure.specs.Ancestry.{recorded, parents_of}
 use Rattle.cedar_closure.specs.Listed.{names_or_none, listed_parents, parents_with, parents_with_each}
-use Rattle.cedar_closure.proofs.Walking.{entity_eq-true, is_among-none, is_among-before, is_among-behind}
 
 -- what a map of parents lists
 abbrev pub Listing : Type 0
@@ -29,11 +30,11 @@ module _ (old new : Listing) (key : EntityUID) (own : Vec EntityUID Global) (the
   listed_at : (n : EntityName) (b : Bool) → entity_eq n (uid_name key) ≡ b → listed_parents new n ≡ (if b then map uid_name own.items else listed_parents old n)
   unfolding KeepsOthers
   listed_at n true h =
-      let same : n ≡ uid_name key = entity_eq-true n (uid_name key) h in
+      let same : n ≡ uid_name key = (entity_eq-decides n (uid_name key)).0 h in
       ap (λ (m : EntityName). listed_parents new m) same ∙ sym (listed-by_name key new) ∙ ap names_or_none there
   listed_at n false h =
-      let own_test : (x y : EntityUID) → entity_eq n (uid_name x) ≡ true → entity_eq n (uid_name y) ≡ is_tied x y = λ x y e. ap (λ (m : EntityName). entity_eq m (uid_name y)) (entity_eq-true n (uid_name x) e) ∙ sym (is_tied-by_name x y) in
-      let apart : (u : EntityUID) → is_tied key u ≡ true → entity_eq n (uid_name u) ≡ false = λ u e. ap (λ (m : EntityName). entity_eq n m) (sym (entity_eq-true (uid_name key) (uid_name u) (sym (is_tied-by_name key u) ∙ e))) ∙ h in
+      let own_test : (x y : EntityUID) → entity_eq n (uid_name x) ≡ true → entity_eq n (uid_name y) ≡ is_tied x y = λ x y e. ap (λ (m : EntityName). entity_eq m (uid_name y)) ((entity_eq-decides n (uid_name x)).0 e) ∙ sym (is_tied-by_name x y) in
+      let apart : (u : EntityUID) → is_tied key u ≡ true → entity_eq n (uid_name u) ≡ false = λ u e. ap (λ (m : EntityName). entity_eq n m) (sym ((entity_eq-decides (uid_name key) (uid_name u)).0 (sym (is_tied-by_name key u) ∙ e))) ∙ h in
       ap names_or_none (others (λ (u : EntityUID). entity_eq n (uid_name u)) own_test apart)
 
   pub listed_parents-put : (e : Entity) → uid_name key ≡ entity_name e → map uid_name own.items ≡ map uid_name (entity_ancestors e) → listed_parents new ≡ parents_with (listed_parents old) e

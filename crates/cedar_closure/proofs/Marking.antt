@@ -2,33 +2,25 @@
 use Rattle.std.proofs.Common.{◌≡◌, refl, sym, ap, ◌∙◌, Bool, true, false, not, ◌||◌, List, [], ◌∷◌, ◌++◌, map, if◌then◌else◌}
 use Rattle.std.specs.List.{list_any}
 use Rattle.std.specs.Set.{KeepsOthers}
+use Rattle.std.proofs.Math.Bool.{or-false, or-true}
+use Rattle.std.proofs.lemmas.Bool.{not-true, not-false}
 use Rattle.cedar_model.specs.Terms.{EntityName}
 use Rattle.cedar_model.specs.Outcomes.{entity_eq}
 use Rattle.cedar_model.specs.Settings.{is_among}
+use Rattle.cedar_names.specs.EqualityLaws.{entity_eq-decides}
 use Rattle.cedar_names.specs.declared.names.EntityUID.{EntityUID}
 use Rattle.cedar_names.specs.Names.{uid_name}
 use Rattle.cedar_names.specs.Order.{is_tied, is_tied-by_name}
+use Rattle.cedar_names.proofs.Among.{is_among-append}
+use Rattle.cedar_layers.proofs.Stores.{list_any-uids}
 use Rattle.cedar_closure.specs.Walks.{marked}
 use Rattle.cedar_closure.specs.Listed.{HoldsTheSame}
-use Rattle.cedar_closure.proofs.Walking.{entity_eq-true, is_among-append}
 
 -- a uid passes the test for a name where the name is among the uids' names
 pub any_of_name : (n : EntityName) (us : List EntityUID) → list_any (λ (u : EntityUID). entity_eq n (uid_name u)) us ≡ is_among n (map uid_name us)
 unfolding is_among
 any_of_name n [] = refl
 any_of_name n (u ∷ us) = ap (λ (b : Bool). entity_eq n (uid_name u) || b) (any_of_name n us)
-
--- an entity is in a set where its name is
-pub any_of_uid : (u : EntityUID) (us : List EntityUID) → list_any (is_tied u) us ≡ is_among (uid_name u) (map uid_name us)
-any_of_uid u us = (λ i. list_any (λ (v : EntityUID). is_tied-by_name u v i) us) ∙ any_of_name (uid_name u) us
-
-or_true : (b : Bool) → true ≡ (b || true)
-or_true true = refl
-or_true false = refl
-
-or_false : (b : Bool) → b ≡ (b || false)
-or_false true = refl
-or_false false = refl
 
 pub map-behind : (us : List EntityUID) (u : EntityUID) → map uid_name (us ++ u ∷ []) ≡ map uid_name us ++ uid_name u ∷ []
 map-behind [] u = refl
@@ -38,16 +30,16 @@ module _ (old new found : List EntityUID) (key last : EntityUID) (there : list_a
   among_at : (n : EntityName) (b : Bool) → entity_eq n (uid_name key) ≡ b → is_among n (map uid_name new) ≡ (is_among n (map uid_name old) || b)
   unfolding KeepsOthers
   among_at n true h =
-      let same : n ≡ uid_name key = entity_eq-true n (uid_name key) h in
-      ap (λ (m : EntityName). is_among m (map uid_name new)) same ∙ sym (any_of_uid key new) ∙ there ∙ or_true (is_among n (map uid_name old))
+      let same : n ≡ uid_name key = (entity_eq-decides n (uid_name key)).0 h in
+      ap (λ (m : EntityName). is_among m (map uid_name new)) same ∙ sym (list_any-uids key new) ∙ there ∙ (sym (or-true (is_among n (map uid_name old))))
   among_at n false h =
-      let own : (x y : EntityUID) → entity_eq n (uid_name x) ≡ true → entity_eq n (uid_name y) ≡ is_tied x y = λ x y e. ap (λ (m : EntityName). entity_eq m (uid_name y)) (entity_eq-true n (uid_name x) e) ∙ sym (is_tied-by_name x y) in
-      let apart : (u : EntityUID) → is_tied key u ≡ true → entity_eq n (uid_name u) ≡ false = λ u e. ap (λ (m : EntityName). entity_eq n m) (sym (entity_eq-true (uid_name key) (uid_name u) (sym (is_tied-by_name key u) ∙ e))) ∙ h in
-      sym (any_of_name n new) ∙ others (λ (u : EntityUID). entity_eq n (uid_name u)) own apart ∙ any_of_name n old ∙ or_false (is_among n (map uid_name old))
+      let own : (x y : EntityUID) → entity_eq n (uid_name x) ≡ true → entity_eq n (uid_name y) ≡ is_tied x y = λ x y e. ap (λ (m : EntityName). entity_eq m (uid_name y)) ((entity_eq-decides n (uid_name x)).0 e) ∙ sym (is_tied-by_name x y) in
+      let apart : (u : EntityUID) → is_tied key u ≡ true → entity_eq n (uid_name u) ≡ false = λ u e. ap (λ (m : EntityName). entity_eq n m) (sym ((entity_eq-decides (uid_name key) (uid_name u)).0 (sym (is_tied-by_name key u) ∙ e))) ∙ h in
+      sym (any_of_name n new) ∙ others (λ (u : EntityUID). entity_eq n (uid_name u)) own apart ∙ any_of_name n old ∙ (sym (or-false (is_among n (map uid_name old))))
 
   one_name : (n m : EntityName) → is_among n (m ∷ []) ≡ entity_eq n m
   unfolding is_among
-  one_name n m = sym (or_false (entity_eq n m))
+  one_name n m = sym (sym (or-false (entity_eq n m)))
 
   -- the list has the uid behind the others
   pub same_behind : uid_name last ≡ uid_name key → HoldsTheSame old found → HoldsTheSame new (found ++ last ∷ [])
@@ -59,22 +51,14 @@ module _ (old new found : List EntityUID) (key last : EntityUID) (there : list_a
       ∙ sym (is_among-append n (map uid_name found) (uid_name last ∷ []))
       ∙ ap (is_among n) (sym (map-behind found last))
 
-was_false : (b : Bool) → not b ≡ true → b ≡ false
-was_false true h = sym h
-was_false false h = refl
-
-was_true : (b : Bool) → not b ≡ false → b ≡ true
-was_true true h = refl
-was_true false h = sym h
-
 -- what was put into the set as new was not found before, and the other way round
 pub not_found : (key uid : EntityUID) (old found : List EntityUID) (added : Bool) → uid_name key ≡ uid_name uid → added ≡ not (list_any (is_tied key) old) → added ≡ true → HoldsTheSame old found → is_among (uid_name uid) (map uid_name found) ≡ false
 not_found key uid old found added e is h before =
-    ap (λ (n : EntityName). is_among n (map uid_name found)) (sym e) ∙ sym (before (uid_name key)) ∙ sym (any_of_uid key old) ∙ was_false (list_any (is_tied key) old) (sym is ∙ h)
+    ap (λ (n : EntityName). is_among n (map uid_name found)) (sym e) ∙ sym (before (uid_name key)) ∙ sym (list_any-uids key old) ∙ not-true (list_any (is_tied key) old) (sym is ∙ h)
 
 pub found_already : (key uid : EntityUID) (old found : List EntityUID) (added : Bool) → uid_name key ≡ uid_name uid → added ≡ not (list_any (is_tied key) old) → added ≡ false → HoldsTheSame old found → is_among (uid_name uid) (map uid_name found) ≡ true
 found_already key uid old found added e is h before =
-    ap (λ (n : EntityName). is_among n (map uid_name found)) (sym e) ∙ sym (before (uid_name key)) ∙ sym (any_of_uid key old) ∙ was_true (list_any (is_tied key) old) (sym is ∙ h)
+    ap (λ (n : EntityName). is_among n (map uid_name found)) (sym e) ∙ sym (before (uid_name key)) ∙ sym (list_any-uids key old) ∙ not-false (list_any (is_tied key) old) (sym is ∙ h)
 
 -- marking a name
 pub marked-new : (n m : EntityName) (ns : List EntityName) → m ≡ n → is_among n ns ≡ false → ns ++ m ∷ [] ≡ marked n ns

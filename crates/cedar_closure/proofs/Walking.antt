@@ -11,82 +11,12 @@ use Rattle.std.specs.Set.{is_member}
 use Rattle.cedar_model.specs.Terms.{Text, EntityName}
 use Rattle.cedar_model.specs.Outcomes.{text_eq, entity_eq}
 use Rattle.cedar_model.specs.Settings.{is_among}
+use Rattle.cedar_names.specs.EqualityLaws.{text_eq-decides, entity_eq-decides}
+use Rattle.cedar_names.proofs.Among.{is_among-before, is_among-behind, is_among-either, is_among-none, is_among-self, is_among-one, is_among-cons, entity_equivalence}
 use Rattle.cedar_closure.specs.Paths.{Parentage, Leads, in_one_step, by_a_parent, AreLedTo}
 use Rattle.cedar_closure.specs.Walks.{marked, marked_each}
 
--- ---- the test on names is equality
-
-text_eq-self : (t : Text) → text_eq t t ≡ true
-text_eq-self [] = refl
-text_eq-self (b ∷ bs) = and_from _ _ (eq-eqb b b refl) (text_eq-self bs)
-
-pub entity_eq-self : (e : EntityName) → entity_eq e e ≡ true
-entity_eq-self e = and_from _ _ (text_eq-self e.type_name) (text_eq-self e.id)
-
-pub entity_eq-true : (d e : EntityName) → entity_eq d e ≡ true → d ≡ e
-entity_eq-true d e h =
-    let parts : (text_eq d.type_name e.type_name ≡ true) × (text_eq d.id e.id ≡ true) = and_parts _ _ h in
-    let of_type : d.type_name ≡ e.type_name = same_text _ _ (sym parts.0) in
-    let of_id : d.id ≡ e.id = same_text _ _ (sym parts.1) in
-    λ i. record { type_name = of_type i; id = of_id i }
-
-entity_eq-back : (d e : EntityName) → entity_eq d e ≡ true → entity_eq e d ≡ true
-entity_eq-back d e h = ap (λ (m : EntityName). entity_eq e m) (entity_eq-true d e h) ∙ entity_eq-self e
-
-same_bools : (a b : Bool) → (a ≡ true → b ≡ true) → (b ≡ true → a ≡ true) → a ≡ b
-same_bools true b f g = sym (f refl)
-same_bools false true f g = g refl
-same_bools false false f g = refl
-
-pub entity_equivalence : IsEquivalence entity_eq
-entity_equivalence = record {
-  refl = entity_eq-self;
-  symm = λ x y. same_bools _ _ (entity_eq-back x y) (entity_eq-back y x);
-  congr = λ x y z h. ap (λ (m : EntityName). entity_eq m z) (entity_eq-true x y h);
-}
-
 -- ---- what is among names
-
-or_left : (a b : Bool) → a ≡ true → (a || b) ≡ true
-or_left a b h = ap (λ (c : Bool). c || b) h
-
-or_right : (a b : Bool) → b ≡ true → (a || b) ≡ true
-or_right true b h = refl
-or_right false b h = h
-
-or_assoc : (a b c : Bool) → (a || (b || c)) ≡ ((a || b) || c)
-or_assoc true b c = refl
-or_assoc false b c = refl
-
-pub is_among-append : (n : EntityName) (ms ns : List EntityName) → is_among n (ms ++ ns) ≡ (is_among n ms || is_among n ns)
-unfolding is_among
-is_among-append n [] ns = refl
-is_among-append n (m ∷ ms) ns =
-    ap (λ (b : Bool). entity_eq n m || b) (is_among-append n ms ns) ∙ or_assoc (entity_eq n m) (is_among n ms) (is_among n ns)
-
-pub is_among-before : (n : EntityName) (ms ns : List EntityName) → is_among n ms ≡ true → is_among n (ms ++ ns) ≡ true
-is_among-before n ms ns h = is_among-append n ms ns ∙ or_left _ _ h
-
-pub is_among-behind : (n : EntityName) (ms ns : List EntityName) → is_among n ns ≡ true → is_among n (ms ++ ns) ≡ true
-is_among-behind n ms ns h = is_among-append n ms ns ∙ or_right _ _ h
-
-pub is_among-either : (n : EntityName) (ms ns : List EntityName) → is_among n (ms ++ ns) ≡ true → (is_among n ms ≡ true) ⊎ (is_among n ns ≡ true)
-is_among-either n ms ns h = or_cases _ _ (sym (is_among-append n ms ns) ∙ h)
-
-pub is_among-none : (n : EntityName) → is_among n [] ≡ true → ⊥
-unfolding is_among
-is_among-none n h = true≢false (sym h)
-
-is_among-self : (n : EntityName) (ns : List EntityName) → is_among n (n ∷ ns) ≡ true
-unfolding is_among
-is_among-self n ns = or_left _ _ (entity_eq-self n)
-
-is_among-cons : (n m : EntityName) (ns : List EntityName) → is_among n (m ∷ ns) ≡ true → (n ≡ m) ⊎ (is_among n ns ≡ true)
-unfolding is_among
-is_among-cons n m ns h = ⊎_elim (λ e. inl (entity_eq-true n m e)) (λ e. inr e) (or_cases _ _ h)
-
-is_among-one : (n m : EntityName) → is_among n (m ∷ []) ≡ true → n ≡ m
-is_among-one n m h = ⊎_elim (λ e. e) (λ e. absurd (is_among-none n e)) (is_among-cons n m [] h)
 
 is_among-member : (n : EntityName) (ns : List EntityName) → is_among n ns ≡ is_member entity_eq ns n
 unfolding is_among

@@ -1,6 +1,7 @@
 -- The errors that end a whole evaluation: the recursion limit, and want of memory.
 use Rattle.std.specs.Prelude.{Bool, true, false, ◌||◌}
 use Rattle.cedar_model.specs.Failures.{FailureKind, of_meaning, of_residual, of_limit, of_memory}
+use Rattle.cedar_model.specs.Chains as chains
 use Rattle.cedar_errors.specs.declared.evaluator.err.EvaluationError.{EvaluationError}
 use Rattle.cedar_errors.specs.declared.evaluator.err.EvaluationError.TheVariants as errors
 
@@ -44,3 +45,7 @@ is_of_memory (of_meaning k) = false
 is_of_memory of_residual = false
 is_of_memory of_limit = false
 is_of_memory of_memory = true
+
+-- whether a failure of this kind ends the whole evaluation
+abbrev pub is_final_kind : FailureKind → Bool
+is_final_kind k = chains.is_limit k || is_of_memory k

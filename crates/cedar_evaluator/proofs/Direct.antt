@@ -1,7 +1,9 @@
 -- What follows of a scope that is decided at once.
 use Rattle.std.specs.Prelude.{◌≡◌, ◌≢◌, ◌≤◌, ◌-◌, ℕ, suc, Bool, true, false, ◌||◌, ◌&&◌, Option, Some, None, IfSome}
 use Rattle.std.proofs.Common.{refl, sym, ap, ◌∙◌, subst, arith}
+use Rattle.std.proofs.lemmas.Bool.{and_parts}
 use Rattle.std.proofs.lemmas.Slice.Eq.{bytes_eq-Decides}
+use Rattle.std.proofs.Math.Bool.{or-false}
 use Rattle.cedar_model.specs.Terms.{Text, Term, EntityName, Literal, bool_literal, entity_literal, literal, Variable, variable, both, binary, is_of_type, BinaryOperator, eq_operator, in_operator}
 use Rattle.cedar_model.specs.Values.{Represented, plain_represented, plain}
 use Rattle.cedar_model.specs.World.{Slots}
@@ -14,6 +16,8 @@ use Rattle.cedar_model.specs.Settings.{Setting, Found, found, not_there, not_kno
 use Rattle.cedar_model.specs.Operators.{binary_answer, in_found, expecting}
 use Rattle.cedar_model.specs.Responses.{Decided, decides, errs_with, decided, decided_bool}
 use Rattle.cedar_model.specs.Rules.{StoredCalls, Runs, Meets, joined, bool_or_failure, binary_of_parts, binary_beside, beside_residual, is_part}
+use Rattle.cedar_model.proofs.Injections.{same_bools}
+use Rattle.cedar_names.specs.EqualityLaws.{entity_eq-decides}
 use Rattle.cedar_values.specs.Residuals.{partial_view}
 use Rattle.cedar_layers.specs.Stores.{store_view}
 use Rattle.cedar_interpreter.specs.Promises.{IsPromised}
@@ -33,40 +37,14 @@ of_some P r x is h = subst (λ z. IfSome z P) is h
 
 -- ---- entities that are compared
 
-both_true : (a b : Bool) → (a && b) ≡ true → (a ≡ true) × (b ≡ true)
-both_true true b h = (refl, h)
-both_true false b h = absurd (cc)
-
-alike : (a b : Bool) → (a ≡ true → b ≡ true) → (b ≡ true → a ≡ true) → a ≡ b
-alike true b h g = sym (h refl)
-alike false true h g = g refl
-alike false false h g = refl
-
-or_false : (b : Bool) → b ≡ (b || false)
-or_false true = refl
-or_false false = refl
-
-name_is : (d e : EntityName) → entity_eq d e ≡ true → d ≡ e
-name_is d e h =
-    let parts : (text_eq d.type_name e.type_name ≡ true) × (text_eq d.id e.id ≡ true) = both_true _ _ h in
-    let of_type : d.type_name ≡ e.type_name = (bytes_eq-Decides d.type_name e.type_name).0 parts.0 in
-    let of_id : d.id ≡ e.id = (bytes_eq-Decides d.id e.id).0 parts.1 in
-    λ i. record { type_name = of_type i; id = of_id i }
-
-name_itself : (d : EntityName) → entity_eq d d ≡ true
-name_itself d =
-    let of_type : text_eq d.type_name d.type_name ≡ true = (bytes_eq-Decides d.type_name d.type_name).1 refl in
-    let of_id : text_eq d.id d.id ≡ true = (bytes_eq-Decides d.id d.id).1 refl in
-    ap (λ b. b && text_eq d.id d.id) of_type ∙ of_id
-
 named : (d e : EntityName) → plain (entity_literal d) ≡ plain (entity_literal e) → d ≡ e
 named d e h = cc
 
 equal_by_name : (d e : EntityName) → entity_eq d e ≡ value_eq (plain (entity_literal d)) (plain (entity_literal e))
 equal_by_name d e =
-    alike (entity_eq d e) (value_eq (plain (entity_literal d)) (plain (entity_literal e)))
-    (λ h. ap (λ x. value_eq (plain (entity_literal d)) (plain (entity_literal x))) (sym (name_is d e h)) ∙ value_eq-self (plain (entity_literal d)))
-    (λ h. ap (λ x. entity_eq d x) (sym (named d e (value_eq-true _ _ h))) ∙ name_itself d)
+    same_bools (entity_eq d e) (value_eq (plain (entity_literal d)) (plain (entity_literal e)))
+    (λ h. ap (λ x. value_eq (plain (entity_literal d)) (plain (entity_literal x))) (sym ((entity_eq-decides d e).0 h)) ∙ value_eq-self (plain (entity_literal d)))
+    (λ h. ap (λ x. entity_eq d x) (sym (named d e (value_eq-true _ _ h))) ∙ ((entity_eq-decides d d).1 refl))
 
 -- `==` of two entities
 pub equal_answered : (s : Setting) (d e : EntityName) →
@@ -80,8 +58,8 @@ is_some h = cc
 in_answered_of : (f : Found) (d e : EntityName) (b : Bool) → within f d e ≡ Some b →
     answers_bool b ≡ in_found f d (plain_represented (entity_literal e))
 unfolding within in_found expecting entities_of some_entity
-in_answered_of (found x) d e b h = ap answers_bool (is_some h ∙ or_false _)
-in_answered_of not_there d e b h = ap answers_bool (is_some h ∙ or_false _)
+in_answered_of (found x) d e b h = ap answers_bool (is_some h ∙ (sym (or-false _)))
+in_answered_of not_there d e b h = ap answers_bool (is_some h ∙ (sym (or-false _)))
 in_answered_of not_known d e b h = absurd (cc)
 
 -- `in` of two entities

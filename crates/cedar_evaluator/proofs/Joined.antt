@@ -7,10 +7,7 @@ use Rattle.cedar_model.specs.Outcomes.{bool_of}
 use Rattle.cedar_model.specs.Failures.{Failure, failure_kind, out_of_memory, PartialValue, Answer, answers, fails, answers_bool, answers_value, answers_residual, wrong_type}
 use Rattle.cedar_model.specs.Settings.{Setting}
 use Rattle.cedar_model.specs.Rules.{StoredCalls, Runs, Meets, AndLeft, AfterBest, joined, Best, kept, handed_up, best, best_of_kind}
-
--- an answer that is there is no want of memory
-pub not_wanting : (p : PartialValue) → answers p ≢ fails out_of_memory
-not_wanting p w = cc
+use Rattle.cedar_model.proofs.Injections.{answers_is_not_fails}
 
 module _ (s : Setting) (calls : StoredCalls) (n : ℕ) (t u : Term) where
   -- an error on the left

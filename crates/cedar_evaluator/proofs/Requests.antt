@@ -1,16 +1,15 @@
 -- What stands for the variables of a request stands for that request alone.
 use Rattle.std.specs.Prelude.{◌≡◌, Bool, true, false, ◌&&◌, Some, None, codes}
 use Rattle.std.proofs.Common.{refl, ap, ◌∙◌}
+use Rattle.std.proofs.lemmas.Bool.{and_parts}
 use Rattle.std.proofs.lemmas.Slice.Eq.{bytes_eq-Decides}
 use Rattle.cedar_model.specs.Terms.{Text, bool_literal, long_literal, text_literal, entity_literal, Variable, principal, action, resource, context, bool_type, long_type, string_type, set_type, record_type, entity_type, extension_type, literal, variable, slot, unknown, if_then_else, both, either, unary, binary, call, get_attribute, has_attribute, extended_has, like, is_of_type, set_of, record_of}
 use Rattle.cedar_model.specs.Values.{plain_represented, set_represented, record_represented, extension_represented}
 use Rattle.cedar_model.specs.Outcomes.{text_eq}
 use Rattle.cedar_model.specs.Failures.{PartialValue, value, residual}
 use Rattle.cedar_model.specs.Settings.{Entry, known_entry, unknown_entry, ContextPart, absent_context, known_context, residual_context, RequestPart, entry_part, context_value, variable_part, type_annotation}
+use Rattle.cedar_names.specs.EqualityLaws.{text_eq-decides}
 use Rattle.cedar_evaluator.specs.Variables.{entry_of, is_entry, context_of, is_context, request_given, are_of_request}
-
-same_text : (s t : Text) → text_eq s t ≡ true → s ≡ t
-same_text s t h = (bytes_eq-Decides s t).0 h
 
 itself : (t : Text) → text_eq t t ≡ true
 itself t = (bytes_eq-Decides t t).1 refl
@@ -40,14 +39,14 @@ entry_is name (residual (like a q)) h = absurd (cc)
 entry_is name (residual (is_of_type a t)) h = absurd (cc)
 entry_is name (residual (set_of ts)) h = absurd (cc)
 entry_is name (residual (record_of fs)) h = absurd (cc)
-entry_is name (residual (unknown n None)) h = ap (λ (x : Text). residual (unknown x None)) (same_text n name h)
+entry_is name (residual (unknown n None)) h = ap (λ (x : Text). residual (unknown x None)) (((text_eq-decides n name).0) h)
 entry_is name (residual (unknown n (Some bool_type))) h = absurd (cc)
 entry_is name (residual (unknown n (Some long_type))) h = absurd (cc)
 entry_is name (residual (unknown n (Some string_type))) h = absurd (cc)
 entry_is name (residual (unknown n (Some set_type))) h = absurd (cc)
 entry_is name (residual (unknown n (Some record_type))) h = absurd (cc)
 entry_is name (residual (unknown n (Some (extension_type t)))) h = absurd (cc)
-entry_is name (residual (unknown n (Some (entity_type t)))) h = ap (λ (x : Text). residual (unknown x (Some (entity_type t)))) (same_text n name h)
+entry_is name (residual (unknown n (Some (entity_type t)))) h = ap (λ (x : Text). residual (unknown x (Some (entity_type t)))) (((text_eq-decides n name).0) h)
 
 pub context_is : (p : PartialValue) → is_context p ≡ true → p ≡ context_value (context_of p)
 unfolding is_context context_of context_value
@@ -71,7 +70,7 @@ context_is (residual (like a q)) h = absurd (cc)
 context_is (residual (is_of_type a t)) h = absurd (cc)
 context_is (residual (set_of ts)) h = absurd (cc)
 context_is (residual (record_of fs)) h = refl
-context_is (residual (unknown n None)) h = ap (λ (x : Text). residual (unknown x None)) (same_text n (codes "context") h)
+context_is (residual (unknown n None)) h = ap (λ (x : Text). residual (unknown x None)) (((text_eq-decides n (codes "context")).0) h)
 context_is (residual (unknown n (Some t))) h = absurd (cc)
 
 part_is_entry : (e : Entry) (name : Text) → is_entry name (entry_part e name) ≡ true
@@ -98,24 +97,16 @@ part_of_context absent_context = refl
 part_of_context (known_context fs) = refl
 part_of_context (residual_context fs) = refl
 
-first : (a b : Bool) → (a && b) ≡ true → a ≡ true
-first true b h = refl
-first false b h = absurd (cc)
-
-second : (a b : Bool) → (a && b) ≡ true → b ≡ true
-second true b h = h
-second false b h = absurd (cc)
-
 -- what stands for variables is what the request says of them
 pub says : (given : Variable → PartialValue) → are_of_request given ≡ true → (v : Variable) → given v ≡ variable_part (request_given given) v
 unfolding variable_part
-says given h principal = entry_is (codes "principal") (given principal) (first (is_entry (codes "principal") (given principal)) _ h)
+says given h principal = entry_is (codes "principal") (given principal) (and_parts (is_entry (codes "principal") (given principal)) _ h).0
 says given h action =
-    entry_is (codes "action") (given action) (first (is_entry (codes "action") (given action)) _ (second (is_entry (codes "principal") (given principal)) _ h))
+    entry_is (codes "action") (given action) (and_parts (is_entry (codes "action") (given action)) _ (and_parts (is_entry (codes "principal") (given principal)) _ h).1).0
 says given h resource =
-    entry_is (codes "resource") (given resource) (first (is_entry (codes "resource") (given resource)) _ (second (is_entry (codes "action") (given action)) _ (second (is_entry (codes "principal") (given principal)) _ h)))
+    entry_is (codes "resource") (given resource) (and_parts (is_entry (codes "resource") (given resource)) _ (and_parts (is_entry (codes "action") (given action)) _ (and_parts (is_entry (codes "principal") (given principal)) _ h).1).1).0
 says given h context =
-    context_is (given context) (second (is_entry (codes "resource") (given resource)) _ (second (is_entry (codes "action") (given action)) _ (second (is_entry (codes "principal") (given principal)) _ h)))
+    context_is (given context) (and_parts (is_entry (codes "resource") (given resource)) _ (and_parts (is_entry (codes "action") (given action)) _ (and_parts (is_entry (codes "principal") (given principal)) _ h).1).1).1
 
 all_four : (a b c d : Bool) → a ≡ true → b ≡ true → c ≡ true → d ≡ true → (a && (b && (c && d))) ≡ true
 all_four true b c d p q r s = all_three b c d q r s

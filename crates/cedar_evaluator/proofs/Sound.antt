@@ -10,6 +10,7 @@ use Rattle.cedar_model.specs.Failures.{value, residual, Answer}
 use Rattle.cedar_model.specs.Settings.{ContextPart, absent_context, known_context, residual_context, context_value, RequestPart, variable_part}
 use Rattle.cedar_model.specs.Rules.{Runs, Meets}
 use Rattle.cedar_model.specs.Restricted.{IsSound, IsSoundContext, IsGivenSound}
+use Rattle.cedar_model.proofs.Injections.{none_is_not_some}
 use Rattle.cedar_values.specs.declared.partial_value.PartialValue.{PartialValue}
 use Rattle.cedar_values.specs.declared.partial_value.PartialValue.TheVariants as partials
 use Rattle.cedar_values.specs.Residuals.{partial_view, residual_term}
@@ -58,11 +59,8 @@ context_is_sound (partials.Residual r) h = residual_is_sound (residual_term r) h
 
 -- ---- what is given
 
-nothing_is_given : {v : Represented} → None ≡ Some v → ⊥
-nothing_is_given h = cc
-
 mapper_is_sound : (m : Mapper) (n : Text) (v : Represented) → mapper_view m n ≡ Some v → IsSound v
-mapper_is_sound mappers.Empty n v h = absurd (nothing_is_given h)
+mapper_is_sound mappers.Empty n v h = absurd (none_is_not_some h)
 mapper_is_sound (mappers.Values m) n v h = mapping_is_sound m.now.entries n v h
 
 module _ {X : Type 0} {F : X → Type 0} {g : _} (v : Evaluator X F g) (slots : Slots) where

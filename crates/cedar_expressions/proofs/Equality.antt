@@ -1,6 +1,7 @@
 -- The tests of `Equality` on terms, level by level.
 use Rattle.std.proofs.Common.{◌≡◌, ℕ, pos, Bool, true, false, ◌&&◌, List, Option, refl, ap, ◌∙◌}
 use Rattle.std.specs.Ordering.{is_eq, ordering_then}
+use Rattle.std.proofs.Math.Bool.{and-true}
 use Rattle.cedar_model.specs.Terms.{Text, Literal, Variable, Slot, ValueType, UnaryOperator, BinaryOperator, PatternPart, Term, literal, variable, slot, unknown, if_then_else, both, either, unary, binary, call, get_attribute, has_attribute, extended_has, like, is_of_type, set_of, record_of, Terms, no_terms, one_term, Fields, no_fields, one_field}
 use Rattle.cedar_model.specs.Keys.{Key, end_key, number_key, key_cmp, text_key, literal_key}
 use Rattle.cedar_model.specs.lemmas.Keys.{key_cmp-self}
@@ -9,7 +10,7 @@ use Rattle.cedar_model.specs.Outcomes.{text_eq}
 use Rattle.cedar_names.specs.Equality.{key_eq, texts_eq, literal_eq, annotation_eq, variable_eq, slot_eq, unary_eq}
 use Rattle.cedar_names.specs.Equality.{binary_eq, pattern_eq, term_eq, terms_eq, fields_eq}
 use Rattle.cedar_names.specs.EqualityLaws.{text_eq-key}
-use Rattle.cedar_names.proofs.Equality.{then_eq, and_true}
+use Rattle.cedar_names.proofs.Equality.{then_eq}
 
 and_swap : (a b : Bool) → (a && b) ≡ (b && a)
 and_swap true true = refl
@@ -24,10 +25,10 @@ node_eq n a b c d e f =
 
 -- two parts, the third being the end
 two_eq : (n : ℕ) (a b d e : Key) → key_eq (node_key n a b end_key) (node_key n d e end_key) ≡ (key_eq a d && key_eq b e)
-two_eq n a b d e = node_eq n a b end_key d e end_key ∙ ap (λ x. key_eq a d && x) (and_true (key_eq b e))
+two_eq n a b d e = node_eq n a b end_key d e end_key ∙ ap (λ x. key_eq a d && x) (and-true (key_eq b e))
 
 one_eq : (n : ℕ) (a d : Key) → key_eq (node_key n a end_key end_key) (node_key n d end_key end_key) ≡ key_eq a d
-one_eq n a d = two_eq n a end_key d end_key ∙ and_true (key_eq a d)
+one_eq n a d = two_eq n a end_key d end_key ∙ and-true (key_eq a d)
 
 pub term_eq-literal : (a b : Literal) → term_eq (literal a) (literal b) ≡ literal_eq a b
 unfolding term_eq literal_eq

@@ -12,9 +12,11 @@ use Rattle.std.specs.List.{list_any}
 use Rattle.std.specs.BTreeMap.{insert_entry, is_at}
 use Rattle.std.specs.Map.{lookup}
 use Rattle.std.proofs.lemmas.List.Folds.{list_any-append}
+use Rattle.std.proofs.Math.Bool.{or_self_left}
 use Rattle.cedar_model.specs.Terms.{Text, one_field}
 use Rattle.cedar_model.specs.Outcomes.{text_eq}
 use Rattle.cedar_model.specs.Refusals.{first_repeated_after}
+use Rattle.cedar_model.specs.lemmas.Sets.{or_swap}
 use Rattle.cedar_expressions.specs.declared.expr.Expr.{Expr}
 use Rattle.cedar_names.specs.EqualityLaws.{text_eq-decides}
 use Rattle.cedar_expressions.specs.View.{view, fields_view}
@@ -96,15 +98,6 @@ more_keys [] k e l = refl
 more_keys (p ∷ es) k e l =
     at_order (order k p.0) refl (more_keys es k e l)
   where
-    swapped : (x y z : Bool) → (x || (y || z)) ≡ (y || (x || z))
-    swapped true true z = refl
-    swapped true false z = refl
-    swapped false y z = refl
-
-    twice : (x z : Bool) → (x || (x || z)) ≡ (x || z)
-    twice true z = refl
-    twice false z = refl
-
     at_order : (o : Ordering) → order k p.0 ≡ o
         → list_any (text_eq l) (rc_str_bytes k ∷ keys_view es)
         ≡ list_any (text_eq l) (keys_view (insert_entry order es k e))
@@ -117,9 +110,9 @@ more_keys (p ∷ es) k e l =
         let b = rc_str_bytes p.0 in
         let rest : Bool = list_any (text_eq l) (keys_view es) in
         let same : a ≡ b = (text_eq-decides a b).0 (sym (text_eq-order a b) ∙ ap is_eq h) in
-        ap (λ t. text_eq l t || (text_eq l b || rest)) same ∙ twice (text_eq l b) rest
+        ap (λ t. text_eq l t || (text_eq l b || rest)) same ∙ or_self_left (text_eq l b) rest
     at_order Greater h rest =
-        swapped (text_eq l (rc_str_bytes k)) (text_eq l (rc_str_bytes p.0)) (list_any (text_eq l) (keys_view es))
+        or_swap (text_eq l (rc_str_bytes k)) (text_eq l (rc_str_bytes p.0)) (list_any (text_eq l) (keys_view es))
         ∙ ap (λ b. text_eq l (rc_str_bytes p.0) || b) rest
 
 pub repeated-step : (es : Pairs) (k : RcStr Global) (e : Expr) (ks : List Text)

@@ -2,7 +2,7 @@
 use Rattle.std.specs.Slice.Iter.{iter_rest, iter_steps}
 use Rattle.std.specs.Option.{is_some}
 use Rattle.std.proofs.Common.{◌≡◌, ℕ, ◌+◌, ◌<◌, ◌≤◌, Bool, true, false, not, Option, None, Some, Bor, Iter, ◌&&◌, List, [], ◌∷◌, length, get_or, drop, refl, sym, ap, subst, ◌∙◌, arith}
-use Rattle.std.proofs.lemmas.List.{drop_more, drop_all}
+use Rattle.std.proofs.lemmas.List.{drop_more, drop_all, nil_from_length}
 use Rattle.cedar_model.specs.Terms.{no_terms}
 use Rattle.cedar_expressions.specs.declared.expr.Expr.{Expr}
 use Rattle.cedar_names.specs.Equality.{term_eq, terms_eq}
@@ -27,10 +27,6 @@ module _ (xs s ys : List Expr) (i : ℕ) (whole : s ≡ xs) where
       subst (λ v. terms_eq (terms_view (drop i v)) (terms_view ys) ≡ terms_eq no_terms (terms_view ys)) whole
       (ap (λ v. terms_eq (terms_view v) (terms_view ys)) (drop_all i s h))
 
-pub no_items : {X : Type 0} (xs : List X) → length xs ≡ 0 → xs ≡ []
-no_items [] e = refl
-no_items (x ∷ xs) e = absurd (omega arith)
-
 pub and_when : (a b : Bool) → a ≡ true → (a && b) ≡ b
 and_when a b e = ap (λ x. x && b) e
 
@@ -39,7 +35,7 @@ and_unless a b e = ap (λ x. x && b) e
 
 -- the other list has ended too exactly where it has no next part
 pub terms_over : (left after : Iter Expr) (next : Option (Bor Expr)) (over : Bool) → iter_steps left next after → is_some next ≡ not over → terms_eq no_terms (terms_view (iter_rest left)) ≡ over
-terms_over left after None true h e = ap (λ v. terms_eq no_terms (terms_view v)) (no_items (iter_rest left) h.0) ∙ terms_eq-none
+terms_over left after None true h e = ap (λ v. terms_eq no_terms (terms_view v)) (nil_from_length (iter_rest left) h.0) ∙ terms_eq-none
 terms_over left after None false h e = absurd (cc)
 terms_over left after (Some x) true h e = absurd (cc)
 terms_over left after (Some x) false h e =

@@ -1,21 +1,18 @@
 -- Texts among others.
-use Rattle.std.proofs.Common.{◌≡◌, refl, ap, ◌∙◌, Bool, true, false, ◌||◌, List, [], ◌∷◌, ◌++◌, map}
+use Rattle.std.proofs.Common.{◌≡◌, refl, sym, ap, ◌∙◌, Bool, true, false, ◌||◌, List, [], ◌∷◌, ◌++◌, map}
 use Rattle.std.proofs.lemmas.List.{map-append}
 use Rattle.std.specs.List.{flat_map}
+use Rattle.std.proofs.Math.Bool.{or_assoc}
 use Rattle.cedar_model.specs.Terms.{Text}
 use Rattle.cedar_model.specs.Outcomes.{text_eq, has_text}
 use Rattle.cedar_names.specs.declared.names.Name.{Name}
 use Rattle.cedar_names.specs.Names.{name_text}
 
-or_assoc : (a b c : Bool) → (a || (b || c)) ≡ ((a || b) || c)
-or_assoc true b c = refl
-or_assoc false b c = refl
-
 pub has_text-append : (t : Text) (us vs : List Text) → has_text t (us ++ vs) ≡ (has_text t us || has_text t vs)
 unfolding has_text
 has_text-append t [] vs = refl
 has_text-append t (u ∷ us) vs = ap (λ (b : Bool). text_eq t u || b) (has_text-append t us vs)
-    ∙ or_assoc (text_eq t u) (has_text t us) (has_text t vs)
+    ∙ (sym (or_assoc (text_eq t u) (has_text t us) (has_text t vs)))
 
 -- a text is among the names of some parts where it is among those of the first, or of the others
 pub has_text-parts : {E : Type 0} (t : Text) (names : E → List Name) (all : List E) (e : E) (rest : List E) (b : Bool)

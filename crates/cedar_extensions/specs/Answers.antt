@@ -24,11 +24,6 @@ returned_answer (Ok (outputs.Unknown u)) =
     answers_residual (unknown (rc_str_bytes u.name) (option_map type_view u.type_annotation))
 returned_answer (Err e) = fails (failure_of e)
 
--- what a call answered
-abbrev pub call_answer : Result PartialValue EvaluationError → Answer
-call_answer (Ok p) = answers (partial_view p)
-call_answer (Err e) = fails (failure_of e)
-
 -- a function that is called as `post` says may answer this to n values, besides want of memory
 abbrev pub AnswersBy : ℕ → (Bor (List Placed) → Returned → Type 0) → List Represented → Answer → Type 0
 AnswersBy n post vs a =

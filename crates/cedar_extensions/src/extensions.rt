@@ -30,7 +30,7 @@ impl<'a> Extensions<'a> {
     ghost use Rattle.cedar_names.specs.Names.{name_text};
     ghost use Rattle.cedar_names.specs.Leaves.{type_view};
     ghost use Rattle.cedar_values.specs.Sound.{whats};
-    ghost use Rattle.cedar_extensions.specs.Answers.{call_answer};
+    ghost use Rattle.cedar_errors.specs.Answers.{partial_answer};
     ghost use Rattle.cedar_extensions.specs.Functions.{answered_types, IsFound};
     ghost use Rattle.cedar_extensions.specs.Extension.{name_of, all_overloading_types};
     ghost use Rattle.cedar_extensions.specs.Iterators.{names_left, types_left, overloading_left};
@@ -100,7 +100,7 @@ impl<'a> Extensions<'a> {
         name: &Name,
         args: &[Value],
     ) -> Result<PartialValue, EvaluationError>
-        ensures { Meets (AnswersCall self.now (name_text name.now) (whats args.now)) (call_answer result) }
+        ensures { Meets (AnswersCall self.now (name_text name.now) (whats args.now)) (partial_answer result) }
     {
         match self.func(name) {
             Ok(function) => function.call(alloc, args),

@@ -56,7 +56,8 @@ impl ExtensionFunction {
     ghost use Rattle.cedar_names.specs.declared.names.CallStyle.TheVariants.{FunctionStyle};
     ghost use Rattle.cedar_values.specs.Sound.{whats};
     ghost use Rattle.cedar_errors.specs.Failures.{failure_of};
-    ghost use Rattle.cedar_extensions.specs.Answers.{AnswersBy, AsksOf, call_answer};
+    ghost use Rattle.cedar_errors.specs.Answers.{partial_answer};
+    ghost use Rattle.cedar_extensions.specs.Answers.{AnswersBy, AsksOf};
     ghost use Rattle.cedar_extensions.specs.Functions.{function_name, function_style, function_returns, function_takes};
     ghost use Rattle.cedar_extensions.specs.Functions.{function_text, arity, CanAnswer, AnswersAs, AnswersAlone};
     ghost use Rattle.cedar_extensions.specs.Functions.{IsMiscounted, answered_type, constructed_type};
@@ -149,7 +150,7 @@ impl ExtensionFunction {
     /// `WrongNumArguments`, at no location, where there are more or fewer than it takes, and does not call it then.
     #[tactic(auto, using(crate::proofs::Counted::counts_right, crate::proofs::Counted::counts_wrong))]
     pub fn call(&self, alloc: Global, args: &[Value]) -> Result<PartialValue, EvaluationError>
-        ensures { Meets (AnswersAlone self.now (whats args.now)) (call_answer result) }
+        ensures { Meets (AnswersAlone self.now (whats args.now)) (partial_answer result) }
     {
         if args.len() == self.arg_types.len() {
             self.answer(alloc, args)
@@ -161,7 +162,7 @@ impl ExtensionFunction {
     // What the function answers to as many arguments as it takes.
     fn answer(&self, alloc: Global, args: &[Value]) -> Result<PartialValue, EvaluationError>
         requires { length args.now ≡ arity self.now }
-        ensures { Meets (CanAnswer self.now (whats args.now)) (call_answer result) }
+        ensures { Meets (CanAnswer self.now (whats args.now)) (partial_answer result) }
     {
         match self.callee.answer(alloc, args) {
             Ok(output) => Ok(partial_value(output)),

@@ -9,6 +9,7 @@ use Rattle.cedar_model.specs.Failures as model
 use Rattle.cedar_model.specs.Failures.{Answer, answers, fails, limit, out_of_memory}
 use Rattle.cedar_model.specs.Settings.{Setting}
 use Rattle.cedar_model.specs.Rules.{StoredCalls}
+use Rattle.cedar_model.proofs.Injections.{answers_is_not_fails}
 use Rattle.cedar_names.specs.declared.names.Loc.{Loc}
 use Rattle.cedar_expressions.specs.View.{expr_loc}
 use Rattle.cedar_values.specs.declared.partial_value.PartialValue.{PartialValue}
@@ -27,7 +28,7 @@ use Rattle.cedar_interpreter.specs.Settings.{evaluation_setting, calls_in}
 use Rattle.cedar_interpreter.proofs.Requests.{some_request}
 use Rattle.cedar_interpreter.specs.Tasks.{SharedExpr, Next, Gives, Continues, Leads, IsOrWant}
 use Rattle.cedar_interpreter.specs.Parts.{IsTaken}
-use Rattle.cedar_interpreter.proofs.PartsLaws.{no_fail, parts_fewer}
+use Rattle.cedar_interpreter.proofs.PartsLaws.{parts_fewer}
 use Rattle.cedar_interpreter.proofs.Laws.{starts_placed, continues_placed, taken_placed, gives_placed, or_want_continues}
 use Rattle.cedar_interpreter.proofs.Laws.{given_fewer, continues_fewer, continues_leads, parts_lead, failed_leads}
 use Rattle.cedar_interpreter.proofs.Laws.{limit_leads, want_leads}
@@ -60,9 +61,9 @@ value_leads : (s : Setting) (calls : StoredCalls) (k : ℕ) (l : Option Loc) (p 
     (n : Next) → ((j : ℕ) → k ≡ suc j → Continues s calls (suc j) l p (answers v) n) →
     Leads s calls k l (tasks.Other p) (answers v) n
 value_leads s calls zero l p v n h =
-    λ t c waits meets. absurd (no_fail v model.recursion_limit (meets (no_fail v out_of_memory)))
+    λ t c waits meets. absurd (answers_is_not_fails v model.recursion_limit (meets (answers_is_not_fails v out_of_memory)))
 value_leads s calls (suc j) l p v n h =
-    continues_leads s calls (suc j) l p (answers v) n (no_fail v out_of_memory) (h j refl)
+    continues_leads s calls (suc j) l p (answers v) n (answers_is_not_fails v out_of_memory) (h j refl)
 
 -- what goes on after a value or a residual leads on
 pub value_leads_in : {X : Type 0} {F : X → Type 0} {g : _} (e : Evaluation X F g) (levels : ℕ) (w : SharedExpr) (p : Pending)

@@ -15,6 +15,7 @@ use Rattle.cedar_values.specs.Sound.{Placed}
 use Rattle.cedar_values.specs.declared.partial_value.PartialValue.{PartialValue}
 use Rattle.cedar_model.specs.Failures as model
 use Rattle.cedar_model.specs.Settings.{RequestPart}
+use Rattle.cedar_model.proofs.Injections.{answers_is_not_fails}
 use Rattle.cedar_names.specs.declared.names.Loc.{Loc}
 use Rattle.cedar_frames.specs.declared.machine.Transition.TheVariants.{Done, Wait}
 use Rattle.cedar_interpreter.specs.declared.evaluation.Evaluation.{Evaluation}
@@ -29,7 +30,6 @@ use Rattle.cedar_interpreter.proofs.Requests.{some_request}
 use Rattle.cedar_interpreter.specs.Tasks.{SharedExpr, Next, AfterLeftSide, Uses, WaitsFor, WaitsAgain, Gives, pending_left}
 use Rattle.cedar_interpreter.proofs.Laws.{continues_through, fewer_through, continues_placed, continues_fewer}
 use Rattle.cedar_interpreter.proofs.Laws.{gives_starts, gives_placed, literal_joined}
-use Rattle.cedar_interpreter.proofs.PartsLaws.{no_fail}
 use Rattle.cedar_errors.specs.declared.evaluator.err.EvaluationError.{EvaluationError}
 use Rattle.cedar_errors.specs.Answers.{partial_answer, AnswersWith}
 use Rattle.cedar_operators.specs.Operands.{over}
@@ -41,7 +41,7 @@ use Rattle.cedar_interpreter.proofs.ReadLaws.{none_resolved, attribute_value}
 use Rattle.cedar_interpreter.proofs.StoredLaws.{of_value, value_stays, part_stored}
 use Rattle.cedar_interpreter.specs.Continuations.{ContinuesAt, StartsIn, ContinuesIn, LeadsIn}
 use Rattle.cedar_interpreter.proofs.ContinuationLaws.{continues_in}
-use Rattle.cedar_interpreter.specs.Direct.{IsDirectValue, IsDirectAnswer, IsDirectBool, IsBoxOf, IsBoolOf, IsPlaced, IsRightSide, IsAwaited}
+use Rattle.cedar_interpreter.specs.Direct.{IsDirectValue, IsDirectAnswer, IsDirectBool, IsBoxOf, IsBoolOf, IsMovedTo, IsRightSide, IsAwaited}
 
 -- what has a value with one level more than these
 pub direct_above : (s : Setting) (calls : StoredCalls) (h k : ℕ) (t u : Term) (o : Option Placed) → ((j : ℕ) → h ≤ j → IsDirectValue s calls (suc j) t o) →
@@ -64,7 +64,7 @@ value_direct s calls k t p (Some v) runs is = subst (λ q. Runs s calls k t (ans
 pub value_found : (x : Result PartialValue EvaluationError) (o : Option Placed) (b : Answer) → IfSome o (λ v. partial_answer x ≡ answers_value v.what) →
     AnswersWith x b → IfSome o (λ v. answers_value v.what ≡ b)
 value_found x None b same found = tt
-value_found x (Some v) b same found = sym same ∙ found (λ w. no_fail (value v.what) out_of_memory (sym same ∙ w))
+value_found x (Some v) b same found = sym same ∙ found (λ w. answers_is_not_fails (value v.what) out_of_memory (sym same ∙ w))
 
 -- an attribute of what has a value
 pub attribute_direct : (s : Setting) (calls : StoredCalls) (j : ℕ) (t : Term) (w : Represented) (k : Text) (o : Option Placed) →
@@ -103,7 +103,7 @@ bool_direct s calls k t None (Some b) direct is = absurd is
 bool_direct s calls k t (Some v) (Some b) direct is = subst (Runs s calls k t) (is_bool v.what b is) direct
 
 pub placed_direct : (s : Setting) (calls : StoredCalls) (k : ℕ) (t : Term) (o : Option Placed) (l : Option Loc) (p : Option Placed) →
-    IsDirectValue s calls k t o → IsPlaced o l p → IsDirectValue s calls k t p
+    IsDirectValue s calls k t o → IsMovedTo o l p → IsDirectValue s calls k t p
 placed_direct s calls k t o l None direct is = tt
 placed_direct s calls k t None l (Some w) direct is = absurd is
 placed_direct s calls k t (Some v) l (Some w) direct is = subst (λ x. Runs s calls k t (answers_value x)) (sym is.0) direct

@@ -5,6 +5,7 @@ use Rattle.cedar_model.specs.Terms.{Term, Terms, set_of}
 use Rattle.cedar_model.specs.Failures.{Failure, fails, out_of_memory}
 use Rattle.cedar_model.specs.Settings.{RequestPart, Setting}
 use Rattle.cedar_model.specs.Rules.{StoredCalls}
+use Rattle.cedar_model.proofs.Injections.{answers_is_not_fails}
 use Rattle.cedar_names.specs.declared.names.Loc.{Loc}
 use Rattle.cedar_expressions.specs.declared.expr.Expr.{Expr}
 use Rattle.cedar_expressions.specs.View.{view, expr_loc}
@@ -23,7 +24,6 @@ use Rattle.cedar_interpreter.specs.declared.frame.Task.TheVariants as tasks
 use Rattle.cedar_interpreter.specs.Endings.{Ending}
 use Rattle.cedar_interpreter.specs.Tasks.{SharedExpr, Next, Gives}
 use Rattle.cedar_interpreter.specs.Parts.{IsTaken, IsTakenAs}
-use Rattle.cedar_interpreter.proofs.PartsLaws.{no_fail}
 use Rattle.cedar_interpreter.specs.Frames.{IsRight, FrameWaits}
 use Rattle.cedar_interpreter.specs.Elements.{EndingStands, TaskWaits, SetNext, NextStands, FrameStands, PartStands, TaskContinues, IsPartTaken}
 
@@ -52,7 +52,7 @@ no_set_next e t x seen other = λ ts is. absurd (other ts (seen ∙ is))
 
 -- an error is no set's value
 pub failed_next : (es : List Expr) (l : Option Loc) (e : Failure) (n : Next) → Gives l n (fails e) → SetNext es n
-failed_next es l e (Done (Ok b)) gives = absurd (no_fail (partial_view b.value) e (gives.0 (no_fail (partial_view b.value) out_of_memory)))
+failed_next es l e (Done (Ok b)) gives = absurd (answers_is_not_fails (partial_view b.value) e (gives.0 (answers_is_not_fails (partial_view b.value) out_of_memory)))
 failed_next es l e (Done (Err x)) gives = λ n. tt
 failed_next es l e (Wait f c) gives = absurd gives
 

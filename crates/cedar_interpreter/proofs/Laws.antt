@@ -9,6 +9,7 @@ use Rattle.cedar_model.specs.Failures as model
 use Rattle.cedar_model.specs.Failures.{Answer, value, answers, answers_bool, fails, limit, out_of_memory}
 use Rattle.cedar_model.specs.Settings.{RequestPart, Store, Resolution, shallow, deep, Setting}
 use Rattle.cedar_model.specs.Rules.{MayAnswer, StoredCalls, Parts, Runs, Meets, AtPath, joined, on_part, beside_residual, binary_beside, has_part, is_part}
+use Rattle.cedar_model.proofs.Injections.{answers_is_not_fails}
 use Rattle.cedar_names.specs.declared.names.Loc.{Loc}
 use Rattle.cedar_expressions.specs.View.{view, expr_loc}
 use Rattle.cedar_values.specs.declared.partial_value.PartialValue.{PartialValue}
@@ -41,7 +42,7 @@ use Rattle.cedar_interpreter.specs.Tasks.{SharedExpr, Next, StandsAt, Uses, Wait
 use Rattle.cedar_interpreter.specs.Frames.{IsRight, FrameWaits, left_of}
 use Rattle.cedar_interpreter.proofs.BooleanLaws.{joins}
 use Rattle.cedar_interpreter.specs.Parts.{IsTaken}
-use Rattle.cedar_interpreter.proofs.PartsLaws.{no_fail, parts_continue}
+use Rattle.cedar_interpreter.proofs.PartsLaws.{parts_continue}
 use Rattle.cedar_interpreter.specs.Laws.{limit_no_want, resolved, limit_upward, parts_fail}
 
 -- ---- on with an answer
@@ -241,7 +242,7 @@ module _ (s : Setting) (calls : StoredCalls) (k : ℕ) (l : Option Loc) where
   limit_leads task t c waits meets = (λ ok. limit_upward calls s k task t c waits (meets limit_no_want), tt)
 
   pub parts_lead : (f : Box PartsFrame Global) (p : PartialValue) (x : NextPart) (n : Next) → restricted.ContinuesParts s.extensions calls f.value (Ok p) x → IsTaken l x n → Leads s calls k l (tasks.Parts f) (answers (partial_view p)) n
-  parts_lead f p x n goes taken t c waits meets = parts_continue s calls k t l f.value c waits p x n (meets (no_fail (partial_view p) out_of_memory)) goes taken
+  parts_lead f p x n goes taken t c waits meets = parts_continue s calls k t l f.value c waits p x n (meets (answers_is_not_fails (partial_view p) out_of_memory)) goes taken
 
   pub failed_leads : (f : Box PartsFrame Global) (e : model.Failure) (n : Next) → Gives l n (fails e) → Leads s calls k l (tasks.Parts f) (fails e) n
   failed_leads f e n gives t c waits meets =

@@ -9,6 +9,7 @@ use Rattle.cedar_model.specs.Failures.{Failure, Answer, answers, fails}
 use Rattle.cedar_model.specs.World as world
 use Rattle.cedar_model.specs.Settings.{Setting}
 use Rattle.cedar_model.specs.Rules.{StoredCalls, Rule, Runs, Parts}
+use Rattle.cedar_model.proofs.Injections.{answers_is_not_fails}
 use Rattle.cedar_names.specs.declared.names.Loc.{Loc}
 use Rattle.cedar_expressions.specs.declared.expr.Expr.{Expr}
 use Rattle.cedar_expressions.specs.View.{view, terms_view}
@@ -30,9 +31,6 @@ use Rattle.cedar_interpreter.specs.declared.frame.Task.{Task}
 use Rattle.cedar_interpreter.specs.Endings.{ending_answer}
 use Rattle.cedar_interpreter.specs.Tasks.{Next, WaitsForPart, WaitsFor, Starts, LeftFewer, task_left}
 use Rattle.cedar_interpreter.specs.Parts.{IsTakenAs, IsTaken}
-
-pub no_fail : (p : model.PartialValue) (e : Failure) → answers p ≢ fails e
-no_fail p e h = cc
 
 module _ (s : Setting) (calls : StoredCalls) (k : ℕ) (t : Term) (here : Option Loc) where
   abbrev May : Term → Answer → Type 0

@@ -56,10 +56,10 @@ IsValueOf None (Some v) = ⊥
 IsValueOf (Some b) (Some v) = v.what ≡ plain_represented (bool_literal b)
 
 -- the value, at this place
-abbrev pub IsPlaced : Option Placed → Option Loc → Option Placed → Type 0
-IsPlaced o l None = Unit {0}
-IsPlaced None l (Some w) = ⊥
-IsPlaced (Some v) l (Some w) = (w.what ≡ v.what) × (w.loc ≡ l)
+abbrev pub IsMovedTo : Option Placed → Option Loc → Option Placed → Type 0
+IsMovedTo o l None = Unit {0}
+IsMovedTo None l (Some w) = ⊥
+IsMovedTo (Some v) l (Some w) = (w.what ≡ v.what) × (w.loc ≡ l)
 
 -- ---- what is evaluated directly in an evaluation
 

@@ -6,7 +6,7 @@ ghost use Rattle.cedar_model.specs.Values.{plain_represented};
 ghost use Rattle.cedar_names.specs.Leaves.{literal_view};
 ghost use Rattle.cedar_expressions.specs.View.{view, expr_loc};
 ghost use Rattle.cedar_errors.specs.Answers.{partial_answer};
-ghost use Rattle.cedar_interpreter.specs.Direct.{IsBoxOf, IsBoolOf, IsPlaced, HasDirectValue};
+ghost use Rattle.cedar_interpreter.specs.Direct.{IsBoxOf, IsBoolOf, IsMovedTo, HasDirectValue};
 ghost use Rattle.cedar_interpreter.specs.Direct.{HasDirectValueIn, HasDirectAnswerIn, HasDirectBoolIn};
 
 use crate::direct_evaluators::{DirectEvaluator, EvaluatorAbove, LeafEvaluator};
@@ -128,7 +128,7 @@ pub(crate) fn boolean_of(value: Option<Value>) -> Option<bool>
 
 // The value, at this place.
 fn placed(value: Option<Value>, loc: Option<Loc>) -> Option<Value>
-    ensures { IsPlaced value loc result }
+    ensures { IsMovedTo value loc result }
 {
     match value {
         Some(mut value) => {

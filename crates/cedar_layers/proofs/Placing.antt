@@ -1,11 +1,12 @@
 -- The index of policies: what is placed stays, and what is reached by entities.
 use Rattle.std.proofs.Common.{◌≡◌, ◌⊎◌, inl, inr, refl, sym, ap, ◌∙◌, arith, ℕ, zero, suc, ◌+◌, ◌==◌, Bool, true, false, cond, ◌||◌, ◌&&◌, List, [], ◌∷◌, ◌++◌, length, Option, Some, None, is_some}
-use Rattle.std.proofs.lemmas.Bool.{eqb-false}
+use Rattle.std.proofs.lemmas.Bool.{or_cases, eqb-false, or_left, or_right, eq-eqb}
 use Rattle.std.proofs.lemmas.List.Folds.{list_any-append}
 use Rattle.std.specs.Map.{lookup, values_of, KeepsOthers}
 use Rattle.std.specs.Prelude.{slice_get, Result, Ok, Err, OnOk, IfSome}
 use Rattle.std.specs.declared.alloc.Global.{Global}
 use Rattle.std.specs.declared.vec.Vec.{Vec}
+use Rattle.std.proofs.lemmas.List.{nil_from_length}
 use Rattle.cedar_model.specs.Terms.{EntityName, Term, BinaryOperator, binary}
 use Rattle.cedar_model.specs.Outcomes.{entity_eq}
 use Rattle.cedar_model.specs.Settings.{is_among}
@@ -17,7 +18,7 @@ use Rattle.cedar_layers.specs.declared.policies.scope_index.ScopeIndex.{ScopeInd
 use Rattle.cedar_layers.specs.Policies.{PolicyView, policy_view}
 use Rattle.cedar_layers.specs.Scopes.{compares, is_entity_variable, literal_entity, compared_entity, is_truth, principal_bound, action_bound, resource_bound, IsBoundTo, IsBoundElsewhere, Groups, items_or_none, standing_under, standing_at, has_position, is_placed, ArePlaced, Places, Extends, ReachesAll}
 use Rattle.cedar_model.proofs.Injections.{some_inj, none_is_not_some, true_is_not_false}
-use Rattle.cedar_layers.proofs.Stores.{entity_eq-true}
+use Rattle.cedar_names.specs.EqualityLaws.{entity_eq-decides}
 
 -- ---- entries
 
@@ -26,8 +27,8 @@ module _ (old new : Groups) (key : EntityUID) (others : KeepsOthers eq-value.it 
   pub under_others : (n : EntityName) → entity_eq n (uid_name key) ≡ false → standing_under new n ≡ standing_under old n
   unfolding KeepsOthers
   under_others n h =
-      let own : (x y : EntityUID) → entity_eq n (uid_name x) ≡ true → entity_eq n (uid_name y) ≡ eq-value.it x y = λ x y e. ap (λ (m : EntityName). entity_eq m (uid_name y)) (entity_eq-true n (uid_name x) e) in
-      let apart : (u : EntityUID) → eq-value.it key u ≡ true → entity_eq n (uid_name u) ≡ false = λ u e. ap (λ (m : EntityName). entity_eq n m) (sym (entity_eq-true (uid_name key) (uid_name u) e)) ∙ h in
+      let own : (x y : EntityUID) → entity_eq n (uid_name x) ≡ true → entity_eq n (uid_name y) ≡ eq-value.it x y = λ x y e. ap (λ (m : EntityName). entity_eq m (uid_name y)) ((entity_eq-decides n (uid_name x)).0 e) in
+      let apart : (u : EntityUID) → eq-value.it key u ≡ true → entity_eq n (uid_name u) ≡ false = λ u e. ap (λ (m : EntityName). entity_eq n m) (sym ((entity_eq-decides (uid_name key) (uid_name u)).0 e)) ∙ h in
       ap items_or_none (others (λ (u : EntityUID). entity_eq n (uid_name u)) own apart)
 
 -- a group that was taken out is put in, with one more
@@ -49,66 +50,43 @@ pub if_some_then : {U : Type 0} (o : Option U) (P Q : U → Type 0) → ((u : U)
 if_some_then (Some u) P Q f h = f u h
 if_some_then None P Q f h = tt
 
-pub none_of : {A : Type 0} (xs : List A) → length xs ≡ 0 → xs ≡ []
-none_of [] h = refl
-none_of (x ∷ xs) h = absurd (omega (arith, h))
-
 -- ---- positions
-
-or_true : (b c : Bool) → (b || c) ≡ true → (b ≡ true) ⊎ (c ≡ true)
-or_true true c h = inl refl
-or_true false c h = inr h
-
-or_first : (b c : Bool) → b ≡ true → (b || c) ≡ true
-or_first true c h = refl
-or_first false c h = absurd (cc)
-
-or_second : (b c : Bool) → c ≡ true → (b || c) ≡ true
-or_second true c h = refl
-or_second false c h = h
-
-same_nat : (i : ℕ) → (i == i) ≡ true
-same_nat i = by (i == i) refl
-  where
-    by : (b : Bool) → (i == i) ≡ b → (i == i) ≡ true
-    by true e = e
-    by false e = absurd (eqb-false i i e refl)
 
 -- what is in a list is in a longer one
 pub position_stays : (i : ℕ) (ns ms : List ℕ) → has_position i ns ≡ true → has_position i (ns ++ ms) ≡ true
-position_stays i ns ms h = list_any-append (λ j. i == j) ns ms ∙ or_first _ _ h
+position_stays i ns ms h = list_any-append (λ j. i == j) ns ms ∙ or_left _ _ h
 
 pub position_behind : (i : ℕ) (ns ms : List ℕ) → has_position i ms ≡ true → has_position i (ns ++ ms) ≡ true
-position_behind i ns ms h = list_any-append (λ j. i == j) ns ms ∙ or_second _ _ h
+position_behind i ns ms h = list_any-append (λ j. i == j) ns ms ∙ or_right _ _ h
 
 pub position_last : (i : ℕ) (ns : List ℕ) → has_position i (ns ++ i ∷ []) ≡ true
-position_last i ns = position_behind i ns (i ∷ []) (or_first (i == i) false (same_nat i))
+position_last i ns = position_behind i ns (i ∷ []) (or_left (i == i) false (eq-eqb i i refl))
 
 -- ---- an index in which no position is lost
 
 module _ (old new : ScopeIndex) (rest : (j : ℕ) → has_position j old.rest.items ≡ true → has_position j new.rest.items ≡ true)
     (groups : (j : ℕ) (o : Option EntityName) → has_position j (standing_at old.groups.entries o) ≡ true → has_position j (standing_at new.groups.entries o) ≡ true) where
   placed_stay : (j : ℕ) (q : PolicyView) → is_placed old j q ≡ true → is_placed new j q ≡ true
-  placed_stay j q h = by (or_true _ _ h)
+  placed_stay j q h = by (or_cases _ _ h)
     where
       last : (has_position j (standing_at old.groups.entries (action_bound q)) ≡ true) ⊎ (has_position j (standing_at old.groups.entries (resource_bound q)) ≡ true)
           → (has_position j (standing_at new.groups.entries (action_bound q)) || has_position j (standing_at new.groups.entries (resource_bound q))) ≡ true
-      last (inl e) = or_first _ _ (groups j (action_bound q) e)
-      last (inr e) = or_second _ _ (groups j (resource_bound q) e)
+      last (inl e) = or_left _ _ (groups j (action_bound q) e)
+      last (inr e) = or_right _ _ (groups j (resource_bound q) e)
 
       more : (has_position j (standing_at old.groups.entries (principal_bound q)) ≡ true)
           ⊎ ((has_position j (standing_at old.groups.entries (action_bound q)) || has_position j (standing_at old.groups.entries (resource_bound q))) ≡ true)
           → (has_position j (standing_at new.groups.entries (principal_bound q))
           || (has_position j (standing_at new.groups.entries (action_bound q)) || has_position j (standing_at new.groups.entries (resource_bound q)))) ≡ true
-      more (inl e) = or_first _ _ (groups j (principal_bound q) e)
-      more (inr e) = or_second _ _ (last (or_true _ _ e))
+      more (inl e) = or_left _ _ (groups j (principal_bound q) e)
+      more (inr e) = or_right _ _ (last (or_cases _ _ e))
 
       by : (has_position j old.rest.items ≡ true)
           ⊎ ((has_position j (standing_at old.groups.entries (principal_bound q))
           || (has_position j (standing_at old.groups.entries (action_bound q)) || has_position j (standing_at old.groups.entries (resource_bound q)))) ≡ true)
           → is_placed new j q ≡ true
-      by (inl e) = or_first _ _ (rest j e)
-      by (inr e) = or_second _ _ (more (or_true _ _ e))
+      by (inl e) = or_left _ _ (rest j e)
+      by (inr e) = or_right _ _ (more (or_cases _ _ e))
 
 module _ (old new : Groups) (n : EntityName) (i : ℕ) (more : Extends old new n i) where
   group_stays : (j : ℕ) (o : Option EntityName) → has_position j (standing_at old o) ≡ true → has_position j (standing_at new o) ≡ true
@@ -117,7 +95,7 @@ module _ (old new : Groups) (n : EntityName) (i : ℕ) (more : Extends old new n
     where
       by : (b : Bool) → entity_eq m n ≡ b → has_position j (standing_under new m) ≡ true
       by true e =
-          let same : m ≡ n = entity_eq-true m n e in
+          let same : m ≡ n = (entity_eq-decides m n).0 e in
           ap (λ (x : EntityName). has_position j (standing_under new x)) same ∙ ap (has_position j) more.here
           ∙ position_stays j (standing_under old n) (i ∷ []) (sym (ap (λ (x : EntityName). has_position j (standing_under old x)) same) ∙ h)
       by false e = ap (has_position j) (more.others m e) ∙ h
@@ -131,7 +109,7 @@ module _ (old new : Groups) (n : EntityName) (i : ℕ) (more : Extends old new n
 pub places_under : (old new : ScopeIndex) (i : ℕ) (p : PolicyView) (n : EntityName) → new.rest.items ≡ old.rest.items → Extends old.groups.entries new.groups.entries n i → IsBoundTo p n → Places old new i p
 places_under old new i p n e more bound = record {
   stay = placed_stay old new (λ j h. ap (has_position j) e ∙ h) (group_stays old.groups.entries new.groups.entries n i more);
-  placed = or_second _ _ (by bound);
+  placed = or_right _ _ (by bound);
 }
   where
     has : (o : Option EntityName) → o ≡ Some n → has_position i (standing_at new.groups.entries o) ≡ true
@@ -139,9 +117,9 @@ places_under old new i p n e more bound = record {
 
     by : IsBoundTo p n → (has_position i (standing_at new.groups.entries (principal_bound p))
         || (has_position i (standing_at new.groups.entries (action_bound p)) || has_position i (standing_at new.groups.entries (resource_bound p)))) ≡ true
-    by (inl h) = or_first _ _ (has (principal_bound p) h)
-    by (inr (inl h)) = or_second _ _ (or_first _ _ (has (action_bound p) h))
-    by (inr (inr h)) = or_second _ _ (or_second _ _ (has (resource_bound p) h))
+    by (inl h) = or_left _ _ (has (principal_bound p) h)
+    by (inr (inl h)) = or_right _ _ (or_left _ _ (has (action_bound p) h))
+    by (inr (inr h)) = or_right _ _ (or_right _ _ (has (resource_bound p) h))
 
 -- ---- of all policies of a list
 
@@ -191,7 +169,7 @@ reached_more index es left rest n ns ms e f before = record {
   where
     here : (j : ℕ) (d : EntityName) (b : Bool) → entity_eq d n ≡ b → (b || is_among d rest) ≡ true → (is_among d rest ≡ true) ⊎ (has_position j (standing_under index.groups.entries d) ≡ true → has_position j ms ≡ true)
     here j d true g h =
-        let same : d ≡ n = entity_eq-true d n g in
+        let same : d ≡ n = (entity_eq-decides d n).0 g in
         inr (λ k. ap (has_position j) f ∙ position_behind j ns (standing_under index.groups.entries n) (sym (ap (λ (x : EntityName). has_position j (standing_under index.groups.entries x)) same) ∙ k))
     here j d false g h = inl h
 
@@ -215,7 +193,7 @@ module _ (index : ScopeIndex) (es left : List EntityName) (ns ms : List ℕ) (no
       by false g = g
 
   pub reached_all : ReachesAll index es ms
-  reached_all i p placed gone = by (or_true _ _ placed)
+  reached_all i p placed gone = by (or_cases _ _ placed)
     where
       last : (has_position i (standing_at index.groups.entries (action_bound p)) ≡ true) ⊎ (has_position i (standing_at index.groups.entries (resource_bound p)) ≡ true) → IsBoundElsewhere es p
       last (inl h) = let z = bound_elsewhere i gone (action_bound p) h in (z.0, inr (inl z.1), z.2)
@@ -224,13 +202,13 @@ module _ (index : ScopeIndex) (es left : List EntityName) (ns ms : List ℕ) (no
       more : (has_position i (standing_at index.groups.entries (principal_bound p)) ≡ true)
           ⊎ ((has_position i (standing_at index.groups.entries (action_bound p)) || has_position i (standing_at index.groups.entries (resource_bound p))) ≡ true) → IsBoundElsewhere es p
       more (inl h) = let z = bound_elsewhere i gone (principal_bound p) h in (z.0, inl z.1, z.2)
-      more (inr h) = last (or_true _ _ h)
+      more (inr h) = last (or_cases _ _ h)
 
       by : (has_position i index.rest.items ≡ true)
           ⊎ ((has_position i (standing_at index.groups.entries (principal_bound p))
           || (has_position i (standing_at index.groups.entries (action_bound p)) || has_position i (standing_at index.groups.entries (resource_bound p)))) ≡ true) → IsBoundElsewhere es p
       by (inl h) = absurd (true_is_not_false (same i ∙ before.rest i h) gone)
-      by (inr h) = more (or_true _ _ h)
+      by (inr h) = more (or_cases _ _ h)
 
 -- ---- scopes
 
@@ -261,7 +239,7 @@ module _ (p : PolicyView) (e : EntityName) where
 
   pub bound_beside_action : (d : EntityName) → is_truth p.principal_constraint ≡ true → compared_entity p.action_constraint ≡ Some d → compared_entity p.resource_constraint ≡ Some e → IsBoundTo p e
   bound_beside_action d any of_action h =
-      bound_resource any (or_second (is_truth p.action_constraint) _ (is_some_of (compared_entity p.action_constraint) d of_action)) h
+      bound_resource any (or_right (is_truth p.action_constraint) _ (is_some_of (compared_entity p.action_constraint) d of_action)) h
 
   pub bound_for_any_action : is_truth p.principal_constraint ≡ true → is_truth p.action_constraint ≡ true → compared_entity p.resource_constraint ≡ Some e → IsBoundTo p e
-  bound_for_any_action any is h = bound_resource any (or_first (is_truth p.action_constraint) _ is) h
+  bound_for_any_action any is h = bound_resource any (or_left (is_truth p.action_constraint) _ is) h

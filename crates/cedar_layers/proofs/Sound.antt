@@ -18,7 +18,7 @@ use Rattle.cedar_expressions.specs.Mappings.{mapping_of}
 use Rattle.cedar_values.specs.declared.partial_value.PartialValue.{PartialValue}
 use Rattle.cedar_values.specs.declared.partial_value.PartialValue.TheVariants as partials
 use Rattle.cedar_values.specs.Residuals.{partial_view}
-use Rattle.cedar_values.specs.Sound.{Placed}
+use Rattle.cedar_values.specs.Sound.{Placed, found_is_sound}
 use Rattle.cedar_layers.specs.declared.policies.entities.Entities.{Entities}
 use Rattle.cedar_layers.specs.declared.policies.entities.Entity.{Entity}
 use Rattle.cedar_layers.specs.Mapped.{IsSoundMapping}
@@ -28,10 +28,6 @@ use Rattle.cedar_layers.proofs.Parts.{option_map-lookup, restricted_at}
 use Rattle.cedar_model.proofs.Injections.{some_inj, none_is_not_some}
 
 -- ---- maps of values
-
-found_is_sound : (o : Option Placed) (v : Represented) → option_map (λ (p : Placed). p.what) o ≡ Some v → IsSound v
-found_is_sound None v e = absurd (none_is_not_some e)
-found_is_sound (Some p) v e = subst IsSound (some_inj e) p.sound
 
 -- each value that a map has for an unknown is sound
 pub mapping_is_sound : (es : List (RcStr Global × Placed)) → IsSoundMapping (mapping_of (λ (v : Placed). v.what) es)

@@ -12,17 +12,8 @@ use Rattle.std.specs.Ordering.{ordering_reverse, nat_cmp}
 use Rattle.cedar_values.specs.declared.partial_value.PartialValue.{PartialValue}
 use Rattle.cedar_values.specs.declared.partial_value.PartialValue.TheVariants as partials
 use Rattle.cedar_values.specs.Sound.{Placed}
+use Rattle.cedar_values.proofs.Written.{Entry, key_cmp, below_middle}
 use Rattle.cedar_layers.specs.Parts.{parts_view, values_as_parts, are_restricted_parts}
-
-abbrev pub Entry : Type 0
-Entry = RcStr Global × Placed
-
-abbrev pub key_cmp : RcStr Global → RcStr Global → Ordering
-key_cmp k l = slice_cmp nat_cmp (rc_str_bytes k) (rc_str_bytes l)
-
-below_middle : (first : Entry) (es : List Entry) (e : Entry) (more : List Entry) → AllByRecursion (λ y. key_cmp first.0 y ≡ Less) (keys_of (es ++ e ∷ more)) → key_cmp first.0 e.0 ≡ Less
-below_middle first [] e more h = h.0
-below_middle first (x ∷ es) e more h = below_middle first es e more h.1
 
 -- a value under a name that is above those before it goes last
 pub put_last : (done : List Entry) (e : Entry) (more : List Entry) → IsStrictlySortedBy key_cmp (keys_of (done ++ e ∷ more))

@@ -1,6 +1,7 @@
 -- What maps of entities hold.
 use Rattle.std.proofs.Common.{◌≡◌, refl, sym, ap, ◌∙◌, Bool, true, false, ◌&&◌, ◌||◌, List, [], ◌∷◌, map, Option}
 use Rattle.std.proofs.Common.{None, Some, option_map, if◌then◌else◌}
+use Rattle.std.proofs.lemmas.Bool.{and_parts}
 use Rattle.std.specs.Cmp.Lexicographic.{same_text}
 use Rattle.std.specs.List.{list_any}
 use Rattle.std.specs.Map.{lookup, KeepsOthers}
@@ -8,24 +9,13 @@ use Rattle.cedar_model.specs.Terms.{EntityName}
 use Rattle.cedar_model.specs.Outcomes.{text_eq, entity_eq}
 use Rattle.cedar_model.specs.Settings.{StoredEntity, found, not_there, not_known, found_in, is_among, printed_entity}
 use Rattle.cedar_model.proofs.Injections.{none_is_not_some}
+use Rattle.cedar_names.specs.EqualityLaws.{entity_eq-decides}
 use Rattle.cedar_names.specs.declared.names.EntityUID.{EntityUID}
 use Rattle.cedar_names.specs.Names.{uid_name}
 use Rattle.cedar_names.specs.Order.{is_tied, is_tied-by_name}
 use Rattle.cedar_names.specs.Texts as texts
 use Rattle.cedar_layers.specs.declared.policies.entities.Entity.{Entity}
 use Rattle.cedar_layers.specs.Stores.{entity_name, entity_view, Held, no_entities, with_entity, with_entities, held, Standing, none_stands, standing_with, standing_with_each, last_of_each_name, standing}
-
-both_true : (a b : Bool) → (a && b) ≡ true → (a ≡ true) × (b ≡ true)
-both_true true b h = (refl, h)
-both_true false b h = cc
-
--- the test on names is equality
-pub entity_eq-true : (d e : EntityName) → entity_eq d e ≡ true → d ≡ e
-entity_eq-true d e h =
-    let parts : (text_eq d.type_name e.type_name ≡ true) × (text_eq d.id e.id ≡ true) = both_true _ _ h in
-    let of_type : d.type_name ≡ e.type_name = same_text _ _ (sym parts.0) in
-    let of_id : d.id ≡ e.id = same_text _ _ (sym parts.1) in
-    λ i. record { type_name = of_type i; id = of_id i }
 
 -- an entity is among the names where its uid is among the uids
 pub list_any-uids : (u : EntityUID) (us : List EntityUID) → list_any (is_tied u) us ≡ is_among (uid_name u) (map uid_name us)
@@ -55,11 +45,11 @@ module _ (old new : List (EntityUID × Entity)) (key : EntityUID) (entity : Enti
   standing_at : (n : EntityName) (b : Bool) → entity_eq n (uid_name key) ≡ b → standing new n ≡ (if b then Some entity else standing old n)
   unfolding KeepsOthers
   standing_at n true h =
-      let same : n ≡ uid_name key = entity_eq-true n (uid_name key) h in
+      let same : n ≡ uid_name key = (entity_eq-decides n (uid_name key)).0 h in
       ap (λ (m : EntityName). standing new m) same ∙ sym (lookup-by_name key new) ∙ there
   standing_at n false h =
-      let own : (x y : EntityUID) → entity_eq n (uid_name x) ≡ true → entity_eq n (uid_name y) ≡ is_tied x y = λ x y e. ap (λ (m : EntityName). entity_eq m (uid_name y)) (entity_eq-true n (uid_name x) e) ∙ sym (is_tied-by_name x y) in
-      let apart : (u : EntityUID) → is_tied key u ≡ true → entity_eq n (uid_name u) ≡ false = λ u e. ap (λ (m : EntityName). entity_eq n m) (sym (entity_eq-true (uid_name key) (uid_name u) (sym (is_tied-by_name key u) ∙ e))) ∙ h in
+      let own : (x y : EntityUID) → entity_eq n (uid_name x) ≡ true → entity_eq n (uid_name y) ≡ is_tied x y = λ x y e. ap (λ (m : EntityName). entity_eq m (uid_name y)) ((entity_eq-decides n (uid_name x)).0 e) ∙ sym (is_tied-by_name x y) in
+      let apart : (u : EntityUID) → is_tied key u ≡ true → entity_eq n (uid_name u) ≡ false = λ u e. ap (λ (m : EntityName). entity_eq n m) (sym ((entity_eq-decides (uid_name key) (uid_name u)).0 (sym (is_tied-by_name key u) ∙ e))) ∙ h in
       others (λ (u : EntityUID). entity_eq n (uid_name u)) own apart
 
   pub standing-put : uid_name key ≡ entity_name entity → standing new ≡ standing_with (standing old) entity
@@ -94,7 +84,7 @@ held-last entries es e = ap facts_of_each e ∙ facts_with_each none_stands es
 named_or : (x : Entity) (n : EntityName) (o : Option Entity) (e : Entity) (b : Bool) → entity_eq n (entity_name x) ≡ b → (o ≡ Some e → entity_name e ≡ n) → (if b then Some x else o) ≡ Some e → entity_name e ≡ n
 named_or x n o e true same before h =
     let found : x ≡ e = cc in
-    ap entity_name (sym found) ∙ sym (entity_eq-true n (entity_name x) same)
+    ap entity_name (sym found) ∙ sym ((entity_eq-decides n (entity_name x)).0 same)
 named_or x n o e false same before h = before h
 
 named_with_each : (f : Standing) → ((n : EntityName) (e : Entity) → f n ≡ Some e → entity_name e ≡ n) → (es : List Entity) (n : EntityName) (e : Entity) → standing_with_each f es n ≡ Some e → entity_name e ≡ n

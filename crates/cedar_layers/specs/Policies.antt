@@ -135,7 +135,7 @@ pub record IsConjunction (l : Option Loc) (a b e : Expr) : Type 0 where
   pub loc : expr_loc e ≡ l
 
 -- the expression is `((principal && action) && resource) && when` of these parts, with each `&&` at this location
-pub record IsCondition (p : ConditionParts) (l : Option Loc) (e : Expr) : Type 0 where
+pub record IsConditionOf (p : ConditionParts) (l : Option Loc) (e : Expr) : Type 0 where
   pub pair : Expr
   pub scope : Expr
   pub of_pair : IsConjunction l p.principal p.action pair

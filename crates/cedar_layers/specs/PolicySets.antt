@@ -45,6 +45,6 @@ pub record Adds (old new : List (PolicyID × Policy)) (p : Policy) : Type 0 wher
   pub fresh : list_any (text_eq (policy_view p).id) (entry_ids old) ≡ false
 
 -- the text is the policy's id, and an entry stands under it
-pub record IsTaken (old : List (PolicyID × Policy)) (p : Policy) (i : Text) : Type 0 where
+pub record IsIdTaken (old : List (PolicyID × Policy)) (p : Policy) (i : Text) : Type 0 where
   pub own : i ≡ (policy_view p).id
   pub there : list_any (text_eq i) (entry_ids old) ≡ true

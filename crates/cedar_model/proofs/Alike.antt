@@ -2,6 +2,7 @@
 use Rattle.std.specs.Prelude.{◌≡◌, ℤ, Bool, true, false, cond, ◌&&◌, List, [], ◌∷◌, map, Option, Some, None, Result, Ok}
 use Rattle.std.specs.Prelude.{Err, is_some, option_map}
 use Rattle.std.proofs.Common.{refl, sym, ap, ◌∙◌, subst}
+use Rattle.std.proofs.lemmas.Bool.{and_parts}
 use Rattle.cedar_model.specs.Terms.{Text, EntityName, bool_literal, long_literal, text_literal, entity_literal}
 use Rattle.cedar_model.specs.Terms.{UnaryOperator, not_operator, neg_operator, is_empty_operator, BinaryOperator}
 use Rattle.cedar_model.specs.Terms.{eq_operator, less_operator, less_eq_operator, add_operator, sub_operator}
@@ -26,7 +27,7 @@ use Rattle.cedar_model.specs.Settings.{Store, Setting, missing_entity, Found, fo
 use Rattle.cedar_model.specs.Operators
 use Rattle.cedar_model.specs.Rules
 use Rattle.cedar_model.specs.Alike.{erased, erased_each, erased_at, AreAlikeParts, AreAlike}
-use Rattle.cedar_model.proofs.Injections.{some_inj}
+use Rattle.cedar_model.proofs.Injections.{some_inj, is_some-option_map}
 
 pub alike-parts-refl : (p : PartialValue) → AreAlikeParts p p
 alike-parts-refl (value v) = refl
@@ -91,14 +92,6 @@ alike_part_expressions (residual r) (residual q) h = h
 
 -- ---- projectable expressions have no calls
 
-and_first : (b c : Bool) → (b && c) ≡ true → b ≡ true
-and_first true c e = refl
-and_first false c e = e
-
-and_second : (b c : Bool) → (b && c) ≡ true → c ≡ true
-and_second true c e = e
-and_second false c e = absurd (cc)
-
 mutual
   pub erased-projectable : (t : Term) → is_projectable t ≡ true → erased t ≡ t
   erased-projectable (literal l) e = refl
@@ -122,14 +115,14 @@ mutual
   erased-projectable_each : (ts : Terms) → are_projectable ts ≡ true → erased_each ts ≡ ts
   erased-projectable_each no_terms e = refl
   erased-projectable_each (one_term t ts) e =
-      λ i. one_term (erased-projectable t (and_first (is_projectable t) (are_projectable ts) e) i)
-      (erased-projectable_each ts (and_second (is_projectable t) (are_projectable ts) e) i)
+      λ i. one_term (erased-projectable t (and_parts (is_projectable t) (are_projectable ts) e).0 i)
+      (erased-projectable_each ts (and_parts (is_projectable t) (are_projectable ts) e).1 i)
 
   erased-projectable_at : (fs : Fields) → are_projectable_at fs ≡ true → erased_at fs ≡ fs
   erased-projectable_at no_fields e = refl
   erased-projectable_at (one_field k t fs) e =
-      λ i. one_field k (erased-projectable t (and_first (is_projectable t) (are_projectable_at fs) e) i)
-      (erased-projectable_at fs (and_second (is_projectable t) (are_projectable_at fs) e) i)
+      λ i. one_field k (erased-projectable t (and_parts (is_projectable t) (are_projectable_at fs) e).0 i)
+      (erased-projectable_at fs (and_parts (is_projectable t) (are_projectable_at fs) e).1 i)
 
 mutual
   projectable-erased : (t : Term) → is_projectable (erased t) ≡ is_projectable t
@@ -380,12 +373,8 @@ alike_found_values None (Some w) e f h k = absurd (cc)
 alike_found_values (Some v) None e f h k = absurd (cc)
 alike_found_values (Some v) (Some w) e f h k = some_inj k
 
-is_some_map : {A B : Type 0} (f : A → B) (o : Option A) → is_some (option_map f o) ≡ is_some o
-is_some_map f None = refl
-is_some_map f (Some x) = refl
-
 alike_present : {A B : Type 0} (f : A → B) (o p : Option A) → option_map f o ≡ option_map f p → is_some o ≡ is_some p
-alike_present f o p e = sym (is_some_map f o) ∙ ap is_some e ∙ is_some_map f p
+alike_present f o p e = sym (is_some-option_map f o) ∙ ap is_some e ∙ is_some-option_map f p
 
 attribute_in_alike : (s : Setting) (c d : Operators.Container) (e f : Failure) (k : Text)
     → failure_kind e ≡ failure_kind f → AreAlikeContainers c d

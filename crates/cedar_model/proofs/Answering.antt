@@ -1,7 +1,8 @@
 -- Answers that are no residual: from parts whose answers are none to the whole.
-use Rattle.std.specs.Prelude.{◌≡◌, ◌≢◌, ℕ, zero, suc, ◌==◌, Bool, true, false, cond, ◌&&◌, List, [], ◌∷◌, length, map}
+use Rattle.std.specs.Prelude.{◌≡◌, ◌≢◌, ℕ, zero, suc, ◌==◌, Bool, true, false, cond, List, [], ◌∷◌, length, map}
 use Rattle.std.specs.Prelude.{Option, Some, None, Result, Ok, Err, is_some}
 use Rattle.std.proofs.Common.{refl, sym, ap, subst}
+use Rattle.std.proofs.lemmas.Bool.{and_parts}
 use Rattle.cedar_model.specs.Terms.{Text, bool_literal, Variable, principal, action, resource, context, Slot}
 use Rattle.cedar_model.specs.Terms.{ValueType, BinaryOperator, eq_operator, less_operator, less_eq_operator}
 use Rattle.cedar_model.specs.Terms.{add_operator, sub_operator, mul_operator, in_operator, contains_operator}
@@ -18,7 +19,7 @@ use Rattle.cedar_model.specs.Failures.{Failure, PartialValue, value, residual, A
 use Rattle.cedar_model.specs.Failures.{wrong_type, limit}
 use Rattle.cedar_model.specs.Settings.{Entry, known_entry, unknown_entry, ContextPart, absent_context, known_context}
 use Rattle.cedar_model.specs.Settings.{residual_context, StoredEntity, Resolution, shallow, deep, Setting}
-use Rattle.cedar_model.specs.Settings.{found_in, not_known, entry_part}
+use Rattle.cedar_model.specs.Settings.{entry_part}
 use Rattle.cedar_model.specs.Settings.{context_value, variable_part}
 use Rattle.cedar_model.specs.Operators
 use Rattle.cedar_model.specs.Rules
@@ -31,7 +32,7 @@ use Rattle.cedar_model.proofs.Resolving as resolving
 use Rattle.cedar_model.proofs.Resolving.{IsStored, none_read, each_stored, attribute_is_stored}
 use Rattle.cedar_model.proofs.Resolving.{beside_is_stored}
 use Rattle.cedar_model.proofs.Unread as unread
-use Rattle.cedar_model.proofs.Unread.{IsNoResidual}
+use Rattle.cedar_model.proofs.Unread.{IsNoResidual, concrete_found}
 use Rattle.cedar_model.proofs.Injections.{false_is_not_true}
 
 by_equal : (a b : Answer) → a ≡ b → IsNoResidual b → IsNoResidual a
@@ -161,21 +162,17 @@ module _ (ans : Functions) (calls : Rules.StoredCalls) (agree : Agreement.Agrees
     abbrev pub IsPlain : Term → Type 0
     IsPlain t = Agreement.IsKnown ans t × (is_restricted t ≡ true)
 
-    and_true : (a b : Bool) → (a && b) ≡ true → (a ≡ true) × (b ≡ true)
-    and_true true b h = (refl, h)
-    and_true false b h = absurd (false_is_not_true h)
-
     module _ (G : Rules.MayAnswer) (ih : (t : Term) (x : Answer) → IsPlain t → G t x → IsNoResidual x) where
       plain_each : (ts : Terms) → Agreement.AreKnown ans ts → are_restricted ts ≡ true → EachGood G IsPlain ih ts
       plain_each no_terms k h = tt
       plain_each (one_term t ts) k h =
-          let z = and_true (is_restricted t) (are_restricted ts) h in ((k.0, z.0), plain_each ts k.1 z.1)
+          let z = and_parts (is_restricted t) (are_restricted ts) h in ((k.0, z.0), plain_each ts k.1 z.1)
 
       plain_each_at : (fs : Fields) → Agreement.AreKnownAt ans fs → are_restricted_at fs ≡ true
           → EachGoodAt G IsPlain ih fs
       plain_each_at no_fields k h = tt
       plain_each_at (one_field l t fs) k h =
-          let z = and_true (is_restricted t) (are_restricted_at fs) h in ((k.0, z.0), plain_each_at fs k.1 z.1)
+          let z = and_parts (is_restricted t) (are_restricted_at fs) h in ((k.0, z.0), plain_each_at fs k.1 z.1)
 
       plain_rule : (t : Term) (a : Answer) → IsPlain t → Rules.Rule s calls G t a → IsNoResidual a
       plain_rule (literal l) a k r = by_equal a _ r tt
@@ -266,12 +263,6 @@ module _ (ans : Functions) (calls : Rules.StoredCalls) (agree : Agreement.Agrees
     abbrev AnyError : Failure → Outcome → Type 0
     AnyError e o = Unit {0}
 
-    concrete : (o : Option StoredEntity) (b : Bool) → b ≡ false → found_in o b ≡ not_known → ⊥
-    unfolding found_in
-    concrete None true e h = absurd (cc)
-    concrete None false e h = cc
-    concrete (Some x) b e h = cc
-
     stored : (p : PartialValue) → Agreement.IsValue p → Means.StoredWell ans w bare Any NoTerm AnyError p
     stored (value v) h = tt
     stored (residual t) h = absurd h
@@ -287,7 +278,7 @@ module _ (ans : Functions) (calls : Rules.StoredCalls) (agree : Agreement.Agrees
         λ h. stored p
             ((known.store_known d x k p e).1 h),
       );
-      missing_well = λ d h. absurd (concrete None false refl h);
+      missing_well = λ d h. absurd (concrete_found None false refl h);
       unknown_well = λ n t h. absurd (h.1 (unknown n t) _ (λ g. g) refl);
     }
 

@@ -2,6 +2,8 @@
 use Rattle.std.specs.Prelude.{◌≡◌, ◌≢◌, ◌⊎◌, Bool, true, false, cond, not, ◌&&◌, ◌||◌, List, [], ◌∷◌, ◌++◌, Option}
 use Rattle.std.specs.Prelude.{Some, None}
 use Rattle.std.proofs.Common.{refl, sym, ap, ◌∙◌, subst, inl, inr}
+use Rattle.std.proofs.Math.Bool.{and-true}
+use Rattle.std.proofs.lemmas.Bool.{false_from_ne_true}
 use Rattle.cedar_model.specs.Terms.{Text}
 use Rattle.cedar_model.specs.Policies
 use Rattle.cedar_model.specs.Policies.{ErrorHandling}
@@ -20,6 +22,7 @@ use Rattle.cedar_model.specs.ReportLaws
 use Rattle.cedar_model.proofs.Counting
 use Rattle.cedar_model.proofs.Standing.{errs_isn't}
 use Rattle.cedar_model.proofs.Injections.{some_inj, none_is_not_some, true_is_not_false}
+use Rattle.cedar_model.proofs.Decisions.{erring_is_not}
 
 -- ---- a row that stands
 
@@ -37,23 +40,12 @@ unsatisfied_is_not permit forbid = refl
 unsatisfied_is_not forbid permit = refl
 unsatisfied_is_not forbid forbid = refl
 
-erring_is_not : (e g : Effect) → is_satisfied_by e erring g ≡ false
-unfolding is_satisfied_by
-erring_is_not permit permit = refl
-erring_is_not permit forbid = refl
-erring_is_not forbid permit = refl
-erring_is_not forbid forbid = refl
-
 -- a satisfied policy has the effect
 satisfied_has : (e g : Effect) (v : Verdict) (b c : Bool) → (is_satisfied_by e v g && b) ≡ true → c ≡ true
     → ((has_effect e g && c) && b) ≡ true
 satisfied_has e g satisfied b c h k =
-    ap (λ z. (has_effect e g && z) && b) k ∙ ap (λ z. z && b) (and_true (has_effect e g)
+    ap (λ z. (has_effect e g && z) && b) k ∙ ap (λ z. z && b) (and-true (has_effect e g)
     ∙ sym (satisfied_of_effect e g)) ∙ h
-  where
-    and_true : (z : Bool) → (z && true) ≡ z
-    and_true true = refl
-    and_true false = refl
 satisfied_has e g unsatisfied b c h k = absurd (let z = ap (λ x. x && b) (sym (unsatisfied_is_not e g)) ∙ h in cc)
 satisfied_has e g erring b c h k = absurd (let z = ap (λ x. x && b) (sym (erring_is_not e g)) ∙ h in cc)
 
@@ -70,11 +62,7 @@ module _ (mode : ErrorHandling) (X : Extensions) (ans : Functions) (w : World) (
   unfolding is_true
   true_row p reported_true b h k =
       ap (λ v. is_satisfied_by e v p.effect && b) h
-      ∙ ap (λ z. z && b) (satisfied_of_effect e p.effect ∙ sym (and_true (has_effect e p.effect))) ∙ k
-    where
-      and_true : (z : Bool) → (z && true) ≡ z
-      and_true true = refl
-      and_true false = refl
+      ∙ ap (λ z. z && b) (satisfied_of_effect e p.effect ∙ sym (and-true (has_effect e p.effect))) ∙ k
   true_row p (reported_false x) b h k = absurd (none_false (has_effect e p.effect) b k)
   true_row p (reported_residual t) b h k = absurd (none_false (has_effect e p.effect) b k)
 
@@ -139,16 +127,12 @@ allow_with true sp h k = absurd (cc)
 allow_with false true h k = refl
 allow_with false false h k = absurd (cc)
 
-pub not_true : (b : Bool) → (b ≡ true → ⊥) → b ≡ false
-not_true true h = absurd (h refl)
-not_true false h = refl
-
 given_decides : (ft fr pt pr sf sp : Bool) → (ft ≡ true → sf ≡ true) → (sf ≡ true → (ft ≡ true) ⊎ (fr ≡ true))
     → (pt ≡ true → sp ≡ true) → (sp ≡ true → (pt ≡ true) ⊎ (pr ≡ true)) → (d : Decision) → given ft fr pt pr ≡ Some d
     → cond sf deny (cond sp allow deny) ≡ d
 given_decides true fr pt pr sf sp a b c e d h = deny_with sf sp (a refl) ∙ some_inj h
 given_decides false fr false false sf sp a b c e d h =
-    deny_without sf sp (not_true sp (λ k. by (e k))) ∙ some_inj h
+    deny_without sf sp (false_from_ne_true sp (λ k. by (e k))) ∙ some_inj h
   where
     by : (false ≡ true) ⊎ (false ≡ true) → ⊥
     by (inl k) = cc
@@ -156,7 +140,7 @@ given_decides false fr false false sf sp a b c e d h =
 given_decides false true true pr sf sp a b c e d h = absurd (none_is_not_some h)
 given_decides false true false true sf sp a b c e d h = absurd (none_is_not_some h)
 given_decides false false true pr sf sp a b c e d h =
-    allow_with sf sp (not_true sf (λ k. by (b k))) (c refl) ∙ some_inj h
+    allow_with sf sp (false_from_ne_true sf (λ k. by (b k))) (c refl) ∙ some_inj h
   where
     by : (false ≡ true) ⊎ (false ≡ true) → ⊥
     by (inl k) = cc
@@ -239,15 +223,6 @@ module _ (mode : ErrorHandling) (X : Extensions) (ans : Functions) (w : World) (
       must_by t (some_of forbid is_true) (some_of forbid is_residual) (some_satisfied forbid js)
       (satisfied_open forbid) (λ k. true_satisfied forbid (some_of_text t forbid is_true k)) h
 
-  has_append : (t : Text) (xs ys : List Row) → (has_text t (ids xs) ≡ true) ⊎ (has_text t (ids ys) ≡ true)
-      → has_text t (ids (xs ++ ys)) ≡ true
-  has_append t xs ys (inl h) =
-      Counting.has_text_hits t (xs ++ ys) ∙ Counting.hits_append (text_eq t) xs ys
-      ∙ Counting.or_left _ _ (sym (Counting.has_text_hits t xs) ∙ h)
-  has_append t xs ys (inr h) =
-      Counting.has_text_hits t (xs ++ ys) ∙ Counting.hits_append (text_eq t) xs ys
-      ∙ Counting.or_right _ _ (sym (Counting.has_text_hits t ys) ∙ h)
-
   open_text : (t : Text) (e : Effect) → has_text t (satisfied_ids e js) ≡ true
       → (has_text t (ids (trues e rows)) ≡ true) ⊎ (has_text t (ids (residuals e rows)) ≡ true)
   open_text t e h = by (meets_open (text_eq t) e (sym (Counting.has_text_meets t e js) ∙ h))
@@ -261,11 +236,11 @@ module _ (mode : ErrorHandling) (X : Extensions) (ans : Functions) (w : World) (
       → (has_text t (ids (trues forbid rows)) ≡ true) ⊎ (has_text t (ids (residuals forbid rows)) ≡ true)
       → has_text t (ids (cond ft (trues forbid rows ++ residuals forbid rows)
       (trues permit rows ++ (residuals permit rows ++ residuals forbid rows)))) ≡ true
-  may_forbids t true a h = has_append t (trues forbid rows) (residuals forbid rows) h
+  may_forbids t true a h = Counting.has_append t (trues forbid rows) (residuals forbid rows) h
   may_forbids t false a (inl h) = absurd (let z = a h in cc)
   may_forbids t false a (inr h) =
-      has_append t (trues permit rows) (residuals permit rows ++ residuals forbid rows)
-      (inr (has_append t (residuals permit rows) (residuals forbid rows) (inr h)))
+      Counting.has_append t (trues permit rows) (residuals permit rows ++ residuals forbid rows)
+      (inr (Counting.has_append t (residuals permit rows) (residuals forbid rows) (inr h)))
 
   may_permits : (t : Text) (ft : Bool) → ft ≡ false
       → (has_text t (ids (trues permit rows)) ≡ true) ⊎ (has_text t (ids (residuals permit rows)) ≡ true)
@@ -273,10 +248,10 @@ module _ (mode : ErrorHandling) (X : Extensions) (ans : Functions) (w : World) (
       (trues permit rows ++ (residuals permit rows ++ residuals forbid rows)))) ≡ true
   may_permits t true a h = absurd (cc)
   may_permits t false a (inl h) =
-      has_append t (trues permit rows) (residuals permit rows ++ residuals forbid rows) (inl h)
+      Counting.has_append t (trues permit rows) (residuals permit rows ++ residuals forbid rows) (inl h)
   may_permits t false a (inr h) =
-      has_append t (trues permit rows) (residuals permit rows ++ residuals forbid rows)
-      (inr (has_append t (residuals permit rows) (residuals forbid rows) (inl h)))
+      Counting.has_append t (trues permit rows) (residuals permit rows ++ residuals forbid rows)
+      (inr (Counting.has_append t (residuals permit rows) (residuals forbid rows) (inl h)))
 
   reasons_may : ReportLaws.Within (reasons js) (ids (Reports.may_determine rows))
   reasons_may t h = by (some_satisfied forbid js) refl h
@@ -286,7 +261,7 @@ module _ (mode : ErrorHandling) (X : Extensions) (ans : Functions) (w : World) (
           → has_text t (ids (Reports.may_determine rows)) ≡ true
       by true e k = may_forbids t (some_of forbid is_true) (some_of_text t forbid is_true) (open_text t forbid k)
       by false e k =
-          may_permits t (some_of forbid is_true) (not_true (some_of forbid is_true)
+          may_permits t (some_of forbid is_true) (false_from_ne_true (some_of forbid is_true)
           (λ z. true_is_not_false (true_satisfied forbid z) e)) (open_text t permit k)
 
   pub reports_hold : ReportLaws.ReportsHold mode X ans w ps rows

@@ -6,7 +6,7 @@ use Rattle.cedar_model.specs.Terms.{Text, EntityName, entity_literal, ValueType,
 use Rattle.cedar_model.specs.Terms.{unknown, if_then_else, both, either, unary, binary, call, get_attribute}
 use Rattle.cedar_model.specs.Terms.{has_attribute, extended_has, like, is_of_type, set_of, record_of, Terms, no_terms}
 use Rattle.cedar_model.specs.Terms.{one_term, Fields, no_fields, one_field}
-use Rattle.cedar_model.specs.Values.{AbstractValue, plain, set_value, record_value, AbstractFields, Represented}
+use Rattle.cedar_model.specs.Values.{plain, set_value, record_value, AbstractFields, Represented}
 use Rattle.cedar_model.specs.Values.{plain_represented, set_represented, record_represented, extension_represented}
 use Rattle.cedar_model.specs.Values.{RepresentedFields, abstract_value}
 use Rattle.cedar_model.specs.Sets.{abstract_set}
@@ -26,13 +26,7 @@ use Rattle.cedar_model.proofs.Written.{written_means, written_fits}
 use Rattle.cedar_model.proofs.Soundness.{sound_stands, runs_sound}
 use Rattle.cedar_model.proofs.Stepping
 use Rattle.cedar_model.proofs.Configured.{configured_by}
-use Rattle.cedar_model.proofs.Injections.{some_inj, ok_inj, err_is_not_ok, none_is_not_some}
-
-gives_inj : {u v : AbstractValue} → gives u ≡ gives v → u ≡ v
-gives_inj e = cc
-
-record_inj : {fs gs : AbstractFields} → record_value fs ≡ record_value gs → fs ≡ gs
-record_inj e = cc
+use Rattle.cedar_model.proofs.Injections.{some_inj, ok_inj, err_is_not_ok, none_is_not_some, gives_inj, record_inj}
 
 -- ---- the map's values in an expression
 

@@ -2,6 +2,7 @@
 use Rattle.std.specs.Prelude.{◌≡◌, ◌⊎◌, ℕ, Bool, true, false, cond, not, ◌&&◌, ◌||◌, List, [], ◌∷◌, ◌++◌, map, Option}
 use Rattle.std.specs.Prelude.{Some, None}
 use Rattle.std.proofs.Common.{refl, sym, ap, ◌∙◌, subst, inl, inr}
+use Rattle.std.proofs.Math.Bool.{or-false, or-true}
 use Rattle.cedar_model.specs.Terms.{Text}
 use Rattle.cedar_model.specs.Values.{abstract_value}
 use Rattle.cedar_model.specs.Outcomes.{bool_of, has_text}
@@ -22,7 +23,7 @@ use Rattle.cedar_model.specs.Reports.{some_row, ids, trues, residuals, judged_ro
 use Rattle.cedar_model.specs.ReportLaws
 use Rattle.cedar_model.proofs.Bounds
 use Rattle.cedar_model.proofs.Counting.{is_open}
-use Rattle.cedar_model.proofs.Injections.{none_is_not_some}
+use Rattle.cedar_model.proofs.Injections.{none_is_not_some, same_bools}
 
 -- ---- a given decision is the concrete one
 
@@ -138,11 +139,7 @@ some_if_open : (a : Bool) (o : Reported) (x y z : Bool) → z ≡ (x || y)
 unfolding is_open is_true is_residual
 some_if_open true reported_true x y z h = refl
 some_if_open true (reported_false e) x y z h = h
-some_if_open true (reported_residual t) x y z h = sym (or_true x)
-  where
-    or_true : (b : Bool) → (b || true) ≡ true
-    or_true true = refl
-    or_true false = refl
+some_if_open true (reported_residual t) x y z h = sym (or-true x)
 some_if_open false o x y z h = h
 
 some_open : (rows : List Row) → some_row (rows_of forbid is_open rows)
@@ -178,18 +175,9 @@ concrete_decides_rows mode rows =
 
 -- ---- without a residual
 
-or_false : (b : Bool) → (b || false) ≡ b
-or_false true = refl
-or_false false = refl
-
 append_nothing : (xs : List Row) → xs ++ [] ≡ xs
 append_nothing [] = refl
 append_nothing (x ∷ xs) = ap (λ ys. x ∷ ys) (append_nothing xs)
-
-equal_by : (a b : Bool) → (a ≡ true → b ≡ true) → (b ≡ true → a ≡ true) → a ≡ b
-equal_by true b f g = sym (f refl)
-equal_by false true f g = g refl
-equal_by false false f g = refl
 
 rest_if : (a b : Bool) (r : Row) (xs : List Row) → cond a (cond b (r ∷ xs) xs) xs ≡ [] → xs ≡ []
 rest_if true true r xs h = absurd (cc)
@@ -247,7 +235,7 @@ module _ (rows : List Row) (none : Reports.HaveNoResidual rows) where
   unfolding some_row
   must_is =
       (λ i. cond (some_row (trues forbid rows) || some_row (none.1 i)) (trues forbid rows) (trues permit rows))
-      ∙ ap (λ b. cond b (trues forbid rows) (trues permit rows)) (or_false (some_row (trues forbid rows)))
+      ∙ ap (λ b. cond b (trues forbid rows) (trues permit rows)) (or-false (some_row (trues forbid rows)))
 
   may_is : Reports.may_determine rows ≡ chosen
   may_is =
@@ -269,7 +257,7 @@ module _ (rows : List Row) (none : Reports.HaveNoResidual rows) where
   concrete_chosen forbid_on_error =
       (λ i. cond (some_row (trues permit rows) && not (some_row (trues forbid rows) || some_row (none.1 i))) allow
       deny)
-      ∙ ap (λ b. cond (some_row (trues permit rows) && not b) allow deny) (or_false (some_row (trues forbid rows)))
+      ∙ ap (λ b. cond (some_row (trues permit rows) && not b) allow deny) (or-false (some_row (trues forbid rows)))
 
   reasons_chosen : (b : ErrorHandling) → Reports.concrete_reasons b rows ≡ chosen
   unfolding some_row
@@ -277,7 +265,7 @@ module _ (rows : List Row) (none : Reports.HaveNoResidual rows) where
   reasons_chosen forbid_on_error =
       (λ i. cond (some_row (trues forbid rows) || some_row (none.1 i)) (trues forbid rows ++ none.1 i)
       (trues permit rows))
-      ∙ (λ i. cond (or_false (some_row (trues forbid rows)) i) (append_nothing (trues forbid rows) i)
+      ∙ (λ i. cond (or-false (some_row (trues forbid rows)) i) (append_nothing (trues forbid rows) i)
       (trues permit rows))
 
   module _ (mode : ErrorHandling) (X : Extensions) (ans : Functions) (w : World) (ps : List Policy)
@@ -285,7 +273,7 @@ module _ (rows : List Row) (none : Reports.HaveNoResidual rows) where
     satisfied_is : (e : Effect) → residuals e rows ≡ []
         → some_satisfied e (counted_each mode X ans w ps) ≡ some_row (trues e rows)
     satisfied_is e h =
-        equal_by (some_satisfied e (counted_each mode X ans w ps)) (some_row (trues e rows))
+        same_bools (some_satisfied e (counted_each mode X ans w ps)) (some_row (trues e rows))
         (λ k. by (Bounds.satisfied_open mode X ans w ps rows stand e k))
         (Bounds.true_satisfied mode X ans w ps rows stand e)
       where
@@ -303,7 +291,7 @@ module _ (rows : List Row) (none : Reports.HaveNoResidual rows) where
         ≡ has_text t (reasons (counted_each mode X ans w ps))
     must_reasons t =
         let h = Bounds.reports_hold mode X ans w ps rows stand in
-        equal_by (has_text t (ids (Reports.must_determine rows))) (has_text t (reasons (counted_each mode X ans w ps)))
+        same_bools (has_text t (ids (Reports.must_determine rows))) (has_text t (reasons (counted_each mode X ans w ps)))
         (h.must_are_reasons t) (λ k. ap (λ xs. has_text t (ids xs)) (must_is ∙ sym may_is) ∙ h.reasons_may t k)
 
     pub reasons_are : (t : Text) → has_text t (ids (Reports.concrete_reasons mode rows))

@@ -1,6 +1,8 @@
 -- Rows by effect and report, as tests on lists: whether one of them has an id that passes a test.
 use Rattle.std.specs.Prelude.{◌≡◌, ◌⊎◌, Bool, true, false, cond, ◌&&◌, ◌||◌, List, [], ◌∷◌, ◌++◌}
 use Rattle.std.proofs.Common.{refl, sym, ap, ◌∙◌, inl, inr}
+use Rattle.std.proofs.lemmas.Bool.{or_cases, or_left, or_right}
+use Rattle.std.proofs.Math.Bool.{and-true, or_assoc}
 use Rattle.cedar_model.specs.Terms.{Text}
 use Rattle.cedar_model.specs.Outcomes.{text_eq, has_text}
 use Rattle.cedar_model.specs.Policies.{Effect, Judged, is_satisfied, some_satisfied, satisfied_ids}
@@ -8,7 +10,7 @@ use Rattle.cedar_model.specs.Reordering.{IsReordering, nothing, keeping, swappin
 use Rattle.cedar_model.specs.Responses.{Reported, reported_true, reported_false, reported_residual, Row}
 use Rattle.cedar_model.specs.Chains.{is_true, is_residual, has_effect, rows_of}
 use Rattle.cedar_model.specs.Reports.{some_row, ids}
-use Rattle.cedar_model.proofs.Decisions.{or_swap}
+use Rattle.cedar_model.specs.lemmas.Sets.{or_swap}
 
 -- ---- bools
 
@@ -16,22 +18,6 @@ pub or_map : (a b c d : Bool) → (a ≡ true → c ≡ true) → (b ≡ true �
 or_map a b true d f g h = refl
 or_map true b false d f g h = absurd (let e = f refl in cc)
 or_map false b false d f g h = g h
-
-pub or_split : (a b : Bool) → (a || b) ≡ true → (a ≡ true) ⊎ (b ≡ true)
-or_split true b h = inl refl
-or_split false b h = inr h
-
-pub or_left : (a b : Bool) → a ≡ true → (a || b) ≡ true
-or_left true b h = refl
-or_left false b h = absurd (cc)
-
-pub or_right : (a b : Bool) → b ≡ true → (a || b) ≡ true
-or_right true b h = refl
-or_right false b h = h
-
-or_assoc : (a b c : Bool) → ((a || b) || c) ≡ (a || (b || c))
-or_assoc true b c = refl
-or_assoc false b c = refl
 
 -- ---- rows
 
@@ -118,7 +104,7 @@ pub hit_open : (f : Text → Bool) (e : Effect) (rows : List Row) → hit f e is
 unfolding hit
 hit_open f e [] h = inl h
 hit_open f e (r ∷ rs) h =
-    first (hit_open f e rs) (or_split ((has_effect e r.effect && is_open r.reported) && f r.id) (hit f e is_open rs) h)
+    first (hit_open f e rs) (or_cases ((has_effect e r.effect && is_open r.reported) && f r.id) (hit f e is_open rs) h)
   where
     here : (((has_effect e r.effect && is_true r.reported) && f r.id) ≡ true)
         ⊎ (((has_effect e r.effect && is_residual r.reported) && f r.id) ≡ true)
@@ -144,14 +130,10 @@ unfoldable pub meets : (Text → Bool) → Effect → List Judged → Bool
 meets f e [] = false
 meets f e (j ∷ js) = (is_satisfied e j && f j.id) || meets f e js
 
-and_true : (b : Bool) → (b && true) ≡ b
-and_true true = refl
-and_true false = refl
-
 pub some_satisfied_meets : (e : Effect) (js : List Judged) → some_satisfied e js ≡ meets any e js
 unfolding some_satisfied meets
 some_satisfied_meets e [] = refl
-some_satisfied_meets e (j ∷ js) = λ i. (sym (and_true (is_satisfied e j)) i) || some_satisfied_meets e js i
+some_satisfied_meets e (j ∷ js) = λ i. (sym (and-true (is_satisfied e j)) i) || some_satisfied_meets e js i
 
 pub has_text_meets : (t : Text) (e : Effect) (js : List Judged)
     → has_text t (satisfied_ids e js) ≡ meets (text_eq t) e js
@@ -175,3 +157,13 @@ meets_any f e (j ∷ js) h =
     by : (a b : Bool) → (a && b) ≡ true → (a && true) ≡ true
     by true b k = refl
     by false b k = k
+
+-- an id is among rows in a row where it is among either
+pub has_append : (t : Text) (xs ys : List Row) → (has_text t (ids xs) ≡ true) ⊎ (has_text t (ids ys) ≡ true)
+    → has_text t (ids (xs ++ ys)) ≡ true
+has_append t xs ys (inl h) =
+    has_text_hits t (xs ++ ys) ∙ hits_append (text_eq t) xs ys
+    ∙ or_left _ _ (sym (has_text_hits t xs) ∙ h)
+has_append t xs ys (inr h) =
+    has_text_hits t (xs ++ ys) ∙ hits_append (text_eq t) xs ys
+    ∙ or_right _ _ (sym (has_text_hits t ys) ∙ h)

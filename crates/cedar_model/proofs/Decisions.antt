@@ -6,17 +6,13 @@ use Rattle.cedar_model.specs.Policies.{Effect, permit, forbid, Verdict, satisfie
 use Rattle.cedar_model.specs.Policies.{Decision, allow, deny, is_satisfied_by, is_satisfied, some_satisfied}
 use Rattle.cedar_model.specs.Policies.{satisfied_ids, decision, reasons}
 use Rattle.cedar_model.specs.Reordering.{IsReordering, nothing, keeping, swapping, chaining}
+use Rattle.cedar_model.specs.lemmas.Sets.{or_swap}
 
 -- ---- in another order
 
-reorder_refl : {A : Type 0} (xs : List A) → IsReordering A xs xs
+pub reorder_refl : {A : Type 0} (xs : List A) → IsReordering A xs xs
 reorder_refl [] = nothing
 reorder_refl (x ∷ xs) = keeping x (reorder_refl xs)
-
-pub or_swap : (p q r : Bool) → (p || (q || r)) ≡ (q || (p || r))
-or_swap true true r = refl
-or_swap true false r = refl
-or_swap false q r = refl
 
 some_reordered : (e : Effect) {ps qs : List Judged} → IsReordering Judged ps qs
     → some_satisfied e ps ≡ some_satisfied e qs
@@ -88,7 +84,7 @@ other_effect' satisfied = refl
 other_effect' unsatisfied = refl
 other_effect' erring = refl
 
-erring_is_not : (e f : Effect) → is_satisfied_by e erring f ≡ false
+pub erring_is_not : (e f : Effect) → is_satisfied_by e erring f ≡ false
 unfolding is_satisfied_by
 erring_is_not permit permit = refl
 erring_is_not permit forbid = refl

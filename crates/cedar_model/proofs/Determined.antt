@@ -3,6 +3,7 @@ use Rattle.std.specs.Prelude.{◌≡◌, ◌≢◌, ◌⊎◌, ℕ, zero, suc, m
 use Rattle.std.specs.Prelude.{◌∷◌, map, length, Option, Some, None, Result, Ok, Err, option_map}
 use Rattle.std.proofs.Common.{refl, sym, ap, ◌∙◌, subst, arith, inl, inr}
 use Rattle.std.proofs.lemmas.Bool.{cases_lt}
+use Rattle.std.proofs.lemmas.List.{length-map}
 use Rattle.cedar_model.proofs.MoreLevels.{more_levels}
 use Rattle.cedar_model.specs.Terms.{Text, bool_literal, BinaryOperator, eq_operator, less_operator, less_eq_operator}
 use Rattle.cedar_model.specs.Terms.{add_operator, sub_operator, mul_operator, in_operator, contains_operator}
@@ -27,6 +28,7 @@ use Rattle.cedar_model.specs.Rules
 use Rattle.cedar_model.specs.Alike.{erased, erased_at, AreAlikeParts, AreAlike}
 use Rattle.cedar_model.proofs.Alike as alike
 use Rattle.cedar_model.proofs.Injections.{some_inj}
+use Rattle.cedar_model.proofs.Functional.{by_sides}
 
 -- ---- records
 
@@ -146,10 +148,6 @@ best_alike (fails e) (fails e') t Next Next' a b h f g j =
     best_kinds (failure_kind e) (failure_kind e') e e' t Next Next' a b h refl refl f g j
 
 -- ---- a layer
-
--- both sides are these
-by_sides : (a b x y : Answer) → a ≡ x → b ≡ y → AreAlike x y → AreAlike a b
-by_sides a b x y e f h = subst (λ z. AreAlike z b) (sym e) (subst (λ z. AreAlike x z) (sym f) h)
 
 -- operands that are alike read the same stored residual
 binary_residual_alike : (s : Store) (op : BinaryOperator) (v v' w w' : Represented)
@@ -489,11 +487,7 @@ module _ (s : Setting) (calls : Rules.StoredCalls)
   -- ---- calls
 
   length_map : (vs ws : List Represented) → map abstract_value vs ≡ map abstract_value ws → length vs ≡ length ws
-  length_map vs ws e = sym (long vs) ∙ ap length e ∙ long ws
-    where
-      long : (us : List Represented) → length (map abstract_value us) ≡ length us
-      long [] = refl
-      long (u ∷ us) = ap suc (long us)
+  length_map vs ws e = sym (length-map vs abstract_value) ∙ ap length e ∙ (length-map ws abstract_value)
 
   counts_alike : (b c : Bool) (n : ℕ) (f : Text) (vs ws : List Represented) (x y : Answer) → b ≡ c
       → map abstract_value vs ≡ map abstract_value ws → Rules.Counts calls b n f vs x → Rules.Counts calls c n f ws y

@@ -1,7 +1,8 @@
 -- Progress: where the map names every unknown, the next request is known, and no policy leaves a residual.
-use Rattle.std.specs.Prelude.{◌≡◌, ℕ, Bool, true, false, cond, ◌&&◌, List, [], ◌∷◌, ◌++◌, map, Option, Some, None}
+use Rattle.std.specs.Prelude.{◌≡◌, ℕ, Bool, true, false, cond, List, [], ◌∷◌, ◌++◌, map, Option, Some, None}
 use Rattle.std.specs.Prelude.{Ok, Err, is_some, codes}
 use Rattle.std.proofs.Common.{refl, sym, ◌∙◌, subst}
+use Rattle.std.proofs.lemmas.Bool.{and_from, and_parts}
 use Rattle.cedar_model.specs.Terms.{Text, EntityName, ValueType, Term, literal, variable, slot, unknown, if_then_else}
 use Rattle.cedar_model.specs.Terms.{both, either, unary, binary, call, get_attribute, has_attribute, extended_has}
 use Rattle.cedar_model.specs.Terms.{like, is_of_type, set_of, record_of, Terms, no_terms, one_term, Fields, no_fields}
@@ -39,14 +40,6 @@ use Rattle.cedar_model.proofs.Injections.{ok_inj, err_is_not_ok, false_is_not_tr
 none_isn't_named : {A : Type 0} (o : Option A) → o ≡ None → is_some o ≡ true → ⊥
 none_isn't_named None e h = cc
 none_isn't_named (Some x) e h = cc
-
-and_true : (a b : Bool) → (a && b) ≡ true → (a ≡ true) × (b ≡ true)
-and_true true b h = (refl, h)
-and_true false b h = absurd (false_is_not_true h)
-
-and_intro : (a b : Bool) → a ≡ true → b ≡ true → (a && b) ≡ true
-and_intro true b h k = k
-and_intro false b h k = absurd (false_is_not_true h)
 
 module _ (ans : Functions) (m : Mapping) where
   -- ---- entries
@@ -157,11 +150,11 @@ module _ (ans : Functions) (m : Mapping) where
           × (are_restricted (Chains.substituted_each m ts) ≡ true)
       substituted_each_plain no_terms k h = (tt, refl)
       substituted_each_plain (one_term t ts) k h =
-          let z = and_true (is_restricted t) (are_restricted ts) h in
+          let z = and_parts (is_restricted t) (are_restricted ts) h in
           let x = substituted_plain t k.0 z.0 in
           let y = substituted_each_plain ts k.1 z.1 in (
             (x.0, y.0),
-            and_intro (is_restricted (Chains.substituted m t))
+            and_from (is_restricted (Chains.substituted m t))
                 (are_restricted (Chains.substituted_each m ts)) x.1 y.1,
           )
 
@@ -170,11 +163,11 @@ module _ (ans : Functions) (m : Mapping) where
           × (are_restricted_at (Chains.substituted_at m fs) ≡ true)
       substituted_at_plain no_fields k h = (tt, refl)
       substituted_at_plain (one_field l t fs) k h =
-          let z = and_true (is_restricted t) (are_restricted_at fs) h in
+          let z = and_parts (is_restricted t) (are_restricted_at fs) h in
           let x = substituted_plain t k.0 z.0 in
           let y = substituted_at_plain fs k.1 z.1 in (
             (x.0, y.0),
-            and_intro (is_restricted (Chains.substituted m t))
+            and_from (is_restricted (Chains.substituted m t))
                 (are_restricted_at (Chains.substituted_at m fs)) x.1 y.1,
           )
 

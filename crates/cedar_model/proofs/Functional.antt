@@ -66,7 +66,7 @@ seen (answers (residual (set_of ts))) b h = absurd (cc)
 seen (answers (residual (record_of fs))) b h = absurd (cc)
 seen (fails e) b h = seen_failure e (failure_kind e) b refl h
 
-by_sides : (a b x y : Answer) → a ≡ x → b ≡ y → AreAlike x y → AreAlike a b
+pub by_sides : (a b x y : Answer) → a ≡ x → b ≡ y → AreAlike x y → AreAlike a b
 by_sides a b x y e f h = subst (λ z. AreAlike z b) (sym e) (subst (λ z. AreAlike x z) (sym f) h)
 
 alike_by : (c : FunctionAnswer) (a b : Answer) → IsSeen a c → IsSeen b c → AreAlike a b

@@ -1,7 +1,8 @@
 -- How high an answer can be, and with it the need.
-use Rattle.std.specs.Prelude.{◌≡◌, ℕ, suc, ◌+◌, ◌<◌, ◌≤◌, Bool, true, false, ◌&&◌}
-use Rattle.std.specs.Prelude.{◌||◌, Option, Some, None}
+use Rattle.std.specs.Prelude.{◌≡◌, ℕ, suc, ◌+◌, ◌<◌, ◌≤◌, true, false, ◌&&◌}
+use Rattle.std.specs.Prelude.{Option, Some, None}
 use Rattle.std.proofs.Common.{refl, ap, arith}
+use Rattle.std.proofs.lemmas.Bool.{and_parts, or_parts, or_from}
 use Rattle.cedar_model.specs.Terms.{Text}
 use Rattle.cedar_model.specs.Terms.{ValueType, Term, literal, variable, slot, unknown}
 use Rattle.cedar_model.specs.Terms.{if_then_else, both, either, unary, binary, call, get_attribute, has_attribute}
@@ -16,21 +17,8 @@ use Rattle.cedar_model.specs.Shapes.{are_restricted, are_restricted_at, has_unkn
 use Rattle.cedar_model.specs.Agreement.{height, greatest_height, greatest_height_at}
 use Rattle.cedar_model.specs.Chains.{Mapping, value_for, substituted, substituted_each, substituted_at}
 use Rattle.cedar_model.specs.Restricted.{IsSound, AreSound, AreSoundAt}
-use Rattle.cedar_model.proofs.RecordParts.{both_first, both_second}
 
 -- ---- values
-
--- a sound value is written without unknowns
-neither : (b c : Bool) → b ≡ false → c ≡ false → (b || c) ≡ false
-neither b c e f = λ i. e i || f i
-
-first_none : (b c : Bool) → (b || c) ≡ false → b ≡ false
-first_none true c e = e
-first_none false c e = refl
-
-second_none : (b c : Bool) → (b || c) ≡ false → c ≡ false
-second_none true c e = absurd (cc)
-second_none false c e = e
 
 mutual
   pub sound_known : (v : Represented) → IsSound v → has_unknown (expression_of v) ≡ false
@@ -41,11 +29,11 @@ mutual
 
   sound_each : (vs : RepresentedValues) → AreSound vs → have_unknown (expressions_of vs) ≡ false
   sound_each no_represented h = refl
-  sound_each (one_represented v vs) h = neither _ _ (sound_known v h.0) (sound_each vs h.1)
+  sound_each (one_represented v vs) h = or_from _ _ (sound_known v h.0) (sound_each vs h.1)
 
   sound_each_at : (fs : RepresentedFields) → AreSoundAt fs → have_unknown_at (expressions_at fs) ≡ false
   sound_each_at no_represented_at h = refl
-  sound_each_at (one_represented_at k v fs) h = neither _ _ (sound_known v h.0) (sound_each_at fs h.1)
+  sound_each_at (one_represented_at k v fs) h = or_from _ _ (sound_known v h.0) (sound_each_at fs h.1)
 
 -- a value whose expression is projectable is written without calls
 mutual
@@ -60,13 +48,13 @@ mutual
       are_restricted (expressions_of vs) ≡ true
   values_plain no_represented h = refl
   values_plain (one_represented v vs) h =
-      λ i. value_plain v (both_first _ _ h) i && values_plain vs (both_second _ _ h) i
+      λ i. value_plain v (and_parts _ _ h).0 i && values_plain vs (and_parts _ _ h).1 i
 
   fields_plain : (fs : RepresentedFields) → are_projectable_at (expressions_at fs) ≡ true →
       are_restricted_at (expressions_at fs) ≡ true
   fields_plain no_represented_at h = refl
   fields_plain (one_represented_at k v fs) h =
-      λ i. value_plain v (both_first _ _ h) i && fields_plain fs (both_second _ _ h) i
+      λ i. value_plain v (and_parts _ _ h).0 i && fields_plain fs (and_parts _ _ h).1 i
 
 -- ---- heights
 
@@ -104,12 +92,12 @@ module _ (m : Mapping) where
     stays (slot i) e = refl
     stays (unknown n t) e = absurd (cc)
     stays (if_then_else c t u) e =
-        λ i. if_then_else (stays c (first_none _ _ e) i) (stays t (first_none _ _ (second_none _ _ e)) i)
-        (stays u (second_none _ _ (second_none _ _ e)) i)
-    stays (both t u) e = λ i. both (stays t (first_none _ _ e) i) (stays u (second_none _ _ e) i)
-    stays (either t u) e = λ i. either (stays t (first_none _ _ e) i) (stays u (second_none _ _ e) i)
+        λ i. if_then_else (stays c (or_parts _ _ e).0 i) (stays t (or_parts _ _ (or_parts _ _ e).1).0 i)
+        (stays u (or_parts _ _ (or_parts _ _ e).1).1 i)
+    stays (both t u) e = λ i. both (stays t (or_parts _ _ e).0 i) (stays u (or_parts _ _ e).1 i)
+    stays (either t u) e = λ i. either (stays t (or_parts _ _ e).0 i) (stays u (or_parts _ _ e).1 i)
     stays (unary op t) e = ap (unary op) (stays t e)
-    stays (binary op t u) e = λ i. binary op (stays t (first_none _ _ e) i) (stays u (second_none _ _ e) i)
+    stays (binary op t u) e = λ i. binary op (stays t (or_parts _ _ e).0 i) (stays u (or_parts _ _ e).1 i)
     stays (call f ts) e = ap (call f) (stay ts e)
     stays (get_attribute t k) e = ap (λ x. get_attribute x k) (stays t e)
     stays (has_attribute t k) e = ap (λ x. has_attribute x k) (stays t e)
@@ -121,11 +109,11 @@ module _ (m : Mapping) where
 
     stay : (ts : Terms) → have_unknown ts ≡ false → substituted_each m ts ≡ ts
     stay no_terms e = refl
-    stay (one_term t ts) e = λ i. one_term (stays t (first_none _ _ e) i) (stay ts (second_none _ _ e) i)
+    stay (one_term t ts) e = λ i. one_term (stays t (or_parts _ _ e).0 i) (stay ts (or_parts _ _ e).1 i)
 
     stay_at : (fs : Fields) → have_unknown_at fs ≡ false → substituted_at m fs ≡ fs
     stay_at no_fields e = refl
-    stay_at (one_field k t fs) e = λ i. one_field k (stays t (first_none _ _ e) i) (stay_at fs (second_none _ _ e) i)
+    stay_at (one_field k t fs) e = λ i. one_field k (stays t (or_parts _ _ e).0 i) (stay_at fs (or_parts _ _ e).1 i)
 
   module _ (b : ℕ) (mapped_low : (n : Text) (v : Represented) → m n ≡ Some v → height (expression_of v) ≤ b) where
     unknown_by : (n : Text) (t : Option ValueType) (o : Option Represented) → m n ≡ o →
@@ -202,16 +190,16 @@ module _ (m : Mapping) where
     not_lower_each no_terms e = omega arith
     not_lower_each (one_term t ts) e =
         let x =
-        not_lower t (both_first _ _ e) in let y = not_lower_each ts (both_second (is_restricted t)
-        (are_restricted ts) e) in omega arith
+        not_lower t (and_parts _ _ e).0 in let y = not_lower_each ts (and_parts (is_restricted t)
+        (are_restricted ts) e).1 in omega arith
 
     not_lower_each_at : (fs : Fields) → are_restricted_at fs ≡ true →
         greatest_height_at fs ≤ greatest_height_at (substituted_at m fs)
     not_lower_each_at no_fields e = omega arith
     not_lower_each_at (one_field k t fs) e =
         let x =
-        not_lower t (both_first _ _ e) in let y = not_lower_each_at fs (both_second (is_restricted t)
-        (are_restricted_at fs) e) in omega arith
+        not_lower t (and_parts _ _ e).0 in let y = not_lower_each_at fs (and_parts (is_restricted t)
+        (are_restricted_at fs) e).1 in omega arith
 
 -- the greater of bounded numbers is bounded
 pub lower : (a b c : ℕ) → a ≤ b → b ≤ c → a ≤ c

@@ -1,7 +1,8 @@
 -- A residual that is answered holds an unknown.
-use Rattle.std.specs.Prelude.{◌≡◌, ℕ, zero, suc, ◌==◌, Bool, true, false, cond, ◌||◌, List, [], ◌∷◌, length}
+use Rattle.std.specs.Prelude.{◌≡◌, ℕ, zero, suc, ◌==◌, Bool, true, false, cond, List, [], ◌∷◌, length}
 use Rattle.std.specs.Prelude.{Option, Some, None, Result, Ok, Err}
 use Rattle.std.proofs.Common.{refl, subst, sym}
+use Rattle.std.proofs.lemmas.Bool.{or_left, or_right}
 use Rattle.cedar_model.specs.Terms.{Text, EntityName, Slot, Variable, principal, action, resource}
 use Rattle.cedar_model.specs.Terms.{context, BinaryOperator, Term, literal, variable, slot, unknown, if_then_else}
 use Rattle.cedar_model.specs.Terms.{both, either, unary, binary, call, get_attribute, has_attribute, extended_has}
@@ -39,14 +40,6 @@ Held a = AllAnswer AnyValue Holds AnyFailure a
 abbrev HeldPart : PartialValue → Type 0
 HeldPart p = AllPart AnyValue Holds p
 
-or_first : (b c : Bool) → b ≡ true → (b || c) ≡ true
-or_first true c e = refl
-or_first false c e = absurd (cc)
-
-or_second : (b c : Bool) → c ≡ true → (b || c) ≡ true
-or_second true c e = refl
-or_second false c e = e
-
 held_by : (a b : Answer) → a ≡ b → Held b → Held a
 held_by a b e f = subst Held (sym e) f
 
@@ -77,23 +70,23 @@ held_terms : (ps : List PartialValue) → HeldParts ps → Rules.values_of_parts
     have_unknown (Rules.terms_of_parts ps) ≡ true
 unfolding Rules.values_of_parts Rules.add_value part_expression
 held_terms [] e f = absurd (cc)
-held_terms (value v ∷ ps) (e, g) f = or_second _ _ (held_terms ps g (by (Rules.values_of_parts ps) f))
+held_terms (value v ∷ ps) (e, g) f = or_right _ _ (held_terms ps g (by (Rules.values_of_parts ps) f))
   where
     by : (o : Option (List Represented)) → Rules.add_value (value v) o ≡ None → o ≡ None
     by None h = refl
     by (Some vs) h = absurd (cc)
-held_terms (residual r ∷ ps) (e, g) f = or_first _ _ e
+held_terms (residual r ∷ ps) (e, g) f = or_left _ _ e
 
 held_fields : (ps : List (Text × PartialValue)) → HeldPartsAt ps → Rules.values_of_field_parts ps ≡ None →
     have_unknown_at (Rules.fields_of_parts ps) ≡ true
 unfolding Rules.values_of_field_parts Rules.add_value_at part_expression
 held_fields [] e f = absurd (cc)
-held_fields ((k, value v) ∷ ps) (e, g) f = or_second _ _ (held_fields ps g (by (Rules.values_of_field_parts ps) f))
+held_fields ((k, value v) ∷ ps) (e, g) f = or_right _ _ (held_fields ps g (by (Rules.values_of_field_parts ps) f))
   where
     by : (o : Option (List (Text × Represented))) → Rules.add_value_at k (value v) o ≡ None → o ≡ None
     by None h = refl
     by (Some vs) h = absurd (cc)
-held_fields ((k, residual r) ∷ ps) (e, g) f = or_first _ _ e
+held_fields ((k, residual r) ∷ ps) (e, g) f = or_left _ _ e
 
 held_set : (r : Result (List PartialValue) Failure) → HeldResult r → Held (Rules.set_answer r)
 unfolding Rules.set_answer Rules.set_of_parts
@@ -185,9 +178,9 @@ module _ (s : Setting) (calls : Rules.StoredCalls) (given : ResidualsHoldUnknown
       Held (Rules.binary_of_parts s op p q)
   unfolding Rules.binary_of_parts part_expression
   held_binary op (value v) (value w) e f = operands.binary_all s AnyValue AnyValue Holds AnyFailure facts op v w tt
-  held_binary op (value v) (residual r) e f = held_kept _ _ (or_second _ _ f)
-  held_binary op (residual r) (value w) e f = held_kept _ _ (or_first _ _ e)
-  held_binary op (residual r) (residual q) e f = held_kept _ _ (or_first _ _ e)
+  held_binary op (value v) (residual r) e f = held_kept _ _ (or_right _ _ f)
+  held_binary op (residual r) (value w) e f = held_kept _ _ (or_left _ _ e)
+  held_binary op (residual r) (residual q) e f = held_kept _ _ (or_left _ _ e)
 
   held_beside : (op : BinaryOperator) (p : PartialValue) (y : Answer) → HeldPart p → Held y →
       Held (Rules.binary_beside s op p y)
@@ -290,7 +283,7 @@ module _ (s : Setting) (calls : Rules.StoredCalls) (given : ResidualsHoldUnknown
     held_guard (fails f) t e a h r = held_by a (fails f) r tt
     held_guard (answers (value v)) t e a h r = held_takes (bool_of (abstract_value v)) v t e a r
     held_guard (answers (residual z)) t e a h (x, g, k) =
-        held_best x t _ a k (λ t' (y, j, l). held_best y e _ a l (λ e' i. held_by a _ i (or_first _ _ h)))
+        held_best x t _ a k (λ t' (y, j, l). held_best y e _ a l (λ e' i. held_by a _ i (or_left _ _ h)))
 
     held_right : (f : Term → Term) → ((r : Term) → Holds r → Holds (f r)) → (t : Term) (a : Answer) →
         Rules.ReadsRight G f t a → Held a
@@ -308,7 +301,7 @@ module _ (s : Setting) (calls : Rules.StoredCalls) (given : ResidualsHoldUnknown
     held_and : (x : Answer) (t : Term) (a : Answer) → Held x → Rules.AfterAndLeft G x t a → Held a
     held_and (fails e) t a h r = held_by a (fails e) r tt
     held_and (answers (value v)) t a h r = held_and_bool (bool_of (abstract_value v)) v t a r
-    held_and (answers (residual z)) t a h r = held_beside_kept (both z) (λ u. or_first _ _ h) t a r
+    held_and (answers (residual z)) t a h r = held_beside_kept (both z) (λ u. or_left _ _ h) t a r
 
     held_or_bool : (b : Option Bool) (v : Represented) (t : Term) (a : Answer) → Rules.OrLeft G b v t a → Held a
     held_or_bool None v t a r = held_by a _ r tt
@@ -318,7 +311,7 @@ module _ (s : Setting) (calls : Rules.StoredCalls) (given : ResidualsHoldUnknown
     held_or : (x : Answer) (t : Term) (a : Answer) → Held x → Rules.AfterOrLeft G x t a → Held a
     held_or (fails e) t a h r = held_by a (fails e) r tt
     held_or (answers (value v)) t a h r = held_or_bool (bool_of (abstract_value v)) v t a r
-    held_or (answers (residual z)) t a h r = held_beside_kept (either z) (λ u. or_first _ _ h) t a r
+    held_or (answers (residual z)) t a h r = held_beside_kept (either z) (λ u. or_left _ _ h) t a r
 
     held_left : (op : BinaryOperator) (x : Answer) (t : Term) (a : Answer) → Held x → Rules.AfterLeft G s op x t a →
         Held a

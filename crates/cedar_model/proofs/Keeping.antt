@@ -2,6 +2,7 @@
 use Rattle.std.specs.Prelude.{◌≡◌, ◌⊎◌, ℕ, Bool, true, false, cond, not, ◌&&◌, ◌||◌, List, [], ◌∷◌, ◌++◌, map, Option}
 use Rattle.std.specs.Prelude.{Some, None}
 use Rattle.std.proofs.Common.{refl, sym, ap, ◌∙◌, subst, inl, inr}
+use Rattle.std.proofs.lemmas.Bool.{or_cases, false_from_ne_true}
 use Rattle.cedar_model.specs.Terms.{Text, Term, bool_literal, literal, both}
 use Rattle.cedar_model.specs.Outcomes.{bool_of, text_eq, has_text}
 use Rattle.cedar_model.specs.Failures.{Failure, failure_kind, Answer, answers_bool, limit}
@@ -183,10 +184,6 @@ open_of_true f e (r ∷ rs) h =
 abbrev given : Bool → Bool → Bool → Bool → Option Decision
 given ft fr pt pr = cond ft (Some deny) (cond (not (pt || pr)) (Some deny) (cond fr None (cond pt (Some allow) None)))
 
-not_true : (b : Bool) → (b ≡ true → ⊥) → b ≡ false
-not_true true h = absurd (h refl)
-not_true false h = refl
-
 neither : (false ≡ true) ⊎ (false ≡ true) → ⊥
 neither (inl k) = cc
 neither (inr k) = cc
@@ -202,16 +199,16 @@ decision_stays true fr pt pr ft' fr' pt' pr' a b c e g i d h =
     (λ j. cond (a refl j) (Some deny) (cond (not (pt' || pr')) (Some deny)
     (cond fr' None (cond pt' (Some allow) None)))) ∙ h
 decision_stays false fr false false ft' fr' pt' pr' a b c e g i d h =
-    let np : pt' ≡ false = not_true pt' (λ k. neither (e k)) in
-    let nr : pr' ≡ false = not_true pr' (λ k. false_is_not_true (i k)) in
+    let np : pt' ≡ false = false_from_ne_true pt' (λ k. neither (e k)) in
+    let nr : pr' ≡ false = false_from_ne_true pr' (λ k. false_is_not_true (i k)) in
     (λ j. cond ft' (Some deny) (cond (not (np j || nr j)) (Some deny) (cond fr' None (cond pt' (Some allow) None))))
     ∙ denied ft'
     ∙ h
 decision_stays false true true pr ft' fr' pt' pr' a b c e g i d h = absurd (none_is_not_some h)
 decision_stays false true false true ft' fr' pt' pr' a b c e g i d h = absurd (none_is_not_some h)
 decision_stays false false true pr ft' fr' pt' pr' a b c e g i d h =
-    let nf : ft' ≡ false = not_true ft' (λ k. neither (c k)) in
-    let nr : fr' ≡ false = not_true fr' (λ k. false_is_not_true (g k)) in
+    let nf : ft' ≡ false = false_from_ne_true ft' (λ k. neither (c k)) in
+    let nr : fr' ≡ false = false_from_ne_true fr' (λ k. false_is_not_true (g k)) in
     (λ j. cond (nf j) (Some deny) (cond (not (b refl j || pr')) (Some deny)
     (cond (nr j) None (cond (b refl j) (Some allow) None)))) ∙ h
 decision_stays false false false true ft' fr' pt' pr' a b c e g i d h = absurd (none_is_not_some h)
@@ -231,19 +228,10 @@ some_of_text : (t : Text) (e : Effect) (such : Reported → Bool) (rows : List R
 some_of_text t e such rows h =
     some_is e such rows ∙ Counting.hit_any (text_eq t) e such rows (sym (has_is t e such rows) ∙ h)
 
-has_append : (t : Text) (xs ys : List Row) → (has_text t (ids xs) ≡ true) ⊎ (has_text t (ids ys) ≡ true)
-    → has_text t (ids (xs ++ ys)) ≡ true
-has_append t xs ys (inl h) =
-    Counting.has_text_hits t (xs ++ ys) ∙ Counting.hits_append (text_eq t) xs ys
-    ∙ Counting.or_left _ _ (sym (Counting.has_text_hits t xs) ∙ h)
-has_append t xs ys (inr h) =
-    Counting.has_text_hits t (xs ++ ys) ∙ Counting.hits_append (text_eq t) xs ys
-    ∙ Counting.or_right _ _ (sym (Counting.has_text_hits t ys) ∙ h)
-
 has_split : (t : Text) (xs ys : List Row) → has_text t (ids (xs ++ ys)) ≡ true
     → (has_text t (ids xs) ≡ true) ⊎ (has_text t (ids ys) ≡ true)
 has_split t xs ys h =
-    by (Counting.or_split (Counting.hits (text_eq t) xs) (Counting.hits (text_eq t) ys)
+    by (or_cases (Counting.hits (text_eq t) xs) (Counting.hits (text_eq t) ys)
     (sym (Counting.has_text_hits t (xs ++ ys) ∙ Counting.hits_append (text_eq t) xs ys) ∙ h))
   where
     by : (Counting.hits (text_eq t) xs ≡ true) ⊎ (Counting.hits (text_eq t) ys ≡ true)
@@ -340,20 +328,20 @@ module _ (old new : List Row) (kept : AllKeep (Chains.rows_by permit old ++ Chai
   may_forbids : (t : Text) (ft : Bool) → (has_text t (ids (trues forbid old)) ≡ true → ft ≡ true)
       → (has_text t (ids (trues forbid old)) ≡ true) ⊎ (has_text t (ids (residuals forbid old)) ≡ true)
       → has_text t (ids (may ft old)) ≡ true
-  may_forbids t true a h = has_append t (trues forbid old) (residuals forbid old) h
+  may_forbids t true a h = Counting.has_append t (trues forbid old) (residuals forbid old) h
   may_forbids t false a (inl h) = absurd (false_is_not_true (a h))
   may_forbids t false a (inr h) =
-      has_append t (trues permit old) (residuals permit old ++ residuals forbid old)
-      (inr (has_append t (residuals permit old) (residuals forbid old) (inr h)))
+      Counting.has_append t (trues permit old) (residuals permit old ++ residuals forbid old)
+      (inr (Counting.has_append t (residuals permit old) (residuals forbid old) (inr h)))
 
   may_permits : (t : Text) (ft : Bool) → ft ≡ false
       → (has_text t (ids (trues permit old)) ≡ true) ⊎ (has_text t (ids (residuals permit old)) ≡ true)
       → has_text t (ids (may ft old)) ≡ true
   may_permits t true a h = absurd (false_is_not_true (sym a))
-  may_permits t false a (inl h) = has_append t (trues permit old) (residuals permit old ++ residuals forbid old) (inl h)
+  may_permits t false a (inl h) = Counting.has_append t (trues permit old) (residuals permit old ++ residuals forbid old) (inl h)
   may_permits t false a (inr h) =
-      has_append t (trues permit old) (residuals permit old ++ residuals forbid old)
-      (inr (has_append t (residuals permit old) (residuals forbid old) (inl h)))
+      Counting.has_append t (trues permit old) (residuals permit old ++ residuals forbid old)
+      (inr (Counting.has_append t (residuals permit old) (residuals forbid old) (inl h)))
 
   abbrev ft : Bool
   ft = some_row (trues forbid old)
@@ -373,7 +361,7 @@ module _ (old new : List Row) (kept : AllKeep (Chains.rows_by permit old ++ Chai
   may_by t false e h = by (has_split t (trues permit new) (residuals permit new ++ residuals forbid new) h)
     where
       no_forbid : ft ≡ false
-      no_forbid = not_true ft (λ k. true_is_not_false (some_true_stays forbid k) e)
+      no_forbid = false_from_ne_true ft (λ k. true_is_not_false (some_true_stays forbid k) e)
 
       by_residual : (has_text t (ids (residuals permit new)) ≡ true)
           ⊎ (has_text t (ids (residuals forbid new)) ≡ true) → has_text t (ids (may ft old)) ≡ true

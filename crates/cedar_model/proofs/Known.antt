@@ -2,6 +2,7 @@
 use Rattle.std.specs.Prelude.{◌≡◌, ◌≢◌, ℕ, zero, suc, ◌<◌, ◌==◌, Bool, true, false, cond, List, [], ◌∷◌, map, length}
 use Rattle.std.specs.Prelude.{Option, Some, None, Result, Ok, Err}
 use Rattle.std.proofs.Common.{refl, sym, ap, ◌∙◌, subst, arith}
+use Rattle.std.proofs.lemmas.List.{length-map}
 use Rattle.cedar_model.specs.Terms.{Text, EntityName, entity_literal, Variable, principal, action, resource, context}
 use Rattle.cedar_model.specs.Terms.{Slot, ValueType, BinaryOperator, Term, literal, variable, slot, unknown}
 use Rattle.cedar_model.specs.Terms.{if_then_else, both, either, unary, binary, call, get_attribute, has_attribute}
@@ -19,7 +20,7 @@ use Rattle.cedar_model.specs.Meaning
 use Rattle.cedar_model.specs.Failures.{Failure, failure_kind, FailureKind, of_meaning, of_residual, of_limit, of_memory}
 use Rattle.cedar_model.specs.Failures.{PartialValue, value, residual, Answer, answers, fails, answers_bool, limit}
 use Rattle.cedar_model.specs.Settings.{Entry, known_entry, unknown_entry, ContextPart, absent_context, known_context}
-use Rattle.cedar_model.specs.Settings.{residual_context, StoredEntity, Setting, found_in, not_known, entry_part}
+use Rattle.cedar_model.specs.Settings.{residual_context, Setting, entry_part}
 use Rattle.cedar_model.specs.Settings.{context_value, variable_part}
 use Rattle.cedar_model.specs.Operators
 use Rattle.cedar_model.specs.Rules
@@ -28,6 +29,7 @@ use Rattle.cedar_model.proofs.Means
 use Rattle.cedar_model.proofs.Resolving as resolving
 use Rattle.cedar_model.proofs.Resolving.{IsStored, none_is_stored, attribute_is_stored, beside_is_stored}
 use Rattle.cedar_model.proofs.Determined.{kind_of_limit}
+use Rattle.cedar_model.proofs.Unread.{concrete_found}
 
 -- an error of one of the nine kinds is that of the meaning; the limit is met only as far as L says
 abbrev pub KindMeans : Type 0 → FailureKind → Outcome → Type 0
@@ -82,15 +84,6 @@ module _ (ans : Functions) (calls : Rules.StoredCalls) (agree : Agreement.Agrees
     (s : Setting) (known : Agreement.HasNothingUnknown s)
     (request_agrees : Agreement.AgreesWithRequest s.extensions ans w s.request)
     (store_agrees : Agreement.AgreesWithStore s.extensions ans w s.store) where
-  concrete : (d : EntityName) (b : Bool) → b ≡ false → found_in (s.store.entity d) b ≡ not_known → ⊥
-  unfolding found_in
-  concrete d true e h = cc
-  concrete d false e h = by (s.store.entity d) h
-    where
-      by : (o : Option StoredEntity) → found_in o false ≡ not_known → ⊥
-      by None h = cc
-      by (Some x) h = cc
-
   stored : (p : PartialValue) → Agreement.IsValue p
       → Means.StoredWell ans w s Any NoResidual (λ e p. KindMeans ⊥ (failure_kind e) p) p
   stored (value v) h = tt
@@ -108,7 +101,7 @@ module _ (ans : Functions) (calls : Rules.StoredCalls) (agree : Agreement.Agrees
           λ h. stored p
               ((known.store_known d x k p e).1 h),
         );
-    missing_well = λ d h. absurd (concrete d s.store.is_partial known.store_concrete h);
+    missing_well = λ d h. absurd (concrete_found (s.store.entity d) s.store.is_partial known.store_concrete h);
     unknown_well =
         λ n t h. absurd (h.1 (unknown n t) (Meaning.meaning s.extensions ans w Agreement.no_slots (unknown n t))
         (λ g. g) refl);
@@ -437,10 +430,6 @@ module _ (ans : Functions) (calls : Rules.StoredCalls) (agree : Agreement.Agrees
         subst (λ o. Exact P (Rules.record_of_parts o ps) (Meaning.and_then_all m (λ gs. gives (record_value gs))))
         (sym e) (tt, ap (λ z. Meaning.and_then_all z (λ gs. gives (record_value gs))) h)
 
-    length_map : (vs : List Represented) → length (map abstract_value vs) ≡ length vs
-    length_map [] = refl
-    length_map (v ∷ vs) = ap suc (length_map vs)
-
     kind_exact : (P : Type 0) (k : FailureKind) (c : FunctionAnswer) → Agreement.failure_answer k ≡ Some c
         → KindMeans P k (Meaning.function_meaning w c)
     unfolding Agreement.failure_answer Meaning.function_meaning
@@ -498,7 +487,7 @@ module _ (ans : Functions) (calls : Rules.StoredCalls) (agree : Agreement.Agrees
     looks_exact P None f vs a h r = by_equal P a _ _ r refl
     looks_exact P (Some m) f vs a h r =
         subst (λ l. Exact P a (cond (l == m) (Meaning.function_meaning w (ans f (map abstract_value vs)))
-        (errs wrong_number_of_arguments))) (sym (length_map vs)) (counts_exact P (length vs == m) m f vs a h r)
+        (errs wrong_number_of_arguments))) (sym (length-map vs abstract_value)) (counts_exact P (length vs == m) m f vs a h r)
 
     call_exact : (L P : Type 0) → (L → P)
         → (f : Text) (r : Result (List PartialValue) Failure) (m : Result (List AbstractValue) ErrorKind) (a : Answer)

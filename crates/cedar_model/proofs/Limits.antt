@@ -1,7 +1,8 @@
 -- The recursion limit in a chain: it ends at the first response that holds it.
-use Rattle.std.specs.Prelude.{◌≡◌, ℕ, Bool, true, false, ◌||◌, List, [], ◌∷◌, ◌++◌, Result, Ok, Err, MatchBool}
+use Rattle.std.specs.Prelude.{◌≡◌, ℕ, Bool, true, false, List, [], ◌∷◌, ◌++◌, Result, Ok, Err, MatchBool}
 use Rattle.std.specs.Prelude.{MatchResult}
 use Rattle.std.proofs.Common.{refl, sym, ap, ◌∙◌, subst}
+use Rattle.std.proofs.lemmas.Bool.{or_parts, or_from, false_from_ne_true}
 use Rattle.cedar_model.specs.Terms.{Text}
 use Rattle.cedar_model.specs.Failures.{Failure, recursion_limit, FailureKind, of_meaning, of_residual, of_limit}
 use Rattle.cedar_model.specs.Failures.{of_memory, failure_kind}
@@ -29,28 +30,12 @@ limit_is : Chains.is_limit (failure_kind recursion_limit) ≡ true
 unfolding Chains.is_limit failure_kind
 limit_is = refl
 
-or_false : (a b : Bool) → a ≡ false → b ≡ false → (a || b) ≡ false
-or_false true b h k = absurd (cc)
-or_false false b h k = k
-
-first_false : (a b : Bool) → (a || b) ≡ false → a ≡ false
-first_false true b h = absurd (cc)
-first_false false b h = refl
-
-second_false : (a b : Bool) → (a || b) ≡ false → b ≡ false
-second_false true b h = absurd (cc)
-second_false false b h = h
-
-not_true : (b : Bool) → (b ≡ true → ⊥) → b ≡ false
-not_true true h = absurd (h refl)
-not_true false h = refl
-
 pub has_none : (errors : List (Text × Failure)) → HaveNoLimit errors → Chains.has_limit errors ≡ false
 unfolding Chains.has_limit
 has_none [] h = refl
 has_none (e ∷ es) h =
-    or_false (Chains.is_limit (failure_kind e.1)) (Chains.has_limit es)
-    (not_true (Chains.is_limit (failure_kind e.1))
+    or_from (Chains.is_limit (failure_kind e.1)) (Chains.has_limit es)
+    (false_from_ne_true (Chains.is_limit (failure_kind e.1))
     (λ k. h.0 (kind_of_limit e.1 (limit_kind (failure_kind e.1) k)))) (has_none es h.1)
 
 pub none_has : (errors : List (Text × Failure)) → Chains.has_limit errors ≡ false → HaveNoLimit errors
@@ -58,8 +43,8 @@ unfolding Chains.has_limit
 none_has [] h = tt
 none_has (e ∷ es) h = (
   λ k. true_is_not_false (ap (λ x. Chains.is_limit (failure_kind x)) k ∙ limit_is)
-      (first_false (Chains.is_limit (failure_kind e.1)) (Chains.has_limit es) h),
-  none_has es (second_false (Chains.is_limit (failure_kind e.1)) (Chains.has_limit es) h),
+      (or_parts (Chains.is_limit (failure_kind e.1)) (Chains.has_limit es) h).0,
+  none_has es (or_parts (Chains.is_limit (failure_kind e.1)) (Chains.has_limit es) h).1,
 )
 
 -- ---- a chain

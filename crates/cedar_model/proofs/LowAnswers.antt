@@ -2,6 +2,7 @@
 use Rattle.std.specs.Prelude.{◌≡◌, ℕ, zero, suc, ◌+◌, ◌≤◌, true, false}
 use Rattle.std.specs.Prelude.{List, Option, Some, None}
 use Rattle.std.proofs.Common.{refl, ap, subst, sym, ◌∙◌, arith}
+use Rattle.std.proofs.lemmas.Bool.{and_parts}
 use Rattle.cedar_model.specs.Terms.{Text}
 use Rattle.cedar_model.specs.Terms.{ValueType}
 use Rattle.cedar_model.specs.Terms.{Term, literal, variable, slot, unknown, if_then_else}
@@ -22,7 +23,6 @@ use Rattle.cedar_model.specs.Agreement.{height, greatest_height, greatest_height
 use Rattle.cedar_model.specs.Chains.{Mapping, value_for, substituted, substituted_each, substituted_at, with_context}
 use Rattle.cedar_model.specs.Restricted.{IsSound, IsSoundPart, IsSoundContext, IsGivenSound}
 use Rattle.cedar_model.specs.Depth.{IsNoHigher, IsContextNoHigher, IsWithin, substituted_height, bound_of}
-use Rattle.cedar_model.proofs.RecordParts.{both_first, both_second}
 use Rattle.cedar_model.proofs.RestrictedAnswers.{reads_nothing, substituted_at_restricted}
 use Rattle.cedar_model.proofs.Resolving.{IsStored, each_stored}
 use Rattle.cedar_model.proofs.Heights as heights
@@ -101,16 +101,16 @@ module _ (m : Mapping) where
           greatest_height (substituted_each m ts) ≤ k → EachAnswersLow m (Rules.Runs s calls n) k ts
       plain_each n k no_terms p q e = tt
       plain_each n k (one_term t ts) p q e = (
-        λ x g. raise m (h t) k (omega arith) x (plain_low n t (both_first _ _ p) (both_first _ _ q) x g),
-        plain_each n k ts (both_second _ _ p) (both_second _ _ q) (omega arith),
+        λ x g. raise m (h t) k (omega arith) x (plain_low n t (and_parts _ _ p).0 (and_parts _ _ q).0 x g),
+        plain_each n k ts (and_parts _ _ p).1 (and_parts _ _ q).1 (omega arith),
       )
 
       plain_each_at : (n k : ℕ) (fs : Fields) → are_projectable_at fs ≡ true → are_restricted_at fs ≡ true →
           greatest_height_at (substituted_at m fs) ≤ k → EachAnswersLowAt m (Rules.Runs s calls n) k fs
       plain_each_at n k no_fields p q e = tt
       plain_each_at n k (one_field l t fs) p q e = (
-        λ x g. raise m (h t) k (omega arith) x (plain_low n t (both_first _ _ p) (both_first _ _ q) x g),
-        plain_each_at n k fs (both_second _ _ p) (both_second _ _ q) (omega arith),
+        λ x g. raise m (h t) k (omega arith) x (plain_low n t (and_parts _ _ p).0 (and_parts _ _ q).0 x g),
+        plain_each_at n k fs (and_parts _ _ p).1 (and_parts _ _ q).1 (omega arith),
       )
 
     -- an answer is no higher than its expression and the bound, where no stored residual that is read answers more

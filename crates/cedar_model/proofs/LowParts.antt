@@ -5,6 +5,7 @@ use Rattle.std.specs.declared.cmp.Ordering.{Ordering}
 use Rattle.std.specs.declared.cmp.Ordering.TheVariants.{Less, Equal, Greater}
 use Rattle.std.specs.Ordering.{match_ordering}
 use Rattle.std.proofs.Common.{refl, subst, sym, arith}
+use Rattle.std.proofs.lemmas.Bool.{and_parts}
 use Rattle.cedar_model.specs.Terms.{Text}
 use Rattle.cedar_model.specs.Terms.{Term}
 use Rattle.cedar_model.specs.Terms.{record_of, Terms, no_terms, one_term, Fields}
@@ -27,7 +28,6 @@ use Rattle.cedar_model.specs.Agreement.{height, greatest_height, greatest_height
 use Rattle.cedar_model.specs.Chains.{Mapping, substituted, substituted_each, substituted_at}
 use Rattle.cedar_model.proofs.Operands.{AllAnswer, AllPart}
 use Rattle.cedar_model.proofs.Projection.{record_is}
-use Rattle.cedar_model.proofs.RecordParts.{both_first, both_second}
 use Rattle.cedar_model.proofs.RecordParts.{part_such}
 use Rattle.cedar_model.proofs.Heights.{value_plain}
 use Rattle.cedar_model.proofs.Injections.{some_inj}
@@ -151,7 +151,7 @@ module _ (m : Mapping) where
       let y = terms_low n ps f in
       let x' = x.0 in
       let y' = y.0 in
-      (omega arith, λ g i. x.1 (both_first _ _ g) i && y.1 (both_second _ _ g) i)
+      (omega arith, λ g i. x.1 (and_parts _ _ g).0 i && y.1 (and_parts _ _ g).1 i)
 
   pub fields_low : (n : ℕ) (ps : List (Text × PartialValue)) → PartsLowAt n ps →
       (greatest_height_at (substituted_at m (Rules.fields_of_parts ps)) ≤ n) ×
@@ -163,7 +163,7 @@ module _ (m : Mapping) where
       let y = fields_low n ps f in
       let x' = x.0 in
       let y' = y.0 in
-      (omega arith, λ g i. x.1 (both_first _ _ g) i && y.1 (both_second _ _ g) i)
+      (omega arith, λ g i. x.1 (and_parts _ _ g).0 i && y.1 (and_parts _ _ g).1 i)
 
   -- the values among low parts are low
   abbrev Low? : ℕ → Option (List Represented) → Type 0

@@ -6,6 +6,7 @@ use Rattle.std.specs.Cmp.Lexicographic.{bytes_decides}
 use Rattle.std.specs.declared.cmp.Ordering.{Ordering}
 use Rattle.std.specs.Ordering.{is_lt, is_le}
 use Rattle.std.proofs.Common.{refl, sym, ap, ◌∙◌, subst}
+use Rattle.std.proofs.Math.Bool.{or-false}
 use Rattle.cedar_model.specs.Terms.{Text, EntityName, Literal, bool_literal, long_literal, text_literal, entity_literal}
 use Rattle.cedar_model.specs.Terms.{ValueType, bool_type, long_type, string_type, set_type, record_type, entity_type}
 use Rattle.cedar_model.specs.Terms.{extension_type, UnaryOperator, not_operator, neg_operator, is_empty_operator}
@@ -45,10 +46,6 @@ unfolding found_in
 found_is (Some y) b x e = cc
 found_is None true x e = absurd (cc)
 found_is None false x e = absurd (cc)
-
-pub or_false : (b : Bool) → (b || false) ≡ b
-or_false true = refl
-or_false false = refl
 
 -- ---- unknowns
 
@@ -215,7 +212,7 @@ module _ (ans : Functions) (w : World) (s : Setting) (F : Represented → Type 0
     in_means d not_there v e f =
         sound_expecting (Meaning.entities_of (abstract_value v)) _ _ _ (entities_kind (abstract_value v))
         (λ es. sound_same_bool _ _ (ap (λ test. Meaning.some_entity test es)
-        ((λ i c. sym (or_false (entity_eq d c)) i) ∙ (λ i c. entity_eq d c || no_ancestors d c e i))))
+        ((λ i c. sym (or-false (entity_eq d c)) i) ∙ (λ i c. entity_eq d c || no_ancestors d c e i))))
     in_means d not_known v e f =
         let m = well.missing_well d e in
         m.stands (binary in_operator (missing_entity d) (expression_of v)) _ (missing_fits d e, m.written_fits v f)

@@ -1,6 +1,7 @@
 -- The need is at most the height and the bound together.
 use Rattle.std.specs.Prelude.{◌≡◌, ℕ, zero, suc, ◌+◌, ◌<◌, ◌≤◌, true}
 use Rattle.std.proofs.Common.{refl, subst, arith, inl, inr}
+use Rattle.std.proofs.lemmas.Bool.{and_parts}
 use Rattle.cedar_model.specs.Terms.{Term, literal, variable, slot, unknown, if_then_else, both, either, unary, binary}
 use Rattle.cedar_model.specs.Terms.{call, get_attribute, has_attribute, extended_has, like, is_of_type, set_of}
 use Rattle.cedar_model.specs.Terms.{record_of, Terms, no_terms, one_term, Fields, no_fields, one_field}
@@ -14,7 +15,7 @@ use Rattle.cedar_model.specs.Restricted.{IsGivenSound}
 use Rattle.cedar_model.specs.LevelLaws.{FunctionsMeetNoLimit}
 use Rattle.cedar_model.specs.Depth.{IsNoHigher, bound_of}
 use Rattle.cedar_model.proofs.PartLimits as limits
-use Rattle.cedar_model.proofs.RecordParts.{both_first, both_second, restricted_part}
+use Rattle.cedar_model.proofs.RecordParts.{restricted_part}
 use Rattle.cedar_model.proofs.Heights as heights
 use Rattle.cedar_model.proofs.Heights.{positive}
 use Rattle.cedar_model.proofs.Resolving.{IsStored}
@@ -33,17 +34,17 @@ module _ (s : Setting) (calls : Rules.StoredCalls) (answered : FunctionsMeetNoLi
       each_restricted : (ts : Terms) → limits.MeetsEach s calls answered (Rules.Runs s calls n) LevelsBelow ih ts →
           are_restricted ts ≡ true → n < greatest_height ts
       each_restricted no_terms h p = absurd h
-      each_restricted (one_term t ts) (inl h) p = let x = h (both_first _ _ p) in omega arith
+      each_restricted (one_term t ts) (inl h) p = let x = h (and_parts _ _ p).0 in omega arith
       each_restricted (one_term t ts) (inr h) p =
-          let x = each_restricted ts h (both_second (is_restricted t) (are_restricted ts) p) in omega arith
+          let x = each_restricted ts h (and_parts (is_restricted t) (are_restricted ts) p).1 in omega arith
 
       each_restricted_at : (fs : Fields) →
           limits.MeetsEachAt s calls answered (Rules.Runs s calls n) LevelsBelow ih fs → are_restricted_at fs ≡ true →
           n < greatest_height_at fs
       each_restricted_at no_fields h p = absurd h
-      each_restricted_at (one_field k t fs) (inl h) p = let x = h (both_first _ _ p) in omega arith
+      each_restricted_at (one_field k t fs) (inl h) p = let x = h (and_parts _ _ p).0 in omega arith
       each_restricted_at (one_field k t fs) (inr h) p =
-          let x = each_restricted_at fs h (both_second (is_restricted t) (are_restricted_at fs) p) in omega arith
+          let x = each_restricted_at fs h (and_parts (is_restricted t) (are_restricted_at fs) p).1 in omega arith
 
       restricted_rule : (t : Term) → limits.PartMeets s calls answered (Rules.Runs s calls n) LevelsBelow ih t →
           is_restricted t ≡ true → suc n < height t

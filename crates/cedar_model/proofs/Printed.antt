@@ -2,7 +2,7 @@
 use Rattle.std.specs.Prelude.{◌≡◌, ℕ, ◌==◌, Bool, true, false, cond, ◌||◌, [], ◌∷◌, ◌++◌, Option, Some, None}
 use Rattle.std.specs.Prelude.{codes}
 use Rattle.std.proofs.Common.{refl, ap, subst, sym, ◌∙◌}
-use Rattle.std.proofs.lemmas.Bool.{eqb-true}
+use Rattle.std.proofs.lemmas.Bool.{or_parts, eqb-true}
 use Rattle.cedar_model.specs.Terms.{Text, EntityName}
 use Rattle.cedar_model.specs.Outcomes.{escaped}
 use Rattle.cedar_model.specs.Settings.{printed_entity}
@@ -23,14 +23,6 @@ not_colon b e = by (b == 58) refl
     by : (c : Bool) → (b == 58) ≡ c → c ≡ false
     by false f = refl
     by true f = absurd (false_is_not_true (colon (eqb-true b 58 f)))
-
-neither_first : (b c : Bool) → (b || c) ≡ false → b ≡ false
-neither_first true c e = e
-neither_first false c e = refl
-
-neither_second : (b c : Bool) → (b || c) ≡ false → c ≡ false
-neither_second true c e = absurd (cc)
-neither_second false c e = e
 
 -- ---- where no id stands
 
@@ -70,7 +62,7 @@ before_two b c (d ∷ ds) = by ((d == 34) || (d == 92)) refl
     by : (x : Bool) → ((d == 34) || (d == 92)) ≡ x →
         id_here (b ∷ c ∷ (cond x (92 ∷ d ∷ escaped ds) (d ∷ escaped ds) ++ codes "\"")) ≡ None
     by true e = none_third b c 92 (d ∷ (escaped ds ++ codes "\"")) refl
-    by false e = none_third b c d (escaped ds ++ codes "\"") (neither_first _ _ e)
+    by false e = none_third b c d (escaped ds ++ codes "\"") (or_parts _ _ e).0
 
 before_one : (b : ℕ) (id : Text) → id_here (b ∷ quoted id) ≡ None
 unfolding escaped id_here
@@ -121,7 +113,7 @@ unquoted_quoted (d ∷ ds) = by ((d == 34) || (d == 92)) refl (unquoted_quoted d
         unquoted false (cond x (92 ∷ d ∷ escaped ds) (d ∷ escaped ds) ++ codes "\"") ≡ d ∷ ds
     by true e f = ap (λ x. d ∷ x) f
     by false e f =
-        plain_byte d (quoted ds) (nonempty ds).0 (nonempty ds).1 (nonempty ds).2 (neither_second _ _ e) ∙
+        plain_byte d (quoted ds) (nonempty ds).0 (nonempty ds).1 (nonempty ds).2 (or_parts _ _ e).1 ∙
         ap (λ x. d ∷ x) f
 
 -- ---- the whole text

@@ -1,6 +1,7 @@
 -- A projectable expression means a value without slots, and so does each of its parts.
-use Rattle.std.specs.Prelude.{◌≡◌, Bool, true, false, cond, ◌&&◌, List, [], ◌∷◌, Option, Some, None, Result, Ok, Err}
+use Rattle.std.specs.Prelude.{◌≡◌, Bool, true, false, cond, List, [], ◌∷◌, Option, Some, None, Result, Ok, Err}
 use Rattle.std.proofs.Common.{refl, ap, subst}
+use Rattle.std.proofs.lemmas.Bool.{and_parts}
 use Rattle.cedar_model.specs.Terms.{Text, Term, literal, variable, slot, unknown, if_then_else, both, either, unary}
 use Rattle.cedar_model.specs.Terms.{binary, call, get_attribute, has_attribute, extended_has, like, is_of_type, set_of}
 use Rattle.cedar_model.specs.Terms.{record_of, Terms, no_terms, one_term, Fields, no_fields, one_field}
@@ -15,14 +16,6 @@ use Rattle.cedar_model.specs.Operators
 use Rattle.cedar_model.specs.Rules
 use Rattle.cedar_model.specs.Agreement.{no_slots, Fits, FitEachAt}
 use Rattle.cedar_model.proofs.Injections.{some_inj}
-
-and_first : (b c : Bool) → (b && c) ≡ true → b ≡ true
-and_first true c e = refl
-and_first false c e = e
-
-and_second : (b c : Bool) → (b && c) ≡ true → c ≡ true
-and_second true c e = e
-and_second false c e = absurd (cc)
 
 pub record_is : (r : Term) (fs : Fields) → Rules.fields_of_record r ≡ Some fs → r ≡ record_of fs
 unfolding Rules.fields_of_record
@@ -103,15 +96,15 @@ module _ (X : Extensions) (ans : Functions) (w : World) where
         × (Meaning.meanings X ans w no_slots ts ≡ Ok vs)
     projectable_give no_terms e = ([], refl)
     projectable_give (one_term t ts) e =
-        cons_ok t ts (projectable_gives t (and_first (is_projectable t) (are_projectable ts) e))
-        (projectable_give ts (and_second (is_projectable t) (are_projectable ts) e))
+        cons_ok t ts (projectable_gives t (and_parts (is_projectable t) (are_projectable ts) e).0)
+        (projectable_give ts (and_parts (is_projectable t) (are_projectable ts) e).1)
 
     pub projectable_give_at : (fs : Fields) → are_projectable_at fs ≡ true → (gs : AbstractFields)
         × (Meaning.field_meanings X ans w no_slots fs ≡ Ok gs)
     projectable_give_at no_fields e = (no_values_at, refl)
     projectable_give_at (one_field k t fs) e =
-        field_ok k t fs (projectable_gives t (and_first (is_projectable t) (are_projectable_at fs) e))
-        (projectable_give_at fs (and_second (is_projectable t) (are_projectable_at fs) e))
+        field_ok k t fs (projectable_gives t (and_parts (is_projectable t) (are_projectable_at fs) e).0)
+        (projectable_give_at fs (and_parts (is_projectable t) (are_projectable_at fs) e).1)
 
   -- ---- keys
 

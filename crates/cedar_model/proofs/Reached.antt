@@ -1,6 +1,7 @@
 -- Each expression has an answer at some level, where the functions that exist answer, and never by the limit.
 use Rattle.std.specs.Prelude.{◌≡◌, true, [], Ok}
 use Rattle.std.proofs.Common.{refl, inl, inr}
+use Rattle.std.proofs.lemmas.Bool.{and_parts}
 use Rattle.cedar_model.specs.Terms.{Term, literal, variable, slot, unknown, if_then_else, both, either, unary}
 use Rattle.cedar_model.specs.Terms.{binary, call, get_attribute, has_attribute, extended_has, like, is_of_type}
 use Rattle.cedar_model.specs.Terms.{set_of, record_of, Terms, no_terms, one_term, Fields, no_fields, one_field}
@@ -13,7 +14,6 @@ use Rattle.cedar_model.specs.Rules
 use Rattle.cedar_model.specs.LevelLaws.{FunctionsAnswer, FunctionsMeetNoLimit}
 use Rattle.cedar_model.proofs.PartLimits as limits
 use Rattle.cedar_model.proofs.MoreLevels.{rule_is_allowed}
-use Rattle.cedar_model.proofs.RecordParts.{both_first, both_second}
 use Rattle.cedar_model.proofs.Resolving.{IsStored, each_stored}
 use Rattle.cedar_model.proofs.Total
 
@@ -103,13 +103,13 @@ module _ (s : Setting) (calls : Rules.StoredCalls) (callable : FunctionsAnswer c
     plain_each : (ts : Terms) → are_projectable ts ≡ true → Total.FoundEach s calls callable Ever ts
     plain_each no_terms h = (Ok [], refl)
     plain_each (one_term t ts) h =
-        Total.one_total s calls callable Ever t ts (plain t (both_first _ _ h)) (plain_each ts (both_second _ _ h))
+        Total.one_total s calls callable Ever t ts (plain t (and_parts _ _ h).0) (plain_each ts (and_parts _ _ h).1)
 
     plain_each_at : (fs : Fields) → are_projectable_at fs ≡ true → Total.FoundEachAt s calls callable Ever fs
     plain_each_at no_fields h = (Ok [], refl)
     plain_each_at (one_field k t fs) h =
-        Total.one_at_total s calls callable Ever k t fs (plain t (both_first _ _ h))
-        (plain_each_at fs (both_second _ _ h))
+        Total.one_at_total s calls callable Ever k t fs (plain t (and_parts _ _ h).0)
+        (plain_each_at fs (and_parts _ _ h).1)
 
   -- and so has a restricted one
   mutual
@@ -135,14 +135,14 @@ module _ (s : Setting) (calls : Rules.StoredCalls) (callable : FunctionsAnswer c
     held_each : (ts : Terms) → are_restricted ts ≡ true → Total.FoundEach s calls callable Ever ts
     held_each no_terms h = (Ok [], refl)
     held_each (one_term t ts) h =
-        Total.one_total s calls callable Ever t ts (held t (both_first _ _ h))
-        (held_each ts (both_second (is_restricted t) (are_restricted ts) h))
+        Total.one_total s calls callable Ever t ts (held t (and_parts _ _ h).0)
+        (held_each ts (and_parts (is_restricted t) (are_restricted ts) h).1)
 
     held_each_at : (fs : Fields) → are_restricted_at fs ≡ true → Total.FoundEachAt s calls callable Ever fs
     held_each_at no_fields h = (Ok [], refl)
     held_each_at (one_field k t fs) h =
-        Total.one_at_total s calls callable Ever k t fs (held t (both_first _ _ h))
-        (held_each_at fs (both_second (is_restricted t) (are_restricted_at fs) h))
+        Total.one_at_total s calls callable Ever k t fs (held t (and_parts _ _ h).0)
+        (held_each_at fs (and_parts (is_restricted t) (are_restricted_at fs) h).1)
 
   stored : (t : Term) → s.resolution ≡ deep → IsStored s.store t → Found t
   stored t d i = held t (each_stored IsRestrictedPart s.store (restricted d) t i)

@@ -1,6 +1,7 @@
 -- A part of a record: it is projectable or restricted where the record is.
-use Rattle.std.specs.Prelude.{◌≡◌, Bool, true, false, cond, ◌&&◌, Some}
-use Rattle.std.proofs.Common.{refl, ap, sym, ◌∙◌, subst}
+use Rattle.std.specs.Prelude.{◌≡◌, Bool, true, false, cond, Some}
+use Rattle.std.proofs.Common.{ap, sym, ◌∙◌, subst}
+use Rattle.std.proofs.lemmas.Bool.{and_parts}
 use Rattle.cedar_model.specs.Terms.{Text, Term, Fields, no_fields, one_field}
 use Rattle.cedar_model.specs.Shapes.{is_projectable, are_projectable_at, is_restricted, are_restricted_at}
 use Rattle.cedar_model.specs.Outcomes.{text_eq}
@@ -8,14 +9,6 @@ use Rattle.cedar_model.specs.Operators.{term_at}
 use Rattle.cedar_model.specs.Rules.{fields_of_record}
 use Rattle.cedar_model.proofs.Projection.{record_is}
 use Rattle.cedar_model.proofs.Injections.{some_inj, none_is_not_some}
-
-pub both_first : (b c : Bool) → (b && c) ≡ true → b ≡ true
-both_first true c e = refl
-both_first false c e = e
-
-pub both_second : (b c : Bool) → (b && c) ≡ true → c ≡ true
-both_second true c e = e
-both_second false c e = absurd (cc)
 
 -- a fact of the part under a key, from the fact of each part
 pub part_such : (Such : Term → Type 0) (Each : Fields → Type 0) → ((l : Text) (t : Term) (fs : Fields) →
@@ -35,14 +28,14 @@ pub projectable_part : (r : Term) (fs : Fields) (k : Text) (part : Term) → fie
     term_at k fs ≡ Some part → is_projectable r ≡ true → is_projectable part ≡ true
 projectable_part r fs k part e f h =
     part_such (λ t. is_projectable t ≡ true) (λ gs. are_projectable_at gs ≡ true) (λ l t gs g. (
-      both_first _ _ g,
-      both_second _ _ g,
+      (and_parts _ _ g).0,
+      (and_parts _ _ g).1,
     )) k fs part (sym (ap is_projectable (record_is r fs e)) ∙ h) f
 
 pub restricted_part : (r : Term) (fs : Fields) (k : Text) (part : Term) → fields_of_record r ≡ Some fs →
     term_at k fs ≡ Some part → is_restricted r ≡ true → is_restricted part ≡ true
 restricted_part r fs k part e f h =
     part_such (λ t. is_restricted t ≡ true) (λ gs. are_restricted_at gs ≡ true) (λ l t gs g. (
-      both_first _ _ g,
-      both_second _ _ g,
+      (and_parts _ _ g).0,
+      (and_parts _ _ g).1,
     )) k fs part (sym (ap is_restricted (record_is r fs e)) ∙ h) f

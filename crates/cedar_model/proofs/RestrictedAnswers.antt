@@ -5,6 +5,7 @@ use Rattle.std.specs.declared.cmp.Ordering.{Ordering}
 use Rattle.std.specs.declared.cmp.Ordering.TheVariants.{Less, Equal, Greater}
 use Rattle.std.specs.Ordering.{match_ordering}
 use Rattle.std.proofs.Common.{refl, subst, sym, ◌∙◌}
+use Rattle.std.proofs.lemmas.Bool.{and_parts}
 use Rattle.cedar_model.specs.Terms.{Text, ValueType}
 use Rattle.cedar_model.specs.Terms.{Term, literal, variable, slot}
 use Rattle.cedar_model.specs.Terms.{unknown, if_then_else, both, either, unary, binary, call, get_attribute}
@@ -30,7 +31,6 @@ use Rattle.cedar_model.specs.Restricted
 use Rattle.cedar_model.specs.Restricted.{IsSound, AreSound, AreSoundAt, IsSoundPart, IsSoundContext, IsGivenSound}
 use Rattle.cedar_model.specs.RestrictedLaws.{AnswersSound}
 use Rattle.cedar_model.specs.Depth.{ContextFollows}
-use Rattle.cedar_model.proofs.RecordParts.{both_first, both_second}
 
 -- ---- nothing of request, store and slots is read
 
@@ -63,11 +63,11 @@ module _ (s z : Setting) (calls : Rules.StoredCalls) (maps : s.map ≡ z.map)
         Rules.Parts (Rules.Runs s calls n) ts r → Rules.Parts (Rules.Runs z calls n) ts r
     each_reads_nothing n no_terms r p h = h
     each_reads_nothing n (one_term t ts) r p (fails e, g, h) =
-        (fails e, reads_nothing n t (fails e) (both_first _ _ p) g, h)
+        (fails e, reads_nothing n t (fails e) (and_parts _ _ p).0 g, h)
     each_reads_nothing n (one_term t ts) r p (answers q, g, (k, h, e)) = (
       answers q,
-      reads_nothing n t (answers q) (both_first _ _ p) g,
-      (k, each_reads_nothing n ts k (both_second _ _ p) h, e),
+      reads_nothing n t (answers q) (and_parts _ _ p).0 g,
+      (k, each_reads_nothing n ts k (and_parts _ _ p).1 h, e),
     )
 
     each_at_reads_nothing : (n : ℕ) (fs : Fields) (r : Result (List (Text × PartialValue)) Failure) →
@@ -75,11 +75,11 @@ module _ (s z : Setting) (calls : Rules.StoredCalls) (maps : s.map ≡ z.map)
         Rules.FieldParts (Rules.Runs z calls n) fs r
     each_at_reads_nothing n no_fields r p h = h
     each_at_reads_nothing n (one_field l t fs) r p (fails e, g, h) =
-        (fails e, reads_nothing n t (fails e) (both_first _ _ p) g, h)
+        (fails e, reads_nothing n t (fails e) (and_parts _ _ p).0 g, h)
     each_at_reads_nothing n (one_field l t fs) r p (answers q, g, (k, h, e)) = (
       answers q,
-      reads_nothing n t (answers q) (both_first _ _ p) g,
-      (k, each_at_reads_nothing n fs k (both_second _ _ p) h, e),
+      reads_nothing n t (answers q) (and_parts _ _ p).0 g,
+      (k, each_at_reads_nothing n fs k (and_parts _ _ p).1 h, e),
     )
 
 -- ---- the expression of a sound value is restricted
@@ -310,16 +310,16 @@ module _ (s : Setting) (calls : Rules.StoredCalls) (sound : AnswersSound calls s
     each_runs_written n no_terms r p h = subst WrittenResult (sym h) tt
     each_runs_written n (one_term t ts) r p (fails e, g, h) = subst WrittenResult (sym h) tt
     each_runs_written n (one_term t ts) r p (answers q, g, (k, h, e)) =
-        subst WrittenResult (sym e) (written_then q k (runs_written n t (answers q) (both_first _ _ p) g)
-        (each_runs_written n ts k (both_second _ _ p) h))
+        subst WrittenResult (sym e) (written_then q k (runs_written n t (answers q) (and_parts _ _ p).0 g)
+        (each_runs_written n ts k (and_parts _ _ p).1 h))
 
     each_at_runs_written : (n : ℕ) (fs : Fields) (r : Result (List (Text × PartialValue)) Failure) →
         are_restricted_at fs ≡ true → Rules.FieldParts (Rules.Runs s calls n) fs r → WrittenResultAt r
     each_at_runs_written n no_fields r p h = subst WrittenResultAt (sym h) tt
     each_at_runs_written n (one_field l t fs) r p (fails e, g, h) = subst WrittenResultAt (sym h) tt
     each_at_runs_written n (one_field l t fs) r p (answers q, g, (k, h, e)) =
-        subst WrittenResultAt (sym e) (written_then_at l q k (runs_written n t (answers q) (both_first _ _ p) g)
-        (each_at_runs_written n fs k (both_second _ _ p) h))
+        subst WrittenResultAt (sym e) (written_then_at l q k (runs_written n t (answers q) (and_parts _ _ p).0 g)
+        (each_at_runs_written n fs k (and_parts _ _ p).1 h))
 
   -- a restricted expression answers a sound value or a restricted residual
   pub stays_restricted : (t : Term) (q : PartialValue) → is_restricted t ≡ true → Rules.Allows s calls t (answers q) →
@@ -400,12 +400,12 @@ mutual
   restricted_have_none : (ts : Terms) → are_restricted ts ≡ true → Restricted.first_disallowed_of ts ≡ None
   restricted_have_none no_terms e = refl
   restricted_have_none (one_term t ts) e =
-      none_both _ _ (restricted_has_none t (both_first _ _ e)) (restricted_have_none ts (both_second _ _ e))
+      none_both _ _ (restricted_has_none t (and_parts _ _ e).0) (restricted_have_none ts (and_parts _ _ e).1)
 
   restricted_have_none_at : (fs : Fields) → are_restricted_at fs ≡ true → Restricted.first_disallowed_at fs ≡ None
   restricted_have_none_at no_fields e = refl
   restricted_have_none_at (one_field k t fs) e =
-      none_both _ _ (restricted_has_none t (both_first _ _ e)) (restricted_have_none_at fs (both_second _ _ e))
+      none_both _ _ (restricted_has_none t (and_parts _ _ e).0) (restricted_have_none_at fs (and_parts _ _ e).1)
 
 pub none_disallowed : (t : Term) → (Restricted.first_disallowed t ≡ None ↔ (is_restricted t ≡ true))
 none_disallowed t = (none_is_restricted t, restricted_has_none t)
@@ -445,13 +445,13 @@ module _ (m : Mapping) (mapped_sound : (n : Text) (v : Represented) → m n ≡ 
         are_restricted (substituted_each m ts) ≡ true
     substituted_each_restricted no_terms e = refl
     substituted_each_restricted (one_term t ts) e =
-        λ i. substituted_restricted t (both_first _ _ e) i && substituted_each_restricted ts (both_second _ _ e) i
+        λ i. substituted_restricted t (and_parts _ _ e).0 i && substituted_each_restricted ts (and_parts _ _ e).1 i
 
     pub substituted_at_restricted : (fs : Fields) → are_restricted_at fs ≡ true →
         are_restricted_at (substituted_at m fs) ≡ true
     substituted_at_restricted no_fields e = refl
     substituted_at_restricted (one_field k t fs) e =
-        λ i. substituted_restricted t (both_first _ _ e) i && substituted_at_restricted fs (both_second _ _ e) i
+        λ i. substituted_restricted t (and_parts _ _ e).0 i && substituted_at_restricted fs (and_parts _ _ e).1 i
 
 module _ (s : Setting) (calls : Rules.StoredCalls) (m : Mapping) (sound : IsGivenSound calls s)
     (mapped_sound : (n : Text) (v : Represented) → m n ≡ Some v → IsSound v) where

@@ -1,7 +1,8 @@
 -- What stands for an outcome where parts in turn answer so: sets, records, calls.
-use Rattle.std.specs.Prelude.{◌≡◌, ℕ, suc, ◌==◌, Bool, true, false, cond, List, [], ◌∷◌, map, length, Option}
+use Rattle.std.specs.Prelude.{◌≡◌, ℕ, ◌==◌, Bool, true, false, cond, List, [], ◌∷◌, map, length, Option}
 use Rattle.std.specs.Prelude.{Some, None, Result, Ok, Err}
 use Rattle.std.proofs.Common.{refl, sym, ap, ◌∙◌, subst}
+use Rattle.std.proofs.lemmas.List.{length-map}
 use Rattle.cedar_model.specs.Terms.{Text}
 use Rattle.cedar_model.specs.Terms.{ValueType}
 use Rattle.cedar_model.specs.Terms.{Term, literal, variable}
@@ -296,10 +297,6 @@ module _ (ans : Functions) (w : World) (s : Setting) where
       function_sound (answers (residual r)) b e f g = asked r b e g
       function_sound (fails x) b e f g = kind_answer (failure_kind x) b e
 
-      pub length_map : (vs : List Represented) → length (map abstract_value vs) ≡ length vs
-      length_map [] = refl
-      length_map (v ∷ vs) = ap suc (length_map vs)
-
       pub counts_sound : (b : Bool) (n : ℕ) (f : Text) (vs : List Represented) (a : Answer) → Agreement.FitsFunction ans w f
           → Agreement.AllFaithful s.extensions ans vs → Rules.Counts calls b n f vs a
           → Sound a (cond b (Meaning.function_meaning w (ans f (map abstract_value vs))) (errs wrong_number_of_arguments))
@@ -316,7 +313,7 @@ module _ (ans : Functions) (w : World) (s : Setting) where
       looks_sound None f vs a fit h r = by_equal ans w s a _ _ r refl
       looks_sound (Some m) f vs a fit h r =
           subst (λ l. Sound a (cond (l == m) (Meaning.function_meaning w (ans f (map abstract_value vs)))
-          (errs wrong_number_of_arguments))) (sym (length_map vs)) (counts_sound (length vs == m) m f vs a fit h r)
+          (errs wrong_number_of_arguments))) (sym (length-map vs abstract_value)) (counts_sound (length vs == m) m f vs a fit h r)
 
       pub values_sound : (o : Option (List Represented)) (f : Text) (ps : List PartialValue) (ts : Terms) (a : Answer)
           → Agreement.FitsFunction ans w f → Rules.values_of_parts ps ≡ o → SoundEach ps ts

@@ -10,8 +10,8 @@ use Rattle.cedar_model.specs.Reordering.{IsReordering, nothing, keeping, swappin
 use Rattle.cedar_model.specs.Authorizations.{Authorized, IsExactResponse}
 use Rattle.cedar_model.specs.AuthorizationLaws
 use Rattle.cedar_model.specs.AuthorizationLaws.{AgreeWhollyAs}
-use Rattle.cedar_model.proofs.Decisions.{or_swap}
 use Rattle.cedar_model.proofs.Counted
+use Rattle.cedar_model.specs.lemmas.Sets.{or_swap}
 
 map_reordered : {A B : Type 0} (f : A → B) {xs ys : List A} → IsReordering A xs ys
     → IsReordering B (map f xs) (map f ys)

@@ -16,10 +16,11 @@ use Rattle.cedar_model.specs.Agreement.{FailsFor}
 use Rattle.cedar_model.specs.Policies.{Effect, permit, forbid, Policy, Verdict, satisfied, unsatisfied, erring, verdict}
 use Rattle.cedar_model.specs.Policies.{ErrorHandling, skip, forbid_on_error, counted_verdict}
 use Rattle.cedar_model.specs.Terms.{Term}
-use Rattle.cedar_model.specs.Reordering.{IsReordering, nothing, keeping}
+use Rattle.cedar_model.specs.Reordering.{IsReordering}
 use Rattle.cedar_model.specs.Responses
 use Rattle.cedar_model.proofs.Recorded
 use Rattle.cedar_model.proofs.Soundness.{sound_stands, runs_sound}
+use Rattle.cedar_model.proofs.Decisions.{reorder_refl}
 
 bool_is : (a : AbstractValue) (b : Bool) → bool_of a ≡ Some b → a ≡ plain (bool_literal b)
 unfolding bool_of
@@ -204,10 +205,6 @@ module _ (mode : ErrorHandling) (ans : Functions) (calls : StoredCalls) (agree :
       (with_slots_done ans w s p.slots done) faithful levels p.condition a f.0 g) in
       subst (Responses.StandInOrder mode s.extensions ans w (p ∷ ps)) (sym e)
       (refl, refl, answer_stands mode ans w s p a z.0 k, run_stands ps rest later f.1 z.1 j)
-
-reorder_refl : {A : Type 0} (xs : List A) → IsReordering A xs xs
-reorder_refl [] = nothing
-reorder_refl (x ∷ xs) = keeping x (reorder_refl xs)
 
 pub in_order_stands : (rows : List Responses.Row) (P : List Responses.Row → Type 0) → P rows
     → (ordered : List Responses.Row) × IsReordering Responses.Row ordered rows × P ordered

@@ -3,7 +3,6 @@ use Rattle.std.specs.Prelude.{◌≡◌, true, false, [], ◌∷◌, Ok, codes}
 use Rattle.std.proofs.Common.{refl}
 use Rattle.cedar_model.specs.Terms.{bool_literal}
 use Rattle.cedar_model.specs.Values.{plain_represented, abstract_value}
-use Rattle.cedar_model.specs.Failures.{PartialValue}
 use Rattle.cedar_model.specs.Policies.{forbid_on_error}
 use Rattle.cedar_model.specs.Settings.{Setting}
 use Rattle.cedar_model.specs.Agreement
@@ -15,8 +14,7 @@ use Rattle.cedar_model.specs.ChainExamples.{no_map, empty_store, request_setting
 use Rattle.cedar_model.specs.ChainExamples.{strict_world, shallow_step}
 use Rattle.cedar_model.proofs.Exemplified
 use Rattle.cedar_model.proofs.Configured.{configured_by}
-use Rattle.cedar_model.proofs.TwoSteps.{functional, faithful}
-use Rattle.cedar_model.proofs.Injections.{none_is_not_some}
+use Rattle.cedar_model.proofs.TwoSteps.{functional, faithful, nothing_stored}
 
 abbrev pub s : Setting
 s = request_setting known_request
@@ -104,9 +102,6 @@ unfolding Exemplified.chain_opened
 chained = (Ok denied, is_denied, refl)
 
 -- ---- the world
-
-nothing_stored : (Such : PartialValue → Type 0) → Agreement.EachStored Such empty_store
-nothing_stored Such e x k p h = absurd (none_is_not_some h)
 
 store_completes : Headline.CompletesStore s.extensions some_functions strict_world empty_store
 unfolding Exemplified.chain_opened

@@ -155,7 +155,7 @@ names_all = record {
 
 -- ---- the world
 
-nothing_stored : (Such : PartialValue → Type 0) → Agreement.EachStored Such empty_store
+pub nothing_stored : (Such : PartialValue → Type 0) → Agreement.EachStored Such empty_store
 nothing_stored Such e x k p h = absurd (none_is_not_some h)
 
 store_completes : Headline.CompletesStore s.extensions some_functions chain_world empty_store

@@ -26,7 +26,7 @@ unfolding Operators.expecting
 expecting_values None e next h = tt
 expecting_values (Some x) e next h = h x
 
-concrete_found : (o : Option StoredEntity) (b : Bool) → b ≡ false → found_in o b ≡ not_known → ⊥
+pub concrete_found : (o : Option StoredEntity) (b : Bool) → b ≡ false → found_in o b ≡ not_known → ⊥
 unfolding found_in
 concrete_found None true e h = absurd (cc)
 concrete_found None false e h = cc

@@ -6,6 +6,7 @@ use Rattle.std.specs.Bool.{one_answer}
 use Rattle.std.specs.Option.{option_eq, option_map}
 use Rattle.std.specs.Cmp.Lexicographic.{pointwise}
 use Rattle.std.proofs.lemmas.Bool.Decides.{Decides-eqb, Decides-int_eq}
+use Rattle.std.proofs.Math.Bool.{and-true}
 use Rattle.cedar_model.specs.Keys.{end_key, number_key, key_cmp, text_key}
 use Rattle.cedar_model.specs.lemmas.Codes.{texts_key, type_key, pattern_key}
 use Rattle.cedar_names.specs.declared.names.EntityUID.{EntityUID}
@@ -37,7 +38,7 @@ use Rattle.cedar_model.specs.Outcomes.{entity_eq, type_eq}
 use Rattle.cedar_names.specs.Equality.{key_eq, texts_eq, literal_eq, annotation_eq, variable_eq, slot_eq, unary_eq}
 use Rattle.cedar_names.specs.Equality.{binary_eq, pattern_eq}
 use Rattle.cedar_names.specs.EqualityLaws.{text_eq-key, entity_eq-key, type_eq-key}
-use Rattle.cedar_names.proofs.Equality.{then_eq, and_true}
+use Rattle.cedar_names.proofs.Equality.{then_eq}
 
 pub slots_equal : (a b : SlotId) → (derived_slot.ghosts).eq a b ≡ slot_eq (slot_view a) (slot_view b)
 unfolding slot_eq
@@ -139,7 +140,7 @@ annotations_equal (Some s) None = refl
 annotations_equal (Some s) (Some t) =
     types_equal s t
     ∙ sym (then_eq (key_cmp (type_key (type_view s)) (type_key (type_view t))) (key_cmp end_key end_key)
-    ∙ and_true (key_eq (type_key (type_view s)) (type_key (type_view t)))
+    ∙ and-true (key_eq (type_key (type_view s)) (type_key (type_view t)))
     ∙ type_eq-key (type_view s) (type_view t))
 
 codes_equal : (x y : ℕ) → nat_eq x y ≡ int_eq (pos x) (pos y)

@@ -7,16 +7,16 @@ use Rattle.cedar_model.specs.Outcomes.{escaped}
 use Rattle.cedar_names.specs.Texts.{entity_text}
 use Rattle.cedar_names.proofs.Escapes.{escaped_byte, escaped-cons, escaped-nil}
 
-head_same : {a b : ℕ} {xs ys : List ℕ} → a ∷ xs ≡ b ∷ ys → a ≡ b
+pub head_same : {a b : ℕ} {xs ys : List ℕ} → a ∷ xs ≡ b ∷ ys → a ≡ b
 head_same e = cc
 
-tail_same : {a b : ℕ} {xs ys : List ℕ} → a ∷ xs ≡ b ∷ ys → xs ≡ ys
+pub tail_same : {a b : ℕ} {xs ys : List ℕ} → a ∷ xs ≡ b ∷ ys → xs ≡ ys
 tail_same e = cc
 
-cons_same : {a b : ℕ} {xs ys : List ℕ} → a ≡ b → xs ≡ ys → a ∷ xs ≡ b ∷ ys
+pub cons_same : {a b : ℕ} {xs ys : List ℕ} → a ≡ b → xs ≡ ys → a ∷ xs ≡ b ∷ ys
 cons_same p q = cc
 
-nil_cons : {a : ℕ} {xs : List ℕ} → [] ≡ a ∷ xs → ⊥
+pub nil_cons : {a : ℕ} {xs : List ℕ} → [] ≡ a ∷ xs → ⊥
 nil_cons e = cc
 
 not_colon_backslash : ◌≡◌ {A = ℕ} 58 92 → ⊥
@@ -28,7 +28,7 @@ not_quote_colon e = omega arith
 not_backslash_quote : ◌≡◌ {A = ℕ} 92 34 → ⊥
 not_backslash_quote e = omega arith
 
-last_same : (xs ys : List ℕ) (a : ℕ) → xs ++ a ∷ [] ≡ ys ++ a ∷ [] → xs ≡ ys
+pub last_same : (xs ys : List ℕ) (a : ℕ) → xs ++ a ∷ [] ≡ ys ++ a ∷ [] → xs ≡ ys
 last_same [] [] a e = refl
 last_same [] (y ∷ []) a e = absurd (nil_cons (tail_same e))
 last_same [] (y ∷ z ∷ ys) a e = absurd (nil_cons (tail_same e))

@@ -5,3 +5,4 @@ pub mod Equality
 pub mod Derived
 pub mod Hashing
 pub mod Matching
+pub mod Among

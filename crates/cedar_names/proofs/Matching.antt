@@ -2,6 +2,8 @@
 use Rattle.std.proofs.Common.{◌≡◌, ℕ, zero, suc, ◌+◌, ◌*◌, ◌<◌, ◌≤◌, Bool, true, false, ◌&&◌, ◌||◌, ◌==◌, List, [], ◌∷◌, ◌++◌, map, length, drop, append_assoc, refl, sym, ap, subst, ◌∙◌, arith}
 use Rattle.std.proofs.Math.Nat.{mul-le-mul_left}
 use Rattle.std.proofs.lemmas.Bool.Decides.{Decides-eqb}
+use Rattle.std.proofs.Math.Bool.{or-false}
+use Rattle.std.proofs.lemmas.Bool.{or_right}
 use Rattle.cedar_model.specs.Terms.{PatternPart, character, wildcard}
 use Rattle.cedar_model.specs.Outcomes.{some_end, matches}
 
@@ -10,21 +12,10 @@ abbrev pub later : (List ℕ → Bool) → List ℕ → Bool
 later test [] = false
 later test (c ∷ cs) = some_end test cs
 
-or_false : (b : Bool) → (b || false) ≡ b
-or_false true = refl
-or_false false = refl
-
 some_end-split : (test : List ℕ → Bool) (cs : List ℕ) → some_end test cs ≡ (test cs || later test cs)
 unfolding some_end matches
-some_end-split test [] = sym (or_false (test []))
+some_end-split test [] = sym (or-false (test []))
 some_end-split test (c ∷ cs) = refl
-
-or_left : (a b : Bool) → a ≡ true → (a || b) ≡ true
-or_left a b e = ap (λ x. x || b) e
-
-or_right : (a b : Bool) → b ≡ true → (a || b) ≡ true
-or_right true b e = refl
-or_right false b e = e
 
 -- a wildcard may take one character more
 longer : (test : List ℕ → Bool) (c : ℕ) (cs : List ℕ) → some_end test cs ≡ true → some_end test (c ∷ cs) ≡ true
@@ -84,7 +75,7 @@ pub record IsWalk (ps : List PatternPart) (cs : List ℕ) (qs : List PatternPart
 
 pub starts : (ps : List PatternPart) (cs : List ℕ) → IsWalk ps cs ps cs false ps cs
 unfolding some_end matches
-starts ps cs = record { same = sym (or_false (matches ps cs)); seen = []; more_is = refl; from_is = refl }
+starts ps cs = record { same = sym (or-false (matches ps cs)); seen = []; more_is = refl; from_is = refl }
 
 pub skips : {ps qs ms : List PatternPart} {cs ds fs : List ℕ} {after : Bool} (us : List PatternPart) → qs ≡ wildcard ∷ us → IsWalk ps cs qs ds after ms fs → IsWalk ps cs us ds true us ds
 unfolding some_end matches

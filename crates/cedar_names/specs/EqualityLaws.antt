@@ -15,16 +15,11 @@ use Rattle.cedar_model.specs.Terms.{BinaryOperator, PatternPart, Term, Terms, Fi
 use Rattle.cedar_model.specs.Outcomes.{text_eq, entity_eq, type_eq}
 use Rattle.cedar_model.specs.Keys.{Key, number_key, text_key, entity_key, literal_key, number_of_key, entity_of_key}
 use Rattle.cedar_model.specs.Keys.{literal_of_key, key_cmp}
-use Rattle.cedar_model.specs.lemmas.Keys.{entity_of_key-entity_key, literal_of_key-literal_key, key_cmp-equal}
+use Rattle.cedar_model.specs.lemmas.Keys.{entity_of_key-entity_key, literal_of_key-literal_key, key_cmp-equal, is_eq-true}
 use Rattle.cedar_model.specs.lemmas.Keys.{key_cmp-self, key_cmp-total, key_cmp-text_key}
 use Rattle.cedar_model.specs.lemmas.Codes.{type_key, type_of_key, type_of_key-type_key, annotation_key, annotation_of_key, annotation_of_key-annotation_key, variable_number, variable_of_number, variable_of_number-variable_number, slot_number, slot_of_number, slot_of_number-slot_number, unary_number, unary_of_number, unary_of_number-unary_number, binary_number, binary_of_number, binary_of_number-binary_number, pattern_key, pattern_of_key, pattern_of_key-pattern_key, term_key, term_of_key, term_of_key-term_key, terms_key, terms_of_key, terms_of_key-terms_key, fields_key, fields_of_key, fields_of_key-fields_key}
 use Rattle.cedar_names.specs.Equality.{key_eq, literal_eq, annotation_eq, variable_eq, slot_eq, unary_eq, binary_eq}
 use Rattle.cedar_names.specs.Equality.{pattern_eq, term_eq, terms_eq, fields_eq}
-
-is_eq-true : (o : Ordering) → is_eq o ≡ true → o ≡ Equal
-is_eq-true Less e = absurd (cc)
-is_eq-true Equal e = refl
-is_eq-true Greater e = absurd (cc)
 
 -- the model's tests of texts, entities and types are the tests by their keys
 pub text_eq-key : (a b : Text) → key_eq (text_key a) (text_key b) ≡ text_eq a b

@@ -1,5 +1,6 @@
 -- The elements on the right of `in`, one by one.
 use Rattle.std.proofs.Common.{◌≡◌, ◌≢◌, Bool, true, false, ◌||◌, List, [], ◌∷◌, Option, Some, None, refl, sym, ap, ◌∙◌}
+use Rattle.std.proofs.Math.Bool.{or-false, or_assoc}
 use Rattle.cedar_model.specs.Terms.{EntityName}
 use Rattle.cedar_model.specs.Values.{AbstractValue, AbstractValues, no_values, one_value, abstract_value, abstract_values}
 use Rattle.cedar_model.specs.Sets.{represented_values_of}
@@ -15,14 +16,6 @@ use Rattle.cedar_errors.specs.Answers.{FailsWith}
 -- the elements of a list
 abbrev pub elements_in : List Placed → AbstractValues
 elements_in ps = abstract_values (represented_values_of (whats ps))
-
-or_assoc : (a b c : Bool) → ((a || b) || c) ≡ (a || (b || c))
-or_assoc true b c = refl
-or_assoc false b c = refl
-
-or_false : (a : Bool) → (a || false) ≡ a
-or_false true = refl
-or_false false = refl
 
 -- whether the test holds of one of the elements, or held of one before them
 abbrev pub answer_from : Bool → (EntityName → Bool) → Failure → AbstractValues → Answer
@@ -52,7 +45,7 @@ module _ (test : EntityName → Bool) (failure : Failure) where
   pub all_tested : (b : Bool) (vs : AbstractValues) → vs ≡ no_values → From b vs ≡ answers_bool b
   unfolding expecting entities_of_set some_entity
   all_tested b vs is =
-      ap (λ us. From b us) is ∙ ap answers_bool (or_false b)
+      ap (λ us. From b us) is ∙ ap answers_bool (or-false b)
 
   pub next_tested : (b : Bool) (ps more : List Placed) (p : Placed) (e : EntityName) (a : Answer) → From b (elements_in ps) ≡ a → ps ≡ p ∷ more → entity_of (abstract_value p.what) ≡ Some e → From (b || test e) (elements_in more) ≡ a
   next_tested b ps more p e a sofar is entity =

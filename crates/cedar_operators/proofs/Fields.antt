@@ -14,6 +14,7 @@ use Rattle.cedar_model.specs.Shapes.{is_projectable}
 use Rattle.cedar_model.specs.Failures.{fails, answers_residual}
 use Rattle.cedar_model.specs.Operators.{term_at, field_names, key_is_missing}
 use Rattle.cedar_model.specs.Rules.{fields_of_record}
+use Rattle.cedar_model.proofs.Injections.{is_some-option_map}
 use Rattle.cedar_expressions.specs.declared.expr.Expr.{Expr}
 use Rattle.cedar_expressions.specs.View.{view, fields_view}
 use Rattle.cedar_operators.specs.Parts.{answered, interpreted_again, projected, projection_of, projection_at}
@@ -40,10 +41,6 @@ unfolding field_names
 names-fields [] = refl
 names-fields (e ∷ es) = ap (λ l. rc_str_bytes e.0 ∷ l) (names-fields es)
 
-is_some-map : {A B : Type 0} (f : A → B) (o : Option A) → is_some (option_map f o) ≡ is_some o
-is_some-map f None = refl
-is_some-map f (Some x) = refl
-
 -- what a record's map has at a key
 pub field_at : (name : Text) (es : List (RcStr Global × Expr)) (o : Option Expr)
     → o ≡ lookup (is_at (λ k. slice_cmp nat_cmp name (rc_str_bytes k))) es
@@ -54,7 +51,7 @@ pub is_field : (name : Text) (es : List (RcStr Global × Expr)) (r : Option (Bor
     → option_copied r ≡ lookup (is_at (λ k. slice_cmp nat_cmp name (rc_str_bytes k))) es
     → is_some r ≡ is_some (term_at name (fields_view es))
 is_field name es r is =
-    sym (is_some-map (λ (x : Bor Expr). x.now) r) ∙ sym (is_some-map view (option_copied r))
+    sym (is_some-option_map (λ (x : Bor Expr). x.now) r) ∙ sym (is_some-option_map view (option_copied r))
     ∙ sym (ap is_some (field_at name es (option_copied r) is))
 
 -- ---- the attribute of a record that is a residual

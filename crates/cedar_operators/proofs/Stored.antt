@@ -15,6 +15,7 @@ use Rattle.cedar_model.specs.Failures.{answers_bool}
 use Rattle.cedar_model.specs.Settings.{Store}
 use Rattle.cedar_model.specs.Operators.{represented_at, container_of, container_expected, last_in, walk_in, walk_to}
 use Rattle.cedar_model.specs.Operators.{stored_attribute, mapped, path_answer, after_walk, walks_on, stops}
+use Rattle.cedar_model.proofs.Injections.{is_some-option_map}
 use Rattle.cedar_names.specs.Leaves.{texts_view}
 use Rattle.cedar_values.specs.Sound.{Placed, whats_at}
 use Rattle.cedar_operators.proofs.Keys.{whats-lookup}
@@ -43,17 +44,13 @@ stored_as_is (residual (record_of fs)) f = refl
 
 -- ---- records
 
-is_some-map : {A B : Type 0} (f : A → B) (o : Option A) → is_some (option_map f o) ≡ is_some o
-is_some-map f None = refl
-is_some-map f (Some x) = refl
-
 -- what a record's map has at a key
 pub at_key : (name : Text) (es : List (RcStr Global × Placed)) (o : Option Placed) → o ≡ lookup (is_at (λ k. slice_cmp nat_cmp name (rc_str_bytes k))) es → option_map (λ (p : Placed). p.what) o ≡ represented_at name (whats_at es)
 at_key name es o is = ap (option_map (λ (p : Placed). p.what)) is ∙ whats-lookup name es
 
 pub is_at_key : (name : Text) (es : List (RcStr Global × Placed)) (r : Option (Bor Placed)) → option_copied r ≡ lookup (is_at (λ k. slice_cmp nat_cmp name (rc_str_bytes k))) es → is_some r ≡ is_some (represented_at name (whats_at es))
 is_at_key name es r is =
-    sym (is_some-map (λ (x : Bor Placed). x.now) r) ∙ sym (is_some-map (λ (p : Placed). p.what) (option_copied r)) ∙ ap is_some (at_key name es (option_copied r) is)
+    sym (is_some-option_map (λ (x : Bor Placed). x.now) r) ∙ sym (is_some-option_map (λ (p : Placed). p.what) (option_copied r)) ∙ ap is_some (at_key name es (option_copied r) is)
 
 -- a step by a key that is there, and by one that is not
 pub step_at_key : (name : Text) (es : List (RcStr Global × Placed)) (o : Option Placed) (v : Placed) → o ≡ lookup (is_at (λ k. slice_cmp nat_cmp name (rc_str_bytes k))) es → o ≡ Some v → walks_on v.what ≡ walk_to (represented_at name (whats_at es))

@@ -66,7 +66,3 @@ best_view (Err e) = handed_up (failure_of e)
 -- a call keeps or hands up this, unless it finds no memory
 abbrev pub IsBest : Result Expr EvaluationError → Best → Type 0
 IsBest r b = best_view r ≢ handed_up out_of_memory → best_view r ≡ b
-
--- whether an error of this kind is handed up: the recursion limit, or want of memory
-abbrev pub is_handed_up : FailureKind → Bool
-is_handed_up k = is_limit k || is_of_memory k

@@ -10,6 +10,7 @@ use Rattle.cedar_model.specs.World as world
 use Rattle.cedar_names.specs.declared.names.Loc.{Loc}
 use Rattle.cedar_expressions.specs.declared.expr.Expr.{Expr}
 use Rattle.cedar_model.specs.Refusals.{first_repeated}
+use Rattle.cedar_model.proofs.Injections.{fails_inj}
 use Rattle.cedar_expressions.specs.Records.{keys_view}
 use Rattle.cedar_errors.specs.Failures.{failure_of}
 use Rattle.cedar_errors.specs.declared.evaluator.err.EvaluationError.{EvaluationError}
@@ -32,9 +33,6 @@ pub same_answer : (s : Setting) (calls : StoredCalls) (m n : ℕ) (t u : Term) (
 same_answer s calls m n t u a b e f g h =
     subst (λ y. IsAnswerWithin s calls y u b) e
     (subst (λ y. IsAnswerWithin s calls m y b) f (subst (λ y. IsAnswerWithin s calls m t y) g h))
-
-one_failure : (e : Failure) → fails e ≡ fails out_of_memory → e ≡ out_of_memory
-one_failure e h = cc
 
 module _ (s : Setting) (calls : StoredCalls) (n : ℕ) where
   -- where no key comes again the record is answered
@@ -62,7 +60,7 @@ module _ (s : Setting) (calls : StoredCalls) (n : ℕ) where
   refused_answer t e (refusals.Evaluation f) refusal h =
       let same : failure_of f ≡ failure_of e = ap failure_of refusal.0 in (
         subst (λ y. IsAnswerWithin s calls n t (fails y)) (sym same)
-            (h (λ w. refusal.1 (one_failure (failure_of e) w))),
+            (h (λ w. refusal.1 (fails_inj w))),
         λ w. refusal.1 (sym same ∙ w),
       )
   refused_answer t e (refusals.ExpressionConstruction r) refusal h = absurd refusal

@@ -2,6 +2,7 @@
 -- no store, so that it is enough to look at a world that has none.
 use Rattle.std.proofs.Common.{◌≡◌, ◌≢◌, ◌==◌, ℕ, Bool, true, false, ◌&&◌, cond, length, Option, None, Some, Result, Ok}
 use Rattle.std.proofs.Common.{Err, refl, sym, ap, ◌∙◌}
+use Rattle.std.proofs.lemmas.Bool.{and_parts}
 use Rattle.cedar_model.specs.Terms.{Text, EntityName, ValueType, Term, literal, variable, slot, unknown, if_then_else}
 use Rattle.cedar_model.specs.Terms.{both, either, unary, binary, call, get_attribute, has_attribute, extended_has, like}
 use Rattle.cedar_model.specs.Terms.{is_of_type, set_of, record_of, Terms, no_terms, one_term, Fields, no_fields}
@@ -33,24 +34,7 @@ use Rattle.cedar_requests.specs.declared.context.pairs.ContextPairs.TheVariants 
 use Rattle.cedar_requests.specs.declared.context.pairs.ResidualPairs.{ResidualPairs}
 use Rattle.cedar_requests.specs.Contexts.{context_part_value, context_pairs_view, residual_fields}
 use Rattle.cedar_requests.specs.Substitutions.{context_answer, CompletesContext, KeepsCompletions}
-use Rattle.cedar_model.proofs.Injections.{some_inj, none_is_not_some}
-
-gives_inj : {u v : AbstractValue} → gives u ≡ gives v → u ≡ v
-gives_inj e = cc
-
-record_inj : {fs gs : AbstractFields} → record_value fs ≡ record_value gs → fs ≡ gs
-record_inj e = cc
-
-no_want : (p : PartialValue) → answers p ≢ fails out_of_memory
-no_want p e = cc
-
-first_of : (a b : Bool) → a && b ≡ true → a ≡ true
-first_of true b h = refl
-first_of false b h = absurd (cc)
-
-second_of : (a b : Bool) → a && b ≡ true → b ≡ true
-second_of true b h = h
-second_of false b h = absurd (cc)
+use Rattle.cedar_model.proofs.Injections.{some_inj, none_is_not_some, answers_is_not_fails, gives_inj, record_inj}
 
 abbrev Stores : Type 0
 Stores = EntityName → Option WorldEntity
@@ -113,13 +97,13 @@ module _ (x : Extensions) (ans : Functions) (w : World) (s z : Stores) where
         ≡ meanings x ans (with_store w z) no_slots ts
     same_meanings no_terms e = refl
     same_meanings (one_term t ts) e =
-        λ i. value_then (same_meaning t (first_of _ _ e) i) (same_meanings ts (second_of _ _ e) i)
+        λ i. value_then (same_meaning t (and_parts _ _ e).0 i) (same_meanings ts (and_parts _ _ e).1 i)
 
     same_at : (fs : Fields) → are_restricted_at fs ≡ true → field_meanings x ans (with_store w s) no_slots fs
         ≡ field_meanings x ans (with_store w z) no_slots fs
     same_at no_fields e = refl
     same_at (one_field k t fs) e =
-        λ i. field_then k (same_meaning t (first_of _ _ e) i) (same_at fs (second_of _ _ e) i)
+        λ i. field_then k (same_meaning t (and_parts _ _ e).0 i) (same_at fs (and_parts _ _ e).1 i)
 
   same_type : (n : Text) (t : Option ValueType) → HasType (with_store w s) n t → HasType (with_store w z) n t
   same_type n None h = tt
@@ -229,4 +213,4 @@ module _ (x : Extensions) (calls : StoredCalls) (n : ℕ) (m : Mapping) (old : R
       stands x ans w c.pairs (meaning x ans empty no_slots t) (record_means x ans w _ (same ∙ means))
       (sound_stands ans calls agree empty z completes faithful t a
       (runs_sound ans calls agree empty z completes faithful n t a fit
-      (h z (own_bare x ans w fs) (no_want (context_part_value c))).runs))
+      (h z (own_bare x ans w fs) (answers_is_not_fails (context_part_value c) out_of_memory)).runs))

@@ -10,10 +10,12 @@ use Rattle.std.specs.Ordering.{is_eq, match_ordering}
 use Rattle.std.specs.BTreeMap.{insert_entry, is_at}
 use Rattle.std.specs.Map.{lookup}
 use Rattle.std.specs.List.{list_any}
+use Rattle.std.proofs.Math.Bool.{or_self_left}
 use Rattle.cedar_model.specs.Terms.{Text}
 use Rattle.cedar_model.specs.Values.{one_represented_at}
 use Rattle.cedar_model.specs.Outcomes.{text_eq}
 use Rattle.cedar_model.specs.Refusals.{first_repeated_after}
+use Rattle.cedar_model.specs.lemmas.Sets.{or_swap}
 use Rattle.cedar_names.specs.EqualityLaws.{text_eq-decides}
 use Rattle.cedar_expressions.specs.Nodes.{key_order}
 use Rattle.cedar_expressions.specs.Records.{repeated_key}
@@ -63,15 +65,6 @@ more_names [] k v l = refl
 more_names (p ∷ es) k v l =
     at_order (key_order k p.0) refl (more_names es k v l)
   where
-    swapped : (x y z : Bool) → (x || (y || z)) ≡ (y || (x || z))
-    swapped true true z = refl
-    swapped true false z = refl
-    swapped false y z = refl
-
-    twice : (x z : Bool) → (x || (x || z)) ≡ (x || z)
-    twice true z = refl
-    twice false z = refl
-
     at_order : (o : Ordering) → key_order k p.0 ≡ o
         → list_any (text_eq l) (rc_str_bytes k ∷ entry_names es)
         ≡ list_any (text_eq l) (entry_names (insert_entry key_order es k v))
@@ -84,9 +77,9 @@ more_names (p ∷ es) k v l =
         let b = rc_str_bytes p.0 in
         let rest : Bool = list_any (text_eq l) (entry_names es) in
         let same : a ≡ b = (text_eq-decides a b).0 (sym (text_eq-order a b) ∙ ap is_eq h) in
-        ap (λ t. text_eq l t || (text_eq l b || rest)) same ∙ twice (text_eq l b) rest
+        ap (λ t. text_eq l t || (text_eq l b || rest)) same ∙ or_self_left (text_eq l b) rest
     at_order Greater h rest =
-        swapped (text_eq l (rc_str_bytes k)) (text_eq l (rc_str_bytes p.0)) (list_any (text_eq l) (entry_names es))
+        or_swap (text_eq l (rc_str_bytes k)) (text_eq l (rc_str_bytes p.0)) (list_any (text_eq l) (entry_names es))
         ∙ ap (λ b. text_eq l (rc_str_bytes p.0) || b) rest
 
 pub names-step : (es : Entries) (k : RcStr Global) (v : Placed) (ks : List Text)

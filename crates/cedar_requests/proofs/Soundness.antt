@@ -9,7 +9,7 @@ use Rattle.cedar_model.specs.Outcomes.{text_eq}
 use Rattle.cedar_model.specs.Values.{Represented, expression_of}
 use Rattle.cedar_model.specs.Shapes.{is_restricted}
 use Rattle.cedar_model.specs.Restricted.{IsSound, IsSoundContext}
-use Rattle.cedar_values.specs.Sound.{Placed, AreSoundAt-whats_at, restricted-from_sound}
+use Rattle.cedar_values.specs.Sound.{Placed, AreSoundAt-whats_at, found_is_sound}
 use Rattle.cedar_requests.specs.declared.context.Context.{Context}
 use Rattle.cedar_requests.specs.declared.context.pairs.ContextPairs.{ContextPairs}
 use Rattle.cedar_requests.specs.declared.context.pairs.ContextPairs.TheVariants as kinds
@@ -18,6 +18,7 @@ use Rattle.cedar_requests.specs.Contexts.{context_pairs_view, context_view}
 use Rattle.cedar_requests.specs.Requests.{context_given, request_view}
 use Rattle.cedar_requests.specs.Substitutions.{values_for}
 use Rattle.cedar_model.proofs.Injections.{some_inj, none_is_not_some}
+use Rattle.cedar_model.proofs.RestrictedAnswers.{sound_restricted}
 
 -- ---- contexts and requests
 
@@ -40,10 +41,6 @@ request_is_sound r = given_context_is_sound r.context
 
 -- ---- maps of values
 
-found_is_sound : (o : Option Placed) (v : Represented) → option_map (λ (p : Placed). p.what) o ≡ Some v → IsSound v
-found_is_sound None v h = absurd (none_is_not_some h)
-found_is_sound (Some p) v h = subst IsSound (some_inj h) p.sound
-
 -- each value that a map has for an unknown is sound
 pub mapped_value_is_sound : (es : List (RcStr Global × Placed)) (n : Text) (v : Represented)
     → values_for es n ≡ Some v → IsSound v
@@ -52,4 +49,4 @@ mapped_value_is_sound es n v h = found_is_sound (lookup (λ (k : RcStr Global). 
 -- and is written as a restricted expression
 pub mapped_value_is_restricted : (es : List (RcStr Global × Placed)) (n : Text) (v : Represented)
     → values_for es n ≡ Some v → is_restricted (expression_of v) ≡ true
-mapped_value_is_restricted es n v h = restricted-from_sound v (mapped_value_is_sound es n v h)
+mapped_value_is_restricted es n v h = sound_restricted v (mapped_value_is_sound es n v h)

@@ -28,20 +28,14 @@ use Rattle.cedar_requests.specs.declared.context.pairs.ResidualPairs.{ResidualPa
 use Rattle.cedar_requests.specs.Contexts.{context_part_value, context_pairs_view, residual_fields}
 use Rattle.cedar_requests.specs.Substitutions.{values_for, context_answer, IsSubstituted}
 use Rattle.cedar_requests.specs.Substitutions.{IsSubstitutedWithin}
-use Rattle.cedar_model.proofs.Injections.{some_inj}
+use Rattle.cedar_requests.proofs.Soundness.{mapped_value_is_sound}
+use Rattle.cedar_model.proofs.Injections.{some_inj, answers_is_not_fails, fails_inj}
 
 -- ---- values of a map are sound, so that the record stays restricted
 
-found_sound : (o : Option Placed) (v : Represented) → option_map (λ (p : Placed). p.what) o ≡ Some v → IsSound v
-found_sound None v e = absurd (cc)
-found_sound (Some p) v e = subst IsSound (some_inj e) p.sound
-
-pub values_sound : (es : List (RcStr Global × Placed)) (n : Text) (v : Represented) → values_for es n ≡ Some v → IsSound v
-values_sound es n v e = found_sound (lookup (λ (k : RcStr Global). text_eq n (rc_str_bytes k)) es) v e
-
 pub record_restricted : (es : List (RcStr Global × Placed)) (fs : Fields) → are_restricted_at fs ≡ true →
     is_restricted (record_of (substituted_at (values_for es) fs)) ≡ true
-record_restricted es fs h = substituted_at_restricted (values_for es) (values_sound es) fs h
+record_restricted es fs h = substituted_at_restricted (values_for es) (mapped_value_is_sound es) fs h
 
 pub record_substituted : (m : Mapping) (fs : Fields) → substituted m (record_of fs) ≡ record_of (substituted_at m fs)
 unfolding substituted
@@ -55,12 +49,6 @@ unfolding context_value
 own_pairs (kinds.Values m) = refl
 own_pairs (kinds.Residual r) = refl
 
-no_want : (p : PartialValue) → answers p ≢ fails out_of_memory
-no_want p e = cc
-
-one_failure : (e : Failure) → fails e ≡ fails out_of_memory → e ≡ out_of_memory
-one_failure e h = cc
-
 -- what is answered within the levels without the map is what a step makes of the context
 pub step_answer : (s : Setting) (calls : StoredCalls) (n : ℕ) (m : Mapping) (c : ContextPart)
     (r : Result Context EvaluationError) → IsSubstitutedWithin (without_map s) calls n m c r
@@ -68,10 +56,10 @@ pub step_answer : (s : Setting) (calls : StoredCalls) (n : ℕ) (m : Mapping) (c
 step_answer s calls n m absent_context r h want = h
 step_answer s calls n m (known_context fs) r h want = h
 step_answer s calls n m (residual_context fs) (Ok c) h want =
-    (answers (context_part_value c), (h (no_want (context_part_value c))).runs, own_pairs c.pairs)
+    (answers (context_part_value c), (h (answers_is_not_fails (context_part_value c) out_of_memory)).runs, own_pairs c.pairs)
 step_answer s calls n m (residual_context fs) (Err e) h want = (
   fails (failure_of e),
-  (h (λ w. want (ap (λ f. Err (context_fails f)) (one_failure (failure_of e) w)))).runs,
+  (h (λ w. want (ap (λ f. Err (context_fails f)) (fails_inj w)))).runs,
   refl,
 )
 

@@ -9,6 +9,7 @@ use Rattle.std.proofs.lemmas.Map.Keys.{sorted_tail, IsDistinct-from_sorted}
 use Rattle.std.proofs.lemmas.Map.Lookups.{exact_bytes}
 use Rattle.std.proofs.lemmas.Map.Made.{update_all_none}
 use Rattle.std.proofs.lemmas.Slice.Zip.{firsts-zip}
+use Rattle.std.proofs.lemmas.Option.{none-some}
 use Rattle.std.specs.BTreeMap.{IsFromIterResult, is_at}
 use Rattle.std.specs.Cmp.{IsTotalOrder, eq_by_cmp_equiv, tied_itself}
 use Rattle.std.specs.List.{zip}
@@ -56,20 +57,17 @@ module _ {A : Type 0} where
       lookup-none (is_at (key_order q)) es
       (none_past_head (eq_by_cmp_equiv keys_total) q e es (IsDistinct-from_sorted key_order _ s) t)
 
-  no_none : (v : A) → Some v ≡ None → ⊥
-  no_none v h = cc
-
   module _ (e f : Entry A) (es fs : List (Entry A)) (s : AreInOrder (e ∷ es)) (t : AreInOrder (f ∷ fs))
       (h : (q : RcStr Global) → find (e ∷ es) q ≡ find (f ∷ fs) q) where
     head_keys_by : (r : Ordering) → key_order e.0 f.0 ≡ r → key_order e.0 f.0 ≡ Equal
     head_keys_by Less p =
-        absurd (no_none e.1 (sym (found_at_head e es) ∙ h e.0 ∙
-        lookup-none _ (f ∷ fs) (none_below_head keys_total e.0 f fs t p)))
+        absurd (none-some e.1 (sym (sym (found_at_head e es) ∙ h e.0 ∙
+        lookup-none _ (f ∷ fs) (none_below_head keys_total e.0 f fs t p))))
     head_keys_by Equal p = p
     head_keys_by Greater p =
-        absurd (no_none f.1 (sym (found_at_head f fs) ∙ sym (h f.0) ∙
+        absurd (none-some f.1 (sym (sym (found_at_head f fs) ∙ sym (h f.0) ∙
         lookup-none _ (e ∷ es)
-        (none_below_head keys_total f.0 e es s (keys_total.antisymm f.0 e.0 ∙ ap ordering_reverse p))))
+        (none_below_head keys_total f.0 e es s (keys_total.antisymm f.0 e.0 ∙ ap ordering_reverse p)))))
 
     head_keys : key_order e.0 f.0 ≡ Equal
     head_keys = head_keys_by (key_order e.0 f.0) refl
@@ -97,8 +95,8 @@ module _ {A : Type 0} where
   same_entries : (es fs : List (Entry A)) → AreInOrder es → AreInOrder fs →
       ((q : RcStr Global) → find es q ≡ find fs q) → named_entries es ≡ named_entries fs
   same_entries [] [] s t h = refl
-  same_entries [] (f ∷ fs) s t h = absurd (no_none f.1 (sym (h f.0 ∙ found_at_head f fs)))
-  same_entries (e ∷ es) [] s t h = absurd (no_none e.1 (sym (found_at_head e es) ∙ h e.0))
+  same_entries [] (f ∷ fs) s t h = absurd (none-some f.1 (sym (sym (h f.0 ∙ found_at_head f fs))))
+  same_entries (e ∷ es) [] s t h = absurd (none-some e.1 (sym (sym (found_at_head e es) ∙ h e.0)))
   same_entries (e ∷ es) (f ∷ fs) s t h =
       let rest = same_entries es fs (sorted_tail key_order e.0 (keys_of es) s)
       (sorted_tail key_order f.0 (keys_of fs) t) (same_rest e f es fs s t h) in

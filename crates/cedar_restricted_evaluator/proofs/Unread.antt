@@ -1,6 +1,7 @@
 -- What a restricted expression means where nothing in it is unknown: the same in every world.
 use Rattle.std.proofs.Common.{◌≡◌, refl, ap, ◌∙◌, ℕ, Bool, true, false, cond, List, length, Option, Some, None}
 use Rattle.std.proofs.Common.{Result, Ok, Err}
+use Rattle.std.proofs.lemmas.Bool.{and_parts}
 use Rattle.std.specs.Prelude.{◌&&◌, ◌==◌}
 use Rattle.cedar_model.specs.Terms.{Text, Term, literal, variable, slot, unknown, if_then_else, both, either, unary}
 use Rattle.cedar_model.specs.Terms.{binary, call, get_attribute, has_attribute, extended_has, like, is_of_type, set_of}
@@ -14,14 +15,6 @@ use Rattle.cedar_model.specs.World.{Extensions, Functions}
 use Rattle.cedar_model.specs.Meaning.{meaning, meanings, field_meanings, value_then, field_then, and_then_all}
 use Rattle.cedar_model.specs.Meaning.{call_meaning, function_meaning}
 use Rattle.cedar_model.specs.Agreement.{NeverAsks, IsKnown, AreKnown, AreKnownAt}
-
-and_left : (a b : Bool) → a && b ≡ true → a ≡ true
-and_left true b h = refl
-and_left false b h = absurd (cc)
-
-and_right : (a b : Bool) → a && b ≡ true → b ≡ true
-and_right true b h = h
-and_right false b h = absurd (cc)
 
 module _ (X : Extensions) (ans : Functions) (w z : World) (slots others : Slots) where
   answer_unread : (f : Text) (vs : List AbstractValue) (a : FunctionAnswer) → NeverAsks ans f → ans f vs ≡ a
@@ -78,15 +71,15 @@ module _ (X : Extensions) (ans : Functions) (w z : World) (slots others : Slots)
     meanings_unread no_terms r k = refl
     meanings_unread (one_term t ts) r k =
         ap (λ o. value_then o (meanings X ans w slots ts))
-        (meaning_unread t (and_left (is_restricted t) (are_restricted ts) r) k.0)
+        (meaning_unread t (and_parts (is_restricted t) (are_restricted ts) r).0 k.0)
         ∙ ap (value_then (meaning X ans z others t))
-        (meanings_unread ts (and_right (is_restricted t) (are_restricted ts) r) k.1)
+        (meanings_unread ts (and_parts (is_restricted t) (are_restricted ts) r).1 k.1)
 
     field_meanings_unread : (fs : Fields) → are_restricted_at fs ≡ true → AreKnownAt ans fs
         → field_meanings X ans w slots fs ≡ field_meanings X ans z others fs
     field_meanings_unread no_fields r k = refl
     field_meanings_unread (one_field l t fs) r k =
         ap (λ o. field_then l o (field_meanings X ans w slots fs))
-        (meaning_unread t (and_left (is_restricted t) (are_restricted_at fs) r) k.0)
+        (meaning_unread t (and_parts (is_restricted t) (are_restricted_at fs) r).0 k.0)
         ∙ ap (field_then l (meaning X ans z others t))
-        (field_meanings_unread fs (and_right (is_restricted t) (are_restricted_at fs) r) k.1)
+        (field_meanings_unread fs (and_parts (is_restricted t) (are_restricted_at fs) r).1 k.1)

@@ -11,6 +11,7 @@ use Rattle.cedar_model.specs.Shapes.{is_restricted}
 use Rattle.cedar_model.specs.Settings.{Setting}
 use Rattle.cedar_model.specs.Rules.{StoredCalls, MayAnswer, Rule, Runs, Parts}
 use Rattle.cedar_model.specs.World as world
+use Rattle.cedar_model.proofs.Injections.{answers_is_not_fails}
 use Rattle.cedar_names.specs.declared.names.Loc.{Loc}
 use Rattle.cedar_expressions.specs.declared.expr.Expr.{Expr}
 use Rattle.cedar_expressions.specs.View.{view, terms_view, expr_loc}
@@ -35,12 +36,9 @@ use Rattle.cedar_restricted_evaluator.specs.Steps.{so_far_none, so_far_more, so_
 use Rattle.cedar_restricted_evaluator.specs.Steps.{whole_fails, whole_answers}
 use Rattle.cedar_restricted_evaluator.specs.Steps.{parts_restricted, next_restricted, left_after, none_left}
 
-no_fail : (p : model.PartialValue) (e : Failure) → answers p ≢ fails e
-no_fail p e h = cc
-
 no_place : (l : Option Loc) (r : Result PartialValue EvaluationError) (e : Failure) → partial_answer r ≡ fails e →
     IfOk r (λ p. partial_loc p ≡ l)
-no_place l (Ok p) e h = absurd (no_fail (partial_view p) e h)
+no_place l (Ok p) e h = absurd (answers_is_not_fails (partial_view p) e h)
 no_place l (Err x) e h = tt
 
 -- ---- the next part, or the whole
@@ -107,7 +105,7 @@ module _ (x : world.Extensions) (calls : StoredCalls) (k : ℕ) (t : Expr) where
 -- what an answer is right of has a level, in which a literal is its value
 pub literal_runs : (s : Setting) (calls : StoredCalls) (k : ℕ) (t : Term) (p : model.PartialValue) →
     Runs s calls k t (answers p) → (l : Literal) → Runs s calls k (literal l) (answers (model.value (plain_represented l)))
-literal_runs s calls zero t p h l = absurd (no_fail p model.recursion_limit h)
+literal_runs s calls zero t p h l = absurd (answers_is_not_fails p model.recursion_limit h)
 literal_runs s calls (suc k) t p h l = refl
 
 -- the answers of the first parts, after one more and those of the literals that follow
@@ -169,7 +167,7 @@ module _ (x : world.Extensions) (calls : StoredCalls) (k : ℕ) (f : PartsFrame)
       HasRead (Runs (bare_setting x) calls k) f.parts more.answers
   continued_read p s right more is_r =
       let gives : Runs (bare_setting x) calls k (view c) (answers (partial_view p)) =
-      right.answer (part_restricted is_r) (no_fail (partial_view p) out_of_memory) in
+      right.answer (part_restricted is_r) (answers_is_not_fails (partial_view p) out_of_memory) in
       grown_read (Runs (bare_setting x) calls k) x calls f p s (view c) w.next.0
       (literal_runs (bare_setting x) calls k (view c) (partial_view p) gives) (w.read is_r) w.next.1 gives more
 

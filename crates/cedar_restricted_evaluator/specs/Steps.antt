@@ -2,6 +2,7 @@
 use Rattle.std.specs.Prelude.{◌≡◌, ℕ, zero, suc, true, false, ◌&&◌, List, [], ◌∷◌, ◌++◌, length, drop, get_or, ◌<◌}
 use Rattle.std.specs.Prelude.{Option, Some, None, Result, Ok, Err}
 use Rattle.std.proofs.Common.{refl, sym, ap, ◌∙◌, subst, arith, append_assoc}
+use Rattle.std.proofs.lemmas.Bool.{and_parts}
 use Rattle.std.proofs.lemmas.List.{append-nil}
 use Rattle.std.specs.declared.alloc.Global.{Global}
 use Rattle.std.specs.declared.rc.RcStr.{RcStr}
@@ -28,12 +29,12 @@ use Rattle.cedar_restricted_evaluator.specs.Keys.{texts_of, fields_named, each_u
 use Rattle.cedar_restricted_evaluator.specs.Parts.{whole_term, HasKeys, count, all_values, Are, Makes, parts_after, SoFar}
 use Rattle.cedar_restricted_evaluator.specs.Literals.{literals_then, literal_answers}
 
-abbrev Found : Type 0
-Found = Result (List model.PartialValue) Failure
+abbrev PartsFound : Type 0
+PartsFound = Result (List model.PartialValue) Failure
 
 -- ---- parts in turn
 
-parts_after-append : (ps : List model.PartialValue) (p : model.PartialValue) (r : Found) →
+parts_after-append : (ps : List model.PartialValue) (p : model.PartialValue) (r : PartsFound) →
     parts_after (ps ++ p ∷ []) r ≡ parts_after ps (part_then p r)
 parts_after-append [] p r = refl
 parts_after-append (q ∷ ps) p r = ap (part_then q) (parts_after-append ps p r)
@@ -97,18 +98,18 @@ have_keys [] (e ∷ es) h = absurd (omega (arith, h))
 have_keys (k ∷ ks) [] h = absurd (omega (arith, h))
 have_keys (k ∷ ks) (e ∷ es) h = have_keys ks es (omega (arith, h))
 
-abbrev named : List Text → Found → Result (List (Text × model.PartialValue)) Failure
+abbrev named : List Text → PartsFound → Result (List (Text × model.PartialValue)) Failure
 named ks (Ok ps) = Ok (each_under ks ps)
 named ks (Err e) = Err e
 
-named_then : (k : Text) (ks : List Text) (p : model.PartialValue) (r : Found) → named (k ∷ ks) (part_then p r) ≡
+named_then : (k : Text) (ks : List Text) (p : model.PartialValue) (r : PartsFound) → named (k ∷ ks) (part_then p r) ≡
     field_part_then k p (named ks r)
 unfolding part_then field_part_then
 named_then k ks p (Ok ps) = refl
 named_then k ks p (Err e) = refl
 
 module _ (May : MayAnswer) where
-  pub field_parts : (ks : List Text) (ts : Terms) (r : Found) → HaveKeys ks ts → Parts May ts r →
+  pub field_parts : (ks : List Text) (ts : Terms) (r : PartsFound) → HaveKeys ks ts → Parts May ts r →
       FieldParts May (fields_named ks ts) (named ks r)
   field_parts [] no_terms r have h = ap (named []) h
   field_parts [] (one_term t ts) r have h = absurd have
@@ -210,22 +211,14 @@ module _ (s : Setting) (calls : StoredCalls) (May : MayAnswer) where
 
 -- ---- restricted wholes have restricted parts
 
-and_left : (a b : _) → a && b ≡ true → a ≡ true
-and_left true b h = refl
-and_left false b h = absurd (cc)
-
-and_right : (a b : _) → a && b ≡ true → b ≡ true
-and_right true b h = h
-and_right false b h = absurd (cc)
-
 named_restricted : (ks : List Text) (ts : Terms) → HaveKeys ks ts → are_restricted_at (fields_named ks ts) ≡ true →
     are_restricted ts ≡ true
 named_restricted [] no_terms have h = refl
 named_restricted [] (one_term t ts) have h = absurd have
 named_restricted (k ∷ ks) no_terms have h = absurd have
 named_restricted (k ∷ ks) (one_term t ts) have h =
-    let rest : are_restricted_at (fields_named ks ts) ≡ true = and_right (is_restricted t) _ h in
-    λ i. and_left (is_restricted t) _ h i && named_restricted ks ts have rest i
+    let rest : are_restricted_at (fields_named ks ts) ≡ true = (and_parts (is_restricted t) _ h).1 in
+    λ i. (and_parts (is_restricted t) _ h).0 i && named_restricted ks ts have rest i
 
 pub parts_restricted : (w : Whole) (es : List Expr) → HasKeys w (length es) →
     is_restricted (whole_term w (terms_view es)) ≡ true → are_restricted (terms_view es) ≡ true
@@ -239,13 +232,13 @@ left_restricted : (es : List Expr) (n : ℕ) → are_restricted (terms_view es) 
 left_restricted [] zero h = refl
 left_restricted [] (suc n) h = refl
 left_restricted (e ∷ es) zero h = h
-left_restricted (e ∷ es) (suc n) h = left_restricted es n (and_right (is_restricted (view e)) _ h)
+left_restricted (e ∷ es) (suc n) h = left_restricted es n (and_parts (is_restricted (view e)) _ h).1
 
 pub next_restricted : (es : List Expr) (n : ℕ) (t : Term) (rest : Terms) → are_restricted (terms_view es) ≡ true →
     terms_view (drop n es) ≡ one_term t rest → is_restricted t ≡ true
 next_restricted es n t rest h is =
-    and_left (is_restricted t) (are_restricted rest)
-    (subst (λ ts. are_restricted ts ≡ true) is (left_restricted es n h))
+    (and_parts (is_restricted t) (are_restricted rest)
+    (subst (λ ts. are_restricted ts ≡ true) is (left_restricted es n h))).0
 
 pub left_after : (es : List Expr) (n : ℕ) (t : Term) (rest : Terms) → terms_view (drop n es) ≡ one_term t rest →
     terms_view (drop (suc n) es) ≡ rest

@@ -1,9 +1,8 @@
-//! Errors of an evaluation: the one of a residual that is left, and those that end all.
+//! The error of a residual that is left.
 ghost use Rattle.std.specs.Prelude.{◌≡◌};
 ghost use Rattle.cedar_model.specs.Failures.{residual_is_left};
 ghost use Rattle.cedar_values.specs.Residuals.{residual_term};
 ghost use Rattle.cedar_errors.specs.Failures.{failure_of};
-ghost use Rattle.cedar_errors.specs.Finals.{is_final};
 
 use cedar_errors::evaluator::err::{EvaluationError, evaluation_errors};
 use cedar_names::Loc;
@@ -19,11 +18,4 @@ pub(crate) fn residual_left(residual: ResidualExpr) -> EvaluationError
     let expr = residual.into_expr();
     let source_loc: Option<Loc> = expr.source_loc().copied();
     EvaluationError::NonValue(NonValueError { expr, source_loc })
-}
-
-// Whether the error ends an evaluation at once: the recursion limit, or want of memory.
-pub(crate) fn is_final(error: &EvaluationError) -> bool
-    ensures { result ≡ is_final error.now }
-{
-    error.is_recursion_limit() || error.is_want_of_memory()
 }

@@ -9,7 +9,6 @@ ghost use Rattle.cedar_restricted_evaluator.specs.Frames.{WaitsForParts, IsRight
 ghost use Rattle.cedar_restricted_evaluator.specs.Elements.{AnswerStands, FrameStands, ended_stands};
 ghost use Rattle.cedar_restricted_evaluator.specs.Laws.{right_limit, right_want, right_upward, limit_ends, some_left, some_most};
 
-use crate::errors::is_final;
 use crate::parts::{NextPart, PartsFrame};
 use cedar_errors::evaluator::err::{EvaluationError, evaluation_errors};
 use cedar_expressions::{Expr, ExprKind};
@@ -68,7 +67,7 @@ impl<'x, 'f> Machine for Restricted<'x, 'f> {
     fn ends(&self, answer: &Result<PartialValue, EvaluationError>) -> bool {
         match answer {
             Ok(_) => false,
-            Err(error) => is_final(error),
+            Err(error) => error.is_final(),
         }
     }
 

@@ -15,21 +15,21 @@ use Rattle.cedar_expressions.specs.Nodes.{parts_of, parts_below, kind_parts}
 use Rattle.cedar_expressions.proofs.Levels.{view_by_kind, kind_view-ExtensionFunctionApp, kind_view-Set}
 use Rattle.cedar_expressions.proofs.Levels.{kind_view-Record}
 use Rattle.cedar_expressions.proofs.NodeLevels.{kind_node-ExtensionFunctionApp, kind_node-Set, kind_node-Record}
-use Rattle.cedar_restricted_expressions.specs.declared.restricted_expr.disallowed.Found.{Found}
+use Rattle.cedar_restricted_expressions.specs.declared.restricted_expr.disallowed.DisallowedPart.{DisallowedPart}
 use Rattle.cedar_restricted_expressions.specs.Refusals.{is_disallowed, IsFirstDisallowed, inside}
 use Rattle.cedar_restricted_expressions.specs.Refusals.{IsFirstAmong, here, later, entry_parts}
 
 -- ---- in a node
 
 -- what is found among the parts of an allowed node is found in it
-found_inside : (e : Expr) (parts : List Expr) (r : Option Found) → is_disallowed e ≡ false → parts_of e ≡ parts →
+found_inside : (e : Expr) (parts : List Expr) (r : Option DisallowedPart) → is_disallowed e ≡ false → parts_of e ≡ parts →
     IfSome r (λ f. IsFirstAmong parts f.part.now) → IfSome r (λ f. IsFirstDisallowed e f.part.now)
 found_inside e parts None allowed is found = tt
 found_inside e parts (Some f) allowed is found =
     inside e f.part.now allowed (subst (λ es. IsFirstAmong es f.part.now) (sym is) found)
 
 pub found_in_call : (e : Expr) (k : ExprKind) (name : Name) (args : Rc (Vec Expr Global) Global)
-    (lent : Vec Expr Global) (r : Option Found) → k ≡ expr_kind_of e → k ≡ ExtensionFunctionApp name args →
+    (lent : Vec Expr Global) (r : Option DisallowedPart) → k ≡ expr_kind_of e → k ≡ ExtensionFunctionApp name args →
     lent ≡ args.value → IfSome r (λ f. IsFirstAmong lent.items f.part.now) →
     IfSome r (λ f. IsFirstDisallowed e f.part.now)
 unfolding feature_of
@@ -41,7 +41,7 @@ found_in_call e k name args lent r kind is same found =
     ∙ ap (λ (v : Vec Expr Global). v.items) (sym same)) found
 
 pub found_in_set : (e : Expr) (k : ExprKind) (parts : Rc (Vec Expr Global) Global) (lent : Vec Expr Global)
-    (r : Option Found) → k ≡ expr_kind_of e → k ≡ Set parts → lent ≡ parts.value →
+    (r : Option DisallowedPart) → k ≡ expr_kind_of e → k ≡ Set parts → lent ≡ parts.value →
     IfSome r (λ f. IsFirstAmong lent.items f.part.now) → IfSome r (λ f. IsFirstDisallowed e f.part.now)
 unfolding feature_of
 found_in_set e k parts lent r kind is same found =
@@ -51,7 +51,7 @@ found_in_set e k parts lent r kind is same found =
     (ap kind_parts this ∙ ap parts_below (kind_node-Set parts) ∙ ap (λ (v : Vec Expr Global). v.items) (sym same)) found
 
 pub found_in_record : (e : Expr) (k : ExprKind) (pairs : Rc (BTreeMap (RcStr Global) Expr) Global)
-    (lent : BTreeMap (RcStr Global) Expr) (r : Option Found) → k ≡ expr_kind_of e → k ≡ Record pairs →
+    (lent : BTreeMap (RcStr Global) Expr) (r : Option DisallowedPart) → k ≡ expr_kind_of e → k ≡ Record pairs →
     lent ≡ pairs.value → IfSome r (λ f. IsFirstAmong (entry_parts lent.entries) f.part.now) →
     IfSome r (λ f. IsFirstDisallowed e f.part.now)
 unfolding feature_of

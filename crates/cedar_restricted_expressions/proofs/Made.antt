@@ -1,15 +1,16 @@
 -- What is made of restricted parts is restricted; and an expression without a disallowed part is.
 use Rattle.std.proofs.Common.{◌≡◌, Bool, true, false, ◌&&◌, List, [], ◌∷◌, Option, Some, None, Ordering, Less, Equal}
 use Rattle.std.proofs.Common.{Greater, option_map, refl, Global}
+use Rattle.std.proofs.lemmas.Bool.{and_parts}
 use Rattle.std.specs.Ordering.{match_ordering, nat_cmp}
 use Rattle.std.specs.Cmp.Lexicographic.{slice_cmp}
 use Rattle.std.specs.declared.rc.RcStr.{RcStr}
 use Rattle.cedar_model.specs.Terms.{Text, Term, Fields, no_fields, one_field}
 use Rattle.cedar_model.specs.Shapes.{is_restricted, are_restricted, are_restricted_at}
 use Rattle.cedar_model.specs.Restricted.{Disallowed, first_disallowed}
-use Rattle.cedar_model.proofs.RestrictedAnswers.{none_disallowed}
+use Rattle.cedar_model.proofs.RestrictedAnswers.{none_disallowed, sound_restricted}
 use Rattle.cedar_model.specs.Values.{expression_of}
-use Rattle.cedar_values.specs.Sound.{Placed, restricted-from_sound}
+use Rattle.cedar_values.specs.Sound.{Placed}
 use Rattle.cedar_expressions.specs.View.{terms_view}
 use Rattle.cedar_expressions.specs.Records.{put_field, put_fields, pairs_view, fields_in_order}
 use Rattle.cedar_restricted_expressions.specs.declared.restricted_expr.RestrictedExpr.{RestrictedExpr}
@@ -28,20 +29,12 @@ chosen_restricted Less x y z g h k = g
 chosen_restricted Equal x y z g h k = h
 chosen_restricted Greater x y z g h k = k
 
-first_of : (a b : Bool) → a && b ≡ true → a ≡ true
-first_of true b h = refl
-first_of false b h = absurd (cc)
-
-second_of : (a b : Bool) → a && b ≡ true → b ≡ true
-second_of true b h = h
-second_of false b h = absurd (cc)
-
 field_restricted : (fs : Fields) (k : Text) (t : Term) → are_restricted_at fs ≡ true → is_restricted t ≡ true →
     are_restricted_at (put_field fs k t) ≡ true
 field_restricted no_fields k t h g = λ i. g i && true
 field_restricted (one_field l u fs) k t h g =
-    let rest : are_restricted_at fs ≡ true = second_of (is_restricted u) (are_restricted_at fs) h in
-    let this : is_restricted u ≡ true = first_of (is_restricted u) (are_restricted_at fs) h in
+    let rest : are_restricted_at fs ≡ true = (and_parts (is_restricted u) (are_restricted_at fs) h).1 in
+    let this : is_restricted u ≡ true = (and_parts (is_restricted u) (are_restricted_at fs) h).0 in
     chosen_restricted (slice_cmp nat_cmp k l) (one_field k t (one_field l u fs)) (one_field l t fs)
     (one_field l u (put_field fs k t)) (λ i. g i && h i) (λ i. g i && rest i)
     (λ i. this i && field_restricted fs k t rest g i)
@@ -61,7 +54,7 @@ pub ruleset made = (parts_restricted, record_restricted)
 -- ---- values
 
 pub value_restricted : (p : Placed) → is_restricted (expression_of p.what) ≡ true
-value_restricted p = restricted-from_sound p.what p.sound
+value_restricted p = sound_restricted p.what p.sound
 
 -- ---- no disallowed part
 

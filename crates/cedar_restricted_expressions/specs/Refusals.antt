@@ -10,7 +10,7 @@ use Rattle.cedar_names.specs.Texts.{unary_text, binary_text}
 use Rattle.cedar_expressions.specs.declared.expr.Expr.{Expr}
 use Rattle.cedar_expressions.specs.View.{view, expr_loc}
 use Rattle.cedar_expressions.specs.Nodes.{parts_of}
-use Rattle.cedar_restricted_expressions.specs.declared.restricted_expr.disallowed.Found.{Found}
+use Rattle.cedar_restricted_expressions.specs.declared.restricted_expr.disallowed.DisallowedPart.{DisallowedPart}
 use Rattle.cedar_restricted_expressions.specs.declared.err.RestrictedExpressionError.{RestrictedExpressionError}
 use Rattle.cedar_restricted_expressions.specs.declared.err.RestrictedExpressionError.TheVariants as refusals
 use Rattle.cedar_restricted_expressions.specs.declared.err.PartialValueToRestrictedExprError as refused
@@ -35,7 +35,7 @@ abbrev pub with_its_text : Disallowed → Text × Term
 with_its_text d = (feature_text d.feature, d.part)
 
 -- the same of a part that was found
-abbrev pub disallowed_view : Found → Text × Term
+abbrev pub disallowed_view : DisallowedPart → Text × Term
 disallowed_view f = (f.feature.now, view f.part.now)
 
 -- a part is refused: the first disallowed one, by the text of what it uses

@@ -1,5 +1,5 @@
 //! Several results: all that they answer, or the first refusal.
-ghost use Rattle.std.specs.Prelude.{◌≡◌, Ok, IfOk};
+ghost use Rattle.std.specs.Prelude.{◌≡◌, ◌⊎◌, Ok, Err, IfOk, IfErr};
 
 use std::alloc::AllocError;
 
@@ -10,6 +10,7 @@ pub fn beside<H: Drop, T: Drop>(
 ) -> Result<(H, T), AllocError>
     ensures held { IfOk result (λ p. p.0 ≡ held) }
     ensures answer { IfOk result (λ p. answer ≡ Ok p.1) }
+    ensures refused { IfErr result (λ e. answer ≡ Err e) }
 {
     let answer = answer?;
     Ok((held, answer))
@@ -22,6 +23,7 @@ pub fn pair_of<A: Drop, B: Drop>(
 ) -> Result<(A, B), AllocError>
     ensures first { IfOk result (λ p. first ≡ Ok p.0) }
     ensures second { IfOk result (λ p. second ≡ Ok p.1) }
+    ensures refused { IfErr result (λ e. (first ≡ Err e) ⊎ (second ≡ Err e)) }
 {
     let first = first?;
     let second = second?;
@@ -39,6 +41,7 @@ pub fn all_four<A: Drop, B: Drop, C: Drop, D: Drop>(
     ensures second { IfOk result (λ p. second ≡ Ok p.1) }
     ensures third { IfOk result (λ p. third ≡ Ok p.2) }
     ensures fourth { IfOk result (λ p. fourth ≡ Ok p.3) }
+    ensures refused { IfErr result (λ e. (first ≡ Err e) ⊎ ((second ≡ Err e) ⊎ ((third ≡ Err e) ⊎ (fourth ≡ Err e)))) }
 {
     let first = first?;
     let second = second?;

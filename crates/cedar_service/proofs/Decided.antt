@@ -1,5 +1,6 @@
 -- What is decided by the owner's policy once it is known who asks.
 use Rattle.std.proofs.Common.{◌≡◌, ◌↔◌, refl, sym, ap, subst, ◌∙◌, ℕ, Bool, true, false, cond, List, [], ◌∷◌, map, Option, Some, None, option_map, codes, Result, Ok, Err, IfOk, IfSome}
+use Rattle.std.proofs.lemmas.Option.{none-some, cond_some}
 use Rattle.std.specs.Cmp.Lexicographic.{same_text}
 use Rattle.std.specs.Map.{lookup, KeepsOthers}
 use Rattle.std.specs.Rc.{rc_str_bytes}
@@ -59,14 +60,6 @@ user_asks user action resource = record {
   sigma = λ n. plain (entity_literal user);
 }
 
-none_is : {A : Type 0} (x : A) → None ≡ Some x → ⊥
-none_is x e = cc
-
--- a map with one value has no other
-is_value : (b : Bool) (u v : Represented) → cond b (Some u) None ≡ Some v → u ≡ v
-is_value true u v e = cc
-is_value false u v e = absurd (cc)
-
 completes_map : (X : Extensions) (user action resource : EntityName)
     → CompletesMap X no_answers (user_asks user action resource) (values_of user)
 completes_map X user action resource = record {
@@ -75,15 +68,15 @@ completes_map X user action resource = record {
 }
   where
     is : (n : Text) (v : Represented) → values_of user n ≡ Some v → plain_represented (entity_literal user) ≡ v
-    is n v e = is_value (text_eq n (codes "principal")) (plain_represented (entity_literal user)) v e
+    is n v e = (cond_some (text_eq n (codes "principal")) (plain_represented (entity_literal user)) v e).1
 
 completes_store : (X : Extensions) (user action resource : EntityName)
     → CompletesStore X no_answers (user_asks user action resource) no_store
 unfolding found_in
 completes_store X user action resource = record {
   store_agrees = λ e. refl;
-  stored_values_are_faithful = λ e x k p g. absurd (none_is x g);
-  stored_residuals_fit = λ e x k p g. absurd (none_is x g);
+  stored_values_are_faithful = λ e x k p g. absurd (none-some x g);
+  stored_residuals_fit = λ e x k p g. absurd (none-some x g);
 }
 
 -- the premises of the headline are met

@@ -1,6 +1,8 @@
 -- Unknowns that are noted one after another stand once each, and are those that were noted.
 use Rattle.std.proofs.Common.{◌≡◌, Bool, true, false, ◌||◌, List, [], ◌∷◌, ◌++◌, refl, sym, ap, ◌∙◌, if◌then◌else◌}
+use Rattle.std.proofs.lemmas.Bool.{or_parts, or_from}
 use Rattle.std.specs.Bool.{Decides, one_answer}
+use Rattle.std.proofs.Math.Bool.{or-false, or_assoc}
 use Rattle.cedar_model.specs.Terms.{Term, literal, variable, slot, unknown, if_then_else, both, either, unary, binary, call}
 use Rattle.cedar_model.specs.Terms.{get_attribute, has_attribute, extended_has, like, is_of_type, set_of, record_of}
 use Rattle.cedar_model.specs.Terms.{Terms, no_terms, one_term, Fields, no_fields, one_field}
@@ -9,29 +11,10 @@ use Rattle.cedar_unknowns.specs.Occurrences.{Asked, occurrences, occurrences_eac
 use Rattle.cedar_unknowns.specs.Occurrences.{noted, noted_each, each_once, AreDistinct}
 use Rattle.cedar_unknowns.proofs.Listed.{asked_eq-decides}
 
-or_assoc : (p q r : Bool) → (p || (q || r)) ≡ ((p || q) || r)
-or_assoc true q r = refl
-or_assoc false q r = refl
-
-or_false : (p : Bool) → (p || false) ≡ p
-or_false true = refl
-or_false false = refl
-
 or_same : (p q : Bool) → (q ≡ true → p ≡ true) → p ≡ (p || q)
 or_same true q h = refl
 or_same false true h = h refl
 or_same false false h = refl
-
-left_false : (p q : Bool) → (p || q) ≡ false → p ≡ false
-left_false true q e = e
-left_false false q e = refl
-
-right_false : (p q : Bool) → (p || q) ≡ false → q ≡ false
-right_false true q e = absurd (cc)
-right_false false q e = e
-
-both_false : (p q : Bool) → p ≡ false → q ≡ false → (p || q) ≡ false
-both_false p q e f = (λ i. e i || f i)
 
 asked_eq-sym : (a b : Asked) → asked_eq a b ≡ asked_eq b a
 asked_eq-sym a b =
@@ -41,16 +24,16 @@ asked_eq-sym a b =
 -- one more behind a list
 listed_behind : (c a : Asked) (bs : List Asked) → is_listed c (bs ++ a ∷ []) ≡ (is_listed c bs || asked_eq c a)
 unfolding is_listed
-listed_behind c a [] = or_false (asked_eq c a)
+listed_behind c a [] = or-false (asked_eq c a)
 listed_behind c a (b ∷ bs) =
-    ap (λ x. asked_eq c b || x) (listed_behind c a bs) ∙ or_assoc (asked_eq c b) (is_listed c bs) (asked_eq c a)
+    ap (λ x. asked_eq c b || x) (listed_behind c a bs) ∙ (sym (or_assoc (asked_eq c b) (is_listed c bs) (asked_eq c a)))
 
 distinct_behind : (a : Asked) (bs : List Asked) → AreDistinct bs → is_listed a bs ≡ false → AreDistinct (bs ++ a ∷ [])
 unfolding is_listed
 distinct_behind a [] d h = (refl, tt)
 distinct_behind a (b ∷ bs) d h =
-    let apart : asked_eq b a ≡ false = asked_eq-sym b a ∙ left_false (asked_eq a b) (is_listed a bs) h in
-    (listed_behind b a bs ∙ both_false (is_listed b bs) (asked_eq b a) d.0 apart, distinct_behind a bs d.1 (right_false (asked_eq a b) (is_listed a bs) h))
+    let apart : asked_eq b a ≡ false = asked_eq-sym b a ∙ (or_parts (asked_eq a b) (is_listed a bs) h).0 in
+    (listed_behind b a bs ∙ or_from (is_listed b bs) (asked_eq b a) d.0 apart, distinct_behind a bs d.1 (or_parts (asked_eq a b) (is_listed a bs) h).1)
 
 noted_if : (a : Asked) (bs : List Asked) (x : Bool) → is_listed a bs ≡ x → AreDistinct bs → AreDistinct (if x then bs else bs ++ a ∷ [])
 noted_if a bs true h d = d
@@ -72,9 +55,9 @@ listed_if c a bs false h = listed_behind c a bs
 
 listed_from : (c : Asked) (all bs : List Asked) → is_listed c (noted_each all bs) ≡ (is_listed c bs || is_listed c all)
 unfolding is_listed
-listed_from c [] bs = sym (or_false (is_listed c bs))
+listed_from c [] bs = sym (or-false (is_listed c bs))
 listed_from c (a ∷ more) bs =
-    listed_from c more (noted a bs) ∙ ap (λ x. x || is_listed c more) (listed_if c a bs (is_listed a bs) refl) ∙ sym (or_assoc (is_listed c bs) (asked_eq c a) (is_listed c more))
+    listed_from c more (noted a bs) ∙ ap (λ x. x || is_listed c more) (listed_if c a bs (is_listed a bs) refl) ∙ sym (sym (or_assoc (is_listed c bs) (asked_eq c a) (is_listed c more)))
 
 pub exactly : (all : List Asked) (c : Asked) → is_listed c (each_once all) ≡ is_listed c all
 unfolding is_listed

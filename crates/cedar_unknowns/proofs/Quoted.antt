@@ -1,6 +1,6 @@
 -- The id of an entity is read out of the text of the entity.
 use Rattle.std.proofs.Common.{◌≡◌, ℕ, ◌==◌, ◌≤◌, ◌+◌, ◌/◌, ◌%◌, Bool, true, false, ◌||◌, cond, List, [], ◌∷◌, ◌++◌, codes, append_assoc, refl, sym, ap, ◌∙◌, inl, inr, arith, ne_eqb, lt-ltb, le-ltb}
-use Rattle.std.proofs.lemmas.Bool.{cases_lt}
+use Rattle.std.proofs.lemmas.Bool.{or_parts, cases_lt}
 use Rattle.std.proofs.lemmas.Str.{encode_ascii}
 use Rattle.std.proofs.Math.Utf8.{encode}
 use Rattle.cedar_model.specs.Terms.{Text}
@@ -8,33 +8,14 @@ use Rattle.cedar_model.specs.Outcomes.{escaped}
 use Rattle.std.specs.Str.Pattern.{FindsTextPrefix, FindsTextSuffix, StripsPrefix, StripsSuffix}
 use Rattle.std.specs.Borrow.{Bor}
 use Rattle.std.specs.Prelude.{MatchOption, Option, None, Some, option_copied}
+use Rattle.cedar_names.proofs.Injective.{head_same, tail_same, cons_same, nil_cons, last_same}
 use Rattle.cedar_unknowns.specs.Quoted.{unescaped, quoted_behind, IsWithoutPrefix, IsWithoutSuffix, IsBetween, IsQuotedId}
 
 -- ---- bytes
 
-head_same : {a b : ℕ} {xs ys : List ℕ} → a ∷ xs ≡ b ∷ ys → a ≡ b
-head_same e = cc
-
-tail_same : {a b : ℕ} {xs ys : List ℕ} → a ∷ xs ≡ b ∷ ys → xs ≡ ys
-tail_same e = cc
-
-cons_same : {a b : ℕ} {xs ys : List ℕ} → a ≡ b → xs ≡ ys → a ∷ xs ≡ b ∷ ys
-cons_same p q = cc
-
-nil_cons : {a : ℕ} {xs : List ℕ} → [] ≡ a ∷ xs → ⊥
-nil_cons e = cc
-
 pub behind_same : (front xs ys : List ℕ) → front ++ xs ≡ front ++ ys → xs ≡ ys
 behind_same [] xs ys e = e
 behind_same (b ∷ front) xs ys e = behind_same front xs ys (tail_same e)
-
-pub last_same : (xs ys : List ℕ) (a : ℕ) → xs ++ a ∷ [] ≡ ys ++ a ∷ [] → xs ≡ ys
-last_same [] [] a e = refl
-last_same [] (y ∷ []) a e = absurd (nil_cons (tail_same e))
-last_same [] (y ∷ z ∷ ys) a e = absurd (nil_cons (tail_same e))
-last_same (x ∷ []) [] a e = absurd (nil_cons (sym (tail_same e)))
-last_same (x ∷ z ∷ xs) [] a e = absurd (nil_cons (sym (tail_same e)))
-last_same (x ∷ xs) (y ∷ ys) a e = cons_same (head_same e) (last_same xs ys a (tail_same e))
 
 inside_same : (s t : List ℕ) → 58 ∷ 58 ∷ 34 ∷ (s ++ 34 ∷ []) ≡ 58 ∷ 58 ∷ 34 ∷ (t ++ 34 ∷ []) → s ≡ t
 inside_same s t e = last_same s t 34 (tail_same (tail_same (tail_same e)))
@@ -73,15 +54,11 @@ is_behind ty name text rest (Some quoted) same is found =
 
 -- ---- a text is read back
 
-no_slash : (p q : Bool) → (p || q) ≡ false → q ≡ false
-no_slash true q e = absurd (cc)
-no_slash false q e = e
-
 back_at : (b : ℕ) (bs : Text) (x : Bool) → ((b == 34) || (b == 92)) ≡ x → unescaped false (escaped bs) ≡ bs → unescaped false (cond x (92 ∷ b ∷ escaped bs) (b ∷ escaped bs)) ≡ b ∷ bs
 unfolding unescaped
 back_at b bs true e back = ap (λ (t : Text). b ∷ t) back
 back_at b bs false e back =
-    ap (λ x. cond x (unescaped true (escaped bs)) (b ∷ unescaped false (escaped bs))) (no_slash (b == 34) (b == 92) e) ∙ ap (λ (t : Text). b ∷ t) back
+    ap (λ x. cond x (unescaped true (escaped bs)) (b ∷ unescaped false (escaped bs))) (or_parts (b == 34) (b == 92) e).1 ∙ ap (λ (t : Text). b ∷ t) back
 
 pub unescaped_back : (t : Text) → unescaped false (escaped t) ≡ t
 unfolding escaped unescaped

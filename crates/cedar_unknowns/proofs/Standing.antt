@@ -4,11 +4,13 @@ use Rattle.cedar_names.specs.declared.names.EntityUID.{EntityUID}
 use Rattle.cedar_names.specs.Names.{uid_name}
 use Rattle.std.specs.Bool.{Decides, one_answer}
 use Rattle.std.specs.Cmp.Lexicographic.{pointwise, bytes_decides}
+use Rattle.std.proofs.lemmas.Option.{cond_some}
 use Rattle.cedar_model.specs.Terms.{Text, EntityName, ValueType, bool_type, long_type, string_type, set_type, record_type, entity_type, extension_type}
 use Rattle.cedar_model.specs.Outcomes.{escaped}
 use Rattle.cedar_model.specs.Settings.{printed_entity}
 use Rattle.cedar_model.specs.Printing.{read_entity}
 use Rattle.cedar_model.proofs.Printed.{come_back}
+use Rattle.cedar_model.proofs.Injections.{none_is_not_some}
 use Rattle.cedar_unknowns.specs.Occurrences.{Asked, asked_eq}
 use Rattle.cedar_unknowns.specs.Entities.{asked_for, entity_if_for, entity_asked, entity_before, asked_unless}
 use Rattle.cedar_unknowns.specs.Quoted.{unescaped, entity_quoted, quoted_behind}
@@ -20,21 +22,11 @@ pub entity_asked-for : (e : EntityName) → entity_asked (asked_for e) ≡ Some 
 entity_asked-for e =
     ap (entity_if_for (asked_for e)) (come_back e) ∙ ap (λ b. cond b (Some e) None) ((asked_eq-decides (asked_for e) (asked_for e)).1 refl)
 
-none_some : {e : EntityName} → None ≡ Some e → ⊥
-none_some h = cc
-
-some_same : {d e : EntityName} → Some d ≡ Some e → d ≡ e
-some_same h = cc
-
-if-some : (b : Bool) (d e : EntityName) → cond b (Some d) None ≡ Some e → (b ≡ true) × (d ≡ e)
-if-some true d e h = (refl, some_same h)
-if-some false d e h = absurd (none_some h)
-
 -- an unknown that stands for an entity is that entity's
 pub is_for : (a : Asked) (o : Option EntityName) (e : EntityName) → entity_if_for a o ≡ Some e → a ≡ asked_for e
-is_for a None e h = absurd (none_some h)
+is_for a None e h = absurd (none_is_not_some h)
 is_for a (Some d) e h =
-    let (tested, same) = if-some (asked_eq a (asked_for d)) d e h in
+    let (tested, same) = cond_some (asked_eq a (asked_for d)) d e h in
     (asked_eq-decides a (asked_for d)).0 tested ∙ ap asked_for same
 
 none_by : (a : Asked) → ((e : EntityName) → a ≡ asked_for e → ⊥) → (o : Option EntityName) → entity_asked a ≡ o → o ≡ None
@@ -48,7 +40,7 @@ none_asked a lacks = none_by a lacks (entity_asked a) refl
 candidate_apart : (a : Asked) (c : EntityName) (b : Bool) → asked_eq a (asked_for c) ≡ b → entity_asked a ≡ None → cond b (Some c) None ≡ None
 candidate_apart a c false k h = refl
 candidate_apart a c true k h =
-    absurd (none_some (sym h ∙ ap entity_asked ((asked_eq-decides a (asked_for c)).0 k) ∙ entity_asked-for c))
+    absurd (none_is_not_some (sym h ∙ ap entity_asked ((asked_eq-decides a (asked_for c)).0 k) ∙ entity_asked-for c))
 
 candidate_by : (a : Asked) (c : EntityName) → ((e : EntityName) → a ≡ asked_for e → c ≡ e) → (o : Option EntityName) → entity_asked a ≡ o → entity_if_for a (Some c) ≡ o
 candidate_by a c only (Some e) h =
@@ -75,15 +67,12 @@ annotated_name (Some record_type) = None
 annotated_name (Some (entity_type t)) = Some t
 annotated_name (Some (extension_type t)) = None
 
-text_none_some : {t : Text} → None ≡ Some t → ⊥
-text_none_some h = cc
-
 text_same : {s t : Text} → Some s ≡ Some t → s ≡ t
 text_same h = cc
 
 other_annotation : (name : Text) (t : Option ValueType) → annotated_name t ≡ None → entity_asked (name, t) ≡ None
 other_annotation name t none =
-    none_asked (name, t) (λ e h. text_none_some (sym none ∙ ap (λ (a : Asked). annotated_name a.1) h))
+    none_asked (name, t) (λ e h. none_is_not_some (sym none ∙ ap (λ (a : Asked). annotated_name a.1) h))
 
 pub not_annotated : (name : Text) → entity_asked (name, None) ≡ None
 not_annotated name = other_annotation name None refl

@@ -6,6 +6,7 @@ use Rattle.std.proofs.lemmas.List.Sorted.{searchable_from_sorted}
 use Rattle.std.proofs.lemmas.List.{at_drop_more, at_drop_all}
 use Rattle.std.proofs.lemmas.Bool.{cases_lt}
 use Rattle.std.proofs.lemmas.Bool.Decides.{nat_tests}
+use Rattle.std.proofs.Math.Bool.{or-true}
 use Rattle.cedar_model.specs.Values.{AbstractValues, RepresentedValues, abstract_value, abstract_values}
 use Rattle.cedar_model.specs.Keys.{value_eq}
 use Rattle.cedar_model.specs.Sets.{has_value, IsStrictlyInOrder}
@@ -37,15 +38,11 @@ has x ps = has_value (abstract_value x.what) (abstract_values (listed ps))
 has_one : (x p : Placed) (b : Bool) → cmp p x ≡ Equal → (value_eq (abstract_value x.what) (abstract_value p.what) || b) ≡ true
 has_one x p b e = ap (λ o. is_eq o || b) (represented_cmp-total.antisymm x.what p.what ∙ ap ordering_reverse e)
 
-or_true : (b : Bool) → (b || true) ≡ true
-or_true true = refl
-or_true false = refl
-
 has-found : (x : Placed) (ps : List Placed) (k : ℕ) → k < length ps → ((d : Placed) → cmp (get_or ps k d) x ≡ Equal) → has x ps ≡ true
 has-found x [] k h f = absurd (omega arith)
 has-found x (p ∷ ps) zero h f = has_one x p (has x ps) (f x)
 has-found x (p ∷ ps) (suc k) h f =
-    ap (λ b. value_eq (abstract_value x.what) (abstract_value p.what) || b) (has-found x ps k (omega arith) f) ∙ or_true (value_eq (abstract_value x.what) (abstract_value p.what))
+    ap (λ b. value_eq (abstract_value x.what) (abstract_value p.what) || b) (has-found x ps k (omega arith) f) ∙ or-true (value_eq (abstract_value x.what) (abstract_value p.what))
 
 differs : (o : Ordering) → (o ≡ Equal → ⊥) → is_eq (ordering_reverse o) ≡ false
 differs Less f = refl

@@ -46,7 +46,7 @@ unfolding put
 fields_view-insert_entry [] k e = refl
 fields_view-insert_entry (f ∷ es) k e = fields_view-match_ordering (key_cmp k f.0) _ _ _ ∙ rw (fields_view-insert_entry es k e)
 
-below_middle : (first : Entry) (es : List Entry) (e : Entry) (more : List Entry) → AllByRecursion (λ y. key_cmp first.0 y ≡ Less) (keys_of (es ++ e ∷ more)) → key_cmp first.0 e.0 ≡ Less
+pub below_middle : (first : Entry) (es : List Entry) (e : Entry) (more : List Entry) → AllByRecursion (λ y. key_cmp first.0 y ≡ Less) (keys_of (es ++ e ∷ more)) → key_cmp first.0 e.0 ≡ Less
 below_middle first [] e more h = h.0
 below_middle first (x ∷ es) e more h = below_middle first es e more h.1
 

@@ -1,12 +1,12 @@
 -- Values as a program holds them: each set in one is in canonical order, and each representation is written without unknowns.
-use Rattle.std.specs.Prelude.{◌≡◌, ℕ, Bool, true, false, cond, not, ◌&&◌, ◌||◌, List, [], ◌∷◌, ◌++◌, Option, None, Some}
+use Rattle.std.specs.Prelude.{◌≡◌, ℕ, Bool, true, false, cond, not, ◌&&◌, ◌||◌, List, [], ◌∷◌, ◌++◌, Option, None, Some, option_map}
 use Rattle.std.specs.declared.cmp.Ordering.{Ordering}
 use Rattle.std.specs.declared.cmp.Ordering.TheVariants.{Less, Equal, Greater}
 use Rattle.std.specs.Ordering.{match_ordering}
 use Rattle.std.specs.Coded.{Coded, code_by, coded×, coded_ℕ, coded_list, coded_option, ×_prop}
 use mathlib.Core.Bool.{Bool-set}
 use mathlib.Core.HLevel.{is_prop→PathP}
-use Rattle.std.proofs.Common.{refl, ap, ◌∙◌}
+use Rattle.std.proofs.Common.{refl, ap, subst, ◌∙◌}
 use Rattle.cedar_model.specs.Terms.{Terms, no_terms}
 use Rattle.cedar_model.specs.Values.{AbstractValue, Represented, plain_represented, set_represented, record_represented, extension_represented, RepresentedValues, no_represented, one_represented, RepresentedFields, no_represented_at, one_represented_at, abstract_value, expression_of, expressions_of, expressions_at}
 use Rattle.cedar_model.specs.Shapes.{is_restricted, are_restricted, are_restricted_at, has_unknown, have_unknown, have_unknown_at}
@@ -15,6 +15,7 @@ use Rattle.cedar_model.specs.lemmas.Codes.{represented_code, represented_values_
 use Rattle.cedar_model.specs.Sets.{represented_values_of, list_of_represented, insert_represented, insert_each, canonical_set, IsStrictlyInOrder, IsCanonical, AreCanonical, AreCanonicalAt}
 use Rattle.cedar_model.specs.lemmas.Sets.{canonical_set-in_order, IsStrictlyInOrder-prop, IsStrictlyInOrder-canonical_set}
 pub use Rattle.cedar_model.specs.Restricted.{IsSound, AreSound, AreSoundAt}
+use Rattle.cedar_model.proofs.Injections.{some_inj, none_is_not_some}
 use Rattle.std.specs.Rc.{rc_str_bytes}
 use Rattle.std.specs.declared.alloc.Global.{Global}
 use Rattle.std.specs.declared.rc.RcStr.{RcStr}
@@ -50,38 +51,6 @@ mutual
   pub AreCanonicalAt-from_sound : (fs : RepresentedFields) → AreSoundAt fs → AreCanonicalAt fs
   AreCanonicalAt-from_sound no_represented_at h = tt
   AreCanonicalAt-from_sound (one_represented_at k v fs) h = (IsCanonical-from_sound v h.0, AreCanonicalAt-from_sound fs h.1)
-
--- the expression of a value is restricted
-mutual
-  pub restricted-from_sound : (v : Represented) → IsSound v → is_restricted (expression_of v) ≡ true
-  restricted-from_sound (plain_represented l) h = refl
-  restricted-from_sound (set_represented vs) h = all_restricted-from_sound vs h.1
-  restricted-from_sound (record_represented fs) h = all_restricted_at-from_sound fs h
-  restricted-from_sound (extension_represented t k f ts) h = h.0
-
-  pub all_restricted-from_sound : (vs : RepresentedValues) → AreSound vs → are_restricted (expressions_of vs) ≡ true
-  all_restricted-from_sound no_represented h = refl
-  all_restricted-from_sound (one_represented v vs) h = λ i. restricted-from_sound v h.0 i && all_restricted-from_sound vs h.1 i
-
-  pub all_restricted_at-from_sound : (fs : RepresentedFields) → AreSoundAt fs → are_restricted_at (expressions_at fs) ≡ true
-  all_restricted_at-from_sound no_represented_at h = refl
-  all_restricted_at-from_sound (one_represented_at k v fs) h = λ i. restricted-from_sound v h.0 i && all_restricted_at-from_sound fs h.1 i
-
--- and holds no unknown
-mutual
-  pub known-from_sound : (v : Represented) → IsSound v → has_unknown (expression_of v) ≡ false
-  known-from_sound (plain_represented l) h = refl
-  known-from_sound (set_represented vs) h = all_known-from_sound vs h.1
-  known-from_sound (record_represented fs) h = all_known_at-from_sound fs h
-  known-from_sound (extension_represented t k f ts) h = h.1
-
-  pub all_known-from_sound : (vs : RepresentedValues) → AreSound vs → have_unknown (expressions_of vs) ≡ false
-  all_known-from_sound no_represented h = refl
-  all_known-from_sound (one_represented v vs) h = λ i. known-from_sound v h.0 i || all_known-from_sound vs h.1 i
-
-  pub all_known_at-from_sound : (fs : RepresentedFields) → AreSoundAt fs → have_unknown_at (expressions_at fs) ≡ false
-  all_known_at-from_sound no_represented_at h = refl
-  all_known_at-from_sound (one_represented_at k v fs) h = λ i. known-from_sound v h.0 i || all_known_at-from_sound fs h.1 i
 
 -- ---- soundness is a fact without content
 
@@ -279,3 +248,8 @@ each_first ps (one_represented v vs) = in_front (first_equal (abstract_value v) 
 -- of each element of the set of the values the first of them that equals it
 abbrev pub firsts : List Placed → List Placed
 firsts ps = each_first ps (canonical_set (whats ps))
+
+-- a value that is found is sound
+pub found_is_sound : (o : Option Placed) (v : Represented) → option_map (λ (p : Placed). p.what) o ≡ Some v → IsSound v
+found_is_sound None v e = absurd (none_is_not_some e)
+found_is_sound (Some p) v e = subst IsSound (some_inj e) p.sound

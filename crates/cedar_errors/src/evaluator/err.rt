@@ -59,7 +59,7 @@ impl EvaluationError {
     ghost use Rattle.cedar_model.specs.Failures.{failure_kind};
     ghost use Rattle.cedar_errors.specs.Errors.{error_loc, error_at, error_within};
     ghost use Rattle.cedar_errors.specs.Failures.{failure_of};
-    ghost use Rattle.cedar_errors.specs.Finals.{is_limit, is_want, is_of_memory};
+    ghost use Rattle.cedar_errors.specs.Finals.{is_limit, is_want, is_of_memory, is_final, is_final_kind};
 
     /// Where the error arose, if that is known. Want of memory has no location.
     pub fn source_loc(&self) -> Option<&Loc>
@@ -101,6 +101,15 @@ impl EvaluationError {
             EvaluationError::RecursionLimit(_) => true,
             EvaluationError::Memory(_) => false,
         }
+    }
+
+    /// Whether the error ends an evaluation at once: the recursion limit, or want of memory. Best effort keeps no
+    /// operand that fails so.
+    pub fn is_final(&self) -> bool
+        ensures variant { result ≡ is_final self.now }
+        ensures kind { result ≡ is_final_kind (failure_kind (failure_of self.now)) }
+    {
+        self.is_recursion_limit() || self.is_want_of_memory()
     }
 
     /// Whether memory was wanting: not where a look-up of a function found none, which holds that as an error of its

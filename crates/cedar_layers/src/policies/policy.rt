@@ -104,7 +104,7 @@ impl Policy {
     ghost use Rattle.cedar_expressions.specs.View.{view, expr_loc};
     ghost use Rattle.cedar_layers.specs.Policies.{effect_view, policy_id_text, annotations_view, slots_view, policy_view};
     ghost use Rattle.cedar_layers.specs.Policies.{condition_parts, policy_parts, policy_of, policy_when, condition_term};
-    ghost use Rattle.cedar_layers.specs.Policies.{policy_location, IsConjunction, IsCondition, linked};
+    ghost use Rattle.cedar_layers.specs.Policies.{policy_location, IsConjunction, IsConditionOf, linked};
 
     /// The policy of these parts, at no known location. Refuses only for want of memory.
     pub fn new(
@@ -295,7 +295,7 @@ impl Policy {
     /// as it was handed in. Its value is a boolean or an error. Refuses only for want of memory.
     pub fn condition(&self, alloc: Global) -> Result<Expr, AllocError>
         ensures view { IfOk result (λ e. view e ≡ condition_term (policy_view self.now)) }
-        ensures parts { IfOk result (λ e. IsCondition (policy_parts self.now) (policy_location self.now) e) }
+        ensures parts { IfOk result (λ e. IsConditionOf (policy_parts self.now) (policy_location self.now) e) }
         ensures loc { IfOk result (λ e. expr_loc e ≡ policy_location self.now) }
     {
         let pair = self.conjunction(self.principal.clone()?, &self.action)?;

@@ -70,7 +70,7 @@ impl PolicySet {
     ghost use Rattle.cedar_names.specs.Names.{uid_name};
     ghost use Rattle.cedar_layers.specs.Scopes.{Places, AreWithinReach};
     ghost use Rattle.cedar_layers.specs.PolicySets.{policies_view, stored_policies, policies_left, leaves_out_few};
-    ghost use Rattle.cedar_layers.specs.PolicySets.{occupied_id, Adds, IsTaken};
+    ghost use Rattle.cedar_layers.specs.PolicySets.{occupied_id, Adds, IsIdTaken};
 
     /// The set of these policies. Refuses with `Occupied`, which names the first id that comes again, or for want of
     /// memory.
@@ -98,7 +98,7 @@ impl PolicySet {
         policy: Policy,
     ) -> Result<(), PolicySetError>
         ensures ok { OnOk result (Adds set.old.entries set.new.entries policy) }
-        ensures occupied { IfErr result (λ e. IfSome (occupied_id e) (λ i. IsTaken set.old.entries policy i)) }
+        ensures occupied { IfErr result (λ e. IfSome (occupied_id e) (λ i. IsIdTaken set.old.entries policy i)) }
         ensures placed { OnOk result (Places index.old index.new (length set.old.entries) (policy_view policy)) }
     {
         match index.place(alloc, &policy, set.len()) {
@@ -113,7 +113,7 @@ impl PolicySet {
     // Puts the policy after the others, or refuses where its id is there.
     fn insert(set: &mut IndexMap<PolicyID, Policy>, policy: Policy) -> Result<(), PolicySetError>
         ensures ok { OnOk result (Adds set.old.entries set.new.entries policy) }
-        ensures occupied { IfErr result (λ e. IfSome (occupied_id e) (λ i. IsTaken set.old.entries policy i)) }
+        ensures occupied { IfErr result (λ e. IfSome (occupied_id e) (λ i. IsIdTaken set.old.entries policy i)) }
     {
         if set.contains_key(policy.id()) {
             return Err(PolicySetError::Occupied {

@@ -169,7 +169,7 @@ value_cmp-total = record {
   congr = λ a b c. key_cmp-total.congr (value_key a) (value_key b) (value_key c);
 }
 
-is_eq-true : (o : Ordering) → is_eq o ≡ true → o ≡ Equal
+pub is_eq-true : (o : Ordering) → is_eq o ≡ true → o ≡ Equal
 is_eq-true Less e = absurd (cc)
 is_eq-true Equal e = refl
 is_eq-true Greater e = absurd (cc)

@@ -4,6 +4,7 @@ use Rattle.std.specs.declared.cmp.Ordering.{Ordering}
 use Rattle.std.specs.declared.cmp.Ordering.TheVariants.{Less, Equal, Greater}
 use Rattle.std.specs.Ordering.{match_ordering, ordering_reverse, is_eq, Ordering-set}
 use Rattle.std.proofs.Common.{refl, sym, ap, ◌∙◌, subst, arith}
+use Rattle.std.proofs.Math.Bool.{or-false}
 use Rattle.cedar_model.specs.Terms.{Text}
 use Rattle.cedar_model.specs.Values.{AbstractValue, AbstractValues, no_values, one_value, Represented}
 use Rattle.cedar_model.specs.Values.{plain_represented, set_represented, record_represented, extension_represented}
@@ -326,7 +327,7 @@ or_twice : (p q : Bool) → (p || q) ≡ (p || (p || q))
 or_twice true q = refl
 or_twice false q = refl
 
-or_swap : (p q r : Bool) → (p || (q || r)) ≡ (q || (p || r))
+pub or_swap : (p q r : Bool) → (p || (q || r)) ≡ (q || (p || r))
 or_swap true true r = refl
 or_swap true false r = refl
 or_swap false q r = refl
@@ -353,10 +354,6 @@ or_assoc_turned true false r = refl
 or_assoc_turned false true r = refl
 or_assoc_turned false false r = refl
 
-or_false : (p : Bool) → (p || false) ≡ p
-or_false true = refl
-or_false false = refl
-
 has_value-insert_each_value : (a : AbstractValue) (vs : List AbstractValue) (bs : AbstractValues)
     → has_value a (insert_each_value vs bs) ≡ (has_value a (abstract_values_of vs) || has_value a bs)
 has_value-insert_each_value a [] bs = refl
@@ -369,7 +366,7 @@ has_value-insert_each_value a (v ∷ vs) bs =
 pub has_value-abstract_set : (a : AbstractValue) (vs : List AbstractValue)
     → has_value a (abstract_set vs) ≡ has_value a (abstract_values_of vs)
 has_value-abstract_set a vs =
-    has_value-insert_each_value a vs no_values ∙ or_false (has_value a (abstract_values_of vs))
+    has_value-insert_each_value a vs no_values ∙ or-false (has_value a (abstract_values_of vs))
 
 pub has_value-canonical_set : (a : AbstractValue) (vs : List Represented)
     → has_value a (abstract_values (canonical_set vs)) ≡ has_value a (abstract_values (represented_values_of vs))

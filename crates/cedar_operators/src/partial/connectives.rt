@@ -12,7 +12,7 @@ ghost use Rattle.cedar_values.specs.Residuals.{partial_view, residual_term};
 ghost use Rattle.cedar_errors.specs.Answers.{partial_answer, AnswersWith};
 ghost use Rattle.cedar_errors.specs.Failures.{failure_of};
 ghost use Rattle.cedar_operators.specs.Connectives.{deciding, neutral, joined_terms, beside_neutral};
-ghost use Rattle.cedar_operators.specs.Parts.{IsBest, is_handed_up};
+ghost use Rattle.cedar_operators.specs.Parts.{IsBest};
 
 use super::binary::into_expr;
 use crate::failures::type_error;
@@ -160,19 +160,12 @@ pub fn best(
 fn best_of_error(error: EvaluationError, original: &Expr) -> Result<Expr, EvaluationError>
     ensures { IsBest result (best_of_kind (failure_kind (failure_of error)) (failure_of error) (view original.now)) }
 {
-    if is_handed_up(&error) {
+    if error.is_final() {
         Err(error)
     } else {
         drop(error);
         kept(original)
     }
-}
-
-// Whether the error is handed up: the recursion limit, or want of memory.
-fn is_handed_up(error: &EvaluationError) -> bool
-    ensures { result ≡ is_handed_up (failure_kind (failure_of error.now)) }
-{
-    error.is_recursion_limit() || error.is_want_of_memory()
 }
 
 // A copy of the original expression.

@@ -19,7 +19,7 @@ use std::rc::RcStr;
 
 // A part that may not stand in a restricted expression, and the text of what it uses.
 #[derive(Clone, Copy)]
-pub(crate) struct Found<'a> {
+pub(crate) struct DisallowedPart<'a> {
     feature: &'static str,
     part: &'a Expr,
 }
@@ -48,7 +48,7 @@ pub(crate) fn check(expr: &Expr) -> Result<(), RestrictedExpressionError>
 // A node that may not stand at once, else the first of its parts in order.
 #[cycle(found)]
 #[tactic(auto, using(crate::proofs::Levels::terms), unfolding(cedar_model::specs::Restricted::first_disallowed, cedar_model::specs::Restricted::feature_of))]
-fn first_found(expr: &Expr) -> Option<Found<'_>>
+fn first_found(expr: &Expr) -> Option<DisallowedPart<'_>>
     ensures view { option_map disallowed_view result ≡ option_map with_its_text (first_disallowed (view expr.now)) }
     ensures whole { IfSome result (λ f. IsFirstDisallowed expr.now f.part.now) }
 {
@@ -89,7 +89,7 @@ fn first_found(expr: &Expr) -> Option<Found<'_>>
 
 #[cycle(found)]
 #[tactic(auto, unfolding(cedar_model::specs::Restricted::first_disallowed, cedar_model::specs::Restricted::or_else))]
-fn first_found_of(parts: &Vec<Expr>) -> Option<Found<'_>>
+fn first_found_of(parts: &Vec<Expr>) -> Option<DisallowedPart<'_>>
     ensures view { option_map disallowed_view result ≡
         option_map with_its_text (first_disallowed_of (terms_view parts.now.items)) }
     ensures whole { IfSome result (λ f. IsFirstAmong parts.now.items f.part.now) }
@@ -104,7 +104,7 @@ fn first_found_of(parts: &Vec<Expr>) -> Option<Found<'_>>
 
 #[cycle(found)]
 #[tactic(auto, unfolding(cedar_model::specs::Restricted::first_disallowed, cedar_model::specs::Restricted::or_else))]
-fn first_found_at(pairs: &BTreeMap<RcStr, Expr>) -> Option<Found<'_>>
+fn first_found_at(pairs: &BTreeMap<RcStr, Expr>) -> Option<DisallowedPart<'_>>
     ensures view { option_map disallowed_view result ≡
         option_map with_its_text (first_disallowed_at (fields_view pairs.now.entries)) }
     ensures whole { IfSome result (λ f. IsFirstAmong (entry_parts pairs.now.entries) f.part.now) }
@@ -117,12 +117,12 @@ fn first_found_at(pairs: &BTreeMap<RcStr, Expr>) -> Option<Found<'_>>
     None
 }
 
-fn refused<'a>(feature: &'static str, part: &'a Expr) -> Option<Found<'a>>
+fn refused<'a>(feature: &'static str, part: &'a Expr) -> Option<DisallowedPart<'a>>
     requires { is_disallowed part.now ≡ true }
     ensures view { option_map disallowed_view result ≡ Some (feature.now, view part.now) }
     ensures whole { IfSome result (λ f. IsFirstDisallowed part.now f.part.now) }
 {
-    Some(Found { feature, part })
+    Some(DisallowedPart { feature, part })
 }
 
 // The text of the operator.

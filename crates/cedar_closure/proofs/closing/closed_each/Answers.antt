@@ -7,7 +7,7 @@ use Rattle.cedar_closure.proofs.closing.closed_each.Goals as goal
 
 pub entities-preserved : goal.entities-preserved
 entities-preserved c = λ others h.
-    one_more_closed (listed_parents c.args.parents.now.entries) c.args.entities.items (into_iter_items c.next.new.self) c.entities.each.items c.add_last.new.items.items others c.in-Some.entity c.in_ok-closed.closed (into_iter_items c.entities.entity-iterator) c.in-Some.ensures.steps.0 c.in_ok-add_last.ensures c.in_ok-closed.ensures.ok c.entities.invariant h
+    one_more_closed (listed_parents c.args.parents.now.entries) c.args.entities.items (into_iter_items c.next.new.self) c.entities.each.items c.add_last.new.items.items others c.in-Some.entity c.in_ok-closed.closed (into_iter_items c.entities.entity-iterator) c.in-Some.ensures.steps.0 c.in_ok-add_last.ensures.ok c.in_ok-closed.ensures.ok c.entities.invariant h
 
 pub returns-clause-ok : goal.returns-clause-ok
 returns-clause-ok c =

@@ -1,5 +1,6 @@
 use Rattle.std.proofs.Common.{arith, sym, ◌∙◌}
 use Rattle.std.specs.Slice.Iter.{iter_rest}
+use Rattle.std.proofs.lemmas.List.{nil_from_length}
 use Rattle.cedar_expressions.proofs.Levels.{kind_view-Lit, kind_view-Var, kind_view-Slot, kind_view-Unknown}
 use Rattle.cedar_expressions.proofs.Levels.{kind_view-If, kind_view-And, kind_view-Or, kind_view-UnaryApp}
 use Rattle.cedar_expressions.proofs.Levels.{kind_view-BinaryApp}
@@ -7,7 +8,7 @@ use Rattle.cedar_expressions.proofs.Levels.{kind_view-ExtensionFunctionApp, kind
 use Rattle.cedar_expressions.proofs.Levels.{kind_view-ExtHasAttr, kind_view-Like, kind_view-Is, kind_view-Set}
 use Rattle.cedar_expressions.proofs.Levels.{kind_view-Record}
 use Rattle.cedar_expressions.proofs.Equality.{term_eq-if, term_eq-both, term_eq-either, term_eq-binary}
-use Rattle.cedar_expressions.proofs.Walks.{terms_step, terms_short, terms_end, terms_over, no_items, and_when, and_unless}
+use Rattle.cedar_expressions.proofs.Walks.{terms_step, terms_short, terms_end, terms_over, and_when, and_unless}
 use Rattle.cedar_expressions.proofs.expr.+same.Goals as goal
 
 pub Expr::same_parts-parts-preserved : goal.Expr::same_parts-parts-preserved
@@ -20,7 +21,7 @@ Expr::same_parts-returns-then-not-same t c =
 
 pub Expr::same_parts-returns-in_default : goal.Expr::same_parts-returns-in_default
 Expr::same_parts-returns-in_default t c =
-    sym (sym c.parts.invariant ∙ terms_short c.args.parts.now.items c.deref-part-items.result.now (iter_rest c.parts.rest) c.parts.part-index c.deref-part-items.ensures.value c.part-item.result c.parts-test.true (no_items (iter_rest c.parts.rest) c.in_default.ensures.steps.0))
+    sym (sym c.parts.invariant ∙ terms_short c.args.parts.now.items c.deref-part-items.result.now (iter_rest c.parts.rest) c.parts.part-index c.deref-part-items.ensures.value c.part-item.result c.parts-test.true (nil_from_length (iter_rest c.parts.rest) c.in_default.ensures.steps.0))
 
 pub Expr::same_parts-returns : goal.Expr::same_parts-returns
 Expr::same_parts-returns t c =

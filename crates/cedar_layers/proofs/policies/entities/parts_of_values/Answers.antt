@@ -1,8 +1,9 @@
 use Rattle.std.proofs.Common.{◌≡◌, [], ◌∷◌, ◌++◌, sym, ap, ◌∙◌, subst, append_assoc}
 use Rattle.std.specs.List.Sorted.{IsStrictlySortedBy}
 use Rattle.std.specs.Map.{keys_of}
+use Rattle.cedar_values.proofs.Written.{Entry, key_cmp}
 use Rattle.cedar_layers.specs.Parts.{parts_view, are_restricted_parts}
-use Rattle.cedar_layers.proofs.StoredValues.{Entry, key_cmp, put_last, restricted-values_as_parts}
+use Rattle.cedar_layers.proofs.StoredValues.{put_last, restricted-values_as_parts}
 use Rattle.cedar_layers.proofs.policies.entities.parts_of_values.Goals as goal
 
 pub values-preserved : goal.values-preserved

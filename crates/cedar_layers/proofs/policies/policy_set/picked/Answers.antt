@@ -1,9 +1,9 @@
 use Rattle.std.proofs.Common.{sym, ap, ◌∙◌, ◌+◌, subst, arith, map}
-use Rattle.std.proofs.lemmas.List.{map-append}
+use Rattle.std.proofs.lemmas.List.{map-append, nil_from_length}
 use Rattle.std.specs.Map.{values_of}
 use Rattle.std.specs.Vec.Iter.{into_iter_items}
 use Rattle.cedar_layers.proofs.Picking.{ArePickedSoFar, picked_again, picked_more, picked_all}
-use Rattle.cedar_layers.proofs.Placing.{get_value, none_of}
+use Rattle.cedar_layers.proofs.Placing.{get_value}
 use Rattle.cedar_layers.proofs.policies.policy_set.picked.Goals as goal
 
 pub positions-preserved-else-next-at-gt1 : goal.positions-preserved-else-next-at-gt1
@@ -18,4 +18,4 @@ positions-preserved c =
 
 pub returns : goal.returns
 returns c =
-    picked_all _ _ _ _ _ (none_of _ (sym c.positions.at-iterator.rest.ok.0 ∙ c.in-None.ensures.steps.0)) c.positions.invariant
+    picked_all _ _ _ _ _ (nil_from_length _ (sym c.positions.at-iterator.rest.ok.0 ∙ c.in-None.ensures.steps.0)) c.positions.invariant

@@ -1,12 +1,9 @@
-use Rattle.std.proofs.Common.{◌≡◌, [], ◌++◌, length, List, ◌∷◌, ap, refl, ◌∙◌, arith}
+use Rattle.std.proofs.Common.{◌≡◌, [], ◌++◌, ap, ◌∙◌}
 use Rattle.std.specs.Str.{chars}
 use Rattle.std.proofs.lemmas.Str.{chars-nil, chars_past_char}
+use Rattle.std.proofs.lemmas.List.{nil_from_length}
 use lib.Utf8.{encode}
 use Rattle.cedar_names.proofs.pattern.matching.split_char.Goals as goal
-
-empty : {X : Type 0} (xs : List X) → length xs ≡ 0 → xs ≡ []
-empty [] e = refl
-empty (x ∷ xs) e = absurd (omega arith)
 
 pub returns-in-Some : goal.returns-in-Some
 returns-in-Some c =
@@ -16,5 +13,5 @@ returns-in-Some c =
 pub returns-in-None : goal.returns-in-None
 returns-in-None c =
     let h = c.in-None.ensures.steps.0.0 in
-    let e : c.args.text.now ≡ [] = cc (empty _ h, c.chars-rest.ensures.rest) in
+    let e : c.args.text.now ≡ [] = cc (nil_from_length _ h, c.chars-rest.ensures.rest) in
     ap chars e ∙ chars-nil

@@ -1,6 +1,7 @@
 use Rattle.std.proofs.Common.{◌≢◌, refl, ap, sym, subst}
 use Rattle.cedar_model.specs.Failures.{PartialValue, answers, fails, out_of_memory}
 use Rattle.cedar_model.specs.Rules.{Meets}
+use Rattle.cedar_model.proofs.Injections.{answers_is_not_fails}
 use Rattle.cedar_values.specs.Residuals.{partial_view}
 use Rattle.cedar_errors.specs.Failures.{failure_of}
 use Rattle.cedar_extensions.specs.Extensions.{extensions_view, calls_of}
@@ -11,15 +12,12 @@ use Rattle.cedar_requests.proofs.Creations.{bare-is_bare, same_answer}
 use Rattle.cedar_requests.proofs.Records.{record_part}
 use Rattle.cedar_requests.proofs.context.creation.evaluated.Goals as goal
 
-no_want : (p : PartialValue) → answers p ≢ fails out_of_memory
-no_want p e = cc
-
 pub of_part-requires-clause-record : goal.of_part-requires-clause-record
 of_part-requires-clause-record g c =
     let stored = c.new-evaluator.result.extensions.now in
     let x = extensions_view stored in
     record_part (bare_setting x) (calls_of stored) c.new-evaluator.result.limit (borrowed_term c.args.expr)
-    (partial_view c.in-Ok.part) c.requires (c.in-Ok.ensures.answer (bare_setting x) (bare-is_bare x) (no_want _)).runs
+    (partial_view c.in-Ok.part) c.requires (c.in-Ok.ensures.answer (bare_setting x) (bare-is_bare x) (answers_is_not_fails _ out_of_memory)).runs
 
 pub returns-in-Ok-of_part-clause-answer : goal.returns-in-Ok-of_part-clause-answer
 returns-in-Ok-of_part-clause-answer g c = λ s is_bare want.
@@ -30,7 +28,7 @@ returns-in-Ok-of_part-clause-answer g c = λ s is_bare want.
     let a = answers (context_part_value c.in-Ok-of_part.context) in
     subst (λ e. IsAnswerWithin s (calls_of e) c.args.limit (borrowed_term c.args.expr) a) same
     (same_answer s (calls_of made.result.extensions.now) _ _ _ _ _ _ made.ensures.limit refl
-    (ap answers (sym c.in-Ok-of_part.ensures)) (c.in-Ok.ensures.answer s bare_of (no_want _)))
+    (ap answers (sym c.in-Ok-of_part.ensures)) (c.in-Ok.ensures.answer s bare_of (answers_is_not_fails _ out_of_memory)))
 
 pub returns-in-Err-clause-answer : goal.returns-in-Err-clause-answer
 returns-in-Err-clause-answer g c = λ s is_bare.

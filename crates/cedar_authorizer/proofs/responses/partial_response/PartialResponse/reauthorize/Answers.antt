@@ -2,10 +2,11 @@ use Rattle.cedar_extensions.specs.Extensions.{calls_of}
 use Rattle.cedar_extensions.specs.StoredLaws.{calls_meet_no_limit}
 use Rattle.cedar_layers.specs.Stores.{store_view}
 use Rattle.cedar_requests.specs.Substitutions.{values_for}
+use Rattle.cedar_requests.proofs.Soundness.{request_is_sound}
 use Rattle.cedar_authorizer.specs.Configured.{configuration, extensions_of, limit_of, mode_of}
 use Rattle.cedar_authorizer.specs.Running.{request_of}
 use Rattle.cedar_authorizer.specs.Steps.{response_said, step_by, under}
-use Rattle.cedar_authorizer.proofs.Kept.{request_sound, values_sound, step_sound}
+use Rattle.cedar_authorizer.proofs.Kept.{values_sound, step_sound}
 use Rattle.cedar_authorizer.proofs.Stepped.{kept_standing, nothing_back, step_finishes, answered_low, if_stepped}
 use Rattle.cedar_authorizer.proofs.responses.partial_response.PartialResponse.reauthorize.Goals as goal
 
@@ -41,7 +42,7 @@ returns-then-is_same_mode-clause-finishes g c =
     let m = values_for c.args.map.now.entries in
     let store = store_view c.args.entities.now in
     if_stepped c.in_same_mode.result _ _ (λ r. step_finishes mode s calls levels m store old r
-    (request_sound (request_of c.args.self.now)) (values_sound c.args.map.now)) c.in_same_mode.ensures.step
+    (request_is_sound (request_of c.args.self.now)) (values_sound c.args.map.now)) c.in_same_mode.ensures.step
 
 pub returns-then-is_same_mode-clause-deep_enough : goal.returns-then-is_same_mode-clause-deep_enough
 returns-then-is_same_mode-clause-deep_enough g c =
