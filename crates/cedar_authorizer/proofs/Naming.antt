@@ -13,7 +13,6 @@ use Rattle.cedar_model.specs.Chains.{has_effect, rows_of}
 use Rattle.cedar_model.specs.Reports.{ids, is_errored, residuals}
 use Rattle.cedar_layers.specs.declared.policies.policy.PolicyID.{PolicyID}
 use Rattle.cedar_layers.specs.Policies.{policy_id_text}
-use Rattle.cedar_extensions.proofs.Texts.{has_text-append}
 use Rattle.cedar_authorizer.specs.declared.responses.partial_response.PartialResponse.{PartialResponse}
 use Rattle.cedar_authorizer.specs.responses.Kept.{is_same_id}
 use Rattle.cedar_authorizer.specs.responses.Rows.{Located, TrueEntry, FalseEntry, ResidualEntry, is_error, located_true}
@@ -123,6 +122,11 @@ among_entries t (e ∷ es) = ap (λ b. text_eq t (policy_id_text e.0) || b) (amo
 abbrev pub AreNamedSoFar : List Text → List Text → List PolicyID → List PolicyID → Type 0
 AreNamedSoFar first more ks left = (t : Text) → (among t ks || among t left) ≡ has_text t (first ++ more)
 
+has_text_append : (t : Text) (xs ys : List Text) → has_text t (xs ++ ys) ≡ (has_text t xs || has_text t ys)
+unfolding has_text
+has_text_append t [] ys = refl
+has_text_append t (x ∷ xs) ys = ap (λ b. text_eq t x || b) (has_text_append t xs ys) ∙ sym (or_assoc (text_eq t x) (has_text t xs) (has_text t ys))
+
 among_residuals : (t : Text) (es : List ResidualEntry) → among t (keys_of es) ≡ has_text t (entry_ids es)
 unfolding has_text
 among_residuals t [] = refl
@@ -130,7 +134,7 @@ among_residuals t (e ∷ es) = ap (λ b. text_eq t (policy_id_text e.0) || b) (a
 
 pub named_none : (first : List Text) (es : List ResidualEntry) (ks left : List PolicyID) → ◌≡◌ {A = Text → Bool} (λ t. among t ks) (λ t. has_text t first) → left ≡ keys_of es → AreNamedSoFar first (entry_ids es) ks left
 named_none first es ks left h e t =
-    (λ i. h i t || (ap (among t) e ∙ among_residuals t es) i) ∙ sym (has_text-append t first (entry_ids es))
+    (λ i. h i t || (ap (among t) e ∙ among_residuals t es) i) ∙ sym (has_text_append t first (entry_ids es))
 
 same_swapped : (i j : PolicyID) → is_same_id i j ≡ is_same_id j i
 same_swapped i j = by (is_same_id i j) (is_same_id j i) refl refl

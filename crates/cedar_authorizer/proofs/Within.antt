@@ -115,7 +115,7 @@ module _ (mode : ErrorHandling) (s : Setting) (calls : StoredCalls) (levels : �
         let t = (policy_view q).id in
         let unseen : (text_eq t own || false) ≡ false =
         seen_first (is_seen t (own ∷ [])) t _ (others_apart (IsFalse s calls levels) (own ∷ []) (deciding_these rest) (deciding_these (q ∷ later)) h apart_behind) in
-        let seen : text_eq t own ≡ true = ap (text_eq t) (same_text _ _ (sym same)) ∙ text_eq-self t in
+        let seen : text_eq t own ≡ true = ap (text_eq t) (same_text _ _ (sym same)) ∙ (text_eq-decides t t).1 refl in
         true_is_not_false (ap (λ b. b || false) seen) unseen
 
     looked : (q : layers.Policy) (later : List layers.Policy) → text_eq own (policy_view q).id ≡ true → AreFalseBut s calls levels (p ∷ rest) (q ∷ later) → AreFalseBut s calls levels rest later
