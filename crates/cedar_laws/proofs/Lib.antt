@@ -1,0 +1,10 @@
+pub mod AlikeAnswers
+pub mod AlikeRows
+pub mod OneAnswer
+pub mod OneStep
+pub mod Lasting
+pub mod GoingOn
+pub mod Faithfulness
+pub mod HoldingNone
+pub mod HoldingInstances
+pub mod LookedAt

@@ -1,0 +1,76 @@
+-- Which policies an index by scope looks at, and how many they can be.
+use Rattle.std.specs.Prelude.{◌≡◌, ◌≤◌, ◌+◌, ℕ, Bool, true, false, not, ◌&&◌, ◌||◌, List, length, Option, Some, None, is_some, filter, count_by, sum_by}
+use Rattle.std.specs.List.{list_any, list_all}
+use Rattle.cedar_model.specs.Terms.{EntityName}
+use Rattle.cedar_model.specs.Outcomes.{entity_eq}
+use Rattle.cedar_model.specs.Settings.{is_among}
+use Rattle.cedar_layers.specs.declared.policies.policy.Policy.{Policy}
+use Rattle.cedar_layers.specs.Policies.{PolicyView, policy_view}
+use Rattle.cedar_layers.specs.Scopes.{principal_bound, action_bound, resource_bound, AreWithinReach}
+
+-- ---- what scopes ask for
+
+-- an entity is asked for, and it is this one
+abbrev pub is_the : EntityName → Option EntityName → Bool
+is_the e None = false
+is_the e (Some d) = entity_eq d e
+
+-- the scope asks that principal, action or resource is this entity or is in it
+abbrev pub asks_for : EntityName → PolicyView → Bool
+asks_for e p = is_the e (principal_bound p) || (is_the e (action_bound p) || is_the e (resource_bound p))
+
+-- it asks so of no entity
+abbrev pub is_in_rest : PolicyView → Bool
+is_in_rest p = not (is_some (principal_bound p) || (is_some (action_bound p) || is_some (resource_bound p)))
+
+-- it asks so of none, or of one of these
+abbrev pub is_looked_at : List EntityName → PolicyView → Bool
+is_looked_at es p = is_in_rest p || list_any (λ e. asks_for e p) es
+
+-- no entity is asked for, or it is one of these
+abbrev pub is_none_but : List EntityName → Option EntityName → Bool
+is_none_but es None = true
+is_none_but es (Some e) = is_among e es
+
+-- it asks so of no other entities than these
+abbrev pub is_reached : List EntityName → PolicyView → Bool
+is_reached es p =
+    is_none_but es (principal_bound p) && (is_none_but es (action_bound p) && is_none_but es (resource_bound p))
+
+-- ---- how many they are
+
+-- how many of these policies pass the test
+abbrev pub how_many : (PolicyView → Bool) → List Policy → ℕ
+how_many test ps = count_by (λ p. test (policy_view p)) ps
+
+-- those in the rest, and for each of these entities those that ask for it
+abbrev pub most_looked_at : List EntityName → List Policy → ℕ
+most_looked_at es ps = how_many is_in_rest ps + sum_by (λ e. how_many (asks_for e) ps) es
+
+-- ---- laws
+
+-- the policies of these that pass the test, in order
+abbrev pub these_that : (PolicyView → Bool) → List Policy → List Policy
+these_that test ps = filter (λ p. test (policy_view p)) ps
+
+-- of policies within reach of entities, those that are reached are those of the whole set that are, in order
+abbrev pub ReachedAreWithinReach : Type 0
+ReachedAreWithinReach =
+    (es : List EntityName) (all some : List Policy) → AreWithinReach es all some →
+    these_that (is_reached es) some ≡ these_that (is_reached es) all
+
+-- they are at most as many as are in the rest and, for each of the entities, ask for it
+abbrev pub ReachedAreBounded : Type 0
+ReachedAreBounded = (es : List EntityName) (all : List Policy) → how_many (is_reached es) all ≤ most_looked_at es all
+
+-- so are policies within reach, where each of them is in the rest or asks for one of the entities
+abbrev pub LookedAtAreBounded : Type 0
+LookedAtAreBounded =
+    (es : List EntityName) (all some : List Policy) → AreWithinReach es all some →
+    list_all (λ p. is_looked_at es (policy_view p)) some ≡ true → length some ≤ most_looked_at es all
+
+-- and they are never more than there are, of each kind
+abbrev pub WithinReachAreFewer : Type 0
+WithinReachAreFewer =
+    (es : List EntityName) (all some : List Policy) → AreWithinReach es all some →
+    (test : PolicyView → Bool) → how_many test some ≤ how_many test all
