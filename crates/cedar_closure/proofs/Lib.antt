@@ -3,3 +3,5 @@ pub mod Marking
 pub mod Listing
 pub mod Passing
 pub mod Closures
+pub mod Growing
+pub mod Sorted

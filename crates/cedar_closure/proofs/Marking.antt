@@ -15,6 +15,7 @@ use Rattle.cedar_names.proofs.Among.{is_among-append}
 use Rattle.cedar_layers.proofs.Stores.{list_any-uids}
 use Rattle.cedar_closure.specs.Walks.{marked}
 use Rattle.cedar_closure.specs.Listed.{HoldsTheSame}
+use Rattle.cedar_closure.specs.Sorting.{no_name, named_in, with_name}
 
 -- a uid passes the test for a name where the name is among the uids' names
 pub any_of_name : (n : EntityName) (us : List EntityUID) → list_any (λ (u : EntityUID). entity_eq n (uid_name u)) us ≡ is_among n (map uid_name us)
@@ -66,3 +67,15 @@ marked-new n m ns same e = ap (λ (k : EntityName). ns ++ k ∷ []) same ∙ sym
 
 pub marked-again : (n : EntityName) (ns : List EntityName) → is_among n ns ≡ true → ns ≡ marked n ns
 marked-again n ns e = sym (ap (λ (b : Bool). if b then ns else ns ++ n ∷ []) e)
+
+-- ---- a set that is looked at name by name
+
+-- one more is put in
+pub named-put : (old new : List EntityUID) (key uid : EntityUID) → list_any (is_tied key) new ≡ true → KeepsOthers is_tied (is_tied key) old new → uid_name key ≡ uid_name uid → named_in new ≡ with_name (named_in old) (uid_name uid)
+named-put old new key uid there others same = λ i n.
+    (among_at old new [] key key there others n (entity_eq n (uid_name key)) refl ∙ ap (λ (m : EntityName). is_among n (map uid_name old) || entity_eq n m) same) i
+
+-- an empty set
+pub none-named : (us : List EntityUID) → us ≡ [] → named_in us ≡ no_name
+unfolding is_among
+none-named us empty = ap named_in empty

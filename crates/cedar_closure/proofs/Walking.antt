@@ -1,17 +1,13 @@
 -- What a walk over parents has found at each step, and that it ends with all that parents lead to.
 use Rattle.std.proofs.Common.{◌≡◌, refl, sym, ap, ◌∙◌, ℕ, ◌+◌, ◌<◌, ◌≤◌, Bool, true, false, ◌||◌, ◌⊎◌, inl, inr, ⊎_elim, List, [], ◌∷◌, ◌++◌, length, take, drop, take-append-drop, if◌then◌else◌, append_assoc, append-nil, arith, rules}
-use Rattle.std.proofs.lemmas.Bool.{or_cases, and_from, and_parts, true≢false, eq-eqb}
 use Rattle.std.proofs.lemmas.List.{take-append-le}
 use Rattle.std.proofs.lemmas.Map.Keys.{IsDistinct-push}
 use Rattle.std.proofs.lemmas.Map.Made.{length-le_from_is_member}
-use Rattle.std.specs.Cmp.{IsEquivalence}
-use Rattle.std.specs.Cmp.Lexicographic.{same_text}
 use Rattle.std.specs.List.{IsDistinct}
 use Rattle.std.specs.Set.{is_member}
-use Rattle.cedar_model.specs.Terms.{Text, EntityName}
-use Rattle.cedar_model.specs.Outcomes.{text_eq, entity_eq}
+use Rattle.cedar_model.specs.Terms.{EntityName}
+use Rattle.cedar_model.specs.Outcomes.{entity_eq}
 use Rattle.cedar_model.specs.Settings.{is_among}
-use Rattle.cedar_names.specs.EqualityLaws.{text_eq-decides, entity_eq-decides}
 use Rattle.cedar_names.proofs.Among.{is_among-before, is_among-behind, is_among-either, is_among-none, is_among-self, is_among-one, is_among-cons, entity_equivalence}
 use Rattle.cedar_closure.specs.Paths.{Parentage, Leads, in_one_step, by_a_parent, AreLedTo}
 use Rattle.cedar_closure.specs.Walks.{marked, marked_each}

@@ -3,3 +3,5 @@ pub mod Paths
 pub mod Ancestry
 pub mod Walks
 pub mod Listed
+pub mod LeftOut
+pub mod Sorting

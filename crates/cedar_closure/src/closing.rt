@@ -1,5 +1,5 @@
 //! Stores whose ancestors are closed under "parent of".
-ghost use Rattle.std.specs.Prelude.{◌≡◌, ◌↔◌, true, IfOk, OnOk, IfErr};
+ghost use Rattle.std.specs.Prelude.{◌≡◌, ◌↔◌, true, false, IfOk, OnOk, IfErr};
 ghost use Rattle.std.specs.List.{AllZip};
 ghost use Rattle.cedar_model.specs.Terms.{EntityName};
 ghost use Rattle.cedar_model.specs.Settings.{is_among};
@@ -15,28 +15,29 @@ use cedar_layers::policies::{Entities, Entity};
 use cedar_results::add_last;
 use std::alloc::Global;
 
-/// The store of these entities, whose recorded ancestors are taken to be their parents: in the store, each records all
-/// that parents lead to in one step or more. Apart from its ancestors each entity is the one that was handed in, its
-/// uid, attributes and tags whole; of those of one uid the last counts, as in `Entities::with`. An entity that is not
-/// among them has no parents. `partial` is as in `Entities::with`. Refuses with `Cycle` where an entity's parents lead
-/// back to it, and names one such entity; else only for want of memory. For each entity the parents of each of its
-/// ancestors are looked at once.
-pub fn closed(alloc: Global, entities: Vec<Entity>, partial: bool) -> Result<Entities, ClosureError>
+/// The concrete store of these entities, which are all that there are. Their recorded ancestors are taken to be their
+/// parents: in the store, each records all that parents lead to in one step or more. Apart from its ancestors each
+/// entity is the one that was handed in, its uid, attributes and tags whole; of those of one uid the last counts, as in
+/// `Entities::with`. A parent that is not among them has no parents: where there may be more entities than these, that
+/// is wrong, and `closed_partially` is the call. Refuses with `Cycle` where an entity's parents lead back to it, and
+/// names one such entity; else only for want of memory. For each entity the parents of each of its ancestors are looked
+/// at once.
+pub fn closed(alloc: Global, entities: Vec<Entity>) -> Result<Entities, ClosureError>
     ensures entities { IfOk result (λ s. (n : EntityName) →
         AreAlike (last_of_each_name entities.items n) (stored_entity s n)) }
     ensures ancestors { IfOk result (λ s. (n m : EntityName) →
         (is_among m (recorded (stored_entity s n)) ≡ true) ↔ Leads (parents_of entities.items) n m) }
-    ensures partial { IfOk result (λ s. (store_view s).is_partial ≡ partial) }
+    ensures partial { IfOk result (λ s. (store_view s).is_partial ≡ false) }
     ensures acyclic { OnOk result ((n : EntityName) → ¬ Leads (parents_of entities.items) n n) }
     ensures cycle { IfErr result (NamesACycle (parents_of entities.items)) }
 {
     let parents = recorded_parents(alloc, &entities)?;
     let each = closed_each(alloc, &parents, entities)?;
-    Ok(Entities::with(alloc, each, partial)?)
+    Ok(Entities::with(alloc, each, false)?)
 }
 
-// Each of these entities with all its ancestors.
-fn closed_each(
+/// Each of these entities with all its ancestors.
+pub(crate) fn closed_each(
     alloc: Global,
     parents: &ParentMap,
     entities: Vec<Entity>,
