@@ -11,6 +11,10 @@ use Rattle.cedar_expressions.specs.View.{view}
 use Rattle.cedar_builder.specs.declared.expressions.ExprBuilder.{ExprBuilder}
 use Rattle.cedar_builder.specs.declared.expressions.lists.FieldBuilder.{FieldBuilder}
 
+-- what was made so far, or that memory was wanting: the expression with its place and those of its parts
+abbrev pub expression_of : ExprBuilder → Result Expr AllocError
+expression_of b = b.built
+
 -- the term of what was made, if memory was not wanting
 abbrev pub term_in : Result Expr AllocError → Option Term
 term_in (Ok e) = Some (view e)

@@ -1,8 +1,8 @@
 #![tactic(auto, using(crate::proofs::Building::building))]
 //! Expressions in the making.
-ghost use Rattle.std.specs.Prelude.{◌≡◌, Some};
+ghost use Rattle.std.specs.Prelude.{◌≡◌, Some, Ok};
 ghost use Rattle.cedar_expressions.specs.View.{view};
-ghost use Rattle.cedar_builder.specs.Building.{term_of, term_in};
+ghost use Rattle.cedar_builder.specs.Building.{term_of, term_in, expression_of};
 
 mod leaves;
 mod lists;
@@ -38,9 +38,10 @@ impl Model for ExprBuilder {
     ghost view = { λ a. record { built = a.built } };
 }
 
-/// This expression, as it is. It takes no memory.
+/// This expression, as it is: it and its parts stand where they stood. It takes no memory.
 pub fn expr(alloc: Global, expr: Expr) -> ExprBuilder
-    ensures { term_of result ≡ Some (view expr) }
+    ensures term { term_of result ≡ Some (view expr) }
+    ensures whole { expression_of result ≡ Ok expr }
 {
     ExprBuilder {
         alloc,
@@ -49,9 +50,11 @@ pub fn expr(alloc: Global, expr: Expr) -> ExprBuilder
 }
 
 impl ExprBuilder {
-    /// The expression that was said. Refuses only for want of memory, which was wanting on the way.
+    /// The expression that was said. One that was handed in (`expr`) comes back as it was handed in, and with it the
+    /// places of its parts. Refuses only for want of memory, which was wanting on the way.
     pub fn expr(self) -> Result<Expr, AllocError>
-        ensures { term_in result ≡ term_of self }
+        ensures term { term_in result ≡ term_of self }
+        ensures whole { result ≡ expression_of self }
     {
         let ExprBuilder { alloc: _, built } = self;
         built

@@ -1,5 +1,5 @@
 -- What entities are evaluated to.
-use Rattle.std.specs.Prelude.{◌≡◌, ⊤, ℕ, List, [], ◌∷◌, ◌++◌, ◌||◌, Ok, Err, IsOk}
+use Rattle.std.specs.Prelude.{◌≡◌, ⊤, ℕ, List, [], ◌∷◌, ◌++◌, ◌||◌, Ok, Err}
 use Rattle.cedar_model.specs.Terms.{Text, EntityName, Term, Fields, no_fields, one_field}
 use Rattle.cedar_model.specs.World.{Extensions}
 use Rattle.cedar_model.specs.Rules.{StoredCalls}
@@ -18,9 +18,6 @@ use Rattle.cedar_layers.specs.Parts.{parts_view}
 use Rattle.cedar_layers.specs.declared.policies.entities.Entity.{Entity}
 use Rattle.cedar_layers.specs.Stores.{entity_name, entity_view}
 use Rattle.cedar_restricted_evaluator.specs.Evaluations.{IsBare, IsAnswerWithin}
-use Rattle.cedar_json.specs.declared.errors.JsonError.{JsonError}
-use Rattle.cedar_json.specs.declared.errors.JsonError.TheVariants as errors
-use Rattle.cedar_json.specs.Paths.{path_view}
 use Rattle.cedar_json.specs.Refusals.{Said}
 use Rattle.cedar_json.specs.SaidEntities.{SaidEntity}
 
@@ -60,22 +57,6 @@ AreEvaluated x calls n (e ∷ es) (d ∷ ds) = IsEvaluated x calls n e d × AreE
 abbrev pub AreEntitiesOf : Extensions → StoredCalls → ℕ → Said (List SaidEntity) → List Entity → Type 0
 AreEntitiesOf x calls n (Ok es) ds = AreEvaluated x calls n es ds
 AreEntitiesOf x calls n (Err r) ds = ⊥
-
--- an evaluation fails, or memory was wanting
-abbrev pub IsEvaluationError : JsonError → Type 0
-IsEvaluationError errors.Syntax = ⊥
-IsEvaluationError errors.DuplicateKey = ⊥
-IsEvaluationError (errors.Refused path reason) = ⊥
-IsEvaluationError (errors.Evaluation path error) = ⊤
-IsEvaluationError (errors.Memory error) = ⊤
-
--- nothing is said, for this reason; or something is, and an evaluation fails; or memory was wanting
-abbrev pub IsEntitiesError : Said (List SaidEntity) → JsonError → Type 0
-IsEntitiesError s errors.Syntax = ⊥
-IsEntitiesError s errors.DuplicateKey = ⊥
-IsEntitiesError s (errors.Refused path reason) = s ≡ Err (record { path = path_view path; reason = reason })
-IsEntitiesError s (errors.Evaluation path error) = IsOk s
-IsEntitiesError s (errors.Memory error) = ⊤
 
 -- ---- how they are collected; for private clauses
 

@@ -1,6 +1,6 @@
 #![tactic(auto, using(crate::proofs::Failed::failed))]
 //! Entities whose attributes and tags are evaluated.
-ghost use Rattle.std.specs.Prelude.{◌≡◌, true, [], OnOk, IfOk, IfErr};
+ghost use Rattle.std.specs.Prelude.{◌≡◌, ◌∷◌, true, [], length, OnOk, IfOk, IfErr};
 ghost use Rattle.std.specs.BTreeMap.{insert_entry};
 ghost use Rattle.std.specs.Rc.{rc_str_bytes};
 ghost use Rattle.cedar_expressions.specs.Nodes.{key_order};
@@ -12,7 +12,12 @@ ghost use Rattle.cedar_restricted_expressions.specs.Views.{restricted_term};
 ghost use Rattle.cedar_json.specs.Lists.{pairs_said};
 ghost use Rattle.cedar_json.specs.StatedEntities.{names_of, stated_view, stated_views};
 ghost use Rattle.cedar_json.specs.Evaluated.{IsAnswerOf, AreAnswered, AreAmong, IsEvaluated, AreEvaluated};
-ghost use Rattle.cedar_json.specs.Evaluated.{IsEvaluationError, AddsPart, AddsEntity, PutsName};
+ghost use Rattle.cedar_json.specs.Evaluated.{AddsPart, AddsEntity, PutsName};
+ghost use Rattle.cedar_json.specs.FailedEntities.{Below, IsAnswered, AreAllAnswered, IsAllAnswered, IsEvaluationError};
+ghost use Rattle.cedar_json.specs.FailedEntities.{IsFailedPart, AreFailedParts, IsFailedEntity, AreFailedEntities};
+ghost use Rattle.cedar_json.specs.FailedEntities.{IsToldAt};
+ghost use Rattle.cedar_json.specs.Paths.{at_key, at_index};
+ghost use Rattle.cedar_json.specs.Refusals.{IsMemory};
 ghost use Rattle.cedar_values.specs.Residuals.{partial_view};
 ghost use Rattle.cedar_layers.specs.Parts.{parts_view, are_restricted_parts, is_restricted_part};
 ghost use mathlib.Core.Bool.{Bool-set};
@@ -60,7 +65,9 @@ impl StoredParts {
 }
 
 /// The entities, with their attributes and tags evaluated with these extensions at most `limit` levels deep: a value,
-/// or what is left where an unknown stands in one. The ancestors of each are its parents alone.
+/// or what is left where an unknown stands in one. The ancestors of each are its parents alone. `Evaluation` holds the
+/// first error, and where that stands, as `$[3].attrs.age`: entities are evaluated in order, the attributes of each in
+/// order, then its tags in order. `Memory` is want of memory.
 pub fn evaluated_entities(
     alloc: Global,
     stated: Vec<StatedEntity>,
@@ -70,7 +77,8 @@ pub fn evaluated_entities(
     ensures evaluated { IfOk result
         (λ r. AreEvaluated (extensions_view extensions.now) (calls_of extensions.now) limit
         (stated_views stated.items) r.items) }
-    ensures failed { IfErr result IsEvaluationError }
+    ensures failed { IfErr result (IsEvaluationError (AreFailedEntities (extensions_view extensions.now)
+        (calls_of extensions.now) limit (stated_views stated.items))) }
 {
     let evaluator = RestrictedEvaluator::new(extensions, limit);
     let mut entities: Vec<Entity> = Vec::new(alloc);
@@ -92,28 +100,31 @@ fn evaluate_all(
     requires { entities.old.items ≡ [] }
     ensures evaluated { OnOk result (AreEvaluated (extensions_read evaluator.now) (calls_in evaluator.now)
         (limit_of evaluator.now) (stated_views stated.items) entities.new.items) }
-    ensures failed { IfErr result IsEvaluationError }
+    ensures failed { IfErr result (IsEvaluationError (AreFailedEntities (extensions_read evaluator.now)
+        (calls_in evaluator.now) (limit_of evaluator.now) (stated_views stated.items))) }
 {
-    let mut index: usize = 0;
     'stated: for entity in stated {
-        put_evaluated(alloc, entity, evaluator, index, entities)?;
-        index = index.saturating_add(1);
+        put_evaluated(alloc, entity, evaluator, entities)?;
     }
     Ok(())
 }
 
-// Puts the entity, which has this index, behind those that are there.
+// Puts the entity, whose index is how many are there, behind them.
 fn put_evaluated(
     alloc: Global,
     stated: StatedEntity,
     evaluator: &RestrictedEvaluator<'_, '_>,
-    index: usize,
     entities: &mut Vec<Entity>,
 ) -> Result<(), JsonError>
     ensures adds { OnOk result (AddsEntity (extensions_read evaluator.now) (calls_in evaluator.now)
         (limit_of evaluator.now) (stated_view stated) entities.old.items entities.new.items) }
-    ensures failed { IfErr result IsEvaluationError }
+    ensures answered { OnOk result (IsAllAnswered (extensions_read evaluator.now) (calls_in evaluator.now)
+        (limit_of evaluator.now) (stated_view stated)) }
+    ensures failed { IfErr result (IsEvaluationError (Below (at_index (length entities.old.items))
+        (IsFailedEntity (extensions_read evaluator.now) (calls_in evaluator.now) (limit_of evaluator.now)
+        (stated_view stated)))) }
 {
+    let index = entities.len();
     match evaluate(alloc, stated, evaluator) {
         Ok(entity) => match entities.push(entity) {
             Ok(()) => Ok(()),
@@ -130,7 +141,10 @@ fn evaluate(
 ) -> Result<Entity, JsonError>
     ensures evaluated { IfOk result (IsEvaluated (extensions_read evaluator.now) (calls_in evaluator.now)
         (limit_of evaluator.now) (stated_view stated)) }
-    ensures failed { IfErr result IsEvaluationError }
+    ensures answered { OnOk result (IsAllAnswered (extensions_read evaluator.now) (calls_in evaluator.now)
+        (limit_of evaluator.now) (stated_view stated)) }
+    ensures failed { IfErr result (IsEvaluationError (IsFailedEntity (extensions_read evaluator.now)
+        (calls_in evaluator.now) (limit_of evaluator.now) (stated_view stated))) }
 {
     let StatedEntity {
         uid,
@@ -147,7 +161,7 @@ fn evaluate(
 // The set of these.
 fn set_of(alloc: Global, uids: Vec<EntityUID>) -> Result<BTreeSet<EntityUID>, JsonError>
     ensures among { IfOk result (λ s. AreAmong (names_of s.keys) (names_of uids.items)) }
-    ensures failed { IfErr result IsEvaluationError }
+    ensures memory { IfErr result IsMemory }
 {
     let mut set: BTreeSet<EntityUID> = BTreeSet::new(alloc);
     'uids: for uid in uids {
@@ -158,7 +172,7 @@ fn set_of(alloc: Global, uids: Vec<EntityUID>) -> Result<BTreeSet<EntityUID>, Js
 
 fn put_uid(uid: EntityUID, set: &mut BTreeSet<EntityUID>) -> Result<(), JsonError>
     ensures puts { OnOk result (PutsName (names_of set.old.keys) (uid_name uid) (names_of set.new.keys)) }
-    ensures failed { IfErr result IsEvaluationError }
+    ensures memory { IfErr result IsMemory }
 {
     match set.insert(uid) {
         Ok(_) => Ok(()),
@@ -174,7 +188,11 @@ fn parts_at(
 ) -> Result<StoredParts, JsonError>
     ensures answered { IfOk result (λ r. AreAnswered (extensions_read evaluator.now) (calls_in evaluator.now)
         (limit_of evaluator.now) (fields_in_order (pairs_said pairs.items)) (parts_view r.map.entries)) }
-    ensures failed { IfErr result IsEvaluationError }
+    ensures all { OnOk result (AreAllAnswered (extensions_read evaluator.now) (calls_in evaluator.now)
+        (limit_of evaluator.now) (pairs_said pairs.items)) }
+    ensures failed { IfErr result (IsEvaluationError (Below (at_key key.now)
+        (AreFailedParts (extensions_read evaluator.now) (calls_in evaluator.now) (limit_of evaluator.now)
+        (pairs_said pairs.items)))) }
 {
     match parts(alloc, pairs, evaluator) {
         Ok(parts) => Ok(parts),
@@ -189,7 +207,10 @@ fn parts(
 ) -> Result<StoredParts, JsonError>
     ensures answered { IfOk result (λ r. AreAnswered (extensions_read evaluator.now) (calls_in evaluator.now)
         (limit_of evaluator.now) (fields_in_order (pairs_said pairs.items)) (parts_view r.map.entries)) }
-    ensures failed { IfErr result IsEvaluationError }
+    ensures all { OnOk result (AreAllAnswered (extensions_read evaluator.now) (calls_in evaluator.now)
+        (limit_of evaluator.now) (pairs_said pairs.items)) }
+    ensures failed { IfErr result (IsEvaluationError (AreFailedParts (extensions_read evaluator.now)
+        (calls_in evaluator.now) (limit_of evaluator.now) (pairs_said pairs.items))) }
 {
     let mut parts = StoredParts::new(alloc);
     'pairs: for (key, expr) in pairs {
@@ -208,7 +229,10 @@ fn with_part(
 ) -> Result<StoredParts, JsonError>
     ensures adds { IfOk result (λ r. AddsPart (extensions_read evaluator.now) (calls_in evaluator.now)
         (limit_of evaluator.now) (rc_str_bytes key) (restricted_term expr) parts.map.entries r.map.entries) }
-    ensures failed { IfErr result IsEvaluationError }
+    ensures answered { OnOk result (IsAnswered (extensions_read evaluator.now) (calls_in evaluator.now)
+        (limit_of evaluator.now) (restricted_term expr)) }
+    ensures failed { IfErr result (IsEvaluationError (IsFailedPart (extensions_read evaluator.now)
+        (calls_in evaluator.now) (limit_of evaluator.now) (rc_str_bytes key) (restricted_term expr))) }
 {
     let part = part(alloc, &key, &expr, evaluator);
     drop(expr);
@@ -235,7 +259,8 @@ fn part(
     ensures answer { IfOk result (λ p. IsAnswerOf (extensions_read evaluator.now) (calls_in evaluator.now)
         (limit_of evaluator.now) (restricted_term expr.now) (partial_view p)) }
     ensures restricted { IfOk result (λ p. is_restricted_part (partial_view p) ≡ true) }
-    ensures failed { IfErr result IsEvaluationError }
+    ensures failed { IfErr result (IsEvaluationError (IsFailedPart (extensions_read evaluator.now)
+        (calls_in evaluator.now) (limit_of evaluator.now) (rc_str_bytes key.now) (restricted_term expr.now))) }
 {
     match evaluator.partial_interpret(alloc, expr.as_borrowed()) {
         Ok(part) => Ok(part),
@@ -246,7 +271,7 @@ fn part(
 // The error of an evaluation, of the part at this key.
 #[cold]
 fn unevaluated(alloc: Global, error: EvaluationError, key: &str) -> JsonError
-    ensures { IsEvaluationError result }
+    ensures { IsToldAt (at_key key.now ∷ []) error result }
 {
     match error {
         EvaluationError::Memory(error) => JsonError::Memory(error),

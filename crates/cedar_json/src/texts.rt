@@ -11,7 +11,8 @@ ghost use Rattle.cedar_json.specs.StatedEntities.{stated_views};
 ghost use Rattle.cedar_json.specs.JsonTexts.{IsUnread, Says, IsTextRefusal, SaysSo, IsTextError};
 ghost use Rattle.cedar_json.specs.SaidContexts.{context_said, IsContextOf, IsContextRefusal};
 ghost use Rattle.cedar_json.specs.SaidRequests.{IsRequestOf, IsRequestRefusal};
-ghost use Rattle.cedar_json.specs.Evaluated.{AreEntitiesOf, IsEntitiesError};
+ghost use Rattle.cedar_json.specs.Evaluated.{AreEntitiesOf};
+ghost use Rattle.cedar_json.specs.FailedEntities.{IsEntitiesError};
 ghost use Rattle.cedar_extensions.specs.Extensions.{extensions_view, calls_of};
 
 use crate::contexts::context_from_json_value;
@@ -66,8 +67,9 @@ pub fn context_from_json_str(
 
 /// The entities that the text says, in order, with their attributes and tags evaluated with these extensions at most
 /// `limit` levels deep. The recorded ancestors of each are its parents alone, as the text has them. Refuses as
-/// `stated_entities_from_json_str` does, before anything is evaluated. `Evaluation` holds the error of an attribute or
-/// a tag, and where that stands.
+/// `stated_entities_from_json_str` does, before anything is evaluated. `Evaluation` holds the first error of an
+/// attribute or a tag, in the order of the text but for tags, which come after the attributes of their entity; and
+/// where that stands, as `$[3].attrs.age`.
 pub fn entities_from_json_str(
     alloc: Global,
     text: &str,
@@ -77,7 +79,9 @@ pub fn entities_from_json_str(
     ensures made { IfOk result
         (λ r. SaysSo text.now (λ j. AreEntitiesOf (extensions_view extensions.now) (calls_of extensions.now) limit
         (entities_said j) r.items)) }
-    ensures refused { IfErr result (IsTextError text.now (λ j e. IsEntitiesError (entities_said j) e)) }
+    ensures refused { IfErr result
+        (IsTextError text.now (λ j e. IsEntitiesError (extensions_view extensions.now) (calls_of extensions.now) limit
+        (entities_said j) e)) }
 {
     match stated_entities_from_json_str(alloc, text) {
         Ok(stated) => evaluated_entities(alloc, stated, extensions, limit),

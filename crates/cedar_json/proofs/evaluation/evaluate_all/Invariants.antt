@@ -1,9 +1,10 @@
-use Rattle.std.proofs.Common.{◌≡◌, ◌++◌, List}
+use Rattle.std.proofs.Common.{◌≡◌, ◌++◌, List, All}
 use Rattle.std.specs.Vec.Iter.{into_iter_items}
 use Rattle.cedar_restricted_evaluator.specs.Evaluators.{extensions_read, calls_in, limit_of}
 use Rattle.cedar_json.specs.SaidEntities.{SaidEntity}
 use Rattle.cedar_json.specs.StatedEntities.{stated_views}
 use Rattle.cedar_json.specs.Evaluated.{AreEvaluated}
+use Rattle.cedar_json.specs.FailedEntities.{IsAllAnswered}
 use Rattle.cedar_json.proofs.evaluation.evaluate_all.Given as goal
 
 -- what was taken is evaluated, and then comes what is left
@@ -11,3 +12,4 @@ abbrev pub invariant-stated : goal.invariant-stated
 invariant-stated g l =
     (done : List SaidEntity) × (stated_views l.fn.stated.items ≡ done ++ stated_views (into_iter_items l.entity-iterator))
     × AreEvaluated (extensions_read l.evaluator) (calls_in l.evaluator) (limit_of l.evaluator) done l.entities.items
+    × All (IsAllAnswered (extensions_read l.evaluator) (calls_in l.evaluator) (limit_of l.evaluator)) done
