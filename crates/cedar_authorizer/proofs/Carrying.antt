@@ -1,6 +1,8 @@
 -- The policies that are carried on, one by one; and the first id that comes again.
 use Rattle.std.proofs.Common.{◌≡◌, if◌then◌else◌, List, [], ◌∷◌, ◌++◌, map, Some, None, IfSome, Ok, Err, refl, ap}
 use Rattle.std.proofs.Common.{◌∙◌, sym, subst, option_map, append_assoc}
+use Rattle.std.specs.Prelude.{Contains}
+use Rattle.std.proofs.lemmas.List.Elements.{All-head, All-tail, All-push}
 use Rattle.cedar_model.specs.Policies as model
 use Rattle.cedar_model.specs.Refusals as steps
 use Rattle.cedar_model.specs.Responses.{carried}
@@ -10,10 +12,10 @@ use Rattle.cedar_layers.specs.declared.policies.policy_set.PolicySetError.{Polic
 use Rattle.cedar_layers.specs.declared.policies.policy_set.PolicySetError.TheVariants as sets
 use Rattle.cedar_layers.specs.PolicySets.{occupied_id}
 use Rattle.cedar_authorizer.specs.responses.Rows.{Located, rows_in}
-use Rattle.cedar_authorizer.specs.responses.Readers.{TakesPolicy}
+use Rattle.cedar_authorizer.specs.responses.Readers.{TakesPolicy, AreAmong}
 use Rattle.cedar_authorizer.specs.declared.reauthorization.err.ReauthorizationError.{ReauthorizationError}
 use Rattle.cedar_authorizer.specs.reauthorization.Errors.{step_refusal, IsPolicyRefusal}
-use Rattle.cedar_authorizer.specs.reauthorization.Policies.{unless_repeated, all_once}
+use Rattle.cedar_authorizer.specs.reauthorization.Policies.{unless_repeated, all_once, IsCarriedFrom, AreCarriedFrom}
 
 -- ---- ids
 
@@ -51,6 +53,15 @@ one_more ps p old new all (l, e, f) h =
     ∙ append_assoc (decided ps) (decides_as (policy_view p) ∷ []) (carried_on new)
     ∙ ap (λ (q : model.Policy). decided ps ++ (q ∷ carried_on new)) (ap (λ x. x.0) f.policy)
     ∙ ap (λ (o : List Located). decided ps ++ carried_on o) (sym e) ∙ h
+
+-- and its row is among those that are carried on
+pub one_from : (rows : List Located) (ps : List Policy) (p : Policy) (old new : List Located) → TakesPolicy old (Some (Ok p)) new → AreAmong old rows → AreCarriedFrom rows ps
+    → AreCarriedFrom rows (ps ++ p ∷ []) × AreAmong new rows
+one_from rows ps p old new (l, e, f) among h =
+    let here : AreAmong (l ∷ new) rows = subst (λ (ls : List Located). AreAmong ls rows) e among in (
+      All-push (IsCarriedFrom rows) ps p h record { row = l; among = All-head (λ (x : Located). Contains rows x) l new here; carried = f },
+      All-tail (λ (x : Located). Contains rows x) l new here,
+    )
 
 -- none is left
 pub no_more : (ps : List model.Policy) (old : List Located) (all : List model.Policy) → old ≡ []

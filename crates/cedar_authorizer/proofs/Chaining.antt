@@ -114,7 +114,7 @@ module _ (mode : ErrorHandling) (s : Setting) (calls : StoredCalls) (levels : �
   abbrev by_all : Configuration
   by_all = configured_by calls mode s levels
 
-  chain_headline : (r : PartialResponse) → AreConditions ps → IsChain by_all s ps all (Ok r) → IsHeadline by_all s ps all r
+  pub chain_headline : (r : PartialResponse) → AreConditions ps → IsChain by_all s ps all (Ok r) → IsHeadline by_all s ps all r
   chain_headline r conditions (first, begins, (last, chain, says)) ans w p =
       let h = chaining.headline mode calls s levels ps all first last conditions begins chain ans w
       (subst (Premises by_all s.request s.store ps all ans w) (sym says.errors_are) p) in

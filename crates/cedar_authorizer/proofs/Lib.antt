@@ -15,6 +15,9 @@ pub mod Low
 pub mod Joined
 pub mod Stepped
 pub mod Chaining
+pub mod Further
+pub mod Twice
+pub mod OneAnswer
 pub mod Limits
 pub mod Concretes
 pub mod Copies

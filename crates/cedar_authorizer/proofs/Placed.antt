@@ -1,7 +1,7 @@
 -- Where what is left of policies stands, policy by policy.
 use Rattle.std.specs.Prelude.{◌≡◌, Bool, true, false, cond, ◌&&◌, List, [], ◌∷◌, ◌++◌, All, Contains}
 use Rattle.std.proofs.Common.{refl, sym, ap, ◌∙◌, subst, append_assoc, arith}
-use Rattle.std.proofs.lemmas.List.Elements.{All-nil, All-cons, All-append, Contains-append_right}
+use Rattle.std.proofs.lemmas.List.Elements.{All-nil, All-cons, All-append, All-weaker, All-contains, Contains-append_right}
 use Rattle.cedar_model.specs.Policies.{Effect, permit, forbid, ErrorHandling}
 use Rattle.cedar_model.specs.Responses.{reported_of, error_of, counted_report}
 use Rattle.cedar_model.specs.Chains.{has_effect, is_residual}
@@ -15,7 +15,8 @@ use Rattle.cedar_authorizer.specs.declared.responses.sheet.Sheet.{Sheet}
 use Rattle.cedar_authorizer.specs.responses.Rows.{Located, clause_loc, located_of, residual_rows}
 use Rattle.cedar_authorizer.specs.responses.Sheets.{Noted, sheet_view, nothing_noted, noted_also, outcome_view}
 use Rattle.cedar_authorizer.specs.responses.Sheets.{placed_row}
-use Rattle.cedar_authorizer.specs.Running.{StandsAtPolicy, ResidualsStand, ResidualsAreNoted, IsLeftAt}
+use Rattle.cedar_authorizer.specs.reauthorization.Policies.{IsCarriedFrom, AreCarriedFrom}
+use Rattle.cedar_authorizer.specs.Running.{StandsAtPolicy, ResidualsStand, StandsAtRow, ResidualsStay, ResidualsAreNoted, IsLeftAt}
 
 -- the policies before those that are left are placed
 pub record ArePlacedSoFar (all left : List layers.Policy) (sheet : Sheet) : Type 0 where
@@ -77,3 +78,20 @@ residuals_stand ps sheet r p f h = record {
   permits = subst (λ es. All (StandsAtPolicy ps) (residual_rows permit es)) (sym p) h.permits;
   forbids = subst (λ es. All (StandsAtPolicy ps) (residual_rows forbid es)) (sym f) h.forbids;
 }
+
+-- so they do in the response before, where the policies were carried on from it
+pub residuals_stay : (rows : List Located) (ps : List layers.Policy) (r : PartialResponse) → AreCarriedFrom rows ps → ResidualsStand ps r → ResidualsStay rows r
+residuals_stay rows ps r carried h = record {
+  permits = All-weaker (StandsAtPolicy ps) (StandsAtRow rows) stays (residual_rows permit r.residual_permits.entries) h.permits;
+  forbids = All-weaker (StandsAtPolicy ps) (StandsAtRow rows) stays (residual_rows forbid r.residual_forbids.entries) h.forbids;
+}
+  where
+    stays : (l : Located) → StandsAtPolicy ps l → StandsAtRow rows l
+    stays l k =
+        let from : IsCarriedFrom rows k.policy = All-contains (IsCarriedFrom rows) ps k.policy carried k.among in
+        record {
+          before = from.row;
+          among = from.among;
+          id_is = k.id_is ∙ ap (λ x. x.0.id) from.carried.policy;
+          stands = k.stands ∙ ap (λ x. x.1) from.carried.policy;
+        }

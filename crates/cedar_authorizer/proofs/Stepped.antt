@@ -2,9 +2,9 @@
 use Rattle.std.specs.Prelude.{◌≡◌, ◌≢◌, ℕ, ◌+◌, ◌≤◌, List, [], ◌∷◌, map, Option, Some, None, option_map, IfSome, IfOk, IfErr, Result, Ok, Err}
 use Rattle.std.proofs.Common.{refl, sym, ap, ◌∙◌, subst, arith}
 use Rattle.cedar_model.specs.Failures.{recursion_limit}
-use Rattle.cedar_model.specs.Settings.{ContextPart, absent_context, known_context, residual_context, Store, Setting}
+use Rattle.cedar_model.specs.Settings.{ContextPart, absent_context, known_context, residual_context, RequestPart, Store, Setting}
 use Rattle.cedar_model.specs.Rules.{StoredCalls}
-use Rattle.cedar_model.specs.Agreement.{height}
+use Rattle.cedar_model.specs.Agreement.{height, IsCompletion}
 use Rattle.cedar_model.specs.Restricted.{IsSound, IsSoundContext, IsGivenSound}
 use Rattle.cedar_model.specs.Values.{Represented}
 use Rattle.cedar_model.specs.Reordering.{IsReordering, chaining}
@@ -36,7 +36,7 @@ use Rattle.cedar_authorizer.specs.declared.reauthorization.err.ReauthorizationEr
 use Rattle.cedar_authorizer.specs.reauthorization.Errors.{step_refusal}
 use Rattle.cedar_authorizer.specs.reauthorization.Concretizations.{IsResidualNoHigher}
 use Rattle.cedar_authorizer.specs.Running.{HoldsRows}
-use Rattle.cedar_authorizer.specs.Steps.{step_answer, IsStep, KeepsWhatStands, TakesNothingBack, Finishes, StepIsDeepEnough}
+use Rattle.cedar_authorizer.specs.Steps.{step_answer, IsStep, KeepsCompletions, KeepsWhatStands, TakesNothingBack, Finishes, StepIsDeepEnough}
 use Rattle.cedar_authorizer.proofs.Deciding.{rows_sorted}
 use Rattle.cedar_authorizer.proofs.Low.{step_is_deep}
 use Rattle.cedar_authorizer.proofs.Same.{SameRows, same_decision, same_must, same_may, none_residual}
@@ -83,6 +83,15 @@ module _ (mode : ErrorHandling) (s : Setting) (calls : StoredCalls) (levels : �
       stand_sorted mode s.extensions ans w ps new.rows r says.held
       (step_stands mode ans calls c.functions_agree w (at_step s.extensions s.resolution new.request store m) z c.functions_are_faithful levels ps old.rows new.rows new.errors (conditions_of views) h
       (run_recordable mode (at_step s.extensions s.resolution new.request store m) calls levels (all_residuals old.rows) new.rows new.errors quiet t.runs) t.runs)
+
+  pub kept_completing : (r : PartialResponse) → IsStep (configured_by calls mode s levels) (m, store) old (Ok r) → KeepsCompletions (configured_by calls mode s levels) (m, store) old r
+  kept_completing r (new, step, says) ans w c =
+      let z = step_completes mode ans calls c.functions_agree w s levels m store old new c.completion c.functions_are_faithful step in
+      record {
+        completion = subst (λ (q : RequestPart). IsCompletion ans w (at_step s.extensions s.resolution q store m)) says.request_is z;
+        functions_agree = c.functions_agree;
+        functions_are_faithful = c.functions_are_faithful;
+      }
 
   pub nothing_back : (r : PartialResponse) → IsStep (configured_by calls mode s levels) (m, store) old (Ok r) → TakesNothingBack (configured_by calls mode s levels) (m, store) old r
   nothing_back r (new, step, says) none =

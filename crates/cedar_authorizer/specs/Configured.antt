@@ -1,6 +1,6 @@
 -- What an authorizer is configured with, and what it is asked.
-use Rattle.std.specs.Prelude.{ℕ}
-use Rattle.cedar_model.specs.Settings.{Resolution, Setting}
+use Rattle.std.specs.Prelude.{◌≡◌, ℕ, ◌≤◌}
+use Rattle.cedar_model.specs.Settings.{RequestPart, Store, Resolution, Setting}
 use Rattle.cedar_model.specs.Policies.{ErrorHandling}
 use Rattle.cedar_model.specs.Configurations.{Configuration, configured}
 use Rattle.cedar_model.specs.Chains.{at_step, no_values}
@@ -41,3 +41,18 @@ abbrev pub asked : {X : Type 0} {F : X → Type 0} {g : _} → Authorizer X F g 
 asked a request entities =
     at_step (extensions_view (extensions_of a)) (resolution_of a) (request_view request) (store_view entities)
     no_values
+
+-- what a call is given that is asked so by an authorizer that is configured so
+abbrev pub asked_of : Configuration → RequestPart → Store → Setting
+asked_of c request store = at_step c.extensions c.resolution request store no_values
+
+-- authorizers that differ in their resolution alone
+abbrev pub DifferInResolution : {X : Type 0} {F : X → Type 0} {g : _} → Authorizer X F g → Authorizer X F g → Type 0
+DifferInResolution a b =
+    (extensions_of b ≡ extensions_of a) × (mode_of b ≡ mode_of a) × (limit_of b ≡ limit_of a)
+
+-- authorizers that differ in their limits alone, of which the second's is no lower
+abbrev pub DifferInLimit : {X : Type 0} {F : X → Type 0} {g : _} → Authorizer X F g → Authorizer X F g → Type 0
+DifferInLimit a b =
+    (extensions_of b ≡ extensions_of a) × (mode_of b ≡ mode_of a) × (resolution_of b ≡ resolution_of a)
+    × (limit_of a ≤ limit_of b)

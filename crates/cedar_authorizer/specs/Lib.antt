@@ -8,3 +8,5 @@ pub mod Reaching
 pub mod Stability
 pub mod Steps
 pub mod Headline
+pub mod ByHand
+pub mod Determined

@@ -115,7 +115,19 @@ pub record ResidualsStand (ps : List layers.Policy) (r : PartialResponse) : Type
   pub permits : All (StandsAtPolicy ps) (residual_rows permit r.residual_permits.entries)
   pub forbids : All (StandsAtPolicy ps) (residual_rows forbid r.residual_forbids.entries)
 
--- so it does on a sheet
+-- it has the id of one of these rows, and stands where that row's clause does
+pub record StandsAtRow (rows : List Located) (l : Located) : Type 0 where
+  pub before : Located
+  pub among : Contains rows before
+  pub id_is : l.row.id ≡ before.row.id
+  pub stands : clause_loc l ≡ clause_loc before
+
+-- what is left of a policy stands where its clause stood among these rows
+pub record ResidualsStay (rows : List Located) (r : PartialResponse) : Type 0 where
+  pub permits : All (StandsAtRow rows) (residual_rows permit r.residual_permits.entries)
+  pub forbids : All (StandsAtRow rows) (residual_rows forbid r.residual_forbids.entries)
+
+-- what is left of a policy stands on a sheet where that policy does
 pub record ResidualsAreNoted (ps : List layers.Policy) (sheet : Sheet) : Type 0 where
   pub permits : All (StandsAtPolicy ps) (residual_rows permit sheet.residual_permits.items)
   pub forbids : All (StandsAtPolicy ps) (residual_rows forbid sheet.residual_forbids.items)

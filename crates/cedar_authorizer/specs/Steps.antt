@@ -95,6 +95,12 @@ module _ (c : Configuration) (step : Mapping × Store) where
         → HaveNoLimit (errors_of r)
         → Stand c.mode c.extensions ans w (map decides_as ps) (rows_view r)
 
+    -- a world that completes the request before it, with the map and the store, completes the request after it
+    abbrev pub KeepsCompletions : PartialResponse → Type 0
+    KeepsCompletions r =
+        (ans : Functions) (w : World) → CompletesWith c.calls ans w (under old.request)
+        → CompletesWith c.calls ans w (under (request_view (request_of r)))
+
     -- nothing is taken back, if none of its errors is the recursion limit
     abbrev pub TakesNothingBack : PartialResponse → Type 0
     TakesNothingBack r = HaveNoLimit (errors_of r) → KeepsWhatIsGiven old (response_said r)

@@ -5,3 +5,7 @@ pub mod Quoted
 pub mod Standing
 pub mod Contexts
 pub mod Rows
+pub mod Naming
+pub mod NamingInstances
+pub mod Finishing
+pub mod Valued

@@ -2,3 +2,8 @@ pub mod Occurrences
 pub mod Entities
 pub mod Quoted
 pub mod Residuals
+pub mod Naming
+pub mod NamingInstances
+pub mod Finishing
+pub mod Themselves
+pub mod Valued

@@ -2,7 +2,7 @@
 //!
 //! A partial response says what is known; what it leaves open hangs on unknowns. `response.unknowns(alloc)?` lists
 //! those that a next step can be given values for, and `response.unknown_entities(alloc)?` the entities that the store
-//! lacked.
+//! lacked. Over a store that has these, `response.entity_values(alloc)?` are values for that step: each entity itself.
 #![tactic(auto)]
 
 mod entities;
@@ -11,5 +11,6 @@ mod noting;
 mod requests;
 mod responses;
 mod unknowns;
+mod values;
 
 pub use unknowns::Unknowns;

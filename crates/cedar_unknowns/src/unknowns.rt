@@ -8,17 +8,23 @@ ghost use Rattle.cedar_authorizer.specs.responses.Rows.{rows_view};
 ghost use Rattle.cedar_unknowns.specs.Occurrences.{Asked, asked_each, each_once, occurrences};
 ghost use Rattle.cedar_unknowns.specs.Occurrences.{request_occurrences, row_occurrences};
 ghost use Rattle.cedar_unknowns.specs.Entities.{entities_asked, others_asked};
+ghost use Rattle.cedar_unknowns.specs.Themselves.{entity_values, IsCompletedByThem};
+ghost use Rattle.cedar_requests.specs.Substitutions.{values_for};
 
 use crate::entities::{entities_of, others_of};
 use crate::noting::note_unknowns;
 use crate::requests::note_request;
 use crate::responses::note_response;
+use crate::values::values_of;
 use cedar_authorizer::authorizer::PartialResponse;
 use cedar_expressions::Expr;
 use cedar_names::{EntityUID, Unknown};
 use cedar_requests::Request;
+use cedar_values::Value;
 use indexmap::IndexSet;
 use std::alloc::{AllocError, Global};
+use std::collections::HashMap;
+use std::rc::RcStr;
 
 /// What unknowns stand in: an expression; a request, whose unknowns are those that its variables answer, principal,
 /// action, resource and context in this order; a partial response, whose unknowns are those of its request and then
@@ -41,6 +47,15 @@ pub trait Unknowns {
     /// `User::"alice"`, and annotated with the entity's type. Refuses only for want of memory.
     fn unknown_entities(&self, alloc: Global) -> Result<Vec<EntityUID>, AllocError>
         ensures { IfOk result (λ us. map uid_name us.items ≡ entities_asked (each_once (asks self.now))) };
+
+    /// Each of these entities as the value of the unknown that stands for it: values for a step over a store that has
+    /// them. Every completion agrees with them, since the unknown of an entity that a store did not know is that entity
+    /// and nothing else (`laws::missing_entity_is_itself`). Refuses only for want of memory.
+    fn entity_values(&self, alloc: Global) -> Result<HashMap<RcStr, Value>, AllocError>
+        ensures values { IfOk result (λ m.
+            values_for m.entries ≡ entity_values (entities_asked (each_once (asks self.now)))) }
+        ensures completed { IfOk result (λ m.
+            IsCompletedByThem (entities_asked (each_once (asks self.now))) (values_for m.entries)) };
 }
 
 impl Unknowns for Expr {
@@ -54,6 +69,11 @@ impl Unknowns for Expr {
     fn unknown_entities(&self, alloc: Global) -> Result<Vec<EntityUID>, AllocError> {
         let found = found_in_expr(alloc, self)?;
         entities_of(alloc, &found)
+    }
+
+    fn entity_values(&self, alloc: Global) -> Result<HashMap<RcStr, Value>, AllocError> {
+        let found = found_in_expr(alloc, self)?;
+        values_of(alloc, &found)
     }
 }
 
@@ -69,6 +89,11 @@ impl Unknowns for Request {
         let found = found_in_request(alloc, self)?;
         entities_of(alloc, &found)
     }
+
+    fn entity_values(&self, alloc: Global) -> Result<HashMap<RcStr, Value>, AllocError> {
+        let found = found_in_request(alloc, self)?;
+        values_of(alloc, &found)
+    }
 }
 
 impl Unknowns for PartialResponse {
@@ -82,6 +107,11 @@ impl Unknowns for PartialResponse {
     fn unknown_entities(&self, alloc: Global) -> Result<Vec<EntityUID>, AllocError> {
         let found = found_in_response(alloc, self)?;
         entities_of(alloc, &found)
+    }
+
+    fn entity_values(&self, alloc: Global) -> Result<HashMap<RcStr, Value>, AllocError> {
+        let found = found_in_response(alloc, self)?;
+        values_of(alloc, &found)
     }
 }
 

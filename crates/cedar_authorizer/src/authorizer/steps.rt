@@ -17,8 +17,10 @@ ghost use Rattle.cedar_authorizer.specs.Configured.{configuration, limit_of, mod
 ghost use Rattle.cedar_authorizer.specs.Headline.{steps_view, IsTakenFurther};
 ghost use Rattle.cedar_authorizer.specs.Responding.{considered};
 ghost use Rattle.cedar_authorizer.specs.Running.{request_of, IsRun, IsNotedBy};
+ghost use Rattle.cedar_authorizer.specs.Running.{ResidualsStand, ResidualsStay, ResidualsAreNoted};
+ghost use Rattle.cedar_layers.specs.PolicySets.{stored_policies};
 ghost use Rattle.cedar_authorizer.specs.Steps.{step_answer, response_said, step_by, under, IsDecidedAgain, IsStep};
-ghost use Rattle.cedar_authorizer.specs.Steps.{KeepsWhatStands};
+ghost use Rattle.cedar_authorizer.specs.Steps.{KeepsCompletions, KeepsWhatStands};
 ghost use Rattle.cedar_authorizer.specs.Steps.{TakesNothingBack, Finishes, StepIsDeepEnough};
 
 use super::{Authorizer, response_of, run_all};
@@ -58,6 +60,9 @@ impl PartialResponse {
         ensures memory { IfErr result IsUnwrapped }
         ensures places { IfOk result (λ r. entity_locs (request_of r)
             ≡ concrete_locs (values_for map.now.entries) (entity_locs (request_of self.now))) }
+        ensures residual_places { IfOk result (ResidualsStay (rows.located_view self.now)) }
+        ensures completes { IfOk result
+            (KeepsCompletions (configuration authorizer.now) (step_by map.now entities.now) (response_said self.now)) }
         ensures stands { IfOk result
             (KeepsWhatStands (configuration authorizer.now) (step_by map.now entities.now) (response_said self.now)) }
         ensures kept { IfOk result
@@ -106,6 +111,7 @@ fn in_same_mode(
     ensures memory { IfErr result IsUnwrapped }
     ensures places { IfOk result (λ r. entity_locs r.request.value
         ≡ concrete_locs (values_for map.now.entries) (entity_locs response.now.request.value)) }
+    ensures residual_places { IfOk result (ResidualsStay (rows.located_view response.now)) }
     ensures low { IsResidualNoHigher (values_for map.now.entries) (limit_of authorizer.now)
         (request_view response.now.request.value).context_part
         → IfErr result (λ e. step_refusal e ≢ Some (context_fails recursion_limit)) }
@@ -141,6 +147,7 @@ fn with_policies(
     ensures memory { IfErr result IsUnwrapped }
     ensures places { IfOk result (λ r. entity_locs r.request.value
         ≡ concrete_locs (values_for map.now.entries) (entity_locs request.now)) }
+    ensures residual_places { IfOk result (ResidualsStand (stored_policies policies.now)) }
     ensures low { IsResidualNoHigher (values_for map.now.entries) (limit_of authorizer.now)
         (request_view request.now).context_part
         → IfErr result (λ e. step_refusal e ≢ Some (context_fails recursion_limit)) }
@@ -169,6 +176,7 @@ fn decided_again(
     ensures run { IfOk result (IsRun (configuration authorizer.now)
         (under (configuration authorizer.now) (step_by map.now entities.now) (request_view request))
         (considered policies.now)) }
+    ensures residual_places { IfOk result (ResidualsStand (stored_policies policies.now)) }
     ensures request { IfOk result (λ r. r.request.value ≡ request) }
 {
     let sheet = next_sheet(alloc, &request, policies, map, authorizer, entities)?;
@@ -189,9 +197,10 @@ fn next_sheet(
     authorizer: &Authorizer<'_>,
     entities: &Entities,
 ) -> Result<Sheet, AllocError>
-    ensures { IfOk result (IsNotedBy (configuration authorizer.now)
+    ensures run { IfOk result (IsNotedBy (configuration authorizer.now)
         (under (configuration authorizer.now) (step_by map.now entities.now) (request_view request.now))
         (considered policies.now)) }
+    ensures places { IfOk result (ResidualsAreNoted (stored_policies policies.now)) }
 {
     let evaluator = Evaluator::new(
         alloc,

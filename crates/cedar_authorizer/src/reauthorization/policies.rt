@@ -2,10 +2,11 @@
 ghost use Rattle.std.specs.Prelude.{◌≡◌, map, IfErr, IfOk, IfSome};
 ghost use Rattle.cedar_model.specs.Chains.{all_residuals};
 ghost use Rattle.cedar_layers.specs.Policies.{policy_view, decides_as};
-ghost use Rattle.cedar_authorizer.specs.responses.Rows.{rows_view};
+ghost use Rattle.cedar_layers.specs.PolicySets.{stored_policies};
+ghost use Rattle.cedar_authorizer.specs.responses.Rows.{located_view, rows_view};
 ghost use Rattle.cedar_authorizer.specs.reauthorization.Errors.{step_answer_by, IsUnwrapped};
 ghost use Rattle.cedar_authorizer.specs.Responding.{considered};
-ghost use Rattle.cedar_authorizer.specs.reauthorization.Policies.{all_once};
+ghost use Rattle.cedar_authorizer.specs.reauthorization.Policies.{all_once, AreCarriedFrom};
 
 use crate::reauthorization::err::ReauthorizationError;
 use crate::responses::PartialResponse;
@@ -21,6 +22,7 @@ pub fn residual_policies(
 ) -> Result<PolicySet, ReauthorizationError>
     ensures set { IfSome (step_answer_by considered result)
         (λ a. a ≡ all_once (all_residuals (rows_view response.now))) }
+    ensures places { IfOk result (λ s. AreCarriedFrom (located_view response.now) (stored_policies s)) }
     ensures memory { IfErr result IsUnwrapped }
 {
     let policies = carried(alloc, response)?;
@@ -32,8 +34,9 @@ pub fn residual_policies(
 
 // Every policy of the response.
 fn carried(alloc: Global, response: &PartialResponse) -> Result<Vec<Policy>, AllocError>
-    ensures { IfOk result (λ v. map decides_as (map policy_view v.items)
+    ensures policies { IfOk result (λ v. map decides_as (map policy_view v.items)
         ≡ all_residuals (rows_view response.now)) }
+    ensures places { IfOk result (λ v. AreCarriedFrom (located_view response.now) v.items) }
 {
     let mut policies = Vec::new(alloc);
     'policies: for policy in response.all_residuals() {

@@ -10,8 +10,8 @@ use Rattle.cedar_authorizer.specs.Configured.{extensions_of, resolution_of}
 use Rattle.cedar_authorizer.proofs.Noting.{noted_alike}
 use Rattle.cedar_authorizer.proofs.authorizer.steps.next_sheet.Goals as goal
 
-pub returns : goal.returns
-returns g c =
+pub returns-clause-run : goal.returns-clause-run
+returns-clause-run g c =
     let e = c.in_ok-evaluator.ensures in
     let k = c.with_unknowns_mapper.ensures in
     let d = c.with_resolution-evaluator.ensures in

@@ -7,8 +7,19 @@ use Rattle.cedar_authorizer.specs.Configured.{configuration, extensions_of, limi
 use Rattle.cedar_authorizer.specs.Running.{request_of}
 use Rattle.cedar_authorizer.specs.Steps.{response_said, step_by, under}
 use Rattle.cedar_authorizer.proofs.Kept.{values_sound, step_sound}
-use Rattle.cedar_authorizer.proofs.Stepped.{kept_standing, nothing_back, step_finishes, answered_low, if_stepped}
+use Rattle.cedar_authorizer.proofs.Stepped.{kept_completing, kept_standing, nothing_back, step_finishes, answered_low, if_stepped}
 use Rattle.cedar_authorizer.proofs.responses.partial_response.PartialResponse.reauthorize.Goals as goal
+
+pub returns-then-is_same_mode-clause-completes : goal.returns-then-is_same_mode-clause-completes
+returns-then-is_same_mode-clause-completes g c =
+    let old = response_said c.args.self.now in
+    let s = under (configuration c.args.authorizer.now) (step_by c.args.map.now c.args.entities.now) old.request in
+    let mode = mode_of c.args.authorizer.now in
+    let calls = calls_of (extensions_of c.args.authorizer.now) in
+    let levels = limit_of c.args.authorizer.now in
+    let m = values_for c.args.map.now.entries in
+    let store = store_view c.args.entities.now in
+    if_stepped c.in_same_mode.result _ _ (λ r. kept_completing mode s calls levels m store old r) c.in_same_mode.ensures.step
 
 pub returns-then-is_same_mode-clause-stands : goal.returns-then-is_same_mode-clause-stands
 returns-then-is_same_mode-clause-stands g c =

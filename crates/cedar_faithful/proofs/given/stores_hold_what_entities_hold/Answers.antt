@@ -1,0 +1,8 @@
+use Rattle.cedar_faithful.proofs.Stored.{store_holds, alike_holds}
+use Rattle.cedar_faithful.proofs.given.stores_hold_what_entities_hold.Goals as goal
+
+pub returns-clause-whole : goal.returns-clause-whole
+returns-clause-whole c = store_holds
+
+pub returns-clause-alike : goal.returns-clause-alike
+returns-clause-alike c = alike_holds c.args.entities.now
