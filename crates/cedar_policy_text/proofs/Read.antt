@@ -19,13 +19,15 @@ use Rattle.cedar_policy_syntax.specs.Grammar.{PolicyTree}
 use Rattle.cedar_policy_syntax.specs.Reading.{HasPolicy}
 use Rattle.cedar_policy_syntax.specs.declared.policies.Annotation.{Annotation}
 use Rattle.cedar_policy_syntax.specs.declared.policies.PolicySteps.{PolicySteps}
-use Rattle.cedar_tokens.specs.declared.errors.ReadError.{ReadError}
+use Rattle.cedar_functions.specs.Functions.{Knowledge}
+use Rattle.cedar_text.specs.Calls.{EachCallsKnown}
+use Rattle.cedar_text.specs.declared.errors.ParseError.{ParseError}
 use Rattle.cedar_text.specs.Building.{Is}
-use Rattle.cedar_text.specs.Reading.{AreFour, four, IsWithin}
+use Rattle.cedar_text.specs.Reading.{AreFour, four, IsPlaceWithin}
 use Rattle.cedar_text.specs.declared.reading.Four.{Four}
 use Rattle.cedar_policy_text.specs.Reading.{IsValueAt, Annotated, is_there, AreAnnotated, annotated_behind}
 use Rattle.cedar_policy_text.specs.Reading.{IsMadeOf, IsPolicyAt, HasSlot, HasNoSlot, ArePolicies, policy_behind}
-use Rattle.cedar_policy_text.specs.Reading.{template_behind, id_of, AreWithin, no_error, error_behind}
+use Rattle.cedar_policy_text.specs.Reading.{template_behind, id_of, AreTold, no_error, error_behind, IsTextRefused}
 use Rattle.cedar_layers.specs.Policies.{PolicyView, policy_of, condition_parts, ConditionParts, effect_view, SlotValues}
 use Rattle.cedar_layers.specs.declared.policies.policy.Effect.{Effect}
 use Rattle.cedar_layers.proofs.Slots.{slots_view-empty}
@@ -61,11 +63,15 @@ theirs : {text : List ℕ} {all : List Token} {p a r c : Tree} {x : Four} →
 theirs (four w x y z) = record { of_principal = w; of_action = x; of_resource = y; of_condition = z }
 
 pub policy_made : {text : List ℕ} {all : List Token} {i limit j : ℕ} {out : PolicySteps} {x : Four} {a : Annotations}
-    {id : PolicyID} {loc : Loc} {p : Policy} → HasPolicy all i limit out → AreFour text all (trees out.steps.items) x →
+    {id : PolicyID} {loc : Loc} {p : Policy} {k : Knowledge} → HasPolicy all i limit out →
+    AreFour text all (trees out.steps.items) x →
     AreAnnotated text all out.annotations.items a.0.entries → IsMadeOf out.permits id a x loc p →
+    EachCallsKnown k text all (trees out.steps.items) →
     loc ≡ record { start = out.start; end = out.end } → j ≡ out.next →
-    IsPolicyAt text all limit (policy_id_text id) i j p
-policy_made {text = text} {all = all} {i = i} {out = out} {x = x} {a = a} {p = p} h f xs m loc_is j_is =
+    IsPolicyAt k text all limit (policy_id_text id) i j p
+policy_made {text = text} {all = all} {i = i} {out = out} {x = x} {a = a} {p = p} {k = k} h f xs m known loc_is j_is =
+    let calls : EachCallsKnown k text all (h.condition ∷ h.resource ∷ h.action ∷ h.principal ∷ []) =
+    subst (λ ts. EachCallsKnown k text all ts) h.makes known in
     let g = theirs (subst (λ ts. AreFour text all ts x) h.makes f) in
     let parts = m.parts in
     record {
@@ -87,16 +93,24 @@ policy_made {text = text} {all = all} {i = i} {out = out} {x = x} {a = a} {p = p
       slots = m.slots;
       loc = m.loc ∙ ap (λ l. Some l) loc_is ∙ ap (λ s. Some (record { start = s; end = out.end })) h.start
           ∙ ap (λ e. Some (record { start = start_at all i; end = e })) h.end;
+      calls = record {
+        principal = calls.1.1.1.0;
+        action = calls.1.1.0;
+        resource = calls.1.0;
+        condition = calls.0;
+      };
     }
 
-pub policy_put : {text : List ℕ} {all : List Token} {limit i j n : ℕ} {ps qs ts : List Policy} {p : Policy} →
-    IsPolicyAt text all limit (id_of n) i j p → HasNoSlot all i j → qs ≡ ps ++ p ∷ [] →
-    ArePolicies text all limit i n ps ts → ArePolicies text all limit j (n + 1) qs ts
+pub policy_put : {k : Knowledge} {text : List ℕ} {all : List Token} {limit i j n : ℕ} {ps qs ts : List Policy}
+    {p : Policy} →
+    IsPolicyAt k text all limit (id_of n) i j p → HasNoSlot all i j → qs ≡ ps ++ p ∷ [] →
+    ArePolicies k text all limit i n ps ts → ArePolicies k text all limit j (n + 1) qs ts
 policy_put there without q_is h = rw q_is (policy_behind h there without)
 
-pub template_put : {text : List ℕ} {all : List Token} {limit i j n : ℕ} {ps ts us : List Policy} {p : Policy} →
-    IsPolicyAt text all limit (id_of n) i j p → HasSlot all i j → us ≡ ts ++ p ∷ [] →
-    ArePolicies text all limit i n ps ts → ArePolicies text all limit j (n + 1) ps us
+pub template_put : {k : Knowledge} {text : List ℕ} {all : List Token} {limit i j n : ℕ} {ps ts us : List Policy}
+    {p : Policy} →
+    IsPolicyAt k text all limit (id_of n) i j p → HasSlot all i j → us ≡ ts ++ p ∷ [] →
+    ArePolicies k text all limit i n ps ts → ArePolicies k text all limit j (n + 1) ps us
 template_put there slot u_is h = rw u_is (template_behind h there slot)
 
 not_empty : {A : Type 0} (xs : List A) (x : A) → xs ++ x ∷ [] ≡ [] → ⊥
@@ -126,10 +140,11 @@ made_whole p e env p_is pp q_is qp l_is e_is empty =
 
 -- ---- errors
 
-pub told_behind : {text : List ℕ} {es fs : List ReadError} (e : ReadError) → fs ≡ es ++ e ∷ [] → IsWithin text e →
-    AreWithin text es → AreWithin text fs
-told_behind e f_is h hs = rw f_is (error_behind e hs h)
+pub told_behind : {k : Knowledge} {text : List ℕ} {limit : ℕ} {es fs : List ParseError} (e : ParseError) →
+    fs ≡ es ++ e ∷ [] → IsPlaceWithin text e → IsTextRefused k text limit e → AreTold k text limit es →
+    AreTold k text limit fs
+told_behind e f_is h refused hs = rw f_is (error_behind e hs h refused)
 
-pub told_alone : {text : List ℕ} {es : List ReadError} {e f : ReadError} → f ≡ e → es ≡ [] → IsWithin text e →
-    AreWithin text (f ∷ es)
-told_alone {e = e} f_is e_is h = rw (f_is, e_is) (error_behind e no_error h)
+pub told_alone : {k : Knowledge} {text : List ℕ} {limit : ℕ} {es : List ParseError} {e f : ParseError} → f ≡ e →
+    es ≡ [] → IsPlaceWithin text e → IsTextRefused k text limit e → AreTold k text limit (f ∷ es)
+told_alone {e = e} f_is e_is h refused = rw (f_is, e_is) (error_behind e no_error h refused)

@@ -1,1 +1,2 @@
+pub mod Heights
 pub mod Reading

@@ -24,9 +24,15 @@ use Rattle.cedar_tokens.specs.Sequence.{kind_at, start_at, end_at}
 use Rattle.cedar_syntax.specs.Trees.{height}
 use Rattle.cedar_policy_syntax.specs.Grammar.{PolicyTree, IsPolicy}
 use Rattle.cedar_policy_syntax.specs.declared.policies.Annotation.{Annotation}
+use Rattle.cedar_functions.specs.Functions.{Knowledge}
+use Rattle.cedar_policy_syntax.specs.Reading.{HasPolicy}
+use Rattle.cedar_policy_syntax.specs.declared.policies.PolicySteps.{PolicySteps}
 use Rattle.cedar_tokens.specs.declared.errors.ReadError.{ReadError}
+use Rattle.cedar_text.specs.Calls.{CallsAreKnown, AreCallsRefused}
+use Rattle.cedar_text.specs.declared.errors.ParseError.{ParseError}
+use Rattle.cedar_text.specs.declared.errors.ParseError.TheVariants as error
 use Rattle.cedar_text.specs.Building.{Is}
-use Rattle.cedar_text.specs.Reading.{IsWithin}
+use Rattle.cedar_text.specs.Reading.{IsPlaceWithin}
 use Rattle.cedar_text.specs.Wording.{word_at, IsTextAt, place}
 use Rattle.cedar_text.specs.declared.reading.Four.{Four}
 use Rattle.cedar_policy_text.specs.declared.policies.ParsedPolicies.{ParsedPolicies}
@@ -58,7 +64,8 @@ pub data AreAnnotated (text : List ℕ) (all : List Token) : List Annotation →
 -- ---- policies
 
 -- the policy of these parts
-pub record IsMadeOf (permits : Bool) (i : PolicyID) (a : Annotations) (four : Four) (l : Loc) (p : Policy) : Type 0 where
+pub record IsMadeOf (permits : Bool) (i : PolicyID) (a : Annotations) (four : Four) (l : Loc) (p : Policy)
+    : Type 0 where
   pub effect : (policy_view p).effect ≡ (if permits then permit else forbid)
   pub id : (policy_view p).id ≡ policy_id_text i
   pub annotations : (policy_view p).annotations ≡ annotations_view a
@@ -66,9 +73,17 @@ pub record IsMadeOf (permits : Bool) (i : PolicyID) (a : Annotations) (four : Fo
   pub slots : (policy_view p).slots ≡ no_slots
   pub loc : policy_location p ≡ Some l
 
--- tokens i up to, but not including, j are the policy of this id: each part of it is that of the tree which they derive,
--- and its condition is no higher than the limit
-pub record IsPolicyAt (text : List ℕ) (all : List Token) (limit : ℕ) (name : List ℕ) (i j : ℕ) (p : Policy) : Type 0 where
+-- each call in the policy is of a function that is known, in its style, with its number of arguments
+pub record PolicyCallsAreKnown (k : Knowledge) (text : List ℕ) (all : List Token) (t : PolicyTree) : Type 0 where
+  pub principal : CallsAreKnown k text all t.principal
+  pub action : CallsAreKnown k text all t.action
+  pub resource : CallsAreKnown k text all t.resource
+  pub condition : CallsAreKnown k text all t.condition
+
+-- tokens i up to, but not including, j are the policy of this id: each part of it is that of the tree which they
+-- derive, its condition is no higher than the limit, and each call in it is of a function that is known
+pub record IsPolicyAt (k : Knowledge) (text : List ℕ) (all : List Token) (limit : ℕ) (name : List ℕ) (i j : ℕ)
+    (p : Policy) : Type 0 where
   pub last : ℕ
   pub tree : PolicyTree
   pub annotated : Annotated
@@ -86,13 +101,14 @@ pub record IsPolicyAt (text : List ℕ) (all : List Token) (limit : ℕ) (name :
   pub condition : Is text all (policy_parts p).when tree.condition
   pub slots : (policy_view p).slots ≡ no_slots
   pub loc : policy_location p ≡ place (start_at all i) (end_at all last)
+  pub calls : PolicyCallsAreKnown k text all tree
 
 -- the text is one policy of this id
-pub record IsPolicyText (text : List ℕ) (limit : ℕ) (id : List ℕ) (p : Policy) : Type 0 where
+pub record IsPolicyText (k : Knowledge) (text : List ℕ) (limit : ℕ) (id : List ℕ) (p : Policy) : Type 0 where
   pub tokens : List Token
   pub behind : ℕ
   pub cut : IsTokens 0 text tokens
-  pub policy : IsPolicyAt text tokens limit id 0 behind p
+  pub policy : IsPolicyAt k text tokens limit id 0 behind p
   pub ends : kind_at tokens behind ≡ kind.End
   pub whole : behind + 1 ≡ length tokens
 
@@ -116,40 +132,56 @@ abbrev pub HasNoSlot : List Token → ℕ → ℕ → Type 0
 HasNoSlot all i j = (k : ℕ) → i ≤ k → k < j → is_slot (kind_at all k) ≡ false
 
 -- the tokens before number i are n policies: those without slots, and the templates, each in order
-pub data ArePolicies (text : List ℕ) (all : List Token) (limit : ℕ) : ℕ → ℕ → List Policy → List Policy → Type 0 where
-  no_policies : ArePolicies text all limit 0 0 [] []
-  policy_behind : {i j n : ℕ} {ps ts : List Policy} {p : Policy} → ArePolicies text all limit i n ps ts →
-      IsPolicyAt text all limit (id_of n) i j p → HasNoSlot all i j →
-      ArePolicies text all limit j (n + 1) (ps ++ p ∷ []) ts
-  template_behind : {i j n : ℕ} {ps ts : List Policy} {p : Policy} → ArePolicies text all limit i n ps ts →
-      IsPolicyAt text all limit (id_of n) i j p → HasSlot all i j →
-      ArePolicies text all limit j (n + 1) ps (ts ++ p ∷ [])
+pub data ArePolicies (k : Knowledge) (text : List ℕ) (all : List Token) (limit : ℕ) : ℕ → ℕ → List Policy → List Policy
+    → Type 0 where
+  no_policies : ArePolicies k text all limit 0 0 [] []
+  policy_behind : {i j n : ℕ} {ps ts : List Policy} {p : Policy} → ArePolicies k text all limit i n ps ts →
+      IsPolicyAt k text all limit (id_of n) i j p → HasNoSlot all i j →
+      ArePolicies k text all limit j (n + 1) (ps ++ p ∷ []) ts
+  template_behind : {i j n : ℕ} {ps ts : List Policy} {p : Policy} → ArePolicies k text all limit i n ps ts →
+      IsPolicyAt k text all limit (id_of n) i j p → HasSlot all i j →
+      ArePolicies k text all limit j (n + 1) ps (ts ++ p ∷ [])
 
 -- the policies of the whole text: those without slots, and the templates
-pub record AreRead (text : List ℕ) (limit : ℕ) (ps ts : List Policy) : Type 0 where
+pub record AreRead (k : Knowledge) (text : List ℕ) (limit : ℕ) (ps ts : List Policy) : Type 0 where
   pub tokens : List Token
   pub behind : ℕ
   pub count : ℕ
   pub cut : IsTokens 0 text tokens
-  pub policies : ArePolicies text tokens limit behind count ps ts
+  pub policies : ArePolicies k text tokens limit behind count ps ts
   pub ends : kind_at tokens behind ≡ kind.End
   pub whole : behind + 1 ≡ length tokens
 
-abbrev pub AreAllRead : List ℕ → ℕ → ParsedPolicies → Type 0
-AreAllRead text limit out = AreRead text limit (stored_policies out.policies) out.templates.items
+abbrev pub AreAllRead : Knowledge → List ℕ → ℕ → ParsedPolicies → Type 0
+AreAllRead k text limit out = AreRead k text limit (stored_policies out.policies) out.templates.items
 
 -- ---- on the way
 
 -- where nothing was refused, the tokens before number i are n policies
-abbrev pub IsSoFar : List ℕ → List Token → ℕ → ℕ → ℕ → Reading → Type 0
-IsSoFar text all limit i n r = r.errors.items ≡ [] → ArePolicies text all limit i n r.policies.items r.templates.items
+abbrev pub IsSoFar : Knowledge → List ℕ → List Token → ℕ → ℕ → ℕ → Reading → Type 0
+IsSoFar k text all limit i n r =
+    r.errors.items ≡ [] → ArePolicies k text all limit i n r.policies.items r.templates.items
 
 -- where nothing was refused, all is read
-abbrev pub IsRead : List ℕ → ℕ → Reading → Type 0
-IsRead text limit r = r.errors.items ≡ [] → AreRead text limit r.policies.items r.templates.items
+abbrev pub IsRead : Knowledge → List ℕ → ℕ → Reading → Type 0
+IsRead k text limit r = r.errors.items ≡ [] → AreRead k text limit r.policies.items r.templates.items
+
+-- ---- errors
+
+-- what is told of a call is told of one of those that the tokens from number i on derive: its function isn't known so
+pub data IsPolicyRefused (k : Knowledge) (text : List ℕ) (all : List Token) (limit i : ℕ) : ParseError → Type 0 where
+  by_reading : {r : ReadError} → IsPolicyRefused k text all limit i (error.Read r)
+  by_call : {out : PolicySteps} {e : ParseError} → HasPolicy all i limit out →
+      AreCallsRefused k text all out.steps.items e → IsPolicyRefused k text all limit i e
+
+-- the same of a policy of the text
+pub data IsTextRefused (k : Knowledge) (text : List ℕ) (limit : ℕ) : ParseError → Type 0 where
+  at_policy : {all : List Token} {i : ℕ} {e : ParseError} → IsTokens 0 text all →
+      IsPolicyRefused k text all limit i e → IsTextRefused k text limit e
+  in_reading : {r : ReadError} → IsTextRefused k text limit (error.Read r)
 
 -- errors in order, each at a place within the text
-pub data AreWithin (text : List ℕ) : List ReadError → Type 0 where
-  no_error : AreWithin text []
-  error_behind : {es : List ReadError} (e : ReadError) → AreWithin text es → IsWithin text e →
-      AreWithin text (es ++ e ∷ [])
+pub data AreTold (k : Knowledge) (text : List ℕ) (limit : ℕ) : List ParseError → Type 0 where
+  no_error : AreTold k text limit []
+  error_behind : {es : List ParseError} (e : ParseError) → AreTold k text limit es → IsPlaceWithin text e →
+      IsTextRefused k text limit e → AreTold k text limit (es ++ e ∷ [])

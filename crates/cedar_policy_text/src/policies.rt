@@ -4,16 +4,20 @@ ghost use Rattle.cedar_layers.specs.Policies.{policy_id_text};
 ghost use Rattle.cedar_tokens.specs.Values.{Stands};
 ghost use Rattle.cedar_tokens.specs.declared.tokens.Kind.TheVariants as kind;
 ghost use Rattle.cedar_tokens.specs.Sequence as Tokens;
+ghost use Rattle.cedar_policy_text.specs.Heights.{with_scope, IsNoHigher, AreAllNoHigher};
 ghost use Rattle.cedar_policy_text.specs.Reading.{IsPolicyText, IsPolicyAt, AreAllRead, HasSlot, HasNoSlot};
-ghost use Rattle.cedar_policy_text.specs.Reading.{is_slot, id_of, IsSoFar, IsRead, AreWithin};
+ghost use Rattle.cedar_policy_text.specs.Reading.{is_slot, id_of, IsSoFar, IsRead, AreTold, IsTextRefused};
 ghost use Rattle.cedar_syntax.specs.Places.{IsPlaced};
-ghost use Rattle.cedar_text.specs.Reading.{IsWithin};
+ghost use Rattle.cedar_functions.specs.Functions.{Knowledge, knowledge};
+ghost use Rattle.cedar_text.specs.Reading.{IsPlaceWithin};
 ghost use Rattle.cedar_tokens.specs.Tokens.{IsTokens};
 
 use crate::reading::{Read, policy_at};
+use cedar_functions::Functions;
 use cedar_layers::policies::{Policy, PolicyID, PolicySet, PolicySetError};
 use cedar_names::FirstRest;
 use cedar_syntax::{expect, expected_at};
+use cedar_text::ParseError;
 use cedar_tokens::errors::{Expected, ReadError};
 use cedar_tokens::lexer;
 use cedar_tokens::sequence::kind_at;
@@ -35,19 +39,23 @@ pub struct ParsedPolicies {
 ///
 /// # Errors
 ///
-/// Memory was wanting. Something else was expected than what stands there, at its place in the text. The condition has
-/// more levels.
+/// Each stands at its place in the text. Memory was wanting. Something else was expected than what stands there. The
+/// condition has more levels. A call is not one of the known functions: there is no function of its name, the function
+/// of its name is called in the other style, or it takes another number of arguments.
 pub fn parse_policy(
     alloc: Global,
     id: PolicyID,
     text: &str,
     limit: usize,
-) -> Result<Policy, ReadError>
-    ensures ok { IfOk result (IsPolicyText text.now limit (policy_id_text id)) }
-    ensures placed { IfErr result (IsWithin text.now) }
+    functions: &Functions,
+) -> Result<Policy, ParseError>
+    ensures ok { IfOk result (IsPolicyText (knowledge functions.now) text.now limit (policy_id_text id)) }
+    ensures low { IfOk result (IsNoHigher (with_scope limit)) }
+    ensures placed { IfErr result (IsPlaceWithin text.now) }
+    ensures calls { IfErr result (IsTextRefused (knowledge functions.now) text.now limit) }
 {
     let tokens = lexer::tokens(alloc, text)?;
-    let read = policy_at(alloc, text, tokens.as_slice(), 0, id, limit)?;
+    let read = policy_at(alloc, text, tokens.as_slice(), 0, id, limit, functions)?;
     ends_at(tokens.as_slice(), read.next)?;
     Ok(read.policy)
 }
@@ -71,26 +79,29 @@ fn ends_at(tokens: &[Token], index: usize) -> Result<(), ReadError>
 ///
 /// # Errors
 ///
-/// All policies that can't be read, in the order of the text: reading goes on behind the next `;`. Each error stands at
-/// its place in the text. Memory was wanting: that error is alone.
+/// All policies that can't be read, in the order of the text, for the reasons of [`parse_policy`]: reading goes on
+/// behind the next `;`. Each error stands at its place in the text. Memory was wanting: that error is alone.
 pub fn parse_policies(
     alloc: Global,
     text: &str,
     limit: usize,
-) -> Result<ParsedPolicies, FirstRest<ReadError>>
-    ensures ok { IfOk result (AreAllRead text.now limit) }
-    ensures placed { IfErr result (λ errors. AreWithin text.now (errors.first ∷ errors.rest.items)) }
+    functions: &Functions,
+) -> Result<ParsedPolicies, FirstRest<ParseError>>
+    ensures ok { IfOk result (AreAllRead (knowledge functions.now) text.now limit) }
+    ensures low { IfOk result (AreAllNoHigher (with_scope limit)) }
+    ensures told { IfErr result
+        (λ errors. AreTold (knowledge functions.now) text.now limit (errors.first ∷ errors.rest.items)) }
 {
-    match read_all(alloc, text, limit) {
+    match read_all(alloc, text, limit, functions) {
         Ok(reading) => {
             let parsed = reading.finished(alloc)?;
             Ok(parsed)
         }
-        Err(AllocError) => Err(alone(alloc, ReadError::Memory)),
+        Err(AllocError) => Err(alone(alloc, ParseError::Read(ReadError::Memory))),
     }
 }
 
-fn alone(alloc: Global, error: ReadError) -> FirstRest<ReadError>
+fn alone(alloc: Global, error: ParseError) -> FirstRest<ParseError>
     ensures first { result.first ≡ error }
     ensures rest { result.rest.items ≡ [] }
 {
@@ -105,13 +116,18 @@ fn alone(alloc: Global, error: ReadError) -> FirstRest<ReadError>
 struct Reading {
     policies: Vec<Policy>,
     templates: Vec<Policy>,
-    errors: Vec<ReadError>,
+    errors: Vec<ParseError>,
 }
 
 // Reads all policies of the text.
-fn read_all(alloc: Global, text: &str, limit: usize) -> Result<Reading, AllocError>
-    ensures ok { IfOk result (IsRead text.now limit) }
-    ensures told { IfOk result (λ r. AreWithin text.now r.errors.items) }
+fn read_all(
+    alloc: Global,
+    text: &str,
+    limit: usize,
+    functions: &Functions,
+) -> Result<Reading, AllocError>
+    ensures ok { IfOk result (IsRead (knowledge functions.now) text.now limit) }
+    ensures told { IfOk result (λ r. AreTold (knowledge functions.now) text.now limit r.errors.items) }
 {
     let tokens = lexer::tokens(alloc, text)?;
     let mut reading = Reading::new(alloc);
@@ -121,7 +137,15 @@ fn read_all(alloc: Global, text: &str, limit: usize) -> Result<Reading, AllocErr
             let read = reading.ended(tokens.as_slice(), index)?;
             return Ok(read);
         }
-        index = reading.take(alloc, text, tokens.as_slice(), index, number, limit)?;
+        index = reading.take(
+            alloc,
+            text,
+            tokens.as_slice(),
+            index,
+            number,
+            limit,
+            functions,
+        )?;
     }
     let rest = reading.ended(tokens.as_slice(), index)?;
     Ok(rest)
@@ -149,15 +173,18 @@ impl Reading {
         index: usize,
         number: usize,
         limit: usize,
+        functions: &Functions,
     ) -> Result<usize, AllocError>
-        requires { All (Stands text.now) tokens.now }
-        ensures ok { IfOk result (λ next. IsSoFar text.now tokens.now limit index number self.old →
-            IsSoFar text.now tokens.now limit next (number + 1) self.new) }
-        ensures told { IfOk result (λ _.
-            AreWithin text.now self.old.errors.items → AreWithin text.now self.new.errors.items) }
+        requires tokens { IsTokens 0 text.now tokens.now }
+        requires stand { All (Stands text.now) tokens.now }
+        ensures ok { IfOk result (λ next.
+            IsSoFar (knowledge functions.now) text.now tokens.now limit index number self.old →
+            IsSoFar (knowledge functions.now) text.now tokens.now limit next (number + 1) self.new) }
+        ensures told { IfOk result (λ _. AreTold (knowledge functions.now) text.now limit self.old.errors.items →
+            AreTold (knowledge functions.now) text.now limit self.new.errors.items) }
     {
         let id = numbered(alloc, number)?;
-        match policy_at(alloc, text, tokens, index, id, limit) {
+        match policy_at(alloc, text, tokens, index, id, limit, functions) {
             Ok(read) => {
                 let next = self.put(tokens, index, read)?;
                 Ok(next)
@@ -172,10 +199,10 @@ impl Reading {
     // Puts the policy behind the others, or behind the other templates.
     fn put(&mut self, tokens: &[Token], index: usize, read: Read) -> Result<usize, AllocError>
         ensures next { IfOk result (λ next. next ≡ read.next) }
-        ensures ok { (text : List ℕ) (limit number : ℕ) → IfOk result (λ next.
-            IsPolicyAt text tokens.now limit (id_of number) index read.next read.policy →
-            IsSoFar text tokens.now limit index number self.old →
-            IsSoFar text tokens.now limit next (number + 1) self.new) }
+        ensures ok { (k : Knowledge) (text : List ℕ) (limit number : ℕ) → IfOk result (λ next.
+            IsPolicyAt k text tokens.now limit (id_of number) index read.next read.policy →
+            IsSoFar k text tokens.now limit index number self.old →
+            IsSoFar k text tokens.now limit next (number + 1) self.new) }
         ensures errors { self.new.errors.items ≡ self.old.errors.items }
     {
         let Read { policy, next } = read;
@@ -191,15 +218,15 @@ impl Reading {
         &mut self,
         tokens: &[Token],
         index: usize,
-        error: ReadError,
+        error: ParseError,
     ) -> Result<usize, AllocError>
-        ensures ok { (text : List ℕ) (limit i n : ℕ) → IfOk result (λ _. IsSoFar text tokens.now limit i n self.new) }
+        ensures ok { (k : Knowledge) (text : List ℕ) (limit i n : ℕ) →
+            IfOk result (λ _. IsSoFar k text tokens.now limit i n self.new) }
         ensures told { IfOk result (λ _. self.new.errors.items ≡ self.old.errors.items ++ error ∷ []) }
     {
-        let start = match error {
-            ReadError::Memory => return Err(AllocError),
-            ReadError::Expected { start, .. } => start,
-            ReadError::TooDeep { start, .. } => start,
+        let start = match place_of(&error) {
+            Some(start) => start,
+            None => return Err(AllocError),
         };
         push(&mut self.errors, error)?;
         Ok(behind_semicolon(tokens, index, start))
@@ -207,22 +234,22 @@ impl Reading {
 
     // That was all: the token of this number is the last.
     fn ended(self, tokens: &[Token], index: usize) -> Result<Reading, AllocError>
-        ensures ok { (text : List ℕ) (limit number : ℕ) → IfOk result (λ r. IsTokens 0 text tokens.now →
-            IsSoFar text tokens.now limit index number self → IsRead text limit r) }
-        ensures told { (text : List ℕ) → IfOk result (λ r. All (Stands text) tokens.now →
-            AreWithin text self.errors.items → AreWithin text r.errors.items) }
+        ensures ok { (k : Knowledge) (text : List ℕ) (limit number : ℕ) → IfOk result (λ r. IsTokens 0 text tokens.now →
+            IsSoFar k text tokens.now limit index number self → IsRead k text limit r) }
+        ensures told { (k : Knowledge) (text : List ℕ) (limit : ℕ) → IfOk result (λ r. All (Stands text) tokens.now →
+            AreTold k text limit self.errors.items → AreTold k text limit r.errors.items) }
     {
         match ends_at(tokens, index) {
             Ok(()) => Ok(self),
             Err(error) => {
-                let reading = self.refused(error)?;
+                let reading = self.refused(ParseError::Read(error))?;
                 Ok(reading)
             }
         }
     }
 
-    fn refused(self, error: ReadError) -> Result<Reading, AllocError>
-        ensures ok { (text : List ℕ) (limit : ℕ) → IfOk result (IsRead text limit) }
+    fn refused(self, error: ParseError) -> Result<Reading, AllocError>
+        ensures ok { (k : Knowledge) (text : List ℕ) (limit : ℕ) → IfOk result (IsRead k text limit) }
         ensures told { IfOk result (λ r. r.errors.items ≡ self.errors.items ++ error ∷ []) }
     {
         let mut reading = self;
@@ -231,11 +258,11 @@ impl Reading {
     }
 
     // The policies, if each could be read.
-    fn finished(self, alloc: Global) -> Result<ParsedPolicies, FirstRest<ReadError>>
-        ensures ok { (text : List ℕ) (limit : ℕ) →
-            IfOk result (λ out. IsRead text limit self → AreAllRead text limit out) }
-        ensures told { (text : List ℕ) → IfErr result (λ e. AreWithin text self.errors.items →
-            AreWithin text (e.first ∷ e.rest.items)) }
+    fn finished(self, alloc: Global) -> Result<ParsedPolicies, FirstRest<ParseError>>
+        ensures ok { (k : Knowledge) (text : List ℕ) (limit : ℕ) →
+            IfOk result (λ out. IsRead k text limit self → AreAllRead k text limit out) }
+        ensures told { (k : Knowledge) (text : List ℕ) (limit : ℕ) → IfErr result
+            (λ e. AreTold k text limit self.errors.items → AreTold k text limit (e.first ∷ e.rest.items)) }
     {
         let Reading {
             policies,
@@ -250,17 +277,18 @@ impl Reading {
                 policies,
                 templates,
             }),
-            Err(_) => Err(alone(alloc, ReadError::Memory)),
+            Err(_) => Err(alone(alloc, ParseError::Read(ReadError::Memory))),
         }
     }
 }
 
-fn first_of(alloc: Global, errors: Vec<ReadError>) -> FirstRest<ReadError>
-    ensures { (text : List ℕ) → AreWithin text errors.items → AreWithin text (result.first ∷ result.rest.items) }
+fn first_of(alloc: Global, errors: Vec<ParseError>) -> FirstRest<ParseError>
+    ensures { (k : Knowledge) (text : List ℕ) (limit : ℕ) →
+        AreTold k text limit errors.items → AreTold k text limit (result.first ∷ result.rest.items) }
 {
     let mut errors = errors;
     if errors.is_empty() {
-        return alone(alloc, ReadError::Memory);
+        return alone(alloc, ParseError::Read(ReadError::Memory));
     }
     let first = errors.remove(0);
     FirstRest {
@@ -306,6 +334,18 @@ fn is_slot(kind: Kind) -> bool
         Kind::PrincipalSlot => true,
         Kind::ResourceSlot => true,
         _ => false,
+    }
+}
+
+// The byte from which on this stands, unless memory was wanting.
+fn place_of(error: &ParseError) -> Option<usize> {
+    match error {
+        ParseError::Read(ReadError::Memory) => None,
+        ParseError::Read(ReadError::Expected { start, .. }) => Some(*start),
+        ParseError::Read(ReadError::TooDeep { start, .. }) => Some(*start),
+        ParseError::UnknownFunction { start, .. } => Some(*start),
+        ParseError::WrongStyle { start, .. } => Some(*start),
+        ParseError::WrongNumberOfArguments { start, .. } => Some(*start),
     }
 }
 

@@ -4,15 +4,17 @@ ghost use Rattle.std.specs.Prelude.{if◌then◌else◌};
 ghost use Rattle.cedar_model.specs.Policies.{permit, forbid};
 ghost use Rattle.cedar_layers.specs.Policies.{policy_id_text, effect_view};
 ghost use Rattle.cedar_tokens.specs.Values.{Stands};
-ghost use Rattle.cedar_text.specs.Reading.{IsWithin};
-ghost use Rattle.cedar_policy_text.specs.Reading.{IsPolicyAt, IsMadeOf};
+ghost use Rattle.cedar_tokens.specs.Tokens.{IsTokens};
+ghost use Rattle.cedar_functions.specs.Functions.{knowledge};
+ghost use Rattle.cedar_text.specs.Reading.{IsPlaceWithin};
+ghost use Rattle.cedar_policy_text.specs.Reading.{IsPolicyAt, IsPolicyRefused, IsMadeOf};
 
 use crate::annotations::annotations;
+use cedar_functions::Functions;
 use cedar_layers::policies::{Annotations, Effect, Policy, PolicyID};
 use cedar_names::{Loc, SlotEnv};
 use cedar_policy_syntax::policy_steps;
-use cedar_text::{Four, four_expressions};
-use cedar_tokens::errors::ReadError;
+use cedar_text::{Four, ParseError, four_expressions, known_calls};
 use cedar_tokens::tokens::Token;
 use std::alloc::{AllocError, Global};
 
@@ -31,12 +33,17 @@ pub(crate) fn policy_at(
     index: usize,
     id: PolicyID,
     limit: usize,
-) -> Result<Read, ReadError>
-    requires { All (Stands text.now) tokens.now }
-    ensures ok { IfOk result (λ r. IsPolicyAt text.now tokens.now limit (policy_id_text id) index r.next r.policy) }
-    ensures placed { IfErr result (IsWithin text.now) }
+    functions: &Functions,
+) -> Result<Read, ParseError>
+    requires tokens { IsTokens 0 text.now tokens.now }
+    requires stand { All (Stands text.now) tokens.now }
+    ensures ok { IfOk result (λ r. IsPolicyAt (knowledge functions.now) text.now tokens.now limit (policy_id_text id)
+        index r.next r.policy) }
+    ensures err { IfErr result (IsPolicyRefused (knowledge functions.now) text.now tokens.now limit index) }
+    ensures placed { IfErr result (IsPlaceWithin text.now) }
 {
     let read = policy_steps(alloc, tokens, index, limit)?;
+    known_calls(alloc, text, tokens, read.steps.as_slice(), functions)?;
     let annotations = annotations(alloc, text, tokens, read.annotations.as_slice())?;
     let four = four_expressions(alloc, text, tokens, read.steps.as_slice())?;
     let loc = Loc {

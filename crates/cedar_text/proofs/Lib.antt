@@ -1,4 +1,6 @@
 pub mod Again
 pub mod Growing
+pub mod Heights
 pub mod Kept
+pub mod Known
 pub mod Places

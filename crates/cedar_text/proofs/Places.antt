@@ -21,6 +21,8 @@ use Rattle.cedar_syntax.specs.declared.steps.Step.{Step}
 use Rattle.cedar_syntax.specs.declared.steps.What.{What}
 use Rattle.cedar_syntax.proofs.Ordered.{in_order}
 use Rattle.cedar_tokens.specs.Tokens.{IsTokens}
+use Rattle.cedar_functions.specs.Functions.{Knowledge}
+use Rattle.cedar_text.specs.Calls.{EachCallsKnown}
 use Rattle.cedar_text.specs.Reading.{IsWithin, IsOnly, only, AreFour, four, IsRead, is_read, IsUnread, in_step}
 use Rattle.cedar_tokens.specs.Sequence.{token_at, kind_at, start_at, end_at}
 use Rattle.cedar_text.specs.Refusals.{AreRefused, at_step, at_last, IsRefusedOn, by_tokens, by_key, IsRefused}
@@ -146,12 +148,13 @@ inside_more a b c d (field i p s e) le me (x, y, z) = (omega (arith, le, x), ome
 inside_more a b c d (bracketed k ps s e) le me (x, y, z, u) = (omega (arith, le, x), omega (arith, me, y), z, u)
 
 -- what the steps make is what the text says
-pub whole_read : {text : List ℕ} {all : List Token} {limit : ℕ} {ts : List Tree} {x : Expr} → IsTokens 0 text all →
-    All (Stands text) all → HasRead all limit ts → IsOnly text all ts x → IsRead text limit x
-whole_read {text} {all} tokens h (has_read {p} derived low nested) (only is) =
+pub whole_read : {k : Knowledge} {text : List ℕ} {all : List Token} {limit : ℕ} {ts : List Tree} {x : Expr} →
+    IsTokens 0 text all → All (Stands text) all → HasRead all limit ts → EachCallsKnown k text all ts →
+    IsOnly text all ts x → IsRead k text limit x
+whole_read {k} {text} {all} tokens h (has_read {p} derived low nested) known (only is) =
     is_read tokens derived low
     (inside_more 0 (start_at all 0) (end_of all) (length text) p (omega arith) (end_within text all h)
-    (nested (in_order tokens))) is
+    (nested (in_order tokens))) is known.0
 
 -- what the steps refuse
 pub whole_refused : {text : List ℕ} {all : List Token} {limit : ℕ} {steps : List Step} {r : ReadError} →

@@ -1,5 +1,8 @@
 pub mod Building
+pub mod Calls
 pub mod Finished
+pub mod Heights
+pub mod Messages
 pub mod Paths
 pub mod Reading
 pub mod Refusals

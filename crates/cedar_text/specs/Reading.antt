@@ -11,6 +11,10 @@ use Rattle.cedar_syntax.specs.Trees.{Tree, height, trees}
 use Rattle.cedar_syntax.specs.declared.steps.Step.{Step}
 use Rattle.cedar_text.specs.Building.{Is}
 use Rattle.cedar_text.specs.Refusals.{AreRefused}
+use Rattle.cedar_functions.specs.Functions.{Knowledge}
+use Rattle.cedar_text.specs.Calls.{CallsAreKnown, AreCallsRefused}
+use Rattle.cedar_text.specs.declared.errors.ParseError.{ParseError}
+use Rattle.cedar_text.specs.declared.errors.ParseError.TheVariants as parse
 use Rattle.cedar_text.specs.declared.reading.Four.{Four}
 
 -- the steps make one tree, which the expression is
@@ -22,11 +26,11 @@ pub data AreFour (text : List ℕ) (all : List Token) : List Tree → Four → T
   four : {p a r c : Tree} {w x y z : Expr} → Is text all w p → Is text all x a → Is text all y r → Is text all z c →
       AreFour text all (c ∷ r ∷ a ∷ p ∷ []) (record { principal = w; action = x; resource = y; condition = z })
 
--- the text's tokens derive a tree, which the expression is; it is no higher than the limit, and each of its parts
--- stands in the text, inside what it is a part of
-pub data IsRead (text : List ℕ) (limit : ℕ) (x : Expr) : Type 0 where
+-- the text's tokens derive a tree, which the expression is; it is no higher than the limit, each of its parts stands in
+-- the text, inside what it is a part of, and each call in it is of a function that is known
+pub data IsRead (k : Knowledge) (text : List ℕ) (limit : ℕ) (x : Expr) : Type 0 where
   is_read : {all : List Token} {p : Tree} → IsTokens 0 text all → IsExpression all p → height p ≤ limit →
-      IsInside 0 (length text) p → Is text all x p → IsRead text limit x
+      IsInside 0 (length text) p → Is text all x p → CallsAreKnown k text all p → IsRead k text limit x
 
 -- want of memory; or the error stands at a token of the text or behind the last; or the tokens derive a tree, and one
 -- of the steps that make it is refused
@@ -36,8 +40,20 @@ pub data IsUnread (text : List ℕ) : ReadError → Type 0 where
   in_step : {all : List Token} {steps : List Step} {p : Tree} {r : ReadError} → IsTokens 0 text all →
       IsExpression all p → trees steps ≡ p ∷ [] → AreRefused text all steps r → IsUnread text r
 
+-- the text is unread; or its tokens derive a tree, and one of the steps that make it calls a function that isn't known
+pub data IsNotParsed (k : Knowledge) (text : List ℕ) : ParseError → Type 0 where
+  unread : {r : ReadError} → IsUnread text r → IsNotParsed k text (parse.Read r)
+  in_call : {all : List Token} {steps : List Step} {p : Tree} {e : ParseError} → IsTokens 0 text all →
+      IsExpression all p → trees steps ≡ p ∷ [] → AreCallsRefused k text all steps e → IsNotParsed k text e
+
 -- an error's place is within the text
 abbrev pub IsWithin : List ℕ → ReadError → Type 0
 IsWithin text error.Memory = Unit {0}
 IsWithin text (error.Expected what found s e) = (s ≤ e) × (e ≤ length text)
 IsWithin text (error.TooDeep s e) = (s ≤ e) × (e ≤ length text)
+
+abbrev pub IsPlaceWithin : List ℕ → ParseError → Type 0
+IsPlaceWithin text (parse.Read r) = IsWithin text r
+IsPlaceWithin text (parse.UnknownFunction f style near s e) = (s ≤ e) × (e ≤ length text)
+IsPlaceWithin text (parse.WrongStyle f style s e) = (s ≤ e) × (e ≤ length text)
+IsPlaceWithin text (parse.WrongNumberOfArguments f m n s e) = (s ≤ e) × (e ≤ length text)

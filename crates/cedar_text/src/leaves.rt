@@ -200,8 +200,8 @@ pub(crate) fn name(
     }
 }
 
-// The words of the tokens of these numbers, one behind the other.
-fn words(
+/// The words of the tokens of these numbers, one behind the other.
+pub(crate) fn words(
     alloc: Global,
     text: &str,
     tokens: &[Token],

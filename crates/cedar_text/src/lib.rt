@@ -16,18 +16,26 @@
 //! - `has` with more than one attribute is one node with all of them, in order.
 //! - `.contains(..)`, `.containsAll(..)`, `.containsAny(..)`, `.getTag(..)` and `.hasTag(..)` on one argument and
 //!   `.isEmpty()` are operators of the language. Any other method is a call of the extension function of that name,
-//!   with the receiver as its first argument. Which functions there are is not asked.
+//!   with the receiver as its first argument.
+//! - Each call of a function is of one that is known, in its style and with its number of arguments: `cedar_functions`
+//!   says which are, and whoever reads a text hands that in.
 //! - A long is at most 9223372036854775807, and with a minus before it 9223372036854775808. A key stands once in a
 //!   record.
 #![tactic(auto)]
 
 mod builder;
+mod calls;
+mod errors;
+pub mod laws;
 mod leaves;
 mod nodes;
 mod paths;
 mod reading;
 mod refusals;
+pub mod show;
 pub mod words;
 
+pub use calls::known_calls;
+pub use errors::ParseError;
 pub use paths::{parse_entity_uid, parse_name};
 pub use reading::{Four, expression, four_expressions, parse_expr};

@@ -3,11 +3,16 @@ ghost use Rattle.std.specs.Prelude.{All, IfOk, IfErr};
 ghost use Rattle.cedar_tokens.specs.Tokens.{IsTokens};
 ghost use Rattle.cedar_tokens.specs.Values.{Stands};
 ghost use Rattle.cedar_syntax.specs.Trees.{trees};
-ghost use Rattle.cedar_text.specs.Reading.{IsRead, IsUnread, IsWithin, IsOnly, AreFour};
+ghost use Rattle.cedar_text.specs.Heights.{IsNoHigher};
+ghost use Rattle.cedar_text.specs.Reading.{IsRead, IsNotParsed, IsWithin, IsPlaceWithin, IsOnly, AreFour};
+ghost use Rattle.cedar_functions.specs.Functions.{knowledge};
 ghost use Rattle.cedar_text.specs.Refusals.{AreRefused};
 
 use crate::builder::built;
+use crate::calls::known_calls;
+use crate::errors::ParseError;
 use cedar_expressions::Expr;
+use cedar_functions::Functions;
 use cedar_syntax::expression_steps;
 use cedar_syntax::steps::Step;
 use cedar_tokens::errors::ReadError;
@@ -22,14 +27,22 @@ use std::alloc::Global;
 ///
 /// Each stands at its place in the text. Memory was wanting. Something else was expected than what stands there: a
 /// token can't stand where it does, a number is larger than each long, an escape is none of the language, a key stands
-/// in its record for the second time, or a method has too many arguments or too few. The expression has more levels.
-pub fn parse_expr(alloc: Global, text: &str, limit: usize) -> Result<Expr, ReadError>
-    ensures ok { IfOk result (IsRead text.now limit) }
-    ensures err { IfErr result (IsUnread text.now) }
-    ensures placed { IfErr result (IsWithin text.now) }
+/// in its record for the second time, or a method that is an operator has too many arguments or too few. The expression
+/// has more levels. A call is not one of the known functions: there is no function of its name, the function of its
+/// name is called in the other style, or it takes another number of arguments.
+pub fn parse_expr(
+    alloc: Global,
+    text: &str,
+    limit: usize,
+    functions: &Functions,
+) -> Result<Expr, ParseError>
+    ensures ok { IfOk result (IsRead (knowledge functions.now) text.now limit) }
+    ensures low { IfOk result (IsNoHigher limit) }
+    ensures err { IfErr result (IsNotParsed (knowledge functions.now) text.now) }
+    ensures placed { IfErr result (IsPlaceWithin text.now) }
 {
     let tokens = lexer::tokens(alloc, text)?;
-    let made = expression_of(alloc, text, &tokens, limit)?;
+    let made = expression_of(alloc, text, &tokens, limit, functions)?;
     Ok(made)
 }
 
@@ -39,14 +52,16 @@ fn expression_of(
     text: &str,
     tokens: &[Token],
     limit: usize,
-) -> Result<Expr, ReadError>
+    functions: &Functions,
+) -> Result<Expr, ParseError>
     requires tokens { IsTokens 0 text.now tokens.now }
     requires stand { All (Stands text.now) tokens.now }
-    ensures ok { IfOk result (IsRead text.now limit) }
-    ensures err { IfErr result (IsUnread text.now) }
-    ensures placed { IfErr result (IsWithin text.now) }
+    ensures ok { IfOk result (IsRead (knowledge functions.now) text.now limit) }
+    ensures err { IfErr result (IsNotParsed (knowledge functions.now) text.now) }
+    ensures placed { IfErr result (IsPlaceWithin text.now) }
 {
     let steps = expression_steps(alloc, tokens, limit)?;
+    known_calls(alloc, text, tokens, &steps, functions)?;
     let made = expression(alloc, text, tokens, &steps)?;
     Ok(made)
 }

@@ -1,0 +1,4 @@
+pub mod Bounds
+pub mod Capping
+pub mod Given
+pub mod Smaller
