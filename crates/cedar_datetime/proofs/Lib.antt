@@ -1,0 +1,4 @@
+mod Amounts
+pub mod Days
+pub mod InOrder
+pub mod Reading

@@ -1,0 +1,5 @@
+mod Digits
+mod Ordered
+mod Parts
+mod Signs
+mod Written

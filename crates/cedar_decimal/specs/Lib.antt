@@ -1,0 +1,4 @@
+pub mod Bounds
+pub mod Decimals
+pub mod Grammar
+pub mod Keys

@@ -1,0 +1,4 @@
+pub mod Compared
+pub mod Comparisons
+pub mod Decimals
+pub mod Laws

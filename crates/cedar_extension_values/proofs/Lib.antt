@@ -1,0 +1,4 @@
+mod Calling
+mod Computed
+pub mod Literals
+mod Offsets

@@ -1,0 +1,6 @@
+pub mod Answered
+pub mod Arguments
+pub mod Faithful
+pub mod FunctionLaws
+pub mod Functions
+pub mod Written

@@ -1,0 +1,9 @@
+mod AddressTexts
+mod Bounded
+mod Covered
+mod Digits
+mod PrefixTexts
+mod Shares
+mod Slashes
+mod SpecialAddresses
+mod Written

@@ -1,0 +1,18 @@
+-- By the laws of constructors, and of functions of a key and of two.
+use Rattle.cedar_model.specs.Terms.{bool_literal}
+use Rattle.cedar_ip.specs.Keys.{key_of, is_in_range}
+use Rattle.cedar_extension_values.specs.Functions.{gives_bool}
+use Rattle.cedar_extension_values.proofs.Literals.{literal_asks}
+use Rattle.cedar_ip_functions.specs.Ranges.{ipaddr_name}
+use Rattle.cedar_ip_functions.proofs.laws.ask_nothing.Goals as goal
+
+pub returns-clause-ranges : goal.returns-clause-ranges
+returns-clause-ranges c = c.constructors_are_faithful.ensures.nothing_asked ipaddr_name key_of
+
+pub returns-clause-questions : goal.returns-clause-questions
+returns-clause-questions c = λ such. c.functions_of_a_key.ensures.nothing_asked ipaddr_name
+    (λ k. gives_bool (such k)) (λ k. literal_asks (bool_literal (such k)))
+
+pub returns-clause-in_range : goal.returns-clause-in_range
+returns-clause-in_range c = c.functions_of_two_keys.ensures.nothing_asked ipaddr_name ipaddr_name
+    (λ k l. gives_bool (is_in_range k l)) (λ k l. literal_asks (bool_literal (is_in_range k l)))

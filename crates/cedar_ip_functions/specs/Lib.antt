@@ -1,0 +1,4 @@
+pub mod Asked
+pub mod Laws
+pub mod Questions
+pub mod Ranges
