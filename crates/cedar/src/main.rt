@@ -35,6 +35,7 @@ fn words<R: Env + AllocGlobal>(rt: &R) -> io::Result<Vec<String>> {
 fn shown<R: Print + Eprint>(rt: &R, answer: Answer) -> u8 {
     match answer {
         Answer::Printed(printed) => {
+            drop(rt.eprint(printed.warnings.as_str()));
             if rt.print(printed.output.as_str()).is_ok() {
                 printed.status
             } else {

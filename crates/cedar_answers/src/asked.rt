@@ -19,11 +19,12 @@ pub struct Asked<'m, 't> {
     /// The name of the resource's type, where the resource is not known.
     pub resource_type: Option<&'m str>,
     pub context: Option<Source<'t>>,
-    /// The whole request, in the place of its parts.
+    /// The whole request, instead of its parts.
     pub request: Option<Source<'t>>,
     /// The entities. Their parents are closed to all ancestors.
     pub entities: Option<Source<'t>>,
-    /// Whether there may be more entities than those.
+    /// Whether there may be more entities than those. Then an entity is left out where parents lead from it to one that
+    /// is not among them: what it is in is not known.
     pub is_partial: bool,
 }
 
@@ -32,8 +33,10 @@ pub struct Asked<'m, 't> {
 pub struct Step<'t> {
     /// Values for unknowns: an object in JSON.
     pub values: Source<'t>,
-    /// The entities that there are then, in the place of those before.
+    /// The entities that there are then, instead of those before.
     pub entities: Option<Source<'t>>,
+    /// Whether there may be more entities than those.
+    pub is_partial: bool,
 }
 
 /// In which way it is answered.
@@ -41,9 +44,9 @@ pub struct Step<'t> {
 pub struct Way {
     /// How policies that err are handled.
     pub error_handling: ErrorHandling,
-    /// How many levels deep is evaluated.
-    pub limit: usize,
-    /// Whether the reasons and the errors are printed too.
+    /// How many levels deep is evaluated; where that is not said, as many as what is read and given can need.
+    pub limit: Option<usize>,
+    /// Whether the reasons are printed too.
     pub is_verbose: bool,
     /// Whether the whole answer is printed as one JSON value.
     pub is_json: bool,

@@ -8,25 +8,25 @@ ghost use Rattle.cedar_answers.specs.Printing.{status, word, partial_status, par
 
 use crate::asked::{Asked, Source, Way};
 use crate::documents::response_document;
-use crate::places::placed;
-use crate::policies::{push_id, push_name, read, with_id};
+use crate::limits::text_limit;
+use crate::policies::{push_name, read_over};
 use crate::reading::whole_request;
 use crate::refusal::Refusal;
-use crate::stores::store;
-use cedar_authorizer::authorizer::{
-    AuthorizationError, Authorizer, Decision, Diagnostics, Response,
-};
-use cedar_errors::evaluator::err::EvaluationError;
+use crate::stores::given_store;
+use crate::visible::push_visible;
+use crate::warnings::{push_errors, push_templates};
+use cedar_authorizer::authorizer::{Authorizer, Decision, Diagnostics, Response};
 use cedar_evaluator::request::Request;
 use cedar_extensions::Extensions;
 use cedar_json_writing::JsonValue;
-use cedar_layers::policies::{Entities, PolicyID, PolicySet};
+use cedar_layers::policies::{Entities, Policy, PolicySet};
 use std::alloc::{AllocError, Global};
 
-/// What is printed, and the exit status.
+/// What is printed, what is told on standard error beside it, and the exit status.
 #[derive(Debug, Drop)]
 pub struct Printed {
     pub output: String,
+    pub warnings: String,
     pub status: u8,
 }
 
@@ -70,38 +70,50 @@ pub(crate) fn partial_word_of(decision: Option<Decision>) -> &'static str
     }
 }
 
-/// The decision in capitals, or `UNKNOWN`, between the lines above it and those below it, and the exit status: 0 where
-/// the request is allowed or the decision is not known, 2 where it is denied.
+/// The decision in capitals, or `UNKNOWN`, between the lines above it and those below it, with these warnings, and the
+/// exit status: 0 where the request is allowed or the decision is not known, 2 where it is denied.
 pub(crate) fn print_decision(
     alloc: Global,
     above: &str,
     decision: Option<Decision>,
     lines: &str,
+    warnings: String,
 ) -> Result<Printed, AllocError>
     ensures status { IfOk result (λ p. p.status ≡ partial_status (option_map decision_view decision)) }
+    ensures warnings { IfOk result (λ p. p.warnings ≡ warnings) }
     ensures output { IfOk result (λ p. string_bytes p.output
         ≡ above.now ++ (partial_word (option_map decision_view decision) ++ (codes "\n" ++ lines.now))) }
 {
     let word = partial_word_of(decision);
     let status = partial_status_of(decision);
     let output = format!(in alloc; "{above}{word}\n{lines}")?;
-    Ok(Printed { output, status })
+    Ok(Printed {
+        output,
+        warnings,
+        status,
+    })
 }
 
-/// The JSON value as text, on a line of its own, and the exit status: 0 where the request is allowed or the decision is
-/// not known, 2 where it is denied.
+/// The JSON value as text, on a line of its own, with these warnings, and the exit status: 0 where the request is
+/// allowed or the decision is not known, 2 where it is denied.
 pub(crate) fn print_document(
     alloc: Global,
     decision: Option<Decision>,
     document: &JsonValue,
+    warnings: String,
 ) -> Result<Printed, AllocError>
+    ensures warnings { IfOk result (λ p. p.warnings ≡ warnings) }
     ensures status { IfOk result (λ p. p.status ≡ partial_status (option_map decision_view decision)) }
     ensures output { IfOk result (λ p. string_bytes p.output
         ≡ print (json_tokens (json_view document.now)) ++ codes "\n") }
 {
     let status = partial_status_of(decision);
     let output = line_of(alloc, document)?;
-    Ok(Printed { output, status })
+    Ok(Printed {
+        output,
+        warnings,
+        status,
+    })
 }
 
 /// The JSON value as text, on a line of its own.
@@ -114,7 +126,8 @@ pub(crate) fn line_of(alloc: Global, document: &JsonValue) -> Result<String, All
 }
 
 /// What the policies decide for the request: `ALLOW` or `DENY` and, where that is asked for, the policies that
-/// determined it and the errors of those that erred; or all this as one JSON value.
+/// determined it; or all this as one JSON value. The errors of those that erred, and the templates, which decide
+/// nothing, are told as warnings; as JSON the errors stand in the value.
 pub fn authorized(
     alloc: Global,
     policies: Source<'_>,
@@ -122,85 +135,112 @@ pub fn authorized(
     way: Way,
 ) -> Result<Printed, Refusal> {
     let extensions = Extensions::none();
-    let parsed = read(alloc, policies)?;
-    let printed = authorized_by(alloc, policies, &parsed.policies, asked, way, &extensions);
+    let parsed = read_over(alloc, policies, &[])?;
+    let mut warnings = String::new(alloc);
+    let printed = match push_templates(alloc, policies, &parsed.templates, &mut warnings) {
+        Ok(()) => {
+            let setting = Deciding {
+                source: policies,
+                policies: &parsed.policies,
+                way,
+            };
+            authorized_by(alloc, setting, asked, &extensions, warnings)
+        }
+        Err(AllocError) => Err(Refusal::Memory),
+    };
     drop(parsed);
     printed
 }
 
+// The policies that decide, with the text that they stand in, and in which way they do.
+#[derive(Clone, Copy)]
+struct Deciding<'p> {
+    source: Source<'p>,
+    policies: &'p PolicySet,
+    way: Way,
+}
+
 fn authorized_by(
     alloc: Global,
-    source: Source<'_>,
-    policies: &PolicySet,
+    deciding: Deciding<'_>,
     asked: &Asked<'_, '_>,
-    way: Way,
     extensions: &Extensions<'_>,
+    mut warnings: String,
 ) -> Result<Printed, Refusal> {
-    let entities = store(alloc, asked, extensions)?;
-    let printed = authorized_over(alloc, source, policies, &entities, asked, way, extensions);
-    drop(entities);
+    let store = given_store(alloc, asked, extensions, &mut warnings)?;
+    let printed = authorized_over(
+        alloc,
+        deciding,
+        &store.entities,
+        asked,
+        extensions,
+        warnings,
+    );
+    drop(store);
     printed
 }
 
 fn authorized_over(
     alloc: Global,
-    source: Source<'_>,
-    policies: &PolicySet,
+    deciding: Deciding<'_>,
     entities: &Entities,
     asked: &Asked<'_, '_>,
-    way: Way,
     extensions: &Extensions<'_>,
+    warnings: String,
 ) -> Result<Printed, Refusal> {
     let request = whole_request(alloc, asked, extensions)?;
-    let response = decided(alloc, request, policies, entities, way, extensions)?;
-    let printed = print_response(alloc, source, policies, &response, way);
+    let response = decided(alloc, request, deciding, entities, extensions)?;
+    let printed = print_response(alloc, deciding, &response, warnings);
     drop(response);
     Ok(printed?)
 }
 
+// Nothing is unknown in what is decided here, so that no condition that was read meets the limit of the text.
 fn decided(
     alloc: Global,
     request: Request,
-    policies: &PolicySet,
+    deciding: Deciding<'_>,
     entities: &Entities,
-    way: Way,
     extensions: &Extensions<'_>,
 ) -> Result<Response, AllocError> {
-    let authorizer = Authorizer::new(extensions, way.limit).with_error_handling(way.error_handling);
-    authorizer.is_authorized(alloc, request, policies, entities)
+    let limit = deciding.way.limit.unwrap_or(text_limit());
+    let authorizer = Authorizer::new(extensions, limit).with_error_handling(
+        deciding.way.error_handling,
+    );
+    authorizer.is_authorized(alloc, request, deciding.policies, entities)
 }
 
 fn print_response(
     alloc: Global,
-    source: Source<'_>,
-    policies: &PolicySet,
+    deciding: Deciding<'_>,
     response: &Response,
-    way: Way,
+    mut warnings: String,
 ) -> Result<Printed, AllocError> {
+    let Deciding {
+        source,
+        policies,
+        way,
+    } = deciding;
     if way.is_json {
         let document = response_document(alloc, source, policies, response)?;
-        let printed = print_document(alloc, Some(response.decision), &document);
+        let printed = print_document(alloc, Some(response.decision), &document, warnings);
         drop(document);
         return printed;
     }
+    push_errors(
+        alloc,
+        source,
+        policies,
+        &response.diagnostics.errors,
+        &mut warnings,
+    )?;
     let mut lines = String::new(alloc);
     if way.is_verbose {
-        push_diagnostics(alloc, source, policies, &response.diagnostics, &mut lines)?;
+        push_reasons(alloc, policies, &response.diagnostics, &mut lines)?;
     }
-    let printed = print_decision(alloc, "", Some(response.decision), lines.as_str());
+    let printed = print_decision(alloc, "", Some(response.decision), lines.as_str(), warnings);
     drop(lines);
     printed
-}
-
-fn push_diagnostics(
-    alloc: Global,
-    source: Source<'_>,
-    policies: &PolicySet,
-    diagnostics: &Diagnostics,
-    lines: &mut String,
-) -> Result<(), AllocError> {
-    push_reasons(alloc, policies, diagnostics, lines)?;
-    push_errors(alloc, source, policies, &diagnostics.errors, lines)
 }
 
 // The policies that determined the decision, in the order of the text.
@@ -217,58 +257,20 @@ fn push_reasons(
     for policy in policies.policies() {
         if diagnostics.reason.contains(policy.id()) {
             output.push_str("  ")?;
-            push_name(alloc, policy, output)?;
+            push_visible_name(alloc, policy, output)?;
             output.push_str("\n")?;
         }
     }
     Ok(())
 }
 
-/// The errors, each with its place in the text of the policies.
-pub(crate) fn push_errors(
+/// How the policy is called, as it is told.
+pub(crate) fn push_visible_name(
     alloc: Global,
-    source: Source<'_>,
-    policies: &PolicySet,
-    errors: &[AuthorizationError],
+    policy: &Policy,
     output: &mut String,
 ) -> Result<(), AllocError> {
-    for error in errors {
-        push_error(alloc, source, policies, error, output)?;
-    }
-    Ok(())
-}
-
-fn push_error(
-    alloc: Global,
-    source: Source<'_>,
-    policies: &PolicySet,
-    error: &AuthorizationError,
-    output: &mut String,
-) -> Result<(), AllocError> {
-    match error {
-        AuthorizationError::PolicyEvaluationError { id, error } => {
-            let why = why(alloc, policies, id, error)?;
-            let lines = placed(alloc, source, error.source_loc().copied(), why.as_str())?;
-            output.push_str("\n")?;
-            output.push_str(lines.as_str())
-        }
-    }
-}
-
-// `error while evaluating policy `NAME`: ERROR`
-fn why(
-    alloc: Global,
-    policies: &PolicySet,
-    id: &PolicyID,
-    error: &EvaluationError,
-) -> Result<String, AllocError> {
-    let mut why = String::new(alloc);
-    why.push_str("error while evaluating policy `")?;
-    match with_id(policies, id) {
-        Some(policy) => push_name(alloc, policy, &mut why)?,
-        None => push_id(alloc, id, &mut why)?,
-    }
-    why.push_str("`: ")?;
-    why.push_str(format!(in alloc; "{error}")?.as_str())?;
-    Ok(why)
+    let mut name = String::new(alloc);
+    push_name(alloc, policy, &mut name)?;
+    push_visible(alloc, name.as_str(), output)
 }

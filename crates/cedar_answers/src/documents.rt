@@ -37,7 +37,11 @@ pub(crate) fn stages_document(
     }
     let mut all: Vec<JsonValue> = Vec::new(alloc);
     put_item(first, &mut all)?;
-    'steps: for (input, response) in stages.inputs.iter().zip(stages.later.iter()) {
+    let mut response = &stages.first;
+    'steps: for (input, next) in stages.inputs.iter().zip(stages.later.iter()) {
+        if let Some(next) = next {
+            response = next;
+        }
         put_stage(alloc, source, &input.step, response, &mut all)?;
     }
     Ok(JsonValue::Array(all))

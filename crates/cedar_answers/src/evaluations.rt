@@ -1,15 +1,16 @@
 //! What an expression evaluates to.
 use crate::asked::{Asked, Source};
 use crate::decisions::{Printed, line_of};
+use crate::limits::{LEVELS, expression_limit};
 use crate::places::placed;
-use crate::policies::LEVELS;
 use crate::reading::{request_with_context, whole_request};
-use crate::refusal::{Refusal, told, unread};
-use crate::stores::store;
+use crate::refusal::{Refusal, told, unparsed};
+use crate::stores::{Store, given_store};
 use cedar_errors::evaluator::err::EvaluationError;
 use cedar_evaluator::evaluator::Evaluator;
 use cedar_evaluator::request::Request;
 use cedar_extensions::Extensions;
+use cedar_functions::Functions;
 use cedar_json_writing::value_to_json;
 use cedar_layers::expressions::{Expr, SlotEnv, Value};
 use cedar_layers::policies::Entities;
@@ -22,24 +23,37 @@ pub fn evaluated(
     alloc: Global,
     source: Source<'_>,
     asked: &Asked<'_, '_>,
-    limit: usize,
+    limit: Option<usize>,
     is_json: bool,
 ) -> Result<Printed, Refusal> {
     let extensions = Extensions::none();
     let expr = expression(alloc, source)?;
-    let value = evaluated_with(alloc, source, &expr, asked, limit, &extensions);
+    let mut warnings = String::new(alloc);
+    let value = evaluated_with(
+        alloc,
+        source,
+        &expr,
+        asked,
+        limit,
+        &extensions,
+        &mut warnings,
+    );
     drop(expr);
     let value = value?;
-    let printed = print_value(alloc, &value, is_json);
+    let printed = print_value(alloc, &value, is_json, warnings);
     drop(value);
     Ok(printed?)
 }
 
+// The expression, which calls no function.
 fn expression(alloc: Global, source: Source<'_>) -> Result<Expr, Refusal> {
-    match parse_expr(alloc, source.text, LEVELS) {
+    let functions = Functions::of_extensions(alloc, &[])?;
+    let expr = match parse_expr(alloc, source.text, LEVELS, &functions) {
         Ok(expr) => Ok(expr),
-        Err(error) => Err(unread(alloc, source, error)),
-    }
+        Err(error) => Err(unparsed(alloc, source, &error)),
+    };
+    drop(functions);
+    expr
 }
 
 fn evaluated_with(
@@ -47,12 +61,13 @@ fn evaluated_with(
     source: Source<'_>,
     expr: &Expr,
     asked: &Asked<'_, '_>,
-    limit: usize,
+    limit: Option<usize>,
     extensions: &Extensions<'_>,
+    warnings: &mut String,
 ) -> Result<Value, Refusal> {
-    let entities = store(alloc, asked, extensions)?;
-    let value = evaluated_over(alloc, source, expr, &entities, asked, limit, extensions);
-    drop(entities);
+    let store = given_store(alloc, asked, extensions, warnings)?;
+    let value = evaluated_over(alloc, source, expr, &store, asked, limit, extensions);
+    drop(store);
     value
 }
 
@@ -60,13 +75,17 @@ fn evaluated_over(
     alloc: Global,
     source: Source<'_>,
     expr: &Expr,
-    entities: &Entities,
+    store: &Store,
     asked: &Asked<'_, '_>,
-    limit: usize,
+    limit: Option<usize>,
     extensions: &Extensions<'_>,
 ) -> Result<Value, Refusal> {
     let request = request_asked(alloc, asked, extensions)?;
-    match value_of(alloc, expr, request, entities, limit, extensions) {
+    let limit = match limit {
+        Some(limit) => limit,
+        None => expression_limit(expr, &request, store.height),
+    };
+    match value_of(alloc, expr, request, &store.entities, limit, extensions) {
         Ok(value) => Ok(value),
         Err(error) => Err(failed(alloc, source, &error)),
     }
@@ -99,13 +118,22 @@ fn value_of(
     value
 }
 
-fn print_value(alloc: Global, value: &Value, is_json: bool) -> Result<Printed, AllocError> {
+fn print_value(
+    alloc: Global,
+    value: &Value,
+    is_json: bool,
+    warnings: String,
+) -> Result<Printed, AllocError> {
     let output = if is_json {
         json_line(alloc, value)?
     } else {
         format!(in alloc; "{value}\n")?
     };
-    Ok(Printed { output, status: 0 })
+    Ok(Printed {
+        output,
+        warnings,
+        status: 0,
+    })
 }
 
 fn json_line(alloc: Global, value: &Value) -> Result<String, AllocError> {

@@ -43,9 +43,47 @@ fn put_name(
 }
 
 /// The entities that a store lacked, each once.
-pub(crate) fn missing_entities(
+pub(crate) fn entities_left(
     alloc: Global,
     response: &PartialResponse,
 ) -> Result<Vec<EntityUID>, AllocError> {
     response.unknown_entities(alloc)
+}
+
+/// The names that a step can give values for: those of the unknowns that are left, and the texts of the entities that a
+/// store lacked.
+pub(crate) fn open_names(
+    alloc: Global,
+    response: &PartialResponse,
+) -> Result<BTreeSet<RcStr>, AllocError> {
+    let mut open: BTreeSet<RcStr> = BTreeSet::new(alloc);
+    let unknowns: Vec<Unknown> = response.unknowns(alloc)?;
+    let pushed = open_unknowns(&unknowns, &mut open);
+    drop(unknowns);
+    pushed?;
+    let entities = entities_left(alloc, response)?;
+    let pushed = open_entities(alloc, &entities, &mut open);
+    drop(entities);
+    pushed?;
+    Ok(open)
+}
+
+fn open_unknowns(unknowns: &[Unknown], open: &mut BTreeSet<RcStr>) -> Result<(), AllocError> {
+    'unknowns: for unknown in unknowns {
+        let name: RcStr = unknown.name.clone()?;
+        drop(open.insert(name)?);
+    }
+    Ok(())
+}
+
+fn open_entities(
+    alloc: Global,
+    entities: &[EntityUID],
+    open: &mut BTreeSet<RcStr>,
+) -> Result<(), AllocError> {
+    'entities: for entity in entities {
+        let name = RcStr::from_string(format!(in alloc; "{entity}")?)?;
+        drop(open.insert(name)?);
+    }
+    Ok(())
 }

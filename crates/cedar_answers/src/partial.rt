@@ -1,24 +1,32 @@
 //! What is known of a decision where parts of the request or of the entities are unknown.
 use crate::asked::{Asked, Source, Step, Way};
-use crate::decisions::{Printed, partial_word_of, print_decision, print_document, push_errors};
+use crate::decisions::{
+    Printed, partial_word_of, print_decision, print_document, push_visible_name,
+};
 use crate::documents::stages_document;
-use crate::left::{missing_entities, unknown_names};
-use crate::policies::{push_name, read};
+use crate::left::{entities_left, unknown_names};
+use crate::policies::read_over;
 use crate::refusal::Refusal;
 use crate::stages::{Stages, all_stages};
-use crate::stores::store;
+use crate::stores::given_store;
+use crate::undecided::push_why_open;
+use crate::visible::push_visible;
+use crate::warnings::{push_errors, push_templates};
 use cedar_authorizer::authorizer::{PartialResponse, ReportedPolicies};
 use cedar_extensions::{Extension, ExtensionFunction, Extensions};
 use cedar_layers::expressions::{EntityUID, Name};
 use cedar_layers::policies::{Policy, PolicySet};
+use cedar_policy_text::ParsedPolicies;
 use cedar_writing::policy_to_cedar;
 use std::alloc::{AllocError, Global};
 use std::rc::RcStr;
 
 /// What is known of what the policies decide: the decision, if it is given, the policies that must and that may
-/// determine it, what is left of each policy, and the errors; and the same behind each step, below a line that says
-/// which step it is, or all this as one JSON value. A step takes values for unknowns, and perhaps another store. The
-/// status is that of the last decision.
+/// determine it, and what is left of each policy; and the same behind each step, below a line that says which step it
+/// is, or all this as one JSON value. A step takes values for unknowns, and perhaps another store; beside these each
+/// entity that a store lacked is itself. A step that names no unknown and brings no entities is not taken. The status
+/// is that of the last decision. The errors of policies are told as warnings, and so is what does not show in the
+/// answer; as JSON the errors stand in the value.
 pub fn partially_authorized(
     alloc: Global,
     policies: Source<'_>,
@@ -30,7 +38,12 @@ pub fn partially_authorized(
     let functions = vec![in alloc; ExtensionFunction::unknown(alloc)?]?;
     let all = vec![in alloc; Extension::new(name, functions, Vec::new(alloc))]?;
     match Extensions::specific_extensions(alloc, all.as_slice()) {
-        Ok(extensions) => partly(alloc, policies, asked, steps, way, &extensions),
+        Ok(extensions) => {
+            let parsed = read_over(alloc, policies, all.as_slice())?;
+            let printed = partly(alloc, policies, &parsed, asked, steps, way, &extensions);
+            drop(parsed);
+            printed
+        }
         Err(_) => Err(Refusal::Memory),
     }
 }
@@ -38,23 +51,18 @@ pub fn partially_authorized(
 fn partly(
     alloc: Global,
     source: Source<'_>,
+    parsed: &ParsedPolicies,
     asked: &Asked<'_, '_>,
     steps: &[Step<'_>],
     way: Way,
     extensions: &Extensions<'_>,
 ) -> Result<Printed, Refusal> {
-    let parsed = read(alloc, source)?;
-    let printed = partly_by(
-        alloc,
-        source,
-        &parsed.policies,
-        asked,
-        steps,
-        way,
-        extensions,
-    );
-    drop(parsed);
-    printed
+    let mut warnings = String::new(alloc);
+    push_templates(alloc, source, &parsed.templates, &mut warnings)?;
+    let policies = &parsed.policies;
+    partly_by(
+        alloc, source, policies, asked, steps, way, extensions, warnings,
+    )
 }
 
 fn partly_by(
@@ -65,12 +73,22 @@ fn partly_by(
     steps: &[Step<'_>],
     way: Way,
     extensions: &Extensions<'_>,
+    mut warnings: String,
 ) -> Result<Printed, Refusal> {
-    let entities = store(alloc, asked, extensions)?;
-    let stages = all_stages(alloc, policies, &entities, asked, steps, way, extensions);
-    drop(entities);
+    let store = given_store(alloc, asked, extensions, &mut warnings)?;
+    let stages = all_stages(
+        alloc,
+        policies,
+        &store,
+        asked,
+        steps,
+        way,
+        extensions,
+        &mut warnings,
+    );
+    drop(store);
     let stages = stages?;
-    let printed = print_stages(alloc, source, policies, &stages, way);
+    let printed = print_stages(alloc, source, policies, &stages, way, warnings);
     drop(stages);
     Ok(printed?)
 }
@@ -81,36 +99,63 @@ fn print_stages(
     policies: &PolicySet,
     stages: &Stages<'_>,
     way: Way,
+    mut warnings: String,
 ) -> Result<Printed, AllocError> {
+    let last = stages.last();
     if way.is_json {
+        push_why_open(alloc, last, &mut warnings)?;
         let document = stages_document(alloc, source, stages)?;
-        let printed = print_document(alloc, stages.last().decision(), &document);
+        let printed = print_document(alloc, last.decision(), &document, warnings);
         drop(document);
         return printed;
     }
     let mut above = String::new(alloc);
     let mut response = &stages.first;
-    let mut number: usize = 0;
+    push_errors(alloc, source, policies, &response.errors, &mut warnings)?;
     'steps: for (input, next) in stages.inputs.iter().zip(stages.later.iter()) {
-        number = number.saturating_add(1);
-        push_stage(alloc, source, policies, response, &mut above)?;
-        push_step(alloc, number, &input.step, &mut above)?;
-        response = next;
+        push_stage(alloc, response, &mut above)?;
+        push_step(alloc, input.number, &input.step, &mut above)?;
+        if let Some(next) = next {
+            response = next;
+            push_step_errors(
+                alloc,
+                source,
+                policies,
+                input.number,
+                response,
+                &mut warnings,
+            )?;
+        }
     }
-    print_response(alloc, above.as_str(), source, policies, response)
+    push_why_open(alloc, last, &mut warnings)?;
+    print_response(alloc, above.as_str(), last, warnings)
+}
+
+// The errors of policies behind a step, below a line that says which step it is.
+fn push_step_errors(
+    alloc: Global,
+    source: Source<'_>,
+    policies: &PolicySet,
+    number: usize,
+    response: &PartialResponse,
+    warnings: &mut String,
+) -> Result<(), AllocError> {
+    if response.errors.is_empty() {
+        return Ok(());
+    }
+    warnings.push_str(format!(in alloc; "step {number}:\n")?.as_str())?;
+    push_errors(alloc, source, policies, &response.errors, warnings)
 }
 
 // The decision of an earlier stage, and what is known of it.
 fn push_stage(
     alloc: Global,
-    source: Source<'_>,
-    policies: &PolicySet,
     response: &PartialResponse,
     output: &mut String,
 ) -> Result<(), AllocError> {
     output.push_str(partial_word_of(response.decision()))?;
     output.push_str("\n")?;
-    push_response(alloc, source, policies, response, output)
+    push_response(alloc, response, output)
 }
 
 // `step 1: VALUES over ENTITIES`, between empty lines.
@@ -120,11 +165,11 @@ fn push_step(
     step: &Step<'_>,
     output: &mut String,
 ) -> Result<(), AllocError> {
-    let values = step.values.name;
-    output.push_str(format!(in alloc; "\nstep {number}: {values}")?.as_str())?;
+    output.push_str(format!(in alloc; "\nstep {number}: ")?.as_str())?;
+    push_visible(alloc, step.values.name, output)?;
     if let Some(entities) = step.entities {
         output.push_str(" over ")?;
-        output.push_str(entities.name)?;
+        push_visible(alloc, entities.name, output)?;
     }
     output.push_str("\n\n")
 }
@@ -132,28 +177,24 @@ fn push_step(
 fn print_response(
     alloc: Global,
     above: &str,
-    source: Source<'_>,
-    policies: &PolicySet,
     response: &PartialResponse,
+    warnings: String,
 ) -> Result<Printed, AllocError> {
     let mut lines = String::new(alloc);
-    push_response(alloc, source, policies, response, &mut lines)?;
-    let printed = print_decision(alloc, above, response.decision(), lines.as_str());
+    push_response(alloc, response, &mut lines)?;
+    let printed = print_decision(alloc, above, response.decision(), lines.as_str(), warnings);
     drop(lines);
     printed
 }
 
 fn push_response(
     alloc: Global,
-    source: Source<'_>,
-    policies: &PolicySet,
     response: &PartialResponse,
     lines: &mut String,
 ) -> Result<(), AllocError> {
     push_bounds(alloc, response, lines)?;
     push_residuals(alloc, response.nontrivial_residuals(), lines)?;
-    push_unknowns(alloc, response, lines)?;
-    push_errors(alloc, source, policies, &response.errors, lines)
+    push_unknowns(alloc, response, lines)
 }
 
 // The policies that must and that may determine the decision.
@@ -189,7 +230,7 @@ fn push_one(alloc: Global, names: &mut String, policy: &Policy) -> Result<(), Al
     if !names.is_empty() {
         names.push_str(", ")?;
     }
-    push_name(alloc, policy, names)
+    push_visible_name(alloc, policy, names)
 }
 
 // What is left of each policy, as Cedar's text behind its name.
@@ -206,7 +247,7 @@ fn push_residuals(
 
 fn push_residual(alloc: Global, policy: &Policy, output: &mut String) -> Result<(), AllocError> {
     output.push_str("\nleft of ")?;
-    push_name(alloc, policy, output)?;
+    push_visible_name(alloc, policy, output)?;
     output.push_str(":\n")?;
     let text = policy_to_cedar(alloc, policy)?;
     output.push_str(text.as_str())?;
@@ -220,23 +261,27 @@ fn push_unknowns(
     output: &mut String,
 ) -> Result<(), AllocError> {
     let names = unknown_names(alloc, response)?;
-    let pushed = push_unknown_names(&names, output);
+    let pushed = push_unknown_names(alloc, &names, output);
     drop(names);
     pushed?;
-    let entities = missing_entities(alloc, response)?;
+    let entities = entities_left(alloc, response)?;
     let pushed = push_entities(alloc, &entities, output);
     drop(entities);
     pushed
 }
 
-fn push_unknown_names(names: &[RcStr], output: &mut String) -> Result<(), AllocError> {
+fn push_unknown_names(
+    alloc: Global,
+    names: &[RcStr],
+    output: &mut String,
+) -> Result<(), AllocError> {
     if names.is_empty() {
         return Ok(());
     }
     output.push_str("\nunknown:")?;
     'names: for name in names {
         output.push_str(" ")?;
-        output.push_str(name.as_str())?;
+        push_visible(alloc, name.as_str(), output)?;
     }
     output.push_str("\n")
 }
@@ -251,7 +296,8 @@ fn push_entities(
     }
     output.push_str("\nmissing entities:")?;
     'entities: for entity in entities {
-        output.push_str(format!(in alloc; " {entity}")?.as_str())?;
+        output.push_str(" ")?;
+        push_visible(alloc, format!(in alloc; "{entity}")?.as_str(), output)?;
     }
     output.push_str("\n")
 }

@@ -1,28 +1,45 @@
 //! Policies of a text.
 use crate::asked::Source;
-use crate::refusal::{Refusal, unread_lines};
-use cedar_layers::expressions::FirstRest;
+use crate::limits::LEVELS;
+use crate::refusal::{Refusal, unparsed_lines};
+use cedar_extensions::{Extension, ExtensionFunction};
+use cedar_functions::Functions;
+use cedar_layers::expressions::{FirstRest, Name};
 use cedar_layers::policies::{Policy, PolicyID, PolicySet};
 use cedar_policy_text::{ParsedPolicies, parse_policies};
-use cedar_tokens::errors::ReadError;
+use cedar_text::ParseError;
 use cedar_writing::policy_to_cedar;
 use std::alloc::{AllocError, Global};
 use std::collections::BTreeMap;
+use std::rc::RcStr;
 
-/// How many levels what is read may have.
-pub(crate) const LEVELS: usize = 1000;
-
-/// The policies that the text writes.
-pub(crate) fn read(alloc: Global, source: Source<'_>) -> Result<ParsedPolicies, Refusal> {
-    match parse_policies(alloc, source.text, LEVELS) {
+/// The policies that the text writes, which call no other functions than these.
+pub(crate) fn read(
+    alloc: Global,
+    source: Source<'_>,
+    functions: &Functions,
+) -> Result<ParsedPolicies, Refusal> {
+    match parse_policies(alloc, source.text, LEVELS, functions) {
         Ok(parsed) => Ok(parsed),
         Err(errors) => Err(refusal(alloc, source, &errors)),
     }
 }
 
+/// The policies that the text writes, which call functions of these extensions alone.
+pub(crate) fn read_over(
+    alloc: Global,
+    source: Source<'_>,
+    extensions: &[Extension],
+) -> Result<ParsedPolicies, Refusal> {
+    let functions = Functions::of_extensions(alloc, extensions)?;
+    let parsed = read(alloc, source, &functions);
+    drop(functions);
+    parsed
+}
+
 // The refusal that tells all these errors.
 #[cold]
-fn refusal(alloc: Global, source: Source<'_>, errors: &FirstRest<ReadError>) -> Refusal {
+fn refusal(alloc: Global, source: Source<'_>, errors: &FirstRest<ParseError>) -> Refusal {
     match all_lines(alloc, source, errors) {
         Ok(lines) => Refusal::Told(lines),
         Err(refusal) => refusal,
@@ -32,11 +49,11 @@ fn refusal(alloc: Global, source: Source<'_>, errors: &FirstRest<ReadError>) -> 
 fn all_lines(
     alloc: Global,
     source: Source<'_>,
-    errors: &FirstRest<ReadError>,
+    errors: &FirstRest<ParseError>,
 ) -> Result<String, Refusal> {
-    let mut lines = unread_lines(alloc, source, errors.first)?;
+    let mut lines = unparsed_lines(alloc, source, &errors.first)?;
     for error in errors.rest.iter() {
-        push_lines(alloc, source, *error, &mut lines)?;
+        push_lines(alloc, source, error, &mut lines)?;
     }
     Ok(lines)
 }
@@ -44,25 +61,34 @@ fn all_lines(
 fn push_lines(
     alloc: Global,
     source: Source<'_>,
-    error: ReadError,
+    error: &ParseError,
     lines: &mut String,
 ) -> Result<(), Refusal> {
-    let more = unread_lines(alloc, source, error)?;
+    let more = unparsed_lines(alloc, source, error)?;
     lines.push_str(&more)?;
     Ok(())
 }
 
-/// Whether the policies can be read: if not, all errors are told, each with its place.
+// The policies that the text writes, which call the function `unknown` alone.
+fn read_with_unknown(alloc: Global, source: Source<'_>) -> Result<ParsedPolicies, Refusal> {
+    let name = Name::new(RcStr::from_str(alloc, "partial_evaluation")?, None);
+    let functions = vec![in alloc; ExtensionFunction::unknown(alloc)?]?;
+    let all = vec![in alloc; Extension::new(name, functions, Vec::new(alloc))]?;
+    read_over(alloc, source, all.as_slice())
+}
+
+/// Whether the policies can be read, in which the function `unknown` may be called: if not, all errors are told, each
+/// with its place.
 pub fn checked(alloc: Global, source: Source<'_>) -> Result<(), Refusal> {
-    let parsed = read(alloc, source)?;
+    let parsed = read_with_unknown(alloc, source)?;
     drop(parsed);
     Ok(())
 }
 
 /// The policies and the templates in Cedar's own layout, in their order, with an empty line between two. Comments are
-/// left out.
+/// left out. The function `unknown` may be called in them.
 pub fn formatted(alloc: Global, source: Source<'_>) -> Result<String, Refusal> {
-    let parsed = read(alloc, source)?;
+    let parsed = read_with_unknown(alloc, source)?;
     let lines = layout(alloc, &parsed);
     drop(parsed);
     Ok(lines?)

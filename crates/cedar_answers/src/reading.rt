@@ -1,6 +1,6 @@
 //! Requests.
 use crate::asked::{Asked, Source};
-use crate::policies::LEVELS;
+use crate::limits::LEVELS;
 use crate::refusal::{Refusal, told, unread, unread_json};
 use cedar_evaluator::request::{Context, EntityUIDEntry, Request};
 use cedar_extensions::Extensions;

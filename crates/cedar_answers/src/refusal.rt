@@ -1,11 +1,13 @@
 //! Why a question is not answered.
 use crate::asked::Source;
 use crate::faults::{repeated_key, syntax_fault};
-use crate::places::place_of;
+use crate::limits::LEVELS;
+use crate::places::{place_of, placed};
 use cedar_json::JsonError;
 use cedar_layers::expressions::Loc;
+use cedar_text::ParseError;
+use cedar_text::show::shown;
 use cedar_tokens::errors::ReadError;
-use cedar_tokens::show::shown;
 use std::alloc::{AllocError, AllocFailed, Global};
 
 /// Why a question is not answered.
@@ -38,29 +40,49 @@ pub(crate) fn told(lines: Result<String, AllocError>) -> Refusal {
     }
 }
 
-/// The refusal of what can't be read as Cedar's text.
+/// The refusal of a name or an entity that can't be read as Cedar's text.
 #[cold]
 pub(crate) fn unread(alloc: Global, source: Source<'_>, error: ReadError) -> Refusal {
-    match unread_lines(alloc, source, error) {
+    unparsed(alloc, source, &ParseError::Read(error))
+}
+
+/// The refusal of what can't be read as Cedar's text.
+#[cold]
+pub(crate) fn unparsed(alloc: Global, source: Source<'_>, error: &ParseError) -> Refusal {
+    match unparsed_lines(alloc, source, error) {
         Ok(lines) => Refusal::Told(lines),
         Err(refusal) => refusal,
     }
 }
 
 /// `NAME: line L, column C: why`, and below it the line with the place marked.
-pub(crate) fn unread_lines(
+pub(crate) fn unparsed_lines(
     alloc: Global,
     source: Source<'_>,
-    error: ReadError,
+    error: &ParseError,
 ) -> Result<String, Refusal> {
     match error {
-        ReadError::Memory => Err(Refusal::Memory),
-        ReadError::Expected { .. } => lines_of(alloc, source, error),
-        ReadError::TooDeep { .. } => lines_of(alloc, source, error),
+        ParseError::Read(ReadError::Memory) => Err(Refusal::Memory),
+        ParseError::Read(ReadError::TooDeep { start, end }) => {
+            Ok(too_deep(alloc, source, *start, *end)?)
+        }
+        _ => lines_of(alloc, source, error),
     }
 }
 
-fn lines_of(alloc: Global, source: Source<'_>, error: ReadError) -> Result<String, Refusal> {
+fn too_deep(
+    alloc: Global,
+    source: Source<'_>,
+    start: usize,
+    end: usize,
+) -> Result<String, AllocError> {
+    let why = format!(in alloc;
+        "the expression has more than {LEVELS} levels: each operator, of a chain too, is one more than its parts"
+    )?;
+    placed(alloc, source, Some(Loc { start, end }), why.as_str())
+}
+
+fn lines_of(alloc: Global, source: Source<'_>, error: &ParseError) -> Result<String, Refusal> {
     let name = source.name;
     let shown = shown(alloc, source.text, error)?;
     Ok(format!(in alloc; "{name}: {shown}\n")?)

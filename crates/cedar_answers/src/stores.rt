@@ -1,57 +1,121 @@
 //! Stores of entities.
 use crate::asked::{Asked, Source};
-use crate::policies::LEVELS;
+use crate::limits::LEVELS;
 use crate::refusal::{Refusal, told, unread_json};
-use cedar_closure::{ClosureError, closed};
+use crate::visible::visible;
+use crate::warnings::push_left_out;
+use cedar_closure::{ClosureError, PartialClosure, closed, closed_partially};
 use cedar_extensions::Extensions;
+use cedar_heights::entities_height;
 use cedar_json::entities_from_json_str;
 use cedar_layers::policies::{Entities, Entity};
-use std::alloc::Global;
+use std::alloc::{AllocError, Global};
+
+/// A store, and how many levels the highest attribute or tag in it has.
+#[derive(Drop)]
+pub(crate) struct Store {
+    pub(crate) entities: Entities,
+    pub(crate) height: usize,
+}
 
 /// The store of the entities that are given, each with all its ancestors.
-pub(crate) fn store(
+pub(crate) fn given_store(
     alloc: Global,
     asked: &Asked<'_, '_>,
     extensions: &Extensions<'_>,
-) -> Result<Entities, Refusal> {
+    warnings: &mut String,
+) -> Result<Store, Refusal> {
     match asked.entities {
-        Some(source) => store_of(alloc, source, asked.is_partial, extensions),
-        None => Ok(Entities::with(alloc, Vec::new(alloc), asked.is_partial)?),
+        Some(source) => store_of(alloc, source, asked.is_partial, extensions, warnings),
+        None => Ok(Store {
+            entities: Entities::with(alloc, Vec::new(alloc), asked.is_partial)?,
+            height: 0,
+        }),
     }
 }
 
-/// The store of the entities that this text writes, each with all its ancestors.
+/// The store of the entities that this text writes, each with all its ancestors. Where there may be more entities,
+/// those are left out whose parents lead to one that is not there, and that is told.
 pub(crate) fn store_of(
     alloc: Global,
     source: Source<'_>,
     is_partial: bool,
     extensions: &Extensions<'_>,
-) -> Result<Entities, Refusal> {
+    warnings: &mut String,
+) -> Result<Store, Refusal> {
     match entities_from_json_str(alloc, source.text, extensions, LEVELS) {
-        Ok(entities) => closed_store(alloc, source, entities, is_partial),
+        Ok(entities) => {
+            let height = entities_height(&entities);
+            let entities = if is_partial {
+                partial_store(alloc, source, entities, warnings)?
+            } else {
+                whole_store(alloc, source, entities)?
+            };
+            Ok(Store { entities, height })
+        }
         Err(error) => Err(unread_json(alloc, source, error)),
     }
 }
 
-fn closed_store(
+fn whole_store(
     alloc: Global,
     source: Source<'_>,
     entities: Vec<Entity>,
-    is_partial: bool,
 ) -> Result<Entities, Refusal> {
-    match closed(alloc, entities, is_partial) {
+    match closed(alloc, entities) {
         Ok(store) => Ok(store),
         Err(error) => Err(unclosed(alloc, source, error)),
     }
 }
 
+fn partial_store(
+    alloc: Global,
+    source: Source<'_>,
+    entities: Vec<Entity>,
+    warnings: &mut String,
+) -> Result<Entities, Refusal> {
+    match closed_partially(alloc, entities) {
+        Ok(closure) => tell_left_out(alloc, source, closure, warnings),
+        Err(error) => Err(unclosed(alloc, source, error)),
+    }
+}
+
+fn tell_left_out(
+    alloc: Global,
+    source: Source<'_>,
+    closure: PartialClosure,
+    warnings: &mut String,
+) -> Result<Entities, Refusal> {
+    let PartialClosure { entities, left_out } = closure;
+    let pushed = push_left_out(alloc, source, &left_out, warnings);
+    drop(left_out);
+    match pushed {
+        Ok(()) => Ok(entities),
+        Err(AllocError) => {
+            drop(entities);
+            Err(Refusal::Memory)
+        }
+    }
+}
+
 #[cold]
 fn unclosed(alloc: Global, source: Source<'_>, error: ClosureError) -> Refusal {
-    let name = source.name;
     match error {
         ClosureError::Memory(_) => Refusal::Memory,
-        ClosureError::Cycle(uid) => told(format!(in alloc;
-            "{name}: the parents of the entity `{uid}` lead back to it\n"
-        )),
+        ClosureError::Cycle(uid) => {
+            let lines = cycle_line(alloc, source, format!(in alloc; "{uid}"));
+            drop(uid);
+            told(lines)
+        }
     }
+}
+
+fn cycle_line(
+    alloc: Global,
+    source: Source<'_>,
+    entity: Result<String, AllocError>,
+) -> Result<String, AllocError> {
+    let name = source.name;
+    let entity = visible(alloc, entity?.as_str())?;
+    format!(in alloc; "{name}: the parents of the entity `{entity}` lead back to it\n")
 }

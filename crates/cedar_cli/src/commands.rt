@@ -47,9 +47,8 @@ fn policies<'a>(alloc: Global) -> Arg<'a> {
 }
 
 fn limit<'a>(alloc: Global) -> Arg<'a> {
-    option(alloc, "limit", "N", "How many levels deep is evaluated")
-        .value_parser(ValueParser::Unsigned(1, 1000))
-        .default_value("100")
+    let help = "How many levels deep is evaluated; left out, as many as can be needed";
+    option(alloc, "limit", "N", help).value_parser(ValueParser::Unsigned(1, 1_000_000))
 }
 
 fn error_handling<'a>(alloc: Global) -> Arg<'a> {
@@ -93,7 +92,7 @@ fn request_json<'a>(alloc: Global) -> Result<Arg<'a>, AllocError> {
 }
 
 fn authorize<'a>(alloc: Global) -> Result<Command<'a>, AllocError> {
-    let verbose = flag(alloc, "verbose", "Prints the reasons and the errors too").short('v');
+    let verbose = flag(alloc, "verbose", "Prints the policies that decided too").short('v');
     let command = Command::new(alloc, "authorize")
         .about("What the policies decide: ALLOW (status 0) or DENY (status 2)")
         .arg(policies(alloc))?
@@ -108,7 +107,12 @@ fn partially_authorize<'a>(alloc: Global) -> Result<Command<'a>, AllocError> {
     let partial = flag(
         alloc,
         "partial",
-        "There may be more entities than those of the file",
+        "There may be more entities than those of --entities",
+    );
+    let partial_step = flag(
+        alloc,
+        "partial-step",
+        "There may be more entities than those of a step",
     );
     let principal_type = option(alloc, "principal-type", "TYPE", "The type of who asks");
     let resource_type = option(alloc, "resource-type", "TYPE", "The type of the resource");
@@ -119,6 +123,7 @@ fn partially_authorize<'a>(alloc: Global) -> Result<Command<'a>, AllocError> {
         .arg(limit(alloc))?
         .arg(partial)?
         .arg(step(alloc))?
+        .arg(partial_step)?
         .arg(json(alloc))?
         .arg(principal_type.conflicts_with("principal")?)?
         .arg(resource_type.conflicts_with("resource")?)?;

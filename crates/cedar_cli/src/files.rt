@@ -75,20 +75,21 @@ impl Texts {
         source(&self.entities)
     }
 
-    /// The steps, in their order.
-    pub(crate) fn steps(&self, alloc: Global) -> Result<Vec<Step<'_>>, Refusal> {
+    /// The steps, in their order; whether there may be more entities than those of a step.
+    pub(crate) fn steps(&self, alloc: Global, is_partial: bool) -> Result<Vec<Step<'_>>, Refusal> {
         let mut steps: Vec<Step<'_>> = Vec::new(alloc);
         'files: for files in self.steps.iter() {
-            steps.push(step_of(files))?;
+            steps.push(step_of(files, is_partial))?;
         }
         Ok(steps)
     }
 }
 
-fn step_of(files: &StepFiles) -> Step<'_> {
+fn step_of(files: &StepFiles, is_partial: bool) -> Step<'_> {
     Step {
         values: source_of(&files.values),
         entities: source(&files.entities),
+        is_partial,
     }
 }
 

@@ -13,7 +13,7 @@ use std::rt::Files;
 /// What a command comes to.
 #[derive(Debug, Drop)]
 pub enum Answer {
-    /// This is to be printed, and the exit status is this.
+    /// This is to be printed, this to be told on standard error beside it, and the exit status is this.
     Printed(Printed),
     /// Nothing is to be printed but these lines, on standard error. The exit status is 1.
     Refused(String),
@@ -48,10 +48,7 @@ fn help_or_refusal(alloc: Global, error: &Error) -> Result<Printed, Refusal> {
     if error.use_stderr() {
         Err(Refusal::Told(text))
     } else {
-        Ok(Printed {
-            output: text,
-            status: 0,
-        })
+        Ok(printed_alone(alloc, text))
     }
 }
 
@@ -67,8 +64,14 @@ fn dispatched<R: Files + AllocGlobal>(
 
 // Nothing is printed.
 fn nothing(alloc: Global) -> Printed {
+    printed_alone(alloc, String::new(alloc))
+}
+
+// This is printed, and nothing told beside it.
+fn printed_alone(alloc: Global, output: String) -> Printed {
     Printed {
-        output: String::new(alloc),
+        output,
+        warnings: String::new(alloc),
         status: 0,
     }
 }
@@ -103,10 +106,7 @@ fn run_with(
             checked(alloc, policies)?;
             Ok(nothing(alloc))
         }
-        _ => Ok(Printed {
-            output: formatted(alloc, policies)?,
-            status: 0,
-        }),
+        _ => Ok(printed_alone(alloc, formatted(alloc, policies)?)),
     }
 }
 
@@ -116,7 +116,7 @@ fn partial(
     matches: &ArgMatches<'_>,
     texts: &Texts,
 ) -> Result<Printed, Refusal> {
-    let steps = texts.steps(alloc)?;
+    let steps = texts.steps(alloc, matches.get_flag("partial-step"))?;
     let printed = partially_authorized(alloc, texts.policies(), asked, &steps, way(matches));
     drop(steps);
     printed
@@ -153,8 +153,8 @@ fn error_handling(word: Option<&str>) -> ErrorHandling {
     }
 }
 
-fn limit(matches: &ArgMatches<'_>) -> usize {
-    matches.get_one::<usize>("limit").unwrap_or(100)
+fn limit(matches: &ArgMatches<'_>) -> Option<usize> {
+    matches.get_one::<usize>("limit")
 }
 
 fn expression<'a>(matches: &ArgMatches<'a>) -> Source<'a> {

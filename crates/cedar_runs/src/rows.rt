@@ -1,5 +1,7 @@
 //! Tables of runs. A run begins with a line `$ ARGUMENTS`. Below it stand, a line each, the exit status behind `?`, the
-//! lines of standard output behind `>` and those of standard error behind `!`. All other lines are comments.
+//! lines of standard output behind `>` and those of standard error behind `!`; a line `~`, of which there
+//! may be two, stands for any lines. All
+//! other lines are comments.
 use crate::words::words_of;
 use cedar_cli::{Answer, answered};
 use std::alloc::{AllocError, Global};
@@ -57,11 +59,33 @@ fn holds<R: Files + AllocGlobal + Print>(rt: &R, run: &str) -> io::Result<bool> 
     };
     let wanted = wanted(rt.alloc(), below)?;
     let found = found(rt, line)?;
-    let holds = wanted.as_str() == found.as_str();
+    let holds = is_wanted_of(wanted.as_str(), found.as_str());
     if !holds {
         print!(rt; "$ {line}\nwanted:\n{wanted}found:\n{found}")?;
     }
     Ok(holds)
+}
+
+// Whether these lines were wanted, in which a line `~` stands for any.
+fn is_wanted_of(wanted: &str, found: &str) -> bool {
+    match wanted.split_once("~\n") {
+        Some((front, behind)) => match found.strip_prefix(front) {
+            Some(rest) => ends_so(behind, rest),
+            None => false,
+        },
+        None => wanted == found,
+    }
+}
+
+// Whether the lines end with these, with any before them and where the line `~` stands once more.
+fn ends_so(wanted: &str, found: &str) -> bool {
+    match wanted.split_once("~\n") {
+        Some((middle, back)) => match found.split_once(middle) {
+            Some((_, rest)) => rest.ends_with(back),
+            None => false,
+        },
+        None => found.ends_with(wanted),
+    }
 }
 
 // What is wanted of a run: the lines below it that are no comments.
@@ -77,7 +101,7 @@ fn wanted(alloc: Global, below: &str) -> Result<String, AllocError> {
 }
 
 fn is_wanted(line: &str) -> bool {
-    line.starts_with('?') || line.starts_with('>') || line.starts_with('!')
+    line.starts_with('?') || line.starts_with('>') || line.starts_with('!') || line == "~"
 }
 
 // What the run comes to, written so.
@@ -96,6 +120,7 @@ fn written(alloc: Global, answer: &Answer) -> Result<String, AllocError> {
             let status = printed.status;
             lines.push_str(format!(in alloc; "? {status}\n")?.as_str())?;
             push_lines(">", printed.output.as_str(), &mut lines)?;
+            push_lines("!", printed.warnings.as_str(), &mut lines)?;
         }
         Answer::Refused(told) => {
             lines.push_str("? 1\n")?;

@@ -1,0 +1,72 @@
+//! How many levels are evaluated, so that no policy that was read meets the limit.
+use crate::refusal::{Refusal, told};
+use cedar_authorizer::authorizer::PartialResponse;
+use cedar_evaluator::request::Request;
+use cedar_heights::{
+    expr_height, fields_height, levels_for, levels_for_step, mapped_height, policies_height,
+    record_height, residuals_height,
+};
+use cedar_layers::expressions::{Expr, Value};
+use cedar_layers::policies::PolicySet;
+use std::alloc::Global;
+use std::collections::HashMap;
+use std::rc::RcStr;
+
+/// How many levels what is read may have: each operator, call, set or record is one more than its highest part.
+pub(crate) const LEVELS: usize = 4000;
+
+/// How many steps are taken: each adds a level to what is left of a policy.
+pub(crate) const STEPS: usize = 1000;
+
+/// How many levels the condition of a policy that was read has at most: one more than its clauses.
+pub(crate) fn text_limit() -> usize {
+    LEVELS + 1
+}
+
+/// How many levels the expression can need for this request, over a store of which the highest attribute or tag has so
+/// many.
+pub(crate) fn expression_limit(expr: &Expr, request: &Request, stored: usize) -> usize {
+    levels_for(expr_height(expr), given_height(request, stored))
+}
+
+/// How many levels the policies can need for this request, over such a store.
+pub(crate) fn first_limit(policies: &PolicySet, request: &Request, stored: usize) -> usize {
+    levels_for(policies_height(policies), given_height(request, stored))
+}
+
+/// How many levels a step from this response can need, by these values and over such a store.
+pub(crate) fn step_limit(
+    response: &PartialResponse,
+    values: &HashMap<RcStr, Value>,
+    stored: usize,
+) -> usize {
+    let permits = residuals_height(&response.residual_permits);
+    let forbids = residuals_height(&response.residual_forbids);
+    let given = given_height(&response.request, stored);
+    levels_for_step(permits.max(forbids), given, mapped_height(values))
+}
+
+// The height of what is given: of the context, of what is stored, and of what the function `unknown` answers, which is
+// one level.
+fn given_height(request: &Request, stored: usize) -> usize {
+    context_height(request).max(stored).max(1)
+}
+
+fn context_height(request: &Request) -> usize {
+    match request.context() {
+        Some(context) => match (context.as_value(), context.as_residual()) {
+            (Some(values), _) => record_height(values),
+            (None, Some(parts)) => fields_height(parts),
+            (None, None) => 0,
+        },
+        None => 0,
+    }
+}
+
+/// The refusal of more steps than are taken.
+#[cold]
+pub(crate) fn too_many_steps(alloc: Global, steps: usize) -> Refusal {
+    told(format!(in alloc;
+        "--step: {steps} steps, and {STEPS} are taken at most beside a text of {LEVELS} levels: each adds a level\n"
+    ))
+}

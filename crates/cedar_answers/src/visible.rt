@@ -1,0 +1,44 @@
+//! Texts as they are told: what could be taken for another line, or for an order to a terminal, is shown.
+use std::alloc::{AllocError, Global};
+
+/// Puts the text behind the others, with each character that is no mark of its own as `\u{..}`: control characters,
+/// among them line feeds, the two separators of lines and of paragraphs, and the marks of direction.
+pub(crate) fn push_visible(
+    alloc: Global,
+    text: &str,
+    output: &mut String,
+) -> Result<(), AllocError> {
+    for character in text.chars() {
+        if is_hidden(character) {
+            let code = u32::from(character);
+            output.push_str(format!(in alloc; "\\u{{{code:x}}}")?.as_str())?;
+        } else {
+            output.push(character)?;
+        }
+    }
+    Ok(())
+}
+
+/// The text as it is told.
+pub(crate) fn visible(alloc: Global, text: &str) -> Result<String, AllocError> {
+    let mut output = String::new(alloc);
+    push_visible(alloc, text, &mut output)?;
+    Ok(output)
+}
+
+fn is_hidden(character: char) -> bool {
+    let code = u32::from(character);
+    code < 0x20 || (0x7f..=0x9f).contains(&code) || is_separator(code) || is_direction(code)
+}
+
+fn is_separator(code: u32) -> bool {
+    code == 0x2028 || code == 0x2029
+}
+
+fn is_direction(code: u32) -> bool {
+    code == 0x61c
+        || code == 0x200e
+        || code == 0x200f
+        || (0x202a..=0x202e).contains(&code)
+        || (0x2066..=0x2069).contains(&code)
+}

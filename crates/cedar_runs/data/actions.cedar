@@ -1,0 +1,1 @@
+permit(principal, action in [Action::"read", Action::"write"], resource);

@@ -1,0 +1,3 @@
+permit(principal == User::"alice", action, resource);
+@id("shares")
+permit(principal == ?principal, action, resource);
