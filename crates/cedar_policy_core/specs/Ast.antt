@@ -48,3 +48,6 @@ pub use Rattle.cedar_restricted_expressions.specs.Types as RestrictedTypes
 pub use Rattle.cedar_restricted_expressions.specs.Restricted
 pub use Rattle.cedar_unknowns.specs.Occurrences
 pub use Rattle.cedar_unknowns.specs.Entities as UnknownEntities
+pub use Rattle.cedar_unknowns.specs.Naming
+pub use Rattle.cedar_unknowns.specs.NamingInstances
+pub use Rattle.cedar_unknowns.specs.Themselves

@@ -14,11 +14,17 @@ pub use Rattle.cedar_authorizer.specs.reauthorization.Errors
 pub use Rattle.cedar_authorizer.specs.reauthorization.Concretizations
 pub use Rattle.cedar_authorizer.specs.reauthorization.Policies
 pub use Rattle.cedar_authorizer.specs.Configured
+pub use Rattle.cedar_authorizer.specs.ByHand
+pub use Rattle.cedar_authorizer.specs.Determined
 pub use Rattle.cedar_authorizer.specs.Responding
 pub use Rattle.cedar_authorizer.specs.Running
 pub use Rattle.cedar_authorizer.specs.Stability
 pub use Rattle.cedar_authorizer.specs.Steps
 pub use Rattle.cedar_authorizer.specs.Headline
+pub use Rattle.cedar_unknowns.specs.Finishing
+pub use Rattle.cedar_heights.specs.Capped
+pub use Rattle.cedar_heights.specs.Heights
+pub use Rattle.cedar_heights.specs.Limits
 pub use Rattle.cedar_json_responses.specs.Texts as JsonTexts
 pub use Rattle.cedar_json_responses.specs.Errors as JsonErrors
 pub use Rattle.cedar_json_responses.specs.Responses as JsonResponses

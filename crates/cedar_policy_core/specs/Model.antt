@@ -47,3 +47,11 @@ pub use Rattle.cedar_model.specs.StoredChains
 pub use Rattle.cedar_model.specs.Headline
 pub use Rattle.cedar_model.specs.Tables
 pub use Rattle.cedar_model.specs.lemmas
+pub use Rattle.cedar_laws.specs.AlikeRuns
+pub use Rattle.cedar_laws.specs.EqualRuns
+pub use Rattle.cedar_laws.specs.EqualSteps
+pub use Rattle.cedar_laws.specs.Faithful
+pub use Rattle.cedar_laws.specs.FaithfulInstances
+pub use Rattle.cedar_laws.specs.Index
+pub use Rattle.cedar_laws.specs.LevelRuns
+pub use Rattle.cedar_laws.specs.StepChains

@@ -23,12 +23,27 @@ pub use cedar_restricted_expressions::{
 };
 pub use cedar_unknowns::Unknowns;
 
-/// What holds of names, leaves, expressions, stores, maps of values and listed unknowns. Each function is a law, and
-/// does nothing.
+/// What holds of names, leaves, expressions, values, contexts, stores, maps of values, listed unknowns, and policies by
+/// their scopes. Each function is a law, and does nothing.
 pub mod laws {
+    pub use cedar_faithful::given::{
+        contexts_are_faithful, mapped_values_are_faithful, requests_are_faithful,
+    };
+    pub use cedar_faithful::read::made_contexts_hold_none;
+    pub use cedar_laws::faithful::{
+        given_without_extensions_is_faithful, records_hold_no_extensions,
+        restricted_expressions_hold_no_extensions, values_without_extensions_are_faithful,
+    };
+    pub use cedar_laws::index::{
+        policies_looked_at_are_bounded, policies_within_reach_are_fewer,
+        reached_policies_are_bounded, reached_policies_are_within_reach,
+    };
     pub use cedar_layers::expressions::laws::{
         expressions_are_equal_by_term, leaves_are_equal_by_view, names_are_equal_by_text,
     };
     pub use cedar_layers::laws::{mapped_values_are_sound, stores_are_sound};
-    pub use cedar_unknowns::laws::{entities_have_their_unknowns, unknowns_are_listed_once};
+    pub use cedar_unknowns::laws::{
+        entities_have_their_unknowns, listed_names_are_all, missing_entity_is_itself,
+        unknowns_are_listed_once, waiting_responses_are_named,
+    };
 }

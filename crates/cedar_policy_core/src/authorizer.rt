@@ -2,7 +2,7 @@
 pub use cedar_authorizer::authorizer::{
     AuthorizationError, Authorizer, ConcretizationError, Decision, Diagnostics, ErrorHandling,
     ErrorState, EvaluationResponse, PartialResponse, ReauthorizationError, ReportedIds,
-    ReportedPolicies, Resolution, Response, laws,
+    ReportedPolicies, Resolution, Response,
 };
 
 /// Why a policy was skipped, and why a response could not be taken further.
@@ -10,6 +10,29 @@ pub mod err {
     pub use cedar_authorizer::authorizer::err::{
         AuthorizationError, ConcretizationError, ReauthorizationError,
     };
+}
+
+/// How high expressions, values, policies and what is given are, and the limit of levels that suffices for them.
+pub mod heights {
+    pub use cedar_heights::{
+        condition_height, context_height, entities_height, entity_height, expr_height,
+        fields_height, laws, levels_for, levels_for_step, mapped_height, policies_height,
+        record_height, request_height, residuals_height, value_height,
+    };
+}
+
+/// What holds of the responses of any two authorizations, of runs, of steps and of chains. Each function is a law, and
+/// does nothing.
+pub mod laws {
+    pub use cedar_authorizer::authorizer::laws::{
+        equal_calls_answer_alike, equal_calls_report_alike, equal_steps_report_alike,
+        functions_have_one_answer, more_levels_answer_alike, more_levels_report_alike,
+        responses_are_stable, steps_make_a_chain,
+    };
+    pub use cedar_laws::determinism::{alike_runs_say_the_same, runs_are_alike, runs_are_equal};
+    pub use cedar_laws::levels::levels_keep_runs;
+    pub use cedar_laws::steps::{chains_go_on, steps_are_alike, steps_are_equal};
+    pub use cedar_unknowns::laws::listed_steps_finish;
 }
 
 /// Decisions, errors and responses as JSON.

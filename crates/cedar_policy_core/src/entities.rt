@@ -1,6 +1,16 @@
 //! Stores of entities: of entities that record all their ancestors, and of those that record their parents alone.
-pub use cedar_closure::{ClosureError, closed};
+pub use cedar_closure::{ClosureError, PartialClosure, closed, closed_partially};
 pub use cedar_layers::policies::{Dereference, Entities};
+
+/// What holds of stores, of entities that come later, and of what is read from JSON. Each function is a law, and does
+/// nothing.
+pub mod laws {
+    pub use cedar_closure::laws::ancestors_stay;
+    pub use cedar_faithful::given::{stores_are_faithful, stores_hold_what_entities_hold};
+    pub use cedar_faithful::read::{
+        read_contexts_hold_none, read_entities_hold_none, read_requests_hold_none,
+    };
+}
 
 /// Values, contexts, entities and requests of Cedar's JSON, and values, restricted expressions and contexts in it.
 pub mod json {

@@ -3,8 +3,10 @@ use crate::answer::Answer;
 use crate::questions::MANY;
 use crate::samples::sample;
 use cedar_builder::PolicyBuilder;
+use cedar_functions::Functions;
 use cedar_layers::policies::{Policy, PolicyID};
 use cedar_policy_text::parse_policy;
+use cedar_text::ParseError;
 use cedar_tokens::errors::ReadError;
 use cedar_writing::policy_to_cedar;
 use std::rc::RcStr;
@@ -54,7 +56,7 @@ fn put_if_other(answer: &mut Answer, policy: &Policy, text: &str) {
 }
 
 fn put_if_read_as_other(answer: &mut Answer, policy: &Policy, id: PolicyID, text: &str) {
-    match parse_policy(answer.alloc, id, text, MANY) {
+    match parse_policy(answer.alloc, id, text, MANY, &Functions::any()) {
         Ok(read) => {
             if !are_equal(policy, &read) {
                 answer.put(", read as another");
@@ -66,12 +68,12 @@ fn put_if_read_as_other(answer: &mut Answer, policy: &Policy, id: PolicyID, text
 }
 
 // Want of memory is no answer.
-fn put_unread(answer: &mut Answer, error: ReadError) {
+fn put_unread(answer: &mut Answer, error: ParseError) {
     match error {
-        ReadError::Memory => answer.lack_memory(),
-        ReadError::Expected { .. } => answer.put(", not read"),
-        ReadError::TooDeep { .. } => answer.put(", not read"),
+        ParseError::Read(ReadError::Memory) => answer.lack_memory(),
+        _ => answer.put(", not read"),
     }
+    drop(error);
 }
 
 fn are_equal(policy: &Policy, read: &Policy) -> bool {

@@ -6,18 +6,20 @@
 //! - `entities`: the entities as it says them: `UID {"KEY": EXPRESSION, ..} in [UID, ..]`, and ` tags {..}` where there
 //!   are any;
 //! - `evaluated`: the same entities evaluated, without what they are in: `UID {"KEY": VALUE, ..}`, and ` tags {..}`;
-//! - `store`: which of the entities each of them is in, where parents are followed: `UID in [UID, ..]`.
+//! - `store`: which of the entities each of them is in, where parents are followed: `UID in [UID, ..]`;
+//! - `partial`: the same where there may be more entities: `UID in [UID, ..]`, or `UID is left out`.
 use crate::answer::Answer;
-use cedar_closure::{ClosureError, closed};
+use cedar_closure::{ClosureError, PartialClosure, closed, closed_partially};
 use cedar_extensions::Extensions;
 use cedar_json::{
     JsonError, StatedEntity, context_from_json_str, entities_from_json_str, request_from_json_str,
     restricted_expr_from_json_str, stated_entities_from_json_str,
 };
-use cedar_layers::policies::{Entities, Entity};
+use cedar_layers::policies::Entity;
 use cedar_names::EntityUID;
 use cedar_restricted_expressions::RestrictedExpr;
 use cedar_values::PartialValue;
+use std::collections::BTreeSet;
 use std::fmt;
 use std::rc::RcStr;
 
@@ -33,6 +35,7 @@ pub fn ask_json(answer: &mut Answer, question: &str, text: &str) {
         "entities" => ask_entities(answer, text),
         "evaluated" => ask_evaluated(answer, text),
         "store" => ask_store(answer, text),
+        "partial" => ask_partial_store(answer, text),
         _ => answer.refuse("no such question"),
     }
 }
@@ -208,13 +211,32 @@ fn ask_store(answer: &mut Answer, text: &str) {
 }
 
 fn put_closed(answer: &mut Answer, text: &str, entities: Vec<Entity>) {
-    match closed(answer.alloc, entities, false) {
-        Ok(store) => {
-            put_store(answer, text, &store);
-            drop(store);
+    match closed(answer.alloc, entities) {
+        Ok(entities) => {
+            let left_out: BTreeSet<EntityUID> = BTreeSet::new(answer.alloc);
+            put_closure(answer, text, PartialClosure { entities, left_out });
         }
         Err(error) => put_unclosed(answer, error),
     }
+}
+
+fn ask_partial_store(answer: &mut Answer, text: &str) {
+    match entities_from_json_str(answer.alloc, text, &Extensions::none(), LEVELS) {
+        Ok(entities) => put_closed_partially(answer, text, entities),
+        Err(error) => put_refusal(answer, error),
+    }
+}
+
+fn put_closed_partially(answer: &mut Answer, text: &str, entities: Vec<Entity>) {
+    match closed_partially(answer.alloc, entities) {
+        Ok(closure) => put_closure(answer, text, closure),
+        Err(error) => put_unclosed(answer, error),
+    }
+}
+
+fn put_closure(answer: &mut Answer, text: &str, closure: PartialClosure) {
+    put_store(answer, text, &closure);
+    drop(closure);
 }
 
 fn put_unclosed(answer: &mut Answer, error: ClosureError) {
@@ -225,35 +247,47 @@ fn put_unclosed(answer: &mut Answer, error: ClosureError) {
     drop(error);
 }
 
-fn put_store(answer: &mut Answer, text: &str, store: &Entities) {
+fn put_store(answer: &mut Answer, text: &str, closure: &PartialClosure) {
     match stated_entities_from_json_str(answer.alloc, text) {
         Ok(stated) => {
-            put_all_stored(answer, stated.as_slice(), store);
+            put_all_stored(answer, stated.as_slice(), closure);
             drop(stated);
         }
         Err(error) => put_refusal(answer, error),
     }
 }
 
-fn put_all_stored(answer: &mut Answer, stated: &[StatedEntity], store: &Entities) {
+fn put_all_stored(answer: &mut Answer, stated: &[StatedEntity], closure: &PartialClosure) {
     'entities: for entity in stated {
         answer.next();
-        put_stored(answer, &entity.uid, stated, store);
+        put_stored(answer, &entity.uid, stated, closure);
     }
     answer.put_if_none("none");
 }
 
-fn put_stored(answer: &mut Answer, uid: &EntityUID, stated: &[StatedEntity], store: &Entities) {
+fn put_stored(
+    answer: &mut Answer,
+    uid: &EntityUID,
+    stated: &[StatedEntity],
+    closure: &PartialClosure,
+) {
     answer.show(uid);
-    answer.put(" in [");
-    match store.get(uid) {
+    match closure.entities.get(uid) {
         Some(entity) => put_ancestors(answer, entity, stated),
-        None => answer.refuse("an entity is not stored"),
+        None => put_left_out(answer, uid, &closure.left_out),
     }
-    answer.put("]");
+}
+
+fn put_left_out(answer: &mut Answer, uid: &EntityUID, left_out: &BTreeSet<EntityUID>) {
+    if left_out.contains(uid) {
+        answer.put(" is left out");
+    } else {
+        answer.refuse("an entity is not stored");
+    }
 }
 
 fn put_ancestors(answer: &mut Answer, entity: &Entity, stated: &[StatedEntity]) {
+    answer.put(" in [");
     let mut between = "";
     'others: for other in stated {
         if entity.is_descendant_of(&other.uid) {
@@ -262,4 +296,5 @@ fn put_ancestors(answer: &mut Answer, entity: &Entity, stated: &[StatedEntity]) 
             between = ", ";
         }
     }
+    answer.put("]");
 }

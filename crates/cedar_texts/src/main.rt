@@ -6,6 +6,7 @@
 mod answer;
 mod built;
 mod json;
+mod known;
 mod places;
 mod policies;
 mod questions;

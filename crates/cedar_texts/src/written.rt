@@ -1,6 +1,7 @@
 //! Texts that are read, written in Cedar's own syntax, and then asked again.
 use crate::answer::Unanswered;
 use crate::questions::MANY;
+use cedar_functions::Functions;
 use cedar_layers::policies::PolicyID;
 use cedar_policy_text::{parse_policies, parse_policy};
 use cedar_text::parse_expr;
@@ -24,14 +25,14 @@ fn itself(alloc: Global, text: &str) -> Result<String, Unanswered> {
 }
 
 fn expression(alloc: Global, text: &str) -> Result<String, Unanswered> {
-    match parse_expr(alloc, text, MANY) {
+    match parse_expr(alloc, text, MANY, &Functions::any()) {
         Ok(expr) => Ok(to_cedar(alloc, &expr)?),
         Err(_) => itself(alloc, text),
     }
 }
 
 fn policies(alloc: Global, text: &str) -> Result<String, Unanswered> {
-    match parse_policies(alloc, text, MANY) {
+    match parse_policies(alloc, text, MANY, &Functions::any()) {
         Ok(parsed) => {
             if parsed.templates.is_empty() {
                 Ok(policies_to_cedar(alloc, &parsed.policies)?)
@@ -45,7 +46,7 @@ fn policies(alloc: Global, text: &str) -> Result<String, Unanswered> {
 
 fn policy(alloc: Global, text: &str) -> Result<String, Unanswered> {
     let id = PolicyID::from_string(RcStr::from_str(alloc, "policy")?);
-    match parse_policy(alloc, id, text, MANY) {
+    match parse_policy(alloc, id, text, MANY, &Functions::any()) {
         Ok(policy) => Ok(policy_to_cedar(alloc, &policy)?),
         Err(_) => itself(alloc, text),
     }

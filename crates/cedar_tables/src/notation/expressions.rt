@@ -4,6 +4,7 @@ use crate::notation::calls::put_call;
 use crate::notation::leaves::{attributes, unplaced};
 use crate::notation::unanswered::Unanswered;
 use crate::notation::{Parts, add, or_memory};
+use cedar_functions::Functions;
 use cedar_layers::expressions::{
     BinaryOp, EntityType, EntityUID, Expr, ExprKind, ExpressionConstructionError, FirstRest,
     Literal, Name, Pattern, UnaryOp,
@@ -19,7 +20,7 @@ pub const LEVELS: usize = 1000;
 
 /// The expression that the text writes.
 pub fn expression(alloc: Global, text: &str) -> Result<Expr, Unanswered> {
-    match parse_expr(alloc, text, LEVELS) {
+    match parse_expr(alloc, text, LEVELS, &Functions::any()) {
         Ok(read) => {
             let made = meant(alloc, &read);
             drop(read);

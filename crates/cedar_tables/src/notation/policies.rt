@@ -10,6 +10,7 @@ use crate::notation::leaves::place;
 use crate::notation::settings::{fact_of, slots};
 use crate::notation::unanswered::{Noted, Unanswered};
 use crate::notation::{Parts, both, fact, headed, or_memory};
+use cedar_functions::Functions;
 use cedar_layers::expressions::{Expr, Literal, SlotEnv};
 use cedar_layers::policies::{Effect, Policy, PolicyID, PolicySet, PolicySetError};
 use cedar_policy_text::parse_policy;
@@ -72,7 +73,13 @@ fn clause(alloc: Global, id: &str, stated: &str) -> Result<Policy, Unanswered> {
 
 // The policy as the text writes it, with the places of the text.
 fn read(alloc: Global, id: &str, text: &str) -> Result<Policy, Unanswered> {
-    match parse_policy(alloc, policy_id(alloc, id)?, text, LEVELS) {
+    match parse_policy(
+        alloc,
+        policy_id(alloc, id)?,
+        text,
+        LEVELS,
+        &Functions::any(),
+    ) {
         Ok(policy) => Ok(policy),
         Err(error) => Err(Unanswered::from(error)),
     }

@@ -1,6 +1,7 @@
 //! Why a row has no answer.
 use crate::notation::leaves::place;
 use cedar_layers::expressions::Loc;
+use cedar_text::ParseError;
 use cedar_tokens::errors::ReadError;
 use std::alloc::{AllocError, AllocFailed};
 use std::num::ParseIntError;
@@ -33,6 +34,23 @@ impl<T: Drop> From<AllocFailed<T>> for Unanswered {
 impl From<&'static str> for Unanswered {
     fn from(reason: &'static str) -> Unanswered {
         Unanswered::Unreadable(reason)
+    }
+}
+
+impl From<ParseError> for Unanswered {
+    fn from(error: ParseError) -> Unanswered {
+        match error {
+            ParseError::Read(error) => Unanswered::from(error),
+            ParseError::UnknownFunction { .. } => Unanswered::Unreadable(
+                "a function that is not known",
+            ),
+            ParseError::WrongStyle { .. } => Unanswered::Unreadable(
+                "a function of the other style",
+            ),
+            ParseError::WrongNumberOfArguments { .. } => {
+                Unanswered::Unreadable("another number of arguments")
+            }
+        }
     }
 }
 
