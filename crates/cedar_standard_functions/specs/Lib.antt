@@ -1,0 +1,5 @@
+pub mod AnswerLaws
+pub mod Kinds
+pub mod Laws
+pub mod Standard
+pub mod StandardLaws
