@@ -152,9 +152,11 @@ module _ {I : Type 0} (rest : I → List Name) (from : I) where
 pub no_name : (o : Option Text) (r : ExtensionInitializationError) → IsNameRefused None r → IsNameRefused o r
 no_name o (errors.FuncMultiplyDefined e) h = absurd (true≢false (sym (ap is_some h)))
 no_name o (errors.MultipleConstructorsSameSignature e) h = h
+no_name o (errors.StandardTypeOverloaded e) h = h
 no_name o (errors.Memory e) h = h
 
 pub no_type : (o : Option Text) (r : ExtensionInitializationError) → IsTypeRefused None r → IsTypeRefused o r
 no_type o (errors.FuncMultiplyDefined e) h = h
 no_type o (errors.MultipleConstructorsSameSignature e) h = absurd (true≢false (sym (ap is_some h)))
+no_type o (errors.StandardTypeOverloaded e) h = h
 no_type o (errors.Memory e) h = h

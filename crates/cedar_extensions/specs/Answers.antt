@@ -1,16 +1,14 @@
 -- What calls answer, in the model's words.
-use Rattle.std.specs.Prelude.{◌≡◌, ◌≢◌, ℕ, List, [], ◌∷◌, length, None, Result, Ok, Err, option_map}
+use Rattle.std.specs.Prelude.{◌≡◌, ◌≢◌, ℕ, List, [], ◌∷◌, length, None, Ok, Err, option_map}
 use Rattle.std.specs.Borrow.{Bor}
 use Rattle.std.specs.Rc.{rc_str_bytes}
 use Rattle.cedar_model.specs.Terms.{string_type, unknown}
 use Rattle.cedar_model.specs.Values.{Represented, abstract_value}
 use Rattle.cedar_model.specs.Outcomes.{text_of}
-use Rattle.cedar_model.specs.Failures.{Answer, answers, fails, answers_value, answers_residual, wrong_type}
+use Rattle.cedar_model.specs.Failures.{Answer, fails, answers_value, answers_residual, wrong_type}
 use Rattle.cedar_model.specs.Failures.{out_of_memory}
 use Rattle.cedar_model.specs.Operators.{expecting}
 use Rattle.cedar_names.specs.Leaves.{type_view}
-use Rattle.cedar_values.specs.declared.partial_value.PartialValue.{PartialValue}
-use Rattle.cedar_values.specs.Residuals.{partial_view}
 use Rattle.cedar_values.specs.Sound.{Placed, whats}
 use Rattle.cedar_errors.specs.Failures.{failure_of}
 use Rattle.cedar_errors.specs.declared.evaluator.err.EvaluationError.{EvaluationError}

@@ -1,5 +1,5 @@
 -- What the functions of extensions answer where that is said: the functions of a world that agree with them.
-use Rattle.std.specs.Prelude.{◌≡◌, ℕ, cond, List, [], ◌∷◌, length, map, Option, Some, None}
+use Rattle.std.specs.Prelude.{◌≡◌, ℕ, false, cond, List, [], ◌∷◌, length, map, Option, Some, None}
 use Rattle.std.specs.Borrow.{Bor}
 use Rattle.std.specs.List.{AllByRecursion}
 use Rattle.cedar_model.specs.Terms.{Text}
@@ -15,7 +15,10 @@ use Rattle.cedar_extensions.specs.Outcomes.{Returned, abstracts, ComesTo}
 use Rattle.cedar_extensions.specs.Answers.{AsksOf}
 use Rattle.cedar_extensions.specs.Functions.{CanAnswer, AnswersAs, function_text}
 use Rattle.cedar_extensions.specs.Extension.{all_functions}
-use Rattle.cedar_extensions.specs.Extensions.{extensions_in, func_of, extensions_view, calls_of}
+use Rattle.cedar_extensions.specs.Extensions.{extensions_in, has_standard, standard_of, func_of, extensions_view}
+use Rattle.cedar_extensions.specs.Extensions.{made_calls_of, calls_of}
+use Rattle.cedar_standard_functions.specs.Standard.{name_of, made_of}
+use Rattle.cedar_standard_functions.specs.declared.function.StandardFunction.{StandardFunction}
 
 -- what a function gives to abstract values
 abbrev pub Computation : Type 0
@@ -68,22 +71,36 @@ answers_named [] cs n vs = function_errs function_does_not_exist
 answers_named (m ∷ ms) [] n vs = function_errs function_does_not_exist
 answers_named (m ∷ ms) (c ∷ cs) n vs = cond (text_eq m n) (c vs) (answers_named ms cs n vs)
 
-module _ {X : Type 0} {F : X → Type 0} {g : _} (x : Extensions X F g) where
-  -- under the names of the extensions' functions, in order, what these computations give
-  abbrev pub computed_answers : List Computation → Functions
-  computed_answers = answers_named (map function_text (all_functions (extensions_in x)))
+-- a standard function gives what it computes, and where there is none, this is given
+abbrev pub standard_first : Option StandardFunction → FunctionAnswer → Computation
+standard_first None own vs = own
+standard_first (Some f) own vs = made_of f vs
 
-  -- the extensions' functions, in order, are such as compute this
+-- under the names of the standard functions these functions answer what those compute
+abbrev pub AnswerStandard : Functions → Type 0
+AnswerStandard ans = (f : StandardFunction) (vs : List AbstractValue) → ans (name_of f) vs ≡ made_of f vs
+
+module _ {X : Type 0} {F : X → Type 0} {g : _} (x : Extensions X F g) where
+  -- what the standard functions compute, where they are there; else, under the names of the functions that the caller
+  -- made, in order, what these computations give
+  abbrev pub computed_answers : List Computation → Functions
+  computed_answers cs n vs =
+      standard_first (standard_of x n) (answers_named (map function_text (all_functions (extensions_in x))) cs n vs) vs
+
+  -- the functions that the caller made, in order, are such as compute this
   abbrev pub AllCompute : List Computation → Type 0
   AllCompute = EachComputes (all_functions (extensions_in x))
 
   -- the function of each name computes what the world's functions answer under that name
-  abbrev pub ComputeByName : Functions → Type 0
-  ComputeByName ans = (n : Text) (f : _) → func_of x n ≡ Some f → Computes f (ans n)
+  pub record ComputeByName (ans : Functions) : Type 0 where
+    pub standard : (n : Text) (f : StandardFunction) → standard_of x n ≡ Some f → (vs : List AbstractValue) → ans n vs
+        ≡ made_of f vs
+    pub made : (n : Text) (f : _) → standard_of x n ≡ None → func_of x n ≡ Some f → Computes f (ans n)
 
   -- each function is the built-in `unknown`
-  abbrev pub AreBuiltIn : Type 0
-  AreBuiltIn = AllByRecursion (λ f. AnswersAs f AsksOf) (all_functions (extensions_in x))
+  pub record AreBuiltIn : Type 0 where
+    pub not_standard : has_standard x ≡ false
+    pub all_ask : AllByRecursion (λ f. AnswersAs f AsksOf) (all_functions (extensions_in x))
 
   -- these functions of a world agree with the extensions' functions
   abbrev pub AgreesWith : Functions → Type 0
@@ -92,3 +109,7 @@ module _ {X : Type 0} {F : X → Type 0} {g : _} (x : Extensions X F g) where
   -- and to faithful values the extensions' functions answer faithful values
   abbrev pub AreFaithfulBy : Functions → Type 0
   AreFaithfulBy ans = AnswerFaithfully (extensions_view x) ans (calls_of x)
+
+  -- so do those that the caller made
+  abbrev pub MadeAreFaithfulBy : Functions → Type 0
+  MadeAreFaithfulBy ans = AnswerFaithfully (extensions_view x) ans (made_calls_of x)

@@ -6,6 +6,7 @@ pub mod Types
 pub mod Functions
 pub mod Extension
 pub mod Iterators
+pub mod Standard
 pub mod Extensions
 pub mod Collected
 pub mod Refused

@@ -37,7 +37,12 @@ use Rattle.cedar_extensions.specs.Outcomes.{AtMostOne, OnlyLawful}
 use Rattle.cedar_extensions.specs.Answers.{returned_answer, AnswersBy, AsksOf}
 use Rattle.cedar_extensions.specs.Callees.{CalleeAnswers}
 use Rattle.cedar_extensions.specs.Functions.{CanAnswer}
-use Rattle.cedar_extensions.specs.Extensions.{calls_of}
+use Rattle.cedar_extensions.specs.Extensions.{standard_of, made_calls_of, calls_of}
+use Rattle.cedar_extensions.specs.Standard.{StandardFirst}
+use Rattle.cedar_standard_functions.specs.Laws.{IsLawful}
+use Rattle.cedar_standard_functions.specs.Standard.{answer_of}
+use Rattle.cedar_standard_functions.specs.StandardLaws.{are_lawful}
+use Rattle.cedar_standard_functions.specs.declared.function.StandardFunction.{StandardFunction}
 
 -- ---- outcomes are those of the model
 
@@ -316,30 +321,63 @@ callee_unknown : {X : Type 0} {F : X → Type 0} {g : _} (c : Callee X F g) (vs 
 callee_unknown (callees.Stored f) vs p h = returned_unknown h.1 p h.5
 callee_unknown callees.Unknown vs p h = ((asks_facts vs (answers p) h).1 p refl).1
 
--- each function answers alike to equal arguments
-pub calls_functional : {X : Type 0} {F : X → Type 0} {g : _} (x : Extensions X F g) → AreFunctional (calls_of x)
-calls_functional x n vs ws a b e h k =
-    let s : Some h.0 ≡ Some k.0 = sym h.1 ∙ k.1 in
-    let one : h.0 ≡ k.0 = cc s in
-    callee_alike k.0.callee vs ws a b e (subst (λ f. CanAnswer f vs a) one h.2) k.2
+-- ---- the standard functions first
 
--- none answers the recursion limit
-pub calls_meet_no_limit : {X : Type 0} {F : X → Type 0} {g : _} (x : Extensions X F g)
-    → FunctionsMeetNoLimit (calls_of x)
-calls_meet_no_limit x n vs h = callee_no_limit h.0.callee vs h.2
+first_alike : (o : Option StandardFunction) (Own Other : Type 0) (vs ws : List Represented) (a b : Answer)
+    → map abstract_value vs ≡ map abstract_value ws → StandardFirst o Own vs a → StandardFirst o Other ws b
+    → (Own → Other → AreAlike a b) → AreAlike a b
+first_alike None Own Other vs ws a b e h k own = own h k
+first_alike (Some f) Own Other vs ws a b e h k own =
+    let one : a ≡ b = h ∙ ap (answer_of f) e ∙ sym k in
+    subst (AreAlike a) one (alike_itself a)
 
--- nor want of memory
-pub calls_find_memory : {X : Type 0} {F : X → Type 0} {g : _} (x : Extensions X F g) → FunctionsFindMemory (calls_of x)
-calls_find_memory x n vs h = callee_finds_memory h.0.callee vs h.2
+-- what is never answered by another function, nor lawful, is never answered
+first_never : (o : Option StandardFunction) (Own : Type 0) (vs : List Represented) (a : Answer)
+    → StandardFirst o Own vs a → (IsLawful a → ⊥) → (Own → ⊥) → ⊥
+first_never None Own vs a h never own = own h
+first_never (Some f) Own vs a h never own = never (subst IsLawful (sym h) (are_lawful f (map abstract_value vs)))
 
--- each answers a sound value, or a residual that is restricted
-pub calls_sound : {X : Type 0} {F : X → Type 0} {g : _} (x : Extensions X F g) (n : Text) (vs : List Represented)
-    (p : PartialValue)
-    → calls_of x n vs (answers p) → IsSoundPart p
-calls_sound x n vs p h = callee_sound h.0.callee vs p h.2
+first_such : (Such : PartialValue → Type 0) (o : Option StandardFunction) (Own : Type 0) (vs : List Represented)
+    (p : PartialValue) → ((a : Answer) → IsLawful a → a ≡ answers p → Such p) → StandardFirst o Own vs (answers p)
+    → (Own → Such p) → Such p
+first_such Such None Own vs p lawful h own = own h
+first_such Such (Some f) Own vs p lawful h own =
+    lawful (answer_of f (map abstract_value vs)) (are_lawful f (map abstract_value vs)) (sym h)
 
--- each residual that it answers holds an unknown
-pub calls_hold_unknowns : {X : Type 0} {F : X → Type 0} {g : _} (x : Extensions X F g) (n : Text)
-    (vs : List Represented) (p : PartialValue)
-    → calls_of x n vs (answers p) → HoldsUnknown p
-calls_hold_unknowns x n vs p h = callee_unknown h.0.callee vs p h.2
+module _ {X : Type 0} {F : X → Type 0} {g : _} (x : Extensions X F g) where
+  made_functional : AreFunctional (made_calls_of x)
+  made_functional n vs ws a b e h k =
+      let s : Some h.0 ≡ Some k.0 = sym h.1 ∙ k.1 in
+      let one : h.0 ≡ k.0 = cc s in
+      callee_alike k.0.callee vs ws a b e (subst (λ f. CanAnswer f vs a) one h.2) k.2
+
+  -- each function answers alike to equal arguments
+  pub calls_functional : AreFunctional (calls_of x)
+  calls_functional n vs ws a b e h k =
+      first_alike (standard_of x n) (made_calls_of x n vs a) (made_calls_of x n ws b) vs ws a b e h k
+      (made_functional n vs ws a b e)
+
+  -- none answers the recursion limit
+  pub calls_meet_no_limit : FunctionsMeetNoLimit (calls_of x)
+  calls_meet_no_limit n vs h =
+      first_never (standard_of x n) (made_calls_of x n vs limit) vs limit h (λ l. l.meets_no_limit refl)
+      (λ own. callee_no_limit own.0.callee vs own.2)
+
+  -- nor want of memory
+  pub calls_find_memory : FunctionsFindMemory (calls_of x)
+  calls_find_memory n vs h =
+      first_never (standard_of x n) (made_calls_of x n vs (fails out_of_memory)) vs (fails out_of_memory) h
+      (λ l. l.finds_memory refl) (λ own. callee_finds_memory own.0.callee vs own.2)
+
+  -- each answers a sound value, or a residual that is restricted
+  pub calls_sound : (n : Text) (vs : List Represented) (p : PartialValue) → calls_of x n vs (answers p) → IsSoundPart p
+  calls_sound n vs p h =
+      first_such IsSoundPart (standard_of x n) (made_calls_of x n vs (answers p)) vs p (λ a l. l.sound p) h
+      (λ own. callee_sound own.0.callee vs p own.2)
+
+  -- each residual that it answers holds an unknown
+  pub calls_hold_unknowns : (n : Text) (vs : List Represented) (p : PartialValue) → calls_of x n vs (answers p)
+      → HoldsUnknown p
+  calls_hold_unknowns n vs p h =
+      first_such HoldsUnknown (standard_of x n) (made_calls_of x n vs (answers p)) vs p (λ a l. l.known p) h
+      (λ own. callee_unknown own.0.callee vs p own.2)

@@ -1,6 +1,6 @@
 //! Why extensions can't be used together.
 use extension_initialization_errors::{
-    FuncMultiplyDefinedError, MultipleConstructorsSameSignatureError,
+    FuncMultiplyDefinedError, MultipleConstructorsSameSignatureError, StandardTypeOverloadedError,
 };
 use std::alloc::{AllocError, AllocFailed};
 use thiserror::Error;
@@ -14,7 +14,10 @@ pub enum ExtensionInitializationError {
     /// Two functions, of one extension or of two, make the values of one extension type, each of one text.
     #[error(transparent)]
     MultipleConstructorsSameSignature(MultipleConstructorsSameSignatureError),
-    /// Memory was wanting.
+    /// An extension says that `<` compares the values of a standard type, which says so itself.
+    #[error(transparent)]
+    StandardTypeOverloaded(StandardTypeOverloadedError),
+    /// Out of memory.
     #[error("out of memory")]
     Memory(AllocError),
 }
@@ -39,6 +42,14 @@ pub mod extension_initialization_errors {
         /// The extension type.
         pub return_type: Box<Type>,
     }
+
+    /// An extension says that `<` compares the values of a standard type, which says so itself.
+    #[derive(Debug, Clone, PartialEq, Eq, Drop, Error)]
+    #[error("the operators of the standard extension type `{name}` are its own")]
+    pub struct StandardTypeOverloadedError {
+        /// The name of the type.
+        pub name: Name,
+    }
 }
 
 impl From<FuncMultiplyDefinedError> for ExtensionInitializationError {
@@ -60,6 +71,17 @@ impl From<MultipleConstructorsSameSignatureError> for ExtensionInitializationErr
 
     fn from(e: MultipleConstructorsSameSignatureError) -> ExtensionInitializationError {
         ExtensionInitializationError::MultipleConstructorsSameSignature(e)
+    }
+}
+
+impl From<StandardTypeOverloadedError> for ExtensionInitializationError {
+    ghost use Rattle.std.specs.Prelude.{◌≡◌};
+    ghost use Rattle.cedar_extensions.specs.declared.errors.ExtensionInitializationError.TheVariants as errors;
+
+    ghost from_gives = { λ e r. r ≡ errors.StandardTypeOverloaded e };
+
+    fn from(e: StandardTypeOverloadedError) -> ExtensionInitializationError {
+        ExtensionInitializationError::StandardTypeOverloaded(e)
     }
 }
 

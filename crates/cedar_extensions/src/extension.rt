@@ -2,6 +2,7 @@
 use crate::function::ExtensionFunction;
 use crate::iterators::{ExtTypes, OverloadingTypes};
 use cedar_names::{Name, Type};
+use cedar_standard_functions::is_standard_type;
 use std::alloc::AllocError;
 
 /// An extension: its name, its functions, and the extension types whose values `<` and `<=` compare.
@@ -13,13 +14,15 @@ pub struct Extension {
 }
 
 impl Extension {
-    ghost use Rattle.std.specs.Prelude.{◌≡◌, ◌++◌, map, OnOk};
+    ghost use Rattle.std.specs.Prelude.{◌≡◌, ◌++◌, map, OnOk, option_copied};
+    ghost use Rattle.std.specs.List.{find};
     ghost use Rattle.cedar_model.specs.Outcomes.{has_text};
     ghost use Rattle.cedar_names.specs.Leaves.{type_view};
     ghost use Rattle.cedar_names.specs.Names.{name_text};
     ghost use Rattle.cedar_extensions.specs.Functions.{answered_types, function_among, IsFound};
     ghost use Rattle.cedar_extensions.specs.Extension.{name_of, functions_of, overloading_types, types_named};
     ghost use Rattle.cedar_extensions.specs.Iterators.{types_left, overloading_left};
+    ghost use Rattle.cedar_extensions.specs.Refused.{has_standard_name, makes_standard, is_standard};
 
     /// The extension of this name, with these functions. `<` and `<=` compare the values of each of these types, by
     /// their keys.
@@ -75,6 +78,48 @@ impl Extension {
         'functions: while let Some((function, others)) = rest.split_first() {
             if function.name() == name {
                 return Some(function);
+            }
+            rest = others;
+        }
+        None
+    }
+
+    // The first function whose name a standard function has.
+    pub(crate) fn with_standard_name(&self) -> Option<&ExtensionFunction>
+        ensures { IsFound (find has_standard_name (functions_of self.now)) result }
+    {
+        let mut rest = self.functions.as_slice();
+        'functions: while let Some((function, others)) = rest.split_first() {
+            if function.has_standard_name() {
+                return Some(function);
+            }
+            rest = others;
+        }
+        None
+    }
+
+    // The first function that makes values of a standard type, each of exactly one text.
+    pub(crate) fn making_standard(&self) -> Option<&ExtensionFunction>
+        ensures { IsFound (find makes_standard (functions_of self.now)) result }
+    {
+        let mut rest = self.functions.as_slice();
+        'functions: while let Some((function, others)) = rest.split_first() {
+            if function.makes_standard() {
+                return Some(function);
+            }
+            rest = others;
+        }
+        None
+    }
+
+    // The first standard type among those whose values the order compares.
+    pub(crate) fn overloading_standard(&self) -> Option<&Name>
+        ensures { option_copied result ≡ find is_standard (overloading_types self.now) }
+    {
+        let mut rest = self.types_with_operator_overloading.as_slice();
+        'types: while let Some((ty, others)) = rest.split_first() {
+            if is_standard_type(ty.text().as_str()) {
+                return Some(ty);
             }
             rest = others;
         }

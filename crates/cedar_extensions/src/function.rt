@@ -17,6 +17,7 @@ use cedar_errors::evaluator::err::EvaluationError;
 use cedar_errors::evaluator::err::evaluation_errors::WrongNumArgumentsError;
 use cedar_expressions::Expr;
 use cedar_names::{CallStyle, Name, Type};
+use cedar_standard_functions::{StandardFunction, is_standard_type};
 use cedar_values::{PartialValue, ResidualExpr, Value};
 use std::alloc::{AllocError, Global};
 use std::rc::RcStr;
@@ -61,6 +62,7 @@ impl ExtensionFunction {
     ghost use Rattle.cedar_extensions.specs.Functions.{function_name, function_style, function_returns, function_takes};
     ghost use Rattle.cedar_extensions.specs.Functions.{function_text, arity, CanAnswer, AnswersAs, AnswersAlone};
     ghost use Rattle.cedar_extensions.specs.Functions.{IsMiscounted, answered_type, constructed_type};
+    ghost use Rattle.cedar_extensions.specs.Refused.{has_standard_name, makes_standard};
     ghost use Rattle.cedar_extensions.specs.Computations.{Computation, EachCallComesTo, Computes, unknown_made};
 
     /// The function that calls `func`. It asks its caller for three facts: `func` may be called on every list of as
@@ -194,6 +196,23 @@ impl ExtensionFunction {
         match &self.return_type {
             Some(ty) => extension_name(ty),
             None => None,
+        }
+    }
+
+    // Whether a standard function has its name.
+    pub(crate) fn has_standard_name(&self) -> bool
+        ensures { result ≡ has_standard_name self.now }
+    {
+        StandardFunction::named(self.name.text().as_str()).is_some()
+    }
+
+    // Whether it makes values of a standard type, each of exactly one text.
+    pub(crate) fn makes_standard(&self) -> bool
+        ensures { result ≡ makes_standard self.now }
+    {
+        match self.constructed_type() {
+            Some(name) => is_standard_type(name.text().as_str()),
+            None => false,
         }
     }
 

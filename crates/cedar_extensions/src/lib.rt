@@ -1,4 +1,4 @@
-//! Extension functions, which the caller of an evaluator makes and hands in, and the extensions that have them.
+//! The extensions that an evaluator may use: the standard ones, and those whose functions its caller makes.
 #![tactic(auto)]
 
 mod checks;
@@ -13,6 +13,7 @@ pub mod util;
 pub use cedar_errors::extensions::{
     ExtensionFunctionLookupError, extension_function_lookup_errors,
 };
+pub use cedar_standard_functions::StandardFunction;
 pub use errors::{ExtensionInitializationError, extension_initialization_errors};
 pub use extension::Extension;
 pub use extensions::Extensions;

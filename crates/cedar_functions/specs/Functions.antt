@@ -8,7 +8,12 @@ use Rattle.cedar_model.specs.Terms.{Text}
 use Rattle.cedar_model.specs.Outcomes.{text_eq}
 use Rattle.cedar_names.specs.declared.names.CallStyle.{CallStyle}
 use Rattle.cedar_names.specs.declared.names.CallStyle.TheVariants.{FunctionStyle, MethodStyle}
+use Rattle.cedar_extensions.specs.Extension.{all_functions}
+use Rattle.cedar_extensions.specs.Extensions.{extensions_in, has_standard}
 use Rattle.cedar_extensions.specs.Functions.{function_text, function_style, arity}
+use Rattle.cedar_extensions.specs.declared.extensions.Extensions.{Extensions}
+use Rattle.cedar_standard_functions.specs.Standard as standard
+use Rattle.cedar_standard_functions.specs.declared.function.StandardFunction.{StandardFunction}
 use Rattle.cedar_extensions.specs.declared.function.ExtensionFunction.{ExtensionFunction}
 use Rattle.cedar_functions.specs.Distance.{IsNearest}
 use Rattle.cedar_functions.specs.declared.functions.Function.{Function}
@@ -30,6 +35,20 @@ pub data Knowledge : Type 0 where
 -- what is known of a stored function
 abbrev pub signature_of : {X : Type 0} {F : X → Type 0} {g : _} → ExtensionFunction X F g → Signature
 signature_of f = record { name = function_text f; style = function_style f; arguments = arity f }
+
+-- what is known of a standard function
+abbrev pub standard_signature : StandardFunction → Signature
+standard_signature f =
+    record { name = standard.name_of f; style = standard.style_of f; arguments = length (standard.takes f) }
+
+-- of all of them, if they are there
+abbrev pub standard_signatures : Bool → List Signature
+standard_signatures is_there = if is_there then map standard_signature standard.all_standard else []
+
+-- what is known of the functions of extensions, the standard ones first
+abbrev pub signatures_of : {X : Type 0} {F : X → Type 0} {g : _} → Extensions X F g → List Signature
+signatures_of x =
+    standard_signatures (has_standard x) ++ map signature_of (all_functions (extensions_in x))
 
 abbrev pub signature_in : Function → Signature
 signature_in f = record { name = rc_str_bytes f.name; style = f.style; arguments = f.arguments }

@@ -1,3 +1,4 @@
+pub mod Answered
 pub mod Bounds
 pub mod Capping
 pub mod Given

@@ -81,7 +81,8 @@ pub fn equal_steps_report_alike(
         other.now }
 {}
 
-/// No function, and functions that are all the built-in `unknown`, have one answer to the same arguments.
+/// No function that the caller made, and functions that are all the built-in `unknown`, have one answer to the same
+/// arguments; so have the standard functions alone.
 pub fn functions_have_one_answer(extensions: &Extensions<'_>)
     ensures none { extensions_in extensions.now ≡ [] → HaveOneAnswer (calls_of extensions.now) }
     ensures built_in { AreBuiltIn extensions.now → HaveOneAnswer (calls_of extensions.now) }

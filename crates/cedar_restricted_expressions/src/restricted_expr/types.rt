@@ -2,21 +2,27 @@
 ghost use Rattle.std.specs.Prelude.{◌≡◌, IfOk, option_copied, option_map};
 ghost use Rattle.cedar_names.specs.Names.{name_text};
 ghost use Rattle.cedar_names.specs.Leaves.{literal_view, type_view};
-ghost use Rattle.cedar_restricted_expressions.specs.Types.{literal_type, type_in, return_types};
+ghost use Rattle.cedar_extensions.specs.Extensions.{func_of};
+ghost use Rattle.cedar_restricted_expressions.specs.Types.{literal_type, type_in, made_type, return_types};
 
 use super::BorrowedRestrictedExpr;
 use super::kinds::{RestrictedKind, kind_of};
 use cedar_extensions::Extensions;
 use cedar_names::{Literal, Name, Type};
-use std::alloc::AllocError;
+use std::alloc::{AllocError, Global};
 
 impl<'a> BorrowedRestrictedExpr<'a> {
     ghost use Rattle.cedar_restricted_expressions.specs.Views.{borrowed_term};
 
     /// The type of the expression's value, as far as it is known without evaluation: of a literal its type, of a set
     /// `Set`, of a record `Record`, of an unknown its annotation, and of a call the type that the function returns,
-    /// where an extension has the function and that type is known. Refuses only for want of memory.
-    pub fn try_type_of(&self, extensions: &Extensions<'_>) -> Result<Option<Type>, AllocError>
+    /// where there is such a function, a standard one or one of an extension, and that type is known. Refuses only if out
+    /// of memory.
+    pub fn try_type_of(
+        &self,
+        alloc: Global,
+        extensions: &Extensions<'_>,
+    ) -> Result<Option<Type>, AllocError>
         ensures { IfOk result
             (λ t. option_map type_view t ≡ type_in (return_types extensions.now) (borrowed_term self.now)) }
     {
@@ -25,7 +31,7 @@ impl<'a> BorrowedRestrictedExpr<'a> {
             RestrictedKind::Unknown(unknown) => Ok(unknown.type_annotation.clone()?),
             RestrictedKind::Set(_) => Ok(Some(Type::Set)),
             RestrictedKind::Record(_) => Ok(Some(Type::Record)),
-            RestrictedKind::Call(fn_name, _) => Ok(return_type(extensions, fn_name)?),
+            RestrictedKind::Call(fn_name, _) => Ok(return_type(alloc, extensions, fn_name)?),
         }
     }
 }
@@ -44,9 +50,23 @@ fn literal_type(literal: &Literal) -> Result<Type, AllocError>
     }
 }
 
-// The type that the extensions' function of this name returns, if there is one and the type is known.
-fn return_type(extensions: &Extensions<'_>, fn_name: &Name) -> Result<Option<Type>, AllocError>
+// The type that the function of this name returns, a standard one first, if there is one and the type is known.
+fn return_type(
+    alloc: Global,
+    extensions: &Extensions<'_>,
+    fn_name: &Name,
+) -> Result<Option<Type>, AllocError>
     ensures { IfOk result (λ t. option_map type_view t ≡ return_types extensions.now (name_text fn_name.now)) }
+{
+    match extensions.standard(fn_name) {
+        Some(function) => Ok(Some(function.return_type(alloc)?)),
+        None => made_type(extensions, fn_name),
+    }
+}
+
+// The same of the functions that the caller made.
+fn made_type(extensions: &Extensions<'_>, fn_name: &Name) -> Result<Option<Type>, AllocError>
+    ensures { IfOk result (λ t. option_map type_view t ≡ made_type (func_of extensions.now (name_text fn_name.now))) }
 {
     match extensions.func(fn_name) {
         Ok(function) => type_copied(function.return_type()),
