@@ -1,6 +1,12 @@
+pub mod SuchAnswers
+pub mod FaithfulAnswers
 pub mod Stored
+pub mod Mapped
 pub mod Functions
 pub mod Restricted
 pub mod RestrictedEntities
+pub mod Evaluated
 pub mod HoldingNone
+pub mod Faithful
 pub mod FromJson
+pub mod Owing

@@ -1,21 +1,23 @@
 -- What JSON says is a restricted expression.
-use Rattle.std.specs.Prelude.{◌≡◌, ℕ, ◌+◌, Bool, true, false, ◌&&◌, ◌||◌, List, [], ◌∷◌, Option, Some, None, Result, Ok, Err}
+use Rattle.std.specs.Prelude.{◌≡◌, ℕ, ◌+◌, Bool, true, false, List, [], ◌∷◌, Option, Some, None}
+use Rattle.std.specs.Prelude.{Ok, Err}
 use Rattle.std.specs.Prelude.{if◌then◌else◌, bytes_eq, codes}
-use Rattle.std.proofs.Common.{refl, subst, sym, ap, ◌∙◌}
+use Rattle.std.proofs.Common.{refl}
 use Rattle.std.proofs.lemmas.Bool.{and_from}
 use Rattle.std.specs.Ordering.{nat_cmp, match_ordering}
 use Rattle.std.specs.Cmp.Lexicographic.{slice_cmp}
 use Rattle.std.specs.declared.cmp.Ordering.{Ordering}
 use Rattle.std.specs.declared.cmp.Ordering.TheVariants.{Less, Equal, Greater}
-use Rattle.json.specs.Json.{Json, null, boolean, number, string, array, object, Items, no_items, item, Members, no_members, member}
+use Rattle.json.specs.Json.{Json, null, boolean, number, string, array, object, Items, no_items, item}
+use Rattle.json.specs.Json.{Members, no_members, member}
 use Rattle.json.specs.Find.{as_object, as_str}
-use Rattle.cedar_model.specs.Terms.{Text, EntityName, Term, Terms, Fields, no_fields, one_field, terms_of, set_of, record_of, call}
+use Rattle.cedar_model.specs.Terms.{Text, EntityName, Term, Fields, no_fields, one_field, terms_of}
+use Rattle.cedar_model.specs.Terms.{call}
 use Rattle.cedar_model.specs.Shapes.{is_restricted, are_restricted, are_restricted_at}
 use Rattle.cedar_model.specs.Refusals.{first_repeated}
 use Rattle.cedar_expressions.specs.Records.{put_field, put_fields, fields_in_order}
 use Rattle.cedar_restricted_expressions.specs.Readers.{text_in}
 use Rattle.cedar_json.specs.Numbers.{long_of_text}
-use Rattle.cedar_json.specs.Shapes.{uid_shape}
 use Rattle.cedar_json.specs.Words.{is_name}
 use Rattle.cedar_json.specs.Paths.{Step}
 use Rattle.cedar_json.specs.Refusals.{Said, under, before, made_of, and_then}
@@ -77,9 +79,10 @@ abbrev pub EachField : Fields → Type 0
 EachField no_fields = Unit {0}
 EachField (one_field k t fs) = IsRestricted t × EachField fs
 
-fields_restricted : (fs : Fields) → EachField fs → are_restricted_at fs ≡ true
+pub fields_restricted : (fs : Fields) → EachField fs → are_restricted_at fs ≡ true
 fields_restricted no_fields h = refl
-fields_restricted (one_field k t fs) h = and_from (is_restricted t) (are_restricted_at fs) h.0 (fields_restricted fs h.1)
+fields_restricted (one_field k t fs) h =
+    and_from (is_restricted t) (are_restricted_at fs) h.0 (fields_restricted fs h.1)
 
 placed : (o : Ordering) (x y z : Fields) → EachField x → EachField y → EachField z → EachField (match_ordering o x y z)
 placed Less x y z h k l = h
@@ -89,7 +92,8 @@ placed Greater x y z h k l = l
 put_restricted : (fs : Fields) (k : Text) (t : Term) → EachField fs → IsRestricted t → EachField (put_field fs k t)
 put_restricted no_fields k t h r = (r, tt)
 put_restricted (one_field l u fs) k t h r =
-    placed (slice_cmp nat_cmp k l) (one_field k t (one_field l u fs)) (one_field l t fs) (one_field l u (put_field fs k t))
+    placed (slice_cmp nat_cmp k l) (one_field k t (one_field l u fs)) (one_field l t fs)
+    (one_field l u (put_field fs k t))
     (r, h) (r, h.1) (h.0, put_restricted fs k t h.1 r)
 
 puts_restricted : (fs : Fields) (ps : List (Text × Term)) → EachField fs → EachSuch IsRestrictedPair ps
@@ -149,7 +153,8 @@ arguments_restricted k s ts h l =
 
 -- ---- sets and records
 
-set_restricted : (ts : Said (List Term)) → SaysSuch (EachSuch IsRestricted) ts → SaysSuch IsRestricted (said.set_said ts)
+set_restricted : (ts : Said (List Term)) → SaysSuch (EachSuch IsRestricted) ts
+    → SaysSuch IsRestricted (said.set_said ts)
 set_restricted (Ok ts) h = terms_restricted ts h
 set_restricted (Err r) h = tt
 
@@ -158,9 +163,11 @@ pair_restricted : (k : Text) (s : Said Term) → SaysSuch IsRestricted s
 pair_restricted k (Ok t) h = h
 pair_restricted k (Err r) h = tt
 
-member_restricted : (k : Text) (s : Said Term) → SaysSuch IsRestricted s → SaysSuch IsRestrictedPair (said.member_said k s)
+member_restricted : (k : Text) (s : Said Term) → SaysSuch IsRestricted s
+    → SaysSuch IsRestrictedPair (said.member_said k s)
 member_restricted k s h =
-    chosen IsRestrictedPair (said.is_reserved_key k) _ _ tt (pair_restricted k (under _ s) (under_such IsRestricted _ s h))
+    chosen IsRestrictedPair (said.is_reserved_key k) _ _ tt
+    (pair_restricted k (under _ s) (under_such IsRestricted _ s h))
 
 unique_restricted : (o : Option Text) (ps : List (Text × Term)) → EachSuch IsRestrictedPair ps
     → SaysSuch IsRestricted (said.unique_said o ps)

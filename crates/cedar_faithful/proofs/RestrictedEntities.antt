@@ -1,16 +1,14 @@
 -- The attributes and tags of entities that JSON says are restricted expressions.
-use Rattle.std.specs.Prelude.{ℕ, ◌+◌, Bool, List, [], ◌∷◌, Option, Some, None, Result, Ok, Err, codes}
+use Rattle.std.specs.Prelude.{ℕ, ◌+◌, List, [], ◌∷◌, Option, Some, None, Ok, Err, codes}
 use Rattle.json.specs.Json.{Json, Items, no_items, item, Members}
 use Rattle.json.specs.Find.{as_object, as_array, get}
 use Rattle.cedar_model.specs.Terms.{Text, EntityName, Term}
 use Rattle.cedar_model.specs.Settings.{is_among}
-use Rattle.cedar_json.specs.Paths.{Step}
 use Rattle.cedar_json.specs.Refusals.{Said, under}
-use Rattle.cedar_json.specs.Said.{said_members}
 use Rattle.cedar_json.specs.SaidEntities as said
 use Rattle.cedar_json.specs.SaidEntities.{SaidEntity}
-use Rattle.cedar_faithful.proofs.Restricted.{SaysSuch, EachSuch, under_such, chosen, then_such, made_such, IsRestrictedPair}
-use Rattle.cedar_faithful.proofs.Restricted.{members_restricted}
+use Rattle.cedar_faithful.proofs.Restricted.{SaysSuch, EachSuch, under_such, chosen, then_such, made_such}
+use Rattle.cedar_faithful.proofs.Restricted.{IsRestrictedPair, members_restricted}
 
 abbrev PairsRestricted : List (Text × Term) → Type 0
 PairsRestricted ps = EachSuch IsRestrictedPair ps

@@ -1,19 +1,52 @@
--- Entities that hold no extension value.
-use Rattle.std.specs.Prelude.{◌≡◌, List, [], ◌∷◌, Some}
-use Rattle.cedar_model.specs.Terms.{Text}
-use Rattle.cedar_model.specs.Failures.{PartialValue}
-use Rattle.cedar_model.specs.Settings.{StoredEntity, part_at}
+-- What entities and maps of values hold: no extension value, or faithful values; and which value is answered.
+use Rattle.std.specs.Prelude.{◌≡◌, ℕ, List, [], ◌∷◌, Some}
+use Rattle.std.specs.declared.alloc.Global.{Global}
+use Rattle.std.specs.declared.rc.RcStr.{RcStr}
+use Rattle.cedar_model.specs.Terms.{Text, Term}
+use Rattle.cedar_model.specs.Values.{Represented}
+use Rattle.cedar_model.specs.World.{Extensions, Functions}
+use Rattle.cedar_model.specs.Failures.{PartialValue, value, answers}
+use Rattle.cedar_model.specs.Settings.{StoredEntity, Setting, part_at}
+use Rattle.cedar_model.specs.Rules.{StoredCalls}
+use Rattle.cedar_model.specs.Agreement.{IsFaithfulPart}
 use Rattle.cedar_laws.specs.Faithful.{PartHoldsNoExtensionValue}
+use Rattle.cedar_values.specs.Sound.{Placed}
 use Rattle.cedar_layers.specs.declared.policies.entities.Entity.{Entity}
 use Rattle.cedar_layers.specs.Stores.{entity_view}
+use Rattle.cedar_restricted_evaluator.specs.Evaluations.{IsBare, IsValueWithin}
 
--- no attribute and no tag of an entity
+-- ---- entities
+
+-- each attribute and each tag of an entity is such a part
+abbrev pub FactsAre : (PartialValue → Type 0) → StoredEntity → Type 0
+FactsAre Such x =
+    (k : Text) (p : PartialValue) → (part_at k x.attributes ≡ Some p → Such p)
+    × (part_at k x.tags ≡ Some p → Such p)
+
+-- so it is of each of these entities
+abbrev pub EachHas : (PartialValue → Type 0) → List Entity → Type 0
+EachHas Such [] = Unit {0}
+EachHas Such (e ∷ es) = FactsAre Such (entity_view e) × EachHas Such es
+
+-- no attribute and no tag of an entity holds an extension value
 abbrev pub FactsHoldNoExtensionValue : StoredEntity → Type 0
-FactsHoldNoExtensionValue x =
-    (k : Text) (p : PartialValue) → (part_at k x.attributes ≡ Some p → PartHoldsNoExtensionValue p)
-    × (part_at k x.tags ≡ Some p → PartHoldsNoExtensionValue p)
+FactsHoldNoExtensionValue x = FactsAre PartHoldsNoExtensionValue x
 
 -- none of these entities
 abbrev pub EachHoldsNoExtensionValue : List Entity → Type 0
-EachHoldsNoExtensionValue [] = Unit {0}
-EachHoldsNoExtensionValue (e ∷ es) = FactsHoldNoExtensionValue (entity_view e) × EachHoldsNoExtensionValue es
+EachHoldsNoExtensionValue es = EachHas PartHoldsNoExtensionValue es
+
+-- the values of the attributes and tags of each of these entities are faithful
+abbrev pub EachIsFaithful : Extensions → Functions → List Entity → Type 0
+EachIsFaithful X ans es = EachHas (IsFaithfulPart X ans) es
+
+-- ---- values
+
+-- each value of a map is such a value
+abbrev pub MapsEachTo : (Represented → Type 0) → List (RcStr Global × Placed) → Type 0
+MapsEachTo P [] = Unit {0}
+MapsEachTo P (e ∷ es) = P e.1.what × MapsEachTo P es
+
+-- where a value is asked for, with these extensions and so many levels the expression answers this one
+abbrev pub IsValueOf : Extensions → StoredCalls → ℕ → Term → Represented → Type 0
+IsValueOf x calls n t v = (s : Setting) → IsBare x s → IsValueWithin s calls n t (answers (value v))

@@ -11,12 +11,12 @@ ghost use Rattle.cedar_laws.specs.Faithful.{MapHoldsNoExtensionValue, AnswerNoEx
 ghost use Rattle.cedar_layers.specs.Stores.{store_view, store_of, stored_entity, last_of_each_name};
 ghost use Rattle.cedar_layers.specs.declared.policies.entities.Entity.{Entity};
 ghost use Rattle.cedar_closure.specs.Ancestry.{AreAlike};
-ghost use Rattle.cedar_extensions.specs.Extensions.{extensions_in, calls_of};
+ghost use Rattle.cedar_extensions.specs.Extensions.{HasNone, calls_of};
 ghost use Rattle.cedar_extensions.specs.Computations.{AreBuiltIn};
 ghost use Rattle.cedar_requests.specs.Contexts.{context_view};
 ghost use Rattle.cedar_requests.specs.Requests.{request_view};
 ghost use Rattle.cedar_requests.specs.Substitutions.{values_for};
-ghost use Rattle.cedar_faithful.specs.Held.{EachHoldsNoExtensionValue};
+ghost use Rattle.cedar_faithful.specs.Held.{EachHoldsNoExtensionValue, EachIsFaithful, MapsEachTo};
 
 use cedar_extensions::Extensions;
 use cedar_layers::policies::Entities;
@@ -41,6 +41,16 @@ pub fn stores_hold_what_entities_hold(entities: &Entities)
         → StoreHoldsNoExtensionValue (store_view entities.now) }
 {}
 
+/// A store of entities whose values are faithful has faithful values: that of `Entities::with`, and one whose entities
+/// are those but for their ancestors, as `closed` promises.
+pub fn stores_keep_faithful_entities(entities: &Entities)
+    ensures whole { (X : world.Extensions) (ans : world.Functions) (es : List Entity) (is_partial : Bool)
+        → EachIsFaithful X ans es → EachStored (IsFaithfulPart X ans) (store_of es is_partial) }
+    ensures alike { (X : world.Extensions) (ans : world.Functions) (es : List Entity) → EachIsFaithful X ans es
+        → ((n : EntityName) → AreAlike (last_of_each_name es n) (stored_entity entities.now n))
+        → EachStored (IsFaithfulPart X ans) (store_view entities.now) }
+{}
+
 /// The values of a context that holds no extension value are faithful.
 pub fn contexts_are_faithful(context: &Context)
     ensures { ContextHoldsNoExtensionValue (context_view context.now) → (X : world.Extensions)
@@ -62,12 +72,18 @@ pub fn mapped_values_are_faithful(map: &HashMap<RcStr, Value>)
         (v : Represented) → values_for map.now.entries n ≡ Some v → IsKnown ans (expression_of v) }
 {}
 
+/// A map of faithful values has faithful values for unknowns.
+pub fn maps_keep_faithful_values(map: &HashMap<RcStr, Value>)
+    ensures { (X : world.Extensions) (ans : world.Functions) → MapsEachTo (IsFaithful X ans) map.now.entries
+        → (n : Text) (v : Represented) → values_for map.now.entries n ≡ Some v → IsFaithful X ans v }
+{}
+
 /// Functions that answer no extension value answer faithfully. Where there is no function none answers, and where each
 /// is the built-in `unknown` none answers a value.
 pub fn functions_are_faithful(extensions: &Extensions<'_>)
     ensures faithful { AnswerNoExtensionValue (calls_of extensions.now) → (X : world.Extensions)
         (ans : world.Functions) → AnswerFaithfully X ans (calls_of extensions.now) }
-    ensures none { extensions_in extensions.now ≡ [] → NoneAnswers (calls_of extensions.now) }
-    ensures holds_none { extensions_in extensions.now ≡ [] → AnswerNoExtensionValue (calls_of extensions.now) }
+    ensures none { HasNone extensions.now → NoneAnswers (calls_of extensions.now) }
+    ensures holds_none { HasNone extensions.now → AnswerNoExtensionValue (calls_of extensions.now) }
     ensures built_in { AreBuiltIn extensions.now → AnswerNoExtensionValue (calls_of extensions.now) }
 {}

@@ -1,14 +1,18 @@
 //! What is read from JSON and evaluated, where functions answer no extension value. Each function is a law, and does
 //! nothing.
 ghost use Rattle.std.specs.Prelude.{◌≡◌, ℕ, true, List, Ok};
+ghost use Rattle.std.specs.declared.alloc.Global.{Global};
+ghost use Rattle.std.specs.declared.rc.RcStr.{RcStr};
 ghost use Rattle.cedar_model.specs.Terms.{Text, Term};
 ghost use Rattle.cedar_model.specs.Shapes.{is_restricted};
 ghost use Rattle.cedar_laws.specs.Faithful.{ContextHoldsNoExtensionValue, AnswerNoExtensionValue};
 ghost use Rattle.cedar_layers.specs.declared.policies.entities.Entity.{Entity};
 ghost use Rattle.cedar_extensions.specs.Extensions.{extensions_view, calls_of};
+ghost use Rattle.cedar_restricted_expressions.specs.Views.{pairs_in};
+ghost use Rattle.cedar_restricted_expressions.specs.declared.restricted_expr.RestrictedExpr.{RestrictedExpr};
 ghost use Rattle.cedar_requests.specs.Contexts.{context_view};
 ghost use Rattle.cedar_requests.specs.Requests.{request_view};
-ghost use Rattle.cedar_requests.specs.Creations.{IsCreated};
+ghost use Rattle.cedar_requests.specs.Creations.{IsCreated, IsCreatedOfPairs};
 ghost use Rattle.cedar_json.specs.JsonTexts.{SaysSo};
 ghost use Rattle.cedar_json.specs.SaidContexts.{context_said, IsContextOf};
 ghost use Rattle.cedar_json.specs.SaidRequests.{IsRequestOf};
@@ -20,10 +24,15 @@ use cedar_extensions::Extensions;
 use cedar_requests::{Context, Request};
 
 /// The context that a restricted expression is evaluated to, as `Context::from_expr` promises, holds no extension
-/// value.
+/// value, nor does one that is made of pairs, as `from_pairs` promises.
 pub fn made_contexts_hold_none(extensions: &Extensions<'_>, context: &Context)
-    ensures { AnswerNoExtensionValue (calls_of extensions.now) → (limit : ℕ) (t : Term) → is_restricted t ≡ true
+    ensures expr { AnswerNoExtensionValue (calls_of extensions.now) → (limit : ℕ) (t : Term) → is_restricted t ≡ true
         → IsCreated (extensions_view extensions.now) (calls_of extensions.now) limit t (Ok context.now)
+        → ContextHoldsNoExtensionValue (context_view context.now) }
+    ensures pairs { AnswerNoExtensionValue (calls_of extensions.now) → (limit : ℕ)
+        (ps : List (RcStr Global × RestrictedExpr))
+        → IsCreatedOfPairs (extensions_view extensions.now) (calls_of extensions.now) limit (pairs_in ps)
+        (Ok context.now)
         → ContextHoldsNoExtensionValue (context_view context.now) }
 {}
 

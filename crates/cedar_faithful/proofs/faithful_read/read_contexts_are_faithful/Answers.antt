@@ -1,0 +1,15 @@
+use Rattle.json.specs.Json.{document}
+use Rattle.cedar_model.specs.Agreement.{IsFaithfulPart}
+use Rattle.cedar_extensions.specs.Extensions.{extensions_view, calls_of}
+use Rattle.cedar_requests.specs.Contexts.{context_view}
+use Rattle.cedar_faithful.proofs.Faithful.{context_faithful, each_answer_faithful}
+use Rattle.cedar_faithful.proofs.FromJson.{of_some, context_read}
+use Rattle.cedar_faithful.proofs.faithful_read.read_contexts_are_faithful.Goals as goal
+
+pub returns : goal.returns
+returns g c = λ ans faithful text limit h.
+    let x = extensions_view c.args.extensions.now in
+    let calls = calls_of c.args.extensions.now in
+    of_some (document text) _ _ h (λ j k. context_faithful x ans (context_view c.args.context.now)
+    (context_read (IsFaithfulPart x ans) x calls limit (each_answer_faithful x ans calls faithful limit) j
+    c.args.context.now k.1))
