@@ -12,6 +12,7 @@
 #![tactic(auto)]
 
 mod annotations;
+pub mod laws;
 pub mod policies;
 mod reading;
 

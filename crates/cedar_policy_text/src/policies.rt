@@ -234,9 +234,11 @@ impl Reading {
 
     // That was all: the token of this number is the last.
     fn ended(self, tokens: &[Token], index: usize) -> Result<Reading, AllocError>
-        ensures ok { (k : Knowledge) (text : List ℕ) (limit number : ℕ) → IfOk result (λ r. IsTokens 0 text tokens.now →
+        ensures ok { (k : Knowledge) (text : List ℕ) (limit number : ℕ) →
+            IfOk result (λ r. IsTokens 0 text tokens.now →
             IsSoFar k text tokens.now limit index number self → IsRead k text limit r) }
-        ensures told { (k : Knowledge) (text : List ℕ) (limit : ℕ) → IfOk result (λ r. All (Stands text) tokens.now →
+        ensures told { (k : Knowledge) (text : List ℕ) (limit : ℕ) →
+            IfOk result (λ r. All (Stands text) tokens.now →
             AreTold k text limit self.errors.items → AreTold k text limit r.errors.items) }
     {
         match ends_at(tokens, index) {

@@ -58,7 +58,7 @@ use Rattle.cedar_text.specs.declared.words.MethodKind.TheVariants as methods
 
 -- ---- an expression's view is that of its node
 
-abbrev node_view : Node → Term
+abbrev pub node_view : Node → Term
 node_view (node.Lit l) = model.literal (literal_view l)
 node_view (node.Var v) = model.variable (variable_view v)
 node_view (node.Slot s) = model.slot (slot_view s)
@@ -110,7 +110,7 @@ level_view (ExprKind-F.Set es) = as_node (rolls.rolls-Set es) (nodes.kind_node-S
 level_view (ExprKind-F.Record m) =
     as_node (rolls.rolls-Record m) (nodes.kind_node-Record m) (views.kind_view-Record m)
 
-view_by_node : (x : Expr) → view x ≡ node_view (node_of x)
+pub view_by_node : (x : Expr) → view x ≡ node_view (node_of x)
 view_by_node x = views.view_by_kind x ∙ subst (λ k. kind_view k ≡ node_view (kind_node k))
     (roll-out-ExprKind (expr_kind_of x)) (level_view (out-ExprKind (expr_kind_of x)))
 

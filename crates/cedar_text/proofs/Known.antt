@@ -7,10 +7,9 @@ use Rattle.cedar_tokens.specs.Tokens.{IsTokens}
 use Rattle.cedar_tokens.specs.Values.{Stands}
 use Rattle.cedar_tokens.specs.declared.tokens.Token.{Token}
 use Rattle.cedar_tokens.specs.Sequence.{start_at, end_at}
-use Rattle.cedar_expressions.specs.declared.expr.Expr.{Expr}
 use Rattle.cedar_names.specs.declared.names.CallStyle.TheVariants.{FunctionStyle, MethodStyle}
 use Rattle.cedar_functions.specs.Functions.{Knowledge}
-use Rattle.cedar_syntax.specs.Places.{IsInOrder, IsInside}
+use Rattle.cedar_syntax.specs.Places.{IsInOrder}
 use Rattle.cedar_syntax.specs.Reading.{HasRead, has_read}
 use Rattle.cedar_syntax.specs.Trees.{Tree, count, gathered, left_below, made, parts_of, FindParts, trees_from, trees}
 use Rattle.cedar_syntax.specs.declared.steps.Bracketed.{Bracketed}
@@ -19,7 +18,7 @@ use Rattle.cedar_syntax.specs.declared.steps.Step.{Step}
 use Rattle.cedar_syntax.specs.declared.steps.What.{What}
 use Rattle.cedar_syntax.specs.declared.steps.What.TheVariants as what
 use Rattle.cedar_syntax.proofs.Ordered.{in_order}
-use Rattle.cedar_text.specs.Calls.{Callee, callee_at, method_callee, callee_of, IsKnownStep, AreKnownSteps, CallsAreKnown}
+use Rattle.cedar_text.specs.Calls.{Callee, callee_at, method_callee, callee_of, IsKnownStep, AreKnownSteps}
 use Rattle.cedar_text.specs.Calls.{AllCallsAreKnown, EachCallsKnown, IsKnownCall, IsWhyUnknown, unknown_name}
 use Rattle.cedar_text.specs.Calls.{other_style, other_number, AreNamed, IsCallRefused, by_name, by_callee}
 use Rattle.cedar_text.specs.Calls.{AreCallsRefused, IsCalleeRefused, for_want, for_why}

@@ -4,3 +4,4 @@ pub mod Heights
 pub mod Kept
 pub mod Known
 pub mod Places
+pub mod TermCalls

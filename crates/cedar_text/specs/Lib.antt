@@ -6,4 +6,5 @@ pub mod Messages
 pub mod Paths
 pub mod Reading
 pub mod Refusals
+pub mod TermCalls
 pub mod Wording

@@ -7,7 +7,8 @@ ghost use Rattle.cedar_functions.specs.Functions.{Knowledge, knowledge, known_of
 ghost use Rattle.cedar_functions.specs.declared.functions.Known.TheVariants as known;
 ghost use Rattle.cedar_syntax.specs.declared.steps.What.TheVariants as what;
 ghost use Rattle.cedar_syntax.specs.declared.steps.Bracketed.TheVariants as bracketed;
-ghost use Rattle.cedar_text.specs.Calls.{callee_named, callee_at, IsKnownCallee, IsKnownCall, IsKnownStep, AreKnownSteps};
+ghost use Rattle.cedar_text.specs.Calls.{callee_named, callee_at, IsKnownCallee, IsKnownCall, IsKnownStep};
+ghost use Rattle.cedar_text.specs.Calls.{AreKnownSteps};
 ghost use Rattle.cedar_text.specs.Calls.{IsCalleeRefused, IsCallRefused, AreCallsRefused};
 ghost use Rattle.cedar_text.specs.Reading.{IsPlaceWithin};
 
@@ -210,7 +211,8 @@ impl Call {
     fn known_in(self, alloc: Global, functions: &Functions, name: &str) -> Result<(), ParseError>
         ensures ok { IfOk result
             (λ _. IsKnownCallee (knowledge functions.now) (Some (callee_named self name.now)) self.arguments) }
-        ensures err { IfErr result (IsCalleeRefused (knowledge functions.now) (callee_named self name.now) self.arguments) }
+        ensures err { IfErr result
+            (IsCalleeRefused (knowledge functions.now) (callee_named self name.now) self.arguments) }
     {
         match functions.look_up(name) {
             Known::Any => Ok(()),
@@ -231,7 +233,8 @@ impl Call {
     fn unknown(self, alloc: Global, functions: &Functions, name: &str) -> Result<(), ParseError>
         requires { known_of (knowledge functions.now) name.now ≡ known.Nothing }
         ensures never { IfOk result (λ _. ⊥) }
-        ensures err { IfErr result (IsCalleeRefused (knowledge functions.now) (callee_named self name.now) self.arguments) }
+        ensures err { IfErr result
+            (IsCalleeRefused (knowledge functions.now) (callee_named self name.now) self.arguments) }
     {
         let nearest = functions.nearest(alloc, self.style, name)?;
         let name = RcStr::from_str(alloc, name)?;
@@ -268,7 +271,8 @@ impl Call {
     fn with_other_number(self, alloc: Global, name: &str, expected: usize) -> Result<(), ParseError>
         ensures never { IfOk result (λ _. ⊥) }
         ensures err { (k : Knowledge) → known_of k name.now ≡ known.Function self.style expected →
-            expected ≢ self.arguments → IfErr result (IsCalleeRefused k (callee_named self name.now) self.arguments) }
+            expected ≢ self.arguments →
+            IfErr result (IsCalleeRefused k (callee_named self name.now) self.arguments) }
     {
         let name = RcStr::from_str(alloc, name)?;
         Err(ParseError::WrongNumberOfArguments {

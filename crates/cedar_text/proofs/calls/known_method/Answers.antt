@@ -1,4 +1,4 @@
-use Rattle.std.proofs.Common.{◌≡◌, ◌∙◌, ◌+◌, arith, sym}
+use Rattle.std.proofs.Common.{◌∙◌, ◌+◌, arith, sym}
 use Rattle.cedar_functions.specs.Functions.{knowledge}
 use Rattle.cedar_names.specs.declared.names.CallStyle.TheVariants.{MethodStyle}
 use Rattle.cedar_syntax.specs.declared.steps.Bracketed.TheVariants as brackets
