@@ -45,6 +45,7 @@ impl From<ExtensionInitializationError> for Stop {
         match error {
             ExtensionInitializationError::FuncMultiplyDefined(_) => Stop::Functions,
             ExtensionInitializationError::MultipleConstructorsSameSignature(_) => Stop::Functions,
+            ExtensionInitializationError::StandardTypeOverloaded(_) => Stop::Functions,
             ExtensionInitializationError::Memory(_) => Stop::Memory,
         }
     }

@@ -32,7 +32,7 @@ pub enum RefusalReason {
     },
     /// The name of a type or of a function is no words with `::` between them, or one of the words is reserved.
     NotAName,
-    /// A call is no object of a text at `fn`, and a value at `arg` or an array at `args`.
+    /// A call is no object of a text at `fn` and of one other member, at `arg` or at `args`.
     NotACall,
     /// The argument of `unknown` is not one text.
     NotAnUnknown,

@@ -2,8 +2,8 @@
 //!
 //! - A value: `true`, `false`, an integer of 64 bits, a string; an array is a set, an object a record;
 //!   `{"__entity": {"type": "A::B", "id": "x"}}` is an entity, and `{"__extn": {"fn": "ip", "arg": "10.0.0.1"}}` a call
-//!   of an extension function, with `"args": [..]` for more or fewer arguments than one; and
-//!   `{"__extn": {"fn": "unknown", "arg": "x"}}` is the unknown of that name.
+//!   of an extension function on one argument; with `"args": [..]` in the place of `"arg"` it is a call on as many as
+//!   the array has. `{"__extn": {"fn": "unknown", "arg": "x"}}` is the unknown of that name.
 //! - A context: an object of values.
 //! - Entities: an array of objects, each with a `uid`, `attrs`, `parents` and, where there are any, `tags`. A uid is
 //!   `{"type": .., "id": ..}`, or that at `__entity`.

@@ -21,6 +21,7 @@ pub use Rattle.cedar_authorizer.specs.Running
 pub use Rattle.cedar_authorizer.specs.Stability
 pub use Rattle.cedar_authorizer.specs.Steps
 pub use Rattle.cedar_authorizer.specs.Headline
+pub use Rattle.cedar_faithful.specs.Owed
 pub use Rattle.cedar_unknowns.specs.Finishing
 pub use Rattle.cedar_heights.specs.Capped
 pub use Rattle.cedar_heights.specs.Heights

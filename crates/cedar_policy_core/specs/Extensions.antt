@@ -8,3 +8,5 @@ pub use Rattle.cedar_extensions.specs.Extensions
 pub use Rattle.cedar_extensions.specs.Iterators
 pub use Rattle.cedar_extensions.specs.Refused
 pub use Rattle.cedar_extensions.specs.Computations
+pub use Rattle.cedar_extensions.specs.Standard
+pub use Rattle.cedar_standard_functions.specs.Standard as StandardFunctions

@@ -15,5 +15,7 @@ pub use Rattle.cedar_text.specs.Heights
 pub use Rattle.cedar_text.specs.Messages
 pub use Rattle.cedar_text.specs.Paths
 pub use Rattle.cedar_text.specs.Reading
+pub use Rattle.cedar_text.specs.TermCalls
 pub use Rattle.cedar_policy_text.specs.Reading as PolicyReading
 pub use Rattle.cedar_policy_text.specs.Heights as PolicyHeights
+pub use Rattle.cedar_policy_text.specs.TermCalls as PolicyTermCalls

@@ -26,8 +26,12 @@ pub use cedar_unknowns::Unknowns;
 /// What holds of names, leaves, expressions, values, contexts, stores, maps of values, listed unknowns, and policies by
 /// their scopes. Each function is a law, and does nothing.
 pub mod laws {
+    pub use cedar_faithful::faithful_read::{
+        evaluated_values_are_faithful, made_contexts_are_faithful,
+    };
     pub use cedar_faithful::given::{
-        contexts_are_faithful, mapped_values_are_faithful, requests_are_faithful,
+        contexts_are_faithful, mapped_values_are_faithful, maps_keep_faithful_values,
+        requests_are_faithful,
     };
     pub use cedar_faithful::read::made_contexts_hold_none;
     pub use cedar_laws::faithful::{

@@ -6,7 +6,12 @@ pub use cedar_layers::policies::{Dereference, Entities};
 /// nothing.
 pub mod laws {
     pub use cedar_closure::laws::ancestors_stay;
-    pub use cedar_faithful::given::{stores_are_faithful, stores_hold_what_entities_hold};
+    pub use cedar_faithful::faithful_read::{
+        read_contexts_are_faithful, read_entities_are_faithful, read_requests_are_faithful,
+    };
+    pub use cedar_faithful::given::{
+        stores_are_faithful, stores_hold_what_entities_hold, stores_keep_faithful_entities,
+    };
     pub use cedar_faithful::read::{
         read_contexts_hold_none, read_entities_hold_none, read_requests_hold_none,
     };

@@ -12,7 +12,8 @@ pub mod err {
     pub use cedar_tokens::tokens::Kind;
 }
 
-/// How high what is read is. The function is a law, and does nothing.
+/// How high what is read is, and which functions it calls. The functions are laws, and do nothing.
 pub mod laws {
-    pub use cedar_text::laws::trees_bound_heights;
+    pub use cedar_policy_text::laws::known_calls_of_policies;
+    pub use cedar_text::laws::{known_calls_stay_known, trees_bound_heights};
 }

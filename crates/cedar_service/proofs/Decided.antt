@@ -31,7 +31,7 @@ use Rattle.cedar_policy_core.specs.Authorizer.Decisions.{decision_view}
 use Rattle.cedar_policy_core.specs.Ast.Sound.{Placed}
 use Rattle.cedar_policy_core.specs.Ast.Policies.{PolicyView, condition_term, decides_as}
 use Rattle.cedar_policy_core.specs.Entities.Stores.{no_entities}
-use Rattle.cedar_policy_core.specs.Extensions.Computations.{no_answers}
+use Rattle.cedar_policy_core.specs.Extensions.StandardFunctions.{standard_answers}
 use Rattle.cedar_policy_core.specs.Ast.Substitutions.{values_for}
 use Rattle.cedar_policy_core.specs.Types.PartialResponse.{PartialResponse}
 use Rattle.cedar_policy_core.specs.Authorizer.Rows.{rows_view}
@@ -61,17 +61,17 @@ user_asks user action resource = record {
 }
 
 completes_map : (X : Extensions) (user action resource : EntityName)
-    → CompletesMap X no_answers (user_asks user action resource) (values_of user)
+    → CompletesMap X standard_answers (user_asks user action resource) (values_of user)
 completes_map X user action resource = record {
   map_agrees = λ n v e. ap abstract_value (is n v e);
-  mapped_values_are_faithful = λ n v e. subst (IsFaithful X no_answers) (is n v e) tt;
+  mapped_values_are_faithful = λ n v e. subst (IsFaithful X standard_answers) (is n v e) tt;
 }
   where
     is : (n : Text) (v : Represented) → values_of user n ≡ Some v → plain_represented (entity_literal user) ≡ v
     is n v e = (cond_some (text_eq n (codes "principal")) (plain_represented (entity_literal user)) v e).1
 
 completes_store : (X : Extensions) (user action resource : EntityName)
-    → CompletesStore X no_answers (user_asks user action resource) no_store
+    → CompletesStore X standard_answers (user_asks user action resource) no_store
 unfolding found_in
 completes_store X user action resource = record {
   store_agrees = λ e. refl;
@@ -80,10 +80,10 @@ completes_store X user action resource = record {
 }
 
 -- the premises of the headline are met
-premises : (mode : ErrorHandling) (q : Resolution) (X : Extensions) (calls : StoredCalls) → AgreesWithFunctions no_answers calls
-    → AnswerFaithfully X no_answers calls → (levels : ℕ) (owner user action resource : EntityName)
+premises : (mode : ErrorHandling) (q : Resolution) (X : Extensions) (calls : StoredCalls) → AgreesWithFunctions standard_answers calls
+    → AnswerFaithfully X standard_answers calls → (levels : ℕ) (owner user action resource : EntityName)
     → Premises (configured calls mode q X levels) (from_someone action resource) no_store
-    (decides_as (owner_may owner) ∷ []) (a_step q (values_of user) no_store ∷ []) no_answers
+    (decides_as (owner_may owner) ∷ []) (a_step q (values_of user) no_store ∷ []) standard_answers
     (user_asks user action resource) []
 premises mode q X calls agree faithful levels owner user action resource = record {
   request_agrees = record {
@@ -118,7 +118,7 @@ abbrev is_owner : EntityName → EntityName → Bool
 is_owner user owner = value_eq (plain (entity_literal user)) (plain (entity_literal owner))
 
 condition_means : (X : Extensions) (owner user action resource : EntityName)
-    → meaning X no_answers (user_asks user action resource) no_slots (condition_term (owner_may owner))
+    → meaning X standard_answers (user_asks user action resource) no_slots (condition_term (owner_may owner))
     ≡ gives_bool (is_owner user owner)
 unfolding Meaning.meaning Meaning.binary_meaning World.variable_value Outcomes.and_then Outcomes.needing
     Outcomes.bool_of
@@ -137,7 +137,7 @@ permitted forbid_on_error true = refl
 permitted forbid_on_error false = refl
 
 policy_decides : (mode : ErrorHandling) (X : Extensions) (owner user action resource : EntityName)
-    → decision (counted_each mode X no_answers (user_asks user action resource) (decides_as (owner_may owner) ∷ []))
+    → decision (counted_each mode X standard_answers (user_asks user action resource) (decides_as (owner_may owner) ∷ []))
     ≡ cond (is_owner user owner) allow deny
 policy_decides mode X owner user action resource =
     ap (λ o. decision (map (counted mode) (judged_by o))) (condition_means X owner user action resource)
@@ -172,8 +172,8 @@ decided_in c s ps steps r (Some d) h none given =
     (decision_view d) given
 
 -- of the owner's policy and the values of a user it allows exactly the owner
-module _ (mode : ErrorHandling) (q : Resolution) (X : Extensions) (calls : StoredCalls) (agree : AgreesWithFunctions no_answers calls)
-    (faithful : AnswerFaithfully X no_answers calls) (levels : ℕ) (d : model.Decision) where
+module _ (mode : ErrorHandling) (q : Resolution) (X : Extensions) (calls : StoredCalls) (agree : AgreesWithFunctions standard_answers calls)
+    (faithful : AnswerFaithfully X standard_answers calls) (levels : ℕ) (d : model.Decision) where
   abbrev c : Configuration
   c = configured calls mode q X levels
 
@@ -191,7 +191,7 @@ module _ (mode : ErrorHandling) (q : Resolution) (X : Extensions) (calls : Store
       let h4 = subst (λ x. IsDecided (from_someone action resource) no_store (owner_may owner ∷ []) x) ev h3 in
       allows_owner owner user d
       (sym (policy_decides mode X owner user action resource)
-      ∙ h4 no_answers (user_asks user action resource)
+      ∙ h4 standard_answers (user_asks user action resource)
       (premises mode q X calls agree faithful levels owner user action resource))
 
 -- what holds of each decision holds of the one that is answered

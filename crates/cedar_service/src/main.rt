@@ -62,7 +62,7 @@ pub fn run<W: Write>(alloc: Global, out: &mut W) -> u8 {
     }
 }
 
-// The function that policies call is stored here, and lent from here on.
+// The function of ours that policies call is stored here, and lent from here on; beside it stand the standard functions.
 fn print_all<W: Write>(alloc: Global, out: &mut W) -> Result<(), Stop> {
     let func: ExtensionFunctionObject = Box::new(
         alloc,
@@ -80,7 +80,7 @@ fn print_all<W: Write>(alloc: Global, out: &mut W) -> Result<(), Stop> {
     );
     let functions = vec![in alloc; is_open]?;
     let hours = vec![in alloc; Extension::new(name(alloc, "hours")?, functions, Vec::new(alloc))]?;
-    let extensions = Extensions::specific_extensions(alloc, hours.as_slice())?;
+    let extensions = Extensions::with_standard(alloc, hours.as_slice())?;
     print_with(alloc, &extensions, out)
 }
 

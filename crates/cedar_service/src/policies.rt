@@ -6,13 +6,14 @@ use cedar_policy_core::builder::{
 };
 use std::alloc::{AllocError, Global};
 
-/// The four policies.
+/// The five policies.
 pub fn policies(alloc: Global) -> Result<PolicySet, Stop> {
     let mut policies: Vec<Policy> = Vec::new(alloc);
     policies.push(editors(alloc)?)?;
     policies.push(owner(alloc)?)?;
     policies.push(sealed(alloc)?)?;
     policies.push(public(alloc)?)?;
+    policies.push(office(alloc)?)?;
     Ok(PolicySet::try_from_iter(alloc, policies)?)
 }
 
@@ -45,5 +46,17 @@ fn public(alloc: Global) -> Result<Policy, AllocError> {
     let is_open = call(alloc, "isOpen", [context(alloc).attr("hour")]);
     permit(alloc, "public")
         .when(resource(alloc).attr("public").and(is_open))
+        .policy()
+}
+
+// permit(principal, action == Action::"view", resource)
+// when { ip(context.address).isInRange(ip("10.0.0.0/8")) };
+// It errs where the address is none.
+fn office(alloc: Global) -> Result<Policy, AllocError> {
+    let address = call(alloc, "ip", [context(alloc).attr("address")]);
+    let network = call(alloc, "ip", [text(alloc, "10.0.0.0/8")]);
+    permit(alloc, "office")
+        .action_eq(entity(alloc, "Action", "view"))
+        .when(call(alloc, "isInRange", [address, network]))
         .policy()
 }

@@ -163,12 +163,12 @@ fn print_partial_response<W: Write>(
     print_errors(&response.errors, out)
 }
 
-// `USER ACTION DOCUMENT at HOUR: `
+// `USER ACTION DOCUMENT at HOUR from ADDRESS: `
 fn print_asked<W: Write>(user: &str, asked: &Asked, out: &mut W) -> Result<(), Stop> {
     write!(
         out,
-        "{user} {} {} at {}: ",
-        asked.action, asked.document, asked.hour
+        "{user} {} {} at {} from {}: ",
+        asked.action, asked.document, asked.hour, asked.address
     )?;
     Ok(())
 }

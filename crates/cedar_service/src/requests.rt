@@ -1,11 +1,11 @@
 //! The requests.
-use crate::names::{both, name, put, uid};
+use crate::names::{both, name, put, text_value, uid};
 use cedar_policy_core::ast::{Context, EntityType, EntityUIDEntry, Request, Value};
 use std::alloc::{AllocError, Global};
 use std::collections::BTreeMap;
 use std::rc::RcStr;
 
-/// Who asks to do what with which document, at which hour of the day.
+/// Who asks to do what with which document, at which hour of the day, and from where.
 pub struct Asked {
     /// The user's id, if it is known.
     pub user: Option<&'static str>,
@@ -15,57 +15,81 @@ pub struct Asked {
     pub document: &'static str,
     /// The hour of the day.
     pub hour: i64,
+    /// The IP address that the request came from, as it was received.
+    pub address: &'static str,
 }
 
 /// What is asked, in order.
-pub static ASKED: [Asked; 8] = [
+pub static ASKED: [Asked; 10] = [
     Asked {
         user: Some("alice"),
         action: "edit",
         document: "plan",
         hour: 9,
+        address: "203.0.113.7",
     },
     Asked {
         user: Some("bob"),
         action: "view",
         document: "handbook",
         hour: 9,
+        address: "203.0.113.7",
     },
     Asked {
         user: Some("bob"),
         action: "view",
         document: "handbook",
         hour: 20,
+        address: "203.0.113.7",
     },
     Asked {
         user: Some("alice"),
         action: "view",
         document: "handbook",
         hour: 9,
+        address: "203.0.113.7",
     },
     Asked {
         user: Some("bob"),
         action: "edit",
         document: "deed",
         hour: 9,
+        address: "203.0.113.7",
     },
     Asked {
         user: Some("carol"),
         action: "view",
         document: "plan",
         hour: 9,
+        address: "203.0.113.7",
+    },
+    Asked {
+        user: Some("carol"),
+        action: "view",
+        document: "plan",
+        hour: 9,
+        address: "10.20.0.1",
+    },
+    Asked {
+        user: Some("carol"),
+        action: "view",
+        document: "plan",
+        hour: 9,
+        address: "10.20",
     },
     Asked {
         user: None,
         action: "edit",
         document: "plan",
         hour: 9,
+        address: "203.0.113.7",
     },
     Asked {
         user: None,
         action: "view",
         document: "handbook",
         hour: 9,
+        address: "203.0.113.7",
     },
 ];
 
@@ -104,7 +128,7 @@ impl Asked {
             both(self.principal(alloc), uid(alloc, "Action", self.action)),
             both(
                 uid(alloc, "Document", self.document),
-                context(alloc, self.hour),
+                context(alloc, self.hour, self.address),
             ),
         )?;
         Ok(Request::new_with_unknowns(
@@ -127,9 +151,10 @@ impl Asked {
     }
 }
 
-// {"hour": hour}
-fn context(alloc: Global, hour: i64) -> Result<Context, AllocError> {
+// {"hour": hour, "address": address}
+fn context(alloc: Global, hour: i64, address: &str) -> Result<Context, AllocError> {
     let mut pairs: BTreeMap<RcStr, Value> = BTreeMap::new(alloc);
     put(alloc, &mut pairs, "hour", Ok(Value::from(hour)))?;
+    put(alloc, &mut pairs, "address", text_value(alloc, address))?;
     Ok(Context::from_values(alloc, pairs))
 }

@@ -29,7 +29,6 @@ use cedar_policy_core::ast::{
 use cedar_policy_core::authorizer::{Authorizer, Decision, PartialResponse};
 use cedar_policy_core::entities::Entities;
 use cedar_policy_core::extensions::Extensions;
-use cedar_policy_core::extensions::laws::no_functions_agree;
 use std::alloc::{AllocError, Global};
 use std::collections::HashMap;
 use std::rc::{Rc, RcStr};
@@ -140,8 +139,8 @@ fn one_value(alloc: Global, name: RcStr, value: Value) -> Result<HashMap<RcStr, 
     Ok(values)
 }
 
-// What these policies decide, after the step by these values, for the request of someone, with no entities and no
-// functions.
+// What these policies decide, after the step by these values, for the request of someone, with no entities and the
+// standard functions.
 fn decided_with(
     alloc: Global,
     policies: &PolicySet,
@@ -153,8 +152,7 @@ fn decided_with(
         IsDecidedFor (policies_view policies.now) (values_for values.now.entries) (decision_view d))) }
 {
     let request = from_someone(alloc, action, resource)?;
-    let extensions = Extensions::none();
-    no_functions_agree(&extensions);
+    let extensions = Extensions::all_available();
     let authorizer = Authorizer::new(&extensions, LIMIT);
     let none = Entities::new(alloc);
     let decision = decided_after(

@@ -281,6 +281,9 @@ fn tally_in(
         Err(ExtensionInitializationError::MultipleConstructorsSameSignature(_)) => {
             Err(Unanswered::Unreadable("two functions make one type of one"))
         }
+        Err(ExtensionInitializationError::StandardTypeOverloaded(_)) => {
+            Err(Unanswered::Unreadable("a standard type is overloaded"))
+        }
         Err(ExtensionInitializationError::Memory(_)) => Err(Unanswered::Memory),
     }
 }

@@ -2,6 +2,7 @@
 //! fault and why it is, as `$[3].attrs.age: null is no value`.
 //!
 //! - `value`: the expression that the text says, as it prints, a text by itself with the escapes of the language;
+//! - `written`: the same expression in JSON, on one line;
 //! - `context` and `request`: the context and the request that it says, evaluated, as they print;
 //! - `entities`: the entities as it says them: `UID {"KEY": EXPRESSION, ..} in [UID, ..]`, and ` tags {..}` where there
 //!   are any;
@@ -15,10 +16,12 @@ use cedar_json::{
     JsonError, StatedEntity, context_from_json_str, entities_from_json_str, request_from_json_str,
     restricted_expr_from_json_str, stated_entities_from_json_str,
 };
+use cedar_json_writing::expr_to_json;
 use cedar_layers::policies::Entity;
 use cedar_names::EntityUID;
 use cedar_restricted_expressions::RestrictedExpr;
 use cedar_values::PartialValue;
+use std::alloc::{AllocError, Global};
 use std::collections::BTreeSet;
 use std::fmt;
 use std::rc::RcStr;
@@ -30,6 +33,7 @@ const LEVELS: usize = 1000;
 pub fn ask_json(answer: &mut Answer, question: &str, text: &str) {
     match question {
         "value" => ask_value(answer, text),
+        "written" => ask_written(answer, text),
         "context" => ask_context(answer, text),
         "request" => ask_request(answer, text),
         "entities" => ask_entities(answer, text),
@@ -55,6 +59,30 @@ fn put_value(answer: &mut Answer, expr: &RestrictedExpr) {
         Some(text) => answer.put_quoted(text.as_str()),
         None => answer.show(expr),
     }
+}
+
+fn ask_written(answer: &mut Answer, text: &str) {
+    match restricted_expr_from_json_str(answer.alloc, text) {
+        Ok(expr) => {
+            put_json(answer, &expr);
+            drop(expr);
+        }
+        Err(error) => put_refusal(answer, error),
+    }
+}
+
+fn put_json(answer: &mut Answer, expr: &RestrictedExpr) {
+    match json_text(answer.alloc, expr) {
+        Ok(text) => answer.put(text.as_str()),
+        Err(_) => answer.lack_memory(),
+    }
+}
+
+fn json_text(alloc: Global, expr: &RestrictedExpr) -> Result<String, AllocError> {
+    let document = expr_to_json(alloc, expr.as_ref())?;
+    let text = document.to_text(alloc);
+    drop(document);
+    text
 }
 
 fn ask_context(answer: &mut Answer, text: &str) {

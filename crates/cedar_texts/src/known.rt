@@ -1,7 +1,7 @@
 //! What is read where only the function `unknown` is known.
 use crate::answer::Answer;
 use crate::questions::{MANY, Shown, ask_expression, ask_policies, ask_policy};
-use cedar_extensions::{Extension, ExtensionFunction};
+use cedar_extensions::{Extension, ExtensionFunction, Extensions};
 use cedar_functions::Functions;
 use cedar_names::Name;
 use std::alloc::{AllocError, Global};
@@ -28,5 +28,8 @@ fn known(alloc: Global) -> Result<Functions, AllocError> {
     let functions = vec![in alloc; ExtensionFunction::unknown(alloc)?]?;
     let name = Name::new(RcStr::from_str(alloc, "unknowns")?, None);
     let extensions = vec![in alloc; Extension::new(name, functions, Vec::new(alloc))]?;
-    Functions::of_extensions(alloc, &extensions)
+    match Extensions::specific_extensions(alloc, &extensions) {
+        Ok(extensions) => Functions::of(alloc, &extensions),
+        Err(_) => Err(AllocError),
+    }
 }

@@ -265,7 +265,7 @@ fn ask_pairs(answer: &mut Answer, keys: &str) {
 // ---- types, shapes, readers
 
 fn put_type(answer: &mut Answer, extensions: &Extensions<'_>, expr: &RestrictedExpr) {
-    match expr.as_borrowed().try_type_of(extensions) {
+    match expr.as_borrowed().try_type_of(answer.alloc, extensions) {
         Ok(Some(ty)) => answer.show(&ty),
         Ok(None) => answer.put("none"),
         Err(_) => answer.lack_memory(),

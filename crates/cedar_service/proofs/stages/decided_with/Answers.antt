@@ -1,6 +1,7 @@
 use Rattle.std.proofs.Common.{sym, subst, [], ◌∷◌}
 use Rattle.cedar_policy_core.specs.Ast.Names.{uid_name}
-use Rattle.cedar_policy_core.specs.Extensions.Computations.{no_answers, AgreesWith, AreFaithfulBy}
+use Rattle.cedar_policy_core.specs.Extensions.Computations.{AgreesWith, AreFaithfulBy}
+use Rattle.cedar_policy_core.specs.Extensions.StandardFunctions.{standard_answers}
 use Rattle.cedar_policy_core.specs.Extensions.Extensions.{extensions_view, calls_of}
 use Rattle.cedar_policy_core.specs.Ast.PolicySets.{policies_view}
 use Rattle.cedar_policy_core.specs.Entities.Stores.{store_view}
@@ -16,12 +17,11 @@ pub returns : goal.returns
 returns c =
     let authorizer = c.new-authorizer.result in
     let extensions = extensions_of authorizer in
-    let none = c.none-extensions.ensures.extensions in
     let own = sym c.new-authorizer.ensures.extensions in
-    let agree : AgreesWith extensions no_answers =
-    subst (λ x. AgreesWith x no_answers) own (c.no_functions_agree.ensures.agree none) in
-    let faithful : AreFaithfulBy extensions no_answers =
-    subst (λ x. AreFaithfulBy x no_answers) own (c.no_functions_agree.ensures.faithful none) in
+    let agree : AgreesWith extensions standard_answers =
+    subst (λ x. AgreesWith x standard_answers) own c.all_available-extensions.ensures.agrees in
+    let faithful : AreFaithfulBy extensions standard_answers =
+    subst (λ x. AreFaithfulBy x standard_answers) own c.all_available-extensions.ensures.faithful in
     let request = request_view c.in_ok-request.request in
     let store = store_view c.new-none.result in
     let policies = policies_view c.args.policies.now in
