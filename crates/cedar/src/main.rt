@@ -36,10 +36,9 @@ fn shown<R: Print + Eprint>(rt: &R, answer: Answer) -> u8 {
     match answer {
         Answer::Printed(printed) => {
             drop(rt.eprint(printed.warnings.as_str()));
-            if rt.print(printed.output.as_str()).is_ok() {
-                printed.status
-            } else {
-                REFUSED
+            match rt.print(printed.output.as_str()) {
+                Ok(()) => printed.status,
+                Err(error) => unwritten(rt, &error),
             }
         }
         Answer::Refused(lines) => {
@@ -51,6 +50,12 @@ fn shown<R: Print + Eprint>(rt: &R, answer: Answer) -> u8 {
             OUT_OF_MEMORY
         }
     }
+}
+
+// The output could not be written.
+fn unwritten<R: Eprint>(rt: &R, error: &io::Error) -> u8 {
+    drop(eprintln!(rt; "the output can't be written: {error}"));
+    REFUSED
 }
 
 // The arguments could not be read.

@@ -9,17 +9,19 @@ ghost use Rattle.cedar_answers.specs.Printing.{status, word, partial_status, par
 use crate::asked::{Asked, Source, Way};
 use crate::documents::response_document;
 use crate::limits::text_limit;
+use crate::places::Places;
 use crate::policies::{push_name, read_over};
 use crate::reading::whole_request;
 use crate::refusal::Refusal;
 use crate::stores::given_store;
 use crate::visible::push_visible;
-use crate::warnings::{push_errors, push_templates};
+use crate::warnings::{Deciding, push_errors, push_templates};
 use cedar_authorizer::authorizer::{Authorizer, Decision, Diagnostics, Response};
 use cedar_evaluator::request::Request;
 use cedar_extensions::Extensions;
 use cedar_json_writing::JsonValue;
 use cedar_layers::policies::{Entities, Policy, PolicySet};
+use cedar_policy_text::ParsedPolicies;
 use std::alloc::{AllocError, Global};
 
 /// What is printed, what is told on standard error beside it, and the exit status.
@@ -134,30 +136,30 @@ pub fn authorized(
     asked: &Asked<'_, '_>,
     way: Way,
 ) -> Result<Printed, Refusal> {
-    let extensions = Extensions::none();
-    let parsed = read_over(alloc, policies, &[])?;
-    let mut warnings = String::new(alloc);
-    let printed = match push_templates(alloc, policies, &parsed.templates, &mut warnings) {
-        Ok(()) => {
-            let setting = Deciding {
-                source: policies,
-                policies: &parsed.policies,
-                way,
-            };
-            authorized_by(alloc, setting, asked, &extensions, warnings)
-        }
-        Err(AllocError) => Err(Refusal::Memory),
-    };
+    let extensions = Extensions::all_available();
+    let parsed = read_over(alloc, policies, &extensions)?;
+    let printed = authorized_of(alloc, policies, &parsed, asked, way, &extensions);
     drop(parsed);
     printed
 }
 
-// The policies that decide, with the text that they stand in, and in which way they do.
-#[derive(Clone, Copy)]
-struct Deciding<'p> {
-    source: Source<'p>,
-    policies: &'p PolicySet,
+fn authorized_of(
+    alloc: Global,
+    source: Source<'_>,
+    parsed: &ParsedPolicies,
+    asked: &Asked<'_, '_>,
     way: Way,
+    extensions: &Extensions<'_>,
+) -> Result<Printed, Refusal> {
+    let places = Places::of(alloc, source)?;
+    let mut warnings = String::new(alloc);
+    push_templates(alloc, &places, &parsed.templates, &mut warnings)?;
+    let deciding = Deciding {
+        places: &places,
+        policies: &parsed.policies,
+        way,
+    };
+    authorized_by(alloc, deciding, asked, extensions, warnings)
 }
 
 fn authorized_by(
@@ -216,27 +218,16 @@ fn print_response(
     response: &Response,
     mut warnings: String,
 ) -> Result<Printed, AllocError> {
-    let Deciding {
-        source,
-        policies,
-        way,
-    } = deciding;
-    if way.is_json {
-        let document = response_document(alloc, source, policies, response)?;
+    if deciding.way.is_json {
+        let document = response_document(alloc, deciding, response)?;
         let printed = print_document(alloc, Some(response.decision), &document, warnings);
         drop(document);
         return printed;
     }
-    push_errors(
-        alloc,
-        source,
-        policies,
-        &response.diagnostics.errors,
-        &mut warnings,
-    )?;
+    push_errors(alloc, deciding, &response.diagnostics.errors, &mut warnings)?;
     let mut lines = String::new(alloc);
-    if way.is_verbose {
-        push_reasons(alloc, policies, &response.diagnostics, &mut lines)?;
+    if deciding.way.is_verbose {
+        push_reasons(alloc, deciding.policies, &response.diagnostics, &mut lines)?;
     }
     let printed = print_decision(alloc, "", Some(response.decision), lines.as_str(), warnings);
     drop(lines);

@@ -1,17 +1,18 @@
 //! What an expression evaluates to.
 use crate::asked::{Asked, Source};
-use crate::decisions::{Printed, line_of};
-use crate::limits::{LEVELS, expression_limit};
-use crate::places::placed;
+use crate::decisions::Printed;
+use crate::limits::{LEVELS, expression_limit, push_limit};
+use crate::places::{Places, placed};
+use crate::readable::readable_line;
 use crate::reading::{request_with_context, whole_request};
 use crate::refusal::{Refusal, told, unparsed};
 use crate::stores::{Store, given_store};
+use crate::visible::visible;
 use cedar_errors::evaluator::err::EvaluationError;
 use cedar_evaluator::evaluator::Evaluator;
 use cedar_evaluator::request::Request;
 use cedar_extensions::Extensions;
 use cedar_functions::Functions;
-use cedar_json_writing::value_to_json;
 use cedar_layers::expressions::{Expr, SlotEnv, Value};
 use cedar_layers::policies::Entities;
 use cedar_text::parse_expr;
@@ -26,8 +27,8 @@ pub fn evaluated(
     limit: Option<usize>,
     is_json: bool,
 ) -> Result<Printed, Refusal> {
-    let extensions = Extensions::none();
-    let expr = expression(alloc, source)?;
+    let extensions = Extensions::all_available();
+    let expr = expression(alloc, source, &extensions)?;
     let mut warnings = String::new(alloc);
     let value = evaluated_with(
         alloc,
@@ -40,14 +41,18 @@ pub fn evaluated(
     );
     drop(expr);
     let value = value?;
-    let printed = print_value(alloc, &value, is_json, warnings);
+    let printed = print_value(alloc, source, &value, is_json, warnings);
     drop(value);
-    Ok(printed?)
+    printed
 }
 
-// The expression, which calls no function.
-fn expression(alloc: Global, source: Source<'_>) -> Result<Expr, Refusal> {
-    let functions = Functions::of_extensions(alloc, &[])?;
+// The expression, which calls functions of these extensions alone.
+fn expression(
+    alloc: Global,
+    source: Source<'_>,
+    extensions: &Extensions<'_>,
+) -> Result<Expr, Refusal> {
+    let functions = Functions::of(alloc, extensions)?;
     let expr = match parse_expr(alloc, source.text, LEVELS, &functions) {
         Ok(expr) => Ok(expr),
         Err(error) => Err(unparsed(alloc, source, &error)),
@@ -87,7 +92,7 @@ fn evaluated_over(
     };
     match value_of(alloc, expr, request, &store.entities, limit, extensions) {
         Ok(value) => Ok(value),
-        Err(error) => Err(failed(alloc, source, &error)),
+        Err(error) => Err(failed(alloc, source, limit, &error)),
     }
 }
 
@@ -120,14 +125,15 @@ fn value_of(
 
 fn print_value(
     alloc: Global,
+    source: Source<'_>,
     value: &Value,
     is_json: bool,
     warnings: String,
-) -> Result<Printed, AllocError> {
+) -> Result<Printed, Refusal> {
     let output = if is_json {
-        json_line(alloc, value)?
+        readable_line(alloc, source, value)?
     } else {
-        format!(in alloc; "{value}\n")?
+        value_line(alloc, value)?
     };
     Ok(Printed {
         output,
@@ -136,26 +142,30 @@ fn print_value(
     })
 }
 
-fn json_line(alloc: Global, value: &Value) -> Result<String, AllocError> {
-    let document = value_to_json(alloc, value)?;
-    let line = line_of(alloc, &document);
-    drop(document);
-    line
+fn value_line(alloc: Global, value: &Value) -> Result<String, AllocError> {
+    let mut line = visible(alloc, format!(in alloc; "{value}")?.as_str())?;
+    line.push_str("\n")?;
+    Ok(line)
 }
 
 #[cold]
-fn failed(alloc: Global, source: Source<'_>, error: &EvaluationError) -> Refusal {
+fn failed(alloc: Global, source: Source<'_>, limit: usize, error: &EvaluationError) -> Refusal {
     match error {
         EvaluationError::Memory(_) => Refusal::Memory,
-        _ => told(failed_lines(alloc, source, error)),
+        _ => told(failed_lines(alloc, source, limit, error)),
     }
 }
 
 fn failed_lines(
     alloc: Global,
     source: Source<'_>,
+    limit: usize,
     error: &EvaluationError,
 ) -> Result<String, AllocError> {
-    let why = format!(in alloc; "{error}")?;
-    placed(alloc, source, error.source_loc().copied(), why.as_str())
+    let places = Places::of(alloc, source)?;
+    let mut why = format!(in alloc; "{error}")?;
+    if error.is_recursion_limit() {
+        push_limit(alloc, Some(limit), &mut why)?;
+    }
+    placed(alloc, &places, error.source_loc().copied(), why.as_str())
 }

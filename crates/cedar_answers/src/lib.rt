@@ -4,9 +4,8 @@
 //! Each question is answered by the whole text that is to be printed, or it is refused: then nothing is to be printed
 //! but why.
 //!
-//! There are no extension functions, as `ip` and `decimal`: a policy that calls one is not read. Where parts may be
-//! unknown, the function `unknown` alone is there. Templates can be read and laid out, and decide nothing: no link is
-//! read.
+//! The functions of the standard extensions are known and, where parts may be unknown or nothing is decided, `unknown`:
+//! a policy that calls another one is not read. Templates can be read and laid out, and decide nothing: no link is read.
 //!
 //! What a reader of an answer would not see by it is told beside it, on standard error (`Printed::warnings`): errors of
 //! policies, templates, entities that are left out, steps that name no unknown, and why a known request stays open.
@@ -22,6 +21,7 @@ mod limits;
 mod partial;
 mod places;
 mod policies;
+mod readable;
 mod reading;
 mod refusal;
 mod stages;
@@ -37,4 +37,4 @@ pub use decisions::{Printed, authorized, status_of};
 pub use evaluations::evaluated;
 pub use partial::partially_authorized;
 pub use policies::{checked, formatted};
-pub use refusal::Refusal;
+pub use refusal::{Refusal, refused};

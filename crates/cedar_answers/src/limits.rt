@@ -1,14 +1,14 @@
 //! How many levels are evaluated, so that no policy that was read meets the limit.
-use crate::refusal::{Refusal, told};
+use crate::refusal::{Refusal, refused};
 use cedar_authorizer::authorizer::PartialResponse;
 use cedar_evaluator::request::Request;
 use cedar_heights::{
-    expr_height, fields_height, levels_for, levels_for_step, mapped_height, policies_height,
-    record_height, residuals_height,
+    expr_height, levels_for, levels_for_step, mapped_height, policies_height, request_height,
+    residuals_height,
 };
 use cedar_layers::expressions::{Expr, Value};
 use cedar_layers::policies::PolicySet;
-use std::alloc::Global;
+use std::alloc::{AllocError, Global};
 use std::collections::HashMap;
 use std::rc::RcStr;
 
@@ -46,27 +46,33 @@ pub(crate) fn step_limit(
     levels_for_step(permits.max(forbids), given, mapped_height(values))
 }
 
-// The height of what is given: of the context, of what is stored, and of what the function `unknown` answers, which is
-// one level.
+// How high what functions answer is at most: a computed datetime is `datetime("1970-01-01").offset(duration("5ms"))`.
+const ANSWERED: usize = 3;
+
+// The height of what is given: of the context, of what is stored, and of what functions answer.
 fn given_height(request: &Request, stored: usize) -> usize {
-    context_height(request).max(stored).max(1)
+    request_height(request).max(stored).max(ANSWERED)
 }
 
-fn context_height(request: &Request) -> usize {
-    match request.context() {
-        Some(context) => match (context.as_value(), context.as_residual()) {
-            (Some(values), _) => record_height(values),
-            (None, Some(parts)) => fields_height(parts),
-            (None, None) => 0,
-        },
-        None => 0,
+/// Puts the option that sets a limit behind the text, and the limit that was set by it.
+pub(crate) fn push_limit(
+    alloc: Global,
+    limit: Option<usize>,
+    output: &mut String,
+) -> Result<(), AllocError> {
+    match limit {
+        Some(limit) => output.push_str(format!(in alloc; " (--limit {limit})")?.as_str()),
+        None => output.push_str(" (--limit)"),
     }
 }
 
 /// The refusal of more steps than are taken.
 #[cold]
 pub(crate) fn too_many_steps(alloc: Global, steps: usize) -> Refusal {
-    told(format!(in alloc;
-        "--step: {steps} steps, and {STEPS} are taken at most beside a text of {LEVELS} levels: each adds a level\n"
-    ))
+    refused(
+        alloc,
+        format!(in alloc;
+            "--step: {steps} steps, and {STEPS} are taken at most beside a text of {LEVELS} levels: each adds a level"
+        ),
+    )
 }

@@ -5,17 +5,18 @@ use crate::decisions::{
 };
 use crate::documents::stages_document;
 use crate::left::{entities_left, unknown_names};
+use crate::places::Places;
 use crate::policies::read_over;
 use crate::refusal::Refusal;
 use crate::stages::{Stages, all_stages};
 use crate::stores::given_store;
 use crate::undecided::push_why_open;
 use crate::visible::push_visible;
-use crate::warnings::{push_errors, push_templates};
+use crate::warnings::{Deciding, push_errors, push_templates};
 use cedar_authorizer::authorizer::{PartialResponse, ReportedPolicies};
 use cedar_extensions::{Extension, ExtensionFunction, Extensions};
 use cedar_layers::expressions::{EntityUID, Name};
-use cedar_layers::policies::{Policy, PolicySet};
+use cedar_layers::policies::Policy;
 use cedar_policy_text::ParsedPolicies;
 use cedar_writing::policy_to_cedar;
 use std::alloc::{AllocError, Global};
@@ -37,9 +38,9 @@ pub fn partially_authorized(
     let name = Name::new(RcStr::from_str(alloc, "partial_evaluation")?, None);
     let functions = vec![in alloc; ExtensionFunction::unknown(alloc)?]?;
     let all = vec![in alloc; Extension::new(name, functions, Vec::new(alloc))]?;
-    match Extensions::specific_extensions(alloc, all.as_slice()) {
+    match Extensions::with_standard(alloc, all.as_slice()) {
         Ok(extensions) => {
-            let parsed = read_over(alloc, policies, all.as_slice())?;
+            let parsed = read_over(alloc, policies, &extensions)?;
             let printed = partly(alloc, policies, &parsed, asked, steps, way, &extensions);
             drop(parsed);
             printed
@@ -57,74 +58,66 @@ fn partly(
     way: Way,
     extensions: &Extensions<'_>,
 ) -> Result<Printed, Refusal> {
+    let places = Places::of(alloc, source)?;
     let mut warnings = String::new(alloc);
-    push_templates(alloc, source, &parsed.templates, &mut warnings)?;
-    let policies = &parsed.policies;
-    partly_by(
-        alloc, source, policies, asked, steps, way, extensions, warnings,
-    )
+    push_templates(alloc, &places, &parsed.templates, &mut warnings)?;
+    let deciding = Deciding {
+        places: &places,
+        policies: &parsed.policies,
+        way,
+    };
+    partly_by(alloc, deciding, asked, steps, extensions, warnings)
 }
 
 fn partly_by(
     alloc: Global,
-    source: Source<'_>,
-    policies: &PolicySet,
+    deciding: Deciding<'_>,
     asked: &Asked<'_, '_>,
     steps: &[Step<'_>],
-    way: Way,
     extensions: &Extensions<'_>,
     mut warnings: String,
 ) -> Result<Printed, Refusal> {
     let store = given_store(alloc, asked, extensions, &mut warnings)?;
     let stages = all_stages(
         alloc,
-        policies,
+        deciding.policies,
         &store,
         asked,
         steps,
-        way,
+        deciding.way,
         extensions,
         &mut warnings,
     );
     drop(store);
     let stages = stages?;
-    let printed = print_stages(alloc, source, policies, &stages, way, warnings);
+    let printed = print_stages(alloc, deciding, &stages, warnings);
     drop(stages);
     Ok(printed?)
 }
 
 fn print_stages(
     alloc: Global,
-    source: Source<'_>,
-    policies: &PolicySet,
+    deciding: Deciding<'_>,
     stages: &Stages<'_>,
-    way: Way,
     mut warnings: String,
 ) -> Result<Printed, AllocError> {
     let last = stages.last();
-    if way.is_json {
+    if deciding.way.is_json {
         push_why_open(alloc, last, &mut warnings)?;
-        let document = stages_document(alloc, source, stages)?;
+        let document = stages_document(alloc, deciding, stages)?;
         let printed = print_document(alloc, last.decision(), &document, warnings);
         drop(document);
         return printed;
     }
     let mut above = String::new(alloc);
     let mut response = &stages.first;
-    push_errors(alloc, source, policies, &response.errors, &mut warnings)?;
+    push_errors(alloc, deciding, &response.errors, &mut warnings)?;
     'steps: for (input, next) in stages.inputs.iter().zip(stages.later.iter()) {
         push_stage(alloc, response, &mut above)?;
         push_step(alloc, input.number, &input.step, &mut above)?;
         if let Some(next) = next {
             response = next;
-            push_step_errors(
-                alloc,
-                source,
-                policies,
-                input.number,
-                response,
-                &mut warnings,
-            )?;
+            push_step_errors(alloc, deciding, input.number, response, &mut warnings)?;
         }
     }
     push_why_open(alloc, last, &mut warnings)?;
@@ -134,8 +127,7 @@ fn print_stages(
 // The errors of policies behind a step, below a line that says which step it is.
 fn push_step_errors(
     alloc: Global,
-    source: Source<'_>,
-    policies: &PolicySet,
+    deciding: Deciding<'_>,
     number: usize,
     response: &PartialResponse,
     warnings: &mut String,
@@ -144,7 +136,7 @@ fn push_step_errors(
         return Ok(());
     }
     warnings.push_str(format!(in alloc; "step {number}:\n")?.as_str())?;
-    push_errors(alloc, source, policies, &response.errors, warnings)
+    push_errors(alloc, deciding, &response.errors, warnings)
 }
 
 // The decision of an earlier stage, and what is known of it.

@@ -1,8 +1,11 @@
 //! Policies of a text.
 use crate::asked::Source;
 use crate::limits::LEVELS;
+use crate::places::Places;
 use crate::refusal::{Refusal, unparsed_lines};
-use cedar_extensions::{Extension, ExtensionFunction};
+use crate::visible::push_visible;
+use crate::warnings::{MOST, others};
+use cedar_extensions::{Extension, ExtensionFunction, Extensions};
 use cedar_functions::Functions;
 use cedar_layers::expressions::{FirstRest, Name};
 use cedar_layers::policies::{Policy, PolicyID, PolicySet};
@@ -29,15 +32,15 @@ pub(crate) fn read(
 pub(crate) fn read_over(
     alloc: Global,
     source: Source<'_>,
-    extensions: &[Extension],
+    extensions: &Extensions<'_>,
 ) -> Result<ParsedPolicies, Refusal> {
-    let functions = Functions::of_extensions(alloc, extensions)?;
+    let functions = Functions::of(alloc, extensions)?;
     let parsed = read(alloc, source, &functions);
     drop(functions);
     parsed
 }
 
-// The refusal that tells all these errors.
+// The refusal that tells these errors.
 #[cold]
 fn refusal(alloc: Global, source: Source<'_>, errors: &FirstRest<ParseError>) -> Refusal {
     match all_lines(alloc, source, errors) {
@@ -51,34 +54,64 @@ fn all_lines(
     source: Source<'_>,
     errors: &FirstRest<ParseError>,
 ) -> Result<String, Refusal> {
-    let mut lines = unparsed_lines(alloc, source, &errors.first)?;
-    for error in errors.rest.iter() {
-        push_lines(alloc, source, error, &mut lines)?;
+    let places = Places::of(alloc, source)?;
+    let mut lines = unparsed_lines(alloc, &places, &errors.first)?;
+    let mut told: usize = 1;
+    'errors: for error in errors.rest.iter() {
+        if told < MOST {
+            push_lines(alloc, &places, error, &mut lines)?;
+            told += 1;
+        }
     }
+    push_others(
+        alloc,
+        source,
+        errors.rest.len().saturating_add(1),
+        &mut lines,
+    )?;
     Ok(lines)
 }
 
 fn push_lines(
     alloc: Global,
-    source: Source<'_>,
+    places: &Places<'_>,
     error: &ParseError,
     lines: &mut String,
 ) -> Result<(), Refusal> {
-    let more = unparsed_lines(alloc, source, error)?;
+    let more = unparsed_lines(alloc, places, error)?;
     lines.push_str(&more)?;
     Ok(())
 }
 
-// The policies that the text writes, which call the function `unknown` alone.
+// Of more errors than are told one by one, how many there are besides.
+fn push_others(
+    alloc: Global,
+    source: Source<'_>,
+    count: usize,
+    lines: &mut String,
+) -> Result<(), AllocError> {
+    match others(count) {
+        Some(others) => {
+            push_visible(alloc, source.name, lines)?;
+            lines.push_str(format!(in alloc; ": and {others} more errors\n")?.as_str())
+        }
+        None => Ok(()),
+    }
+}
+
+// The policies that the text writes, which call standard functions and `unknown` alone.
 fn read_with_unknown(alloc: Global, source: Source<'_>) -> Result<ParsedPolicies, Refusal> {
     let name = Name::new(RcStr::from_str(alloc, "partial_evaluation")?, None);
     let functions = vec![in alloc; ExtensionFunction::unknown(alloc)?]?;
     let all = vec![in alloc; Extension::new(name, functions, Vec::new(alloc))]?;
-    read_over(alloc, source, all.as_slice())
+    match Extensions::with_standard(alloc, all.as_slice()) {
+        Ok(extensions) => read_over(alloc, source, &extensions),
+        Err(_) => Err(Refusal::Memory),
+    }
 }
 
-/// Whether the policies can be read, in which the function `unknown` may be called: if not, all errors are told, each
-/// with its place.
+/// Whether the policies can be read, in which the standard functions and `unknown` may be called: if not, the first
+/// errors are told, each with its place, and how many more there are.
 pub fn checked(alloc: Global, source: Source<'_>) -> Result<(), Refusal> {
     let parsed = read_with_unknown(alloc, source)?;
     drop(parsed);
@@ -86,7 +119,7 @@ pub fn checked(alloc: Global, source: Source<'_>) -> Result<(), Refusal> {
 }
 
 /// The policies and the templates in Cedar's own layout, in their order, with an empty line between two. Comments are
-/// left out. The function `unknown` may be called in them.
+/// left out. The standard functions and `unknown` may be called in them.
 pub fn formatted(alloc: Global, source: Source<'_>) -> Result<String, Refusal> {
     let parsed = read_with_unknown(alloc, source)?;
     let lines = layout(alloc, &parsed);
@@ -148,9 +181,17 @@ pub(crate) fn push_name(
     policy: &Policy,
     out: &mut String,
 ) -> Result<(), AllocError> {
-    match policy.annotations_rc().0.get("id") {
-        Some(name) => out.push_str(name.as_str()),
+    match annotated_id(policy) {
+        Some(name) => out.push_str(name),
         None => push_id(alloc, policy.id(), out),
+    }
+}
+
+/// The policy's annotation `id`, if it has one.
+pub(crate) fn annotated_id(policy: &Policy) -> Option<&str> {
+    match policy.annotations_rc().0.get("id") {
+        Some(name) => Some(name.as_str()),
+        None => None,
     }
 }
 

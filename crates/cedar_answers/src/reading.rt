@@ -1,7 +1,7 @@
 //! Requests.
 use crate::asked::{Asked, Source};
 use crate::limits::LEVELS;
-use crate::refusal::{Refusal, told, unread, unread_json};
+use crate::refusal::{Refusal, refused, unread, unread_json};
 use cedar_evaluator::request::{Context, EntityUIDEntry, Request};
 use cedar_extensions::Extensions;
 use cedar_json::{context_from_json_str, request_from_json_str};
@@ -37,7 +37,7 @@ pub(crate) fn whole_request(
 fn given(alloc: Global, part: Option<&str>, option: &str) -> Result<(), Refusal> {
     match part {
         Some(_) => Ok(()),
-        None => Err(told(format!(in alloc; "{option} is missing\n"))),
+        None => Err(refused(alloc, format!(in alloc; "{option} is missing"))),
     }
 }
 

@@ -2,11 +2,12 @@
 use crate::asked::Source;
 use crate::faults::{repeated_key, syntax_fault};
 use crate::limits::LEVELS;
-use crate::places::{place_of, placed};
+use crate::places::{Places, placed};
+use crate::visible::visible;
 use cedar_json::JsonError;
 use cedar_layers::expressions::Loc;
 use cedar_text::ParseError;
-use cedar_text::show::shown;
+use cedar_text::show::message;
 use cedar_tokens::errors::ReadError;
 use std::alloc::{AllocError, AllocFailed, Global};
 
@@ -40,6 +41,18 @@ pub(crate) fn told(lines: Result<String, AllocError>) -> Refusal {
     }
 }
 
+/// The refusal for which this line is the reason: it is told visibly, as names are.
+#[cold]
+pub fn refused(alloc: Global, line: Result<String, AllocError>) -> Refusal {
+    told(ended(alloc, line))
+}
+
+fn ended(alloc: Global, line: Result<String, AllocError>) -> Result<String, AllocError> {
+    let mut told = visible(alloc, line?.as_str())?;
+    told.push_str("\n")?;
+    Ok(told)
+}
+
 /// The refusal of a name or an entity that can't be read as Cedar's text.
 #[cold]
 pub(crate) fn unread(alloc: Global, source: Source<'_>, error: ReadError) -> Refusal {
@@ -49,43 +62,61 @@ pub(crate) fn unread(alloc: Global, source: Source<'_>, error: ReadError) -> Ref
 /// The refusal of what can't be read as Cedar's text.
 #[cold]
 pub(crate) fn unparsed(alloc: Global, source: Source<'_>, error: &ParseError) -> Refusal {
-    match unparsed_lines(alloc, source, error) {
+    match unparsed_of(alloc, source, error) {
         Ok(lines) => Refusal::Told(lines),
         Err(refusal) => refusal,
     }
 }
 
-/// `NAME: line L, column C: why`, and below it the line with the place marked.
+fn unparsed_of(alloc: Global, source: Source<'_>, error: &ParseError) -> Result<String, Refusal> {
+    let places = Places::of(alloc, source)?;
+    unparsed_lines(alloc, &places, error)
+}
+
+/// `NAME: line L, column C: why`, and below it the line about the place, which is marked.
 pub(crate) fn unparsed_lines(
     alloc: Global,
-    source: Source<'_>,
+    places: &Places<'_>,
     error: &ParseError,
 ) -> Result<String, Refusal> {
-    match error {
-        ParseError::Read(ReadError::Memory) => Err(Refusal::Memory),
-        ParseError::Read(ReadError::TooDeep { start, end }) => {
-            Ok(too_deep(alloc, source, *start, *end)?)
+    match place_of(error) {
+        Some(loc) => {
+            let why = why_of(alloc, error)?;
+            Ok(placed(alloc, places, Some(loc), why.as_str())?)
         }
-        _ => lines_of(alloc, source, error),
+        None => Err(Refusal::Memory),
     }
 }
 
-fn too_deep(
-    alloc: Global,
-    source: Source<'_>,
-    start: usize,
-    end: usize,
-) -> Result<String, AllocError> {
-    let why = format!(in alloc;
-        "the expression has more than {LEVELS} levels: each operator, of a chain too, is one more than its parts"
-    )?;
-    placed(alloc, source, Some(Loc { start, end }), why.as_str())
+// Where the text can't be read; nowhere, where memory was wanting.
+fn place_of(error: &ParseError) -> Option<Loc> {
+    match error {
+        ParseError::Read(error) => place_of_read(*error),
+        ParseError::UnknownFunction { start, end, .. } => loc(*start, *end),
+        ParseError::WrongStyle { start, end, .. } => loc(*start, *end),
+        ParseError::WrongNumberOfArguments { start, end, .. } => loc(*start, *end),
+    }
 }
 
-fn lines_of(alloc: Global, source: Source<'_>, error: &ParseError) -> Result<String, Refusal> {
-    let name = source.name;
-    let shown = shown(alloc, source.text, error)?;
-    Ok(format!(in alloc; "{name}: {shown}\n")?)
+fn place_of_read(error: ReadError) -> Option<Loc> {
+    match error {
+        ReadError::Memory => None,
+        ReadError::Expected { start, end, .. } => loc(start, end),
+        ReadError::TooDeep { start, end } => loc(start, end),
+    }
+}
+
+fn loc(start: usize, end: usize) -> Option<Loc> {
+    Some(Loc { start, end })
+}
+
+fn why_of(alloc: Global, error: &ParseError) -> Result<String, AllocError> {
+    match error {
+        ParseError::Read(ReadError::TooDeep { .. }) => format!(in alloc;
+            "the expression has more than {LEVELS} levels: each operator, of a chain too, is one more than its parts"
+        ),
+        _ => message(alloc, error),
+    }
 }
 
 /// The refusal of what can't be read as Cedar's JSON: `NAME: $.path: why`, or `NAME: line L, column C: why` of a text
@@ -103,12 +134,12 @@ pub(crate) fn unread_json(alloc: Global, source: Source<'_>, error: JsonError) -
             let start = repeated_key(alloc, source.text);
             faulty(alloc, source, start, "a key comes twice in an object")
         }
-        JsonError::Refused { path, reason } => told(format!(in alloc;
-            "{name}: {path}: {reason}\n"
-        )),
-        JsonError::Evaluation { path, error } => told(format!(in alloc;
-            "{name}: {path}: {error}\n"
-        )),
+        JsonError::Refused { path, reason } => {
+            refused(alloc, format!(in alloc; "{name}: {path}: {reason}"))
+        }
+        JsonError::Evaluation { path, error } => {
+            refused(alloc, format!(in alloc; "{name}: {path}: {error}"))
+        }
     }
 }
 
@@ -120,7 +151,7 @@ fn faulty(
     why: &str,
 ) -> Refusal {
     match start {
-        Ok(start) => told(faulty_line(alloc, source, start, why)),
+        Ok(start) => refused(alloc, faulty_line(alloc, source, start, why)),
         Err(AllocError) => Refusal::Memory,
     }
 }
@@ -132,6 +163,7 @@ fn faulty_line(
     why: &str,
 ) -> Result<String, AllocError> {
     let name = source.name;
-    let (line, column) = place_of(source, Loc { start, end: start });
-    format!(in alloc; "{name}: line {line}, column {column}: {why}\n")
+    let places = Places::of(alloc, source)?;
+    let (line, column) = places.place_of(Loc { start, end: start });
+    format!(in alloc; "{name}: line {line}, column {column}: {why}")
 }

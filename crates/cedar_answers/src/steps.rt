@@ -1,10 +1,9 @@
 //! Steps: a partial answer, taken further by values for unknowns and perhaps another store.
 use crate::asked::{Source, Step};
 use crate::left::open_names;
-use crate::limits::{LEVELS, step_limit};
-use crate::refusal::{Refusal, told, unread_json};
+use crate::limits::{LEVELS, push_limit, step_limit};
+use crate::refusal::{Refusal, refused, unread_json};
 use crate::stores::{Store, store_of};
-use crate::visible::visible;
 use crate::warnings::{push_idle_step, push_strays};
 use cedar_authorizer::authorizer::{
     AuthorizationError, Authorizer, ErrorHandling, PartialResponse, ReauthorizationError,
@@ -164,8 +163,13 @@ fn put_value(
 fn not_known(alloc: Global, source: Source<'_>, context: &Context) -> Refusal {
     let name = source.name;
     match first_unknown(context) {
-        Some(key) => told(format!(in alloc; "{name}: the value of `{key}` holds an unknown\n")),
-        None => told(format!(in alloc; "{name}: a value holds an unknown\n")),
+        Some(key) => {
+            refused(
+                alloc,
+                format!(in alloc; "{name}: the value of `{key}` holds an unknown"),
+            )
+        }
+        None => refused(alloc, format!(in alloc; "{name}: a value holds an unknown")),
     }
 }
 
@@ -249,7 +253,7 @@ fn take(
     warnings: &mut String,
 ) -> Result<Option<PartialResponse>, Refusal> {
     if has_met_limit(&response.errors) {
-        return Err(past_limit(alloc, input.step.values.name));
+        return Err(past_limit(alloc, input.step.values.name, taking.limit));
     }
     if is_idle(alloc, response, input, warnings)? {
         return Ok(None);
@@ -374,19 +378,29 @@ fn is_another(values: &HashMap<RcStr, Value>, name: &RcStr, value: &Value) -> bo
 
 #[cold]
 fn another_entity(alloc: Global, source: &str, name: &RcStr) -> Refusal {
-    match visible(alloc, name.as_str()) {
-        Ok(name) => told(format!(in alloc;
-            "{source}: `{name}` stands for that entity, and the step gives another value for it\n"
-        )),
-        Err(AllocError) => Refusal::Memory,
-    }
+    refused(
+        alloc,
+        format!(in alloc;
+            "{source}: `{name}` stands for that entity, and the step gives another value for it"
+        ),
+    )
 }
 
 #[cold]
-fn past_limit(alloc: Global, source: &str) -> Refusal {
-    told(format!(in alloc;
-        "{source}: the step is not taken: a policy met the limit of levels before it (--limit)\n"
-    ))
+fn past_limit(alloc: Global, source: &str, limit: Option<usize>) -> Refusal {
+    refused(alloc, past_limit_line(alloc, source, limit))
+}
+
+fn past_limit_line(
+    alloc: Global,
+    source: &str,
+    limit: Option<usize>,
+) -> Result<String, AllocError> {
+    let mut line = format!(in alloc;
+        "{source}: the step is not taken: a policy met the limit of levels before it"
+    )?;
+    push_limit(alloc, limit, &mut line)?;
+    Ok(line)
 }
 
 #[cold]
@@ -394,9 +408,9 @@ fn not_taken(alloc: Global, name: &str, error: ReauthorizationError) -> Refusal 
     match error {
         ReauthorizationError::Memory(_) => Refusal::Memory,
         other => {
-            let lines = format!(in alloc; "{name}: the step is refused: {other}\n");
+            let line = format!(in alloc; "{name}: the step is refused: {other}");
             drop(other);
-            told(lines)
+            refused(alloc, line)
         }
     }
 }

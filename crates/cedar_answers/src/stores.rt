@@ -1,8 +1,7 @@
 //! Stores of entities.
 use crate::asked::{Asked, Source};
 use crate::limits::LEVELS;
-use crate::refusal::{Refusal, told, unread_json};
-use crate::visible::visible;
+use crate::refusal::{Refusal, refused, unread_json};
 use crate::warnings::push_left_out;
 use cedar_closure::{ClosureError, PartialClosure, closed, closed_partially};
 use cedar_extensions::Extensions;
@@ -103,19 +102,12 @@ fn unclosed(alloc: Global, source: Source<'_>, error: ClosureError) -> Refusal {
     match error {
         ClosureError::Memory(_) => Refusal::Memory,
         ClosureError::Cycle(uid) => {
-            let lines = cycle_line(alloc, source, format!(in alloc; "{uid}"));
+            let name = source.name;
+            let line = format!(in alloc;
+                "{name}: the parents of the entity `{uid}` lead back to it"
+            );
             drop(uid);
-            told(lines)
+            refused(alloc, line)
         }
     }
-}
-
-fn cycle_line(
-    alloc: Global,
-    source: Source<'_>,
-    entity: Result<String, AllocError>,
-) -> Result<String, AllocError> {
-    let name = source.name;
-    let entity = visible(alloc, entity?.as_str())?;
-    format!(in alloc; "{name}: the parents of the entity `{entity}` lead back to it\n")
 }

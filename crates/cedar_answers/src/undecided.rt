@@ -1,14 +1,11 @@
 //! Why the decision on a request stays open of which nothing is unknown.
 use crate::left::{entities_left, unknown_names};
-use crate::warnings::push_warning;
+use crate::warnings::{first_of, others, push_warning};
 use cedar_authorizer::authorizer::PartialResponse;
 use cedar_evaluator::request::{EntityUIDEntry, Request};
 use cedar_layers::expressions::EntityUID;
 use std::alloc::{AllocError, Global};
 use std::rc::RcStr;
-
-/// How many names are told.
-const MOST: usize = 20;
 
 /// Tells why the decision stays open, where it does and nothing of the request is unknown: the entities that are not
 /// there, or the unknowns that stand in the policies or in the entities.
@@ -60,12 +57,8 @@ fn push_entities(
         return Ok(());
     }
     line.push_str(" of these entities it is not known what they have and what they are in:")?;
-    let mut told: usize = 0;
-    'entities: for entity in entities {
-        if told < MOST {
-            line.push_str(format!(in alloc; " {entity}")?.as_str())?;
-            told += 1;
-        }
+    'entities: for entity in first_of(entities) {
+        line.push_str(format!(in alloc; " {entity}")?.as_str())?;
     }
     push_more(alloc, entities.len(), line)
 }
@@ -75,21 +68,16 @@ fn push_names(alloc: Global, names: &[RcStr], line: &mut String) -> Result<(), A
         return Ok(());
     }
     line.push_str(" these unknowns have no value:")?;
-    let mut told: usize = 0;
-    'names: for name in names {
-        if told < MOST {
-            line.push_str(" ")?;
-            line.push_str(name.as_str())?;
-            told += 1;
-        }
+    'names: for name in first_of(names) {
+        line.push_str(" ")?;
+        line.push_str(name.as_str())?;
     }
     push_more(alloc, names.len(), line)
 }
 
 fn push_more(alloc: Global, count: usize, line: &mut String) -> Result<(), AllocError> {
-    if count <= MOST {
-        return Ok(());
+    match others(count) {
+        Some(others) => line.push_str(format!(in alloc; " and {others} more")?.as_str()),
+        None => Ok(()),
     }
-    let others = count.saturating_sub(MOST);
-    line.push_str(format!(in alloc; " and {others} more")?.as_str())
 }

@@ -9,14 +9,23 @@ pub(crate) fn push_visible(
     output: &mut String,
 ) -> Result<(), AllocError> {
     for character in text.chars() {
-        if is_hidden(character) {
-            let code = u32::from(character);
-            output.push_str(format!(in alloc; "\\u{{{code:x}}}")?.as_str())?;
-        } else {
-            output.push(character)?;
-        }
+        push_visible_character(alloc, character, output)?;
     }
     Ok(())
+}
+
+/// Puts the character behind the others, as `push_visible` has it.
+pub(crate) fn push_visible_character(
+    alloc: Global,
+    character: char,
+    output: &mut String,
+) -> Result<(), AllocError> {
+    if is_hidden(character) {
+        let code = u32::from(character);
+        output.push_str(format!(in alloc; "\\u{{{code:x}}}")?.as_str())
+    } else {
+        output.push(character)
+    }
 }
 
 /// The text as it is told.

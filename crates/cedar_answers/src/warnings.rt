@@ -1,8 +1,11 @@
 //! What is told on standard error beside an answer.
-use crate::asked::Source;
-use crate::places::{place_of, placed};
+ghost use Rattle.std.specs.Prelude.{◌≡◌, ◌+◌, ◌≤◌, IfSome, IfNone};
+
+use crate::asked::{Source, Way};
+use crate::limits::push_limit;
+use crate::places::{Places, placed};
 use crate::policies::{push_id, push_name, with_id};
-use crate::visible::{push_visible, visible};
+use crate::visible::push_visible;
 use cedar_authorizer::authorizer::AuthorizationError;
 use cedar_errors::evaluator::err::EvaluationError;
 use cedar_layers::expressions::EntityUID;
@@ -12,7 +15,7 @@ use std::collections::BTreeSet;
 use std::rc::RcStr;
 
 /// How many things of a kind are told one by one; of those behind them their number is told.
-const MOST: usize = 20;
+pub(crate) const MOST: usize = 20;
 
 /// Puts `warning: LINE` behind the others.
 pub(crate) fn push_warning(
@@ -25,32 +28,38 @@ pub(crate) fn push_warning(
     warnings.push_str("\n")
 }
 
+/// The policies that decide, the places of the text that they stand in, and in which way they do.
+#[derive(Clone, Copy)]
+pub(crate) struct Deciding<'p> {
+    pub(crate) places: &'p Places<'p>,
+    pub(crate) policies: &'p PolicySet,
+    pub(crate) way: Way,
+}
+
 /// Puts the errors of policies behind the others, each with its place in the text of the policies.
 pub(crate) fn push_errors(
     alloc: Global,
-    source: Source<'_>,
-    policies: &PolicySet,
+    deciding: Deciding<'_>,
     errors: &[AuthorizationError],
     warnings: &mut String,
 ) -> Result<(), AllocError> {
     'errors: for error in first_of(errors) {
-        push_error(alloc, source, policies, error, warnings)?;
+        push_error(alloc, deciding, error, warnings)?;
     }
     push_others(alloc, errors.len(), "policies erred", warnings)
 }
 
 fn push_error(
     alloc: Global,
-    source: Source<'_>,
-    policies: &PolicySet,
+    deciding: Deciding<'_>,
     error: &AuthorizationError,
     warnings: &mut String,
 ) -> Result<(), AllocError> {
     match error {
         AuthorizationError::PolicyEvaluationError { id, error } => {
-            let why = why(alloc, policies, id, error)?;
-            let why = visible(alloc, why.as_str())?;
-            let lines = placed(alloc, source, error.source_loc().copied(), why.as_str())?;
+            let why = why(alloc, deciding, id, error)?;
+            let loc = error.source_loc().copied();
+            let lines = placed(alloc, deciding.places, loc, why.as_str())?;
             warnings.push_str(lines.as_str())
         }
     }
@@ -59,20 +68,20 @@ fn push_error(
 // `error while evaluating policy `NAME`: ERROR`
 fn why(
     alloc: Global,
-    policies: &PolicySet,
+    deciding: Deciding<'_>,
     id: &PolicyID,
     error: &EvaluationError,
 ) -> Result<String, AllocError> {
     let mut why = String::new(alloc);
     why.push_str("error while evaluating policy `")?;
-    match with_id(policies, id) {
+    match with_id(deciding.policies, id) {
         Some(policy) => push_name(alloc, policy, &mut why)?,
         None => push_id(alloc, id, &mut why)?,
     }
     why.push_str("`: ")?;
     why.push_str(format!(in alloc; "{error}")?.as_str())?;
     if error.is_recursion_limit() {
-        why.push_str(" (--limit)")?;
+        push_limit(alloc, deciding.way.limit, &mut why)?;
     }
     Ok(why)
 }
@@ -80,26 +89,26 @@ fn why(
 /// Tells of each template that it decides nothing.
 pub(crate) fn push_templates(
     alloc: Global,
-    source: Source<'_>,
+    places: &Places<'_>,
     templates: &[Policy],
     warnings: &mut String,
 ) -> Result<(), AllocError> {
     'templates: for template in first_of(templates) {
-        push_template(alloc, source, template, warnings)?;
+        push_template(alloc, places, template, warnings)?;
     }
     push_others(alloc, templates.len(), "templates decide nothing", warnings)
 }
 
 fn push_template(
     alloc: Global,
-    source: Source<'_>,
+    places: &Places<'_>,
     template: &Policy,
     warnings: &mut String,
 ) -> Result<(), AllocError> {
     let mut line = String::new(alloc);
-    line.push_str(source.name)?;
+    line.push_str(places.name())?;
     if let Some(loc) = template.loc() {
-        let (number, column) = place_of(source, loc);
+        let (number, column) = places.place_of(loc);
         line.push_str(format!(in alloc; ": line {number}, column {column}")?.as_str())?;
     }
     line.push_str(": the template `")?;
@@ -172,15 +181,29 @@ fn push_others(
     what: &str,
     warnings: &mut String,
 ) -> Result<(), AllocError> {
-    if count <= MOST {
-        return Ok(());
+    match others(count) {
+        Some(others) => {
+            let line = format!(in alloc; "{others} more {what}")?;
+            push_warning(alloc, line.as_str(), warnings)
+        }
+        None => Ok(()),
     }
-    let others = count.saturating_sub(MOST);
-    let line = format!(in alloc; "{others} more {what}")?;
-    push_warning(alloc, line.as_str(), warnings)
 }
 
-fn first_of<T>(items: &[T]) -> &[T] {
+/// Of so many of which more are than are told one by one, how many are not.
+pub(crate) fn others(count: usize) -> Option<usize>
+    ensures some { IfSome result (λ n. n + 20 ≡ count) }
+    ensures none { IfNone result (count ≤ 20) }
+{
+    if count > MOST {
+        Some(count - MOST)
+    } else {
+        None
+    }
+}
+
+/// Those that are told one by one.
+pub(crate) fn first_of<T>(items: &[T]) -> &[T] {
     match items.get(..MOST) {
         Some(first) => first,
         None => items,

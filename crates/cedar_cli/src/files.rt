@@ -1,5 +1,5 @@
 //! The files that arguments name.
-use cedar_answers::{Refusal, Source, Step};
+use cedar_answers::{Refusal, Source, Step, refused};
 use clap::ArgMatches;
 use std::alloc::Global;
 use std::rt::Files;
@@ -171,14 +171,11 @@ fn file_text<R: Files + AllocGlobal>(rt: &R, name: &str) -> Result<String, Refus
 
 #[cold]
 fn unread(alloc: Global, name: &str, error: &io::Error) -> Refusal {
-    let lines = match error.kind() {
+    let line = match error.kind() {
         io::ErrorKind::OutOfMemory => return Refusal::Memory,
-        io::ErrorKind::NotFound => format!(in alloc; "{name}: no such file\n"),
-        io::ErrorKind::InvalidData => format!(in alloc; "{name}: not UTF-8\n"),
-        _ => format!(in alloc; "{name}: {error}\n"),
+        io::ErrorKind::NotFound => format!(in alloc; "{name}: no such file"),
+        io::ErrorKind::InvalidData => format!(in alloc; "{name}: not UTF-8"),
+        _ => format!(in alloc; "{name}: {error}"),
     };
-    match lines {
-        Ok(lines) => Refusal::Told(lines),
-        Err(_) => Refusal::Memory,
-    }
+    refused(alloc, line)
 }

@@ -1,2 +1,0 @@
-permit(principal, action, resource);
-forbid(principal, action, resource) unless { context.ip.isLoopback() };

@@ -1,0 +1,2 @@
+permit(principal, action, resource);
+forbid(principal, action, resource) unless { context.ip.isPrivate() };

@@ -1,0 +1,1 @@
+permit(principal, action, resource) when { context.risk.lessThan(decimal("0.5")) };
