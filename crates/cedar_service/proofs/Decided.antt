@@ -18,14 +18,15 @@ use Rattle.cedar_policy_core.specs.Model.Meaning
 use Rattle.cedar_policy_core.specs.Model.Meaning.{meaning, and_then_bool}
 use Rattle.cedar_policy_core.specs.Model.Settings.{Resolution, RequestPart, Store, Setting, found_in}
 use Rattle.cedar_policy_core.specs.Model.Rules.{StoredCalls}
-use Rattle.cedar_policy_core.specs.Model.Agreement.{no_slots, AgreesWithFunctions, IsFaithful, AnswerFaithfully}
+use Rattle.cedar_policy_core.specs.Model.Agreement.{no_slots, IsFaithful}
 use Rattle.cedar_policy_core.specs.Model.Policies as model
 use Rattle.cedar_policy_core.specs.Model.Policies.{permit, Judged, allow, deny, decision, ErrorHandling, skip, forbid_on_error, counted}
 use Rattle.cedar_policy_core.specs.Model.Policies.{counted_each}
 use Rattle.cedar_policy_core.specs.Model.Configurations.{Configuration, configured}
 use Rattle.cedar_policy_core.specs.Model.Reports.{given_decision}
 use Rattle.cedar_policy_core.specs.Model.Chains.{Mapping, ChainStep, at_step, no_values}
-use Rattle.cedar_policy_core.specs.Model.Headline.{Premises, CompletesMap, CompletesStore}
+use Rattle.cedar_policy_core.specs.Model.Headline.{Premises}
+use Rattle.cedar_policy_core.specs.Authorizer.Owed.{GivesFaithfulValues, CompletesResiduals, AgreesWithAll, NothingIsOwedOf}
 use Rattle.cedar_policy_core.specs.Types.Decision.{Decision}
 use Rattle.cedar_policy_core.specs.Authorizer.Decisions.{decision_view}
 use Rattle.cedar_policy_core.specs.Ast.Sound.{Placed}
@@ -40,7 +41,7 @@ use Rattle.cedar_policy_core.specs.Authorizer.Running.{errors_of}
 use Rattle.cedar_service.specs.Stages.{owner_may, from_someone, one_value, values_of, IsDecidedIn, IsDecidedFor}
 use Rattle.cedar_service.specs.declared.stop.Stop.{Stop}
 
--- ---- what is given: no function, no entity, and a world in which this user asks
+-- ---- what is given: no entity, and a world in which this user asks
 
 abbrev pub no_store : Store
 no_store = record { entity = no_entities; is_partial = false }
@@ -60,32 +61,38 @@ user_asks user action resource = record {
   sigma = λ n. plain (entity_literal user);
 }
 
-completes_map : (X : Extensions) (user action resource : EntityName)
-    → CompletesMap X standard_answers (user_asks user action resource) (values_of user)
-completes_map X user action resource = record {
-  map_agrees = λ n v e. ap abstract_value (is n v e);
-  mapped_values_are_faithful = λ n v e. subst (IsFaithful X standard_answers) (is n v e) tt;
+-- the value that a step brings is the user
+is_user : (user : EntityName) (n : Text) (v : Represented) → values_of user n ≡ Some v
+    → plain_represented (entity_literal user) ≡ v
+is_user user n v e = (cond_some (text_eq n (codes "principal")) (plain_represented (entity_literal user)) v e).1
+
+-- what is given holds faithful values
+gives : (q : Resolution) (X : Extensions) (user action resource : EntityName)
+    → GivesFaithfulValues X standard_answers (from_someone action resource) no_store
+    (a_step q (values_of user) no_store ∷ [])
+gives q X user action resource = record {
+  context_is_faithful = tt;
+  store_is_faithful = λ e x k p g. absurd (none-some x g);
+  steps_are_faithful = (
+    λ n v e. subst (IsFaithful X standard_answers) (is_user user n v e) tt,
+    λ e x k p g. absurd (none-some x g),
+    tt,
+  );
 }
-  where
-    is : (n : Text) (v : Represented) → values_of user n ≡ Some v → plain_represented (entity_literal user) ≡ v
-    is n v e = (cond_some (text_eq n (codes "principal")) (plain_represented (entity_literal user)) v e).1
 
 completes_store : (X : Extensions) (user action resource : EntityName)
-    → CompletesStore X standard_answers (user_asks user action resource) no_store
+    → CompletesResiduals X standard_answers (user_asks user action resource) no_store
 unfolding found_in
 completes_store X user action resource = record {
   store_agrees = λ e. refl;
-  stored_values_are_faithful = λ e x k p g. absurd (none-some x g);
   stored_residuals_fit = λ e x k p g. absurd (none-some x g);
 }
 
--- the premises of the headline are met
-premises : (mode : ErrorHandling) (q : Resolution) (X : Extensions) (calls : StoredCalls) → AgreesWithFunctions standard_answers calls
-    → AnswerFaithfully X standard_answers calls → (levels : ℕ) (owner user action resource : EntityName)
-    → Premises (configured calls mode q X levels) (from_someone action resource) no_store
-    (decides_as (owner_may owner) ∷ []) (a_step q (values_of user) no_store ∷ []) standard_answers
-    (user_asks user action resource) []
-premises mode q X calls agree faithful levels owner user action resource = record {
+-- the world in which this user asks agrees with all of it
+agrees : (q : Resolution) (X : Extensions) (owner user action resource : EntityName)
+    → AgreesWithAll X (from_someone action resource) no_store (decides_as (owner_may owner) ∷ [])
+    (a_step q (values_of user) no_store ∷ []) standard_answers (user_asks user action resource) []
+agrees q X owner user action resource = record {
   request_agrees = record {
     principal_agrees = (refl, tt);
     action_agrees = refl;
@@ -94,13 +101,25 @@ premises mode q X calls agree faithful levels owner user action resource = recor
   };
   context_fits = tt;
   first_store_agrees = completes_store X user action resource;
-  steps_agree = (completes_map X user action resource, completes_store X user action resource, tt);
+  steps_agree = (
+    λ n v e. ap abstract_value (is_user user n v e),
+    completes_store X user action resource,
+    tt,
+  );
   conditions_fit = (((((tt, tt), tt), tt), tt), tt);
-  functions_are_functional = agree;
-  context_is_faithful = tt;
-  functions_are_faithful = faithful;
   no_limit_is_recorded = tt;
 }
+
+-- so the premises of the headline are met: of the standard functions it asks for nothing
+premises : (mode : ErrorHandling) (q : Resolution) (X : Extensions) (calls : StoredCalls)
+    → NothingIsOwedOf calls X standard_answers → (levels : ℕ) (owner user action resource : EntityName)
+    → Premises (configured calls mode q X levels) (from_someone action resource) no_store
+    (decides_as (owner_may owner) ∷ []) (a_step q (values_of user) no_store ∷ []) standard_answers
+    (user_asks user action resource) []
+premises mode q X calls owed levels owner user action resource =
+    owed mode q levels (from_someone action resource) no_store (decides_as (owner_may owner) ∷ [])
+    (a_step q (values_of user) no_store ∷ []) (user_asks user action resource) [] (gives q X user action resource)
+    (agrees q X owner user action resource)
 
 -- ---- what the policy decides in that world
 
@@ -172,8 +191,8 @@ decided_in c s ps steps r (Some d) h none given =
     (decision_view d) given
 
 -- of the owner's policy and the values of a user it allows exactly the owner
-module _ (mode : ErrorHandling) (q : Resolution) (X : Extensions) (calls : StoredCalls) (agree : AgreesWithFunctions standard_answers calls)
-    (faithful : AnswerFaithfully X standard_answers calls) (levels : ℕ) (d : model.Decision) where
+module _ (mode : ErrorHandling) (q : Resolution) (X : Extensions) (calls : StoredCalls)
+    (owed : NothingIsOwedOf calls X standard_answers) (levels : ℕ) (d : model.Decision) where
   abbrev c : Configuration
   c = configured calls mode q X levels
 
@@ -192,7 +211,7 @@ module _ (mode : ErrorHandling) (q : Resolution) (X : Extensions) (calls : Store
       allows_owner owner user d
       (sym (policy_decides mode X owner user action resource)
       ∙ h4 standard_answers (user_asks user action resource)
-      (premises mode q X calls agree faithful levels owner user action resource))
+      (premises mode q X calls owed levels owner user action resource))
 
 -- what holds of each decision holds of the one that is answered
 pub each_decision : (P Q : model.Decision → Type 0) → ((d : model.Decision) → P d → Q d)

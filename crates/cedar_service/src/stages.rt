@@ -26,6 +26,7 @@ use cedar_policy_core::ast::{
     Annotations, BinaryOp, Context, Effect, EntityUID, EntityUIDEntry, Expr, Literal, Policy,
     PolicyID, PolicySet, Request, SlotEnv, Value, Var,
 };
+use cedar_policy_core::authorizer::laws::nothing_is_owed_of_functions;
 use cedar_policy_core::authorizer::{Authorizer, Decision, PartialResponse};
 use cedar_policy_core::entities::Entities;
 use cedar_policy_core::extensions::Extensions;
@@ -153,6 +154,7 @@ fn decided_with(
 {
     let request = from_someone(alloc, action, resource)?;
     let extensions = Extensions::all_available();
+    nothing_is_owed_of_functions(&extensions);
     let authorizer = Authorizer::new(&extensions, LIMIT);
     let none = Entities::new(alloc);
     let decision = decided_after(
