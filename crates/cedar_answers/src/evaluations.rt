@@ -16,6 +16,7 @@ use cedar_functions::Functions;
 use cedar_layers::expressions::{Expr, SlotEnv, Value};
 use cedar_layers::policies::Entities;
 use cedar_text::parse_expr;
+use cedar_writing::to_cedar;
 use std::alloc::{AllocError, Global};
 
 /// The value of the expression, in Cedar's syntax or in Cedar's JSON. What is not said of the request is unknown, but
@@ -142,8 +143,12 @@ fn print_value(
     })
 }
 
+// The value in Cedar's text, as `evaluate` reads it back.
 fn value_line(alloc: Global, value: &Value) -> Result<String, AllocError> {
-    let mut line = visible(alloc, format!(in alloc; "{value}")?.as_str())?;
+    let expr: Expr = value.to_expr(alloc)?;
+    let text = to_cedar(alloc, &expr);
+    drop(expr);
+    let mut line = visible(alloc, text?.as_str())?;
     line.push_str("\n")?;
     Ok(line)
 }
