@@ -4,11 +4,16 @@ ghost use Rattle.std.specs.Prelude.{◌≡◌, Bool, List, [], Some};
 ghost use Rattle.cedar_model.specs.Terms.{Text, EntityName};
 ghost use Rattle.cedar_model.specs.Values.{Represented, expression_of};
 ghost use Rattle.cedar_model.specs.World as world;
+ghost use Rattle.cedar_model.specs.Settings.{ContextPart, known_context, StoredEntity};
+ghost use Rattle.cedar_names.specs.declared.names.EntityUID.{EntityUID};
+ghost use Rattle.cedar_values.specs.Sound.{Placed, whats_at};
+ghost use Rattle.std.specs.declared.alloc.Global.{Global};
+ghost use Rattle.std.specs.declared.rc.RcStr.{RcStr};
 ghost use Rattle.cedar_model.specs.Agreement.{IsKnown, IsFaithful, IsFaithfulPart, IsFaithfulContext, EachStored};
 ghost use Rattle.cedar_model.specs.Agreement.{AnswerFaithfully};
 ghost use Rattle.cedar_laws.specs.Faithful.{StoreHoldsNoExtensionValue, ContextHoldsNoExtensionValue};
 ghost use Rattle.cedar_laws.specs.Faithful.{MapHoldsNoExtensionValue, AnswerNoExtensionValue, NoneAnswers};
-ghost use Rattle.cedar_layers.specs.Stores.{store_view, store_of, stored_entity, last_of_each_name};
+ghost use Rattle.cedar_layers.specs.Stores.{store_view, store_of, stored_entity, last_of_each_name, facts_of_values};
 ghost use Rattle.cedar_layers.specs.declared.policies.entities.Entity.{Entity};
 ghost use Rattle.cedar_closure.specs.Ancestry.{AreAlike};
 ghost use Rattle.cedar_extensions.specs.Extensions.{HasNone, calls_of};
@@ -16,7 +21,7 @@ ghost use Rattle.cedar_extensions.specs.Computations.{AreBuiltIn};
 ghost use Rattle.cedar_requests.specs.Contexts.{context_view};
 ghost use Rattle.cedar_requests.specs.Requests.{request_view};
 ghost use Rattle.cedar_requests.specs.Substitutions.{values_for};
-ghost use Rattle.cedar_faithful.specs.Held.{EachHoldsNoExtensionValue, EachIsFaithful, MapsEachTo};
+ghost use Rattle.cedar_faithful.specs.Held.{EachHoldsNoExtensionValue, EachIsFaithful, FactsAre, MapsEachTo};
 
 use cedar_extensions::Extensions;
 use cedar_layers::policies::Entities;
@@ -76,6 +81,18 @@ pub fn mapped_values_are_faithful(map: &HashMap<RcStr, Value>)
 pub fn maps_keep_faithful_values(map: &HashMap<RcStr, Value>)
     ensures { (X : world.Extensions) (ans : world.Functions) → MapsEachTo (IsFaithful X ans) map.now.entries
         → (n : Text) (v : Represented) → values_for map.now.entries n ≡ Some v → IsFaithful X ans v }
+{}
+
+/// What is made of faithful values is faithful: a context, as `Context::from_values` promises, and the attributes and
+/// tags of an entity, as `Entity::from_values` does.
+pub fn faithful_values_make_faithful_parts()
+    ensures context { (X : world.Extensions) (ans : world.Functions) (c : ContextPart)
+        (es : List (RcStr Global × Placed)) → MapsEachTo (IsFaithful X ans) es → c ≡ known_context (whats_at es)
+        → IsFaithfulContext X ans c }
+    ensures entity { (X : world.Extensions) (ans : world.Functions) (x : StoredEntity) (ancestors : List EntityUID)
+        (attrs tags : List (RcStr Global × Placed)) → MapsEachTo (IsFaithful X ans) attrs
+        → MapsEachTo (IsFaithful X ans) tags → x ≡ facts_of_values attrs ancestors tags
+        → FactsAre (IsFaithfulPart X ans) x }
 {}
 
 /// Functions that answer no extension value answer faithfully. Where there is no function none answers, and where each

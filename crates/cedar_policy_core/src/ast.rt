@@ -30,8 +30,8 @@ pub mod laws {
         evaluated_values_are_faithful, made_contexts_are_faithful,
     };
     pub use cedar_faithful::given::{
-        contexts_are_faithful, mapped_values_are_faithful, maps_keep_faithful_values,
-        requests_are_faithful,
+        contexts_are_faithful, faithful_values_make_faithful_parts, mapped_values_are_faithful,
+        maps_keep_faithful_values, requests_are_faithful,
     };
     pub use cedar_faithful::read::made_contexts_hold_none;
     pub use cedar_laws::faithful::{
