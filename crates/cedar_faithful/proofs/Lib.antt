@@ -11,3 +11,4 @@ pub mod Restricted
 pub mod RestrictedEntities
 pub mod Stored
 pub mod SuchAnswers
+pub mod Asking

@@ -29,7 +29,9 @@ pub mod laws {
         functions_have_one_answer, more_levels_answer_alike, more_levels_report_alike,
         responses_are_stable, steps_make_a_chain,
     };
-    pub use cedar_faithful::owed::nothing_is_owed_of_functions;
+    pub use cedar_faithful::owed::{
+        nothing_is_owed_of_functions, standard_functions_fit_each_world,
+    };
     pub use cedar_laws::determinism::{alike_runs_say_the_same, runs_are_alike, runs_are_equal};
     pub use cedar_laws::levels::levels_keep_runs;
     pub use cedar_laws::steps::{chains_go_on, steps_are_alike, steps_are_equal};
