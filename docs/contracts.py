@@ -197,12 +197,24 @@ def without_lifetimes(text):
     return re.sub(r"'\w+,? ?", "", re.sub(r"'\w+ ", "", text)).replace("<>", "")
 
 
+def without_generics(text):
+    """A signature without the parameters in angle brackets behind its name."""
+    name = re.match(r"\w+", text).group(0)
+    depth, at = 0, len(name)
+    while at < len(text) and (depth or text[at] == "<"):
+        depth += text[at] == "<"
+        depth -= text[at] == ">" and text[at - 1] != "-"
+        at += 1
+    return name + text[at:]
+
+
 def shortened(signature):
     """A signature as it is shown."""
     text = without_lifetimes(re.sub(r"^(pub )?(const )?fn ", "", signature)).replace("alloc: Global", "alloc")
     text = re.sub(r",\s*\)", ")", re.sub(r"\(\s+", "(", text))
     text = re.sub(r"\s+", " ", re.sub(r"\bmut (\w+:)", r"\1", text))
     if len(text) > 150:
+        text = without_generics(text)
         head, _, tail = text.partition(" -> ")
         name, _, inner = head.partition("(")
         depth, part, parts = 0, "", []
