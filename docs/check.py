@@ -7,7 +7,8 @@ It looks at README.md, CONTRIBUTING.md, CHANGELOG.md, docs/*.md and attacks/READ
 - each file, folder, link and anchor that is named is there; each name of the code in backquotes stands in some file of the repository,
   and each `a` of `b`, where b is a function or a crate, in that function's contract or in that crate;
 - counts of rows and runs are those of the `stdout` files, and the number of crates is that of crates.txt;
-- each crate is named in ARCHITECTURE and PROVED, in the order of crates.txt;
+- each crate is named in ARCHITECTURE's figure, which has what it uses in its layer or below; its src/lib.rt (or main.rt) begins with 10 lines or more that name each file beside it, and
+  each file of `specs/` or `src/` that they name is there;
 - each block of Rust behind "From `FILE`:" is that of the file;
 - docs/CONTRACTS.md is what docs/contracts.py makes, docs/HEADLINE.md what docs/headline.py makes, docs/flow.svg what
   docs/flow.py draws, and README shows what `cedar` prints;
@@ -35,7 +36,7 @@ FOREIGN = set("""cedar-policy-core SmolStr NonEmpty EntityJsonParser ContextJson
 AssumeAlreadyComputed from_entities RepresentableExtensionValue expr_builder ext_name branch from_residual BTreeMap start_io
 allocator as_this AsThis""".split())
 faults = []
-seen = {"links": 0, "names": 0, "clauses": 0, "counts": 0, "quotes": 0, "edits": 0}
+seen = {"heads": 0, "links": 0, "names": 0, "clauses": 0, "counts": 0, "quotes": 0, "edits": 0}
 
 
 def wants(holds, what):
@@ -129,6 +130,9 @@ def links(page, text):
 def names(page, text, by_crate, words, functions):
     """Names of the code, and what is said to stand in a function or a crate."""
     bare = re.sub(r"```.*?```", "", text, flags=re.S)
+    if page == "CHANGELOG.md":
+        # (tables of renames: what had another name before)
+        bare = re.sub(r"^\|.*\|$", "", bare, flags=re.M)
     for name in set(re.findall(r"`(?:[\w]+::)*([a-z]\w*_\w+|[A-Z][a-z]\w*[A-Z]\w*)(?:\([^`]*\))?`", bare)):
         seen["names"] += 1
         wants(name in words or name in FOREIGN or name in by_crate, f"{page}: `{name}` stands in no file")
@@ -161,14 +165,14 @@ def sentences(text):
 
 
 def total(crate):
-    """How many rows or runs hold; those of cedar_texts that are written and read back are not counted again."""
+    """How many rows or runs hold; those of cedar_test_texts that are written and read back are not counted again."""
     return sum(int(it) for it in re.findall(r"^[\w.]+: (\d+) of \d+ (?:rows|runs) hold", read(f"crates/{crate}/stdout"), re.M))
 
 
 def counts(page, text, crates):
     """Numbers of rows, of runs and of crates."""
     flat = " ".join(text.split())
-    for crate, what in (("cedar_tables", "rows"), ("cedar_texts", "rows"), ("cedar_runs", "runs")):
+    for crate, what in (("cedar_test_tables", "rows"), ("cedar_test_texts", "rows"), ("cedar_test_cli", "runs")):
         for number in re.findall(rf"`{crate}`[^`.;|]*?\b([\d,]+) {what}", flat):
             seen["counts"] += 1
             wants(int(number.replace(",", "")) == total(crate), f"{page}: `{crate}` has {total(crate)} {what}, and not {number}")
@@ -178,18 +182,29 @@ def counts(page, text, crates):
             wants(int(number) == len(crates), f"{page}: {len(crates)} crates, and not {number}")
 
 
-def orders(crates):
-    """Each crate stands in these pages, in the order of crates.txt."""
-    for page in ("docs/ARCHITECTURE.md", "docs/PROVED.md"):
-        rows = re.findall(r"^\| ((?:`cedar\w*`(?:, )?)+)(?: \||:)", read(page), re.M)
-        listed = [it for row in rows for it in re.findall(r"`(\w+)`", row)]
-        for crate in crates:
-            wants(crate in listed, f"{page}: no row of the crate {crate}")
-        known = [it for it in listed if it in crates]
-        wants(len(known) == len(listed), f"{page}: rows of no crate: {', '.join(it for it in listed if it not in crates)}")
-        if sorted(known, key=crates.index) != known:
-            first = next(it for it, other in zip(known, sorted(known, key=crates.index)) if it != other)
-            wants(False, f"{page}: not in the order of crates.txt from {first} on")
+def heads(crates):
+    """Each crate says at its head what it has."""
+    figure = re.search(r"^    \w+ .*?(?=\n\S)", read("docs/ARCHITECTURE.md"), re.S | re.M)
+    layers = re.split(r"^    (?=\w)", figure.group() if figure else "", flags=re.M)
+    layer_of = {crate: number for number, layer in enumerate(layers) for crate in re.findall(r"\bcedar\w*", layer)}
+    uses = dict(re.findall(r"^(\w+):(.*)$", read("crates.txt"), re.M))
+    for crate in crates:
+        wants(crate in layer_of, f"docs/ARCHITECTURE.md: the figure does not name {crate}")
+        for used in uses[crate].split():
+            below = layer_of.get(used, len(layers)) >= layer_of.get(crate, 0)
+            wants(below, f"docs/ARCHITECTURE.md: {crate} is in a layer below {used}, which it uses")
+        root = next((it for it in ("lib", "main") if os.path.isfile(f"{ROOT}/crates/{crate}/src/{it}.rt")), None)
+        path = f"crates/{crate}/src/{root}.rt"
+        lines = [it[3:].strip() for it in re.match(r"(?://!.*\n)*", read(path)).group().splitlines()]
+        seen["heads"] += len(lines)
+        wants(len(lines) >= 10, f"{path}: begins with {len(lines)} lines of what the crate is, and at least 10")
+        head = " ".join(lines)
+        for file in files(f"crates/{crate}/src/*.rt"):
+            name = os.path.basename(file)[: -len(".rt")]
+            wants(name == root or re.search(rf"`(?:\w+/)?{name}(?:`|/)", head), f"{path}: does not name the file {name}")
+        for name in re.findall(r"`((?:specs|src)/[\w./]+)`", head):
+            there = [f"{ROOT}/crates/{crate}/{name}{end}" for end in ("", ".rt", ".antt")]
+            wants(any(os.path.exists(it) for it in there), f"{path}: no file {name}")
 
 
 def quotes(page, text):
@@ -241,7 +256,7 @@ def main():
         quotes(page, text)
     sentences(read("README.md"))
     wants(len(read("README.md").splitlines()) <= 130, "README.md: more than 130 lines")
-    orders(crates)
+    heads(crates)
     try:
         made, calls = contracts.page(house)
     except SystemExit as why:

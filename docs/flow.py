@@ -3,41 +3,46 @@
 import os
 from xml.sax.saxutils import escape
 
-WIDTH, HEIGHT = 1180, 400
+WIDTH, HEIGHT = 1280, 460
 
-# Each box: left, top, width, height, colour, title, lines. Lines name crates without their `cedar_`.
+# Each box: left, top, width, height, colour, title, lines; the last lines name crates.
 BOXES = {
-    "text": (20, 120, 160, 90, "#f1f3f4", "Cedar's text", ["tokens, syntax,", "policy_syntax,", "text, policy_text"]),
-    "json": (20, 230, 160, 70, "#f1f3f4", "Cedar's JSON", ["json; closure", "makes the store"]),
-    "request": (230, 20, 240, 70, "#e8f0fe", "request (requests)", ["principal, action, resource,", "context: each may be unknown"]),
-    "policies": (230, 120, 240, 70, "#e8f0fe", "policies (layers)", ["read, or made in code (builder);", "permits and forbids"]),
-    "store": (230, 220, 240, 70, "#e8f0fe", "store (layers)", ["entities with their ancestors;", "what is not there may be unknown"]),
-    "evaluator": (540, 100, 190, 110, "#fff4d6", "evaluator", ["each condition: its scope", "at once, the rest in a loop", "(interpreter, operators),", "within the limit of levels"]),
-    "value": (790, 20, 130, 50, "#e6f4ea", "value", ["true or false"]),
-    "error": (790, 130, 130, 50, "#fce8e6", "error", ["which, and where"]),
-    "residual": (790, 235, 130, 50, "#f3e8fd", "residual", ["what is left"]),
-    "response": (980, 100, 180, 110, "#fff4d6", "response", ["(authorizer)", "decision, reasons, errors;", "what is left, two bounds"]),
-    "out": (980, 20, 180, 50, "#f1f3f4", "JSON, text", ["json_responses, writing"]),
-    "step": (540, 315, 380, 70, "#fff4d6", "step (authorizer)", ["values for unknowns, and a store: the residuals", "are policies of a request that knows more"]),
+    "text": (20, 130, 190, 120, "#f1f3f4", "Cedar's text", ["cedar_text_lexer", "cedar_text_syntax", "cedar_text_parser"]),
+    "json": (20, 290, 190, 70, "#f1f3f4", "Cedar's JSON", ["cedar_json_reader", "cedar_hierarchy: the store"]),
+    "request": (270, 20, 250, 90, "#e8f0fe", "request", ["principal, action, resource,", "context: each may be unknown", "cedar_requests"]),
+    "policies": (270, 140, 250, 90, "#e8f0fe", "policies", ["permits and forbids, also made", "in code (cedar_builder)", "cedar_layers"]),
+    "store": (270, 270, 250, 90, "#e8f0fe", "store", ["entities with their ancestors;", "what is not there may be unknown", "cedar_layers"]),
+    "evaluator": (590, 100, 210, 160, "#fff4d6", "evaluator", [
+        "each condition: its scope at", "once, the rest in a loop,", "within the limit of levels",
+        "cedar_evaluator", "cedar_interpreter", "cedar_operators", "cedar_frames",
+    ]),
+    "value": (870, 20, 130, 50, "#e6f4ea", "value", ["true or false"]),
+    "error": (870, 155, 130, 50, "#fce8e6", "error", ["which, and where"]),
+    "residual": (870, 290, 130, 50, "#f3e8fd", "residual", ["what is left"]),
+    "response": (1060, 120, 200, 120, "#fff4d6", "response", ["decision, reasons, errors;", "what is left, two bounds", "cedar_authorizer", "cedar_unknowns"]),
+    "out": (1060, 20, 200, 70, "#f1f3f4", "JSON, text", ["cedar_json_writer", "cedar_text_printer"]),
+    "step": (560, 370, 400, 80, "#fff4d6", "step", [
+        "values for unknowns, and a store: the residuals", "are policies of a request that knows more", "cedar_authorizer",
+    ]),
 }
 
 # Each arrow: its corners.
 ARROWS = [
-    [(180, 155), (230, 155)],
-    [(180, 255), (230, 255)],
-    [(180, 240), (205, 240), (205, 55), (230, 55)],
-    [(470, 55), (505, 55), (505, 130), (540, 130)],
-    [(470, 155), (540, 155)],
-    [(470, 255), (505, 255), (505, 180), (540, 180)],
-    [(730, 130), (760, 130), (760, 45), (790, 45)],
-    [(730, 155), (790, 155)],
-    [(730, 180), (760, 180), (760, 260), (790, 260)],
-    [(920, 45), (950, 45), (950, 130), (980, 130)],
-    [(920, 155), (980, 155)],
-    [(920, 260), (950, 260), (950, 180), (980, 180)],
-    [(1070, 100), (1070, 70)],
-    [(1070, 210), (1070, 350), (920, 350)],
-    [(635, 315), (635, 210)],
+    [(210, 185), (270, 185)],
+    [(210, 325), (270, 325)],
+    [(210, 305), (240, 305), (240, 65), (270, 65)],
+    [(520, 65), (555, 65), (555, 140), (590, 140)],
+    [(520, 185), (590, 185)],
+    [(520, 315), (555, 315), (555, 220), (590, 220)],
+    [(800, 140), (835, 140), (835, 45), (870, 45)],
+    [(800, 180), (870, 180)],
+    [(800, 220), (835, 220), (835, 315), (870, 315)],
+    [(1000, 45), (1030, 45), (1030, 150), (1060, 150)],
+    [(1000, 180), (1060, 180)],
+    [(1000, 315), (1030, 315), (1030, 210), (1060, 210)],
+    [(1160, 120), (1160, 90)],
+    [(1160, 240), (1160, 410), (960, 410)],
+    [(695, 370), (695, 260)],
 ]
 
 

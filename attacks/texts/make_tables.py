@@ -1,4 +1,4 @@
-"""Writes the tables of crates/cedar_texts/data from the texts, with the answers of the independent reader."""
+"""Writes the tables of crates/cedar_test_texts/data from the texts, with the answers of the independent reader."""
 import os
 import sys
 

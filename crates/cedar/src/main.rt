@@ -1,7 +1,17 @@
-//! Cedar's command line. `cedar --help` says which commands there are.
+//! Cedar's command line, as a program. `cedar --help` says which commands there are, and `docs/COMMANDS.md` describes
+//! them.
+//!
+//! - `main`: hands the words of the command line to `answer_command` of `cedar_cli`, prints what it answers (the answer
+//!   on standard output, warnings and refusals on standard error), and ends with its status.
+//!
+//! The statuses 1 and 3 are set here: `REFUSED`, where a question is not answered or its answer can't be printed, and
+//! `OUT_OF_MEMORY`. The others come with the answer.
+//!
+//! The promise is the checker's alone: the program stays within its memory and comes to an end. The sample of README
+//! is in `data/`, and what is printed of it is compared with README's text.
 #![tactic(auto)]
 
-use cedar_cli::{Answer, answered};
+use cedar_cli::{Answer, answer_command};
 use std::env::Env;
 use std::process::ExitCode;
 use std::rt::Files;
@@ -9,7 +19,7 @@ use std::{env, io};
 
 /// The request is not answered, or what is answered could not be printed.
 pub const REFUSED: u8 = 1;
-/// Memory was wanting.
+/// Out of memory.
 pub const OUT_OF_MEMORY: u8 = 3;
 
 fn main(rt: HostRuntime) -> ExitCode {
@@ -19,8 +29,8 @@ fn main(rt: HostRuntime) -> ExitCode {
 // Runs the command that the arguments write, prints what it comes to, and answers the exit status.
 fn run<R: Env + Files + AllocGlobal + Print + Eprint>(rt: &R) -> u8 {
     match words(rt) {
-        Ok(words) => shown(rt, answered(rt, words.as_slice())),
-        Err(error) => failed(rt, &error),
+        Ok(words) => print_answer(rt, answer_command(rt, words.as_slice())),
+        Err(error) => report_unread(rt, &error),
     }
 }
 
@@ -32,13 +42,13 @@ fn words<R: Env + AllocGlobal>(rt: &R) -> io::Result<Vec<String>> {
     Ok(words)
 }
 
-fn shown<R: Print + Eprint>(rt: &R, answer: Answer) -> u8 {
+fn print_answer<R: Print + Eprint>(rt: &R, answer: Answer) -> u8 {
     match answer {
         Answer::Printed(printed) => {
             drop(rt.eprint(printed.warnings.as_str()));
             match rt.print(printed.output.as_str()) {
                 Ok(()) => printed.status,
-                Err(error) => unwritten(rt, &error),
+                Err(error) => report_unwritten(rt, &error),
             }
         }
         Answer::Refused(lines) => {
@@ -53,13 +63,13 @@ fn shown<R: Print + Eprint>(rt: &R, answer: Answer) -> u8 {
 }
 
 // The output could not be written.
-fn unwritten<R: Eprint>(rt: &R, error: &io::Error) -> u8 {
+fn report_unwritten<R: Eprint>(rt: &R, error: &io::Error) -> u8 {
     drop(eprintln!(rt; "the output can't be written: {error}"));
     REFUSED
 }
 
 // The arguments could not be read.
-fn failed<R: Eprint>(rt: &R, error: &io::Error) -> u8 {
+fn report_unread<R: Eprint>(rt: &R, error: &io::Error) -> u8 {
     if error.kind() == io::ErrorKind::OutOfMemory {
         drop(rt.eprint("out of memory\n"));
         OUT_OF_MEMORY

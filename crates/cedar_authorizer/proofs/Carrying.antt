@@ -1,4 +1,4 @@
--- The policies that are carried on, one by one; and the first id that comes again.
+-- The policies that are carried on, one by one; and the first duplicate id.
 use Rattle.std.proofs.Common.{◌≡◌, if◌then◌else◌, List, [], ◌∷◌, ◌++◌, map, Some, None, IfSome, Ok, Err, refl, ap}
 use Rattle.std.proofs.Common.{◌∙◌, sym, subst, option_map, append_assoc}
 use Rattle.std.specs.Prelude.{Contains}
@@ -23,7 +23,7 @@ same_ids : (ps : List PolicyView) → map (λ (p : model.Policy). p.id) (map dec
 same_ids [] = refl
 same_ids (p ∷ ps) = ap (λ ts. p.id ∷ ts) (same_ids ps)
 
--- the first id that comes again among policies is so among these, as far as they decide
+-- the first duplicate id among policies is so among these, as far as they decide
 pub repeated_id : (ps : List PolicyView) (qs : List model.Policy) → map decides_as ps ≡ qs
     → first_repeated (map (λ (p : model.Policy). p.id) qs) ≡ first_repeated (policy_ids ps)
 repeated_id ps qs e =
@@ -74,12 +74,12 @@ no_more ps old all h e = sym (append_none ps) ∙ ap (λ (o : List Located). ps 
 
 -- ---- sets
 
--- no id comes again
+-- no id is a duplicate
 pub once : (vs : List PolicyView) (ps : List model.Policy) → map decides_as vs ≡ ps
     → first_repeated (policy_ids vs) ≡ None → Ok (map decides_as vs) ≡ all_once ps
 once vs ps e h = ap Ok e ∙ ap (λ o. unless_repeated o ps) (sym (repeated_id vs ps e ∙ h))
 
--- an id comes again, or memory is wanting
+-- an id is a duplicate, or memory runs out
 pub twice : (vs : List PolicyView) (ps : List model.Policy) (e : PolicySetError) (f : ReauthorizationError)
     → map decides_as vs ≡ ps → IsPolicyRefusal e f
     → IfSome (occupied_id e) (λ i. first_repeated (policy_ids vs) ≡ Some i)

@@ -76,7 +76,7 @@ wrong_kind v c o f e =
 
 -- ---- values in the context
 
--- the error of the evaluation, or want of memory
+-- the error of the evaluation, or out of memory
 pub values_refused : (s : Setting) (calls : StoredCalls) (n : ℕ) (m : Mapping) (c : ContextPart) (e : EvaluationError)
     (f : ConcretizationError) → IsValueRefusal e f → IsSubstituted s calls n m c (Err e)
     → IfSome (option_map Err (refusal_of f)) (SubstitutesTo s calls n m c)
@@ -98,7 +98,7 @@ low_refused e (concretizations.ValueEval g) is h w =
     h (ap failure_of (sym is.0) ∙ fails_inj (some_inj w))
 low_refused e (concretizations.Memory x) is h w = absurd (cc)
 
--- want of memory is not wrapped
+-- running out of memory is not wrapped
 pub value_unwrapped : (e : EvaluationError) (f : ConcretizationError) → IsValueRefusal e f → IsUnwrappedRefusal f
 value_unwrapped e (concretizations.ValueError id expected given) is w = is
 value_unwrapped e (concretizations.VarConfictError id existing given) is w = is

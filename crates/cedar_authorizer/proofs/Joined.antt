@@ -117,6 +117,6 @@ refused_request {A} {B} P Q k e (reauthorizations.ConcretizationError f) is h =
     by (Some x) h = k x h
 refused_request {A} {B} P Q k e (reauthorizations.Memory p) is h = tt
 
--- want of memory stands alone
+-- running out of memory stands alone
 pub memory_unwrapped : (x : AllocError) (r : ReauthorizationError) → r ≡ reauthorizations.Memory x → IsUnwrapped r
 memory_unwrapped x r e = subst IsUnwrapped (sym e) tt

@@ -16,7 +16,7 @@ use Rattle.cedar_authorizer.specs.declared.responses.sheet.ConditionOutcome.{Con
 use Rattle.cedar_authorizer.specs.responses.Sheets.{outcome_view}
 use Rattle.cedar_authorizer.specs.Running.{ComesOutBy}
 
--- an answer that decides something else than want of memory is no want of memory
+-- an answer that decides something else than running out of memory is not out of memory
 found : (a : Answer) (d : Decided) → d ≢ errs_with out_of_memory → d ≡ decided a → a ≢ fails out_of_memory
 unfolding decided
 found a d ok e is = ok (e ∙ ap decided is)

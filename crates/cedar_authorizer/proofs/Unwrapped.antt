@@ -1,4 +1,4 @@
--- Want of memory stands alone: no error of a step holds it.
+-- Running out of memory stands alone: no error of a step holds it.
 use Rattle.std.proofs.Common.{◌≡◌, subst, sym}
 use Rattle.cedar_layers.specs.declared.policies.policy_set.PolicySetError.{PolicySetError}
 use Rattle.cedar_layers.specs.declared.policies.policy_set.PolicySetError.TheVariants as sets

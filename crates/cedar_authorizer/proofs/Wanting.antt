@@ -1,4 +1,4 @@
--- A failure that is no want of memory by its kind is not the failure of that name.
+-- A failure that is not out of memory by its kind is not the failure of that name.
 use Rattle.std.specs.Prelude.{◌≡◌, ◌≢◌, false}
 use Rattle.std.proofs.Common.{ap}
 use Rattle.cedar_model.specs.Failures.{Failure, out_of_memory, failure_kind}

@@ -75,7 +75,7 @@ pub record IsConcreteRun (c : Configuration) (s : Setting) (ps : List Policy) (r
 
 -- ---- sheets
 
--- what is decided is what such an answer decides, which is not want of memory
+-- what is decided is what such an answer decides, which is not out of memory
 abbrev pub ComesOutBy : (Answer → Type 0) → Decided → Type 0
 ComesOutBy May d = (a : Answer) × May a × (a ≢ fails out_of_memory) × (d ≡ decided a)
 

@@ -53,7 +53,7 @@ pub record Says (r : PartialResponse) (a : Response) : Type 0 where
 abbrev pub step_answer : Result PartialResponse ReauthorizationError → Option (Result PartialResponse Refusal)
 step_answer = step_answer_by (λ r. r)
 
--- where response and authorizer handle errors in different ways, that is the refusal, even where memory is wanting
+-- where response and authorizer handle errors in different ways, that is the refusal, even if out of memory
 abbrev pub IsConflict : ErrorHandling → ErrorHandling → Option (Result PartialResponse Refusal) → Type 0
 IsConflict authorizer response answer =
     is_same_mode authorizer response ≡ false → answer ≡ Some (Err (mode_is_other response authorizer))

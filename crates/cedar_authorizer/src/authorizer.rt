@@ -154,8 +154,8 @@ impl<'f> Authorizer<'f> {
     /// What the policies decide for the request over this store: a satisfied forbid denies, else a satisfied permit
     /// allows, else it is denied. A policy that errs is skipped, and its error is recorded; so is one of whose
     /// condition something is left, with `NonValue`. In `ForbidOnError` a forbid that errs, or of whose condition
-    /// something is left, denies too. It is what `is_authorized_core` answers, made concrete. Refuses only for want of
-    /// memory.
+    /// something is left, denies too. It is what `is_authorized_core` answers, made concrete. Refuses only if
+    /// out of memory.
     pub fn is_authorized(
         &self,
         alloc: Global,
@@ -184,7 +184,7 @@ impl<'f> Authorizer<'f> {
     /// condition. A policy that errs is false with `ErrorState::Error`, and its error is recorded, the recursion limit
     /// included; in `ForbidOnError` a forbid that errs is satisfied, and its error recorded. In every completion of the
     /// request and the store what is reported stands, if no recursion limit is recorded. Where nothing is unknown no
-    /// residual is left, and the decision is given. Refuses only for want of memory.
+    /// residual is left, and the decision is given. Refuses only if out of memory.
     pub fn is_authorized_core(
         &self,
         alloc: Global,
@@ -212,7 +212,7 @@ impl<'f> Authorizer<'f> {
     /// The core call, and then one `reauthorize` a step, each with the step's map of values for unknowns and its store.
     /// Where the errors of a response hold the recursion limit, that response is the answer, and no step after it is
     /// taken: the limit can stand for a forbid that errs, which a further step would carry on as false. Refuses as the
-    /// first step that is refused, or for want of memory.
+    /// first step that is refused, or if out of memory.
     #[tactic(auto, using(crate::proofs::Joined::memory_unwrapped))]
     pub fn authorize_in_steps(
         &self,
@@ -255,7 +255,7 @@ fn run_all(
     Ok(sheet)
 }
 
-// How the policy's condition comes out. Want of memory is no outcome.
+// How the policy's condition comes out. Running out of memory is no outcome.
 fn outcome_of(
     alloc: Global,
     evaluator: &Evaluator<'_, '_>,
@@ -271,14 +271,14 @@ fn outcome_of(
     }
 }
 
-// Want of memory is never recorded.
+// Running out of memory is never recorded.
 #[tactic(auto, using(crate::proofs::Wanting::is_not_memory))]
 fn failed_outcome(error: EvaluationError) -> Result<ConditionOutcome, AllocError>
     ensures memory { IfOk result (λ o. failure_of error ≢ out_of_memory) }
     ensures outcome { IfOk result (λ o. outcome_view o ≡ errs_with (failure_of error)) }
     ensures place { (l : Option Loc) → IfOk result (IsLeftAt l) }
 {
-    if error.is_want_of_memory() {
+    if error.is_out_of_memory() {
         return Err(AllocError);
     }
     Ok(ConditionOutcome::Failed(error))

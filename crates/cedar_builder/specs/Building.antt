@@ -11,16 +11,16 @@ use Rattle.cedar_expressions.specs.View.{view}
 use Rattle.cedar_builder.specs.declared.expressions.ExprBuilder.{ExprBuilder}
 use Rattle.cedar_builder.specs.declared.expressions.lists.FieldBuilder.{FieldBuilder}
 
--- what was made so far, or that memory was wanting: the expression with its place and those of its parts
+-- what was made so far, or that memory ran out: the expression with its place and those of its parts
 abbrev pub expression_of : ExprBuilder → Result Expr AllocError
 expression_of b = b.built
 
--- the term of what was made, if memory was not wanting
+-- the term of what was made, unless out of memory
 abbrev pub term_in : Result Expr AllocError → Option Term
 term_in (Ok e) = Some (view e)
 term_in (Err x) = None
 
--- the term of the expression that was said, if memory was not wanting on the way
+-- the term of the expression that was said, unless memory ran out on the way
 abbrev pub term_of : ExprBuilder → Option Term
 term_of b = term_in b.built
 
@@ -34,11 +34,11 @@ abbrev pub of_three : {A B C D : Type 0} → (A → B → C → D) → Option A 
 of_three f None b c = None
 of_three f (Some x) b c = of_two (f x) b c
 
--- this was made, or memory was wanting
+-- this was made, or memory ran out
 abbrev pub Makes : Result Expr AllocError → Option Term → Type 0
 Makes r what = IfOk r (λ e. what ≡ Some (view e))
 
--- this was said, or memory was wanting
+-- this was said, or memory ran out
 abbrev pub Builds : ExprBuilder → Option Term → Type 0
 Builds b what = Makes b.built what
 
@@ -50,7 +50,7 @@ is_of_type_in ty t u = both (is_of_type t ty) (binary in_operator t u)
 
 -- ---- lists
 
--- the terms of all, if memory was wanting for none
+-- the terms of all, if memory ran out for none
 abbrev pub terms_of_all : List ExprBuilder → Option (List Term)
 terms_of_all [] = Some []
 terms_of_all (b ∷ bs) = of_two ◌∷◌ (term_of b) (terms_of_all bs)
@@ -59,7 +59,7 @@ terms_of_all (b ∷ bs) = of_two ◌∷◌ (term_of b) (terms_of_all bs)
 abbrev pub under : Text → Term → Text × Term
 under k t = (k, t)
 
--- the key and the term of a field, if memory was not wanting
+-- the key and the term of a field, unless out of memory
 abbrev pub field_in : Result (RcStr Global × Expr) AllocError → Option (Text × Term)
 field_in (Ok p) = Some (under (rc_str_bytes p.0) (view p.1))
 field_in (Err x) = None
@@ -67,11 +67,11 @@ field_in (Err x) = None
 abbrev pub field_of : FieldBuilder → Option (Text × Term)
 field_of f = field_in f.built
 
--- this field was said, or memory was wanting
+-- this field was said, or memory ran out
 abbrev pub BuildsField : FieldBuilder → Option (Text × Term) → Type 0
 BuildsField f what = IfOk f.built (λ p. what ≡ Some (under (rc_str_bytes p.0) (view p.1)))
 
--- all fields, if memory was wanting for none
+-- all fields, if memory ran out for none
 abbrev pub fields_of_all : List FieldBuilder → Option (List (Text × Term))
 fields_of_all [] = Some []
 fields_of_all (f ∷ fs) = of_two ◌∷◌ (field_of f) (fields_of_all fs)

@@ -101,11 +101,11 @@ abbrev pub said_in : Result PolicyParts AllocError → Option PolicySaid
 said_in (Ok p) = Some (parts_said p)
 said_in (Err x) = None
 
--- what was said of the policy, if memory was not wanting on the way
+-- what was said of the policy, unless memory ran out on the way
 abbrev pub said : PolicyBuilder → Option PolicySaid
 said b = said_in b.parts
 
--- this was said, or memory was wanting
+-- this was said, or memory ran out
 abbrev pub SaysIn : Result PolicyParts AllocError → Option PolicySaid → Type 0
 SaysIn r what = IfOk r (λ p. what ≡ Some (parts_said p))
 

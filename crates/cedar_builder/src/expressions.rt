@@ -19,7 +19,7 @@ pub use operators::if_then_else;
 use std::alloc::{AllocError, Global};
 use std::marker::Model;
 
-/// An expression in the making: what was said so far, or that memory was wanting on the way.
+/// An expression in the making: what was said so far, or that memory ran out on the way.
 #[derive(Drop)]
 pub struct ExprBuilder {
     pub(crate) alloc: Global,
@@ -51,7 +51,7 @@ pub fn expr(alloc: Global, expr: Expr) -> ExprBuilder
 
 impl ExprBuilder {
     /// The expression that was said. One that was handed in (`expr`) comes back as it was handed in, and with it the
-    /// places of its parts. Refuses only for want of memory, which was wanting on the way.
+    /// places of its parts. Refuses only if memory ran out on the way.
     pub fn expr(self) -> Result<Expr, AllocError>
         ensures term { term_in result ≡ term_of self }
         ensures whole { result ≡ expression_of self }

@@ -15,14 +15,14 @@ mod scopes;
 
 use crate::expressions::ExprBuilder;
 use cedar_expressions::Expr;
+use cedar_fallible::pair_of;
 use cedar_layers::policies::{Annotations, Effect, Policy, PolicyID};
 use cedar_names::{Literal, SlotEnv};
-use cedar_results::pair_of;
 use std::alloc::{AllocError, Global};
 use std::marker::Model;
 use std::rc::RcStr;
 
-/// A policy in the making: what was said so far, or that memory was wanting on the way.
+/// A policy in the making: what was said so far, or that memory ran out on the way.
 #[derive(Drop)]
 pub struct PolicyBuilder {
     alloc: Global,
@@ -58,17 +58,17 @@ struct PolicyParts {
 pub fn permit(alloc: Global, id: &str) -> PolicyBuilder
     ensures { Says result (Some (nothing_said permit id.now)) }
 {
-    begun(alloc, Effect::Permit, id)
+    begin_policy(alloc, Effect::Permit, id)
 }
 
 /// A policy of this id that forbids: `forbid(principal, action, resource);`, until more is said.
 pub fn forbid(alloc: Global, id: &str) -> PolicyBuilder
     ensures { Says result (Some (nothing_said forbid id.now)) }
 {
-    begun(alloc, Effect::Forbid, id)
+    begin_policy(alloc, Effect::Forbid, id)
 }
 
-fn begun(alloc: Global, effect: Effect, id: &str) -> PolicyBuilder
+fn begin_policy(alloc: Global, effect: Effect, id: &str) -> PolicyBuilder
     ensures { Says result (Some (nothing_said (effect_view effect) id.now)) }
 {
     PolicyBuilder {
@@ -119,7 +119,7 @@ impl PolicyBuilder {
         self.when(condition.not())
     }
 
-    /// The policy that was said, at no known location. Refuses only for want of memory, here or on the way.
+    /// The policy that was said, at no known location. Refuses only if out of memory, here or on the way.
     pub fn policy(self) -> Result<Policy, AllocError>
         ensures view { IfOk result (λ p. option_map policy_said (said self) ≡ Some (policy_view p)) }
         ensures loc { IfOk result (λ p. policy_location p ≡ None) }
@@ -186,7 +186,7 @@ fn with_condition(
         resource,
         condition,
     } = parts;
-    match joined(alloc, condition, clause) {
+    match join_conditions(alloc, condition, clause) {
         Ok(condition) => Ok(PolicyParts {
             effect,
             id,
@@ -201,7 +201,7 @@ fn with_condition(
 }
 
 // The conditions so far and this one.
-fn joined(alloc: Global, condition: Option<Expr>, clause: Expr) -> Result<Expr, AllocError>
+fn join_conditions(alloc: Global, condition: Option<Expr>, clause: Expr) -> Result<Expr, AllocError>
     ensures { IfOk result (λ e. view e ≡ joined (option_map view condition) (view clause)) }
 {
     match condition {

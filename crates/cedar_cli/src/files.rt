@@ -1,5 +1,5 @@
 //! The files that arguments name.
-use cedar_answers::{Refusal, Source, Step, refused};
+use crate::{Refusal, Source, Step, refuse_with_line};
 use clap::ArgMatches;
 use std::alloc::Global;
 use std::rt::Files;
@@ -127,7 +127,7 @@ fn put_step<R: Files + AllocGlobal>(
     steps: &mut Vec<StepFiles>,
 ) -> Result<(), Refusal> {
     if let Some(values) = names.first() {
-        let values = named(rt, values)?;
+        let values = read_named(rt, values)?;
         let step = with_entities(rt, values, names.get(1).copied())?;
         steps.push(step)?;
     }
@@ -151,12 +151,12 @@ fn with_entities<R: Files + AllocGlobal>(
 // The file of this name and its text, if one is named.
 fn text_of<R: Files + AllocGlobal>(rt: &R, name: Option<&str>) -> Result<Option<File>, Refusal> {
     match name {
-        Some(name) => Ok(Some(named(rt, name)?)),
+        Some(name) => Ok(Some(read_named(rt, name)?)),
         None => Ok(None),
     }
 }
 
-fn named<R: Files + AllocGlobal>(rt: &R, name: &str) -> Result<File, Refusal> {
+fn read_named<R: Files + AllocGlobal>(rt: &R, name: &str) -> Result<File, Refusal> {
     let text = file_text(rt, name)?;
     let name = String::from_str(rt.alloc(), name)?;
     Ok(File { name, text })
@@ -177,5 +177,5 @@ fn unread(alloc: Global, name: &str, error: &io::Error) -> Refusal {
         io::ErrorKind::InvalidData => format!(in alloc; "{name}: not UTF-8"),
         _ => format!(in alloc; "{name}: {error}"),
     };
-    refused(alloc, line)
+    refuse_with_line(alloc, line)
 }

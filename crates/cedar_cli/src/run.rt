@@ -1,9 +1,9 @@
 //! Runs a command.
 use crate::commands::cedar;
 use crate::files::Texts;
-use cedar_answers::{
-    Asked, ErrorHandling, Printed, Refusal, Source, Way, authorized, checked, evaluated, formatted,
-    partially_authorized,
+use crate::{
+    Asked, ErrorHandling, Printed, Refusal, Source, Way, authorize, check_policies,
+    evaluate_expression, format_policies, partially_authorized,
 };
 use clap::error::ErrorKind;
 use clap::{ArgMatches, Error};
@@ -17,23 +17,23 @@ pub enum Answer {
     Printed(Printed),
     /// Nothing is to be printed but these lines, on standard error. The exit status is 1.
     Refused(String),
-    /// Memory was wanting. The exit status is 3.
+    /// Out of memory. The exit status is 3.
     OutOfMemory,
 }
 
 /// What the command comes to that these words write, the first of which is the program's name.
-pub fn answered<R: Files + AllocGlobal>(rt: &R, words: &[String]) -> Answer {
-    match printed(rt, words) {
+pub fn answer_command<R: Files + AllocGlobal>(rt: &R, words: &[String]) -> Answer {
+    match parse_and_run(rt, words) {
         Ok(printed) => Answer::Printed(printed),
         Err(Refusal::Told(lines)) => Answer::Refused(lines),
         Err(Refusal::Memory) => Answer::OutOfMemory,
     }
 }
 
-fn printed<R: Files + AllocGlobal>(rt: &R, words: &[String]) -> Result<Printed, Refusal> {
+fn parse_and_run<R: Files + AllocGlobal>(rt: &R, words: &[String]) -> Result<Printed, Refusal> {
     let command = cedar(rt.alloc())?;
     match command.try_get_matches_from(words) {
-        Ok(matches) => dispatched(rt, &matches),
+        Ok(matches) => dispatch_command(rt, &matches),
         Err(error) => help_or_refusal(rt.alloc(), &error),
     }
 }
@@ -52,7 +52,7 @@ fn help_or_refusal(alloc: Global, error: &Error) -> Result<Printed, Refusal> {
     }
 }
 
-fn dispatched<R: Files + AllocGlobal>(
+fn dispatch_command<R: Files + AllocGlobal>(
     rt: &R,
     matches: &ArgMatches<'_>,
 ) -> Result<Printed, Refusal> {
@@ -94,19 +94,19 @@ fn run_with(
     texts: &Texts,
 ) -> Result<Printed, Refusal> {
     let policies = texts.policies();
-    let asked = asked(matches, texts);
+    let asked = read_question(matches, texts);
     match name {
-        "authorize" => authorized(alloc, policies, &asked, way(matches)),
+        "authorize" => authorize(alloc, policies, &asked, way(matches)),
         "partially-authorize" => partial(alloc, &asked, matches, texts),
         "evaluate" => {
             let is_json = matches.get_flag("json");
-            evaluated(alloc, expression(matches), &asked, limit(matches), is_json)
+            evaluate_expression(alloc, expression(matches), &asked, limit(matches), is_json)
         }
         "check-parse" => {
-            checked(alloc, policies)?;
+            check_policies(alloc, policies)?;
             Ok(nothing(alloc))
         }
-        _ => Ok(printed_alone(alloc, formatted(alloc, policies)?)),
+        _ => Ok(printed_alone(alloc, format_policies(alloc, policies)?)),
     }
 }
 
@@ -123,7 +123,7 @@ fn partial(
 }
 
 // What the arguments say of the request and of the entities.
-fn asked<'m, 't>(matches: &ArgMatches<'m>, texts: &'t Texts) -> Asked<'m, 't> {
+fn read_question<'m, 't>(matches: &ArgMatches<'m>, texts: &'t Texts) -> Asked<'m, 't> {
     Asked {
         principal: matches.get_str("principal"),
         principal_type: matches.get_str("principal-type"),

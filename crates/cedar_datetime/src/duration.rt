@@ -25,7 +25,7 @@ pub fn parse(text: &str) -> Option<i64>
 }
 
 /// Writes a number of milliseconds as the text of a duration, `Nms`, which `parse` reads as that number
-/// (`laws::written_durations_are_read`). The only error is want of memory.
+/// (`laws::written_durations_are_read`). The only error is out of memory.
 pub fn write(alloc: Global, milliseconds: i64) -> Result<String, AllocError>
     ensures { IfOk result (λ text. string_bytes text ≡ Duration.written milliseconds) }
 {

@@ -12,7 +12,7 @@ ghost use Rattle.cedar_datetime_functions.specs.Names.{datetime_name};
 
 use cedar_datetime::keys::key_of;
 use cedar_errors::evaluator::err::EvaluationError;
-use cedar_extension_values::{constructed, failed, first_text};
+use cedar_extension_values::{construct_value, fail_with_message, first_text};
 use cedar_values::Value;
 use std::alloc::Global;
 use std::rc::RcStr;
@@ -72,10 +72,10 @@ fn made_of(
     ensures error_place { IfErr result (λ e. error_loc e ≡ None) }
 {
     match number {
-        Some(number) => match constructed(alloc, name, &key_of(number), name, text) {
+        Some(number) => match construct_value(alloc, name, &key_of(number), name, text) {
             Ok(value) => Ok(value),
             Err(error) => Err(EvaluationError::Memory(error)),
         },
-        None => Err(failed(alloc, "datetime", message)),
+        None => Err(fail_with_message(alloc, "datetime", message)),
     }
 }

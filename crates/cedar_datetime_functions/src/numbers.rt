@@ -12,7 +12,7 @@ ghost use Rattle.cedar_datetime_functions.specs.Numbers.{datetime_value, duratio
 use cedar_datetime::duration::write;
 use cedar_datetime::keys::{key_of, value_of};
 use cedar_errors::evaluator::err::EvaluationError;
-use cedar_extension_values::{constructed, failed, offset_from_epoch};
+use cedar_extension_values::{construct_value, fail_with_message, offset_from_epoch};
 use cedar_values::Value;
 use std::alloc::{AllocError, Global};
 use std::rc::RcStr;
@@ -30,7 +30,7 @@ pub(crate) fn number_of(alloc: Global, key: &[u8]) -> Result<i64, EvaluationErro
 {
     match value_of(key) {
         Some(number) => Ok(number),
-        None => Err(failed(alloc, "datetime", NOT_EIGHT_BYTES)),
+        None => Err(fail_with_message(alloc, "datetime", NOT_EIGHT_BYTES)),
     }
 }
 
@@ -49,7 +49,7 @@ pub(crate) fn datetime_if_within(
             Ok(value) => Ok(value),
             Err(error) => Err(EvaluationError::Memory(error)),
         },
-        None => Err(failed(alloc, "datetime", BEYOND_64_BITS)),
+        None => Err(fail_with_message(alloc, "datetime", BEYOND_64_BITS)),
     }
 }
 
@@ -65,7 +65,7 @@ pub(crate) fn duration_if_within(
 {
     match number {
         Some(number) => duration_of(alloc, number),
-        None => Err(failed(alloc, "datetime", BEYOND_64_BITS)),
+        None => Err(fail_with_message(alloc, "datetime", BEYOND_64_BITS)),
     }
 }
 
@@ -94,7 +94,7 @@ fn duration_value(alloc: Global, number: i64) -> Result<Value, AllocError>
     ensures place { IfOk result (λ v. v.loc ≡ None) }
 {
     let text = text_of(alloc, number)?;
-    constructed(alloc, "duration", &key_of(number), "duration", &text)
+    construct_value(alloc, "duration", &key_of(number), "duration", &text)
 }
 
 // The text of a duration of this number.

@@ -12,8 +12,8 @@ pub fn parse(text: &str) -> Option<i64>
     ensures { result ≡ decimal_of text.now }
 {
     match text.strip_prefix('-') {
-        Some(digits) => negative(unsigned(digits)),
-        None => positive(unsigned(text)),
+        Some(digits) => negative(parse_unsigned(digits)),
+        None => positive(parse_unsigned(text)),
     }
 }
 
@@ -32,7 +32,7 @@ fn positive(size: Option<u64>) -> Option<i64>
 }
 
 // The size that the text writes without a sign, if it is below 2 ^ 64.
-fn unsigned(text: &str) -> Option<u64>
+fn parse_unsigned(text: &str) -> Option<u64>
     ensures { result ≡ within_64_bits (unsigned_of text.now) }
 {
     match text.split_once('.') {

@@ -7,7 +7,7 @@ ghost use Rattle.cedar_decimal_functions.specs.Decimals.{decimal_answer};
 
 use cedar_decimal::key;
 use cedar_errors::evaluator::err::EvaluationError;
-use cedar_extension_values::{constructed, failed, first_text};
+use cedar_extension_values::{construct_value, fail_with_message, first_text};
 use cedar_values::Value;
 use std::alloc::Global;
 
@@ -25,11 +25,11 @@ pub fn decimal(alloc: Global, args: &[Value]) -> Result<Value, EvaluationError>
 {
     match first_text(alloc, args) {
         Ok(text) => match key(text.as_str()) {
-            Some(key) => match constructed(alloc, "decimal", &key, "decimal", text) {
+            Some(key) => match construct_value(alloc, "decimal", &key, "decimal", text) {
                 Ok(value) => Ok(value),
                 Err(error) => Err(EvaluationError::Memory(error)),
             },
-            None => Err(failed(alloc, "decimal", NOT_A_DECIMAL)),
+            None => Err(fail_with_message(alloc, "decimal", NOT_A_DECIMAL)),
         },
         Err(error) => Err(error),
     }

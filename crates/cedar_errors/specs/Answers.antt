@@ -25,6 +25,6 @@ Answers r a = value_answer r ≢ fails out_of_memory → value_answer r ≡ a
 abbrev pub AnswersWith : Result PartialValue EvaluationError → Answer → Type 0
 AnswersWith r a = partial_answer r ≢ fails out_of_memory → partial_answer r ≡ a
 
--- an error is this failure, unless it is want of memory
+-- an error is this failure, unless it is out of memory
 abbrev pub FailsWith : EvaluationError → Failure → Type 0
 FailsWith e f = failure_of e ≢ out_of_memory → failure_of e ≡ f

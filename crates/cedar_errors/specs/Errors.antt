@@ -28,7 +28,7 @@ abbrev pub overflow_at : IntegerOverflowError → Option Loc → IntegerOverflow
 overflow_at (overflows.BinaryOp e) l = overflows.BinaryOp (record e { source_loc = l })
 overflow_at (overflows.UnaryOp e) l = overflows.UnaryOp (record e { source_loc = l })
 
--- the evaluation's error for a look-up's: want of memory stays want of memory
+-- the evaluation's error for a look-up's: running out of memory stays out of memory
 abbrev pub error_of_lookup : ExtensionFunctionLookupError → EvaluationError
 error_of_lookup (lookups.FuncDoesNotExist e) = errors.FailedExtensionFunctionLookup (lookups.FuncDoesNotExist e)
 error_of_lookup (lookups.Memory e) = errors.Memory e

@@ -1,4 +1,4 @@
--- The errors that end a whole evaluation: the recursion limit, and want of memory.
+-- The errors that end a whole evaluation: the recursion limit, and out of memory.
 use Rattle.std.specs.Prelude.{Bool, true, false, ◌||◌}
 use Rattle.cedar_model.specs.Failures.{FailureKind, of_meaning, of_residual, of_limit, of_memory}
 use Rattle.cedar_model.specs.Chains as chains
@@ -20,26 +20,26 @@ is_limit (errors.NonValue e) = false
 is_limit (errors.RecursionLimit e) = true
 is_limit (errors.Memory e) = false
 
--- want of memory
-abbrev pub is_want : EvaluationError → Bool
-is_want (errors.EntityDoesNotExist e) = false
-is_want (errors.EntityAttrDoesNotExist e) = false
-is_want (errors.RecordAttrDoesNotExist e) = false
-is_want (errors.FailedExtensionFunctionLookup e) = false
-is_want (errors.TypeError e) = false
-is_want (errors.WrongNumArguments e) = false
-is_want (errors.IntegerOverflow e) = false
-is_want (errors.UnlinkedSlot e) = false
-is_want (errors.FailedExtensionFunctionExecution e) = false
-is_want (errors.NonValue e) = false
-is_want (errors.RecursionLimit e) = false
-is_want (errors.Memory e) = true
+-- out of memory
+abbrev pub is_memory_variant : EvaluationError → Bool
+is_memory_variant (errors.EntityDoesNotExist e) = false
+is_memory_variant (errors.EntityAttrDoesNotExist e) = false
+is_memory_variant (errors.RecordAttrDoesNotExist e) = false
+is_memory_variant (errors.FailedExtensionFunctionLookup e) = false
+is_memory_variant (errors.TypeError e) = false
+is_memory_variant (errors.WrongNumArguments e) = false
+is_memory_variant (errors.IntegerOverflow e) = false
+is_memory_variant (errors.UnlinkedSlot e) = false
+is_memory_variant (errors.FailedExtensionFunctionExecution e) = false
+is_memory_variant (errors.NonValue e) = false
+is_memory_variant (errors.RecursionLimit e) = false
+is_memory_variant (errors.Memory e) = true
 
 -- an error that ends the whole evaluation
 abbrev pub is_final : EvaluationError → Bool
-is_final e = is_limit e || is_want e
+is_final e = is_limit e || is_memory_variant e
 
--- whether a failure of this kind is want of memory
+-- whether a failure of this kind is out of memory
 unfoldable pub is_of_memory : FailureKind → Bool
 is_of_memory (of_meaning k) = false
 is_of_memory of_residual = false

@@ -10,7 +10,7 @@ pub enum ExtensionFunctionLookupError {
     /// No extension has a function of this name.
     #[error(transparent)]
     FuncDoesNotExist(FuncDoesNotExistError),
-    /// Memory was wanting.
+    /// Out of memory.
     #[error("out of memory")]
     Memory(AllocError),
 }
@@ -55,7 +55,7 @@ impl ExtensionFunctionLookupError {
     ghost use Rattle.std.specs.Prelude.{◌≡◌, option_copied};
     ghost use Rattle.cedar_errors.specs.Errors.{lookup_loc, lookup_at};
 
-    /// Where the function was called, if that is known. Want of memory has no location.
+    /// Where the function was called, if that is known. Running out of memory has no location.
     pub fn source_loc(&self) -> Option<&Loc>
         ensures { option_copied result ≡ lookup_loc self.now }
     {
@@ -96,7 +96,7 @@ impl From<FuncDoesNotExistError> for ExtensionFunctionLookupError {
     }
 }
 
-/// Want of memory is `Memory`, of which `EvaluationError::from` makes its own `Memory`.
+/// Running out of memory is `Memory`, of which `EvaluationError::from` makes its own `Memory`.
 impl From<AllocError> for ExtensionFunctionLookupError {
     ghost use Rattle.std.specs.Prelude.{◌≡◌};
     ghost use Rattle.cedar_errors.specs.declared.extensions.ExtensionFunctionLookupError.TheVariants.{Memory};
@@ -108,7 +108,7 @@ impl From<AllocError> for ExtensionFunctionLookupError {
     }
 }
 
-/// Want of memory is `Memory`, and what found no room is dropped.
+/// Running out of memory is `Memory`, and what found no room is dropped.
 impl<T: Drop> From<AllocFailed<T>> for ExtensionFunctionLookupError {
     ghost use Rattle.std.specs.Prelude.{◌≡◌, alloc_error};
     ghost use Rattle.cedar_errors.specs.declared.extensions.ExtensionFunctionLookupError.TheVariants.{Memory};

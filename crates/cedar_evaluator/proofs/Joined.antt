@@ -38,16 +38,16 @@ module _ (s : Setting) (calls : StoredCalls) (n : ℕ) (t u : Term) where
     no_bool_left f is that ok = beside_value None is (fails f) (ap fails (that (λ w. ok (ap fails w))))
 
   module _ (r : Term) (x : Answer) (h : Runs s calls n t (answers_residual r)) (right : Meets (Runs s calls n u) x) where
-    best_of_want : x ≡ fails out_of_memory → best x u ≡ handed_up out_of_memory
+    best_of_out_of_memory : x ≡ fails out_of_memory → best x u ≡ handed_up out_of_memory
     unfolding best best_of_kind failure_kind
-    best_of_want w = ap (λ y. best y u) w
+    best_of_out_of_memory w = ap (λ y. best y u) w
 
     beside_best : (k : Best) (a : Answer) → best x u ≡ k → k ≢ handed_up out_of_memory →
         AfterBest k (λ t' b. b ≡ answers_residual (both r t')) a → Runs s calls (suc n) (both t u) a
     beside_best k a is fine then = (
       answers_residual r,
       h,
-      (x, right (λ w. fine (sym is ∙ best_of_want w)), subst (λ z. AfterBest z (λ t' b. b ≡ answers_residual (both r t')) a) (sym is) then),
+      (x, right (λ w. fine (sym is ∙ best_of_out_of_memory w)), subst (λ z. AfterBest z (λ t' b. b ≡ answers_residual (both r t')) a) (sym is) then),
     )
 
     -- beside a residual what is kept of the right side

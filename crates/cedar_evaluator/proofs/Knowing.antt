@@ -10,7 +10,7 @@ use Rattle.cedar_model.specs.Agreement.{own_world}
 use Rattle.cedar_model.specs.Authorizations.{evaluated, IsExact, IsExactDecision}
 use Rattle.cedar_model.specs.Responses.{Decided, errs_with, decided, result_of}
 use Rattle.cedar_model.proofs.Exactly.{decision_exact}
-use Rattle.cedar_restricted_evaluator.specs.Evaluations.{only_values}
+use Rattle.cedar_restricted.specs.Evaluations.{only_values}
 use Rattle.cedar_interpreter.specs.Promises.{IsPromised, IsKnownExactly}
 use Rattle.cedar_evaluator.specs.Evaluations.{IsPromisedValue, IsDecidedExactly}
 

@@ -20,6 +20,6 @@ AnswersAt v n t a = (slots : Slots) → Runs (setting_of v slots) (calls_in v) n
 abbrev pub AnswersFrom : {X : Type 0} {F : X → Type 0} {g : _} → Evaluator X F g → ℕ → Term → Answer → Type 0
 AnswersFrom v least t a = (n : ℕ) → least ≤ n → AnswersAt v n t a
 
--- with so many levels the term answers this, unless memory is wanting
+-- with so many levels the term answers this, unless out of memory
 abbrev pub RunsWith : {X : Type 0} {F : X → Type 0} {g : _} → Evaluator X F g → Slots → ℕ → Term → Answer → Type 0
 RunsWith v slots n t = Meets (Runs (setting_of v slots) (calls_in v) n t)

@@ -14,7 +14,7 @@ use Rattle.cedar_layers.specs.Policies.{policy_view, condition_term}
 use Rattle.cedar_layers.specs.Stores.{store_view}
 use Rattle.cedar_extensions.specs.declared.extensions.Extensions as stored
 use Rattle.cedar_extensions.specs.Extensions.{extensions_view, calls_of}
-use Rattle.cedar_restricted_evaluator.specs.Evaluations.{only_values}
+use Rattle.cedar_restricted.specs.Evaluations.{only_values}
 use Rattle.cedar_interpreter.specs.declared.evaluation.Given.{Given}
 use Rattle.cedar_interpreter.specs.Settings.{mapper_view, resolution_view, given_for}
 use Rattle.cedar_interpreter.specs.Promises.{IsKnownExactly, IsResiduallySound, KeepsDepthBound, IsLimitByNeed, IsAllowed, IsPromised}
@@ -76,7 +76,7 @@ setting_with_values s m =
 abbrev pub resolving : Resolution → Setting → Setting
 resolving resolution s = setting_for s.request s.store s.extensions s.map resolution s.slots
 
--- ---- what is promised of the answer to an expression, unless memory is wanting
+-- ---- what is promised of the answer to an expression, unless out of memory
 
 -- it is what the rules give within the limit
 abbrev pub RunsByRules : {X : Type 0} {F : X → Type 0} {g : _} → Evaluator X F g → Slots → Term → Answer → Type 0
@@ -117,7 +117,7 @@ IsPromisedOf v p = IsPromisedBy v (policy_view p).slots (condition_term (policy_
 abbrev pub IsPromisedValue : Setting → StoredCalls → ℕ → Term → Answer → Type 0
 IsPromisedValue s calls levels t a = (b : Answer) × IsPromised s calls levels t b × (a ≡ only_values b)
 
--- the value of an expression is as promised, unless memory is wanting
+-- the value of an expression is as promised, unless out of memory
 abbrev pub AnswersValue : {X : Type 0} {F : X → Type 0} {g : _} → Evaluator X F g → Slots → Term → Answer → Type 0
 AnswersValue v slots t = Meets (IsPromisedValue (setting_of v slots) (calls_in v) (limit_of v) t)
 
@@ -127,7 +127,7 @@ IsDecidedExactly s calls levels t r =
     HasNothingUnknown s → (ans : Functions) → AgreesWithFunctions ans calls → IsKnown ans t →
     (sigma : Text → AbstractValue) → IsExactDecision calls ans (own_world s sigma) s levels t r
 
--- so is what is decided of a policy's condition, unless memory is wanting
+-- so is what is decided of a policy's condition, unless out of memory
 abbrev pub DecidesWhereKnown : {X : Type 0} {F : X → Type 0} {g : _} → Evaluator X F g → Policy → Result Bool Failure → Type 0
 DecidesWhereKnown v p r =
     r ≢ Err out_of_memory →

@@ -11,8 +11,8 @@ ghost use Rattle.cedar_expressions.specs.View.{view, expr_loc};
 ghost use Rattle.cedar_values.specs.Residuals.{partial_view, partial_loc, IfValue};
 ghost use Rattle.cedar_layers.specs.Parts.{is_restricted_part};
 ghost use Rattle.cedar_errors.specs.Answers.{partial_answer, value_answer};
-ghost use Rattle.cedar_restricted_evaluator.specs.Evaluations.{only_values};
-ghost use Rattle.cedar_restricted_evaluator.specs.Elements.{ElementsStand};
+ghost use Rattle.cedar_restricted.specs.Evaluations.{only_values};
+ghost use Rattle.cedar_restricted.specs.Elements.{ElementsStand};
 ghost use Rattle.cedar_interpreter.specs.Settings.{given_for};
 ghost use Rattle.cedar_evaluator.specs.Decisions.{decision_of, partly_decided, IfLeaves};
 ghost use Rattle.cedar_evaluator.specs.Variables.{are_of_request};
@@ -29,7 +29,7 @@ use cedar_layers::policies::{Entities, Policy};
 use cedar_operators::failures::non_value;
 pub use cedar_operators::operators::{binary_arith, binary_relation, unary_app};
 use cedar_operators::typed::get_as_bool;
-pub use cedar_restricted_evaluator::RestrictedEvaluator;
+pub use cedar_restricted::RestrictedEvaluator;
 use either::{Either, Left, Right};
 use std::alloc::{AllocError, Global};
 use std::collections::HashMap;
@@ -59,7 +59,7 @@ impl<'e, 'f> Evaluator<'e, 'f> {
 
     /// The evaluator of this request over this store, with these extensions, where no unknown has a value and stored
     /// residuals are answered as they are stored. Evaluation goes at most `limit` levels deep: an expression is one
-    /// level, its parts one more. Refuses only for want of memory.
+    /// level, its parts one more. Refuses only if out of memory.
     pub fn new(
         alloc: Global,
         request: Request,
@@ -238,7 +238,7 @@ impl<'e, 'f> Evaluator<'e, 'f> {
 }
 
 // The value, or that something is left.
-#[tactic(auto, unfolding(cedar_restricted_evaluator::specs::Evaluations::only_values))]
+#[tactic(auto, unfolding(cedar_restricted::specs::Evaluations::only_values))]
 fn only_value(answer: Result<PartialValue, EvaluationError>) -> Result<Value, EvaluationError>
     ensures answer { value_answer result ≢ fails out_of_memory → value_answer result ≡ only_values
         (partial_answer answer) }

@@ -1,8 +1,20 @@
+//! The caller that `README.md` shows: it reads one policy from a text, makes a store and a request, and prints what
+//! the authorizer decides. It lists `cedar_policy_core` and no other crate of the repository.
+//!
+//! - `main`: all of it. `decided` reads the policy by `parse_policies`, with the functions of the standard extensions
+//!   known; makes a store of one user, who records a group as parent, by `close_hierarchy`; and asks `is_authorized` of
+//!   an `Authorizer` with 101 levels, one more than the text may have.
+//! - `stdout` has what it prints, which is compared.
+//!
+//! The promise is the checker's alone: the program stays within its memory and comes to an end. Its function has no
+//! clause; what it prints is what `is_authorized` decides, by that call's contract.
+//!
+//! A caller who wants to prove more of a decision finds one in `cedar_example_service`.
 #![tactic(auto)]
 
 use cedar_policy_core::ast::{Context, Entity, EntityUID, Request};
 use cedar_policy_core::authorizer::{Authorizer, Decision};
-use cedar_policy_core::entities::closed;
+use cedar_policy_core::entities::close_hierarchy;
 use cedar_policy_core::extensions::Extensions;
 use cedar_policy_core::parser::{Functions, parse_policies};
 use std::alloc::Global;
@@ -24,7 +36,7 @@ fn decided(alloc: Global) -> Option<Decision> {
     parents.insert(staff).ok()?;
     let (attrs, tags) = (BTreeMap::new(alloc), BTreeMap::new(alloc));
     let user = Entity::from_values(alloc, alice, attrs, parents, tags).ok()?;
-    let entities = closed(alloc, vec![in alloc; user].ok()?).ok()?;
+    let entities = close_hierarchy(alloc, vec![in alloc; user].ok()?).ok()?;
     let principal = EntityUID::of(alloc, "User", "alice").ok()?;
     let action = EntityUID::of(alloc, "Action", "edit").ok()?;
     let resource = EntityUID::of(alloc, "Document", "plan").ok()?;

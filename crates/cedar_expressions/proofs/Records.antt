@@ -128,7 +128,7 @@ repeated-step es k e ks h =
 pub repeated-here : (es : Pairs) (k : RcStr Global) → is_some (lookup (is_at (order k)) es) ≡ true → repeated_key (keys_view es) (rc_str_bytes k) ≡ Some (rc_str_bytes k)
 repeated-here es k h = ap (λ b. if b then Some (rc_str_bytes k) else None) (sym (has_key es k) ∙ h)
 
--- a refusal of a key that is there is one of the first key that comes again, where the key comes next
+-- a refusal of a key that is there is one of the first duplicate key, where the key comes next
 pub refusal_again : (seen : List Text) (k : Text) (more : List Text) (place : Text) (e : ExpressionConstructionError)
     → IsRefusalOf (repeated_key seen k) place e → IsRefusalOf (first_repeated_after seen (k ∷ more)) place e
 refusal_again seen k more place (DuplicateKey key context) h =

@@ -1,4 +1,4 @@
--- Values in the place of unknowns, level by level, and over parts.
+-- Values instead of unknowns, level by level, and over parts.
 use Rattle.std.proofs.Common.{◌≡◌, ℕ, ◌≤◌, List, [], ◌∷◌, ◌++◌, map, length, take, Option, None, Some, Global, Less, Greater, refl, ap, ◌∙◌, subst}
 use Rattle.std.proofs.lemmas.Cmp.{nat_list_cmp_total}
 use Rattle.std.proofs.lemmas.List.{take_all}

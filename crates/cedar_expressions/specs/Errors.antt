@@ -16,12 +16,12 @@ abbrev pub IsInContext : ExpressionConstructionError → Bor (List ℕ) → Expr
 IsInContext (DuplicateKey key old) context result = result ≡ DuplicateKey key context
 IsInContext (Memory error) context result = result ≡ Memory error
 
--- an error names the repeated key and the context, or is for want of memory
+-- an error names the repeated key and the context, or is out of memory
 abbrev pub IsRefusalOf : Option Text → Text → ExpressionConstructionError → Type 0
 IsRefusalOf repeated place (DuplicateKey key context) =
     (repeated ≡ Some (rc_str_bytes key)) × (context.now ≡ place)
 IsRefusalOf repeated place (Memory error) = Unit {0}
 
--- why there is no record of these pairs: the first key that comes again, in a record literal, or want of memory
+-- why there is no record of these pairs: the first duplicate key, in a record literal, or out of memory
 abbrev pub IsRecordRefusal : List (RcStr Global × Expr) → ExpressionConstructionError → Type 0
 IsRecordRefusal pairs = IsRefusalOf (first_repeated (keys_view pairs)) (codes "in record literal")

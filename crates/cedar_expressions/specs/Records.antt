@@ -14,7 +14,7 @@ use Rattle.cedar_expressions.specs.View.{view}
 abbrev pub repeated_key : List Text → Text → Option Text
 repeated_key ks k = first_repeated_after ks (k ∷ [])
 
--- the new keys are the old ones and k: of further keys the same comes again
+-- the new keys are the old ones and k: of further keys the same are duplicates
 abbrev pub HasOneMore : List Text → Text → List Text → Type 0
 HasOneMore old k new = (more : List Text) → first_repeated_after old (k ∷ more) ≡ first_repeated_after new more
 

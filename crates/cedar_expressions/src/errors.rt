@@ -11,10 +11,10 @@ use thiserror::Error;
 /// Why an expression could not be made.
 #[derive(Debug, Clone, PartialEq, Eq, Drop, Error)]
 pub enum ExpressionConstructionError {
-    /// A key comes more than once. It is the first that comes again.
+    /// A key comes more than once. It is the first that is a duplicate.
     #[error("duplicate key `{key}` {context}")]
     DuplicateKey { key: RcStr, context: &'static str },
-    /// Want of memory.
+    /// Out of memory.
     #[error("out of memory")]
     Memory(AllocError),
 }

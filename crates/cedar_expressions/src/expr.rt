@@ -197,7 +197,7 @@ impl Expr {
         Expr::of_kind(ExprKind::Unknown(value))
     }
 
-    /// `if test_expr then then_expr else else_expr`. Refuses only for want of memory.
+    /// `if test_expr then then_expr else else_expr`. Refuses only if out of memory.
     pub fn ite(
         alloc: Global,
         test_expr: Expr,
@@ -218,7 +218,7 @@ impl Expr {
         }))
     }
 
-    /// `left && right`. Refuses only for want of memory.
+    /// `left && right`. Refuses only if out of memory.
     pub fn and(alloc: Global, left: Expr, right: Expr) -> Result<Expr, AllocError>
         ensures view { IfOk result (λ e. view e ≡ both (view left) (view right)) }
         ensures kind { IfOk result (λ e. node_of e ≡ node.And left right) }
@@ -228,7 +228,7 @@ impl Expr {
         Ok(Expr::of_kind(ExprKind::And { left, right }))
     }
 
-    /// `left || right`. Refuses only for want of memory.
+    /// `left || right`. Refuses only if out of memory.
     pub fn or(alloc: Global, left: Expr, right: Expr) -> Result<Expr, AllocError>
         ensures view { IfOk result (λ e. view e ≡ either (view left) (view right)) }
         ensures kind { IfOk result (λ e. node_of e ≡ node.Or left right) }
@@ -238,7 +238,7 @@ impl Expr {
         Ok(Expr::of_kind(ExprKind::Or { left, right }))
     }
 
-    /// An operator on one part. Refuses only for want of memory.
+    /// An operator on one part. Refuses only if out of memory.
     pub fn unary_app(alloc: Global, op: UnaryOp, arg: Expr) -> Result<Expr, AllocError>
         ensures view { IfOk result (λ e. view e ≡ unary (unary_view op) (view arg)) }
         ensures kind { IfOk result (λ e. node_of e ≡ node.UnaryApp op arg) }
@@ -248,7 +248,7 @@ impl Expr {
         Ok(Expr::of_kind(ExprKind::UnaryApp { op, arg }))
     }
 
-    /// An operator on two parts. Refuses only for want of memory.
+    /// An operator on two parts. Refuses only if out of memory.
     pub fn binary_app(
         alloc: Global,
         op: BinaryOp,
@@ -263,7 +263,7 @@ impl Expr {
         Ok(Expr::of_kind(ExprKind::BinaryApp { op, arg1, arg2 }))
     }
 
-    /// A call of the extension function of this name. Refuses only for want of memory.
+    /// A call of the extension function of this name. Refuses only if out of memory.
     pub fn call_extension_fn(
         alloc: Global,
         fn_name: Name,
@@ -277,7 +277,7 @@ impl Expr {
         Ok(Expr::of_kind(ExprKind::ExtensionFunctionApp { fn_name, args }))
     }
 
-    /// `expr.attr`, of a record or an entity. Refuses only for want of memory.
+    /// `expr.attr`, of a record or an entity. Refuses only if out of memory.
     pub fn get_attr(alloc: Global, expr: Expr, attr: RcStr) -> Result<Expr, AllocError>
         ensures view { IfOk result (λ e. view e ≡ get_attribute (view expr) (rc_str_bytes attr)) }
         ensures kind { IfOk result (λ e. node_of e ≡ node.GetAttr expr attr) }
@@ -287,7 +287,7 @@ impl Expr {
         Ok(Expr::of_kind(ExprKind::GetAttr { expr, attr }))
     }
 
-    /// `expr has attr`, of a record or an entity. Refuses only for want of memory.
+    /// `expr has attr`, of a record or an entity. Refuses only if out of memory.
     pub fn has_attr(alloc: Global, expr: Expr, attr: RcStr) -> Result<Expr, AllocError>
         ensures view { IfOk result (λ e. view e ≡ has_attribute (view expr) (rc_str_bytes attr)) }
         ensures kind { IfOk result (λ e. node_of e ≡ node.HasAttr expr attr) }
@@ -297,7 +297,7 @@ impl Expr {
         Ok(Expr::of_kind(ExprKind::HasAttr { expr, attr }))
     }
 
-    /// `expr has first.second..`: that each attribute is there, one behind the other. Refuses only for want of memory.
+    /// `expr has first.second..`: that each attribute is there, one behind the other. Refuses only if out of memory.
     pub fn extended_has_attr(
         alloc: Global,
         expr: Expr,
@@ -312,7 +312,7 @@ impl Expr {
         Ok(Expr::of_kind(ExprKind::ExtHasAttr { expr, attrs }))
     }
 
-    /// `expr like pattern`, of a text. Refuses only for want of memory.
+    /// `expr like pattern`, of a text. Refuses only if out of memory.
     pub fn like(alloc: Global, expr: Expr, pattern: Pattern) -> Result<Expr, AllocError>
         ensures view { IfOk result (λ e. view e ≡ like (view expr) (pattern_view pattern)) }
         ensures kind { IfOk result (λ e. node_of e ≡ node.Like expr pattern) }
@@ -322,7 +322,7 @@ impl Expr {
         Ok(Expr::of_kind(ExprKind::Like { expr, pattern }))
     }
 
-    /// `expr is entity_type`, of an entity. Refuses only for want of memory.
+    /// `expr is entity_type`, of an entity. Refuses only if out of memory.
     pub fn is_entity_type(
         alloc: Global,
         expr: Expr,
@@ -336,7 +336,7 @@ impl Expr {
         Ok(Expr::of_kind(ExprKind::Is { expr, entity_type }))
     }
 
-    /// A set of these parts, in this order. Refuses only for want of memory.
+    /// A set of these parts, in this order. Refuses only if out of memory.
     pub fn set(alloc: Global, parts: Vec<Expr>) -> Result<Expr, AllocError>
         ensures view { IfOk result (λ e. view e ≡ set_of (terms_view parts.items)) }
         ensures kind { IfOk result (λ e. node_of e ≡ node.Set parts.items) }

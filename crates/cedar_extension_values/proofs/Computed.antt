@@ -149,13 +149,13 @@ of_keys_faithful X ans t u next h vs v given =
 
 -- ---- calls
 
-want_has_no_outcome : None ≡ function_answer (fails out_of_memory)
+out_of_memory_has_no_outcome : None ≡ function_answer (fails out_of_memory)
 unfolding function_answer failure_answer failure_kind
-want_has_no_outcome = refl
+out_of_memory_has_no_outcome = refl
 
--- an answer that has an outcome is not want of memory
-has_no_want : (a : Answer) (o : FunctionAnswer) → function_answer a ≡ Some o → a ≢ fails out_of_memory
-has_no_want a o e f = none_is_not_some (want_has_no_outcome ∙ sym (ap function_answer f) ∙ e)
+-- an answer that has an outcome is not out of memory
+is_never_out_of_memory : (a : Answer) (o : FunctionAnswer) → function_answer a ≡ Some o → a ≢ fails out_of_memory
+is_never_out_of_memory a o e f = none_is_not_some (out_of_memory_has_no_outcome ∙ sym (ap function_answer f) ∙ e)
 
 pub answers_come : AnswersComeToValues
-answers_come r a o h computed p e = some_inj (sym e ∙ ap function_answer (h (has_no_want (value_answer r) p e)) ∙ computed)
+answers_come r a o h computed p e = some_inj (sym e ∙ ap function_answer (h (is_never_out_of_memory (value_answer r) p e)) ∙ computed)

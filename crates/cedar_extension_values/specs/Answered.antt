@@ -12,11 +12,11 @@ use Rattle.cedar_errors.specs.declared.evaluator.err.EvaluationError.{Evaluation
 abbrev pub abstracts : List Placed → List AbstractValue
 abstracts vs = map abstract_value (whats vs)
 
--- the value that was answered, or the kind of the error, is this, unless memory was wanting
+-- the value that was answered, or the kind of the error, is this, unless out of memory
 abbrev pub ComesToValue : Result Placed EvaluationError → FunctionAnswer → Type 0
 ComesToValue r o = (p : FunctionAnswer) → function_answer (value_answer r) ≡ Some p → p ≡ o
 
--- so it is where the answer is one that has this outcome, unless memory was wanting
+-- so it is where the answer is one that has this outcome, unless out of memory
 abbrev pub AnswersComeToValues : Type 0
 AnswersComeToValues =
     (r : Result Placed EvaluationError) (a : Answer) (o : FunctionAnswer) → Answers r a → function_answer a ≡ Some o

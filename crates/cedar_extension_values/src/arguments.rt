@@ -10,7 +10,7 @@ ghost use Rattle.cedar_errors.specs.Errors.{error_loc};
 ghost use Rattle.cedar_extension_values.specs.Answered.{abstracts};
 ghost use Rattle.cedar_extension_values.specs.Arguments.{key_in, first_of, second_of};
 
-use crate::errors::{named, type_error};
+use crate::errors::{parse_name, type_error};
 use cedar_errors::evaluator::err::EvaluationError;
 use cedar_names::Type;
 use cedar_values::{Value, ValueKind, text_in};
@@ -122,7 +122,7 @@ fn other_type(alloc: Global, type_name: &str, value: &Value) -> EvaluationError
         (wrong_type (extension_type type_name.now) [] (abstract_value value.now.what)) }
     ensures place { error_loc result ≡ None }
 {
-    match named(alloc, type_name) {
+    match parse_name(alloc, type_name) {
         Ok(name) => type_error(alloc, Type::Extension { name }, value),
         Err(error) => EvaluationError::Memory(error),
     }

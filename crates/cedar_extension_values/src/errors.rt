@@ -16,7 +16,7 @@ use std::alloc::{AllocError, Global};
 use std::rc::RcStr;
 
 /// The error that a value of this type was expected, and this value was there. At no place: the evaluator says where.
-/// `Memory` where memory is wanting.
+/// `Memory` if out of memory.
 #[cold]
 #[inline(never)]
 pub fn type_error(alloc: Global, expected: Type, value: &Value) -> EvaluationError
@@ -37,10 +37,10 @@ pub fn type_error(alloc: Global, expected: Type, value: &Value) -> EvaluationErr
 }
 
 /// The error that a function of the extension of this name failed, with this message. At no place: the evaluator says
-/// where. `Memory` where memory is wanting.
+/// where. `Memory` if out of memory.
 #[cold]
 #[inline(never)]
-pub fn failed(alloc: Global, extension_name: &str, message: &str) -> EvaluationError
+pub fn fail_with_message(alloc: Global, extension_name: &str, message: &str) -> EvaluationError
     ensures failure { FailsWith result (function_has_failed extension_name.now message.now) }
     ensures place { error_loc result ≡ None }
 {
@@ -60,14 +60,14 @@ fn failure(
     ensures place { IfOk result (λ e. e.source_loc ≡ None) }
 {
     Ok(ExtensionFunctionExecutionError {
-        extension_name: named(alloc, extension_name)?,
+        extension_name: parse_name(alloc, extension_name)?,
         msg: String::from_str(alloc, message)?,
         source_loc: None,
     })
 }
 
 // The name of this text, at no place.
-pub(crate) fn named(alloc: Global, text: &str) -> Result<Name, AllocError>
+pub(crate) fn parse_name(alloc: Global, text: &str) -> Result<Name, AllocError>
     ensures { IfOk result (λ n. name_text n ≡ text.now) }
 {
     Ok(Name::new(RcStr::from_str(alloc, text)?, None))

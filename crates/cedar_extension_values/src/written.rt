@@ -7,7 +7,7 @@ ghost use Rattle.cedar_model.specs.Shapes.{are_restricted, have_unknown};
 ghost use Rattle.cedar_expressions.specs.View.{view, terms_view};
 ghost use Rattle.cedar_extension_values.specs.Written.{text_alone, constructed, offset_from_epoch, epoch};
 
-use crate::errors::named;
+use crate::errors::parse_name;
 use cedar_expressions::Expr;
 use cedar_names::Literal;
 use cedar_values::{ExtensionValue, Representation, Value, ValueKind};
@@ -15,8 +15,8 @@ use std::alloc::{AllocError, Global};
 use std::rc::{Rc, RcStr};
 
 /// The value of this extension type and key, written as the call `function("text")`, at no place. The only error is
-/// want of memory.
-pub fn constructed(
+/// out of memory.
+pub fn construct_value(
     alloc: Global,
     type_name: &str,
     key: &[u8],
@@ -33,7 +33,7 @@ pub fn constructed(
 }
 
 /// The datetime of this key, written as the call `datetime("1970-01-01").offset(duration("text"))`, at no place. The
-/// only error is want of memory.
+/// only error is out of memory.
 pub fn offset_from_epoch(alloc: Global, key: &[u8], text: &RcStr) -> Result<Value, AllocError>
     ensures what { IfOk result (λ v. v.what ≡ offset_from_epoch key.now (rc_str_bytes text.now)) }
     ensures inside { IfOk result (λ v. v.inside ≡ []) }
@@ -51,7 +51,7 @@ fn call_on(alloc: Global, function: &str, text: &RcStr) -> Result<Expr, AllocErr
     ensures { IfOk result (λ e. view e ≡ call function.now (text_alone (rc_str_bytes text.now))) }
 {
     let args = text_alone(alloc, text)?;
-    Expr::call_extension_fn(alloc, named(alloc, function)?, args)
+    Expr::call_extension_fn(alloc, parse_name(alloc, function)?, args)
 }
 
 // The text as an argument, alone.
@@ -78,8 +78,8 @@ fn extension_value(
     ensures inside { IfOk result (λ v. v.inside ≡ []) }
     ensures place { IfOk result (λ v. v.loc ≡ None) }
 {
-    let representation = Representation::new(named(alloc, function)?, Rc::new(alloc, args)?);
-    let typename = named(alloc, type_name)?;
+    let representation = Representation::new(parse_name(alloc, function)?, Rc::new(alloc, args)?);
+    let typename = parse_name(alloc, type_name)?;
     let key = Vec::from_slice(alloc, key)?;
     let value = Rc::new(
         alloc,

@@ -1,4 +1,4 @@
--- Names that come again, as they are collected.
+-- Duplicate names, as they are collected.
 use Rattle.std.proofs.Common.{◌≡◌, refl, sym, ap, subst, ◌∙◌, Bool, true, false, ◌||◌, true≢false, cond, List, [], ◌∷◌}
 use Rattle.std.proofs.Common.{◌++◌, map, Option, Some, None, is_some, IfSome, if◌then◌else◌}
 use Rattle.std.specs.Borrow.{Bor}
@@ -70,7 +70,7 @@ module _ {K : Type 0} (eq : K → K → Bool) (text : K → Text) (same : (a b :
   nothing_seen [] = tt
   nothing_seen (k ∷ ks) = (refl, nothing_seen ks)
 
-  -- distinct keys have no text that comes again
+  -- distinct keys have no text that is a duplicate
   pub none_again : (ks : List K) → IsDistinct eq ks → first_repeated (map text ks) ≡ None
   none_again ks d = none_after [] ks (nothing_seen ks) d
 
@@ -141,7 +141,7 @@ module _ {I : Type 0} (rest : I → List Name) (from : I) where
       ap first_repeated all ∙ one_again same_texts text_of (λ a b. refl) texts_equivalence (keys_of a.pairs) a.again.0 k
       (map name_text (rest a.rest)) a.distinct a.first
 
-  -- what is said of the name that an error has is said of the name that comes again
+  -- what is said of the name that an error has is said of the name that is a duplicate
   pub so_of_repeated : (P : Option Text → Type 0) (o : Option Text) (e : CollectError (Bor Name))
       → first_repeated (map name_text (rest from)) ≡ o
       → IfSome (duplicate e) (ComesAgain same_texts (YieldsFirstBy key_name rest) from) → (P None → P o)

@@ -22,7 +22,7 @@ returned_answer (Ok (outputs.Unknown u)) =
     answers_residual (unknown (rc_str_bytes u.name) (option_map type_view u.type_annotation))
 returned_answer (Err e) = fails (failure_of e)
 
--- a function that is called as `post` says may answer this to n values, besides want of memory
+-- a function that is called as `post` says may answer this to n values, besides running out of memory
 abbrev pub AnswersBy : ℕ → (Bor (List Placed) → Returned → Type 0) → List Represented → Answer → Type 0
 AnswersBy n post vs a =
     (args : Bor (List Placed)) × (r : Returned) × (length args.now ≡ n) × (whats args.now ≡ vs) × post args r
@@ -34,7 +34,7 @@ asks v =
     expecting (text_of (abstract_value v)) (wrong_type string_type [] (abstract_value v))
     (λ t. answers_residual (unknown t None))
 
--- the error that the value is no text, unless it is want of memory
+-- the error that the value is no text, unless it is out of memory
 abbrev pub IsTextExpected : Represented → EvaluationError → Type 0
 IsTextExpected v e = failure_of e ≢ out_of_memory → failure_of e ≡ wrong_type string_type [] (abstract_value v)
 

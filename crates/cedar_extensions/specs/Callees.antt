@@ -11,7 +11,7 @@ abbrev pub arity_of : {X : Type 0} {F : X → Type 0} {g : _} → Callee X F g �
 arity_of (callees.Stored f) = f.arity
 arity_of callees.Unknown = 1
 
--- what it may answer to values, besides want of memory
+-- what it may answer to values, besides running out of memory
 abbrev pub CalleeAnswers : {X : Type 0} {F : X → Type 0} {g : _} → Callee X F g → List Represented → Answer → Type 0
 CalleeAnswers {g = g} (callees.Stored f) vs a =
     AnswersBy f.arity (λ args r. g.post (f.func.vtable, f.func.value) (args, tt) r) vs a

@@ -26,7 +26,7 @@ Computation = List AbstractValue → FunctionAnswer
 
 -- ---- what one function computes
 
--- each call of n arguments comes to what c gives to their abstract values, unless memory was wanting
+-- each call of n arguments comes to what c gives to their abstract values, unless out of memory
 abbrev pub EachCallComesTo : ℕ → (Bor (List Placed) → Returned → Type 0) → Computation → Type 0
 EachCallComesTo n post c =
     (a : Bor (List Placed)) (r : Returned) → length a.now ≡ n → post a r → ComesTo r (c (abstracts a.now))

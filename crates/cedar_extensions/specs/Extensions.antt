@@ -52,11 +52,11 @@ overloaded_types_in x = map extension_type (extensions_view x).overloaded
 abbrev pub no_extensions : model.Extensions
 no_extensions = record { arity = λ n. None; overloaded = [] }
 
--- what each function that the caller made may answer, besides want of memory
+-- what each function that the caller made may answer, besides running out of memory
 abbrev pub made_calls_of : {X : Type 0} {F : X → Type 0} {g : _} → Extensions X F g → StoredCalls
 made_calls_of x n vs a = (f : _) × (func_of x n ≡ Some f) × CanAnswer f vs a
 
--- what each function may answer, besides want of memory
+-- what each function may answer, besides running out of memory
 abbrev pub calls_of : {X : Type 0} {F : X → Type 0} {g : _} → Extensions X F g → StoredCalls
 calls_of x n vs a = StandardFirst (standard_of x n) (made_calls_of x n vs a) vs a
 

@@ -42,7 +42,7 @@ arity f = length (function_takes f)
 abbrev pub function_text : {X : Type 0} {F : X → Type 0} {g : _} → ExtensionFunction X F g → Text
 function_text f = name_text (function_name f)
 
--- what it may answer to values, besides want of memory
+-- what it may answer to values, besides running out of memory
 abbrev pub CanAnswer : {X : Type 0} {F : X → Type 0} {g : _} → ExtensionFunction X F g → List Represented → Answer
     → Type 0
 CanAnswer f vs a = CalleeAnswers f.callee vs a
@@ -58,7 +58,7 @@ abbrev pub AnswersAlone : {X : Type 0} {F : X → Type 0} {g : _} → ExtensionF
     → Type 0
 AnswersAlone f vs a = LooksUp (λ _. CanAnswer f) (Some (arity f)) (function_text f) vs a
 
--- the error that it is called with so many arguments, unless it is want of memory
+-- the error that it is called with so many arguments, unless it is out of memory
 abbrev pub IsMiscounted : {X : Type 0} {F : X → Type 0} {g : _} → ExtensionFunction X F g → ℕ → EvaluationError → Type 0
 IsMiscounted f n e =
     failure_of e ≢ out_of_memory → failure_of e ≡ arguments_are_miscounted (function_text f) (arity f) n

@@ -23,7 +23,7 @@ use Rattle.cedar_extensions.specs.declared.function.stored.ExtensionOutputValue.
 abbrev pub Returned : Type 0
 Returned = Result ExtensionOutputValue EvaluationError
 
--- the kind of an error as an outcome; the recursion limit, a residual and want of memory are none
+-- the kind of an error as an outcome; the recursion limit, a residual and running out of memory are none
 abbrev pub error_outcome : EvaluationError → Option FunctionAnswer
 error_outcome (errors.EntityDoesNotExist e) = Some (function_errs entity_does_not_exist)
 error_outcome (errors.EntityAttrDoesNotExist e) = Some (function_errs entity_attribute_does_not_exist)
@@ -44,7 +44,7 @@ outcome (Ok (outputs.Known v)) = Some (function_gives (abstract_value v.what))
 outcome (Ok (outputs.Unknown u)) = Some (function_asks (rc_str_bytes u.name) (option_map type_view u.type_annotation))
 outcome (Err e) = error_outcome e
 
--- whether a stored function may answer this error of a look-up: want of memory that it holds is an error of its own
+-- whether a stored function may answer this error of a look-up: out of memory that it holds is an error of its own
 abbrev pub is_lawful_lookup : ExtensionFunctionLookupError → Bool
 is_lawful_lookup (lookups.FuncDoesNotExist e) = true
 is_lawful_lookup (lookups.Memory e) = false
@@ -84,16 +84,16 @@ AllowsBy n post xs o =
     (a : Bor (List Placed)) × (r : Returned) × (length a.now ≡ n) × (abstracts a.now ≡ xs) × post a r
     × (outcome r ≡ Some o)
 
--- to equal arguments it allows one outcome at most, besides want of memory
+-- to equal arguments it allows one outcome at most, besides running out of memory
 abbrev pub AtMostOne : ℕ → (Bor (List Placed) → Returned → Type 0) → Type 0
 AtMostOne n post = (xs : List AbstractValue) (o p : FunctionAnswer) → AllowsBy n post xs o → AllowsBy n post xs p → o
     ≡ p
 
--- it answers neither the recursion limit nor a residual, nor the error of a look-up that holds want of memory
+-- it answers neither the recursion limit nor a residual, nor the error of a look-up that holds an error of memory
 abbrev pub OnlyLawful : ℕ → (Bor (List Placed) → Returned → Type 0) → Type 0
 OnlyLawful n post = (a : Bor (List Placed)) (r : Returned) → length a.now ≡ n → post a r → is_lawful r ≡ true
 
--- a call comes to o, unless memory was wanting
+-- a call comes to o, unless out of memory
 abbrev pub ComesTo : Returned → FunctionAnswer → Type 0
 ComesTo r o = (p : FunctionAnswer) → outcome r ≡ Some p → p ≡ o
 

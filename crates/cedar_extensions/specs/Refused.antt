@@ -22,7 +22,7 @@ use Rattle.cedar_extensions.specs.Functions.{function_text, function_names, cons
 use Rattle.cedar_standard_functions.specs.Kinds.{standard_types}
 use Rattle.cedar_standard_functions.specs.Standard.{standard_named}
 
--- the first name of these functions that comes again
+-- the first duplicate name of these functions
 abbrev pub repeated_name : {X : Type 0} {F : X → Type 0} {g : _} → List (ExtensionFunction X F g) → Option Text
 repeated_name fs = first_repeated (map name_text (function_names fs))
 
@@ -34,14 +34,14 @@ repeated_type fs = first_repeated (map name_text (constructed_types fs))
 abbrev pub repeated_text : CollectError (Bor Name) → Option Text
 repeated_text e = option_map (λ k. name_text k.now) (duplicate e)
 
--- the error says that this name comes again
+-- the error says that this name is a duplicate
 abbrev pub IsNameRefused : Option Text → ExtensionInitializationError → Type 0
 IsNameRefused o (errors.FuncMultiplyDefined e) = o ≡ Some (name_text e.name)
 IsNameRefused o (errors.MultipleConstructorsSameSignature e) = ⊥
 IsNameRefused o (errors.StandardTypeOverloaded e) = ⊥
 IsNameRefused o (errors.Memory e) = Unit {0}
 
--- the error says that this extension type comes again
+-- the error says that this extension type is a duplicate
 abbrev pub IsTypeRefused : Option Text → ExtensionInitializationError → Type 0
 IsTypeRefused o (errors.FuncMultiplyDefined e) = ⊥
 IsTypeRefused o (errors.MultipleConstructorsSameSignature e) =
@@ -56,7 +56,7 @@ IsOverloadRefused o (errors.MultipleConstructorsSameSignature e) = ⊥
 IsOverloadRefused o (errors.StandardTypeOverloaded e) = o ≡ Some (name_text e.name)
 IsOverloadRefused o (errors.Memory e) = Unit {0}
 
--- the error says why these functions can't be used together: a name comes again, or else an extension type does
+-- the error says why these functions can't be used together: a name is a duplicate, or else an extension type is
 abbrev pub IsWhyRefused : {X : Type 0} {F : X → Type 0} {g : _} → List (ExtensionFunction X F g)
     → ExtensionInitializationError
     → Type 0
@@ -101,7 +101,7 @@ standard_type fs = type_made (find makes_standard fs)
 abbrev pub standard_overload : {X : Type 0} {F : X → Type 0} {g : _} → List (Extension X F g) → Option Text
 standard_overload es = option_map name_text (find is_standard (all_overloading_types es))
 
--- the first name of these functions that a standard function has, or else that comes again
+-- the first name of these functions that a standard function has, or else that is a duplicate
 abbrev pub name_taken : {X : Type 0} {F : X → Type 0} {g : _} → List (ExtensionFunction X F g) → Option Text
 name_taken fs = option_or (standard_name fs) (repeated_name fs)
 

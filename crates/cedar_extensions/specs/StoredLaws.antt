@@ -1,6 +1,6 @@
 -- The laws of what extensions' functions may answer: they answer alike to equal arguments, and never the recursion
 -- limit
--- or want of memory; each value is sound, and each residual is an unknown.
+-- or out of memory; each value is sound, and each residual is an unknown.
 use Rattle.std.specs.Prelude.{◌≡◌, ◌≢◌, ℕ, true, List, [], ◌∷◌, map, Option, Some, None, Ok, Err, option_map, is_some}
 use Rattle.std.specs.Borrow.{Bor}
 use Rattle.std.proofs.Common.{refl, sym, ap, subst, ◌∙◌, true≢false}
@@ -158,7 +158,7 @@ alike_by_outcome (Err d) (Err c) o e f =
     one_kind (failure_kind (failure_of d)) (failure_kind (failure_of c)) o (sym (error_outcome_model d) ∙ e)
     (sym (error_outcome_model c) ∙ f)
 
--- ---- a lawful answer has an outcome, besides want of memory
+-- ---- a lawful answer has an outcome, besides running out of memory
 
 lawful_error : (e : EvaluationError) → is_lawful_error e ≡ true → fails (failure_of e) ≢ fails out_of_memory
     → (o : FunctionAnswer) × (error_outcome e ≡ Some o)
@@ -363,7 +363,7 @@ module _ {X : Type 0} {F : X → Type 0} {g : _} (x : Extensions X F g) where
       first_never (standard_of x n) (made_calls_of x n vs limit) vs limit h (λ l. l.meets_no_limit refl)
       (λ own. callee_no_limit own.0.callee vs own.2)
 
-  -- nor want of memory
+  -- nor out of memory
   pub calls_find_memory : FunctionsFindMemory (calls_of x)
   calls_find_memory n vs h =
       first_never (standard_of x n) (made_calls_of x n vs (fails out_of_memory)) vs (fails out_of_memory) h

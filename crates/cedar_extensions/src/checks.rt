@@ -22,7 +22,7 @@ use cedar_names::{Name, Type};
 use std::alloc::{AllocError, Global};
 use std::collections::HashMap;
 
-// Refuses the first name of a function that comes again.
+// Refuses the first duplicate name of a function.
 pub(crate) fn check_names(
     alloc: Global,
     extensions: &[Extension],
@@ -41,7 +41,7 @@ pub(crate) fn check_names(
     Ok(())
 }
 
-// Refuses the first extension type that comes again among those that functions make values of, each of exactly one
+// Refuses the first duplicate extension type among those that functions make values of, each of exactly one
 // text.
 pub(crate) fn check_constructors(
     alloc: Global,
@@ -61,7 +61,7 @@ pub(crate) fn check_constructors(
     Ok(())
 }
 
-// The error that functions repeat this name, or want of memory.
+// The error that functions repeat this name, or out of memory.
 #[cold]
 #[inline(never)]
 fn name_refused(error: CollectError<&Name>) -> ExtensionInitializationError
@@ -78,7 +78,7 @@ fn name_refused(error: CollectError<&Name>) -> ExtensionInitializationError
     }
 }
 
-// The error that functions repeat the extension type of this name, or want of memory.
+// The error that functions repeat the extension type of this name, or out of memory.
 #[cold]
 #[inline(never)]
 fn type_refused(alloc: Global, error: CollectError<&Name>) -> ExtensionInitializationError
@@ -107,7 +107,7 @@ fn boxed_type(alloc: Global, name: &Name) -> Result<Box<Type>, AllocError>
 
 // ---- beside the standard extensions
 
-// Refuses the first name of a function that a standard function has, or else the first that comes again.
+// Refuses the first name of a function that a standard function has, or else the first duplicate.
 pub(crate) fn check_names_beside(
     alloc: Global,
     extensions: &[Extension],

@@ -85,7 +85,7 @@ impl From<StandardTypeOverloadedError> for ExtensionInitializationError {
     }
 }
 
-/// Want of memory is `Memory`.
+/// Running out of memory is `Memory`.
 impl From<AllocError> for ExtensionInitializationError {
     ghost use Rattle.std.specs.Prelude.{◌≡◌};
     ghost use Rattle.cedar_extensions.specs.declared.errors.ExtensionInitializationError.TheVariants.{Memory};
@@ -97,7 +97,7 @@ impl From<AllocError> for ExtensionInitializationError {
     }
 }
 
-/// Want of memory is `Memory`, and what found no room is dropped.
+/// Running out of memory is `Memory`, and what found no room is dropped.
 impl<T: Drop> From<AllocFailed<T>> for ExtensionInitializationError {
     ghost use Rattle.std.specs.Prelude.{◌≡◌, alloc_error};
     ghost use Rattle.cedar_extensions.specs.declared.errors.ExtensionInitializationError.TheVariants.{Memory};

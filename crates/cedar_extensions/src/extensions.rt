@@ -97,9 +97,9 @@ impl<'a> Extensions<'a> {
     }
 
     /// These extensions. Refuses with `FuncMultiplyDefined` where two functions, of one extension or of two, have one
-    /// name, and names the first that comes again; else with `MultipleConstructorsSameSignature` where two functions
-    /// that take exactly one text answer values of one extension type, and names the first type that comes again; else
-    /// only for want of memory.
+    /// name, and names the first duplicate; else with `MultipleConstructorsSameSignature` where two functions
+    /// that take exactly one text answer values of one extension type, and names the first duplicate type; else
+    /// only if out of memory.
     pub fn specific_extensions(
         alloc: Global,
         extensions: &'a [Extension],
@@ -285,7 +285,7 @@ impl<'a> Extensions<'a> {
     }
 
     /// The types whose values `<` and `<=` compare by the extensions that the caller made: extensions in order, and the
-    /// types of each in order. A type that two extensions name stands twice.
+    /// types of each in order. A type that two extensions name is listed twice.
     pub fn types_with_operator_overloading(&self) -> OverloadingTypes<'a>
         ensures names { overloading_left result ≡ all_overloading_types (extensions_in self.now) }
         ensures view { overloaded_if (has_standard self.now) ++ map name_text (overloading_left result)
@@ -326,14 +326,14 @@ fn call_standard(
             Err(error) => Err(error),
         }
     } else {
-        Err(miscounted(alloc, function, args.len()))
+        Err(refuse_count(alloc, function, args.len()))
     }
 }
 
 // The error of a call of a standard function with so many arguments.
 #[cold]
 #[inline(never)]
-fn miscounted(alloc: Global, function: StandardFunction, actual: usize) -> EvaluationError
+fn refuse_count(alloc: Global, function: StandardFunction, actual: usize) -> EvaluationError
     ensures { FailsWith result
         (arguments_are_miscounted (standards.name_of function) (standard_arity function) actual) }
 {

@@ -66,9 +66,9 @@ impl ExtensionFunction {
     ghost use Rattle.cedar_extensions.specs.Computations.{Computation, EachCallComesTo, Computes, unknown_made};
 
     /// The function that calls `func`. It asks its caller for three facts: `func` may be called on every list of as
-    /// many values as there are `arg_types` (of whatever types); to equal arguments it answers, besides want of memory,
-    /// one outcome at most (a value, the kind of an error, or an unknown with its annotation); and it answers neither
-    /// the recursion limit nor `NonValue`, nor want of memory inside `FailedExtensionFunctionLookup` (it answers
+    /// many values as there are `arg_types` (of whatever types); to equal arguments it answers, besides running out of
+    /// memory, one outcome at most (a value, the kind of an error, or an unknown with its annotation); and it answers
+    /// neither the recursion limit nor `NonValue`, nor out of memory inside `FailedExtensionFunctionLookup` (it answers
     /// `Memory` itself).
     pub fn new(
         name: Name,
@@ -99,7 +99,7 @@ impl ExtensionFunction {
     }
 
     /// The built-in function `unknown`: of a text it makes the untyped unknown of that name, and another value is a
-    /// type error that expects a text. Refuses only for want of memory.
+    /// type error that expects a text. Refuses only if out of memory.
     pub fn unknown(alloc: Global) -> Result<ExtensionFunction, AllocError>
         ensures name { IfOk result (λ f. function_text f ≡ codes "unknown") }
         ensures style { IfOk result (λ f. function_style f ≡ FunctionStyle) }
@@ -157,7 +157,7 @@ impl ExtensionFunction {
         if args.len() == self.arg_types.len() {
             self.answer(alloc, args)
         } else {
-            Err(self.miscounted(args.len()))
+            Err(self.refuse_count(args.len()))
         }
     }
 
@@ -175,7 +175,7 @@ impl ExtensionFunction {
     // The error of a call with so many arguments.
     #[cold]
     #[inline(never)]
-    fn miscounted(&self, actual: usize) -> EvaluationError
+    fn refuse_count(&self, actual: usize) -> EvaluationError
         ensures { IsMiscounted self.now actual result }
     {
         match self.name.clone() {

@@ -24,7 +24,7 @@ pub fn outcomes_are_those_of_the_model()
     ensures { (r : Returned) → outcome r ≡ function_answer (returned_answer r) }
 {}
 
-/// The functions of extensions answer alike to equal arguments, and never the recursion limit or want of memory. Each
+/// The functions of extensions answer alike to equal arguments, and never the recursion limit or out of memory. Each
 /// value that they answer is sound, and each residual is restricted and holds an unknown.
 pub fn stored_functions_are_lawful(extensions: &Extensions<'_>)
     ensures functional { AreFunctional (calls_of extensions.now) }

@@ -1,4 +1,18 @@
-//! The extensions that an evaluator may use: the standard ones, and those whose functions its caller makes.
+//! The extensions that an evaluator may use: the standard ones, and those whose functions its caller stores.
+//!
+//! - `extensions`, `extension`: `Extensions` (none, the standard ones, or given ones with or without these), and one
+//!   extension; `iterators` over what they have.
+//! - `function` (`stored`, `built_in`, `callee`): a function that a caller stores, the built-in `unknown`, and what a
+//!   call does.
+//! - `checks`, `errors`: whether extensions can be used together, and why not; `util`: maps of pairs whose keys
+//!   differ.
+//! - `laws`: what functions may answer. Each function is a law, and does nothing.
+//!
+//! The promise: a caller stores a function with three facts about it (clauses `callable`, `functional`, `lawful`;
+//! `specs/Functions.antt`, `specs/Outcomes.antt`), and may say what it computes (`specs/Computations.antt`); `call`
+//! answers what the model's rule for calls reads (`specs/Callees.antt`, `specs/Answers.antt`). Extensions that can't
+//! be used together are refused, with the first name (`refused`; `specs/Refused.antt`). How extensions are seen is
+//! `extensions_view` in `specs/Extensions.antt`.
 #![tactic(auto)]
 
 mod checks;

@@ -1,4 +1,4 @@
-//! Maps of pairs whose keys differ, and the first key that comes again.
+//! Maps of pairs whose keys differ, and the first duplicate key.
 ghost use Rattle.std.specs.Prelude.{IfOk, IfErr, IfSome};
 ghost use Rattle.std.specs.Iterator.{IsFinite};
 ghost use Rattle.cedar_extensions.specs.Collected.{AreAll, ComesAgain, duplicate};
@@ -14,12 +14,12 @@ pub enum CollectError<K> {
     /// This key comes more than once.
     #[error("duplicate key")]
     Duplicate(K),
-    /// Memory was wanting.
+    /// Out of memory.
     #[error("out of memory")]
     Memory(AllocError),
 }
 
-/// Want of memory is `Memory`.
+/// Running out of memory is `Memory`.
 impl<K> From<AllocError> for CollectError<K> {
     ghost use Rattle.std.specs.Prelude.{◌≡◌};
     ghost use Rattle.cedar_extensions.specs.declared.util.CollectError.TheVariants as errors;
@@ -31,7 +31,7 @@ impl<K> From<AllocError> for CollectError<K> {
     }
 }
 
-/// Want of memory is `Memory`, and what found no room is dropped.
+/// Running out of memory is `Memory`, and what found no room is dropped.
 impl<K, T: Drop> From<AllocFailed<T>> for CollectError<K> {
     ghost use Rattle.std.specs.Prelude.{◌≡◌, alloc_error};
     ghost use Rattle.cedar_extensions.specs.declared.util.CollectError.TheVariants as errors;
@@ -43,8 +43,8 @@ impl<K, T: Drop> From<AllocFailed<T>> for CollectError<K> {
     }
 }
 
-/// The map of these pairs. Refuses with `Duplicate` where a key comes again: it has the key as it came first. Else
-/// refuses only for want of memory.
+/// The map of these pairs. Refuses with `Duplicate` where a key is a duplicate: it has the key as it came first. Else
+/// refuses only if out of memory.
 pub fn collect_no_duplicates<K: Eq + Hash + Drop, V: Drop, I: Iterator<Item = (K, V)> + Drop>(
     alloc: Global,
     pairs: I,

@@ -10,9 +10,9 @@ use Rattle.cedar_model.specs.Failures.{PartialValue, answers}
 use Rattle.cedar_model.specs.Settings.{StoredEntity, part_at}
 use Rattle.cedar_model.specs.Rules.{StoredCalls}
 use Rattle.cedar_model.proofs.Injections.{none_is_not_some, some_inj}
-use Rattle.cedar_restricted_evaluator.specs.Evaluations.{IsBare, IsAnswerWithin, bare_setting}
-use Rattle.cedar_json.specs.Evaluated.{IsAnswerOf, AreAnswered, IsFacts}
-use Rattle.cedar_json.specs.SaidEntities.{SaidEntity}
+use Rattle.cedar_restricted.specs.Evaluations.{IsBare, IsAnswerWithin, bare_setting}
+use Rattle.cedar_json_reader.specs.Evaluated.{IsAnswerOf, AreAnswered, IsFacts}
+use Rattle.cedar_json_reader.specs.SaidEntities.{SaidEntity}
 use Rattle.cedar_faithful.specs.Held.{FactsAre}
 use Rattle.cedar_faithful.proofs.Restricted.{EachField, in_order_restricted}
 use Rattle.cedar_faithful.proofs.RestrictedEntities.{IsRestrictedEntity}

@@ -10,7 +10,7 @@ use Rattle.cedar_model.specs.Settings.{ContextPart, absent_context, known_contex
 use Rattle.cedar_model.specs.Rules.{StoredCalls}
 use Rattle.cedar_model.specs.Agreement.{IsFaithful, IsFaithfulPart, IsFaithfulContext, AnswerFaithfully}
 use Rattle.cedar_model.proofs.Injections.{none_is_not_some}
-use Rattle.cedar_restricted_evaluator.specs.Evaluations.{IsAnswerWithin, IsValueWithin, bare_setting, only_values}
+use Rattle.cedar_restricted.specs.Evaluations.{IsAnswerWithin, IsValueWithin, bare_setting, only_values}
 use Rattle.cedar_faithful.proofs.FaithfulAnswers.{restricted_faithful}
 use Rattle.cedar_faithful.proofs.Evaluated.{EachAnswerIs}
 

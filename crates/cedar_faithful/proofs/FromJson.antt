@@ -14,19 +14,19 @@ use Rattle.cedar_model.specs.Rules.{StoredCalls}
 use Rattle.cedar_expressions.specs.Records.{fields_in_order, pairs_view}
 use Rattle.cedar_layers.specs.declared.policies.entities.Entity.{Entity}
 use Rattle.cedar_layers.specs.Stores.{entity_view}
-use Rattle.cedar_restricted_evaluator.specs.Evaluations.{bare_setting}
-use Rattle.cedar_restricted_expressions.specs.Views.{pairs_in}
-use Rattle.cedar_restricted_expressions.specs.declared.restricted_expr.RestrictedExpr.{RestrictedExpr}
+use Rattle.cedar_restricted.specs.Evaluations.{bare_setting}
+use Rattle.cedar_restricted.specs.Views.{pairs_in}
+use Rattle.cedar_restricted.specs.declared.restricted_expr.RestrictedExpr.{RestrictedExpr}
 use Rattle.cedar_requests.specs.declared.context.Context.{Context}
 use Rattle.cedar_requests.specs.declared.request.Request.{Request}
 use Rattle.cedar_requests.specs.Contexts.{context_view, context_part_value}
 use Rattle.cedar_requests.specs.Creations.{IsCreated, IsCreatedOfPairs, record_of_pairs}
 use Rattle.cedar_requests.specs.Requests.{context_given, request_view}
-use Rattle.cedar_json.specs.Refusals.{Said}
-use Rattle.cedar_json.specs.SaidContexts.{context_said, IsContextOf}
-use Rattle.cedar_json.specs.SaidRequests.{context_at, IsGivenContext, IsRequestOf}
-use Rattle.cedar_json.specs.SaidEntities.{SaidEntity, entities_said, member_says}
-use Rattle.cedar_json.specs.Evaluated.{AreEvaluated, AreEntitiesOf}
+use Rattle.cedar_json_reader.specs.Refusals.{Said}
+use Rattle.cedar_json_reader.specs.SaidContexts.{context_said, IsContextOf}
+use Rattle.cedar_json_reader.specs.SaidRequests.{context_at, IsGivenContext, IsRequestOf}
+use Rattle.cedar_json_reader.specs.SaidEntities.{SaidEntity, entities_said, member_says}
+use Rattle.cedar_json_reader.specs.Evaluated.{AreEvaluated, AreEntitiesOf}
 use Rattle.cedar_faithful.specs.Held.{EachHas}
 use Rattle.cedar_faithful.proofs.Restricted.{SaysSuch, EachSuch, under_such, IsRestricted, IsRestrictedPair}
 use Rattle.cedar_faithful.proofs.Restricted.{fields_restricted, in_order_restricted, context_restricted}

@@ -6,7 +6,7 @@ use Rattle.cedar_model.specs.Rules.{StoredCalls}
 use Rattle.cedar_model.proofs.Injections.{none_is_not_some}
 use Rattle.cedar_laws.specs.Faithful.{PartHoldsNoExtensionValue, ContextHoldsNoExtensionValue, AnswerNoExtensionValue}
 use Rattle.cedar_laws.proofs.HoldingNone.{holds_none}
-use Rattle.cedar_restricted_evaluator.specs.Evaluations.{bare_setting}
+use Rattle.cedar_restricted.specs.Evaluations.{bare_setting}
 use Rattle.cedar_faithful.proofs.Evaluated.{EachAnswerIs}
 
 -- the part of a context holds none, so the context does

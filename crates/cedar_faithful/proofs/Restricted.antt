@@ -16,13 +16,13 @@ use Rattle.cedar_model.specs.Terms.{call}
 use Rattle.cedar_model.specs.Shapes.{is_restricted, are_restricted, are_restricted_at}
 use Rattle.cedar_model.specs.Refusals.{first_repeated}
 use Rattle.cedar_expressions.specs.Records.{put_field, put_fields, fields_in_order}
-use Rattle.cedar_restricted_expressions.specs.Readers.{text_in}
-use Rattle.cedar_json.specs.Numbers.{long_of_text}
-use Rattle.cedar_json.specs.Words.{is_name}
-use Rattle.cedar_json.specs.Paths.{Step}
-use Rattle.cedar_json.specs.Refusals.{Said, under, before, made_of, and_then}
-use Rattle.cedar_json.specs.Said as said
-use Rattle.cedar_json.specs.SaidContexts.{context_said, record_in}
+use Rattle.cedar_restricted.specs.Readers.{text_in}
+use Rattle.cedar_json_reader.specs.Numbers.{long_of_text}
+use Rattle.cedar_json_reader.specs.Words.{is_name}
+use Rattle.cedar_json_reader.specs.Paths.{Step}
+use Rattle.cedar_json_reader.specs.Refusals.{Said, under, before, made_of, and_then}
+use Rattle.cedar_json_reader.specs.Said as said
+use Rattle.cedar_json_reader.specs.SaidContexts.{context_said, record_in}
 
 -- ---- what is said is such
 

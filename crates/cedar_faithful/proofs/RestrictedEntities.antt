@@ -4,9 +4,9 @@ use Rattle.json.specs.Json.{Json, Items, no_items, item, Members}
 use Rattle.json.specs.Find.{as_object, as_array, get}
 use Rattle.cedar_model.specs.Terms.{Text, EntityName, Term}
 use Rattle.cedar_model.specs.Settings.{is_among}
-use Rattle.cedar_json.specs.Refusals.{Said, under}
-use Rattle.cedar_json.specs.SaidEntities as said
-use Rattle.cedar_json.specs.SaidEntities.{SaidEntity}
+use Rattle.cedar_json_reader.specs.Refusals.{Said, under}
+use Rattle.cedar_json_reader.specs.SaidEntities as said
+use Rattle.cedar_json_reader.specs.SaidEntities.{SaidEntity}
 use Rattle.cedar_faithful.proofs.Restricted.{SaysSuch, EachSuch, under_such, chosen, then_such, made_such}
 use Rattle.cedar_faithful.proofs.Restricted.{IsRestrictedPair, members_restricted}
 

@@ -13,7 +13,7 @@ use Rattle.cedar_layers.specs.Parts.{parts_view}
 use Rattle.cedar_layers.specs.Stores.{entity_name, entity_view, Held, no_entities, with_entity, with_entities, store_of}
 use Rattle.cedar_layers.specs.Stores.{Standing, none_stands, standing_with, standing_with_each, last_of_each_name}
 use Rattle.cedar_layers.specs.Stores.{stored_entity, store_view}
-use Rattle.cedar_closure.specs.Ancestry.{AreAlike, KeepsParts}
+use Rattle.cedar_hierarchy.specs.Ancestry.{AreAlike, KeepsParts}
 use Rattle.cedar_faithful.specs.Held.{FactsAre, EachHas}
 
 module _ (Such : PartialValue → Type 0) where

@@ -13,7 +13,7 @@ use Rattle.cedar_laws.specs.Faithful.{PartHoldsNoExtensionValue}
 use Rattle.cedar_values.specs.Sound.{Placed}
 use Rattle.cedar_layers.specs.declared.policies.entities.Entity.{Entity}
 use Rattle.cedar_layers.specs.Stores.{entity_view}
-use Rattle.cedar_restricted_evaluator.specs.Evaluations.{IsBare, IsValueWithin}
+use Rattle.cedar_restricted.specs.Evaluations.{IsBare, IsValueWithin}
 
 -- ---- entities
 

@@ -12,16 +12,16 @@ ghost use Rattle.cedar_model.specs.Agreement.{IsFaithful, IsFaithfulPart, IsFait
 ghost use Rattle.cedar_layers.specs.declared.policies.entities.Entity.{Entity};
 ghost use Rattle.cedar_extensions.specs.Extensions.{extensions_view, calls_of};
 ghost use Rattle.cedar_extensions.specs.Computations.{AreFaithfulBy};
-ghost use Rattle.cedar_restricted_expressions.specs.Views.{pairs_in};
-ghost use Rattle.cedar_restricted_expressions.specs.declared.restricted_expr.RestrictedExpr.{RestrictedExpr};
+ghost use Rattle.cedar_restricted.specs.Views.{pairs_in};
+ghost use Rattle.cedar_restricted.specs.declared.restricted_expr.RestrictedExpr.{RestrictedExpr};
 ghost use Rattle.cedar_requests.specs.Contexts.{context_view};
 ghost use Rattle.cedar_requests.specs.Requests.{request_view};
 ghost use Rattle.cedar_requests.specs.Creations.{IsCreated, IsCreatedOfPairs};
-ghost use Rattle.cedar_json.specs.JsonTexts.{SaysSo};
-ghost use Rattle.cedar_json.specs.SaidContexts.{context_said, IsContextOf};
-ghost use Rattle.cedar_json.specs.SaidRequests.{IsRequestOf};
-ghost use Rattle.cedar_json.specs.SaidEntities.{entities_said};
-ghost use Rattle.cedar_json.specs.Evaluated.{IsAnswerOf, AreEntitiesOf};
+ghost use Rattle.cedar_json_reader.specs.JsonTexts.{SaysSo};
+ghost use Rattle.cedar_json_reader.specs.SaidContexts.{context_said, IsContextOf};
+ghost use Rattle.cedar_json_reader.specs.SaidRequests.{IsRequestOf};
+ghost use Rattle.cedar_json_reader.specs.SaidEntities.{entities_said};
+ghost use Rattle.cedar_json_reader.specs.Evaluated.{IsAnswerOf, AreEntitiesOf};
 ghost use Rattle.cedar_faithful.specs.Held.{EachIsFaithful, IsValueOf};
 
 use cedar_extensions::Extensions;

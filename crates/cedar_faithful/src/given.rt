@@ -15,7 +15,7 @@ ghost use Rattle.cedar_laws.specs.Faithful.{StoreHoldsNoExtensionValue, ContextH
 ghost use Rattle.cedar_laws.specs.Faithful.{MapHoldsNoExtensionValue, AnswerNoExtensionValue, NoneAnswers};
 ghost use Rattle.cedar_layers.specs.Stores.{store_view, store_of, stored_entity, last_of_each_name, facts_of_values};
 ghost use Rattle.cedar_layers.specs.declared.policies.entities.Entity.{Entity};
-ghost use Rattle.cedar_closure.specs.Ancestry.{AreAlike};
+ghost use Rattle.cedar_hierarchy.specs.Ancestry.{AreAlike};
 ghost use Rattle.cedar_extensions.specs.Extensions.{HasNone, calls_of};
 ghost use Rattle.cedar_extensions.specs.Computations.{AreBuiltIn};
 ghost use Rattle.cedar_requests.specs.Contexts.{context_view};

@@ -42,8 +42,8 @@ pub trait Machine {
     /// The answer where no level is left.
     ghost at_limit: { Self.Answer };
 
-    /// The answer where memory is wanting.
-    ghost at_want: { Self.Answer };
+    /// The answer if out of memory.
+    ghost at_out_of_memory: { Self.Answer };
 
     /// Looks at a part: answers it, or waits for a part of it. So many levels are left for the part, at least one: it
     /// is one of them itself, and its parts are one more.
@@ -76,15 +76,15 @@ pub trait Machine {
     fn limit(&self) -> Self::Answer
         ensures { result ≡ at_limit };
 
-    /// The answer where memory is wanting.
+    /// The answer if out of memory.
     fn want(&self) -> Self::Answer
-        ensures { result ≡ at_want };
+        ensures { result ≡ at_out_of_memory };
 
     /// With no level the limit is right, to any part.
     ghost right_limit: { (s : Self) (t : Self.Part) → right s 0 t at_limit };
 
-    /// Want of memory is right, to any part.
-    ghost right_want: { (s : Self) (k : ℕ) (t : Self.Part) → right s k t at_want };
+    /// Running out of memory is right, to any part.
+    ghost right_out_of_memory: { (s : Self) (k : ℕ) (t : Self.Part) → right s k t at_out_of_memory };
 
     /// The limit ends the whole.
     ghost limit_ends: { ends_all at_limit ≡ true };

@@ -38,7 +38,7 @@ impl<F> Stack<F> {
         self.limit - self.frames.len()
     }
 
-    // Puts a frame on top. Refuses only for want of memory.
+    // Puts a frame on top. Refuses only if out of memory.
     pub(crate) fn push(&mut self, frame: F) -> Result<(), AllocError>
     where
         F: Drop,

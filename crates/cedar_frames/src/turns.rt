@@ -92,7 +92,7 @@ fn looked_at<M: Machine>(
         return Turn::End(machine.limit());
     }
     match machine.start(alloc, part, levels) {
-        Transition::Done(answer) => answered(machine, answer),
+        Transition::Done(answer) => continue_with_answer(machine, answer),
         Transition::Wait(frame, next) => waiting(machine, stack, frame, next),
     }
 }
@@ -115,14 +115,14 @@ fn handed_on<M: Machine>(
     };
     let levels = stack.levels_left();
     match machine.resume(alloc, frame, answer, levels) {
-        Transition::Done(answer) => answered(machine, answer),
+        Transition::Done(answer) => continue_with_answer(machine, answer),
         Transition::Wait(frame, next) => waiting(machine, stack, frame, next),
     }
 }
 
 // On with an answer, or the end.
 #[inline(always)]
-fn answered<M: Machine>(machine: &M, answer: M::Answer) -> Turn<M::Part, M::Answer>
+fn continue_with_answer<M: Machine>(machine: &M, answer: M::Answer) -> Turn<M::Part, M::Answer>
     ensures right { StaysRight (M.right machine.now) (M.waits machine.now) answer result }
     ensures less { IsAnswerLeft M.left_of M.most answer result }
     ensures handed_on { IsHandedOn M.ends_all result }

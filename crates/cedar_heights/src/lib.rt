@@ -3,8 +3,15 @@
 //! An expression has one level more than the highest of its parts, and a value as many as the expression that it is
 //! written as. An evaluation never meets a limit as high as the expression and, once or twice, what it is given: that
 //! is the depth bound, and its premises are what the functions here tell. Each walks once over what it is handed, and
-//! takes no memory but the stack's; a part that is shared is walked over as often as it stands there. A height is told
-//! as `usize::MAX` where it is greater, and sums stop there.
+//! takes no memory but the stack's; a part that is shared is walked over as often as it is there.
+//!
+//! - `expressions`, `values`, `contexts`, `entities`, `policies`: how high each is.
+//! - `numbers`: levels above levels, and the limits that suffice (`levels_for`, `levels_for_step`). `laws`: what the
+//!   heights say of the depth bound.
+//!
+//! The promise: each call tells the model's height, or `usize::MAX` where it is greater (`capped` in
+//! `specs/Capped.antt`; the heights are in `specs/Heights.antt`), and with the limits that suffice the depth bound's
+//! premises hold (`enough_is_deep_enough`; `specs/Limits.antt`).
 #![tactic(auto)]
 
 mod contexts;

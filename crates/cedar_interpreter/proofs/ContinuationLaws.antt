@@ -16,9 +16,9 @@ use Rattle.cedar_values.specs.declared.partial_value.PartialValue.{PartialValue}
 use Rattle.cedar_values.specs.Residuals.{partial_view}
 use Rattle.cedar_extensions.specs.Extensions.{extensions_view}
 use Rattle.cedar_frames.specs.declared.machine.Transition.TheVariants.{Done}
-use Rattle.cedar_restricted_evaluator.specs.declared.parts.PartsFrame.{PartsFrame}
-use Rattle.cedar_restricted_evaluator.specs.Frames as restricted
-use Rattle.cedar_restricted_evaluator.specs.Frames.{NextPart}
+use Rattle.cedar_restricted.specs.declared.parts.PartsFrame.{PartsFrame}
+use Rattle.cedar_restricted.specs.Frames as restricted
+use Rattle.cedar_restricted.specs.Frames.{NextPart}
 use Rattle.cedar_interpreter.specs.declared.stopped.Stopped.TheVariants as stops
 use Rattle.cedar_interpreter.specs.declared.evaluation.Evaluation.{Evaluation}
 use Rattle.cedar_interpreter.specs.declared.frame.Pending.{Pending}
@@ -29,9 +29,9 @@ use Rattle.cedar_interpreter.proofs.Requests.{some_request}
 use Rattle.cedar_interpreter.specs.Tasks.{SharedExpr, Next, Gives, Continues, Leads, IsOrWant}
 use Rattle.cedar_interpreter.specs.Parts.{IsTaken}
 use Rattle.cedar_interpreter.proofs.PartsLaws.{parts_fewer}
-use Rattle.cedar_interpreter.proofs.Laws.{starts_placed, continues_placed, taken_placed, gives_placed, or_want_continues}
+use Rattle.cedar_interpreter.proofs.Laws.{starts_placed, continues_placed, taken_placed, gives_placed, or_out_of_memory_continues}
 use Rattle.cedar_interpreter.proofs.Laws.{given_fewer, continues_fewer, continues_leads, parts_lead, failed_leads}
-use Rattle.cedar_interpreter.proofs.Laws.{limit_leads, want_leads}
+use Rattle.cedar_interpreter.proofs.Laws.{limit_leads, out_of_memory_leads}
 use Rattle.cedar_interpreter.specs.Continuations.{StartsAt, ContinuesAt, StartsIn, ContinuesIn, LeadsIn}
 
 pub starts_in : {X : Type 0} {F : X → Type 0} {g : _} (e : Evaluation X F g) (levels : ℕ) (w : SharedExpr) (t : Term)
@@ -49,12 +49,12 @@ continues_in e levels w p x n h = (
   continues_fewer (evaluation_setting some_request e) (calls_in e) 0 (expr_loc w.value) p x n (h some_request 0),
 )
 
--- where memory may be wanting
-pub or_want_at : {X : Type 0} {F : X → Type 0} {g : _} (e : Evaluation X F g) (w : SharedExpr) (p : Pending) (x : Answer)
+-- where memory may run out
+pub or_out_of_memory_at : {X : Type 0} {F : X → Type 0} {g : _} (e : Evaluation X F g) (w : SharedExpr) (p : Pending) (x : Answer)
     (m : Result Next AllocError) (n : Next) → IfOk m (ContinuesAt e w p x) → IsOrWant m n → ContinuesAt e w p x n
-or_want_at e w p x (Ok m) n goes is = subst (ContinuesAt e w p x) (sym is) goes
-or_want_at e w p x (Err f) n goes is = λ r k.
-    or_want_continues (evaluation_setting r e) (calls_in e) k (expr_loc w.value) p x (Err f) n tt is
+or_out_of_memory_at e w p x (Ok m) n goes is = subst (ContinuesAt e w p x) (sym is) goes
+or_out_of_memory_at e w p x (Err f) n goes is = λ r k.
+    or_out_of_memory_continues (evaluation_setting r e) (calls_in e) k (expr_loc w.value) p x (Err f) n tt is
 
 -- a value or residual shows that parts have a level
 value_leads : (s : Setting) (calls : StoredCalls) (k : ℕ) (l : Option Loc) (p : Pending) (v : model.PartialValue)
@@ -112,7 +112,7 @@ pub limit_leads_in : {X : Type 0} {F : X → Type 0} {g : _} (e : Evaluation X F
 limit_leads_in e levels w task =
     (λ r k speaks low. limit_leads (evaluation_setting r e) (calls_in e) k (expr_loc w.value) task, tt, tt)
 
-pub want_leads_in : {X : Type 0} {F : X → Type 0} {g : _} (e : Evaluation X F g) (levels : ℕ) (w : SharedExpr) (task : Task)
+pub out_of_memory_leads_in : {X : Type 0} {F : X → Type 0} {g : _} (e : Evaluation X F g) (levels : ℕ) (w : SharedExpr) (task : Task)
     (x : Answer) → LeadsIn e levels w task x (Done (Err stops.Memory))
-want_leads_in e levels w task x =
-    (λ r k speaks low. want_leads (evaluation_setting r e) (calls_in e) k (expr_loc w.value) task x, tt, tt)
+out_of_memory_leads_in e levels w task x =
+    (λ r k speaks low. out_of_memory_leads (evaluation_setting r e) (calls_in e) k (expr_loc w.value) task x, tt, tt)

@@ -16,13 +16,13 @@ use Rattle.cedar_model.specs.Rules.{StoredCalls, Parts, Runs, beside_residual, b
 use Rattle.cedar_expressions.specs.declared.expr.Expr.{Expr}
 use Rattle.cedar_expressions.specs.View.{view, terms_view, fields_view}
 use Rattle.cedar_values.specs.Sound.{Placed, whats}
-use Rattle.cedar_restricted_evaluator.specs.declared.answers.Answers.TheVariants as answereds
-use Rattle.cedar_restricted_evaluator.specs.declared.whole.Whole.TheVariants as wholes
+use Rattle.cedar_restricted.specs.declared.answers.Answers.TheVariants as answereds
+use Rattle.cedar_restricted.specs.declared.whole.Whole.TheVariants as wholes
 use Rattle.cedar_expressions.specs.Nodes.{key_order}
-use Rattle.cedar_restricted_evaluator.specs.Keys.{texts_of, each_under}
-use Rattle.cedar_restricted_evaluator.specs.Parts.{SoFar, all_values}
-use Rattle.cedar_restricted_evaluator.specs.Steps.{so_far_none, so_far_more, so_far_all, whole_answers}
-use Rattle.cedar_restricted_evaluator.proofs.Collected.{names_under, views_under, fields_of_all, value_added}
+use Rattle.cedar_restricted.specs.Keys.{texts_of, each_under}
+use Rattle.cedar_restricted.specs.Parts.{SoFar, all_values}
+use Rattle.cedar_restricted.specs.Steps.{so_far_none, so_far_more, so_far_all, whole_answers}
+use Rattle.cedar_restricted.proofs.Collected.{names_under, views_under, fields_of_all, value_added}
 use Rattle.cedar_model.specs.Outcomes.{bool_of}
 use Rattle.cedar_interpreter.proofs.BooleanLaws.{guard_true, guard_false, leaves_right, decides}
 use Rattle.cedar_interpreter.proofs.Laws.{literal_joined}

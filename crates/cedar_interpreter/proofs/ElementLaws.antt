@@ -15,9 +15,9 @@ use Rattle.cedar_values.specs.declared.partial_value.PartialValue.TheVariants as
 use Rattle.cedar_values.specs.Residuals.{partial_view, partial_loc, IfValue}
 use Rattle.cedar_frames.specs.declared.machine.Transition.TheVariants.{Done, Wait}
 use Rattle.cedar_frames.specs.Frames.{Resumes}
-use Rattle.cedar_restricted_evaluator.specs.declared.parts.PartsFrame.{PartsFrame}
-use Rattle.cedar_restricted_evaluator.specs.Frames.{NextPart}
-use Rattle.cedar_restricted_evaluator.specs.Elements.{IsSetOf, ElementsStand, SetWaits, SetLeads, set_put}
+use Rattle.cedar_restricted.specs.declared.parts.PartsFrame.{PartsFrame}
+use Rattle.cedar_restricted.specs.Frames.{NextPart}
+use Rattle.cedar_restricted.specs.Elements.{IsSetOf, ElementsStand, SetWaits, SetLeads, set_put}
 use Rattle.cedar_interpreter.specs.declared.frame.Frame.{Frame}
 use Rattle.cedar_interpreter.specs.declared.frame.Task.{Task}
 use Rattle.cedar_interpreter.specs.declared.frame.Task.TheVariants as tasks

@@ -31,9 +31,9 @@ keeps_original (errors.NonValue e) t h = refl
 keeps_original (errors.RecursionLimit e) t h = absurd (cc)
 keeps_original (errors.Memory e) t h = absurd (cc)
 
--- and is no want of memory
-pub ordinary_no_want : (e : EvaluationError) → is_final e ≡ false → fails (failure_of e) ≢ fails out_of_memory
+-- and is not out of memory
+pub ordinary_is_not_out_of_memory : (e : EvaluationError) → is_final e ≡ false → fails (failure_of e) ≢ fails out_of_memory
 unfolding best best_of_kind failure_kind
-ordinary_no_want e h is =
+ordinary_is_not_out_of_memory e h is =
     let kept_one : best (fails out_of_memory) some_term ≡ kept some_term = subst (λ a. best a some_term ≡ kept some_term) is (keeps_original e some_term h) in
     absurd (cc)

@@ -17,10 +17,10 @@ use Rattle.cedar_values.specs.Residuals.{partial_view}
 use Rattle.cedar_frames.specs.declared.machine.Transition.TheVariants.{Done, Wait}
 use Rattle.cedar_frames.specs.Frames.{Resumes, Fewer, Below}
 use Rattle.cedar_operators.specs.declared.partial.connectives.Connective.TheVariants as connectives
-use Rattle.cedar_restricted_evaluator.specs.declared.parts.PartsFrame.{PartsFrame}
-use Rattle.cedar_restricted_evaluator.specs.Frames as restricted
-use Rattle.cedar_restricted_evaluator.specs.Frames.{NextPart}
-use Rattle.cedar_restricted_evaluator.specs.Laws.{left_below}
+use Rattle.cedar_restricted.specs.declared.parts.PartsFrame.{PartsFrame}
+use Rattle.cedar_restricted.specs.Frames as restricted
+use Rattle.cedar_restricted.specs.Frames.{NextPart}
+use Rattle.cedar_restricted.specs.Laws.{left_below}
 use Rattle.std.specs.declared.alloc.Global.{Global}
 use Rattle.std.specs.declared.boxed.Box.{Box}
 use Rattle.std.specs.declared.rc.Rc.{Rc}
@@ -43,7 +43,7 @@ use Rattle.cedar_interpreter.specs.Frames.{IsRight, FrameWaits, left_of}
 use Rattle.cedar_interpreter.proofs.BooleanLaws.{joins}
 use Rattle.cedar_interpreter.specs.Parts.{IsTaken}
 use Rattle.cedar_interpreter.proofs.PartsLaws.{parts_continue}
-use Rattle.cedar_interpreter.specs.Laws.{limit_no_want, resolved, limit_upward, parts_fail}
+use Rattle.cedar_interpreter.specs.Laws.{limit_is_not_out_of_memory, resolved, limit_upward, parts_fail}
 
 -- ---- on with an answer
 
@@ -76,10 +76,10 @@ pub gives_placed : (l : Option Loc) (n : Next) (a : Answer) → Gives l n a → 
 gives_placed l (Done r) a gives = gives.1
 gives_placed l (Wait f c) a gives = absurd gives
 
--- what is given, where memory may be wanting
-pub or_want_gives : (l : Option Loc) (b : Answer) (m : Result Next AllocError) (n : Next) → IfOk m (λ x. Gives l x b) → IsOrWant m n → Gives l n b
-or_want_gives l b (Ok m) n gives is = subst (λ x. Gives l x b) (sym is) gives
-or_want_gives l b (Err e) n gives is = subst (λ x. Gives l x b) (sym is) (λ ok. absurd (ok refl), tt)
+-- what is given, where memory may run out
+pub or_out_of_memory_gives : (l : Option Loc) (b : Answer) (m : Result Next AllocError) (n : Next) → IfOk m (λ x. Gives l x b) → IsOrWant m n → Gives l n b
+or_out_of_memory_gives l b (Ok m) n gives is = subst (λ x. Gives l x b) (sym is) gives
+or_out_of_memory_gives l b (Err e) n gives is = subst (λ x. Gives l x b) (sym is) (λ ok. absurd (ok refl), tt)
 
 -- what is given is what the rules make of the part's answer
 pub gives_continues : (s : Setting) (calls : StoredCalls) (k : ℕ) (l : Option Loc) (p : Pending) (x b : Answer) (n : Next) →
@@ -90,12 +90,12 @@ gives_continues s calls k l p x b (Wait f c) uses gives = absurd gives
 -- what waited for a part other than one of a set, a record or a call
 waits_again_leads : (s : Setting) (calls : StoredCalls) (k : ℕ) (p : Pending) (x : Answer) (task : Task) (d : Term) → x ≢ fails out_of_memory →
     WaitsAgain s calls k p x task d → (t c : Term) → WaitsFor s calls k (tasks.Other p) t c → Meets (Runs s calls k c) x → WaitsFor s calls k task t d
-waits_again_leads s calls k p x (tasks.Parts f) d no_want goes t c waits meets = absurd goes
-waits_again_leads s calls k p x (tasks.Other q) d no_want goes t c waits meets = λ y a runs uses. waits x a (meets no_want) (goes.1 y a runs uses)
+waits_again_leads s calls k p x (tasks.Parts f) d never_out_of_memory goes t c waits meets = absurd goes
+waits_again_leads s calls k p x (tasks.Other q) d never_out_of_memory goes t c waits meets = λ y a runs uses. waits x a (meets never_out_of_memory) (goes.1 y a runs uses)
 
 pub continues_leads : (s : Setting) (calls : StoredCalls) (k : ℕ) (l : Option Loc) (p : Pending) (x : Answer) (n : Next) → x ≢ fails out_of_memory → Continues s calls k l p x n → Leads s calls k l (tasks.Other p) x n
-continues_leads s calls k l p x (Done r) no_want goes t c waits meets = (λ ok. waits x (ending_answer r) (meets no_want) (goes.0 ok), goes.1)
-continues_leads s calls k l p x (Wait f d) no_want goes t c waits meets = (waits_again_leads s calls k p x f.task (view d.value) no_want goes.0 t c waits meets, goes.1)
+continues_leads s calls k l p x (Done r) never_out_of_memory goes t c waits meets = (λ ok. waits x (ending_answer r) (meets never_out_of_memory) (goes.0 ok), goes.1)
+continues_leads s calls k l p x (Wait f d) never_out_of_memory goes t c waits meets = (waits_again_leads s calls k p x f.task (view d.value) never_out_of_memory goes.0 t c waits meets, goes.1)
 
 waits_again_fewer : (s : Setting) (calls : StoredCalls) (k : ℕ) (p : Pending) (x : Answer) (task : Task) (d : Term) → WaitsAgain s calls k p x task d → task_left task < pending_left p
 waits_again_fewer s calls k p x (tasks.Parts f) d goes = absurd goes
@@ -105,11 +105,11 @@ pub continues_fewer : (s : Setting) (calls : StoredCalls) (k : ℕ) (l : Option 
 continues_fewer s calls k l p x (Done r) goes = tt
 continues_fewer s calls k l p x (Wait f d) goes = waits_again_fewer s calls k p x f.task (view d.value) goes.0
 
--- what goes on, where memory may be wanting
-pub or_want_continues : (s : Setting) (calls : StoredCalls) (k : ℕ) (l : Option Loc) (p : Pending) (x : Answer) (m : Result Next AllocError) (n : Next) →
+-- what goes on, where memory may run out
+pub or_out_of_memory_continues : (s : Setting) (calls : StoredCalls) (k : ℕ) (l : Option Loc) (p : Pending) (x : Answer) (m : Result Next AllocError) (n : Next) →
     IfOk m (Continues s calls k l p x) → IsOrWant m n → Continues s calls k l p x n
-or_want_continues s calls k l p x (Ok m) n goes is = subst (Continues s calls k l p x) (sym is) goes
-or_want_continues s calls k l p x (Err e) n goes is = subst (Continues s calls k l p x) (sym is) (λ ok. absurd (ok refl), tt)
+or_out_of_memory_continues s calls k l p x (Ok m) n goes is = subst (Continues s calls k l p x) (sym is) goes
+or_out_of_memory_continues s calls k l p x (Err e) n goes is = subst (Continues s calls k l p x) (sym is) (λ ok. absurd (ok refl), tt)
 
 -- a boolean on the right is the answer
 pub literal_joined : (with_left : Term → Term) (b : Bool) → answers_bool b ≡ joined with_left (answers_bool b)
@@ -235,11 +235,11 @@ passed_continues s calls k l p e n h gives =
 -- ---- what an answer leads to
 
 module _ (s : Setting) (calls : StoredCalls) (k : ℕ) (l : Option Loc) where
-  pub want_leads : (task : Task) (x : Answer) → Leads s calls k l task x (Done (Err stops.Memory))
-  want_leads task x t c waits meets = (λ ok. absurd (ok refl), tt)
+  pub out_of_memory_leads : (task : Task) (x : Answer) → Leads s calls k l task x (Done (Err stops.Memory))
+  out_of_memory_leads task x t c waits meets = (λ ok. absurd (ok refl), tt)
 
   pub limit_leads : (task : Task) → Leads s calls k l task limit (Done (Err stops.Limit))
-  limit_leads task t c waits meets = (λ ok. limit_upward calls s k task t c waits (meets limit_no_want), tt)
+  limit_leads task t c waits meets = (λ ok. limit_upward calls s k task t c waits (meets limit_is_not_out_of_memory), tt)
 
   pub parts_lead : (f : Box PartsFrame Global) (p : PartialValue) (x : NextPart) (n : Next) → restricted.ContinuesParts s.extensions calls f.value (Ok p) x → IsTaken l x n → Leads s calls k l (tasks.Parts f) (answers (partial_view p)) n
   parts_lead f p x n goes taken t c waits meets = parts_continue s calls k t l f.value c waits p x n (meets (answers_is_not_fails (partial_view p) out_of_memory)) goes taken

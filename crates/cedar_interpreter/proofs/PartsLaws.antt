@@ -16,16 +16,16 @@ use Rattle.cedar_expressions.specs.View.{view, terms_view}
 use Rattle.cedar_values.specs.declared.partial_value.PartialValue.{PartialValue}
 use Rattle.cedar_values.specs.Residuals.{partial_view}
 use Rattle.cedar_frames.specs.declared.machine.Transition.TheVariants.{Done, Wait}
-use Rattle.cedar_restricted_evaluator.specs.declared.answers.Answers.{Answers}
-use Rattle.cedar_restricted_evaluator.specs.declared.parts.PartsFrame.{PartsFrame}
-use Rattle.cedar_restricted_evaluator.specs.declared.whole.Whole.{Whole}
-use Rattle.cedar_restricted_evaluator.specs.Evaluations.{partial_answer}
-use Rattle.cedar_restricted_evaluator.specs.Parts as shapes
-use Rattle.cedar_restricted_evaluator.specs.Parts.{whole_term, HasKeys, count, Are}
-use Rattle.cedar_restricted_evaluator.specs.Frames as restricted
-use Rattle.cedar_restricted_evaluator.specs.Frames.{NextPart, Reads, Continued, ContinuesParts, HasRead, parts_left, left_of}
-use Rattle.cedar_restricted_evaluator.specs.Laws.{goes_on_fewer, grown_read, literal_runs}
-use Rattle.cedar_restricted_evaluator.specs.Steps.{so_far_none, so_far_all, whole_answers, none_left}
+use Rattle.cedar_restricted.specs.declared.answers.Answers.{Answers}
+use Rattle.cedar_restricted.specs.declared.parts.PartsFrame.{PartsFrame}
+use Rattle.cedar_restricted.specs.declared.whole.Whole.{Whole}
+use Rattle.cedar_restricted.specs.Evaluations.{partial_answer}
+use Rattle.cedar_restricted.specs.Parts as shapes
+use Rattle.cedar_restricted.specs.Parts.{whole_term, HasKeys, count, Are}
+use Rattle.cedar_restricted.specs.Frames as restricted
+use Rattle.cedar_restricted.specs.Frames.{NextPart, Reads, Continued, ContinuesParts, HasRead, parts_left, left_of}
+use Rattle.cedar_restricted.specs.Laws.{goes_on_fewer, grown_read, literal_runs}
+use Rattle.cedar_restricted.specs.Steps.{so_far_none, so_far_all, whole_answers, none_left}
 use Rattle.cedar_interpreter.specs.declared.frame.Task.TheVariants as tasks
 use Rattle.cedar_interpreter.specs.declared.frame.Task.{Task}
 use Rattle.cedar_interpreter.specs.Endings.{ending_answer}

@@ -147,9 +147,9 @@ module _ (May : MayAnswer) (s : Setting) (p : PartialValue) (k : Text) where
       a ≡ remapped s.map (partial_answer x) → ProjectsTo (projections.Answer x) (projection (over s s.store) p k) →
       resolved_in s.resolution (part_residual s.store p k) ≡ None → AtAttribute May s (answers p) k a
   unfolding remapped remapped_projection
-  stored_uses x a no_want is h none =
-      let not_want : partial_answer x ≢ fails out_of_memory = λ w. no_want (is ∙ ap (remapped s.map) w) in
-      let same : answered (partial_answer x) ≡ projection (over s s.store) p k = h (λ w. not_want (cc)) in
+  stored_uses x a never_out_of_memory is h none =
+      let not_out_of_memory : partial_answer x ≢ fails out_of_memory = λ w. never_out_of_memory (is ∙ ap (remapped s.map) w) in
+      let same : answered (partial_answer x) ≡ projection (over s s.store) p k = h (λ w. not_out_of_memory (cc)) in
       let all : projection s p k ≡ answered (remapped s.map (partial_answer x)) = of_projection s p k ∙ ap (remapped_projection s.map) (sym same) in
       part_stored a none (subst (λ q. AnswersProjection May q a) (sym all) is)
 

@@ -37,7 +37,7 @@ abbrev pub IsDirectBool : Setting → StoredCalls → ℕ → Term → Option Bo
 IsDirectBool s calls k t None = Unit {0}
 IsDirectBool s calls k t (Some b) = Runs s calls k t (answers_bool b)
 
--- the value in a box, unless memory is wanting
+-- the value in a box, unless out of memory
 abbrev pub IsBoxOf : Option Placed → Option (Box PartialValue Global) → Type 0
 IsBoxOf o None = Unit {0}
 IsBoxOf None (Some b) = ⊥

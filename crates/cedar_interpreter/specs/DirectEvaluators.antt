@@ -12,9 +12,9 @@ use Rattle.cedar_expressions.specs.declared.expr.Expr.{Expr}
 use Rattle.cedar_expressions.specs.View.{terms_view}
 use Rattle.cedar_values.specs.Sound.{Placed, whats}
 use Rattle.cedar_expressions.specs.Nodes.{key_order}
-use Rattle.cedar_restricted_evaluator.specs.Keys.{texts_of}
-use Rattle.cedar_restricted_evaluator.specs.Parts.{all_values}
-use Rattle.cedar_restricted_evaluator.proofs.Collected.{names_under}
+use Rattle.cedar_restricted.specs.Keys.{texts_of}
+use Rattle.cedar_restricted.specs.Parts.{all_values}
+use Rattle.cedar_restricted.proofs.Collected.{names_under}
 use Rattle.cedar_interpreter.specs.declared.evaluation.Evaluation.{Evaluation}
 use Rattle.cedar_interpreter.specs.Settings.{Speaks, evaluation_setting, calls_in}
 

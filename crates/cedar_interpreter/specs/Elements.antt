@@ -7,8 +7,8 @@ use Rattle.cedar_expressions.specs.Nodes.{parts_of}
 use Rattle.cedar_values.specs.declared.partial_value.PartialValue.{PartialValue}
 use Rattle.cedar_values.specs.Residuals.{partial_view, partial_inside, IfValue}
 use Rattle.cedar_frames.specs.declared.machine.Transition.TheVariants.{Done, Wait}
-use Rattle.cedar_restricted_evaluator.specs.Frames.{NextPart}
-use Rattle.cedar_restricted_evaluator.specs.Elements.{IsSetOf, ElementsStand, SetWaits}
+use Rattle.cedar_restricted.specs.Frames.{NextPart}
+use Rattle.cedar_restricted.specs.Elements.{IsSetOf, ElementsStand, SetWaits}
 use Rattle.cedar_interpreter.specs.declared.frame.Frame.{Frame}
 use Rattle.cedar_interpreter.specs.declared.frame.Task.{Task}
 use Rattle.cedar_interpreter.specs.declared.frame.Task.TheVariants as tasks

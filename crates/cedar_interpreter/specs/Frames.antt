@@ -25,7 +25,7 @@ pub record FrameWaits (Says : RequestPart → Type 0) (setting : RequestPart →
 abbrev pub left_of : Frame → ℕ
 left_of f = task_left f.task
 
--- the recursion limit, and want of memory
+-- the recursion limit, and out of memory
 abbrev pub ends_all : Ending → Bool
 ends_all (Ok v) = false
 ends_all (Err stops.Memory) = true

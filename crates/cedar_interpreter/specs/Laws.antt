@@ -8,8 +8,8 @@ use Rattle.cedar_model.specs.Settings.{RequestPart, Store, Resolution, shallow, 
 use Rattle.cedar_model.specs.Rules.{MayAnswer, StoredCalls, Parts, Runs, Resolves, AtPath, best, best_of_kind, joined, on_part, beside_residual, binary_beside, has_part, is_part}
 use Rattle.cedar_expressions.specs.View.{view, terms_view}
 use Rattle.cedar_operators.specs.declared.partial.connectives.Connective.TheVariants as connectives
-use Rattle.cedar_restricted_evaluator.specs.declared.parts.PartsFrame.{PartsFrame}
-use Rattle.cedar_restricted_evaluator.specs.Steps.{so_far_fails, whole_fails}
+use Rattle.cedar_restricted.specs.declared.parts.PartsFrame.{PartsFrame}
+use Rattle.cedar_restricted.specs.Steps.{so_far_fails, whole_fails}
 use Rattle.cedar_interpreter.specs.declared.frame.Frame.{Frame}
 use Rattle.cedar_interpreter.specs.declared.frame.Pending.{Pending}
 use Rattle.cedar_interpreter.specs.declared.frame.Pending.TheVariants as pendings
@@ -20,8 +20,8 @@ use Rattle.cedar_interpreter.specs.Endings.{Ending}
 use Rattle.cedar_interpreter.specs.Tasks.{SharedExpr, Uses, WaitsForPart, WaitsFor, pending_left, task_left}
 use Rattle.cedar_interpreter.specs.Frames.{IsRight, FrameWaits, ends_all, left_of}
 
-pub limit_no_want : limit ≢ fails out_of_memory
-limit_no_want h = cc
+pub limit_is_not_out_of_memory : limit ≢ fails out_of_memory
+limit_is_not_out_of_memory h = cc
 
 pub resolved : (May : MayAnswer) (q : Resolution) (a : Answer) → Resolves May q None a a
 resolved May shallow a = refl
@@ -69,14 +69,14 @@ module _ (Says : RequestPart → Type 0) (setting : RequestPart → Setting) (ca
   pub right_limit : (p : SharedExpr) → IsRight Says setting calls 0 p (Err stops.Limit)
   right_limit p = record { answer = λ q speaks ok. refl; place = tt }
 
-  pub right_want : (k : ℕ) (p : SharedExpr) → IsRight Says setting calls k p (Err stops.Memory)
-  right_want k p = record { answer = λ q speaks ok. absurd (ok refl); place = tt }
+  pub right_out_of_memory : (k : ℕ) (p : SharedExpr) → IsRight Says setting calls k p (Err stops.Memory)
+  right_out_of_memory k p = record { answer = λ q speaks ok. absurd (ok refl); place = tt }
 
   pub right_upward : (k : ℕ) (f : Frame) (p c : SharedExpr) (a : Ending) → ends_all a ≡ true → FrameWaits Says setting calls k f p c → IsRight Says setting calls k c a → IsRight Says setting calls (suc k) p a
   right_upward k f p c (Ok v) ends waits right = absurd (cc)
-  right_upward k f p c (Err stops.Memory) ends waits right = right_want (suc k) p
+  right_upward k f p c (Err stops.Memory) ends waits right = right_out_of_memory (suc k) p
   right_upward k f p c (Err stops.Limit) ends waits right = record {
-    answer = λ q speaks ok. limit_upward calls (setting q) k f.task (view p.value) (view c.value) (waits.waits q speaks) (right.answer q speaks limit_no_want);
+    answer = λ q speaks ok. limit_upward calls (setting q) k f.task (view p.value) (view c.value) (waits.waits q speaks) (right.answer q speaks limit_is_not_out_of_memory);
     place = tt;
   }
   right_upward k f p c (Err (stops.Failed x)) ends waits right = absurd (cc)
@@ -102,7 +102,7 @@ pub some_left : (f : Frame) → 1 ≤ left_of f
 some_left f = some_task f.task
   where
     some_task : (t : Task) → 1 ≤ task_left t
-    some_task (tasks.Parts g) = Rattle.cedar_restricted_evaluator.specs.Laws.some_left g.value
+    some_task (tasks.Parts g) = Rattle.cedar_restricted.specs.Laws.some_left g.value
     some_task (tasks.Other p) = some_pending p
 
 pub limit_ends : ends_all (Err stops.Limit) ≡ true

@@ -6,9 +6,9 @@ use Rattle.cedar_names.specs.declared.names.Loc.{Loc}
 use Rattle.cedar_expressions.specs.declared.expr.Expr.{Expr}
 use Rattle.cedar_expressions.specs.View.{expr_loc}
 use Rattle.cedar_frames.specs.declared.machine.Transition.TheVariants.{Done, Wait}
-use Rattle.cedar_restricted_evaluator.specs.declared.parts.PartsFrame.{PartsFrame}
-use Rattle.cedar_restricted_evaluator.specs.Evaluations.{partial_answer}
-use Rattle.cedar_restricted_evaluator.specs.Frames.{NextPart}
+use Rattle.cedar_restricted.specs.declared.parts.PartsFrame.{PartsFrame}
+use Rattle.cedar_restricted.specs.Evaluations.{partial_answer}
+use Rattle.cedar_restricted.specs.Frames.{NextPart}
 use Rattle.cedar_interpreter.specs.declared.frame.Task.TheVariants as tasks
 use Rattle.cedar_interpreter.specs.declared.frame.Task.{Task}
 use Rattle.cedar_interpreter.specs.declared.stopped.Stopped.TheVariants as stops
@@ -20,7 +20,7 @@ abbrev pub IsTakenAs : PartsFrame → Expr → Task → Expr → Type 0
 IsTakenAs f c (tasks.Parts g) d = (g.value ≡ f) × (d ≡ c)
 IsTakenAs f c (tasks.Other p) d = ⊥
 
--- and stands at this place, unless memory is wanting
+-- and stands at this place, unless out of memory
 abbrev pub IsNextPart : Option Loc → PartsFrame → Expr → Next → Type 0
 IsNextPart l f c (Wait g d) = IsTakenAs f c g.task d.value × (expr_loc g.whole.value ≡ l)
 IsNextPart l f c (Done o) = o ≡ Err stops.Memory

@@ -22,9 +22,9 @@ use Rattle.cedar_operators.specs.declared.partial.connectives.Connective.TheVari
 use Rattle.cedar_operators.specs.Connectives.{joined_terms, beside_neutral}
 use Rattle.cedar_frames.specs.declared.machine.Transition.{Transition}
 use Rattle.cedar_frames.specs.declared.machine.Transition.TheVariants.{Done, Wait}
-use Rattle.cedar_restricted_evaluator.specs.declared.parts.PartsFrame.{PartsFrame}
-use Rattle.cedar_restricted_evaluator.specs.Parts.{whole_term}
-use Rattle.cedar_restricted_evaluator.specs.Frames.{HasRead, parts_left, left_of}
+use Rattle.cedar_restricted.specs.declared.parts.PartsFrame.{PartsFrame}
+use Rattle.cedar_restricted.specs.Parts.{whole_term}
+use Rattle.cedar_restricted.specs.Frames.{HasRead, parts_left, left_of}
 use Rattle.cedar_interpreter.specs.declared.boxed_residual.BoxedResidual.{BoxedResidual}
 use Rattle.cedar_interpreter.specs.declared.frame.Frame.{Frame}
 use Rattle.cedar_interpreter.specs.declared.frame.Pending.{Pending}
@@ -101,7 +101,7 @@ WaitsFor s Calls k (tasks.Other p) t c =
 
 -- ---- what comes next
 
--- the answer is this, at this place, unless memory is wanting
+-- the answer is this, at this place, unless out of memory
 abbrev pub Gives : Option Loc → Next → Answer → Type 0
 Gives l (Done r) a = (ending_answer r ≢ fails out_of_memory → ending_answer r ≡ a) × StandsAt l r
 Gives l (Wait f c) a = ⊥
@@ -117,17 +117,17 @@ abbrev pub HasPlace : Option Loc → Next → Type 0
 HasPlace l (Done r) = StandsAt l r
 HasPlace l (Wait f c) = expr_loc f.whole.value ≡ l
 
--- the whole waits for this part, with this to be done, unless memory is wanting
+-- the whole waits for this part, with this to be done, unless out of memory
 abbrev pub IsWaiting : SharedExpr → Task → SharedExpr → Next → Type 0
 IsWaiting w t c (Done r) = r ≡ Err stops.Memory
 IsWaiting w t c (Wait f d) = (f.task ≡ t) × (d.value ≡ c.value) × (f.whole.value ≡ w.value)
 
--- what comes next, or want of memory
+-- what comes next, or out of memory
 abbrev pub IsOrWant : Result Next AllocError → Next → Type 0
 IsOrWant (Ok n) x = x ≡ n
 IsOrWant (Err e) x = x ≡ Done (Err stops.Memory)
 
--- the answer of this expression is that of the whole at this place, unless memory is wanting
+-- the answer of this expression is that of the whole at this place, unless out of memory
 abbrev pub IsPassed : Option Loc → Term → Next → Type 0
 IsPassed l t (Done r) = r ≡ Err stops.Memory
 IsPassed l t (Wait f c) = (f.task ≡ tasks.Other pendings.Passed) × (view c.value ≡ t) × (expr_loc f.whole.value ≡ l)
@@ -138,7 +138,7 @@ TestsFor task k ks =
     (path : Rc (FirstRest (RcStr Global)) Global) × (task ≡ tasks.Other (pendings.ExtHasAttr path))
     × (rc_str_bytes path.value.first ≡ k) × (texts_view path.value.rest.items ≡ ks)
 
--- the whole at this place waits for this stored residual, to test it for the attributes after it, unless memory is wanting
+-- the whole at this place waits for this stored residual, to test it for the attributes after it, unless out of memory
 abbrev pub IsWalkedOn : Option Loc → (Term × Text × List Text) → Next → Type 0
 IsWalkedOn l read (Done r) = r ≡ Err stops.Memory
 IsWalkedOn l read (Wait f c) =

@@ -10,7 +10,7 @@ ghost use Rattle.cedar_interpreter.specs.Continuations.{ContinuesIn, ContinuesAt
 ghost use Rattle.cedar_interpreter.specs.Endings.{boxed_answer};
 ghost use Rattle.cedar_interpreter.specs.declared.frame.Pending.TheVariants as pendings;
 
-use crate::answers::{or_want, passed_on, put_at};
+use crate::answers::{or_out_of_memory, pass_failure_on, put_at};
 use crate::boxed_residual::BoxedResidual;
 use crate::evaluation::Evaluation;
 use crate::failed::Failed;
@@ -23,7 +23,7 @@ use std::rc::Rc;
 
 impl<'e, 'g, 'f> Evaluation<'e, 'g, 'f> {
     // What comes next of what waited, after this value or residual.
-    pub(crate) fn after(
+    pub(crate) fn resume_pending(
         &self,
         alloc: Global,
         whole: SharedExpr,
@@ -38,39 +38,39 @@ impl<'e, 'g, 'f> Evaluation<'e, 'g, 'f> {
             Pending::Guard {
                 then_expr,
                 else_expr,
-            } => self.after_guard(alloc, whole, then_expr, else_expr, answer),
-            Pending::Then(first) => self.after_then(alloc, whole, first, answer),
-            Pending::Else(second) => self.after_else(alloc, whole, second, answer),
+            } => self.resume_if(alloc, whole, then_expr, else_expr, answer),
+            Pending::Then(first) => self.resume_if_then(alloc, whole, first, answer),
+            Pending::Else(second) => self.resume_if_else(alloc, whole, second, answer),
             Pending::LeftSide { connective, right } => {
-                self.after_left_side(alloc, whole, connective, right, answer, levels)
+                self.resume_and_or_left(alloc, whole, connective, right, answer, levels)
             }
             Pending::RightSide(connective) => {
-                self.after_right_side(alloc, whole, connective, answer)
+                self.resume_and_or_right(alloc, whole, connective, answer)
             }
             Pending::KeptRightSide {
                 connective,
                 left,
                 right,
-            } => self.after_kept_right_side(alloc, whole, connective, left, right, answer),
-            Pending::Unary(op) => self.after_operand(alloc, &whole, op, answer),
+            } => self.resume_and_or_kept(alloc, whole, connective, left, right, answer),
+            Pending::Unary(op) => self.resume_unary(alloc, &whole, op, answer),
             Pending::BinaryLeft { op, right } => {
-                self.after_left(alloc, &whole, op, &right, answer, levels)
+                self.resume_binary_left(alloc, &whole, op, &right, answer, levels)
             },
             Pending::BinaryRight { op, left } => {
-                self.after_right(alloc, &whole, op, left, answer)
+                self.resume_binary_right(alloc, &whole, op, left, answer)
             },
-            Pending::GetAttr(attr) => self.after_container(alloc, &whole, &attr, answer),
-            Pending::HasAttr(attr) => self.after_tested(alloc, &whole, &attr, answer),
-            Pending::ExtHasAttr(attrs) => self.after_walked(alloc, &whole, &attrs, answer),
-            Pending::Like(pattern) => self.after_text(alloc, &whole, &pattern, answer),
-            Pending::Is(entity_type) => self.after_entity(alloc, &whole, &entity_type, answer),
+            Pending::GetAttr(attr) => self.resume_attribute(alloc, &whole, &attr, answer),
+            Pending::HasAttr(attr) => self.resume_has(alloc, &whole, &attr, answer),
+            Pending::ExtHasAttr(attrs) => self.resume_extended_has(alloc, &whole, &attrs, answer),
+            Pending::Like(pattern) => self.resume_like(alloc, &whole, &pattern, answer),
+            Pending::Is(entity_type) => self.resume_is(alloc, &whole, &entity_type, answer),
         }
     }
 
     // The second branch beside a residual guard, after the first.
     #[cold]
     #[inline(never)]
-    fn after_then(
+    fn resume_if_then(
         &self,
         alloc: Global,
         whole: SharedExpr,
@@ -80,13 +80,13 @@ impl<'e, 'g, 'f> Evaluation<'e, 'g, 'f> {
         ensures { ContinuesAt self.now whole (pendings.Then first) (boxed_answer answer) result }
     {
         let kept = kept_part(alloc, answer);
-        or_want(self.second_branch(alloc, whole, first, kept))
+        or_out_of_memory(self.begin_if_second_branch(alloc, whole, first, kept))
     }
 
     // `if` beside a residual guard, after both branches.
     #[cold]
     #[inline(never)]
-    fn after_else(
+    fn resume_if_else(
         &self,
         alloc: Global,
         whole: SharedExpr,
@@ -96,13 +96,13 @@ impl<'e, 'g, 'f> Evaluation<'e, 'g, 'f> {
         ensures { ContinuesAt self.now whole (pendings.Else second) (boxed_answer answer) result }
     {
         let kept = kept_part(alloc, answer);
-        self.both_branches(alloc, whole, second, kept)
+        self.end_if_branches(alloc, whole, second, kept)
     }
 
     // `&&` or `||` beside a residual left side, after the right.
     #[cold]
     #[inline(never)]
-    fn after_kept_right_side(
+    fn resume_and_or_kept(
         &self,
         alloc: Global,
         whole: SharedExpr,
@@ -115,14 +115,14 @@ impl<'e, 'g, 'f> Evaluation<'e, 'g, 'f> {
             (boxed_answer answer) result }
     {
         let kept = kept_part(alloc, answer);
-        self.both_sides(alloc, whole, connective, left, right, kept)
+        self.end_and_or(alloc, whole, connective, left, right, kept)
     }
 
     // What comes next of what waited, after this error: beside a residual the part's original is kept, elsewhere it is
     // the answer.
     #[cold]
     #[inline(never)]
-    pub(crate) fn failed(
+    pub(crate) fn resume_failed(
         &self,
         alloc: Global,
         whole: SharedExpr,
@@ -132,39 +132,39 @@ impl<'e, 'g, 'f> Evaluation<'e, 'g, 'f> {
         ensures { ContinuesAt self.now whole pending (fails (failure_of failed.value.error)) result }
     {
         match pending {
-            Pending::Then(first) => self.failed_then(alloc, whole, first, failed),
-            Pending::Else(second) => self.failed_else(alloc, whole, second, failed),
+            Pending::Then(first) => self.resume_if_failed_then(alloc, whole, first, failed),
+            Pending::Else(second) => self.resume_if_failed_else(alloc, whole, second, failed),
             Pending::KeptRightSide {
                 connective,
                 left,
                 right,
             } => {
                 let kept = original_of(failed, &right);
-                self.both_sides(alloc, whole, connective, left, right, kept)
+                self.end_and_or(alloc, whole, connective, left, right, kept)
             }
-            Pending::Passed => passed_on(alloc, &whole, (), failed),
+            Pending::Passed => pass_failure_on(alloc, &whole, (), failed),
             Pending::Guard {
                 then_expr,
                 else_expr,
-            } => passed_on(alloc, &whole, (then_expr, else_expr), failed),
+            } => pass_failure_on(alloc, &whole, (then_expr, else_expr), failed),
             Pending::LeftSide {
                 connective: _,
                 right,
-            } => passed_on(alloc, &whole, right, failed),
-            Pending::RightSide(_) => passed_on(alloc, &whole, (), failed),
-            Pending::Unary(op) => passed_on(alloc, &whole, op, failed),
-            Pending::BinaryLeft { op: _, right } => passed_on(alloc, &whole, right, failed),
-            Pending::BinaryRight { op: _, left } => passed_on(alloc, &whole, left, failed),
-            Pending::GetAttr(attr) => passed_on(alloc, &whole, attr, failed),
-            Pending::HasAttr(attr) => passed_on(alloc, &whole, attr, failed),
-            Pending::ExtHasAttr(attrs) => passed_on(alloc, &whole, attrs, failed),
-            Pending::Like(pattern) => passed_on(alloc, &whole, pattern, failed),
-            Pending::Is(entity_type) => passed_on(alloc, &whole, entity_type, failed),
+            } => pass_failure_on(alloc, &whole, right, failed),
+            Pending::RightSide(_) => pass_failure_on(alloc, &whole, (), failed),
+            Pending::Unary(op) => pass_failure_on(alloc, &whole, op, failed),
+            Pending::BinaryLeft { op: _, right } => pass_failure_on(alloc, &whole, right, failed),
+            Pending::BinaryRight { op: _, left } => pass_failure_on(alloc, &whole, left, failed),
+            Pending::GetAttr(attr) => pass_failure_on(alloc, &whole, attr, failed),
+            Pending::HasAttr(attr) => pass_failure_on(alloc, &whole, attr, failed),
+            Pending::ExtHasAttr(attrs) => pass_failure_on(alloc, &whole, attrs, failed),
+            Pending::Like(pattern) => pass_failure_on(alloc, &whole, pattern, failed),
+            Pending::Is(entity_type) => pass_failure_on(alloc, &whole, entity_type, failed),
         }
     }
 
     // The second branch beside a residual guard, after an error in the first.
-    fn failed_then(
+    fn resume_if_failed_then(
         &self,
         alloc: Global,
         whole: SharedExpr,
@@ -174,11 +174,11 @@ impl<'e, 'g, 'f> Evaluation<'e, 'g, 'f> {
         ensures { ContinuesAt self.now whole (pendings.Then first) (fails (failure_of failed.value.error)) result }
     {
         let kept = original_of(failed, &first.then_expr);
-        or_want(self.second_branch(alloc, whole, first, kept))
+        or_out_of_memory(self.begin_if_second_branch(alloc, whole, first, kept))
     }
 
     // `if` beside a residual guard, after an error in the second branch.
-    fn failed_else(
+    fn resume_if_failed_else(
         &self,
         alloc: Global,
         whole: SharedExpr,
@@ -188,7 +188,7 @@ impl<'e, 'g, 'f> Evaluation<'e, 'g, 'f> {
         ensures { ContinuesAt self.now whole (pendings.Else second) (fails (failure_of failed.value.error)) result }
     {
         let kept = original_of(failed, &second.else_expr);
-        self.both_branches(alloc, whole, second, kept)
+        self.end_if_branches(alloc, whole, second, kept)
     }
 }
 

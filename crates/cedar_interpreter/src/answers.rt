@@ -32,7 +32,7 @@ pub(crate) fn loc_of(whole: &SharedExpr) -> Option<Loc>
 }
 
 // What a call answers, where the whole stands.
-pub(crate) fn answered(
+pub(crate) fn answer_result(
     alloc: Global,
     whole: &SharedExpr,
     answer: Result<PartialValue, EvaluationError>,
@@ -40,13 +40,13 @@ pub(crate) fn answered(
     ensures { (a : Answer) → AnswersWith answer a → Gives (expr_loc whole.now.value) result a }
 {
     match answer {
-        Ok(value) => done(alloc, whole, value),
+        Ok(value) => answer_part(alloc, whole, value),
         Err(error) => Transition::Done(Err(Stopped::of(alloc, error, loc_of(whole)))),
     }
 }
 
 // What a call answers, in the box of an operand, where the whole stands.
-pub(crate) fn answered_in(
+pub(crate) fn answer_result_in(
     alloc: Global,
     whole: &SharedExpr,
     mut operand: Box<PartialValue>,
@@ -73,7 +73,7 @@ pub(crate) fn taken_out(operand: &mut PartialValue) -> PartialValue
 
 // This value or residual, where the whole stands.
 #[inline(always)]
-pub(crate) fn done(alloc: Global, whole: &SharedExpr, part: PartialValue) -> Next
+pub(crate) fn answer_part(alloc: Global, whole: &SharedExpr, part: PartialValue) -> Next
     ensures answer { Gives (expr_loc whole.now.value) result (answers (partial_view part)) }
     ensures boxed { IsBoxed part result }
 {
@@ -89,7 +89,7 @@ pub(crate) fn put_at(whole: &SharedExpr, mut part: Box<PartialValue>) -> Next
     ensures answer { Gives (expr_loc whole.now.value) result (answers (partial_view part.value)) }
     ensures boxed { IsBoxed part.value result }
 {
-    if is_value_put(&mut part, whole) {
+    if put_value(&mut part, whole) {
         Transition::Done(Ok(part))
     } else {
         residual_at(whole, part)
@@ -107,13 +107,13 @@ pub(crate) fn bool_at(
     ensures view { partial_view result.value ≡ partial_view part.value }
     ensures place { partial_loc result.value ≡ expr_loc whole.now.value }
 {
-    let _is_put = is_value_put(&mut part, whole);
+    let _is_put = put_value(&mut part, whole);
     part
 }
 
 // Puts a value where the whole stands; a residual stays.
 #[inline(always)]
-fn is_value_put(part: &mut PartialValue, whole: &SharedExpr) -> bool
+fn put_value(part: &mut PartialValue, whole: &SharedExpr) -> bool
     ensures view { partial_view part.new ≡ partial_view part.old }
     ensures inside { partial_inside part.new ≡ partial_inside part.old }
     ensures put { result ≡ true → partial_loc part.new ≡ expr_loc whole.now.value }
@@ -141,7 +141,7 @@ fn residual_at(whole: &SharedExpr, mut part: Box<PartialValue>) -> Next
 }
 
 // The error that came, which ends what waited too, where the whole stands if it stands nowhere.
-pub(crate) fn passed_on<T: Drop>(
+pub(crate) fn pass_failure_on<T: Drop>(
     alloc: Global,
     whole: &SharedExpr,
     _held: T,
@@ -172,8 +172,8 @@ pub(crate) fn no_bool(alloc: Global, whole: &SharedExpr, value: &Value) -> Next
     Transition::Done(Err(Stopped::of(alloc, type_error(alloc, Type::Bool, value), loc_of(whole))))
 }
 
-// What comes next, or want of memory.
-pub(crate) fn or_want(next: Result<Next, AllocError>) -> Next
+// What comes next, or out of memory.
+pub(crate) fn or_out_of_memory(next: Result<Next, AllocError>) -> Next
     ensures { IsOrWant next result }
 {
     match next {

@@ -38,7 +38,7 @@ pub struct KnownEntities<'g> {
 }
 
 impl<'g> KnownEntities<'g> {
-    /// What the store has of the entities that these three are. Refuses only for want of memory.
+    /// What the store has of the entities that these three are. Refuses only if out of memory.
     pub fn of(
         alloc: Global,
         entities: &'g Entities,

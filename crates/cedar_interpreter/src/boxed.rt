@@ -6,7 +6,7 @@ use std::rc::Rc;
 
 // It in a box. What finds no room is dropped here, by a function that knows none of its variants.
 #[inline(always)]
-pub(crate) fn boxed<A: Drop>(alloc: Global, held: A) -> Result<Box<A>, AllocError>
+pub(crate) fn put_in_box<A: Drop>(alloc: Global, held: A) -> Result<Box<A>, AllocError>
     ensures { IfOk result (λ b. b.value ≡ held) }
 {
     Ok(Box::new(alloc, held)?)

@@ -14,7 +14,7 @@ ghost use Rattle.cedar_interpreter.specs.Kept.{IsKept};
 ghost use Rattle.cedar_interpreter.specs.declared.frame.Pending.TheVariants as pendings;
 
 use crate::answers::{
-    answered_in, bool_at, known_bool, no_bool, or_want, pair_of_copies, taken_out,
+    answer_result_in, bool_at, known_bool, no_bool, or_out_of_memory, pair_of_copies, taken_out,
 };
 use crate::boxed::copied_beside;
 use crate::boxed_residual::BoxedResidual;
@@ -33,7 +33,7 @@ use std::rc::Rc;
 
 impl<'e, 'g, 'f> Evaluation<'e, 'g, 'f> {
     // `&&` or `||` waits for its left side.
-    pub(crate) fn sides(
+    pub(crate) fn begin_and_or(
         &self,
         whole: &SharedExpr,
         connective: Connective,
@@ -56,7 +56,7 @@ impl<'e, 'g, 'f> Evaluation<'e, 'g, 'f> {
     }
 
     // After the left side: one boolean decides, the other leaves the right side.
-    pub(crate) fn after_left_side(
+    pub(crate) fn resume_and_or_left(
         &self,
         alloc: Global,
         whole: SharedExpr,
@@ -73,17 +73,19 @@ impl<'e, 'g, 'f> Evaluation<'e, 'g, 'f> {
                     drop(right);
                     Transition::Done(Ok(bool_at(&whole, left, b)))
                 } else {
-                    self.right_side(alloc, whole, connective, right, left, levels)
+                    self.begin_and_or_right(alloc, whole, connective, right, left, levels)
                 }
             }
-            None => or_want(self.after_no_bool_left_side(alloc, whole, connective, right, left)),
+            None => or_out_of_memory(self.resume_and_or_left_no_bool(
+                alloc, whole, connective, right, left,
+            )),
         }
     }
 
     // The same after one that is no boolean.
     #[cold]
     #[inline(never)]
-    fn after_no_bool_left_side(
+    fn resume_and_or_left_no_bool(
         &self,
         alloc: Global,
         whole: SharedExpr,
@@ -97,7 +99,7 @@ impl<'e, 'g, 'f> Evaluation<'e, 'g, 'f> {
         match &*left {
             PartialValue::Value(value) => Ok(no_bool(alloc, &whole, value)),
             PartialValue::Residual(_) => {
-                self.left_side_kept(whole, connective, BoxedResidual::new(left), right)
+                self.keep_and_or_left(whole, connective, BoxedResidual::new(left), right)
             }
         }
     }
@@ -105,7 +107,7 @@ impl<'e, 'g, 'f> Evaluation<'e, 'g, 'f> {
     // Beside a residual left side the right side is waited for.
     #[cold]
     #[inline(never)]
-    fn left_side_kept(
+    fn keep_and_or_left(
         &self,
         whole: SharedExpr,
         connective: Connective,
@@ -125,7 +127,7 @@ impl<'e, 'g, 'f> Evaluation<'e, 'g, 'f> {
     }
 
     // After the right side beside a left side that does not decide: it must be a boolean.
-    pub(crate) fn after_right_side(
+    pub(crate) fn resume_and_or_right(
         &self,
         alloc: Global,
         whole: SharedExpr,
@@ -136,14 +138,14 @@ impl<'e, 'g, 'f> Evaluation<'e, 'g, 'f> {
     {
         match known_bool(&right) {
             Some(b) => Transition::Done(Ok(bool_at(&whole, right, b))),
-            None => self.after_no_bool_right_side(alloc, whole, connective, right),
+            None => self.resume_and_or_right_no_bool(alloc, whole, connective, right),
         }
     }
 
     // The same after one that is no boolean.
     #[cold]
     #[inline(never)]
-    fn after_no_bool_right_side(
+    fn resume_and_or_right_no_bool(
         &self,
         alloc: Global,
         whole: SharedExpr,
@@ -153,11 +155,11 @@ impl<'e, 'g, 'f> Evaluation<'e, 'g, 'f> {
         ensures { ContinuesAt self.now whole (pendings.RightSide connective) (boxed_answer right) result }
     {
         let part = taken_out(&mut right);
-        answered_in(alloc, &whole, right, joined_right(alloc, connective, part))
+        answer_result_in(alloc, &whole, right, joined_right(alloc, connective, part))
     }
 
     // Both sides, of a residual left one and what is kept of the right, in the box of the left one.
-    pub(crate) fn both_sides(
+    pub(crate) fn end_and_or(
         &self,
         alloc: Global,
         whole: SharedExpr,
@@ -173,7 +175,7 @@ impl<'e, 'g, 'f> Evaluation<'e, 'g, 'f> {
             Ok(right) => {
                 let (left, part) = left.taken_apart();
                 let answer = residual_connective(alloc, connective, left, right);
-                answered_in(alloc, &whole, part, answer)
+                answer_result_in(alloc, &whole, part, answer)
             }
             Err(_) => Transition::Done(Err(Stopped::Memory)),
         }
@@ -181,7 +183,7 @@ impl<'e, 'g, 'f> Evaluation<'e, 'g, 'f> {
 
     // The right side beside a left side that does not decide: a boolean that is evaluated directly is the answer, in
     // the box of the left one.
-    fn right_side(
+    fn begin_and_or_right(
         &self,
         alloc: Global,
         whole: SharedExpr,
@@ -194,13 +196,13 @@ impl<'e, 'g, 'f> Evaluation<'e, 'g, 'f> {
         ensures { IsRightSide self.now levels whole (pendings.RightSide connective) right result }
     {
         match bool_literal_in(&right) {
-            Some(b) => Transition::Done(Ok(bool_at(&whole, in_place_of(connective, left, b), b))),
-            None => self.other_right_side(alloc, whole, connective, right, left, levels),
+            Some(b) => Transition::Done(Ok(bool_at(&whole, set_bool_of(connective, left, b), b))),
+            None => self.begin_and_or_right_other(alloc, whole, connective, right, left, levels),
         }
     }
 
     // The same of one that is no literal.
-    fn other_right_side(
+    fn begin_and_or_right_other(
         &self,
         alloc: Global,
         whole: SharedExpr,
@@ -220,7 +222,7 @@ impl<'e, 'g, 'f> Evaluation<'e, 'g, 'f> {
 
 // The box of a left side that does not decide, with this boolean in it.
 #[inline(always)]
-fn in_place_of(connective: Connective, left: Box<PartialValue>, b: bool) -> Box<PartialValue>
+fn set_bool_of(connective: Connective, left: Box<PartialValue>, b: bool) -> Box<PartialValue>
     requires { part_bool (partial_view left.value) ≡ Some (neutral connective) }
     ensures answer { answers (partial_view result.value) ≡ answers_bool b }
     ensures known { part_bool (partial_view result.value) ≡ Some b }

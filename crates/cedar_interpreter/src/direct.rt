@@ -56,7 +56,7 @@ impl<'e, 'g, 'f> Evaluation<'e, 'g, 'f> {
         ensures place { IfSome result (λ v. v.loc ≡ expr_loc part.now) }
     {
         if is_tried(part, levels) {
-            placed(
+            place_value(
                 self.direct_value_unplaced(alloc, part),
                 part.source_loc().copied(),
             )
@@ -96,7 +96,7 @@ fn is_tried(part: &Expr, levels: usize) -> bool
     }
 }
 
-// The value in a box, at this place, unless memory is wanting.
+// The value in a box, at this place, unless out of memory.
 fn boxed_at(alloc: Global, value: Option<Value>, loc: Option<Loc>) -> Option<Box<PartialValue>>
     ensures { IsBoxOf value result }
 {
@@ -127,7 +127,7 @@ pub(crate) fn boolean_of(value: Option<Value>) -> Option<bool>
 }
 
 // The value, at this place.
-fn placed(value: Option<Value>, loc: Option<Loc>) -> Option<Value>
+fn place_value(value: Option<Value>, loc: Option<Loc>) -> Option<Value>
     ensures { IsMovedTo value loc result }
 {
     match value {
@@ -139,7 +139,7 @@ fn placed(value: Option<Value>, loc: Option<Loc>) -> Option<Value>
     }
 }
 
-// The value of the literal, unless memory is wanting.
+// The value of the literal, unless out of memory.
 pub(crate) fn literal_value(literal: &Literal) -> Option<Value>
     ensures { IfSome result (λ v. v.what ≡ plain_represented (literal_view literal.now)) }
 {

@@ -25,7 +25,7 @@ use cedar_operators::operators::of_longs;
 use cedar_operators::partial::attributes::{extended_has_of_part, has_of_part};
 use cedar_operators::partial::connectives::Connective;
 use cedar_operators::partial::unary::{is_of_part, like_of_part, unary_of_part};
-use cedar_restricted_evaluator::record_value;
+use cedar_restricted::record_value;
 use cedar_values::{PartialValue, Value, ValueKind};
 use std::alloc::{AllocError, Global};
 use std::collections::BTreeMap;
@@ -126,20 +126,35 @@ impl<T: DirectEvaluator> DirectEvaluator for EvaluatorAbove<T> {
                 test_expr,
                 then_expr,
                 else_expr,
-            } => self.guarded(within, alloc, test_expr, then_expr, else_expr),
+            } => self.evaluate_if(within, alloc, test_expr, then_expr, else_expr),
             ExprKind::And { left, right } => {
-                self.sides(within, alloc, Connective::And, left, right)
+                self.evaluate_and_or(within, alloc, Connective::And, left, right)
             }
-            ExprKind::Or { left, right } => self.sides(within, alloc, Connective::Or, left, right),
-            ExprKind::UnaryApp { op, arg } => self.unary(within, alloc, *op, arg),
-            ExprKind::BinaryApp { op, arg1, arg2 } => self.binary(within, alloc, *op, arg1, arg2),
-            ExprKind::GetAttr { expr, attr } => self.attribute(within, alloc, expr, attr),
-            ExprKind::HasAttr { expr, attr } => self.has(within, alloc, expr, attr),
-            ExprKind::ExtHasAttr { expr, attrs } => self.extended_has(within, alloc, expr, attrs),
-            ExprKind::Like { expr, pattern } => self.like(within, alloc, expr, pattern),
-            ExprKind::Is { expr, entity_type } => self.is_of(within, alloc, expr, entity_type),
-            ExprKind::Set(parts) => self.set(within, alloc, parts.as_slice()),
-            ExprKind::Record(pairs) => self.record(within, alloc, pairs),
+            ExprKind::Or { left, right } => self.evaluate_and_or(
+                within,
+                alloc,
+                Connective::Or,
+                left,
+                right,
+            ),
+            ExprKind::UnaryApp { op, arg } => self.evaluate_unary(within, alloc, *op, arg),
+            ExprKind::BinaryApp { op, arg1, arg2 } => self.evaluate_binary(
+                within, alloc, *op, arg1, arg2,
+            ),
+            ExprKind::GetAttr { expr, attr } => self.evaluate_attribute(within, alloc, expr, attr),
+            ExprKind::HasAttr { expr, attr } => self.evaluate_has(within, alloc, expr, attr),
+            ExprKind::ExtHasAttr { expr, attrs } => self.evaluate_extended_has(
+                within, alloc, expr, attrs,
+            ),
+            ExprKind::Like { expr, pattern } => self.evaluate_like(within, alloc, expr, pattern),
+            ExprKind::Is { expr, entity_type } => self.evaluate_is(
+                within,
+                alloc,
+                expr,
+                entity_type,
+            ),
+            ExprKind::Set(parts) => self.evaluate_set(within, alloc, parts.as_slice()),
+            ExprKind::Record(pairs) => self.evaluate_record(within, alloc, pairs),
             _ => None,
         }
     }
@@ -167,7 +182,7 @@ impl<T: DirectEvaluator> EvaluatorAbove<T> {
     }
 
     // `if` of what has values.
-    fn guarded(
+    fn evaluate_if(
         &self,
         within: &Evaluation<'_, '_, '_>,
         alloc: Global,
@@ -178,7 +193,7 @@ impl<T: DirectEvaluator> EvaluatorAbove<T> {
         ensures { HasDirectValueAbove within.now T.height
             (Terms.if_then_else (view test_expr.now) (view then_expr.now) (view else_expr.now)) result }
     {
-        match self.boolean(within, alloc, test_expr) {
+        match self.evaluate_boolean(within, alloc, test_expr) {
             Some(true) => self.below.evaluate(within, alloc, then_expr),
             Some(false) => self.below.evaluate(within, alloc, else_expr),
             None => None,
@@ -186,7 +201,7 @@ impl<T: DirectEvaluator> EvaluatorAbove<T> {
     }
 
     // `&&` or `||` of what has values.
-    fn sides(
+    fn evaluate_and_or(
         &self,
         within: &Evaluation<'_, '_, '_>,
         alloc: Global,
@@ -197,12 +212,12 @@ impl<T: DirectEvaluator> EvaluatorAbove<T> {
         ensures { HasDirectValueAbove within.now T.height
             (joined_terms connective (view left.now) (view right.now)) result }
     {
-        match self.boolean(within, alloc, left) {
+        match self.evaluate_boolean(within, alloc, left) {
             Some(b) => {
                 if connective.is_decided_by(b) {
                     boolean_as_value(Some(b))
                 } else {
-                    boolean_as_value(self.boolean(within, alloc, right))
+                    boolean_as_value(self.evaluate_boolean(within, alloc, right))
                 }
             }
             None => None,
@@ -210,14 +225,19 @@ impl<T: DirectEvaluator> EvaluatorAbove<T> {
     }
 
     // The boolean that an expression is, if it has a value and that is one.
-    fn boolean(&self, within: &Evaluation<'_, '_, '_>, alloc: Global, e: &Expr) -> Option<bool>
+    fn evaluate_boolean(
+        &self,
+        within: &Evaluation<'_, '_, '_>,
+        alloc: Global,
+        e: &Expr,
+    ) -> Option<bool>
         ensures { HasDirectBool within.now T.height (view e.now) result }
     {
         boolean_of(self.below.evaluate(within, alloc, e))
     }
 
     // An operator on one operand that has a value.
-    fn unary(
+    fn evaluate_unary(
         &self,
         within: &Evaluation<'_, '_, '_>,
         alloc: Global,
@@ -238,7 +258,7 @@ impl<T: DirectEvaluator> EvaluatorAbove<T> {
     }
 
     // An operator on two operands that have values.
-    fn binary(
+    fn evaluate_binary(
         &self,
         within: &Evaluation<'_, '_, '_>,
         alloc: Global,
@@ -259,7 +279,7 @@ impl<T: DirectEvaluator> EvaluatorAbove<T> {
     }
 
     // An attribute of what has a value.
-    fn attribute(
+    fn evaluate_attribute(
         &self,
         within: &Evaluation<'_, '_, '_>,
         alloc: Global,
@@ -271,12 +291,12 @@ impl<T: DirectEvaluator> EvaluatorAbove<T> {
     {
         match variable_in(expr) {
             Some(var) => within.attribute_of_variable(alloc, var, attr),
-            None => self.attribute_of_other(within, alloc, expr, attr),
+            None => self.evaluate_attribute_of_other(within, alloc, expr, attr),
         }
     }
 
     // The same of what is no variable.
-    fn attribute_of_other(
+    fn evaluate_attribute_of_other(
         &self,
         within: &Evaluation<'_, '_, '_>,
         alloc: Global,
@@ -295,7 +315,7 @@ impl<T: DirectEvaluator> EvaluatorAbove<T> {
     }
 
     // Whether what has a value has an attribute.
-    fn has(
+    fn evaluate_has(
         &self,
         within: &Evaluation<'_, '_, '_>,
         alloc: Global,
@@ -307,12 +327,12 @@ impl<T: DirectEvaluator> EvaluatorAbove<T> {
     {
         match variable_in(expr) {
             Some(var) => within.variable_has(alloc, var, attr),
-            None => self.other_has(within, alloc, expr, attr),
+            None => self.evaluate_has_of_other(within, alloc, expr, attr),
         }
     }
 
     // The same of what is no variable.
-    fn other_has(
+    fn evaluate_has_of_other(
         &self,
         within: &Evaluation<'_, '_, '_>,
         alloc: Global,
@@ -332,7 +352,7 @@ impl<T: DirectEvaluator> EvaluatorAbove<T> {
     }
 
     // Whether what has a value has attributes, one in the other.
-    fn extended_has(
+    fn evaluate_extended_has(
         &self,
         within: &Evaluation<'_, '_, '_>,
         alloc: Global,
@@ -351,7 +371,7 @@ impl<T: DirectEvaluator> EvaluatorAbove<T> {
     }
 
     // Whether what has a value matches a pattern.
-    fn like(
+    fn evaluate_like(
         &self,
         within: &Evaluation<'_, '_, '_>,
         alloc: Global,
@@ -368,7 +388,7 @@ impl<T: DirectEvaluator> EvaluatorAbove<T> {
     }
 
     // Whether what has a value is of an entity type.
-    fn is_of(
+    fn evaluate_is(
         &self,
         within: &Evaluation<'_, '_, '_>,
         alloc: Global,
@@ -389,11 +409,16 @@ impl<T: DirectEvaluator> EvaluatorAbove<T> {
     }
 
     // A set of what has values.
-    fn set(&self, within: &Evaluation<'_, '_, '_>, alloc: Global, parts: &[Expr]) -> Option<Value>
+    fn evaluate_set(
+        &self,
+        within: &Evaluation<'_, '_, '_>,
+        alloc: Global,
+        parts: &[Expr],
+    ) -> Option<Value>
         ensures { HasDirectValueAbove within.now T.height (Terms.set_of (terms_view parts.now)) result }
     {
         match self.values(within, alloc, parts) {
-            Ok(Some(values)) => made(Value::set(alloc, values, None)),
+            Ok(Some(values)) => value_or_none(Value::set(alloc, values, None)),
             Ok(None) => None,
             Err(_) => None,
         }
@@ -419,7 +444,7 @@ impl<T: DirectEvaluator> EvaluatorAbove<T> {
     }
 
     // A record of what has values.
-    fn record(
+    fn evaluate_record(
         &self,
         within: &Evaluation<'_, '_, '_>,
         alloc: Global,
@@ -428,7 +453,7 @@ impl<T: DirectEvaluator> EvaluatorAbove<T> {
         ensures { HasDirectValueAbove within.now T.height (Terms.record_of (fields_view pairs.now.entries)) result }
     {
         match self.pairs(within, alloc, pairs) {
-            Ok(Some((keys, values))) => made(record_value(alloc, keys, values)),
+            Ok(Some((keys, values))) => value_or_none(record_value(alloc, keys, values)),
             Ok(None) => None,
             Err(_) => None,
         }
@@ -513,8 +538,8 @@ fn standing_at(mut value: Value, e: &Expr) -> Value
     value
 }
 
-// What was made, unless memory is wanting.
-fn made(value: Result<Value, AllocError>) -> Option<Value>
+// What was made, unless out of memory.
+fn value_or_none(value: Result<Value, AllocError>) -> Option<Value>
     ensures { IfSome result (λ v. value ≡ Ok v) }
 {
     match value {

@@ -1,4 +1,4 @@
-//! Errors of the language that are neither the recursion limit nor want of memory.
+//! Errors of the language that are neither the recursion limit nor out of memory.
 ghost use Rattle.std.specs.Prelude.{◌≡◌, false};
 ghost use Rattle.cedar_errors.specs.Finals.{is_final};
 ghost use mathlib.Core.Bool.{Bool-set};
@@ -8,7 +8,7 @@ use cedar_expressions::Expr;
 use cedar_names::Loc;
 use std::alloc::AllocError;
 
-/// An error that is neither want of memory nor the recursion limit.
+/// An error that is neither out of memory nor the recursion limit.
 #[derive(Drop)]
 pub struct Failed {
     error: EvaluationError,

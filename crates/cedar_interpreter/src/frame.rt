@@ -5,7 +5,7 @@ use cedar_expressions::Expr;
 use cedar_frames::Transition;
 use cedar_names::{BinaryOp, EntityType, FirstRest, Pattern, UnaryOp};
 use cedar_operators::partial::connectives::Connective;
-use cedar_restricted_evaluator::PartsFrame;
+use cedar_restricted::PartsFrame;
 use cedar_values::{PartialValue, ResidualExpr};
 use std::rc::{Rc, RcStr};
 

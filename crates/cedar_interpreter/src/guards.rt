@@ -10,7 +10,7 @@ ghost use Rattle.cedar_interpreter.specs.Endings.{boxed_answer};
 ghost use Rattle.cedar_interpreter.specs.Kept.{IsKept};
 ghost use Rattle.cedar_interpreter.specs.declared.frame.Pending.TheVariants as pendings;
 
-use crate::answers::{answered, known_bool, no_bool, or_want, pair_of_copies};
+use crate::answers::{answer_result, known_bool, no_bool, or_out_of_memory, pair_of_copies};
 use crate::boxed::boxed_with;
 use crate::evaluation::Evaluation;
 use crate::frame::{FirstBranch, Frame, Next, Pending, SecondBranch, SharedExpr, Task};
@@ -24,7 +24,7 @@ use std::rc::Rc;
 
 impl<'e, 'g, 'f> Evaluation<'e, 'g, 'f> {
     // `if` waits for its guard.
-    pub(crate) fn branches(
+    pub(crate) fn begin_if(
         &self,
         whole: &SharedExpr,
         test_expr: &SharedExpr,
@@ -50,7 +50,7 @@ impl<'e, 'g, 'f> Evaluation<'e, 'g, 'f> {
     }
 
     // The branch that the guard takes, or beside a residual guard the first of both.
-    pub(crate) fn after_guard(
+    pub(crate) fn resume_if(
         &self,
         alloc: Global,
         whole: SharedExpr,
@@ -71,14 +71,16 @@ impl<'e, 'g, 'f> Evaluation<'e, 'g, 'f> {
                 let task = Task::Other(Pending::Passed);
                 Transition::Wait(Frame { whole, task }, else_expr)
             }
-            None => or_want(self.after_no_bool_guard(alloc, whole, then_expr, else_expr, guard)),
+            None => or_out_of_memory(self.resume_if_no_bool(
+                alloc, whole, then_expr, else_expr, guard,
+            )),
         }
     }
 
     // The same after one that is no boolean.
     #[cold]
     #[inline(never)]
-    fn after_no_bool_guard(
+    fn resume_if_no_bool(
         &self,
         alloc: Global,
         whole: SharedExpr,
@@ -96,7 +98,7 @@ impl<'e, 'g, 'f> Evaluation<'e, 'g, 'f> {
                 Ok(next)
             }
             PartialValue::Residual(guard) => {
-                self.first_branch(alloc, whole, guard, then_expr, else_expr)
+                self.begin_if_first_branch(alloc, whole, guard, then_expr, else_expr)
             }
         }
     }
@@ -104,7 +106,7 @@ impl<'e, 'g, 'f> Evaluation<'e, 'g, 'f> {
     // The first branch beside a residual guard.
     #[cold]
     #[inline(never)]
-    fn first_branch(
+    fn begin_if_first_branch(
         &self,
         alloc: Global,
         whole: SharedExpr,
@@ -127,7 +129,7 @@ impl<'e, 'g, 'f> Evaluation<'e, 'g, 'f> {
     }
 
     // The second branch beside a residual guard, after what is kept of the first.
-    pub(crate) fn second_branch(
+    pub(crate) fn begin_if_second_branch(
         &self,
         alloc: Global,
         whole: SharedExpr,
@@ -155,7 +157,7 @@ impl<'e, 'g, 'f> Evaluation<'e, 'g, 'f> {
     }
 
     // `if` with a residual guard and what is kept of both branches.
-    pub(crate) fn both_branches(
+    pub(crate) fn end_if_branches(
         &self,
         alloc: Global,
         whole: SharedExpr,
@@ -173,7 +175,7 @@ impl<'e, 'g, 'f> Evaluation<'e, 'g, 'f> {
                     else_expr: _,
                 } = Box::into_inner(second);
                 let answer = residual_if(alloc, guard, then_expr, else_expr);
-                answered(alloc, &whole, answer)
+                answer_result(alloc, &whole, answer)
             }
             Err(_) => Transition::Done(Err(Stopped::Memory)),
         }

@@ -4,7 +4,7 @@ ghost use Rattle.cedar_model.specs.RestrictedLaws.{HoldsUnknown};
 ghost use Rattle.cedar_expressions.specs.View.{view, expr_loc};
 ghost use Rattle.cedar_expressions.specs.Nodes.{parts_of};
 ghost use Rattle.cedar_values.specs.Residuals.{partial_view, partial_loc, IfValue};
-ghost use Rattle.cedar_restricted_evaluator.specs.Elements.{ElementsStand};
+ghost use Rattle.cedar_restricted.specs.Elements.{ElementsStand};
 ghost use Rattle.cedar_errors.specs.Answers.{partial_answer};
 ghost use Rattle.cedar_errors.specs.Failures.{failure_of};
 ghost use Rattle.cedar_interpreter.specs.Promises.{RunsIn, PromisedIn};
@@ -37,14 +37,14 @@ impl<'e, 'g, 'f> Evaluation<'e, 'g, 'f> {
         ensures unknown { IfOk result (λ p. HoldsUnknown (partial_view p)) }
         ensures elements { (n : ℕ) → IfOk result (λ p. IfValue p (ElementsStand n e.now)) }
     {
-        match copied(alloc, e) {
-            Ok(expr) => self.evaluated(alloc, expr, limit),
+        match copy_expression(alloc, e) {
+            Ok(expr) => self.evaluate_owned(alloc, expr, limit),
             Err(error) => Err(EvaluationError::Memory(error)),
         }
     }
 
     // The same, of an expression that is its own.
-    fn evaluated(
+    fn evaluate_owned(
         &self,
         alloc: Global,
         expr: Rc<Expr>,
@@ -63,7 +63,7 @@ impl<'e, 'g, 'f> Evaluation<'e, 'g, 'f> {
 }
 
 // The expression, as one that is its own.
-fn copied(alloc: Global, e: &Expr) -> Result<Rc<Expr>, AllocError>
+fn copy_expression(alloc: Global, e: &Expr) -> Result<Rc<Expr>, AllocError>
     ensures view { IfOk result (λ x. view x.value ≡ view e.now) }
     ensures loc { IfOk result (λ x. expr_loc x.value ≡ expr_loc e.now) }
     ensures parts { IfOk result (λ x. parts_of x.value ≡ parts_of e.now) }

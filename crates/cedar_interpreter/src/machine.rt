@@ -9,16 +9,16 @@ ghost use Rattle.cedar_interpreter.specs.Settings.{Speaks, evaluation_setting, c
 ghost use Rattle.cedar_interpreter.specs.Continuations.{LeadsIn};
 ghost use Rattle.cedar_interpreter.specs.Frames.{IsRight, FrameWaits, left_of, ends_all};
 ghost use Rattle.cedar_interpreter.specs.Elements.{EndingStands, FrameStands, TaskContinues, ended_stands};
-ghost use Rattle.cedar_interpreter.specs.Laws.{right_limit, right_want, right_upward, limit_ends, some_left, some_most};
+ghost use Rattle.cedar_interpreter.specs.Laws.{right_limit, right_out_of_memory, right_upward, limit_ends, some_left, some_most};
 
-use crate::answers::passed_on;
+use crate::answers::pass_failure_on;
 use crate::evaluation::Evaluation;
 use crate::failed::Failed;
 use crate::frame::{Ending, Frame, Next, SharedExpr, Task};
 use crate::start::next_of_parts;
 use crate::stopped::Stopped;
 use cedar_frames::{Machine, Transition};
-use cedar_restricted_evaluator::PartsFrame;
+use cedar_restricted::PartsFrame;
 use cedar_values::PartialValue;
 use std::alloc::Global;
 
@@ -43,7 +43,7 @@ impl<'e, 'g, 'f> Machine for Evaluation<'e, 'g, 'f> {
 
     ghost at_limit = { Err stops.Limit };
 
-    ghost at_want = { Err stops.Memory };
+    ghost at_out_of_memory = { Err stops.Memory };
 
     #[inline(always)]
     fn start(&self, alloc: Global, part: SharedExpr, levels: usize) -> Next {
@@ -53,7 +53,7 @@ impl<'e, 'g, 'f> Machine for Evaluation<'e, 'g, 'f> {
     #[inline(always)]
     fn resume(&self, alloc: Global, frame: Frame, answer: Ending, levels: usize) -> Next {
         let Frame { whole, task } = frame;
-        self.resumed(alloc, whole, task, answer, levels)
+        self.resume_task(alloc, whole, task, answer, levels)
     }
 
     #[inline(always)]
@@ -79,8 +79,8 @@ impl<'e, 'g, 'f> Machine for Evaluation<'e, 'g, 'f> {
       λ n. tt,
     ) };
 
-    ghost right_want = { λ s k t. (
-      right_want (λ r. Speaks r s) (λ r. evaluation_setting r s) (calls_in s) k t,
+    ghost right_out_of_memory = { λ s k t. (
+      right_out_of_memory (λ r. Speaks r s) (λ r. evaluation_setting r s) (calls_in s) k t,
       λ n. tt,
     ) };
 
@@ -99,7 +99,7 @@ impl<'e, 'g, 'f> Machine for Evaluation<'e, 'g, 'f> {
 impl<'e, 'g, 'f> Evaluation<'e, 'g, 'f> {
     // What comes next of what waited, after this answer.
     #[inline(always)]
-    fn resumed(
+    fn resume_task(
         &self,
         alloc: Global,
         whole: SharedExpr,
@@ -111,15 +111,15 @@ impl<'e, 'g, 'f> Evaluation<'e, 'g, 'f> {
         ensures elements { TaskContinues task answer result }
     {
         match answer {
-            Ok(value) => self.valued(alloc, whole, task, value, levels),
-            Err(stopped) => self.stopped(alloc, whole, task, stopped),
+            Ok(value) => self.resume_valued(alloc, whole, task, value, levels),
+            Err(stopped) => self.resume_stopped(alloc, whole, task, stopped),
         }
     }
 
     // The same after what stopped the part.
     #[cold]
     #[inline(never)]
-    fn stopped(&self, alloc: Global, whole: SharedExpr, task: Task, stopped: Stopped) -> Next
+    fn resume_stopped(&self, alloc: Global, whole: SharedExpr, task: Task, stopped: Stopped) -> Next
         ensures leads { (levels : ℕ) → LeadsIn self.now levels whole task (fails (stopped_failure stopped)) result }
         ensures elements { TaskContinues task (Err stopped) result }
     {
@@ -132,7 +132,7 @@ impl<'e, 'g, 'f> Evaluation<'e, 'g, 'f> {
 
     // The same after a value or a residual.
     #[inline(always)]
-    fn valued(
+    fn resume_valued(
         &self,
         alloc: Global,
         whole: SharedExpr,
@@ -145,7 +145,7 @@ impl<'e, 'g, 'f> Evaluation<'e, 'g, 'f> {
     {
         match task {
             Task::Parts(frame) => self.after_part(alloc, whole, frame, value),
-            Task::Other(pending) => self.after(alloc, whole, pending, value, levels),
+            Task::Other(pending) => self.resume_pending(alloc, whole, pending, value, levels),
         }
     }
 
@@ -165,7 +165,7 @@ impl<'e, 'g, 'f> Evaluation<'e, 'g, 'f> {
         next_of_parts(
             alloc,
             whole,
-            parts.answered(alloc, self.given.extensions, Ok(part)),
+            parts.resume_parts(alloc, self.given.extensions, Ok(part)),
         )
     }
 
@@ -182,8 +182,8 @@ impl<'e, 'g, 'f> Evaluation<'e, 'g, 'f> {
         ensures elements { TaskContinues task (Err (stops.Failed failed)) result }
     {
         match task {
-            Task::Parts(frame) => passed_on(alloc, &whole, frame, failed),
-            Task::Other(pending) => self.failed(alloc, whole, pending, failed),
+            Task::Parts(frame) => pass_failure_on(alloc, &whole, frame, failed),
+            Task::Other(pending) => self.resume_failed(alloc, whole, pending, failed),
         }
     }
 }

@@ -20,7 +20,7 @@ ghost use Rattle.cedar_interpreter.specs.Endings.{boxed_answer};
 ghost use Rattle.cedar_interpreter.specs.declared.frame.Pending.TheVariants as pendings;
 ghost use Rattle.cedar_interpreter.specs.declared.frame.Task.TheVariants as tasks;
 
-use crate::answers::{answered_in, known_bool, pair_of_copies, put_at, taken_out};
+use crate::answers::{answer_result_in, known_bool, pair_of_copies, put_at, taken_out};
 use crate::evaluation::Evaluation;
 use crate::frame::{Frame, Next, Pending, SharedExpr, Task};
 use crate::stopped::Stopped;
@@ -42,7 +42,7 @@ use std::rc::{Rc, RcStr};
 
 impl<'e, 'g, 'f> Evaluation<'e, 'g, 'f> {
     // An operator on its one operand.
-    pub(crate) fn after_operand(
+    pub(crate) fn resume_unary(
         &self,
         alloc: Global,
         whole: &SharedExpr,
@@ -51,16 +51,16 @@ impl<'e, 'g, 'f> Evaluation<'e, 'g, 'f> {
     ) -> Next
         ensures { ContinuesAt self.now whole.now (pendings.Unary op) (boxed_answer operand) result }
     {
-        if is_negated(op, &mut operand) {
+        if negate_bool(op, &mut operand) {
             put_at(whole, operand)
         } else {
-            self.after_other_operand(alloc, whole, op, operand)
+            self.resume_unary_other(alloc, whole, op, operand)
         }
     }
 
     // The same of any operator and operand.
     #[inline(never)]
-    fn after_other_operand(
+    fn resume_unary_other(
         &self,
         alloc: Global,
         whole: &SharedExpr,
@@ -70,11 +70,11 @@ impl<'e, 'g, 'f> Evaluation<'e, 'g, 'f> {
         ensures { ContinuesAt self.now whole.now (pendings.Unary op) (boxed_answer operand) result }
     {
         let part = taken_out(&mut operand);
-        answered_in(alloc, whole, operand, unary_of_part(alloc, op, part, None))
+        answer_result_in(alloc, whole, operand, unary_of_part(alloc, op, part, None))
     }
 
     // The right operand, after the left one.
-    pub(crate) fn after_left(
+    pub(crate) fn resume_binary_left(
         &self,
         alloc: Global,
         whole: &SharedExpr,
@@ -86,13 +86,13 @@ impl<'e, 'g, 'f> Evaluation<'e, 'g, 'f> {
         ensures { ContinuesIn self.now levels whole.now (pendings.BinaryLeft op right.now) (boxed_answer left) result }
     {
         match self.direct_value(alloc, right, levels) {
-            Some(right) => self.applied(alloc, whole, op, left, PartialValue::Value(right)),
+            Some(right) => self.apply_binary(alloc, whole, op, left, PartialValue::Value(right)),
             None => right_operand(whole, op, right, left),
         }
     }
 
     // An operator on its two operands.
-    pub(crate) fn after_right(
+    pub(crate) fn resume_binary_right(
         &self,
         alloc: Global,
         whole: &SharedExpr,
@@ -102,11 +102,11 @@ impl<'e, 'g, 'f> Evaluation<'e, 'g, 'f> {
     ) -> Next
         ensures { ContinuesAt self.now whole.now (pendings.BinaryRight op left) (boxed_answer right) result }
     {
-        self.applied(alloc, whole, op, left, Box::into_inner(right))
+        self.apply_binary(alloc, whole, op, left, Box::into_inner(right))
     }
 
     // The same. With deep resolution a stored residual that they read is evaluated.
-    pub(crate) fn applied(
+    pub(crate) fn apply_binary(
         &self,
         alloc: Global,
         whole: &SharedExpr,
@@ -121,12 +121,12 @@ impl<'e, 'g, 'f> Evaluation<'e, 'g, 'f> {
                 drop((left, right));
                 read_again(alloc, whole, tag)
             }
-            None => self.applied_as_stored(alloc, whole, op, left, right),
+            None => self.apply_binary_stored(alloc, whole, op, left, right),
         }
     }
 
     // What the operator answers, where a stored residual answers itself.
-    fn applied_as_stored(
+    fn apply_binary_stored(
         &self,
         alloc: Global,
         whole: &SharedExpr,
@@ -140,7 +140,7 @@ impl<'e, 'g, 'f> Evaluation<'e, 'g, 'f> {
         let left_part = taken_out(&mut left);
         let entities = self.given.entities;
         let extensions = self.given.extensions;
-        answered_in(
+        answer_result_in(
             alloc,
             whole,
             left,
@@ -149,7 +149,7 @@ impl<'e, 'g, 'f> Evaluation<'e, 'g, 'f> {
     }
 
     // The attribute; with deep resolution a stored residual is evaluated.
-    pub(crate) fn after_container(
+    pub(crate) fn resume_attribute(
         &self,
         alloc: Global,
         whole: &SharedExpr,
@@ -163,12 +163,12 @@ impl<'e, 'g, 'f> Evaluation<'e, 'g, 'f> {
                 drop(container);
                 read_again(alloc, whole, residual)
             }
-            None => self.attribute_as_stored(alloc, whole, attr, container),
+            None => self.resume_attribute_stored(alloc, whole, attr, container),
         }
     }
 
     // The attribute, where a stored residual answers itself; that of a projectable record is evaluated again.
-    fn attribute_as_stored(
+    fn resume_attribute_stored(
         &self,
         alloc: Global,
         whole: &SharedExpr,
@@ -185,12 +185,12 @@ impl<'e, 'g, 'f> Evaluation<'e, 'g, 'f> {
             Projected::Answer(answer) => {
                 stored_in(alloc, whole, &self.given.mapper, container, answer)
             }
-            Projected::Attribute(part) => projected(alloc, whole, part),
+            Projected::Attribute(part) => evaluate_projected(alloc, whole, part),
         }
     }
 
     // Whether there is the attribute.
-    pub(crate) fn after_tested(
+    pub(crate) fn resume_has(
         &self,
         alloc: Global,
         whole: &SharedExpr,
@@ -200,7 +200,7 @@ impl<'e, 'g, 'f> Evaluation<'e, 'g, 'f> {
         ensures { ContinuesAt self.now whole.now (pendings.HasAttr attr.now) (boxed_answer container) result }
     {
         let part = taken_out(&mut container);
-        answered_in(
+        answer_result_in(
             alloc,
             whole,
             container,
@@ -210,7 +210,7 @@ impl<'e, 'g, 'f> Evaluation<'e, 'g, 'f> {
 
     // Whether there are the attributes, one in the other. With deep resolution a stored residual before the last of
     // them is evaluated.
-    pub(crate) fn after_walked(
+    pub(crate) fn resume_extended_has(
         &self,
         alloc: Global,
         whole: &SharedExpr,
@@ -225,14 +225,14 @@ impl<'e, 'g, 'f> Evaluation<'e, 'g, 'f> {
                     drop(container);
                     walk_again(whole, read)
                 }
-                None => self.walked_as_stored(alloc, whole, attrs, container),
+                None => self.resume_extended_has_stored(alloc, whole, attrs, container),
             },
             Err(_) => Transition::Done(Err(Stopped::Memory)),
         }
     }
 
     // Whether there are the attributes, where a stored residual answers itself.
-    fn walked_as_stored(
+    fn resume_extended_has_stored(
         &self,
         alloc: Global,
         whole: &SharedExpr,
@@ -246,7 +246,7 @@ impl<'e, 'g, 'f> Evaluation<'e, 'g, 'f> {
             (boxed_answer container)) }
     {
         let part = taken_out(&mut container);
-        answered_in(
+        answer_result_in(
             alloc,
             whole,
             container,
@@ -255,7 +255,7 @@ impl<'e, 'g, 'f> Evaluation<'e, 'g, 'f> {
     }
 
     // Whether the text matches.
-    pub(crate) fn after_text(
+    pub(crate) fn resume_like(
         &self,
         alloc: Global,
         whole: &SharedExpr,
@@ -265,11 +265,11 @@ impl<'e, 'g, 'f> Evaluation<'e, 'g, 'f> {
         ensures { ContinuesAt self.now whole.now (pendings.Like pattern.now) (boxed_answer text) result }
     {
         let part = taken_out(&mut text);
-        answered_in(alloc, whole, text, like_of_part(alloc, part, pattern))
+        answer_result_in(alloc, whole, text, like_of_part(alloc, part, pattern))
     }
 
     // Whether the entity is of the type.
-    pub(crate) fn after_entity(
+    pub(crate) fn resume_is(
         &self,
         alloc: Global,
         whole: &SharedExpr,
@@ -279,7 +279,7 @@ impl<'e, 'g, 'f> Evaluation<'e, 'g, 'f> {
         ensures { ContinuesAt self.now whole.now (pendings.Is entity_type.now) (boxed_answer entity) result }
     {
         let part = taken_out(&mut entity);
-        answered_in(alloc, whole, entity, is_of_part(alloc, part, entity_type))
+        answer_result_in(alloc, whole, entity, is_of_part(alloc, part, entity_type))
     }
 }
 
@@ -308,7 +308,7 @@ fn read_again(alloc: Global, whole: &SharedExpr, residual: &ResidualExpr) -> Nex
     ensures { IsPassed (expr_loc whole.now.value) (residual_term residual.now) result }
 {
     match residual.as_expr().clone() {
-        Ok(part) => projected(alloc, whole, part),
+        Ok(part) => evaluate_projected(alloc, whole, part),
         Err(_) => Transition::Done(Err(Stopped::Memory)),
     }
 }
@@ -332,7 +332,7 @@ fn walk_again(whole: &SharedExpr, read: OnPath) -> Next
 // A part of a record is evaluated again, and is the answer.
 #[cold]
 #[inline(never)]
-fn projected(alloc: Global, whole: &SharedExpr, part: Expr) -> Next
+fn evaluate_projected(alloc: Global, whole: &SharedExpr, part: Expr) -> Next
     ensures { IsPassed (expr_loc whole.now.value) (view part) result }
 {
     match whole.clone() {
@@ -348,7 +348,7 @@ fn projected(alloc: Global, whole: &SharedExpr, part: Expr) -> Next
 }
 
 // Negates a boolean where the operator is `!`. Anything else stays.
-fn is_negated(op: UnaryOp, part: &mut PartialValue) -> bool
+fn negate_bool(op: UnaryOp, part: &mut PartialValue) -> bool
     ensures negated { result ≡ true → answers (partial_view part.new)
         ≡ on_part (unary_answer (unary_view op)) (unary (unary_view op)) (answers (partial_view part.old)) }
     ensures same { result ≡ false → part.new ≡ part.old }

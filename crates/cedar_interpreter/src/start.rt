@@ -15,12 +15,12 @@ ghost use Rattle.cedar_interpreter.specs.Continuations.{StartsIn, StartsAt};
 ghost use Rattle.cedar_interpreter.specs.Parts.{IsTaken, IsNextPart};
 ghost use Rattle.cedar_interpreter.specs.Elements.{IsPartTaken, NextStands, SetNext};
 
-use crate::answers::{answered, done, loc_of, or_want, pair_of_copies};
+use crate::answers::{answer_part, answer_result, loc_of, or_out_of_memory, pair_of_copies};
 use crate::direct::literal_value;
 use crate::evaluation::Evaluation;
 use crate::frame::{Frame, Next, Pending, SharedExpr, Task};
 use crate::stopped::Stopped;
-use crate::stored::mapped;
+use crate::stored::begin_unknown_mapped;
 use cedar_errors::evaluator::err::{EvaluationError, evaluation_errors};
 use cedar_expressions::{Expr, ExprKind};
 use cedar_frames::Transition;
@@ -30,7 +30,7 @@ use cedar_names::{
 };
 use cedar_operators::partial::connectives::Connective;
 use cedar_operators::partial::unary::{is_of_part, like_of_part};
-use cedar_restricted_evaluator::{NextPart, PartsFrame};
+use cedar_restricted::{NextPart, PartsFrame};
 use cedar_values::{PartialValue, Value, ValueKind};
 use evaluation_errors::UnlinkedSlotError;
 use std::alloc::{AllocError, Global};
@@ -45,72 +45,74 @@ impl<'e, 'g, 'f> Evaluation<'e, 'g, 'f> {
         ensures elements { NextStands e.now result }
     {
         match e.expr_kind() {
-            ExprKind::Lit(value) => self.literal(alloc, whole, value),
-            ExprKind::Var(var) => self.variable(alloc, whole, *var),
-            ExprKind::Slot(slot) => self.slot(alloc, whole, *slot),
-            ExprKind::Unknown(unknown) => self.unknown(alloc, whole, e, unknown),
+            ExprKind::Lit(value) => self.begin_literal(alloc, whole, value),
+            ExprKind::Var(var) => self.begin_variable(alloc, whole, *var),
+            ExprKind::Slot(slot) => self.begin_slot(alloc, whole, *slot),
+            ExprKind::Unknown(unknown) => self.begin_unknown(alloc, whole, e, unknown),
             ExprKind::If {
                 test_expr,
                 then_expr,
                 else_expr,
-            } => self.branches(whole, test_expr, then_expr, else_expr),
-            ExprKind::And { left, right } => self.sides(whole, Connective::And, left, right),
-            ExprKind::Or { left, right } => self.sides(whole, Connective::Or, left, right),
-            ExprKind::UnaryApp { op, arg } => self.operand(whole, *op, arg),
+            } => self.begin_if(whole, test_expr, then_expr, else_expr),
+            ExprKind::And { left, right } => self.begin_and_or(whole, Connective::And, left, right),
+            ExprKind::Or { left, right } => self.begin_and_or(whole, Connective::Or, left, right),
+            ExprKind::UnaryApp { op, arg } => self.begin_unary(whole, *op, arg),
             ExprKind::BinaryApp { op, arg1, arg2 } => {
-                self.operands(alloc, whole, *op, arg1, arg2, levels)
+                self.begin_binary(alloc, whole, *op, arg1, arg2, levels)
             }
             ExprKind::ExtensionFunctionApp { fn_name, args } => {
-                self.call(alloc, whole, fn_name, args)
+                self.begin_call(alloc, whole, fn_name, args)
             }
-            ExprKind::GetAttr { expr, attr } => { self.attribute(alloc, whole, expr, attr, levels) }
-            ExprKind::HasAttr { expr, attr } => { self.tested(alloc, whole, expr, attr, levels) }
+            ExprKind::GetAttr { expr, attr } => {
+                self.begin_attribute(alloc, whole, expr, attr, levels)
+            }
+            ExprKind::HasAttr { expr, attr } => { self.begin_has(alloc, whole, expr, attr, levels) }
             ExprKind::ExtHasAttr { expr, attrs } => {
-                self.walked(alloc, whole, expr, attrs, levels)
+                self.begin_extended_has(alloc, whole, expr, attrs, levels)
             }
             ExprKind::Like { expr, pattern } => {
-                self.likeness(alloc, whole, expr, pattern, levels)
+                self.begin_like(alloc, whole, expr, pattern, levels)
             }
             ExprKind::Is { expr, entity_type } => {
-                self.typed(alloc, whole, expr, entity_type, levels)
+                self.begin_is(alloc, whole, expr, entity_type, levels)
             }
-            ExprKind::Set(parts) => self.set(alloc, whole, parts),
-            ExprKind::Record(pairs) => self.record(alloc, whole, pairs),
+            ExprKind::Set(parts) => self.begin_set(alloc, whole, parts),
+            ExprKind::Record(pairs) => self.begin_record(alloc, whole, pairs),
         }
     }
 
-    fn literal(&self, alloc: Global, whole: &SharedExpr, value: &Literal) -> Next
+    fn begin_literal(&self, alloc: Global, whole: &SharedExpr, value: &Literal) -> Next
         ensures { StartsAt self.now whole.now (Terms.literal (literal_view value.now)) result }
     {
         match literal_value(value) {
-            Some(value) => done(alloc, whole, PartialValue::Value(value)),
+            Some(value) => answer_part(alloc, whole, PartialValue::Value(value)),
             None => Transition::Done(Err(Stopped::Memory)),
         }
     }
 
-    fn variable(&self, alloc: Global, whole: &SharedExpr, var: Var) -> Next
+    fn begin_variable(&self, alloc: Global, whole: &SharedExpr, var: Var) -> Next
         ensures { (levels : ℕ) → StartsIn self.now levels whole.now (Terms.variable (variable_view var)) result }
     {
         match self.given.given_for(var).clone() {
-            Ok(part) => done(alloc, whole, part),
+            Ok(part) => answer_part(alloc, whole, part),
             Err(_) => Transition::Done(Err(Stopped::Memory)),
         }
     }
 
-    fn slot(&self, alloc: Global, whole: &SharedExpr, slot: SlotId) -> Next
+    fn begin_slot(&self, alloc: Global, whole: &SharedExpr, slot: SlotId) -> Next
         ensures { StartsAt self.now whole.now (Terms.slot (slot_view slot)) result }
     {
-        or_want(slot_answer(alloc, whole, self.slots, slot))
+        or_out_of_memory(slot_answer(alloc, whole, self.slots, slot))
     }
 
-    fn unknown(&self, alloc: Global, whole: &SharedExpr, e: &Expr, unknown: &Unknown) -> Next
+    fn begin_unknown(&self, alloc: Global, whole: &SharedExpr, e: &Expr, unknown: &Unknown) -> Next
         requires { view e.now ≡ unknown_term unknown.now }
         ensures { StartsAt self.now whole.now (view e.now) result }
     {
-        or_want(mapped(alloc, whole, &self.given.mapper, e, unknown))
+        or_out_of_memory(begin_unknown_mapped(alloc, whole, &self.given.mapper, e, unknown))
     }
 
-    fn operand(&self, whole: &SharedExpr, op: UnaryOp, arg: &SharedExpr) -> Next
+    fn begin_unary(&self, whole: &SharedExpr, op: UnaryOp, arg: &SharedExpr) -> Next
         ensures { StartsAt self.now whole.now (Terms.unary (unary_view op) (view arg.now.value)) result }
     {
         match pair_of_copies(whole, arg) {
@@ -122,7 +124,7 @@ impl<'e, 'g, 'f> Evaluation<'e, 'g, 'f> {
         }
     }
 
-    fn operands(
+    fn begin_binary(
         &self,
         alloc: Global,
         whole: &SharedExpr,
@@ -135,12 +137,12 @@ impl<'e, 'g, 'f> Evaluation<'e, 'g, 'f> {
             (Terms.binary (binary_view op) (view left.now.value) (view right.now.value)) result }
     {
         match self.direct_answer(alloc, left, levels) {
-            Some(direct) => self.after_left(alloc, whole, op, right, direct, levels),
-            None => self.wait_for_left(whole, op, left, right),
+            Some(direct) => self.resume_binary_left(alloc, whole, op, right, direct, levels),
+            None => self.wait_for_binary(whole, op, left, right),
         }
     }
 
-    fn wait_for_left(
+    fn wait_for_binary(
         &self,
         whole: &SharedExpr,
         op: BinaryOp,
@@ -162,7 +164,7 @@ impl<'e, 'g, 'f> Evaluation<'e, 'g, 'f> {
         }
     }
 
-    fn attribute(
+    fn begin_attribute(
         &self,
         alloc: Global,
         whole: &SharedExpr,
@@ -174,12 +176,12 @@ impl<'e, 'g, 'f> Evaluation<'e, 'g, 'f> {
             (Terms.get_attribute (view expr.now.value) (rc_str_bytes attr.now)) result }
     {
         match self.direct_answer(alloc, expr, levels) {
-            Some(direct) => self.after_container(alloc, whole, attr, direct),
-            None => self.wait_for_container(whole, expr, attr),
+            Some(direct) => self.resume_attribute(alloc, whole, attr, direct),
+            None => self.wait_for_attribute(whole, expr, attr),
         }
     }
 
-    fn wait_for_container(&self, whole: &SharedExpr, expr: &SharedExpr, attr: &RcStr) -> Next
+    fn wait_for_attribute(&self, whole: &SharedExpr, expr: &SharedExpr, attr: &RcStr) -> Next
         ensures { StartsAt self.now whole.now
             (Terms.get_attribute (view expr.now.value) (rc_str_bytes attr.now)) result }
     {
@@ -195,7 +197,7 @@ impl<'e, 'g, 'f> Evaluation<'e, 'g, 'f> {
         }
     }
 
-    fn tested(
+    fn begin_has(
         &self,
         alloc: Global,
         whole: &SharedExpr,
@@ -207,12 +209,12 @@ impl<'e, 'g, 'f> Evaluation<'e, 'g, 'f> {
             (Terms.has_attribute (view expr.now.value) (rc_str_bytes attr.now)) result }
     {
         match self.direct_answer(alloc, expr, levels) {
-            Some(direct) => self.after_tested(alloc, whole, attr, direct),
-            None => self.wait_for_tested(whole, expr, attr),
+            Some(direct) => self.resume_has(alloc, whole, attr, direct),
+            None => self.wait_for_has(whole, expr, attr),
         }
     }
 
-    fn wait_for_tested(&self, whole: &SharedExpr, expr: &SharedExpr, attr: &RcStr) -> Next
+    fn wait_for_has(&self, whole: &SharedExpr, expr: &SharedExpr, attr: &RcStr) -> Next
         ensures { StartsAt self.now whole.now
             (Terms.has_attribute (view expr.now.value) (rc_str_bytes attr.now)) result }
     {
@@ -228,7 +230,7 @@ impl<'e, 'g, 'f> Evaluation<'e, 'g, 'f> {
         }
     }
 
-    fn walked(
+    fn begin_extended_has(
         &self,
         alloc: Global,
         whole: &SharedExpr,
@@ -239,12 +241,12 @@ impl<'e, 'g, 'f> Evaluation<'e, 'g, 'f> {
         ensures { StartsIn self.now levels whole.now (extended_has_of (view expr.now.value) attrs.now.value) result }
     {
         match self.direct_answer(alloc, expr, levels) {
-            Some(direct) => self.after_walked(alloc, whole, attrs, direct),
-            None => self.wait_for_walked(whole, expr, attrs),
+            Some(direct) => self.resume_extended_has(alloc, whole, attrs, direct),
+            None => self.wait_for_extended_has(whole, expr, attrs),
         }
     }
 
-    fn wait_for_walked(
+    fn wait_for_extended_has(
         &self,
         whole: &SharedExpr,
         expr: &SharedExpr,
@@ -264,7 +266,7 @@ impl<'e, 'g, 'f> Evaluation<'e, 'g, 'f> {
         }
     }
 
-    fn likeness(
+    fn begin_like(
         &self,
         alloc: Global,
         whole: &SharedExpr,
@@ -277,17 +279,17 @@ impl<'e, 'g, 'f> Evaluation<'e, 'g, 'f> {
     {
         match self.direct_value(alloc, expr, levels) {
             Some(direct) => {
-                answered(
+                answer_result(
                     alloc,
                     whole,
                     like_of_part(alloc, PartialValue::Value(direct), pattern),
                 )
             }
-            None => self.wait_for_text(alloc, whole, expr, pattern),
+            None => self.wait_for_like(alloc, whole, expr, pattern),
         }
     }
 
-    fn wait_for_text(
+    fn wait_for_like(
         &self,
         alloc: Global,
         whole: &SharedExpr,
@@ -308,7 +310,7 @@ impl<'e, 'g, 'f> Evaluation<'e, 'g, 'f> {
         }
     }
 
-    fn typed(
+    fn begin_is(
         &self,
         alloc: Global,
         whole: &SharedExpr,
@@ -321,17 +323,17 @@ impl<'e, 'g, 'f> Evaluation<'e, 'g, 'f> {
     {
         match self.direct_value(alloc, expr, levels) {
             Some(direct) => {
-                answered(
+                answer_result(
                     alloc,
                     whole,
                     is_of_part(alloc, PartialValue::Value(direct), entity_type),
                 )
             }
-            None => self.wait_for_entity(alloc, whole, expr, entity_type),
+            None => self.wait_for_is(alloc, whole, expr, entity_type),
         }
     }
 
-    fn wait_for_entity(
+    fn wait_for_is(
         &self,
         alloc: Global,
         whole: &SharedExpr,
@@ -353,7 +355,7 @@ impl<'e, 'g, 'f> Evaluation<'e, 'g, 'f> {
         }
     }
 
-    fn set(&self, alloc: Global, whole: &SharedExpr, parts: &Rc<Vec<Expr>>) -> Next
+    fn begin_set(&self, alloc: Global, whole: &SharedExpr, parts: &Rc<Vec<Expr>>) -> Next
         ensures starts { StartsAt self.now whole.now (Terms.set_of (terms_view parts.now.value.items)) result }
         ensures elements { SetNext parts.now.value.items result }
     {
@@ -361,14 +363,20 @@ impl<'e, 'g, 'f> Evaluation<'e, 'g, 'f> {
         first_part(alloc, whole, next)
     }
 
-    fn record(&self, alloc: Global, whole: &SharedExpr, pairs: &BTreeMap<RcStr, Expr>) -> Next
+    fn begin_record(&self, alloc: Global, whole: &SharedExpr, pairs: &BTreeMap<RcStr, Expr>) -> Next
         ensures { StartsAt self.now whole.now (Terms.record_of (fields_view pairs.now.entries)) result }
     {
         let next = PartsFrame::record(alloc, self.given.extensions, pairs, loc_of(whole));
         first_part(alloc, whole, next)
     }
 
-    fn call(&self, alloc: Global, whole: &SharedExpr, fn_name: &Name, args: &Rc<Vec<Expr>>) -> Next
+    fn begin_call(
+        &self,
+        alloc: Global,
+        whole: &SharedExpr,
+        fn_name: &Name,
+        args: &Rc<Vec<Expr>>,
+    ) -> Next
         ensures { StartsAt self.now whole.now (call_of fn_name.now args.now.value.items) result }
     {
         let next = PartsFrame::call(alloc, self.given.extensions, fn_name, args, loc_of(whole));
@@ -405,16 +413,16 @@ fn slot_answer(
         Some(uid) => {
             let uid = Rc::new(alloc, uid.clone()?)?;
             let value = Value::new(ValueKind::Lit(Literal::EntityUID(uid)), None);
-            Ok(done(alloc, whole, PartialValue::Value(value)))
+            Ok(answer_part(alloc, whole, PartialValue::Value(value)))
         }
-        None => Ok(slot_unlinked(alloc, whole, slot)),
+        None => Ok(refuse_unlinked_slot(alloc, whole, slot)),
     }
 }
 
 // That the slot is linked to no entity.
 #[cold]
 #[inline(never)]
-fn slot_unlinked(alloc: Global, whole: &SharedExpr, slot: SlotId) -> Next
+fn refuse_unlinked_slot(alloc: Global, whole: &SharedExpr, slot: SlotId) -> Next
     ensures { Gives (expr_loc whole.now.value) result (fails (slot_is_unlinked (slot_view slot))) }
 {
     let error = EvaluationError::UnlinkedSlot(UnlinkedSlotError {
@@ -441,13 +449,13 @@ pub(crate) fn next_of_parts(alloc: Global, whole: SharedExpr, next: NextPart) ->
     ensures same { IsPartTaken next result }
 {
     match next {
-        Transition::Done(Ok(part)) => done(alloc, &whole, part),
+        Transition::Done(Ok(part)) => answer_part(alloc, &whole, part),
         Transition::Done(Err(error)) => Transition::Done(Err(Stopped::of(
             alloc,
             error,
             loc_of(&whole),
         ))),
-        Transition::Wait(frame, part) => or_want(next_part(alloc, whole, frame, part)),
+        Transition::Wait(frame, part) => or_out_of_memory(next_part(alloc, whole, frame, part)),
     }
 }
 

@@ -1,5 +1,5 @@
 //! Why an evaluation stopped, small enough to be handed on from frame to frame.
-use crate::boxed::boxed;
+use crate::boxed::put_in_box;
 use crate::failed::Failed;
 use cedar_errors::evaluator::err::{EvaluationError, evaluation_errors};
 use cedar_names::Loc;
@@ -9,7 +9,7 @@ use std::alloc::{AllocError, Global};
 /// Why an evaluation stopped.
 #[derive(Drop)]
 pub enum Stopped {
-    /// Memory was wanting. It ends the whole evaluation.
+    /// Out of memory. It ends the whole evaluation.
     Memory,
     /// No level was left. It ends the whole evaluation.
     Limit,
@@ -23,7 +23,7 @@ impl Stopped {
     ghost use Rattle.cedar_errors.specs.Failures.{failure_of};
     ghost use Rattle.cedar_interpreter.specs.Endings.{stopped_failure};
 
-    /// The reason that is this error, at this location if it has none. Memory may be wanting to keep it.
+    /// The reason that is this error, at this location if it has none. Memory may run out to keep it.
     #[cold]
     #[inline(never)]
     pub fn of(alloc: Global, error: EvaluationError, loc: Option<Loc>) -> Stopped
@@ -32,7 +32,7 @@ impl Stopped {
         if error.is_recursion_limit() {
             drop(error);
             Stopped::Limit
-        } else if error.is_want_of_memory() {
+        } else if error.is_out_of_memory() {
             drop(error);
             Stopped::Memory
         } else {
@@ -64,7 +64,7 @@ impl Stopped {
     fn boxed_within(alloc: Global, failed: Failed, loc: Option<Loc>) -> Stopped
         ensures { stopped_failure result ≢ out_of_memory → stopped_failure result ≡ failure_of failed.error }
     {
-        match boxed(alloc, failed.within(loc)) {
+        match put_in_box(alloc, failed.within(loc)) {
             Ok(failed) => Stopped::Failed(failed),
             Err(_) => Stopped::Memory,
         }

@@ -16,7 +16,7 @@ ghost use Rattle.cedar_interpreter.specs.Settings.{mapper_view};
 ghost use Rattle.cedar_interpreter.specs.Tasks.{Gives};
 ghost use Rattle.cedar_interpreter.specs.Stored.{remapped, mapped_unknown};
 
-use crate::answers::{answered_in, done, loc_of, or_want};
+use crate::answers::{answer_part, answer_result_in, loc_of, or_out_of_memory};
 use crate::evaluation::Mapper;
 use crate::frame::{Next, SharedExpr};
 use crate::stopped::Stopped;
@@ -44,12 +44,12 @@ pub(crate) fn stored_in(
 {
     match answer {
         Ok(PartialValue::Value(value)) => {
-            answered_in(alloc, whole, container, Ok(PartialValue::Value(value)))
+            answer_result_in(alloc, whole, container, Ok(PartialValue::Value(value)))
         }
         Ok(PartialValue::Residual(residual)) => {
-            or_want(stored_residual(alloc, whole, mapper, residual))
+            or_out_of_memory(stored_residual(alloc, whole, mapper, residual))
         }
-        Err(error) => answered_in(alloc, whole, container, Err(error)),
+        Err(error) => answer_result_in(alloc, whole, container, Err(error)),
     }
 }
 
@@ -66,17 +66,17 @@ fn stored_residual(
 {
     match residual.as_expr().as_unknown() {
         Some(unknown) => {
-            let next = mapped(alloc, whole, mapper, residual.as_expr(), unknown);
+            let next = begin_unknown_mapped(alloc, whole, mapper, residual.as_expr(), unknown);
             drop(residual);
             next
         }
-        None => Ok(done(alloc, whole, PartialValue::Residual(residual))),
+        None => Ok(answer_part(alloc, whole, PartialValue::Residual(residual))),
     }
 }
 
 // The map's value for the unknown, if it is of the annotated type; without one the unknown is left.
 #[tactic(auto, unfolding(cedar_model::specs::Operators::mapped, cedar_model::specs::Operators::typed_value))]
-pub(crate) fn mapped(
+pub(crate) fn begin_unknown_mapped(
     alloc: Global,
     whole: &SharedExpr,
     mapper: &Mapper<'_>,
@@ -90,9 +90,9 @@ pub(crate) fn mapped(
     match value_of(mapper, &unknown.name) {
         Some(value) => match &unknown.type_annotation {
             Some(ty) => of_type(alloc, whole, value, ty),
-            None => Ok(done(alloc, whole, PartialValue::Value(value.clone()?))),
+            None => Ok(answer_part(alloc, whole, PartialValue::Value(value.clone()?))),
         },
-        None => Ok(left(alloc, whole, e.clone()?)),
+        None => Ok(keep_unknown(alloc, whole, e.clone()?)),
     }
 }
 
@@ -114,7 +114,7 @@ fn of_type(alloc: Global, whole: &SharedExpr, value: &Value, ty: &Type) -> Resul
         (typed_value (Some (type_view ty.now)) value.now.what)) }
 {
     if same_type(&value.type_of()?, ty) {
-        Ok(done(alloc, whole, PartialValue::Value(value.clone()?)))
+        Ok(answer_part(alloc, whole, PartialValue::Value(value.clone()?)))
     } else {
         Ok(wrong_type(alloc, whole, ty.clone()?, value))
     }
@@ -139,9 +139,9 @@ fn wrong_type(alloc: Global, whole: &SharedExpr, ty: Type, value: &Value) -> Nex
 }
 
 // The unknown is left.
-fn left(alloc: Global, whole: &SharedExpr, e: Expr) -> Next
+fn keep_unknown(alloc: Global, whole: &SharedExpr, e: Expr) -> Next
     requires { has_unknown (view e) ≡ true }
     ensures { Gives (expr_loc whole.now.value) result (answers_residual (view e)) }
 {
-    done(alloc, whole, PartialValue::Residual(ResidualExpr::new(e)))
+    answer_part(alloc, whole, PartialValue::Residual(ResidualExpr::new(e)))
 }

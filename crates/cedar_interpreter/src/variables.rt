@@ -103,7 +103,7 @@ fn is_stored(entity: &Entity, attr: &RcStr) -> bool
     entity.get(attr).is_some()
 }
 
-// The value that the part is, if it is one, unless memory is wanting.
+// The value that the part is, if it is one, unless out of memory.
 fn value_of_part(part: &PartialValue) -> Option<Value>
     ensures { IfSome result (λ v. partial_view part.now ≡ value v.what) }
 {

@@ -6,7 +6,7 @@ ghost use Rattle.cedar_extension_values.specs.Answered.{abstracts};
 ghost use Rattle.cedar_ip_functions.specs.Ranges.{ip_answer};
 
 use cedar_errors::evaluator::err::EvaluationError;
-use cedar_extension_values::{constructed, failed, first_text};
+use cedar_extension_values::{construct_value, fail_with_message, first_text};
 use cedar_ip::key;
 use cedar_values::Value;
 use std::alloc::Global;
@@ -24,11 +24,11 @@ pub fn ip(alloc: Global, args: &[Value]) -> Result<Value, EvaluationError>
 {
     match first_text(alloc, args) {
         Ok(text) => match key(text.as_str()) {
-            Some(key) => match constructed(alloc, "ipaddr", key.as_bytes(), "ip", text) {
+            Some(key) => match construct_value(alloc, "ipaddr", key.as_bytes(), "ip", text) {
                 Ok(value) => Ok(value),
                 Err(error) => Err(EvaluationError::Memory(error)),
             },
-            None => Err(failed(alloc, "ipaddr", NOT_A_RANGE)),
+            None => Err(fail_with_message(alloc, "ipaddr", NOT_A_RANGE)),
         },
         Err(error) => Err(error),
     }

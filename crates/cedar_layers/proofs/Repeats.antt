@@ -1,4 +1,4 @@
--- Ids that come again, and a set of policies that is filled one by one.
+-- Duplicate ids, and a set of policies that is filled one by one.
 use Rattle.std.proofs.Common.{◌≡◌, refl, sym, ap, ◌∙◌, Bool, true, false, ◌||◌, true≢false, List, [], ◌∷◌, ◌++◌, append_assoc, map, Some, is_some, if◌then◌else◌}
 use Rattle.std.proofs.lemmas.Map.Made.{is_some-lookup}
 use Rattle.std.specs.List.{list_any}
@@ -65,7 +65,7 @@ ids_of-push : (ps : List Policy) (p : Policy) → ids_of (ps ++ p ∷ []) ≡ id
 ids_of-push [] p = refl
 ids_of-push (q ∷ ps) p = ap (λ (ts : List Text). policy_id_text q.id ∷ ts) (ids_of-push ps p)
 
--- of all the policies those before `rest` are in, each under its id, and none came again
+-- of all the policies those before `rest` are in, each under its id, and none was a duplicate
 pub record Fills (all : List Policy) (es : List (PolicyID × Policy)) (rest : List Policy) : Type 0 where
   pub taken : values_of es ++ rest ≡ all
   pub ids : entry_ids es ≡ ids_of (values_of es)

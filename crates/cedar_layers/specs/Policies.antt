@@ -146,6 +146,6 @@ pub record IsConditionOf (p : ConditionParts) (l : Option Loc) (e : Expr) : Type
 abbrev pub policy_ids : List PolicyView → List Text
 policy_ids ps = map (λ p. p.id) ps
 
--- the first id of policies that comes again
+-- the first id of policies that is a duplicate
 abbrev pub first_repeated_id : List Policy → Option Text
 first_repeated_id ps = first_repeated (policy_ids (map policy_view ps))

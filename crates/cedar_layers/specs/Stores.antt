@@ -71,7 +71,7 @@ Standing = EntityName → Option Entity
 abbrev pub none_stands : Standing
 none_stands n = None
 
--- the same, but this entity in the place of one of its name
+-- the same, but this entity instead of one of its name
 abbrev pub standing_with : Standing → Entity → Standing
 standing_with before e n = if entity_eq n (entity_name e) then Some e else before n
 

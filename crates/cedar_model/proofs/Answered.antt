@@ -1,4 +1,5 @@
--- Each step of a chain, and each chain, has an answer, where the functions that exist answer, and never want of memory.
+-- Each step of a chain, and each chain, has an answer, where the functions that exist answer, and never running out of
+-- memory.
 use Rattle.std.specs.Prelude.{◌≡◌, ℕ, zero, suc, Bool, true, false, List, [], ◌∷◌, map, Option, Some, None, Result}
 use Rattle.std.specs.Prelude.{Ok, Err, MatchBool, MatchResult}
 use Rattle.std.proofs.Common.{refl, subst, sym}

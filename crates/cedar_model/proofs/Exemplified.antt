@@ -69,7 +69,7 @@ none_is_found : finds_none (fails out_of_memory) ≡ true
 unfolding finds_none is_memory failure_kind
 none_is_found = refl
 
--- no answer is want of memory
+-- no answer is out of memory
 abbrev pub FindMemory : Setting → ℕ → List Policy → Type 0
 FindMemory s n [] = Unit {0}
 FindMemory s n (p ∷ ps) = (finds_none (policy_answer s n p) ≡ false) × FindMemory s n ps

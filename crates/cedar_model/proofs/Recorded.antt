@@ -1,4 +1,4 @@
--- Errors that policies may have in what stands: neither the recursion limit nor want of memory.
+-- Errors that policies may have in what stands: neither the recursion limit nor out of memory.
 use Rattle.std.specs.Prelude.{◌≡◌, ◌≢◌, ℕ, List, [], ◌∷◌, Option, Some, None}
 use Rattle.std.proofs.Common.{refl, sym, ap, subst}
 use Rattle.cedar_model.specs.Terms.{Text}
@@ -42,7 +42,7 @@ kind_of_memory recursion_limit h = absurd (cc)
 kind_of_memory out_of_memory h = refl
 kind_of_memory memory_is_wrapped h = absurd (cc)
 
--- the error of an answer that is no want of memory, where it is not the limit
+-- the error of an answer that is not out of memory, where it is not the limit
 pub unless_memory : (a : Answer) (id : Text) (later : List (Text × Failure)) → a ≢ fails out_of_memory
     → HaveNoLimit (Responses.with_error id (Responses.error_of (Responses.decided a)) later)
     → IsRecordable (Responses.error_of (Responses.decided a))

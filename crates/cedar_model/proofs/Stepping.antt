@@ -13,7 +13,7 @@ use Rattle.cedar_model.proofs.Injections.{ok_inj}
 module _ (mode : ErrorHandling) (s : Setting) (calls : Rules.StoredCalls) (levels : ℕ) (m : Chains.Mapping)
     (store : Store)
     (old new : Chains.Response) where
-  -- no id stands twice, the request is made concrete and its context substituted, and the policies run
+  -- no id is a duplicate, the request is made concrete and its context substituted, and the policies run
   pub record Taken : Type 0 where
     pub mode_is : new.mode ≡ mode
     pub request : RequestPart

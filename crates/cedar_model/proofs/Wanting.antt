@@ -1,4 +1,4 @@
--- No expression answers want of memory, where no function does.
+-- No expression answers out of memory, where no function does.
 use Rattle.std.specs.Prelude.{◌≡◌, ◌≢◌, ℕ, zero, suc, ◌==◌, Bool, true, false, cond, List, length, Option, Some, None}
 use Rattle.std.specs.Prelude.{Result, Ok, Err}
 use Rattle.std.proofs.Common.{refl, subst, sym, ap, ◌∙◌}
@@ -30,7 +30,7 @@ AnyTerm t = Unit {0}
 abbrev IsOther : Failure → Type 0
 IsOther e = e ≢ out_of_memory
 
--- another answer than want of memory
+-- another answer than running out of memory
 abbrev Found : Answer → Type 0
 Found a = AllAnswer AnyValue AnyTerm IsOther a
 

@@ -354,7 +354,7 @@ AnswersOutcome (answers (residual t)) o = ⊥
 AnswersOutcome (fails e) o = FailsAs (failure_kind e) o
 
 -- an answer stands for an outcome: a faithful value that is its value; an error, where it errs; or a residual that fits
--- the world and has the same outcome without slots. The recursion limit and want of memory say nothing
+-- the world and has the same outcome without slots. The recursion limit and running out of memory say nothing
 abbrev pub FailsFor : FailureKind → Outcome → Type 0
 FailsFor (of_meaning k) o = outcome_value o ≡ None
 FailsFor of_residual o = outcome_value o ≡ None

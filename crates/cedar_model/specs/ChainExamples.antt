@@ -222,7 +222,7 @@ response_to r rows = record { mode = skip; request = r; rows = rows; errors = []
 abbrev pub known_request : RequestPart
 known_request = requested (known_entry (user (codes "a"))) (known_entry (user (codes "r"))) empty_context
 
--- an id that comes again is refused before the map is looked at
+-- a duplicate id is refused before the map is looked at
 abbrev pub RepeatedIdIsRefused : Type 0
 RepeatedIdIsRefused =
     Steps (configured_in skip 9) (map_of ((codes "principal", a_number 3) ∷ [])) empty_store

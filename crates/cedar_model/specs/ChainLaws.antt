@@ -16,7 +16,7 @@ use Rattle.cedar_model.specs.Authorizations.{HaveNoLimit}
 use Rattle.cedar_model.specs.Reports.{ids, given_decision, must_determine, may_determine}
 use Rattle.cedar_model.specs.ReportLaws.{Within}
 
--- where the functions that exist answer, and never want of memory, there is a first response to policies
+-- where the functions that exist answer, and never running out of memory, there is a first response to policies
 abbrev pub ChainsBegin : StoredCalls → Type 0
 ChainsBegin calls =
     FunctionsFindMemory calls → (mode : ErrorHandling) (resolution : Resolution) (X : Extensions) (levels : ℕ)

@@ -182,7 +182,7 @@ module _ (c : Configuration) (m : Mapping) (store : Store) (old : Response) wher
   AfterMode true x = AfterIds (first_repeated (map (λ p. p.id) (all_residuals old.rows))) x
   AfterMode false x = x ≡ Err (mode_is_other old.mode c.mode)
 
-  -- a step answers a response or a refusal: the mode is the response's, no id stands twice, the map makes the request
+  -- a step answers a response or a refusal: the mode is the response's, no id is a duplicate, the map makes the request
   -- concrete, then the context is substituted, then the policies run
   abbrev pub Steps : Result Response Refusal → Type 0
   Steps x = AfterMode (is_same_mode c.mode old.mode) x

@@ -10,7 +10,7 @@ use Rattle.cedar_model.specs.Outcomes.{value_type}
 
 -- an error with its fields. Of an attribute or tag that is missing: the entity, the name, whether it is an attribute,
 -- whether the entity has one of the other kind by that name, the first five names that are there, and how many there
--- are. Want of memory inside the error of a look-up is an error of its own, of the kind of the look-up, and no rule
+-- are. Out of memory inside the error of a look-up is an error of its own, of the kind of the look-up, and no rule
 -- answers it
 pub data Failure : Type 0 where
   entity_is_missing : EntityName → Failure

@@ -52,7 +52,7 @@ FunctionsAnswer calls arity =
 abbrev pub FunctionsMeetNoLimit : StoredCalls → Type 0
 FunctionsMeetNoLimit calls = (f : Text) (vs : List Represented) → calls f vs limit → ⊥
 
--- nor want of memory
+-- nor out of memory
 abbrev pub FunctionsFindMemory : StoredCalls → Type 0
 FunctionsFindMemory calls = (f : Text) (vs : List Represented) → calls f vs (fails out_of_memory) → ⊥
 

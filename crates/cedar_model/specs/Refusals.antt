@@ -12,7 +12,7 @@ use Rattle.cedar_model.specs.Failures.{Failure, PartialValue, value, residual, A
 use Rattle.cedar_model.specs.Settings.{Entry, known_entry, unknown_entry, ContextPart, absent_context, known_context}
 use Rattle.cedar_model.specs.Settings.{residual_context, RequestPart, entry_part, context_value}
 
--- another mode, of the response and of the step; an id that comes again; a value where an entity or a record is
+-- another mode, of the response and of the step; a duplicate id; a value where an entity or a record is
 -- expected, with the name that is mapped to it; what is there already, beside the value; the type of an unknown
 -- entry, beside an entity of another; or the error of the context with the map's values in it
 pub data Refusal : Type 0 where
@@ -25,13 +25,13 @@ pub data Refusal : Type 0 where
 
 -- ---- ids
 
--- the first text of a list that comes again, or that is among those seen before
+-- the first text of a list that is a duplicate, or that is among those seen before
 abbrev pub first_repeated_after : List Text → List Text → Option Text
 first_repeated_after seen [] = None
 first_repeated_after seen (t ∷ ts) =
     if list_any (text_eq t) seen then Some t else first_repeated_after (seen ++ t ∷ []) ts
 
--- the first text of a list that comes again
+-- the first text of a list that is a duplicate
 abbrev pub first_repeated : List Text → Option Text
 first_repeated ts = first_repeated_after [] ts
 

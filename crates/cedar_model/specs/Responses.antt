@@ -132,8 +132,8 @@ row_of mode p a = record {
 }
 
 -- each policy in order is reported by an answer of its condition within the limit, and its error, if any, is recorded
--- in that order; a condition whose need is above the limit errs with the recursion limit. No answer is want of
--- memory, which ends a run
+-- in that order; a condition whose need is above the limit errs with the recursion limit. No answer is out
+-- of memory, which ends a run
 abbrev pub RunOf : ErrorHandling → Setting → StoredCalls → ℕ → List Policy → List Row → List (Text × Failure) → Type 0
 RunOf mode s calls levels [] rows errors = (rows ≡ []) × (errors ≡ [])
 RunOf mode s calls levels (p ∷ ps) rows errors =

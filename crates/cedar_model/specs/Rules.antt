@@ -30,8 +30,8 @@ use Rattle.cedar_model.specs.Operators.{attribute_residual, binary_residual}
 abbrev pub MayAnswer : Type 1
 MayAnswer = Term → Answer → Type 0
 
--- what a stored function may answer to arguments, besides want of memory: that may come of any call, whatever its
--- arguments are, and `Meets` allows it; among the answers it would be a second one to equal arguments, so that no
+-- what a stored function may answer to arguments, besides running out of memory: that may come of any call, whatever
+-- its arguments are, and `Meets` allows it; among the answers it would be a second one to equal arguments, so that no
 -- function answered alike
 abbrev pub StoredCalls : Type 1
 StoredCalls = Text → List Represented → Answer → Type 0
@@ -46,7 +46,7 @@ pub data Best : Type 0 where
   kept : Term → Best
   handed_up : Failure → Best
 
--- an error keeps the original; the recursion limit and want of memory are handed up
+-- an error keeps the original; the recursion limit and running out of memory are handed up
 unfoldable pub best_of_kind : FailureKind → Failure → Term → Best
 best_of_kind (of_meaning k) e t = kept t
 best_of_kind of_residual e t = kept t

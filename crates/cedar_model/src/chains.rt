@@ -12,7 +12,7 @@ pub fn chains_stand<F: AnyFunctions>(functions: &F)
 {}
 
 /// There is a first response, and each step and each chain answers a response or a refusal, where the functions that
-/// exist answer, and never want of memory.
+/// exist answer, and never running out of memory.
 pub fn chains_have_answers<F: AnyFunctions>(functions: &F)
     ensures first { ChainsBegin (F.calls functions.now) }
     ensures step { StepsAnswer (F.calls functions.now) }

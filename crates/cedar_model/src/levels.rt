@@ -43,7 +43,7 @@ pub fn expressions_have_answers<F: AnyFunctions>(functions: &F)
     ensures { ExpressionsHaveAnswers (F.calls functions.now) }
 {}
 
-/// No expression answers want of memory, where no function does.
+/// No expression answers out of memory, where no function does.
 pub fn answers_find_memory<F: AnyFunctions>(functions: &F)
     ensures { AnswersFindMemory (F.calls functions.now) }
 {}

@@ -125,7 +125,7 @@ impl EntityUID {
     }
 
     /// The entity of the type of this name with this id, both at no location. The name is taken as it stands,
-    /// unchecked: a path is one text, as `App::User`. Refuses only for want of memory.
+    /// unchecked: a path is one text, as `App::User`. Refuses only if out of memory.
     pub fn of(alloc: Global, ty: &str, id: &str) -> Result<EntityUID, AllocError>
         ensures name { IfOk result (λ u. uid_name u ≡ record { type_name = ty.now; id = id.now }) }
         ensures type_loc { IfOk result (λ u. type_loc (uid_type u) ≡ None) }

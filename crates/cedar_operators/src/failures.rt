@@ -14,7 +14,7 @@ use evaluation_errors::{NonValueError, TypeError};
 use std::alloc::{AllocError, Global};
 use std::rc::RcStr;
 
-// The type of any entity, as errors name it. Refuses only for want of memory.
+// The type of any entity, as errors name it. Refuses only if out of memory.
 pub(crate) fn any_entity_type(alloc: Global) -> Result<Type, AllocError>
     ensures { IfOk result (λ t. type_view t ≡ Failures.any_entity) }
 {
@@ -68,7 +68,7 @@ pub(crate) fn or_entity_expected(alloc: Global, expected: Type, value: &Value) -
     }
 }
 
-// The same, or want of memory.
+// The same, or out of memory.
 fn or_entity_error(
     alloc: Global,
     expected: Type,

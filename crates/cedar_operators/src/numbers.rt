@@ -21,7 +21,7 @@ use std::alloc::Global;
 
 // `-arg`: a type error where it is no long, an overflow at this location where the result needs more than 64 bits.
 #[tactic(auto, unfolding(cedar_model::specs::Operators::unary_answer, cedar_model::specs::Operators::expecting))]
-pub(crate) fn negated(
+pub(crate) fn negate_long(
     alloc: Global,
     arg: Value,
     loc: Option<&Loc>,
@@ -58,7 +58,7 @@ pub(crate) fn arithmetic(
 {
     match get_as_long(alloc, &a) {
         Ok(m) => match get_as_long(alloc, &b) {
-            Ok(n) => match checked(op, m, n) {
+            Ok(n) => match compute_checked(op, m, n) {
                 Some(k) => {
                     drop((a, b));
                     Ok(long_value(k))
@@ -87,9 +87,9 @@ pub(crate) fn of_two_longs(op: BinaryOp, m: i64, n: i64) -> Option<Value>
         BinaryOp::Eq => Some(bool_value(m.cmp(&n).is_eq())),
         BinaryOp::Less => Some(bool_value(m.cmp(&n).is_lt())),
         BinaryOp::LessEq => Some(bool_value(m.cmp(&n).is_le())),
-        BinaryOp::Add => computed(op, m, n),
-        BinaryOp::Sub => computed(op, m, n),
-        BinaryOp::Mul => computed(op, m, n),
+        BinaryOp::Add => compute_longs(op, m, n),
+        BinaryOp::Sub => compute_longs(op, m, n),
+        BinaryOp::Mul => compute_longs(op, m, n),
         BinaryOp::In => None,
         BinaryOp::Contains => None,
         BinaryOp::ContainsAll => None,
@@ -100,20 +100,20 @@ pub(crate) fn of_two_longs(op: BinaryOp, m: i64, n: i64) -> Option<Value>
 }
 
 // Arithmetic of two longs, where the result fits 64 bits.
-fn computed(op: BinaryOp, m: i64, n: i64) -> Option<Value>
+fn compute_longs(op: BinaryOp, m: i64, n: i64) -> Option<Value>
     requires { is_arithmetic (binary_view op) ≡ true }
     ensures { (s : Setting) (v w : Represented)
         → long_of (abstract_value v) ≡ Some m → long_of (abstract_value w) ≡ Some n →
         IfSome result (λ x. Failures.answers_value x.what ≡ binary_answer s (binary_view op) v w) }
 {
-    match checked(op, m, n) {
+    match compute_checked(op, m, n) {
         Some(k) => Some(long_value(k)),
         None => None,
     }
 }
 
 // The sum, the difference or the product, where it fits 64 bits.
-fn checked(op: BinaryOp, m: i64, n: i64) -> Option<i64>
+fn compute_checked(op: BinaryOp, m: i64, n: i64) -> Option<i64>
     requires { is_arithmetic (binary_view op) ≡ true }
     ensures { SomeIff result (FitsSigned w64 (arithmetic_of (binary_view op) m n))
         (arithmetic_of (binary_view op) m n) }

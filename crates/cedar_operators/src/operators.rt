@@ -10,7 +10,7 @@ ghost use Rattle.cedar_errors.specs.Answers.{Answers};
 ghost use Rattle.cedar_extensions.specs.Extensions.{extensions_view};
 ghost use Rattle.cedar_operators.specs.Operands.{with_extensions, is_relation, is_arithmetic};
 
-use crate::numbers::{arithmetic, negated, of_two_longs};
+use crate::numbers::{arithmetic, negate_long, of_two_longs};
 use crate::order::order;
 use crate::typed::{bool_value, get_as_bool, get_as_entity, get_as_set, get_as_string, long_in};
 use cedar_errors::evaluator::err::EvaluationError;
@@ -31,7 +31,7 @@ pub fn unary_app(
 {
     match op {
         UnaryOp::Not => negation(alloc, &arg),
-        UnaryOp::Neg => negated(alloc, arg, loc),
+        UnaryOp::Neg => negate_long(alloc, arg, loc),
         UnaryOp::IsEmpty => emptiness(alloc, &arg),
     }
 }

@@ -117,7 +117,7 @@ fn comparable_expected(alloc: Global, extensions: &Extensions<'_>, value: &Value
     }
 }
 
-// The same, or want of memory.
+// The same, or out of memory.
 fn comparable_error(
     alloc: Global,
     extensions: &Extensions<'_>,

@@ -10,8 +10,8 @@ ghost use Rattle.cedar_values.specs.Residuals.{residual_term};
 ghost use Rattle.cedar_errors.specs.Answers.{AnswersWith};
 
 use cedar_errors::evaluator::err::EvaluationError;
+use cedar_fallible::beside;
 use cedar_layers::expressions::{BinaryOp, Expr, FirstRest, PartialValue, ResidualExpr, Unknown};
-use cedar_results::beside;
 use std::alloc::{AllocError, Global};
 use std::rc::RcStr;
 
@@ -22,7 +22,7 @@ pub fn residual_unknown(value: Unknown) -> ResidualExpr
     ResidualExpr::new(Expr::unknown(value))
 }
 
-// The operator on the unknown and the expression, at no location. Refuses only for want of memory.
+// The operator on the unknown and the expression, at no location. Refuses only if out of memory.
 pub(crate) fn binary_of_unknown(
     alloc: Global,
     op: BinaryOp,
@@ -35,7 +35,7 @@ pub(crate) fn binary_of_unknown(
     Ok(PartialValue::Residual(ResidualExpr::new(expr)))
 }
 
-/// `part.attr`, at no location. Refuses only for want of memory.
+/// `part.attr`, at no location. Refuses only if out of memory.
 pub fn residual_attribute(
     alloc: Global,
     part: ResidualExpr,
@@ -48,7 +48,7 @@ pub fn residual_attribute(
     Ok(PartialValue::Residual(ResidualExpr::new(expr)))
 }
 
-/// `part has attr`, at no location. Refuses only for want of memory.
+/// `part has attr`, at no location. Refuses only if out of memory.
 pub fn residual_has(
     alloc: Global,
     part: ResidualExpr,
@@ -61,7 +61,7 @@ pub fn residual_has(
     Ok(PartialValue::Residual(ResidualExpr::new(expr)))
 }
 
-/// `part has first.other..`, at no location. Refuses only for want of memory.
+/// `part has first.other..`, at no location. Refuses only if out of memory.
 pub fn residual_path(
     alloc: Global,
     part: ResidualExpr,
@@ -74,7 +74,7 @@ pub fn residual_path(
     Ok(PartialValue::Residual(ResidualExpr::new(expr)))
 }
 
-/// The attributes of an extended `has`. Refuses only for want of memory.
+/// The attributes of an extended `has`. Refuses only if out of memory.
 pub fn path(alloc: Global, first: &RcStr, others: &[RcStr]) -> Result<FirstRest<RcStr>, AllocError>
     ensures first { IfOk result (λ p. rc_str_bytes p.first ≡ rc_str_bytes first.now) }
     ensures rest { IfOk result (λ p. texts_view p.rest.items ≡ texts_view others.now) }

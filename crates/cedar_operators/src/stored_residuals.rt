@@ -1,5 +1,5 @@
 //! The stored residual that an operator reads, if it reads one: an attribute, a tag, or an attribute of an extended
-//! `has` that is not its last. With deep resolution it is evaluated, and its answer goes in the place of what is
+//! `has` that is not its last. With deep resolution it is evaluated, and its answer takes the place of what is
 //! stored.
 ghost use Rattle.std.specs.Prelude.{◌≡◌, option_map, option_copied, IfOk};
 ghost use Rattle.std.specs.Rc.{rc_str_bytes};
@@ -137,7 +137,7 @@ fn residual_in(part: Option<&PartialValue>) -> Option<&ResidualExpr>
 }
 
 /// The first residual that `value has a.b..` reads, with the attributes after it: an attribute on the way, the last
-/// aside, that is stored as a residual. Refuses only for want of memory.
+/// aside, that is stored as a residual. Refuses only if out of memory.
 pub fn path_residual(
     alloc: Global,
     entities: &Entities,

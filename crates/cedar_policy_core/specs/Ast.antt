@@ -38,14 +38,14 @@ pub use Rattle.cedar_requests.specs.Errors as ContextErrors
 pub use Rattle.cedar_requests.specs.Creations
 pub use Rattle.cedar_requests.specs.Substitutions
 pub use Rattle.cedar_requests.specs.Walks
-pub use Rattle.cedar_restricted_expressions.specs.Views
-pub use Rattle.cedar_restricted_expressions.specs.Refusals
-pub use Rattle.cedar_restricted_expressions.specs.Kinds as RestrictedKinds
-pub use Rattle.cedar_restricted_expressions.specs.Readers
-pub use Rattle.cedar_restricted_expressions.specs.Iterators
-pub use Rattle.cedar_restricted_expressions.specs.Shapes
-pub use Rattle.cedar_restricted_expressions.specs.Types as RestrictedTypes
-pub use Rattle.cedar_restricted_expressions.specs.Restricted
+pub use Rattle.cedar_restricted.specs.Views
+pub use Rattle.cedar_restricted.specs.Refusals
+pub use Rattle.cedar_restricted.specs.Kinds as RestrictedKinds
+pub use Rattle.cedar_restricted.specs.Readers
+pub use Rattle.cedar_restricted.specs.Iterators
+pub use Rattle.cedar_restricted.specs.Shapes
+pub use Rattle.cedar_restricted.specs.Types as RestrictedTypes
+pub use Rattle.cedar_restricted.specs.Restricted
 pub use Rattle.cedar_unknowns.specs.Occurrences
 pub use Rattle.cedar_unknowns.specs.Entities as UnknownEntities
 pub use Rattle.cedar_unknowns.specs.Naming

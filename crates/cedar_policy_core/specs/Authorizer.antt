@@ -26,6 +26,6 @@ pub use Rattle.cedar_unknowns.specs.Finishing
 pub use Rattle.cedar_heights.specs.Capped
 pub use Rattle.cedar_heights.specs.Heights
 pub use Rattle.cedar_heights.specs.Limits
-pub use Rattle.cedar_json_responses.specs.Texts as JsonTexts
-pub use Rattle.cedar_json_responses.specs.Errors as JsonErrors
-pub use Rattle.cedar_json_responses.specs.Responses as JsonResponses
+pub use Rattle.cedar_json_writer.specs.Texts as JsonTexts
+pub use Rattle.cedar_json_writer.specs.Errors as JsonErrors
+pub use Rattle.cedar_json_writer.specs.Responses as JsonResponses

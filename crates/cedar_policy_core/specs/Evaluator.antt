@@ -7,9 +7,9 @@ pub use Rattle.cedar_errors.specs.Failures
 pub use Rattle.cedar_errors.specs.Finals
 pub use Rattle.cedar_errors.specs.Texts
 pub use Rattle.cedar_operators.specs.Operands
-pub use Rattle.cedar_restricted_evaluator.specs.Evaluations as RestrictedEvaluations
-pub use Rattle.cedar_restricted_evaluator.specs.Evaluators as RestrictedEvaluators
-pub use Rattle.cedar_restricted_evaluator.specs.Elements as RestrictedElements
+pub use Rattle.cedar_restricted.specs.Evaluations as RestrictedEvaluations
+pub use Rattle.cedar_restricted.specs.Evaluators as RestrictedEvaluators
+pub use Rattle.cedar_restricted.specs.Elements as RestrictedElements
 pub use Rattle.cedar_interpreter.specs.Settings
 pub use Rattle.cedar_interpreter.specs.Promises
 pub use Rattle.cedar_evaluator.specs.Decisions

@@ -16,7 +16,7 @@ pub use cedar_layers::expressions::{
 pub use cedar_layers::policies::{
     Annotations, Effect, Entity, Policies, Policy, PolicyID, PolicySet, PolicySetError,
 };
-pub use cedar_restricted_expressions::{
+pub use cedar_restricted::{
     BorrowedRestrictedExpr, CallArguments, PartialValueToRestrictedExprError, RecordPairs,
     RestrictedExpr, RestrictedExprShapeOnly, RestrictedExpressionError, SetElements,
     restricted_expr_errors,

@@ -40,7 +40,7 @@ pub mod laws {
 
 /// Decisions, errors and responses as JSON.
 pub mod json {
-    pub use cedar_json_responses::{
+    pub use cedar_json_writer::{
         decision_to_json, error_to_json, errors_to_json, partial_response_to_json, put_error,
         put_known, response_to_json,
     };

@@ -14,7 +14,7 @@ use Rattle.cedar_model.proofs.Injections.{fails_inj}
 use Rattle.cedar_expressions.specs.Records.{keys_view}
 use Rattle.cedar_errors.specs.Failures.{failure_of}
 use Rattle.cedar_errors.specs.declared.evaluator.err.EvaluationError.{EvaluationError}
-use Rattle.cedar_restricted_evaluator.specs.Evaluations.{IsBare, bare_setting, IsAnswerWithin}
+use Rattle.cedar_restricted.specs.Evaluations.{IsBare, bare_setting, IsAnswerWithin}
 use Rattle.cedar_requests.specs.declared.context.Context.{Context}
 use Rattle.cedar_requests.specs.declared.errors.ContextCreationError.{ContextCreationError}
 use Rattle.cedar_requests.specs.declared.errors.ContextCreationError.TheVariants as refusals
@@ -35,7 +35,7 @@ same_answer s calls m n t u a b e f g h =
     (subst (λ y. IsAnswerWithin s calls m y b) f (subst (λ y. IsAnswerWithin s calls m t y) g h))
 
 module _ (s : Setting) (calls : StoredCalls) (n : ℕ) where
-  -- where no key comes again the record is answered
+  -- where no key is a duplicate the record is answered
   pub pairs_answer : (ps : Pairs) (r : Result Context ContextCreationError) → first_repeated (keys_view ps) ≡ None
       → IsOfRecord s calls n (record_of_pairs ps) r → IsOfPairs s calls n ps r
   pairs_answer ps (Ok c) once h = (once, h)

@@ -27,7 +27,7 @@ use Rattle.cedar_model.proofs.Completions.{substituted_at_mean, substituted_at_f
 use Rattle.cedar_model.proofs.Soundness.{sound_stands, runs_sound}
 use Rattle.cedar_model.proofs.Throughout.{each_at_weaker}
 use Rattle.cedar_errors.specs.declared.evaluator.err.EvaluationError.{EvaluationError}
-use Rattle.cedar_restricted_evaluator.specs.Evaluations.{IsBare, IsAnswerWithin}
+use Rattle.cedar_restricted.specs.Evaluations.{IsBare, IsAnswerWithin}
 use Rattle.cedar_requests.specs.declared.context.Context.{Context}
 use Rattle.cedar_requests.specs.declared.context.pairs.ContextPairs.{ContextPairs}
 use Rattle.cedar_requests.specs.declared.context.pairs.ContextPairs.TheVariants as kinds

@@ -96,7 +96,7 @@ pub repeated-here : (es : Entries) (k : RcStr Global) → is_some (lookup (is_at
     → Some (rc_str_bytes k) ≡ repeated_key (entry_names es) (rc_str_bytes k)
 repeated-here es k h = sym (ap (λ b. if b then Some (rc_str_bytes k) else None) (sym (has_key es k) ∙ h))
 
--- a refusal of a name that is there is one of the first name that comes again, where it comes next
+-- a refusal of a name that is there is one of the first duplicate name, where it comes next
 pub refusal_again : (seen : List Text) (k : Text) (more : List Text) (e : ContextCreationError)
     → IsRefusalOfName (repeated_key seen k) e → IsRefusalOfName (first_repeated_after seen (k ∷ more)) e
 refusal_again seen k more (refusals.NotARecord e) h = h

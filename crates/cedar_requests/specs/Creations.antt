@@ -19,7 +19,7 @@ use Rattle.cedar_model.specs.Refusals.{first_repeated}
 use Rattle.cedar_expressions.specs.Records.{fields_in_order, pairs_view, keys_view}
 use Rattle.cedar_expressions.specs.View.{view}
 use Rattle.cedar_errors.specs.Failures.{failure_of}
-use Rattle.cedar_restricted_evaluator.specs.Evaluations.{IsBare, IsAnswerWithin}
+use Rattle.cedar_restricted.specs.Evaluations.{IsBare, IsAnswerWithin}
 use Rattle.cedar_requests.specs.declared.context.Context.{Context}
 use Rattle.cedar_requests.specs.declared.errors.ContextCreationError.{ContextCreationError}
 use Rattle.cedar_requests.specs.declared.errors.ContextCreationError.TheVariants as refusals
@@ -71,7 +71,7 @@ NamesKey ps (constructions.DuplicateKey key context) =
     (first_repeated (keys_view ps) ≡ Some (rc_str_bytes key)) × (context.now ≡ codes "in context")
 NamesKey ps (constructions.Memory e) = ⊥
 
--- the first key that comes again is refused; else the record is answered by what it is evaluated to
+-- the first duplicate key is refused; else the record is answered by what it is evaluated to
 abbrev pub IsOfPairs : Setting → StoredCalls → ℕ → List (RcStr Global × Expr) → Result Context ContextCreationError →
     Type 0
 IsOfPairs s calls n ps (Ok c) =

@@ -10,7 +10,7 @@ use Rattle.cedar_errors.specs.Failures.{failure_of}
 use Rattle.cedar_requests.specs.declared.errors.ContextCreationError.{ContextCreationError}
 use Rattle.cedar_requests.specs.declared.errors.ContextCreationError.TheVariants as refusals
 
--- an error of the evaluation is kept whole, and want of memory stays want of memory
+-- an error of the evaluation is kept whole, and running out of memory stays out of memory
 abbrev pub IsEvaluationRefusal : EvaluationError → ContextCreationError → Type 0
 IsEvaluationRefusal e (refusals.NotARecord r) = ⊥
 IsEvaluationRefusal e (refusals.Evaluation f) = (f ≡ e) × (failure_of e ≢ out_of_memory)

@@ -41,7 +41,7 @@ put_values fs (p ∷ ps) = put_values (put_value fs p.0.now p.1.what) ps
 abbrev pub values_in_order : List Named → RepresentedFields
 values_in_order ps = put_values no_represented_at ps
 
--- the error names this name, which comes again, in a context; or it is want of memory
+-- the error names this name, which is a duplicate, in a context; or it is out of memory
 abbrev pub IsRefusalOfName : Option Text → ContextCreationError → Type 0
 IsRefusalOfName repeated (refusals.NotARecord e) = ⊥
 IsRefusalOfName repeated (refusals.Evaluation e) = ⊥

@@ -17,7 +17,7 @@ use Rattle.cedar_expressions.specs.Mappings.{mapping_of}
 use Rattle.cedar_values.specs.Sound.{Placed}
 use Rattle.cedar_errors.specs.declared.evaluator.err.EvaluationError.{EvaluationError}
 use Rattle.cedar_errors.specs.Failures.{failure_of}
-use Rattle.cedar_restricted_evaluator.specs.Evaluations.{IsBare, IsAnswerWithin}
+use Rattle.cedar_restricted.specs.Evaluations.{IsBare, IsAnswerWithin}
 use Rattle.cedar_requests.specs.declared.context.Context.{Context}
 use Rattle.cedar_requests.specs.Contexts.{context_view, context_part_value}
 
@@ -35,7 +35,7 @@ abbrev pub context_result : Result Context EvaluationError → Result ContextPar
 context_result (Ok c) = Ok (context_view c)
 context_result (Err e) = Err (context_fails (failure_of e))
 
--- in this setting a step makes this of the context, want of memory aside
+-- in this setting a step makes this of the context, running out of memory aside
 abbrev pub IsSubstituted : Setting → StoredCalls → ℕ → Mapping → ContextPart → Result Context EvaluationError → Type 0
 IsSubstituted s calls levels m c r =
     context_result r ≢ Err (context_fails out_of_memory) → SubstitutesTo s calls levels m c (context_result r)

@@ -81,7 +81,7 @@ impl EntityUIDEntry {
 
     /// What the variable answers that the entry stands for, at the entry's location: the entity, or the unknown of the
     /// variable's name, which is annotated with the entity's type, with its location, where that is known. Refuses only
-    /// for want of memory.
+    /// if out of memory.
     pub fn evaluate(&self, alloc: Global, var: Var) -> Result<PartialValue, AllocError>
         ensures view { IfOk result (λ p. partial_view p
             ≡ entry_part (entry_view self.now) (variable_text (variable_view var))) }

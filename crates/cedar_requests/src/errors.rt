@@ -20,7 +20,7 @@ pub enum ContextCreationError {
     /// The record could not be made. Only `Context::from_pairs` answers this.
     #[error(transparent)]
     ExpressionConstruction(ExpressionConstructionError),
-    /// Want of memory.
+    /// Out of memory.
     #[error("out of memory")]
     Memory(AllocError),
 }
@@ -54,7 +54,7 @@ impl From<context_creation_errors::NotARecord> for ContextCreationError {
     }
 }
 
-/// `Evaluation`, or `Memory` of want of memory.
+/// `Evaluation`, or `Memory` if out of memory.
 impl From<EvaluationError> for ContextCreationError {
     ghost from_gives = { IsEvaluationRefusal };
 
@@ -66,7 +66,7 @@ impl From<EvaluationError> for ContextCreationError {
     }
 }
 
-/// `ExpressionConstruction`, or `Memory` of want of memory.
+/// `ExpressionConstruction`, or `Memory` if out of memory.
 impl From<ExpressionConstructionError> for ContextCreationError {
     ghost from_gives = { λ error result. result ≡ construction_refusal error };
 

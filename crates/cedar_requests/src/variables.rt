@@ -20,7 +20,7 @@ use std::alloc::{AllocError, Global};
 use std::rc::{Rc, RcStr};
 
 // What the variable `context` answers: the record of the context, or the untyped unknown `context` where there is
-// none. It is at no location. Refuses only for want of memory.
+// none. It is at no location. Refuses only if out of memory.
 #[tactic(auto, unfolding(cedar_model::specs::Settings::context_value, cedar_model::specs::Settings::type_annotation))]
 pub(crate) fn context_part(
     alloc: Global,

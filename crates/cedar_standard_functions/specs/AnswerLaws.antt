@@ -32,10 +32,10 @@ value_is_lawful v sound low =
 
 -- an error of another kind
 pub failure_is_lawful : (e : Failure) → fails e ≢ limit → fails e ≢ fails out_of_memory → IsLawful (fails e)
-failure_is_lawful e no_limit no_want =
+failure_is_lawful e no_limit never_out_of_memory =
     record {
       meets_no_limit = no_limit;
-      finds_memory = no_want;
+      finds_memory = never_out_of_memory;
       sound = λ p h. let d : ⊥ = cc h in absurd d;
       known = λ p h. let d : ⊥ = cc h in absurd d;
       low = λ p h. let d : ⊥ = cc h in absurd d;

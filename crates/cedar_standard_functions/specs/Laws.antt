@@ -25,7 +25,7 @@ AreFaithful =
     (X : Extensions) (ans : Functions) → HaveStandard X ans → (f : StandardFunction)
     → AnswersFaithfully X ans (answer_of f)
 
--- neither the recursion limit nor want of memory; a part is sound, written in at most three levels, and a residual, of
+-- neither the recursion limit nor out of memory; a part is sound, written in at most three levels, and a residual, of
 -- which there is none, would hold an unknown
 pub record IsLawful (a : Answer) : Type 0 where
   pub meets_no_limit : a ≢ limit

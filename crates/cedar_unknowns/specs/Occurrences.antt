@@ -101,7 +101,7 @@ abbrev pub stands : List Asked → Bool
 stands [] = false
 stands (a ∷ more) = true
 
--- no unknown stands twice
+-- no unknown is a duplicate
 abbrev pub AreDistinct : List Asked → Type 0
 AreDistinct [] = Unit {0}
 AreDistinct (a ∷ more) = (is_listed a more ≡ false) × AreDistinct more

@@ -6,7 +6,7 @@ use Rattle.cedar_model.specs.Settings.{printed_entity}
 use Rattle.cedar_model.specs.Chains.{Mapping}
 use Rattle.cedar_unknowns.specs.Themselves.{itself}
 
--- those values, and this entity in the place of one under its text
+-- those values, and this entity instead of one under its text
 abbrev pub with_itself : Mapping → EntityName → Mapping
 with_itself before e n = cond (text_eq n (printed_entity e)) (Some (itself e)) (before n)
 

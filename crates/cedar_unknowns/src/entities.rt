@@ -12,7 +12,7 @@ ghost use Rattle.cedar_unknowns.specs.Entities.{asked_unless, entities_asked, ot
 ghost use Rattle.cedar_unknowns.specs.Quoted.{unescaped, entity_quoted, IsQuotedId, IsBetween};
 ghost use Rattle.cedar_unknowns.specs.Quoted.{IsWithoutPrefix, IsWithoutSuffix};
 
-use crate::noting::copied;
+use crate::noting::copy_unknown;
 use cedar_names::{EntityType, EntityUID, Type, Unknown};
 use indexmap::IndexSet;
 use std::alloc::{AllocError, Global};
@@ -66,7 +66,7 @@ fn add_other(alloc: Global, unknown: &Unknown, others: &mut Vec<Unknown>) -> Res
         ++ asked_unless (entity_asked (asked unknown.now)) (asked unknown.now) []) }
 {
     if stands_for_none(alloc, unknown)? {
-        others.push(copied(unknown)?)?;
+        others.push(copy_unknown(unknown)?)?;
     }
     Ok(())
 }
@@ -186,12 +186,12 @@ fn is_named(alloc: Global, uid: &EntityUID, name: &str) -> Result<bool, AllocErr
 fn entity_of_quoted(alloc: Global, ty: &EntityType, quoted: &str) -> Result<EntityUID, AllocError>
     ensures { IfOk result (λ u. uid_name u ≡ entity_quoted (type_text ty.now) quoted.now) }
 {
-    let eid = RcStr::from_string(unescaped(alloc, quoted)?)?;
+    let eid = RcStr::from_string(unescape_text(alloc, quoted)?)?;
     Ok(EntityUID::new(ty.clone()?, eid, None))
 }
 
 // The text without the `\` that stand before other characters.
-fn unescaped(alloc: Global, text: &str) -> Result<String, AllocError>
+fn unescape_text(alloc: Global, text: &str) -> Result<String, AllocError>
     ensures { IfOk result (λ s. string_bytes s ≡ unescaped false text.now) }
 {
     let mut plain = String::new(alloc);

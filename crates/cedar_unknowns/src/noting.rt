@@ -103,12 +103,12 @@ pub(crate) fn note_at(
 pub(crate) fn note(unknown: &Unknown, found: &mut IndexSet<Unknown>) -> Result<(), AllocError>
     ensures { OnOk result (asked_each found.new.keys ≡ noted (asked unknown.now) (asked_each found.old.keys)) }
 {
-    found.insert(copied(unknown)?)?;
+    found.insert(copy_unknown(unknown)?)?;
     Ok(())
 }
 
 /// The same unknown, whose texts are shared.
-pub(crate) fn copied(unknown: &Unknown) -> Result<Unknown, AllocError>
+pub(crate) fn copy_unknown(unknown: &Unknown) -> Result<Unknown, AllocError>
     ensures { IfOk result (λ u. asked u ≡ asked unknown.now) }
 {
     Ok(unknown.clone()?)

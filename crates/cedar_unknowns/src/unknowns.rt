@@ -38,19 +38,19 @@ pub trait Unknowns {
     ghost asks: { Self → List Asked };
 
     /// The unknowns, each once, in the order in which they stand first. Those that stand for an entity which a partial
-    /// store lacked are not among them. Refuses only for want of memory.
+    /// store lacked are not among them. Refuses only if out of memory.
     fn unknowns(&self, alloc: Global) -> Result<Vec<Unknown>, AllocError>
         ensures { IfOk result (λ us. asked_each us.items ≡ others_asked (each_once (asks self.now))) };
 
     /// The entities that unknowns stand for since a partial store lacked them, each once, in the order in which these
     /// unknowns stand first. An unknown stands for an entity where it is named by the entity's text, as
-    /// `User::"alice"`, and annotated with the entity's type. Refuses only for want of memory.
+    /// `User::"alice"`, and annotated with the entity's type. Refuses only if out of memory.
     fn unknown_entities(&self, alloc: Global) -> Result<Vec<EntityUID>, AllocError>
         ensures { IfOk result (λ us. map uid_name us.items ≡ entities_asked (each_once (asks self.now))) };
 
     /// Each of these entities as the value of the unknown that stands for it: values for a step over a store that has
     /// them. Every completion agrees with them, since the unknown of an entity that a store did not know is that entity
-    /// and nothing else (`laws::missing_entity_is_itself`). Refuses only for want of memory.
+    /// and nothing else (`laws::missing_entity_is_itself`). Refuses only if out of memory.
     fn entity_values(&self, alloc: Global) -> Result<HashMap<RcStr, Value>, AllocError>
         ensures values { IfOk result (λ m.
             values_for m.entries ≡ entity_values (entities_asked (each_once (asks self.now)))) }

@@ -120,7 +120,7 @@ impl PartialValue {
         }
     }
 
-    /// The expression of the value, or the residual, with its location. Refuses only for want of memory.
+    /// The expression of the value, or the residual, with its location. Refuses only if out of memory.
     pub fn as_expr(&self, alloc: Global) -> Result<Expr, AllocError>
         ensures view { IfOk result (λ e. view e ≡ partial_term (partial_view self.now)) }
         ensures loc { IfOk result (λ e. expr_loc e ≡ partial_loc self.now) }

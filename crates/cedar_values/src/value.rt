@@ -107,7 +107,7 @@ impl Value {
     }
 
     /// The set of these values, in the order of values, each once: where two are equal, the first stays, with its
-    /// representation and its location. Refuses only for want of memory.
+    /// representation and its location. Refuses only if out of memory.
     pub fn set(alloc: Global, elements: Vec<Value>, loc: Option<Loc>) -> Result<Value, AllocError>
         ensures what { IfOk result (λ v. v.what ≡ set_represented (canonical_set (whats elements.items))) }
         ensures inside { IfOk result (λ v. v.inside ≡ inside_each (firsts elements.items)) }
@@ -117,7 +117,7 @@ impl Value {
         Ok(Value::new(ValueKind::Set(set), loc))
     }
 
-    /// The record of these values under their keys. Refuses only for want of memory.
+    /// The record of these values under their keys. Refuses only if out of memory.
     pub fn record(
         alloc: Global,
         pairs: BTreeMap<RcStr, Value>,
@@ -159,7 +159,7 @@ impl Value {
     }
 
     /// The type of the value: of an entity the type of that entity, of an extension value its extension type. Refuses
-    /// only for want of memory.
+    /// only if out of memory.
     pub fn type_of(&self) -> Result<Type, AllocError>
         ensures { IfOk result (λ t. type_view t ≡ value_type (abstract_value self.now.what)) }
     {
@@ -174,7 +174,7 @@ impl ValueKind {
     ghost use Rattle.cedar_values.specs.Kinds.{kind_what};
     ghost use Rattle.cedar_model.specs.Outcomes.{value_type};
 
-    /// The type of a value of this kind. Refuses only for want of memory.
+    /// The type of a value of this kind. Refuses only if out of memory.
     #[tactic(auto, unfolding(cedar_model::specs::Outcomes::value_type))]
     fn type_of(&self) -> Result<Type, AllocError>
         ensures { IfOk result (λ t. type_view t ≡ value_type (abstract_value (kind_what self.now))) }

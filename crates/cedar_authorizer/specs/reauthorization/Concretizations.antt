@@ -63,7 +63,7 @@ module _ (s : Setting) (calls : StoredCalls) (levels : ℕ) (m : Mapping) where
   abbrev pub IsConcrete : RequestPart → Result RequestPart Refusal → Type 0
   IsConcrete r x = AfterMap (concrete_request m r) x
 
--- in each setting that has these extensions the map makes this of the request, want of memory aside
+-- in each setting that has these extensions the map makes this of the request, running out of memory aside
 abbrev pub IsConcretized : world.Extensions → StoredCalls → ℕ → Mapping → RequestPart →
     Result Request ConcretizationError → Type 0
 IsConcretized x calls levels m r result = (s : Setting) → s.extensions ≡ x →

@@ -17,7 +17,7 @@ use Rattle.cedar_authorizer.specs.declared.reauthorization.err.ConcretizationErr
 use Rattle.cedar_authorizer.specs.declared.reauthorization.err.ReauthorizationError.{ReauthorizationError}
 use Rattle.cedar_authorizer.specs.declared.reauthorization.err.ReauthorizationError.TheVariants as reauthorizations
 
--- ---- refusals; want of memory is none
+-- ---- refusals; running out of memory is none
 
 abbrev pub refusal_of : ConcretizationError → Option Refusal
 refusal_of (concretizations.ValueError id expected given) =
@@ -40,9 +40,9 @@ step_refusal (reauthorizations.Memory e) = None
 abbrev pub IsBelowLimit : ConcretizationError → Type 0
 IsBelowLimit e = refusal_of e ≢ Some (context_fails recursion_limit)
 
--- ---- want of memory, which no other error holds
+-- ---- out of memory, which no other error holds
 
--- it is want of memory: no refusal, or that of an evaluation that memory was wanting for
+-- it is out of memory: no refusal, or that of an evaluation that memory ran out for
 abbrev pub IsForMemory : Option Refusal → Type 0
 IsForMemory None = Unit {0}
 IsForMemory (Some r) = r ≡ context_fails out_of_memory
@@ -52,11 +52,11 @@ abbrev pub IsNotForMemory : Option Refusal → Type 0
 IsNotForMemory None = ⊥
 IsNotForMemory (Some r) = r ≢ context_fails out_of_memory
 
--- an error of the request is want of memory itself, or holds none
+-- an error of the request is out of memory itself, or holds none
 abbrev pub IsUnwrappedRefusal : ConcretizationError → Type 0
 IsUnwrappedRefusal e = refusal_of e ≢ Some (context_fails out_of_memory)
 
--- an error of a step is want of memory itself, or holds none
+-- an error of a step is out of memory itself, or holds none
 abbrev pub IsUnwrapped : ReauthorizationError → Type 0
 IsUnwrapped (reauthorizations.ErrorHandlingConflict response authorizer) = Unit {0}
 IsUnwrapped (reauthorizations.PolicySetError e) = IsNotForMemory (option_map id_comes_again (occupied_id e))
@@ -75,7 +75,7 @@ step_answer_by see (Err e) = option_map Err (step_refusal e)
 
 -- ---- conversions
 
--- an error of the evaluation is kept whole, and want of memory stays want of memory
+-- an error of the evaluation is kept whole, and running out of memory stays out of memory
 abbrev pub IsValueRefusal : EvaluationError → ConcretizationError → Type 0
 IsValueRefusal e (concretizations.ValueError id expected given) = ⊥
 IsValueRefusal e (concretizations.VarConfictError id existing given) = ⊥
@@ -88,7 +88,7 @@ abbrev pub IsPolicyRefusal : PolicySetError → ReauthorizationError → Type 0
 IsPolicyRefusal (sets.Occupied id) r = r ≡ reauthorizations.PolicySetError (sets.Occupied id)
 IsPolicyRefusal (sets.Memory e) r = r ≡ reauthorizations.Memory e
 
--- and one of the request, from which want of memory is also taken where the evaluation of the context holds it
+-- and one of the request, from which running out of memory is also taken where the evaluation of the context holds it
 abbrev pub IsRequestRefusal : ConcretizationError → ReauthorizationError → Type 0
 IsRequestRefusal e (reauthorizations.ErrorHandlingConflict response authorizer) = ⊥
 IsRequestRefusal e (reauthorizations.PolicySetError p) = ⊥

@@ -11,7 +11,7 @@ abbrev pub unless_repeated : Option Text → List model.Policy → Result (List 
 unless_repeated None ps = Ok ps
 unless_repeated (Some id) ps = Err (id_comes_again id)
 
--- these policies, or the refusal of the first id that comes again
+-- these policies, or the refusal of the first duplicate id
 abbrev pub all_once : List model.Policy → Result (List model.Policy) Refusal
 all_once ps = unless_repeated (first_repeated (map (λ p. p.id) ps)) ps
 

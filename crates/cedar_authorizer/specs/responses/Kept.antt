@@ -10,7 +10,7 @@ use Rattle.cedar_layers.specs.Policies.{policy_id_text}
 abbrev pub is_same_id : PolicyID → PolicyID → Bool
 is_same_id i j = text_eq (policy_id_text i) (policy_id_text j)
 
--- an id that comes again keeps its first place and takes its last value
+-- a duplicate id keeps its first place and takes its last value
 abbrev pub kept : {V : Type 0} → List (PolicyID × V) → List (PolicyID × V)
 kept pairs = insert_all is_same_id [] pairs
 

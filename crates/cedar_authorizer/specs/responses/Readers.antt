@@ -57,7 +57,7 @@ pub record IsCarriedOn (l : Located) (p : Policy) : Type 0 where
   pub policy : made_view p ≡ made_of l
   pub clause : IsClause l.residual (policy_parts p).when
 
--- a call of `next` at s gave r and left t: the first row as a policy; or, where memory was wanting, the refusal in its place
+-- a call of `next` at s gave r and left t: the first row as a policy; or, if out of memory, the refusal in its place
 abbrev pub TakesPolicy : List Located → Option (Result Policy AllocError) → List Located → Type 0
 TakesPolicy s r t =
     MatchOption r ((s ≡ []) × (t ≡ [])) (λ item. (l : Located) × (s ≡ l ∷ t) × IfOk item (IsCarriedOn l))

@@ -41,7 +41,7 @@ impl PartialResponse {
     /// where the response and the authorizer handle errors in different ways; with `PolicySetError` where two of the
     /// policies have one id; with `ConcretizationError` where the map makes no request of the response's (`ValueError`,
     /// `VarConfictError`, `EntityTypeConfictError`, of principal, action, resource and context in turn), or where the
-    /// evaluation of the context with the map's values in it fails (`ValueEval`); or for want of memory. Evaluation
+    /// evaluation of the context with the map's values in it fails (`ValueEval`); or if out of memory. Evaluation
     /// goes at most the authorizer's limit of levels deep.
     ///
     /// Do not take a response further whose errors hold the recursion limit: a forbid that met it is not known to be

@@ -49,7 +49,7 @@ pub enum ConcretizationError {
     /// The evaluation of the context with the map's values in it failed.
     #[error(transparent)]
     ValueEval(EvaluationError),
-    /// Want of memory.
+    /// Out of memory.
     #[error("out of memory")]
     Memory(AllocError),
 }
@@ -71,12 +71,12 @@ pub enum ReauthorizationError {
     /// The map makes no request.
     #[error(transparent)]
     ConcretizationError(ConcretizationError),
-    /// Want of memory.
+    /// Out of memory.
     #[error("out of memory")]
     Memory(AllocError),
 }
 
-/// `ValueEval`, or `Memory` of want of memory.
+/// `ValueEval`, or `Memory` if out of memory.
 impl From<EvaluationError> for ConcretizationError {
     ghost from_gives = { IsValueRefusal };
 
@@ -106,7 +106,7 @@ impl<T: Drop> From<AllocFailed<T>> for ConcretizationError {
     }
 }
 
-/// `PolicySetError`, or `Memory` of want of memory.
+/// `PolicySetError`, or `Memory` if out of memory.
 impl From<PolicySetError> for ReauthorizationError {
     ghost from_gives = { IsPolicyRefusal };
 
@@ -120,7 +120,7 @@ impl From<PolicySetError> for ReauthorizationError {
     }
 }
 
-/// `ConcretizationError`, or `Memory` of want of memory, also of a `ValueEval` that holds it.
+/// `ConcretizationError`, or `Memory` if out of memory, also of a `ValueEval` that holds it.
 impl From<ConcretizationError> for ReauthorizationError {
     ghost from_gives = { IsRequestRefusal };
 

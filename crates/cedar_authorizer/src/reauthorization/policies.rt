@@ -14,8 +14,8 @@ use cedar_layers::policies::{Policy, PolicySet};
 use std::alloc::{AllocError, Global};
 
 /// The set of every policy of the response, permits first: the satisfied ones, those that are not satisfied, and the
-/// residual ones, each with what is reported of it as its clause. Refuses the first id that comes again with
-/// `PolicySetError`, or for want of memory with `Memory` alone.
+/// residual ones, each with what is reported of it as its clause. Refuses the first duplicate id with
+/// `PolicySetError`, or if out of memory with `Memory` alone.
 pub fn residual_policies(
     alloc: Global,
     response: &PartialResponse,
@@ -25,7 +25,7 @@ pub fn residual_policies(
     ensures places { IfOk result (λ s. AreCarriedFrom (located_view response.now) (stored_policies s)) }
     ensures memory { IfErr result IsUnwrapped }
 {
-    let policies = carried(alloc, response)?;
+    let policies = carry_policies(alloc, response)?;
     match PolicySet::try_from_iter(alloc, policies) {
         Ok(set) => Ok(set),
         Err(error) => Err(ReauthorizationError::from(error)),
@@ -33,7 +33,7 @@ pub fn residual_policies(
 }
 
 // Every policy of the response.
-fn carried(alloc: Global, response: &PartialResponse) -> Result<Vec<Policy>, AllocError>
+fn carry_policies(alloc: Global, response: &PartialResponse) -> Result<Vec<Policy>, AllocError>
     ensures policies { IfOk result (λ v. map decides_as (map policy_view v.items)
         ≡ all_residuals (rows_view response.now)) }
     ensures places { IfOk result (λ v. AreCarriedFrom (located_view response.now) v.items) }

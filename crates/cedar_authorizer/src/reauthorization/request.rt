@@ -35,8 +35,8 @@ use std::rc::RcStr;
 /// `ValueError`, an entry that is known already with `VarConfictError`, and an entity of another type than is known of
 /// the entry with `EntityTypeConfictError`. Then, where the map has a value for `context`, it is the context. Refuses
 /// one that is no record with `ValueError`, and a context that is there already with `VarConfictError`. Then the map's
-/// values are put into the context (`Context::substitute`). Refuses with `ValueEval` where that fails; or for want of
-/// memory, with `Memory` alone.
+/// values are put into the context (`Context::substitute`). Refuses with `ValueEval` where that fails; or if
+/// out of memory, with `Memory` alone.
 pub fn concretize_request(
     alloc: Global,
     request: &Request,

@@ -18,9 +18,9 @@ mod policies;
 use crate::responses::err::AuthorizationError;
 use cedar_decisions::{Decision, ErrorHandling, decide, decide_concretely};
 use cedar_expressions::Expr;
+use cedar_fallible::beside;
 use cedar_layers::policies::{Annotations, PolicyID};
 use cedar_requests::Request;
-use cedar_results::beside;
 pub use ids::ReportedIds;
 use indexmap::IndexMap;
 pub use policies::ReportedPolicies;
@@ -60,9 +60,9 @@ pub struct PartialResponse {
 }
 
 impl PartialResponse {
-    /// The response of these policies and errors, where errors are skipped. An id that comes again within one of the
-    /// six keeps its first place and takes its last value. Each iterator must come to an end. Refuses only for want of
-    /// memory.
+    /// The response of these policies and errors, where errors are skipped. A duplicate id within one of the
+    /// six keeps its first place and takes its last value. Each iterator must come to an end. Refuses only if
+    /// out of memory.
     pub fn new<
         TP: Iterator<Item = (PolicyID, Rc<Annotations>)> + Drop,
         FP: Iterator<Item = (PolicyID, (ErrorState, Rc<Annotations>))> + Drop,
@@ -161,7 +161,7 @@ impl PartialResponse {
         )?;
         let ((request, permits, forbids), errors) = beside(
             (request, permits, forbids),
-            given(alloc, errors),
+            collect_errors(alloc, errors),
         )?;
         Ok(PartialResponse {
             satisfied_permits: permits.satisfied,
@@ -266,9 +266,9 @@ fn effect_entries<
     ensures falses { IfOk result (λ r. Keeps F.next_gives falses r.unsatisfied.entries) }
     ensures residuals { IfOk result (λ r. Keeps R.next_gives residuals r.residual.entries) }
 {
-    let satisfied = collected(alloc, trues)?;
-    let unsatisfied = collected(alloc, falses)?;
-    let residual = collected(alloc, residuals)?;
+    let satisfied = collect_pairs(alloc, trues)?;
+    let unsatisfied = collect_pairs(alloc, falses)?;
+    let residual = collect_pairs(alloc, residuals)?;
     Ok(EffectEntries {
         satisfied,
         unsatisfied,
@@ -277,7 +277,7 @@ fn effect_entries<
 }
 
 // What is kept of these pairs.
-fn collected<V: Drop, I: Iterator<Item = (PolicyID, V)> + Drop>(
+fn collect_pairs<V: Drop, I: Iterator<Item = (PolicyID, V)> + Drop>(
     alloc: Global,
     pairs: I,
 ) -> Result<IndexMap<PolicyID, V>, AllocError>
@@ -288,7 +288,7 @@ fn collected<V: Drop, I: Iterator<Item = (PolicyID, V)> + Drop>(
 }
 
 // These errors.
-fn given<I: Iterator<Item = AuthorizationError> + Drop>(
+fn collect_errors<I: Iterator<Item = AuthorizationError> + Drop>(
     alloc: Global,
     errors: I,
 ) -> Result<Vec<AuthorizationError>, AllocError>

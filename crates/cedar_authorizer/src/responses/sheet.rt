@@ -13,8 +13,8 @@ use crate::responses::partial_response::ErrorState;
 use cedar_decisions::ErrorHandling;
 use cedar_errors::evaluator::err::EvaluationError;
 use cedar_expressions::Expr;
+use cedar_fallible::{add_last, beside};
 use cedar_layers::policies::{Annotations, Effect, Policy, PolicyID};
-use cedar_results::{add_last, beside};
 use std::alloc::{AllocError, Global};
 use std::rc::Rc;
 
@@ -66,7 +66,7 @@ impl Sheet {
     }
 
     /// Notes how one more policy came out; where it erred, its error is noted too, and it is false, but that a forbid
-    /// is satisfied where one that errs forbids. Refuses only for want of memory.
+    /// is satisfied where one that errs forbids. Refuses only if out of memory.
     #[tactic(auto, using(crate::proofs::Noted::true_stays, crate::proofs::Noted::false_stays, crate::proofs::Noted::residual_stays), unfolding(cedar_model::specs::Responses::reported_of, cedar_model::specs::Responses::error_of))]
     pub fn place(
         &mut self,

@@ -108,11 +108,11 @@ pub fn unknown(alloc: Global, name: &str) -> ExprBuilder
 {
     ExprBuilder {
         alloc,
-        built: untyped(alloc, name),
+        built: make_untyped_unknown(alloc, name),
     }
 }
 
-fn untyped(alloc: Global, name: &str) -> Result<Expr, AllocError>
+fn make_untyped_unknown(alloc: Global, name: &str) -> Result<Expr, AllocError>
     ensures { Makes result (Some (unknown name.now None)) }
 {
     let name = RcStr::from_str(alloc, name)?;
@@ -125,11 +125,11 @@ pub fn unknown_with_type(alloc: Global, name: &str, ty: Type) -> ExprBuilder
 {
     ExprBuilder {
         alloc,
-        built: typed(alloc, name, ty),
+        built: make_typed_unknown(alloc, name, ty),
     }
 }
 
-fn typed(alloc: Global, name: &str, ty: Type) -> Result<Expr, AllocError>
+fn make_typed_unknown(alloc: Global, name: &str, ty: Type) -> Result<Expr, AllocError>
     ensures { Makes result (Some (unknown name.now (Some (type_view ty)))) }
 {
     match RcStr::from_str(alloc, name) {

@@ -10,8 +10,8 @@ ghost use Rattle.cedar_builder.specs.Building.{set_term, record_term, call_term}
 
 use super::ExprBuilder;
 use cedar_expressions::Expr;
+use cedar_fallible::pair_of;
 use cedar_names::Name;
-use cedar_results::pair_of;
 use std::alloc::{AllocError, Global};
 use std::collections::BTreeMap;
 use std::marker::Model;
@@ -27,7 +27,7 @@ pub fn set<const N: usize>(alloc: Global, parts: [ExprBuilder; N]) -> ExprBuilde
     }
 }
 
-/// The record of these fields: `{a: x, "b c": y}`. A field whose key comes again takes the place of the one before.
+/// The record of these fields: `{a: x, "b c": y}`. A field whose key is a duplicate takes the place of the one before.
 pub fn record<const N: usize>(alloc: Global, fields: [FieldBuilder; N]) -> ExprBuilder
     ensures { Builds result (option_map record_term (fields_of_all fields.entry)) }
 {
@@ -37,7 +37,7 @@ pub fn record<const N: usize>(alloc: Global, fields: [FieldBuilder; N]) -> ExprB
     }
 }
 
-/// A field of a record in the making: a part under a key, or that memory was wanting on the way.
+/// A field of a record in the making: a part under a key, or that memory ran out on the way.
 #[derive(Drop)]
 pub struct FieldBuilder {
     pub(crate) built: Result<(RcStr, Expr), AllocError>,
@@ -61,11 +61,11 @@ pub fn field(key: &str, part: ExprBuilder) -> FieldBuilder
 {
     let ExprBuilder { alloc, built } = part;
     FieldBuilder {
-        built: keyed(alloc, key, built),
+        built: pair_with_key(alloc, key, built),
     }
 }
 
-fn keyed(
+fn pair_with_key(
     alloc: Global,
     key: &str,
     part: Result<Expr, AllocError>,

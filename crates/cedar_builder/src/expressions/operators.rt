@@ -15,8 +15,8 @@ ghost use Rattle.cedar_builder.specs.Building.{term_of, term_in, of_two, of_thre
 
 use super::ExprBuilder;
 use cedar_expressions::Expr;
+use cedar_fallible::pair_of;
 use cedar_names::{BinaryOp, EntityType, FirstRest, Name, UnaryOp};
-use cedar_results::pair_of;
 use std::alloc::{AllocError, Global};
 use std::rc::RcStr;
 

@@ -9,8 +9,8 @@ ghost use Rattle.cedar_builder.specs.Patterns.{pattern_behind, pattern_said};
 
 use super::ExprBuilder;
 use cedar_expressions::Expr;
+use cedar_fallible::pair_of;
 use cedar_names::{Pattern, PatternElem};
-use cedar_results::pair_of;
 use std::alloc::{AllocError, Global};
 
 impl ExprBuilder {

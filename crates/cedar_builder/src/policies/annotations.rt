@@ -8,27 +8,27 @@ ghost use Rattle.cedar_layers.specs.Policies.{annotations_view};
 ghost use Rattle.cedar_builder.specs.Saying.{said, said_in, Says, SaysIn, put_text, with_annotation};
 
 use super::{PolicyBuilder, PolicyParts};
+use cedar_fallible::pair_of;
 use cedar_layers::policies::Annotations;
-use cedar_results::pair_of;
 use std::alloc::{AllocError, Global};
 use std::collections::BTreeMap;
 use std::rc::RcStr;
 
 impl PolicyBuilder {
-    /// The policy with this annotation more: `@key("value")`. Both are taken as they stand. One whose key comes again
-    /// takes the place of the one before.
+    /// The policy with this annotation more: `@key("value")`. Both are taken as they stand. One whose key is a
+    /// duplicate takes the place of the one before.
     pub fn annotation(self, key: &str, value: &str) -> PolicyBuilder
         ensures { Says result (option_map (with_annotation key.now value.now) (said self)) }
     {
         let PolicyBuilder { alloc, parts } = self;
         PolicyBuilder {
             alloc,
-            parts: annotated(alloc, parts, key, value),
+            parts: add_annotation(alloc, parts, key, value),
         }
     }
 }
 
-fn annotated(
+fn add_annotation(
     alloc: Global,
     parts: Result<PolicyParts, AllocError>,
     key: &str,

@@ -11,9 +11,9 @@ mod constraints;
 use super::{PolicyBuilder, PolicyParts};
 use crate::expressions::ExprBuilder;
 use cedar_expressions::Expr;
+use cedar_fallible::pair_of;
 use cedar_names::{BinaryOp, Var};
-use cedar_results::pair_of;
-use constraints::{compared, typed, typed_in};
+use constraints::{compare_variable, test_variable_type, typed_in};
 use std::alloc::AllocError;
 
 /// The scope. What a variable is compared with is a literal of an entity (`entity`, `uid`), for `action_in` also a
@@ -26,7 +26,7 @@ impl PolicyBuilder {
         ensures { Says result
             (of_two with_principal (said self) (option_map (binary eq_operator (variable principal)) (term_of uid))) }
     {
-        let constraint = compared(self.alloc, Var::Principal, BinaryOp::Eq, uid.built);
+        let constraint = compare_variable(self.alloc, Var::Principal, BinaryOp::Eq, uid.built);
         self.with_principal(constraint)
     }
 
@@ -35,7 +35,7 @@ impl PolicyBuilder {
         ensures { Says result
             (of_two with_principal (said self) (option_map (binary in_operator (variable principal)) (term_of uid))) }
     {
-        let constraint = compared(self.alloc, Var::Principal, BinaryOp::In, uid.built);
+        let constraint = compare_variable(self.alloc, Var::Principal, BinaryOp::In, uid.built);
         self.with_principal(constraint)
     }
 
@@ -43,7 +43,7 @@ impl PolicyBuilder {
     pub fn principal_is(self, ty: &str) -> PolicyBuilder
         ensures { Says result (of_two with_principal (said self) (Some (is_of_type (variable principal) ty.now))) }
     {
-        let constraint = typed(self.alloc, Var::Principal, ty);
+        let constraint = test_variable_type(self.alloc, Var::Principal, ty);
         self.with_principal(constraint)
     }
 
@@ -61,7 +61,7 @@ impl PolicyBuilder {
         ensures { Says result
             (of_two with_action (said self) (option_map (binary eq_operator (variable action)) (term_of uid))) }
     {
-        let constraint = compared(self.alloc, Var::Action, BinaryOp::Eq, uid.built);
+        let constraint = compare_variable(self.alloc, Var::Action, BinaryOp::Eq, uid.built);
         self.with_action(constraint)
     }
 
@@ -70,7 +70,7 @@ impl PolicyBuilder {
         ensures { Says result
             (of_two with_action (said self) (option_map (binary in_operator (variable action)) (term_of uid))) }
     {
-        let constraint = compared(self.alloc, Var::Action, BinaryOp::In, uid.built);
+        let constraint = compare_variable(self.alloc, Var::Action, BinaryOp::In, uid.built);
         self.with_action(constraint)
     }
 
@@ -79,7 +79,7 @@ impl PolicyBuilder {
         ensures { Says result
             (of_two with_resource (said self) (option_map (binary eq_operator (variable resource)) (term_of uid))) }
     {
-        let constraint = compared(self.alloc, Var::Resource, BinaryOp::Eq, uid.built);
+        let constraint = compare_variable(self.alloc, Var::Resource, BinaryOp::Eq, uid.built);
         self.with_resource(constraint)
     }
 
@@ -88,7 +88,7 @@ impl PolicyBuilder {
         ensures { Says result
             (of_two with_resource (said self) (option_map (binary in_operator (variable resource)) (term_of uid))) }
     {
-        let constraint = compared(self.alloc, Var::Resource, BinaryOp::In, uid.built);
+        let constraint = compare_variable(self.alloc, Var::Resource, BinaryOp::In, uid.built);
         self.with_resource(constraint)
     }
 
@@ -96,7 +96,7 @@ impl PolicyBuilder {
     pub fn resource_is(self, ty: &str) -> PolicyBuilder
         ensures { Says result (of_two with_resource (said self) (Some (is_of_type (variable resource) ty.now))) }
     {
-        let constraint = typed(self.alloc, Var::Resource, ty);
+        let constraint = test_variable_type(self.alloc, Var::Resource, ty);
         self.with_resource(constraint)
     }
 

@@ -48,7 +48,7 @@ pub enum EvaluationError {
     /// The depth of evaluation passed the limit.
     #[error(transparent)]
     RecursionLimit(RecursionLimitError),
-    /// Memory was wanting.
+    /// Out of memory.
     #[error("out of memory")]
     Memory(AllocError),
 }
@@ -59,9 +59,9 @@ impl EvaluationError {
     ghost use Rattle.cedar_model.specs.Failures.{failure_kind};
     ghost use Rattle.cedar_errors.specs.Errors.{error_loc, error_at, error_within};
     ghost use Rattle.cedar_errors.specs.Failures.{failure_of};
-    ghost use Rattle.cedar_errors.specs.Finals.{is_limit, is_want, is_of_memory, is_final, is_final_kind};
+    ghost use Rattle.cedar_errors.specs.Finals.{is_limit, is_memory_variant, is_of_memory, is_final, is_final_kind};
 
-    /// Where the error arose, if that is known. Want of memory has no location.
+    /// Where the error arose, if that is known. Running out of memory has no location.
     pub fn source_loc(&self) -> Option<&Loc>
         ensures { option_copied result ≡ error_loc self.now }
     {
@@ -103,20 +103,20 @@ impl EvaluationError {
         }
     }
 
-    /// Whether the error ends an evaluation at once: the recursion limit, or want of memory. Best effort keeps no
+    /// Whether the error ends an evaluation at once: the recursion limit, or out of memory. Best effort keeps no
     /// operand that fails so.
     pub fn is_final(&self) -> bool
         ensures variant { result ≡ is_final self.now }
         ensures kind { result ≡ is_final_kind (failure_kind (failure_of self.now)) }
     {
-        self.is_recursion_limit() || self.is_want_of_memory()
+        self.is_recursion_limit() || self.is_out_of_memory()
     }
 
-    /// Whether memory was wanting: not where a look-up of a function found none, which holds that as an error of its
+    /// Whether memory ran out: not where a look-up of a function found none, which holds that as an error of its
     /// own.
     #[tactic(auto, unfolding(crate::specs::Finals::is_of_memory, cedar_model::specs::Failures::failure_kind))]
-    pub fn is_want_of_memory(&self) -> bool
-        ensures variant { result ≡ is_want self.now }
+    pub fn is_out_of_memory(&self) -> bool
+        ensures variant { result ≡ is_memory_variant self.now }
         ensures kind { result ≡ is_of_memory (failure_kind (failure_of self.now)) }
     {
         match self {
@@ -288,7 +288,7 @@ impl From<RecursionLimitError> for EvaluationError {
 }
 
 /// Of a look-up that found no function `FailedExtensionFunctionLookup`, and of one that found no memory `Memory`
-/// itself: want of memory is never inside the error of a look-up.
+/// itself: running out of memory is never inside the error of a look-up.
 impl From<ExtensionFunctionLookupError> for EvaluationError {
     ghost use Rattle.std.specs.Prelude.{◌≡◌};
     ghost use Rattle.cedar_errors.specs.Errors.{error_of_lookup};
@@ -307,7 +307,7 @@ impl From<ExtensionFunctionLookupError> for EvaluationError {
     }
 }
 
-/// Want of memory is `Memory` itself, never inside the error of a look-up.
+/// Running out of memory is `Memory` itself, never inside the error of a look-up.
 impl From<AllocError> for EvaluationError {
     ghost use Rattle.std.specs.Prelude.{◌≡◌};
     ghost use Rattle.cedar_errors.specs.declared.evaluator.err.EvaluationError.TheVariants.{Memory};
@@ -319,7 +319,7 @@ impl From<AllocError> for EvaluationError {
     }
 }
 
-/// Want of memory is `Memory` itself, and what found no room is dropped.
+/// Running out of memory is `Memory` itself, and what found no room is dropped.
 impl<T: Drop> From<AllocFailed<T>> for EvaluationError {
     ghost use Rattle.std.specs.Prelude.{◌≡◌, alloc_error};
     ghost use Rattle.cedar_errors.specs.declared.evaluator.err.EvaluationError.TheVariants.{Memory};

@@ -12,7 +12,7 @@ use std::alloc::{AllocError, Global};
 use std::rc::{Rc, RcStr};
 
 impl Expr {
-    /// The literal that names this entity. Refuses only for want of memory.
+    /// The literal that names this entity. Refuses only if out of memory.
     pub fn entity(alloc: Global, uid: EntityUID) -> Result<Expr, AllocError>
         ensures view { IfOk result (λ e. view e ≡ literal (entity_literal (uid_name uid))) }
         ensures whole { IfOk result (λ e. uid_at (node_of e) ≡ Some uid) }
@@ -22,7 +22,7 @@ impl Expr {
         Ok(Expr::val(Literal::EntityUID(uid)))
     }
 
-    /// The literal of this text. Refuses only for want of memory.
+    /// The literal of this text. Refuses only if out of memory.
     pub fn text(alloc: Global, text: &str) -> Result<Expr, AllocError>
         ensures view { IfOk result (λ e. view e ≡ literal (text_literal text.now)) }
         ensures loc { IfOk result (λ e. expr_loc e ≡ None) }

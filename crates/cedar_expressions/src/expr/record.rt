@@ -1,5 +1,5 @@
 #![tactic(auto, using(crate::proofs::Levels::levels, crate::proofs::NodeLevels::nodes, crate::proofs::Records::steps))]
-//! Records of pairs, refused where a key comes again.
+//! Records of pairs, refused where a key is a duplicate.
 ghost use Rattle.std.specs.Prelude.{◌≡◌, IfOk, OnOk, IfErr, None, codes};
 ghost use Rattle.std.specs.Rc.{rc_str_bytes};
 ghost use Rattle.cedar_model.specs.Terms.{record_of};
@@ -18,8 +18,8 @@ use std::collections::BTreeMap;
 use std::rc::{Rc, RcStr};
 
 impl Expr {
-    /// A record of these parts under their keys, in byte order of the keys. Refuses the first key that comes again,
-    /// with the context `in record literal`, and for want of memory.
+    /// A record of these parts under their keys, in byte order of the keys. Refuses the first duplicate key,
+    /// with the context `in record literal`, and if out of memory.
     pub fn record(
         alloc: Global,
         pairs: Vec<(RcStr, Expr)>,
@@ -37,7 +37,7 @@ impl Expr {
         Ok(Expr::record_map(alloc, fields)?)
     }
 
-    /// A record of the parts that the map has. Refuses only for want of memory.
+    /// A record of the parts that the map has. Refuses only if out of memory.
     pub fn record_map(alloc: Global, map: BTreeMap<RcStr, Expr>) -> Result<Expr, AllocError>
         ensures view { IfOk result (λ e. view e ≡ record_of (fields_view map.entries)) }
         ensures kind { IfOk result (λ e. node_of e ≡ node.Record map.entries) }

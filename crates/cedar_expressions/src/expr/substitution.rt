@@ -21,7 +21,7 @@ use std::rc::{Rc, RcStr};
 pub trait AsExpression {
     ghost represents: { Self → Represented };
 
-    /// The expression of the value. Refuses only for want of memory.
+    /// The expression of the value. Refuses only if out of memory.
     fn as_expression(&self, alloc: Global) -> Result<Expr, AllocError>
         ensures { IfOk result (λ e. view e ≡ expression_of (represents self.now)) };
 }
@@ -29,7 +29,7 @@ pub trait AsExpression {
 impl Expr {
     /// The expression with the map's values for the unknowns that it names, at any depth. An annotation is not looked
     /// at, and the rest is unchanged. The result has the location of the expression, so a value for an unknown has the
-    /// location of that unknown; the locations of parts are not promised. Refuses only for want of memory.
+    /// location of that unknown; the locations of parts are not promised. Refuses only if out of memory.
     #[cycle(substitute)]
     pub fn substitute<V: AsExpression>(
         &self,

@@ -22,8 +22,8 @@ pub type ExtensionFunctionObject = Box<
 >;
 
 // A function that a caller stores: it takes so many arguments, to equal arguments it answers one outcome at most,
-// besides want of memory, and it answers neither the recursion limit nor `NonValue`, nor want of memory inside the
-// error of a look-up.
+// besides running out of memory, and it answers neither the recursion limit nor `NonValue`, nor out of memory inside
+// the error of a look-up.
 #[derive(Drop)]
 pub(crate) struct StoredFunction {
     func: ExtensionFunctionObject,

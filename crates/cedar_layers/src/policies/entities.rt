@@ -75,7 +75,7 @@ impl Entity {
     }
 
     /// The entity of this uid whose attributes and tags are these values, with these ancestors: all of them, as in
-    /// `new`. Refuses only for want of memory.
+    /// `new`. Refuses only if out of memory.
     pub fn from_values(
         alloc: Global,
         uid: EntityUID,
@@ -256,7 +256,7 @@ impl Entities {
     /// that an entity is not among them: if false, that there is none; if true, that it is not known, and an unknown
     /// stands for it. Ancestors are taken as they are: each entity must have been made with all of its ancestors, not
     /// its parents alone. `in` is false of an ancestor that was left out, so a permit that asks for it does not apply
-    /// (a wrong Deny), nor does a forbid (a wrong Allow). Refuses only for want of memory.
+    /// (a wrong Deny), nor does a forbid (a wrong Allow). Refuses only if out of memory.
     pub fn with(alloc: Global, entities: Vec<Entity>, partial: bool) -> Result<Entities, AllocError>
         ensures view { IfOk result (λ s. store_view s ≡ store_of entities.items partial) }
         ensures whole { IfOk result (λ s. stored_entity s ≡ last_of_each_name entities.items) }
@@ -271,7 +271,7 @@ impl Entities {
         })
     }
 
-    // Puts the entity into the map, in the place of one of the same uid.
+    // Puts the entity into the map, instead of one of the same uid.
     fn put(map: &mut BTreeMap<EntityUID, Entity>, entity: Entity) -> Result<(), AllocError>
         ensures { OnOk result (standing map.new.entries ≡ standing_with (standing map.old.entries) entity) }
     {
@@ -281,7 +281,7 @@ impl Entities {
     }
 
     /// The entity of this uid; for one that the store lacks `NoSuchEntity` or, in a partial store, the unknown that is
-    /// named by the uid's text and annotated with its type. Refuses only for want of memory.
+    /// named by the uid's text and annotated with its type. Refuses only if out of memory.
     pub fn entity(&self, alloc: Global, uid: &EntityUID) -> Result<Dereference<'_>, AllocError>
         ensures found { IfOk result (λ d. found_view d ≡ look_up (store_view self.now) (uid_name uid.now)) }
         ensures whole { IfOk result (λ d. answered_entity d ≡ stored_entity self.now (uid_name uid.now)) }

@@ -106,7 +106,7 @@ impl Policy {
     ghost use Rattle.cedar_layers.specs.Policies.{condition_parts, policy_parts, policy_of, policy_when, condition_term};
     ghost use Rattle.cedar_layers.specs.Policies.{policy_location, IsConjunction, IsConditionOf, linked};
 
-    /// The policy of these parts, at no known location. Refuses only for want of memory.
+    /// The policy of these parts, at no known location. Refuses only if out of memory.
     pub fn new(
         alloc: Global,
         effect: Effect,
@@ -146,7 +146,7 @@ impl Policy {
     }
 
     /// The policy with this when clause, at this location: its constraints are all `true`, and no slot has a value.
-    /// Refuses only for want of memory.
+    /// Refuses only if out of memory.
     pub fn from_when_clause_annos(
         alloc: Global,
         effect: Effect,
@@ -204,7 +204,7 @@ impl Policy {
     }
 
     /// The policy of this id that has the effect, the annotations, the parts and the location of this one, and in which
-    /// these values stand for the slots: a template's policy. Refuses only for want of memory.
+    /// these values stand for the slots: a template's policy. Refuses only if out of memory.
     pub fn link(&self, alloc: Global, id: PolicyID, env: SlotEnv) -> Result<Policy, AllocError>
         ensures view { IfOk result
             (λ p. policy_view p ≡ linked (policy_view self.now) (policy_id_text id) (slots_view env)) }
@@ -292,7 +292,7 @@ impl Policy {
     }
 
     /// The condition, `((principal && action) && resource) && when`, each `&&` at the policy's location and each part
-    /// as it was handed in. Its value is a boolean or an error. Refuses only for want of memory.
+    /// as it was handed in. Its value is a boolean or an error. Refuses only if out of memory.
     pub fn condition(&self, alloc: Global) -> Result<Expr, AllocError>
         ensures view { IfOk result (λ e. view e ≡ condition_term (policy_view self.now)) }
         ensures parts { IfOk result (λ e. IsConditionOf (policy_parts self.now) (policy_location self.now) e) }

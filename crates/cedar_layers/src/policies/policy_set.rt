@@ -42,7 +42,7 @@ pub enum PolicySetError {
     Memory(AllocError),
 }
 
-/// Want of memory is `Memory`, so that `?` takes an `AllocError` where a set is made.
+/// Running out of memory is `Memory`, so that `?` takes an `AllocError` where a set is made.
 impl From<AllocError> for PolicySetError {
     ghost use Rattle.cedar_layers.specs.declared.policies.policy_set.PolicySetError.TheVariants.{Memory};
 
@@ -53,7 +53,7 @@ impl From<AllocError> for PolicySetError {
     }
 }
 
-/// Want of memory is `Memory`, and what found no room is dropped.
+/// Running out of memory is `Memory`, and what found no room is dropped.
 impl<T: Drop> From<AllocFailed<T>> for PolicySetError {
     ghost use Rattle.std.specs.Prelude.{alloc_error};
     ghost use Rattle.cedar_layers.specs.declared.policies.policy_set.PolicySetError.TheVariants.{Memory};
@@ -72,8 +72,8 @@ impl PolicySet {
     ghost use Rattle.cedar_layers.specs.PolicySets.{policies_view, stored_policies, policies_left, leaves_out_few};
     ghost use Rattle.cedar_layers.specs.PolicySets.{occupied_id, Adds, IsIdTaken};
 
-    /// The set of these policies. Refuses with `Occupied`, which names the first id that comes again, or for want of
-    /// memory.
+    /// The set of these policies. Refuses with `Occupied`, which names the first duplicate id, or if
+    /// out of memory.
     pub fn try_from_iter(alloc: Global, policies: Vec<Policy>) -> Result<PolicySet, PolicySetError>
         ensures view { IfOk result (λ s. policies_view s ≡ map policy_view policies.items) }
         ensures whole { IfOk result (λ s. stored_policies s ≡ policies.items) }
@@ -137,7 +137,7 @@ impl PolicySet {
 
     /// The policies in order of insertion, but for some that are bound elsewhere: of which the scope asks that
     /// principal, action or resource is an entity, or is in one, that is none of these. None, where the index leaves
-    /// out too few (`leaves_out_few`). Refuses only for want of memory.
+    /// out too few (`leaves_out_few`). Refuses only if out of memory.
     pub fn within_reach(
         &self,
         alloc: Global,
@@ -151,7 +151,7 @@ impl PolicySet {
             return Ok(None);
         }
         let positions = self.index.positions(alloc, uids)?;
-        picked(alloc, &self.policies, positions)
+        pick_policies(alloc, &self.policies, positions)
     }
 
     /// The policies, in order of insertion.
@@ -167,7 +167,7 @@ impl PolicySet {
 }
 
 // The policies at these positions, in the order of insertion. None, where the positions are in another order.
-fn picked(
+fn pick_policies(
     alloc: Global,
     policies: &IndexMap<PolicyID, Policy>,
     positions: Vec<usize>,

@@ -161,13 +161,13 @@ fn compared_entity(e: &Expr) -> Option<&EntityUID>
     ensures { IfSome result (λ u. compared_entity (view e.now) ≡ Some (uid_name u.now)) }
 {
     match e.expr_kind() {
-        ExprKind::BinaryApp { op, arg1, arg2 } => compared(*op, arg1, arg2),
+        ExprKind::BinaryApp { op, arg1, arg2 } => find_compared(*op, arg1, arg2),
         _ => None,
     }
 }
 
 // The same of a comparison.
-fn compared<'a>(op: BinaryOp, left: &Expr, right: &'a Expr) -> Option<&'a EntityUID>
+fn find_compared<'a>(op: BinaryOp, left: &Expr, right: &'a Expr) -> Option<&'a EntityUID>
     ensures { IfSome result (λ u. compared_entity (binary (binary_view op) (view left.now) (view right.now))
         ≡ Some (uid_name u.now)) }
 {

@@ -19,9 +19,9 @@ use crate::binary::binary_app;
 use crate::typed::bool_part;
 use cedar_errors::evaluator::err::EvaluationError;
 use cedar_extensions::Extensions;
+use cedar_fallible::pair_of;
 use cedar_layers::expressions::{BinaryOp, Expr, Loc, PartialValue, ResidualExpr};
 use cedar_layers::policies::Entities;
-use cedar_results::pair_of;
 use std::alloc::{AllocError, Global};
 
 /// An operator on two parts: of two values as `binary_app` answers; where one is a residual, the operator around both
@@ -44,15 +44,15 @@ pub fn binary_of_parts(
         PartialValue::Value(a) => match second {
             PartialValue::Value(b) => binary_app(alloc, entities, extensions, op, a, b, loc),
             PartialValue::Residual(r) => {
-                kept(alloc, op, PartialValue::Value(a), PartialValue::Residual(r))
+                keep_operator(alloc, op, PartialValue::Value(a), PartialValue::Residual(r))
             }
         },
         PartialValue::Residual(q) => match second {
             PartialValue::Value(b) => {
-                kept(alloc, op, PartialValue::Residual(q), PartialValue::Value(b))
+                keep_operator(alloc, op, PartialValue::Residual(q), PartialValue::Value(b))
             }
             PartialValue::Residual(r) => {
-                kept(
+                keep_operator(
                     alloc,
                     op,
                     PartialValue::Residual(q),
@@ -64,7 +64,7 @@ pub fn binary_of_parts(
 }
 
 // The operator around both parts, of which one is a residual, unless their types decide the answer.
-fn kept(
+fn keep_operator(
     alloc: Global,
     op: BinaryOp,
     first: PartialValue,

@@ -111,7 +111,7 @@ fn residual_right(
 }
 
 /// `left && right`, or `left || right`, of a residual left side and what is kept of the right side, at no location.
-/// Refuses only for want of memory.
+/// Refuses only if out of memory.
 pub fn residual_connective(
     alloc: Global,
     connective: Connective,
@@ -124,8 +124,8 @@ pub fn residual_connective(
     Ok(PartialValue::Residual(ResidualExpr::new(expr)))
 }
 
-/// `if test then .. else ..`, of a residual guard and what is kept of both branches, at no location. Refuses only for
-/// want of memory.
+/// `if test then .. else ..`, of a residual guard and what is kept of both branches, at no location. Refuses only if
+/// out of memory.
 pub fn residual_if(
     alloc: Global,
     test: ResidualExpr,
@@ -164,12 +164,12 @@ fn best_of_error(error: EvaluationError, original: &Expr) -> Result<Expr, Evalua
         Err(error)
     } else {
         drop(error);
-        kept(original)
+        copy_original(original)
     }
 }
 
 // A copy of the original expression.
-fn kept(original: &Expr) -> Result<Expr, EvaluationError>
+fn copy_original(original: &Expr) -> Result<Expr, EvaluationError>
     ensures { IsBest result (Rules.kept (view original.now)) }
 {
     Ok(original.clone()?)

@@ -7,8 +7,8 @@ ghost use Rattle.cedar_values.specs.Residuals.{residual_term};
 ghost use Rattle.cedar_errors.specs.Answers.{AnswersWith};
 
 use cedar_errors::evaluator::err::EvaluationError;
+use cedar_fallible::beside;
 use cedar_layers::expressions::{EntityType, Expr, PartialValue, Pattern, ResidualExpr, UnaryOp};
-use cedar_results::beside;
 use std::alloc::Global;
 
 // The operator on the residual.

@@ -3,14 +3,14 @@ ghost use Rattle.std.specs.Prelude.{◌≡◌, None, IfOk};
 ghost use Rattle.cedar_model.specs.Values.{record_represented};
 ghost use Rattle.cedar_values.specs.Sound.{whats_at};
 ghost use Rattle.cedar_values.specs.Residuals.{partial_view, partial_loc, partial_term};
-ghost use Rattle.cedar_restricted_expressions.specs.Views.{restricted_term, restricted_loc};
+ghost use Rattle.cedar_restricted.specs.Views.{restricted_term, restricted_loc};
 ghost use Rattle.cedar_requests.specs.Contexts.{context_part_value};
 
 use super::Context;
 use super::pairs::ContextPairs;
 use super::values::ContextValues;
 use cedar_expressions::Expr;
-use cedar_restricted_expressions::RestrictedExpr;
+use cedar_restricted::RestrictedExpr;
 use cedar_values::{PartialValue, ResidualExpr, Value, ValueKind};
 use std::alloc::{AllocError, Global};
 

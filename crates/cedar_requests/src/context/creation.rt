@@ -13,8 +13,8 @@ ghost use Rattle.cedar_expressions.specs.View.{view, fields_view};
 ghost use Rattle.cedar_values.specs.Sound.{whats_at};
 ghost use Rattle.cedar_values.specs.Residuals.{partial_view, residual_term};
 ghost use Rattle.cedar_extensions.specs.Extensions.{extensions_view, calls_of};
-ghost use Rattle.cedar_restricted_evaluator.specs.Evaluations.{IsBare, IsAnswerWithin};
-ghost use Rattle.cedar_restricted_expressions.specs.Views.{borrowed_term, borrowed_loc, pairs_in};
+ghost use Rattle.cedar_restricted.specs.Evaluations.{IsBare, IsAnswerWithin};
+ghost use Rattle.cedar_restricted.specs.Views.{borrowed_term, borrowed_loc, pairs_in};
 ghost use Rattle.cedar_requests.specs.Contexts.{context_view, context_part_value, context_pairs, residual_fields};
 ghost use Rattle.cedar_requests.specs.Substitutions.{context_answer};
 ghost use Rattle.cedar_requests.specs.declared.context.pairs.ContextPairs.TheVariants.{Residual};
@@ -29,8 +29,7 @@ use crate::errors::{ContextCreationError, context_creation_errors};
 use cedar_errors::evaluator::err::EvaluationError;
 use cedar_expressions::Expr;
 use cedar_extensions::Extensions;
-use cedar_restricted_evaluator::RestrictedEvaluator;
-use cedar_restricted_expressions::{BorrowedRestrictedExpr, RestrictedExpr};
+use cedar_restricted::{BorrowedRestrictedExpr, RestrictedEvaluator, RestrictedExpr};
 use cedar_values::{PartialValue, ResidualExpr, Value, ValueKind};
 use std::alloc::{AllocError, Global};
 use std::collections::BTreeMap;
@@ -41,7 +40,7 @@ impl Context {
     /// unknown stands in it. Refuses what is no record with `NotARecord`, before anything is evaluated. Where the
     /// evaluation fails, `Evaluation` holds its error: the first in the order of evaluation, or `RecursionLimit`
     /// exactly where the evaluation goes more than `limit` levels deep (the record is one level, its parts one more),
-    /// which it never does for a record that is no higher. `Memory` is want of memory.
+    /// which it never does for a record that is no higher. `Memory` is out of memory.
     pub fn from_expr(
         alloc: Global,
         expr: BorrowedRestrictedExpr<'_>,
@@ -60,9 +59,9 @@ impl Context {
         }
     }
 
-    /// The context that the record of these pairs is evaluated to, as `from_expr` does. Refuses the first key that
-    /// comes again with `ExpressionConstruction`, which holds a `DuplicateKey` in the context `in context`, before
-    /// anything is evaluated.
+    /// The context that the record of these pairs is evaluated to, as `from_expr` does. Refuses the
+    /// first duplicate key with `ExpressionConstruction`, which holds a `DuplicateKey` in the context `in context`,
+    /// before anything is evaluated.
     pub fn from_pairs(
         alloc: Global,
         pairs: Vec<(RcStr, RestrictedExpr)>,
@@ -116,14 +115,14 @@ fn of_record(
         IsOfRecord s (calls_of extensions.now) limit (borrowed_term expr.entry) result }
     ensures low { IsCreatedWithinLimit limit (borrowed_term expr.entry) result }
 {
-    match evaluated(alloc, expr, extensions, limit) {
+    match evaluate_record(alloc, expr, extensions, limit) {
         Ok(context) => Ok(context),
         Err(error) => Err(ContextCreationError::from(error)),
     }
 }
 
 // The context that the record is evaluated to, or the error of its evaluation.
-pub(super) fn evaluated(
+pub(super) fn evaluate_record(
     alloc: Global,
     expr: BorrowedRestrictedExpr<'_>,
     extensions: &Extensions<'_>,

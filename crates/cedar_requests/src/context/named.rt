@@ -19,9 +19,9 @@ use std::collections::BTreeMap;
 use std::rc::{Rc, RcStr};
 
 impl Context {
-    /// The context of these values under their names. Refuses the first name that comes again with
+    /// The context of these values under their names. Refuses the first duplicate name with
     /// `ExpressionConstruction`, which holds a `DuplicateKey` in the context `in context`, as `from_pairs` does; else
-    /// only for want of memory, with `Memory`.
+    /// only if out of memory, with `Memory`.
     pub fn of(alloc: Global, pairs: Vec<(&str, Value)>) -> Result<Context, ContextCreationError>
         ensures view { IfOk result (λ c. context_view c ≡ known_context (values_in_order pairs.entry.items)) }
         ensures distinct { IfOk result (λ c. first_repeated (names_given pairs.entry.items) ≡ None) }
@@ -98,15 +98,15 @@ fn put_new(
 {
     if values.contains_key(&key) {
         drop(value);
-        return Err(repeated(key));
+        return Err(refuse_duplicate_name(key));
     }
     drop(values.insert(key, value)?);
     Ok(())
 }
 
-// The error that the name comes again.
+// The error that the name is a duplicate.
 #[cold]
-fn repeated(key: RcStr) -> ContextCreationError
+fn refuse_duplicate_name(key: RcStr) -> ContextCreationError
     ensures { IsRefusalOfName (Some (rc_str_bytes key)) result }
 {
     ContextCreationError::ExpressionConstruction(ExpressionConstructionError::DuplicateKey {

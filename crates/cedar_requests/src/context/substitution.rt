@@ -6,18 +6,18 @@ ghost use Rattle.cedar_model.specs.Chains.{substituted_at};
 ghost use Rattle.cedar_model.specs.Depth.{substituted_height};
 ghost use Rattle.cedar_extensions.specs.Extensions.{extensions_view, calls_of};
 ghost use Rattle.cedar_errors.specs.Failures.{failure_of};
-ghost use Rattle.cedar_restricted_expressions.specs.Views.{restricted_term};
+ghost use Rattle.cedar_restricted.specs.Views.{restricted_term};
 ghost use Rattle.cedar_requests.specs.Contexts.{context_view, context_values, context_part_value, residual_fields};
 ghost use Rattle.cedar_requests.specs.Substitutions.{values_for, IsStepOfContext, IsEvaluatedAgain};
 ghost use Rattle.cedar_requests.specs.Substitutions.{KeepsCompletions};
 
 use super::Context;
-use super::creation::evaluated;
+use super::creation::evaluate_record;
 use super::pairs::{ContextPairs, ResidualPairs};
 use cedar_errors::evaluator::err::EvaluationError;
 use cedar_expressions::Expr;
 use cedar_extensions::Extensions;
-use cedar_restricted_expressions::RestrictedExpr;
+use cedar_restricted::RestrictedExpr;
 use cedar_values::Value;
 use std::alloc::{AllocError, Global};
 use std::collections::HashMap;
@@ -29,7 +29,7 @@ impl Context {
     /// these extensions, so that the answer is a context of values, or what is left where an unknown still stands in
     /// it. Fails with the first error in the order of evaluation, or with `RecursionLimit` exactly where that
     /// evaluation goes more than `limit` levels deep, which it never does for a record that is no higher with the
-    /// values in it; or for want of memory. A world that completes the context, and the map with it, completes the
+    /// values in it; or if out of memory. A world that completes the context, and the map with it, completes the
     /// answer.
     pub fn substitute(
         self,
@@ -52,7 +52,7 @@ impl Context {
             ContextPairs::Values(_) => Ok(self),
             ContextPairs::Residual(residual) => {
                 let record = record_with(alloc, residual, map)?;
-                let context = evaluated(alloc, record.as_borrowed(), extensions, limit);
+                let context = evaluate_record(alloc, record.as_borrowed(), extensions, limit);
                 drop(record);
                 context
             }

@@ -91,20 +91,20 @@ impl ContextValues {
         }
     }
 
-    // The values, copied where they are shared; or the shared ones, where memory is wanting for a copy.
+    // The values, copied where they are shared; or the shared ones, where memory ran out for a copy.
     pub(super) fn into_map(self) -> Result<BTreeMap<RcStr, Value>, Rc<BTreeMap<RcStr, Value>>>
         ensures values { IfOk result (λ m. map value_attribute m.entries ≡ map value_attribute self.entries) }
         ensures shared { IfErr result (λ m. m.value ≡ self) }
     {
         match self.held {
             HeldValues::Own(values) => Ok(values),
-            HeldValues::Shared(values) => unshared(values),
+            HeldValues::Shared(values) => unshare_values(values),
         }
     }
 }
 
-// The values, which are moved or copied; or as they are, where memory is wanting for a copy.
-fn unshared(
+// The values, which are moved or copied; or as they are, where memory ran out for a copy.
+fn unshare_values(
     values: Rc<BTreeMap<RcStr, Value>>,
 ) -> Result<BTreeMap<RcStr, Value>, Rc<BTreeMap<RcStr, Value>>>
     ensures values { IfOk result (λ m. map value_attribute m.entries ≡ map value_attribute values.value.entries) }

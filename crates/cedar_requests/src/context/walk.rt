@@ -9,15 +9,15 @@ use super::Context;
 use super::pairs::{ContextPairs, ResidualPairs};
 use super::values::ContextValues;
 use cedar_expressions::Expr;
-use cedar_restricted_expressions::RestrictedExpr;
+use cedar_restricted::RestrictedExpr;
 use cedar_values::Value;
 use std::alloc::{AllocError, Global};
 use std::collections::{BTreeMap, btree_map};
 use std::rc::{Rc, RcStr};
 
 /// The attributes of a context with their expressions, in the order of their names: a value is written as its
-/// expression. Where memory is wanting for that, an `Err` stands in the attribute's place, and the walk goes on; so
-/// it does in the place of each attribute where other contexts share the values and memory is wanting for a copy.
+/// expression. Where memory runs out for that, an `Err` stands in the attribute's place, and the walk goes on; so
+/// it does instead of each attribute where other contexts share the values and memory runs out for a copy.
 #[derive(Drop)]
 pub struct IntoIter {
     pairs: PairsIter,
@@ -87,7 +87,7 @@ impl Iterator for IntoIter {
     fn next(&mut self) -> Option<Result<(RcStr, RestrictedExpr), AllocError>> {
         match &mut self.pairs {
             PairsIter::Values(pairs) => match pairs.next() {
-                Some((name, value)) => Some(IntoIter::written(self.alloc, name, value)),
+                Some((name, value)) => Some(IntoIter::write_named(self.alloc, name, value)),
                 None => None,
             },
             PairsIter::Lacking(values) => match values.next() {
@@ -134,7 +134,7 @@ impl LackingIter {
         LackingIter { values, left }
     }
 
-    // Passes an attribute, and answers that memory is wanting.
+    // Passes an attribute, and answers out of memory.
     fn next(&mut self) -> Option<AllocError>
         ensures { PassesOne (lacking_left self.old) result (lacking_left self.new) }
     {
@@ -176,7 +176,7 @@ impl IntoIter {
     ghost use Rattle.cedar_requests.specs.Walks.{attribute_given, value_attribute};
 
     // The value as an expression, under its name.
-    fn written(
+    fn write_named(
         alloc: Global,
         name: RcStr,
         value: Value,

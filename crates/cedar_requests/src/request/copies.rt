@@ -5,7 +5,7 @@ ghost use Rattle.cedar_requests.specs.Requests.{entry_view, entry_loc, context_g
 use super::Request;
 use crate::context::Context;
 use crate::entry::EntityUIDEntry;
-use cedar_results::beside;
+use cedar_fallible::beside;
 use std::alloc::AllocError;
 
 impl Clone for Request {
@@ -14,9 +14,9 @@ impl Clone for Request {
     ghost is_clone = { λ r copy. (request_view copy ≡ request_view r) × (request_locs copy ≡ request_locs r) };
 
     fn clone(&self) -> Result<Request, AllocError> {
-        let principal = copied(&self.principal)?;
-        let entities = beside(principal, copied(&self.action))?;
-        let entities = beside(entities, copied(&self.resource))?;
+        let principal = copy_entry(&self.principal)?;
+        let entities = beside(principal, copy_entry(&self.action))?;
+        let entities = beside(entities, copy_entry(&self.resource))?;
         let (((principal, action), resource), context) = beside(
             entities,
             copied_context(&self.context),
@@ -30,7 +30,7 @@ impl Clone for Request {
     }
 }
 
-fn copied(entry: &EntityUIDEntry) -> Result<EntityUIDEntry, AllocError>
+fn copy_entry(entry: &EntityUIDEntry) -> Result<EntityUIDEntry, AllocError>
     ensures view { IfOk result (λ e. entry_view e ≡ entry_view entry.now) }
     ensures loc { IfOk result (λ e. entry_loc e ≡ entry_loc entry.now) }
 {

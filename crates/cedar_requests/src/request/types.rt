@@ -20,7 +20,7 @@ pub struct RequestType {
 
 impl Request {
     /// The types of the principal and the resource, and the action, each with its location: `None` unless all three are
-    /// known. Refuses only for want of memory.
+    /// known. Refuses only if out of memory.
     pub fn to_request_type(&self) -> Result<Option<RequestType>, AllocError>
         ensures view { IfOk result (λ t. option_map request_type_view t ≡ request_type (request_view self.now)) }
         ensures principal { IfOk result (λ t. IfSome t (λ k. IsTypeOf (request_parts self.now).0 k.principal)) }

@@ -8,15 +8,15 @@ ghost use Rattle.cedar_requests.specs.Requests.{answer_annotations, variable_ann
 
 use super::Request;
 use crate::variables::context_part;
+use cedar_fallible::all_four;
 use cedar_names::Var;
-use cedar_results::all_four;
 use cedar_values::PartialValue;
 use std::alloc::{AllocError, Global};
 
 impl Request {
     /// What the variables `principal`, `action`, `resource` and `context` answer: the entities at the locations of
     /// their entries, and the record of the context at none, or their unknowns. What they hold is moved there, and
-    /// shared by their copies. Refuses only for want of memory.
+    /// shared by their copies. Refuses only if out of memory.
     #[tactic(auto, unfolding(cedar_model::specs::Settings::variable_part))]
     pub fn variable_values(
         self,

@@ -10,7 +10,7 @@ use std::alloc::{AllocError, Global};
 use std::rc::{Rc, RcStr};
 
 impl Value {
-    /// The entity of this name, at no location. Refuses only for want of memory.
+    /// The entity of this name, at no location. Refuses only if out of memory.
     pub fn entity(alloc: Global, uid: EntityUID) -> Result<Value, AllocError>
         ensures what { IfOk result (λ v. v.what ≡ plain_represented (entity_literal (uid_name uid))) }
         ensures inside { IfOk result (λ v. v.inside ≡ []) }
@@ -20,7 +20,7 @@ impl Value {
         Ok(Value::new(ValueKind::Lit(Literal::EntityUID(uid)), None))
     }
 
-    /// This text, at no location. Refuses only for want of memory.
+    /// This text, at no location. Refuses only if out of memory.
     pub fn text(alloc: Global, text: &str) -> Result<Value, AllocError>
         ensures what { IfOk result (λ v. v.what ≡ plain_represented (text_literal text.now)) }
         ensures inside { IfOk result (λ v. v.inside ≡ []) }

@@ -15,7 +15,7 @@ use std::slice::Iter;
 
 impl Set {
     /// The set of these values, in the order of values, each once: where two are equal, the first stays, with its
-    /// representation and its location. Refuses only for want of memory.
+    /// representation and its location. Refuses only if out of memory.
     pub fn new(alloc: Global, mut elements: Vec<Value>) -> Result<Set, AllocError>
         ensures all { IfOk result (λ s. s.all ≡ canonical_set (whats elements.items)) }
         ensures members { IfOk result (λ s. s.members ≡ firsts elements.items) }

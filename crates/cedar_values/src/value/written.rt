@@ -16,7 +16,7 @@ use std::rc::RcStr;
 
 impl Value {
     /// The expression of the value, with its location: a literal, a set or a record of the parts' expressions, or the
-    /// call that an extension value is written as. Refuses only for want of memory.
+    /// call that an extension value is written as. Refuses only if out of memory.
     pub fn to_expr(&self, alloc: Global) -> Result<Expr, AllocError>
         ensures view { IfOk result (λ e. view e ≡ expression_of self.now.what) }
         ensures loc { IfOk result (λ e. expr_loc e ≡ self.now.loc) }

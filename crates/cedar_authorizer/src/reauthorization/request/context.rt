@@ -38,12 +38,12 @@ pub(super) fn mapped_context(
 {
     match value_for(map, Var::Context) {
         Some(value) => context_with(alloc, context, value),
-        None => Ok(copied(context)?),
+        None => Ok(copy_context(context)?),
     }
 }
 
 // A copy of the context, where there is one.
-fn copied(context: Option<&Context>) -> Result<Option<Context>, AllocError>
+fn copy_context(context: Option<&Context>) -> Result<Option<Context>, AllocError>
     ensures { IfOk result (λ c. context_given c ≡ context_given (option_copied context.entry)) }
 {
     match context {

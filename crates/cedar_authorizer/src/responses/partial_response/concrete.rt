@@ -21,8 +21,8 @@ use cedar_decisions::ErrorHandling;
 use cedar_errors::evaluator::err::EvaluationError;
 use cedar_errors::evaluator::err::evaluation_errors::NonValueError;
 use cedar_expressions::Expr;
+use cedar_fallible::{add_last, beside, pair_of};
 use cedar_layers::policies::{Annotations, PolicyID};
-use cedar_results::{add_last, beside, pair_of};
 use indexmap::IndexMap;
 use std::alloc::{AllocError, Global};
 use std::collections::HashSet;
@@ -34,7 +34,7 @@ impl PartialResponse {
     /// residual forbids, then of residual permits, then those recorded. Where a forbid that errs forbids, a residual
     /// forbid denies too, and the reasons are the satisfied and the residual forbids or, with none, the satisfied
     /// permits. A decision that is given stays. Where no residual is left, decision and reasons are those of the
-    /// policies, wherever what is reported of them stands. Refuses only for want of memory.
+    /// policies, wherever what is reported of them stands. Refuses only if out of memory.
     pub fn concretize(self, alloc: Global) -> Result<Response, AllocError>
         ensures response { IfOk result (λ r. response_view r ≡ concrete_response self) }
         ensures places { IfOk result (λ r. response_places r ≡ concrete_places self) }

@@ -7,8 +7,8 @@ ghost use Rattle.cedar_authorizer.specs.responses.Responses.{errors_view, error_
 use super::{EffectEntries, ErrorState, PartialResponse};
 use crate::responses::err::AuthorizationError;
 use cedar_expressions::Expr;
+use cedar_fallible::all_four;
 use cedar_layers::policies::{Annotations, PolicyID};
-use cedar_results::all_four;
 use indexmap::IndexMap;
 use std::alloc::AllocError;
 use std::rc::Rc;
@@ -30,7 +30,7 @@ impl Clone for PartialResponse {
             &self.residual_forbids,
         );
         let errors = copied_errors(&self.errors);
-        let request = shared(&self.request);
+        let request = share_held(&self.request);
         let copied = all_four(permits, forbids, errors, request)?;
         let (permits, forbids, errors, request) = copied;
         Ok(PartialResponse {
@@ -91,7 +91,7 @@ fn copied_residuals(
 }
 
 // The same, shared.
-fn shared<T: Drop>(held: &Rc<T>) -> Result<Rc<T>, AllocError>
+fn share_held<T: Drop>(held: &Rc<T>) -> Result<Rc<T>, AllocError>
     ensures { IfOk result (λ r. r.value ≡ held.now.value) }
 {
     held.clone()

@@ -19,7 +19,7 @@ use std::rc::Rc;
 impl PartialResponse {
     /// The policy under an id, as the iterators of policies make it, where there is one: among the residual, the
     /// satisfied and the other permits, then among the same of forbids. The clause of a residual policy is the
-    /// residual, with its own locations. Refuses only for want of memory.
+    /// residual, with its own locations. Refuses only if out of memory.
     pub fn get(&self, alloc: Global, id: &PolicyID) -> Result<Option<Policy>, AllocError>
         ensures policy { IfOk result (λ o. found_policy o ≡ reports.get (policy_id_text id.now) (rows_view self.now)) }
         ensures located { IfOk result (IsPolicyFound (located_at (policy_id_text id.now) (located_view self.now))) }
@@ -74,19 +74,19 @@ fn get_of(
         ++ false_rows (effect_view effect) unsatisfied.now.entries)))) }
 {
     if let Some(entry) = residual.get(id) {
-        return found(policy_of_residual(alloc, effect, &entry.0, id, &entry.1));
+        return find_made(policy_of_residual(alloc, effect, &entry.0, id, &entry.1));
     }
     if let Some(annotations) = satisfied.get(id) {
-        return found(policy_of_truth(alloc, effect, true, id, annotations));
+        return find_made(policy_of_truth(alloc, effect, true, id, annotations));
     }
     if let Some(entry) = unsatisfied.get(id) {
-        return found(policy_of_truth(alloc, effect, false, id, &entry.1));
+        return find_made(policy_of_truth(alloc, effect, false, id, &entry.1));
     }
     Ok(None)
 }
 
 // What was made, as what is found.
-fn found<T: Drop>(made: Result<T, AllocError>) -> Result<Option<T>, AllocError>
+fn find_made<T: Drop>(made: Result<T, AllocError>) -> Result<Option<T>, AllocError>
     ensures { result ≡ as_found made }
 {
     match made {

@@ -6,9 +6,9 @@ ghost use Rattle.cedar_layers.specs.Policies.{effect_view, policy_id_text, annot
 ghost use Rattle.cedar_authorizer.specs.responses.Readers.{made_view, made};
 
 use cedar_expressions::Expr;
+use cedar_fallible::{in_rc, pair_of};
 use cedar_layers::policies::{Annotations, Effect, Policy, PolicyID};
 use cedar_names::Literal;
-use cedar_results::{in_rc, pair_of};
 use std::alloc::{AllocError, Global};
 use std::rc::Rc;
 

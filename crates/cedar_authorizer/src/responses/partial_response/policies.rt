@@ -20,7 +20,7 @@ use std::rc::Rc;
 
 /// Policies of a partial response, permits first, and true ones before false ones before residual ones. A policy has
 /// the effect, the id and the annotations that it was decided with, constraints that are all `true`, the clause `true`,
-/// `false` or its residual, with the residual's own locations, and that clause's location. Where memory is wanting for
+/// `false` or its residual, with the residual's own locations, and that clause's location. Where memory runs out for
 /// one, an `Err` stands in its place, and the walk goes on.
 #[derive(Drop)]
 pub struct ReportedPolicies<'a> {
@@ -127,7 +127,7 @@ impl PartialResponse {
         ensures policies { policies_left result ≡ all_residuals (rows_view self.now) }
         ensures located { AreAmong (left result) (located_view self.now) }
     {
-        self.chosen(Kinds {
+        self.choose_policies(Kinds {
             true_permits: true,
             false_permits: true,
             residual_permits: true,
@@ -142,7 +142,7 @@ impl PartialResponse {
         ensures policies { policies_left result ≡ reports.definitely_satisfied (rows_view self.now) }
         ensures located { AreAmong (left result) (located_view self.now) }
     {
-        self.chosen(Kinds {
+        self.choose_policies(Kinds {
             true_permits: true,
             true_forbids: true,
             ..NONE
@@ -154,7 +154,7 @@ impl PartialResponse {
         ensures policies { policies_left result ≡ reports.nontrivial_residuals (rows_view self.now) }
         ensures located { AreAmong (left result) (located_view self.now) }
     {
-        self.chosen(Kinds {
+        self.choose_policies(Kinds {
             residual_permits: true,
             residual_forbids: true,
             ..NONE
@@ -166,7 +166,7 @@ impl PartialResponse {
         ensures policies { policies_left result ≡ reports.nontrivial_forbids (rows_view self.now) }
         ensures located { AreAmong (left result) (located_view self.now) }
     {
-        self.chosen(Kinds {
+        self.choose_policies(Kinds {
             residual_forbids: true,
             ..NONE
         })
@@ -181,12 +181,12 @@ impl PartialResponse {
         ensures reasons { AreReasonsOf (rows_view self.now) (rows_left result) }
     {
         if self.may_forbid() {
-            self.chosen(Kinds {
+            self.choose_policies(Kinds {
                 true_forbids: true,
                 ..NONE
             })
         } else {
-            self.chosen(Kinds {
+            self.choose_policies(Kinds {
                 true_permits: true,
                 ..NONE
             })
@@ -202,13 +202,13 @@ impl PartialResponse {
         ensures reasons { HoldReasonsOf (rows_view self.now) (rows_left result) }
     {
         if self.has_true_forbid() {
-            self.chosen(Kinds {
+            self.choose_policies(Kinds {
                 true_forbids: true,
                 residual_forbids: true,
                 ..NONE
             })
         } else {
-            self.chosen(Kinds {
+            self.choose_policies(Kinds {
                 true_permits: true,
                 residual_permits: true,
                 residual_forbids: true,
@@ -217,7 +217,7 @@ impl PartialResponse {
         }
     }
 
-    fn chosen(&self, kinds: Kinds) -> ReportedPolicies<'_>
+    fn choose_policies(&self, kinds: Kinds) -> ReportedPolicies<'_>
         ensures rows { rows_left result ≡ of_kinds kinds (rows_view self.now) }
         ensures located { AreAmong (left result) (located_view self.now) }
     {

@@ -6,13 +6,13 @@ ghost use Rattle.cedar_names.specs.Leaves.{variable_view, binary_view};
 ghost use Rattle.cedar_builder.specs.Building.{term_in, is_of_type_in, Makes};
 
 use cedar_expressions::Expr;
+use cedar_fallible::pair_of;
 use cedar_names::{BinaryOp, EntityType, Name, Var};
-use cedar_results::pair_of;
 use std::alloc::{AllocError, Global};
 use std::rc::RcStr;
 
 /// The operator on the variable and another part.
-pub(crate) fn compared(
+pub(crate) fn compare_variable(
     alloc: Global,
     var: Var,
     op: BinaryOp,
@@ -26,7 +26,7 @@ pub(crate) fn compared(
 }
 
 /// That the variable is of this type.
-pub(crate) fn typed(alloc: Global, var: Var, ty: &str) -> Result<Expr, AllocError>
+pub(crate) fn test_variable_type(alloc: Global, var: Var, ty: &str) -> Result<Expr, AllocError>
     ensures { Makes result (Some (is_of_type (variable (variable_view var)) ty.now)) }
 {
     let name = RcStr::from_str(alloc, ty)?;
@@ -44,8 +44,8 @@ pub(crate) fn typed_in(
 ) -> Result<Expr, AllocError>
     ensures { Makes result (option_map (is_of_type_in ty.now (variable (variable_view var))) (term_in other)) }
 {
-    let is_in = compared(alloc, var, BinaryOp::In, other);
-    let (is, is_in) = pair_of(typed(alloc, var, ty), is_in)?;
+    let is_in = compare_variable(alloc, var, BinaryOp::In, other);
+    let (is, is_in) = pair_of(test_variable_type(alloc, var, ty), is_in)?;
     let made = Expr::and(alloc, is, is_in)?;
     Ok(made)
 }

@@ -6,5 +6,5 @@ use Rattle.cedar_decimal.proofs.parsing.parse.Goals as goal
 
 pub returns-in-None : goal.returns-in-None
 returns-in-None c =
-    c.positive.ensures ∙ ap positive c.unsigned-in-None.ensures
+    c.positive.ensures ∙ ap positive c.parse_unsigned-in-None.ensures
     ∙ sym (unsigned c.args.text.now (strip_prefix_char 45 c.args.text.now None c.in-None.ensures.cases (lit< tt)))

@@ -1,6 +1,6 @@
 use Rattle.cedar_model.specs.Agreement.{IsFaithfulPart}
 use Rattle.cedar_extensions.specs.Extensions.{extensions_view, calls_of}
-use Rattle.cedar_restricted_evaluator.specs.Evaluations.{bare_setting}
+use Rattle.cedar_restricted.specs.Evaluations.{bare_setting}
 use Rattle.cedar_faithful.proofs.Evaluated.{bare, answer_such}
 use Rattle.cedar_faithful.proofs.Faithful.{each_answer_faithful, value_within_faithful}
 use Rattle.cedar_faithful.proofs.faithful_read.evaluated_values_are_faithful.Goals as goal

@@ -10,7 +10,7 @@ returns-in-Done-clause-right g c e s =
     let fs = c.args.stack.now.frames.items in
     let limit = c.args.stack.now.limit in
     let left = c.pop.new.self.frames.items in
-    c.answered.ensures.right limit e left
+    c.continue_with_answer.ensures.right limit e left
     (resume_done R W limit e fs left c.in-Some.frame c.args.answer c.in-Done.answer c.levels_left-levels.result (c.levels_left-levels.ensures ∙ c.pop.ensures.limit) c.in-Some.ensures.top s
     c.in-Done.ensures.right)
 
@@ -33,7 +33,7 @@ returns-in-Done-clause-less g c =
     let q = g.M.Machine.most in
     let left = c.pop.new.self.frames.items in
     let limit = c.args.stack.now.limit in
-    rw c.in-Some.ensures.top (c.answered.ensures.less _ limit left
+    rw c.in-Some.ensures.top (c.continue_with_answer.ensures.less _ limit left
     (pop_falls g.row.M-Part.Denot g.row.M-Answer.Denot l q limit left c.in-Some.frame c.args.answer c.in-Done.answer
     (g.met.M.Machine.some_left c.in-Some.frame)))
 

@@ -25,7 +25,7 @@ returns-in-Done-clause-right g c e s =
     let limit = c.args.stack.now.limit in
     let levels = c.levels_left-levels.result in
     let some : 0 < levels = grind (arith, common_steps) in
-    c.answered.ensures.right limit e fs
+    c.continue_with_answer.ensures.right limit e fs
     (start_done R W limit e fs c.args.part c.in-Done.answer levels c.levels_left-levels.ensures some s
     c.in-Done.ensures.right)
 
@@ -47,7 +47,7 @@ returns-in-Done-clause-less g c =
     let q = g.M.Machine.most in
     let fs = c.args.stack.now.frames.items in
     let limit = c.args.stack.now.limit in
-    c.answered.ensures.less _ limit fs
+    c.continue_with_answer.ensures.less _ limit fs
     (answer_falls g.row.M-Part.Denot g.row.M-Answer.Denot l q limit fs c.args.part c.in-Done.answer
     g.met.M.Machine.some_most)
 

@@ -3,8 +3,8 @@ use Rattle.std.proofs.lemmas.List.{append-nil, length_push}
 use Rattle.cedar_model.specs.Failures.{answers_value}
 use Rattle.cedar_model.specs.Rules.{Runs}
 use Rattle.cedar_expressions.specs.View.{view, terms_view}
-use Rattle.cedar_restricted_evaluator.specs.Keys.{texts_of}
-use Rattle.cedar_restricted_evaluator.proofs.Collected.{names_under, name_added, keys_in_order}
+use Rattle.cedar_restricted.specs.Keys.{texts_of}
+use Rattle.cedar_restricted.proofs.Collected.{names_under, name_added, keys_in_order}
 use Rattle.cedar_interpreter.specs.Settings.{evaluation_setting, calls_in}
 use Rattle.cedar_interpreter.specs.DirectEvaluators.{parts_under}
 use Rattle.cedar_interpreter.proofs.DirectEvaluatorLaws.{more_so_far, all_so_far}

@@ -1,7 +1,7 @@
 use Rattle.std.proofs.Common.{◌≡◌, ◌++◌, ◌+◌, length}
 use Rattle.cedar_expressions.specs.View.{terms_view}
-use Rattle.cedar_restricted_evaluator.specs.Keys.{texts_of}
-use Rattle.cedar_restricted_evaluator.proofs.Collected.{names_under}
+use Rattle.cedar_restricted.specs.Keys.{texts_of}
+use Rattle.cedar_restricted.proofs.Collected.{names_under}
 use Rattle.cedar_interpreter.proofs.DirectEvaluatorLaws.{AreSoFar}
 use Rattle.cedar_interpreter.specs.DirectEvaluators.{parts_under}
 use Rattle.cedar_interpreter.proofs.direct_evaluators.EvaluatorAbove.pairs.Given as goal

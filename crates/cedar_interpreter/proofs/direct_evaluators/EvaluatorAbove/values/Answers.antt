@@ -4,7 +4,7 @@ use Rattle.cedar_model.specs.Terms.{one_term}
 use Rattle.cedar_model.specs.Failures.{answers_value}
 use Rattle.cedar_model.specs.Rules.{Runs}
 use Rattle.cedar_expressions.specs.View.{view, terms_view}
-use Rattle.cedar_restricted_evaluator.specs.Steps.{next_is, none_left}
+use Rattle.cedar_restricted.specs.Steps.{next_is, none_left}
 use Rattle.cedar_interpreter.specs.Settings.{evaluation_setting, calls_in}
 use Rattle.cedar_interpreter.proofs.DirectEvaluatorLaws.{none_so_far, more_so_far, all_so_far}
 use Rattle.cedar_interpreter.proofs.direct_evaluators.EvaluatorAbove.values.Goals as goal

@@ -7,12 +7,12 @@ use Rattle.cedar_interpreter.proofs.machine.EvaluationMachine.resume.Goals as go
 pub returns-clause-right : goal.returns-clause-right
 returns-clause-right g c k t d is waits right =
     let s = c.args.self.now in
-    let n = c.resumed.result in
+    let n = c.resume_task.result in
     let low : c.args.levels ≤ suc k = omega (arith, is) in
     both_resume (λ r. Speaks r s) (λ r. evaluation_setting r s) (calls_in s) k t n
     (resume_right (λ r. Speaks r s) (λ r. evaluation_setting r s) (calls_in s) k c.args.frame t d c.args.answer n waits.0 right.0
-    (λ r speaks. c.resumed.ensures.leads.0 r k speaks low) c.resumed.ensures.leads.1)
-    (continues_standing (λ r. Speaks r s) (λ r. evaluation_setting r s) (calls_in s) k c.args.frame t d c.args.answer n waits right c.resumed.ensures.elements)
+    (λ r speaks. c.resume_task.ensures.leads.0 r k speaks low) c.resume_task.ensures.leads.1)
+    (continues_standing (λ r. Speaks r s) (λ r. evaluation_setting r s) (calls_in s) k c.args.frame t d c.args.answer n waits right c.resume_task.ensures.elements)
 
 pub returns-clause-fewer : goal.returns-clause-fewer
-returns-clause-fewer g c = left_fewer c.args.frame c.resumed.result c.resumed.ensures.leads.2
+returns-clause-fewer g c = left_fewer c.args.frame c.resume_task.result c.resume_task.ensures.leads.2

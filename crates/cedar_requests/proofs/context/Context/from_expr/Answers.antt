@@ -1,7 +1,7 @@
 use Rattle.std.proofs.Common.{◌∙◌, ap, sym}
 use Rattle.cedar_expressions.specs.View.{view}
 use Rattle.cedar_extensions.specs.Extensions.{extensions_view, calls_of}
-use Rattle.cedar_restricted_evaluator.specs.Evaluations.{bare_setting}
+use Rattle.cedar_restricted.specs.Evaluations.{bare_setting}
 use Rattle.cedar_requests.specs.Creations.{is_record}
 use Rattle.cedar_requests.proofs.Creations.{bare-is_bare, expr_answer, no_record_answer, no_record_low, record_place}
 use Rattle.cedar_requests.proofs.context.Context.from_expr.Goals as goal

@@ -1,7 +1,7 @@
 use Rattle.std.proofs.Common.{ap, ◌∙◌, subst}
 use Rattle.cedar_expressions.specs.View.{view}
 use Rattle.cedar_extensions.specs.Extensions.{calls_of}
-use Rattle.cedar_restricted_expressions.specs.Views.{pairs_in}
+use Rattle.cedar_restricted.specs.Views.{pairs_in}
 use Rattle.cedar_requests.specs.Creations.{is_record, IsOfRecord}
 use Rattle.cedar_requests.proofs.Creations.{pairs_answer}
 use Rattle.cedar_requests.proofs.Records.{is_record-record_of}

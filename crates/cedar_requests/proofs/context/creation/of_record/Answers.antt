@@ -2,7 +2,7 @@ use Rattle.std.proofs.Common.{◌≢◌}
 use Rattle.cedar_model.specs.Failures.{PartialValue, answers, fails, out_of_memory}
 use Rattle.cedar_model.proofs.Injections.{answers_is_not_fails}
 use Rattle.cedar_extensions.specs.Extensions.{calls_of}
-use Rattle.cedar_restricted_expressions.specs.Views.{borrowed_term}
+use Rattle.cedar_restricted.specs.Views.{borrowed_term}
 use Rattle.cedar_requests.proofs.Creations.{refused_answer}
 use Rattle.cedar_requests.proofs.context.creation.of_record.Goals as goal
 

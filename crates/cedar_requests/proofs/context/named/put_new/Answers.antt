@@ -13,7 +13,7 @@ pub returns-then-contains_key-clause-refused : goal.returns-then-contains_key-cl
 returns-then-contains_key-clause-refused c =
     let es = c.args.values.now.entries in
     let there : is_some (lookup (is_at (key_order c.args.key)) es) ≡ true = sym c.contains_key.ensures ∙ c.if-contains_key.true in
-    subst (λ o. IsRefusalOfName o c.repeated.result) (repeated-here es c.args.key there) c.repeated.ensures
+    subst (λ o. IsRefusalOfName o c.refuse_duplicate_name.result) (repeated-here es c.args.key there) c.refuse_duplicate_name.ensures
 
 pub returns-clause-values : goal.returns-clause-values
 returns-clause-values c =

@@ -5,7 +5,7 @@ use Rattle.cedar_values.specs.Sound.{whats_at}
 use Rattle.cedar_requests.specs.Named.{names_given, entry_names, put_values, values_in_order}
 use Rattle.cedar_requests.proofs.context.named.values_of.Given as goal
 
--- what is left, put after what was put, is all, and no name came again yet
+-- what is left, put after what was put, is all, and no name was a duplicate yet
 abbrev pub invariant-pairs : goal.invariant-pairs
 invariant-pairs l = record {
   values : put_values (whats_at l.values.entries) (into_iter_items l.name-iterator) ≡ values_in_order l.fn.pairs.items;

@@ -11,7 +11,7 @@ returns-in-Some c =
     let e = effect_view c.args.effect in
     let k = c.args.id.now in
     let made = c.policy_of_residual.ensures in
-    if_found c.policy_of_residual.result _ _ _ c.found.ensures
+    if_found c.policy_of_residual.result _ _ _ c.find_made.ensures
     (made_whole c.policy_of_residual.result _ _ _ made.policy made.clause (residual_carried e (k, c.in-Some.entry.now))) (λ p h.
     found_before _ (residual_rows e c.args.residual.now.entries) _ p (residual_there e k c.args.residual.now.entries _ p c.in-Some.ensures.value h))
 
@@ -20,7 +20,7 @@ returns-in-Some-get c =
     let e = effect_view c.args.effect in
     let k = c.args.id.now in
     let made = c.policy_of_truth.ensures in
-    if_found c.policy_of_truth.result _ _ _ c.found-in-Some-get.ensures
+    if_found c.policy_of_truth.result _ _ _ c.find_made-in-Some-get.ensures
     (made_whole c.policy_of_truth.result _ _ _ made.policy made.clause (true_carried e (k, c.in-Some-get.annotations.now))) (λ p h.
     found_after _ (residual_rows e c.args.residual.now.entries) _ _ (residual_absent e k c.args.residual.now.entries c.in_default.ensures.value)
     (found_before _ (true_rows e c.args.satisfied.now.entries) _ p (true_there e k c.args.satisfied.now.entries _ p c.in-Some-get.ensures.value h)))
@@ -30,7 +30,7 @@ returns-in-Some-get-2 c =
     let e = effect_view c.args.effect in
     let k = c.args.id.now in
     let made = c.policy_of_truth-in-Some-get-2.ensures in
-    if_found c.policy_of_truth-in-Some-get-2.result _ _ _ c.found-in-Some-get-2.ensures
+    if_found c.policy_of_truth-in-Some-get-2.result _ _ _ c.find_made-in-Some-get-2.ensures
     (made_whole c.policy_of_truth-in-Some-get-2.result _ _ _ made.policy made.clause (false_carried e (k, c.in-Some-get-2.entry.now))) (λ p h.
     found_after _ (residual_rows e c.args.residual.now.entries) _ _ (residual_absent e k c.args.residual.now.entries c.in_default.ensures.value)
     (found_after _ (true_rows e c.args.satisfied.now.entries) _ _ (true_absent e k c.args.satisfied.now.entries c.in_default-get.ensures.value)

@@ -4,4 +4,4 @@ use Rattle.cedar_layers.proofs.policies.policy_set.PolicySet.within_reach.Goals 
 
 pub returns-clause-reach : goal.returns-clause-reach
 returns-clause-reach c =
-    IfOk-weaker c.picked.result _ _ (λ o h. if_some_then o _ _ (λ v k. k c.args.self.now.index _ c.args.self.now.indexed c.in_ok-positions.ensures) h) c.picked.ensures
+    IfOk-weaker c.pick_policies.result _ _ (λ o h. if_some_then o _ _ (λ v k. k c.args.self.now.index _ c.args.self.now.indexed c.in_ok-positions.ensures) h) c.pick_policies.ensures

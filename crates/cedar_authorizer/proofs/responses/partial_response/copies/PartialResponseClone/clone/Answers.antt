@@ -23,6 +23,6 @@ returns c =
             (subst (λ x. IfOk x (λ m. (e : Effect) → residual_rows e m.residual.entries ≡ residual_rows e r.residual_forbids.entries)) made.second f.residuals);
         errors = subst (λ x. IfOk x (λ es. errors_view es.items ≡ errors_view r.errors.items)) made.third c.copied_errors-errors.ensures.errors;
         places = subst (λ x. IfOk x (λ es. error_places es.items ≡ error_places r.errors.items)) made.third c.copied_errors-errors.ensures.places;
-        request = subst (λ x. IfOk x (λ q. q.value ≡ r.request.value)) made.fourth c.shared-request.ensures;
+        request = subst (λ x. IfOk x (λ q. q.value ≡ r.request.value)) made.fourth c.share_held-request.ensures;
       };
     }

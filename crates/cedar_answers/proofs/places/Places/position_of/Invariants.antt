@@ -1,6 +1,0 @@
-use Rattle.std.proofs.Common.{◌≡◌}
-use Rattle.cedar_tokens.specs.Positions.{position_of}
-use Rattle.cedar_answers.proofs.places.Places.position_of.Given as goal
-
-abbrev pub invariant-loop-i : goal.invariant-loop-i
-invariant-loop-i l = l.position ≡ position_of l.self.source.text.now l.i

@@ -1,6 +1,0 @@
-use Rattle.std.proofs.Common.{List, ℕ}
-use Rattle.cedar_tokens.proofs.Located.{located_none}
-use Rattle.cedar_answers.proofs.places.first_position.Goals as goal
-
-pub returns-clause-is : goal.returns-clause-is
-returns-clause-is c = λ (text : List ℕ). located_none text

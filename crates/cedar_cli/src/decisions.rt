@@ -1,0 +1,267 @@
+//! What policies decide.
+ghost use Rattle.std.specs.Prelude.{◌≡◌, ◌++◌, IfOk, codes, string_bytes, option_map};
+ghost use Rattle.cedar_decisions.specs.Decisions.{decision_view};
+ghost use Rattle.json.specs.Print.{print};
+ghost use Rattle.json.specs.Tree.{json_tokens};
+ghost use Rattle.cedar_json_writer.specs.Trees.{json_view};
+ghost use Rattle.cedar_cli.specs.Printing.{status, word, partial_status, partial_word};
+
+use crate::asked::{Asked, Source, Way};
+use crate::documents::response_document;
+use crate::limits::text_limit;
+use crate::places::Places;
+use crate::policies::{push_name, read_over};
+use crate::reading::whole_request;
+use crate::refusal::Refusal;
+use crate::stores::given_store;
+use crate::visible::push_visible;
+use crate::warnings::{Deciding, push_errors, push_templates};
+use cedar_authorizer::authorizer::{Authorizer, Decision, Diagnostics, Response};
+use cedar_evaluator::request::Request;
+use cedar_extensions::Extensions;
+use cedar_json_writer::JsonValue;
+use cedar_layers::policies::{Entities, Policy, PolicySet};
+use cedar_text_parser::ParsedPolicies;
+use std::alloc::{AllocError, Global};
+
+/// What is printed, what is told on standard error beside it, and the exit status.
+#[derive(Debug, Drop)]
+pub struct Printed {
+    pub output: String,
+    pub warnings: String,
+    pub status: u8,
+}
+
+/// The exit status of a decision: 0 where the request is allowed, 2 where it is denied.
+pub fn status_of(decision: Decision) -> u8
+    ensures { result ≡ status (decision_view decision) }
+{
+    match decision {
+        Decision::Allow => 0,
+        Decision::Deny => 2,
+    }
+}
+
+// The decision in capitals.
+fn word_of(decision: Decision) -> &'static str
+    ensures { result.now ≡ word (decision_view decision) }
+{
+    match decision {
+        Decision::Allow => "ALLOW",
+        Decision::Deny => "DENY",
+    }
+}
+
+// The exit status: 0 where the decision is not known.
+fn partial_status_of(decision: Option<Decision>) -> u8
+    ensures { result ≡ partial_status (option_map decision_view decision) }
+{
+    match decision {
+        Some(decision) => status_of(decision),
+        None => 0,
+    }
+}
+
+/// The decision in capitals, or `UNKNOWN`.
+pub(crate) fn partial_word_of(decision: Option<Decision>) -> &'static str
+    ensures { result.now ≡ partial_word (option_map decision_view decision) }
+{
+    match decision {
+        Some(decision) => word_of(decision),
+        None => "UNKNOWN",
+    }
+}
+
+/// The decision in capitals, or `UNKNOWN`, between the lines above it and those below it, with these warnings, and the
+/// exit status: 0 where the request is allowed or the decision is not known, 2 where it is denied.
+pub(crate) fn print_decision(
+    alloc: Global,
+    above: &str,
+    decision: Option<Decision>,
+    lines: &str,
+    warnings: String,
+) -> Result<Printed, AllocError>
+    ensures status { IfOk result (λ p. p.status ≡ partial_status (option_map decision_view decision)) }
+    ensures warnings { IfOk result (λ p. p.warnings ≡ warnings) }
+    ensures output { IfOk result (λ p. string_bytes p.output
+        ≡ above.now ++ (partial_word (option_map decision_view decision) ++ (codes "\n" ++ lines.now))) }
+{
+    let word = partial_word_of(decision);
+    let status = partial_status_of(decision);
+    let output = format!(in alloc; "{above}{word}\n{lines}")?;
+    Ok(Printed {
+        output,
+        warnings,
+        status,
+    })
+}
+
+/// The JSON value as text, on a line of its own, with these warnings, and the exit status: 0 where the request is
+/// allowed or the decision is not known, 2 where it is denied.
+pub(crate) fn print_document(
+    alloc: Global,
+    decision: Option<Decision>,
+    document: &JsonValue,
+    warnings: String,
+) -> Result<Printed, AllocError>
+    ensures warnings { IfOk result (λ p. p.warnings ≡ warnings) }
+    ensures status { IfOk result (λ p. p.status ≡ partial_status (option_map decision_view decision)) }
+    ensures output { IfOk result (λ p. string_bytes p.output
+        ≡ print (json_tokens (json_view document.now)) ++ codes "\n") }
+{
+    let status = partial_status_of(decision);
+    let output = line_of(alloc, document)?;
+    Ok(Printed {
+        output,
+        warnings,
+        status,
+    })
+}
+
+/// The JSON value as text, on a line of its own.
+pub(crate) fn line_of(alloc: Global, document: &JsonValue) -> Result<String, AllocError>
+    ensures { IfOk result (λ s. string_bytes s ≡ print (json_tokens (json_view document.now)) ++ codes "\n") }
+{
+    let mut line = document.to_text(alloc)?;
+    line.push_str("\n")?;
+    Ok(line)
+}
+
+/// What the policies decide for the request: `ALLOW` or `DENY` and, where that is asked for, the policies that
+/// determined it; or all this as one JSON value. The errors of those that erred, and the templates, which decide
+/// nothing, are told as warnings; as JSON the errors stand in the value.
+pub fn authorize(
+    alloc: Global,
+    policies: Source<'_>,
+    asked: &Asked<'_, '_>,
+    way: Way,
+) -> Result<Printed, Refusal> {
+    let extensions = Extensions::all_available();
+    let parsed = read_over(alloc, policies, &extensions)?;
+    let printed = authorized_of(alloc, policies, &parsed, asked, way, &extensions);
+    drop(parsed);
+    printed
+}
+
+fn authorized_of(
+    alloc: Global,
+    source: Source<'_>,
+    parsed: &ParsedPolicies,
+    asked: &Asked<'_, '_>,
+    way: Way,
+    extensions: &Extensions<'_>,
+) -> Result<Printed, Refusal> {
+    let places = Places::of(alloc, source)?;
+    let mut warnings = String::new(alloc);
+    push_templates(alloc, &places, &parsed.templates, &mut warnings)?;
+    let deciding = Deciding {
+        places: &places,
+        policies: &parsed.policies,
+        way,
+    };
+    authorized_by(alloc, deciding, asked, extensions, warnings)
+}
+
+fn authorized_by(
+    alloc: Global,
+    deciding: Deciding<'_>,
+    asked: &Asked<'_, '_>,
+    extensions: &Extensions<'_>,
+    mut warnings: String,
+) -> Result<Printed, Refusal> {
+    let store = given_store(alloc, asked, extensions, &mut warnings)?;
+    let printed = authorized_over(
+        alloc,
+        deciding,
+        &store.entities,
+        asked,
+        extensions,
+        warnings,
+    );
+    drop(store);
+    printed
+}
+
+fn authorized_over(
+    alloc: Global,
+    deciding: Deciding<'_>,
+    entities: &Entities,
+    asked: &Asked<'_, '_>,
+    extensions: &Extensions<'_>,
+    warnings: String,
+) -> Result<Printed, Refusal> {
+    let request = whole_request(alloc, asked, extensions)?;
+    let response = decide_request(alloc, request, deciding, entities, extensions)?;
+    let printed = print_response(alloc, deciding, &response, warnings);
+    drop(response);
+    Ok(printed?)
+}
+
+// Nothing is unknown in what is decided here, so that no condition that was read meets the limit of the text.
+fn decide_request(
+    alloc: Global,
+    request: Request,
+    deciding: Deciding<'_>,
+    entities: &Entities,
+    extensions: &Extensions<'_>,
+) -> Result<Response, AllocError> {
+    let limit = deciding.way.limit.unwrap_or(text_limit());
+    let authorizer = Authorizer::new(extensions, limit).with_error_handling(
+        deciding.way.error_handling,
+    );
+    authorizer.is_authorized(alloc, request, deciding.policies, entities)
+}
+
+fn print_response(
+    alloc: Global,
+    deciding: Deciding<'_>,
+    response: &Response,
+    mut warnings: String,
+) -> Result<Printed, AllocError> {
+    if deciding.way.is_json {
+        let document = response_document(alloc, deciding, response)?;
+        let printed = print_document(alloc, Some(response.decision), &document, warnings);
+        drop(document);
+        return printed;
+    }
+    push_errors(alloc, deciding, &response.diagnostics.errors, &mut warnings)?;
+    let mut lines = String::new(alloc);
+    if deciding.way.is_verbose {
+        push_reasons(alloc, deciding.policies, &response.diagnostics, &mut lines)?;
+    }
+    let printed = print_decision(alloc, "", Some(response.decision), lines.as_str(), warnings);
+    drop(lines);
+    printed
+}
+
+// The policies that determined the decision, in the order of the text.
+fn push_reasons(
+    alloc: Global,
+    policies: &PolicySet,
+    diagnostics: &Diagnostics,
+    output: &mut String,
+) -> Result<(), AllocError> {
+    if diagnostics.reason.is_empty() {
+        return output.push_str("\nnote: no policies applied to this request\n");
+    }
+    output.push_str("\nnote: this decision was due to the following policies:\n")?;
+    for policy in policies.policies() {
+        if diagnostics.reason.contains(policy.id()) {
+            output.push_str("  ")?;
+            push_visible_name(alloc, policy, output)?;
+            output.push_str("\n")?;
+        }
+    }
+    Ok(())
+}
+
+/// How the policy is called, as it is told.
+pub(crate) fn push_visible_name(
+    alloc: Global,
+    policy: &Policy,
+    output: &mut String,
+) -> Result<(), AllocError> {
+    let mut name = String::new(alloc);
+    push_name(alloc, policy, &mut name)?;
+    push_visible(alloc, name.as_str(), output)
+}

@@ -1,0 +1,181 @@
+//! What an expression evaluates to.
+use crate::asked::{Asked, Source};
+use crate::decisions::Printed;
+use crate::limits::{LEVELS, expression_limit, push_limit};
+use crate::places::{Places, describe_at};
+use crate::readable::readable_line;
+use crate::reading::{request_with_context, whole_request};
+use crate::refusal::{Refusal, refuse_unparsed, refuse_with_lines};
+use crate::stores::{Store, given_store};
+use crate::visible::visible;
+use cedar_errors::evaluator::err::EvaluationError;
+use cedar_evaluator::evaluator::Evaluator;
+use cedar_evaluator::request::Request;
+use cedar_extensions::Extensions;
+use cedar_functions::Functions;
+use cedar_layers::expressions::{Expr, SlotEnv, Value};
+use cedar_layers::policies::Entities;
+use cedar_text_parser::parse_expr;
+use cedar_text_printer::to_cedar;
+use std::alloc::{AllocError, Global};
+
+/// The value of the expression, in Cedar's syntax or in Cedar's JSON. What is not said of the request is unknown, but
+/// for a context, which is empty: an expression that needs what is unknown is refused.
+pub fn evaluate_expression(
+    alloc: Global,
+    source: Source<'_>,
+    asked: &Asked<'_, '_>,
+    limit: Option<usize>,
+    is_json: bool,
+) -> Result<Printed, Refusal> {
+    let extensions = Extensions::all_available();
+    let expr = expression(alloc, source, &extensions)?;
+    let mut warnings = String::new(alloc);
+    let value = evaluated_with(
+        alloc,
+        source,
+        &expr,
+        asked,
+        limit,
+        &extensions,
+        &mut warnings,
+    );
+    drop(expr);
+    let value = value?;
+    let printed = print_value(alloc, source, &value, is_json, warnings);
+    drop(value);
+    printed
+}
+
+// The expression, which calls functions of these extensions alone.
+fn expression(
+    alloc: Global,
+    source: Source<'_>,
+    extensions: &Extensions<'_>,
+) -> Result<Expr, Refusal> {
+    let functions = Functions::of(alloc, extensions)?;
+    let expr = match parse_expr(alloc, source.text, LEVELS, &functions) {
+        Ok(expr) => Ok(expr),
+        Err(error) => Err(refuse_unparsed(alloc, source, &error)),
+    };
+    drop(functions);
+    expr
+}
+
+fn evaluated_with(
+    alloc: Global,
+    source: Source<'_>,
+    expr: &Expr,
+    asked: &Asked<'_, '_>,
+    limit: Option<usize>,
+    extensions: &Extensions<'_>,
+    warnings: &mut String,
+) -> Result<Value, Refusal> {
+    let store = given_store(alloc, asked, extensions, warnings)?;
+    let value = evaluated_over(alloc, source, expr, &store, asked, limit, extensions);
+    drop(store);
+    value
+}
+
+fn evaluated_over(
+    alloc: Global,
+    source: Source<'_>,
+    expr: &Expr,
+    store: &Store,
+    asked: &Asked<'_, '_>,
+    limit: Option<usize>,
+    extensions: &Extensions<'_>,
+) -> Result<Value, Refusal> {
+    let request = request_asked(alloc, asked, extensions)?;
+    let limit = match limit {
+        Some(limit) => limit,
+        None => expression_limit(expr, &request, store.height),
+    };
+    match value_of(alloc, expr, request, &store.entities, limit, extensions) {
+        Ok(value) => Ok(value),
+        Err(error) => Err(refuse_evaluation(alloc, source, limit, &error)),
+    }
+}
+
+fn request_asked(
+    alloc: Global,
+    asked: &Asked<'_, '_>,
+    extensions: &Extensions<'_>,
+) -> Result<Request, Refusal> {
+    match asked.request {
+        Some(_) => whole_request(alloc, asked, extensions),
+        None => request_with_context(alloc, asked, extensions),
+    }
+}
+
+fn value_of(
+    alloc: Global,
+    expr: &Expr,
+    request: Request,
+    entities: &Entities,
+    limit: usize,
+    extensions: &Extensions<'_>,
+) -> Result<Value, EvaluationError> {
+    let evaluator = Evaluator::new(alloc, request, entities, extensions, limit)?;
+    let slots = SlotEnv::new(alloc);
+    let value = evaluator.interpret(alloc, expr, &slots);
+    drop(slots);
+    drop(evaluator);
+    value
+}
+
+fn print_value(
+    alloc: Global,
+    source: Source<'_>,
+    value: &Value,
+    is_json: bool,
+    warnings: String,
+) -> Result<Printed, Refusal> {
+    let output = if is_json {
+        readable_line(alloc, source, value)?
+    } else {
+        value_line(alloc, value)?
+    };
+    Ok(Printed {
+        output,
+        warnings,
+        status: 0,
+    })
+}
+
+// The value in Cedar's text, as `evaluate` reads it back.
+fn value_line(alloc: Global, value: &Value) -> Result<String, AllocError> {
+    let expr: Expr = value.to_expr(alloc)?;
+    let text = to_cedar(alloc, &expr);
+    drop(expr);
+    let mut line = visible(alloc, text?.as_str())?;
+    line.push_str("\n")?;
+    Ok(line)
+}
+
+#[cold]
+fn refuse_evaluation(
+    alloc: Global,
+    source: Source<'_>,
+    limit: usize,
+    error: &EvaluationError,
+) -> Refusal {
+    match error {
+        EvaluationError::Memory(_) => Refusal::Memory,
+        _ => refuse_with_lines(failed_lines(alloc, source, limit, error)),
+    }
+}
+
+fn failed_lines(
+    alloc: Global,
+    source: Source<'_>,
+    limit: usize,
+    error: &EvaluationError,
+) -> Result<String, AllocError> {
+    let places = Places::of(alloc, source)?;
+    let mut why = format!(in alloc; "{error}")?;
+    if error.is_recursion_limit() {
+        push_limit(alloc, Some(limit), &mut why)?;
+    }
+    describe_at(alloc, &places, error.source_loc().copied(), why.as_str())
+}

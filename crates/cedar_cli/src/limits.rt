@@ -1,0 +1,78 @@
+//! How many levels are evaluated, so that no policy that was read meets the limit.
+use crate::refusal::{Refusal, refuse_with_line};
+use cedar_authorizer::authorizer::PartialResponse;
+use cedar_evaluator::request::Request;
+use cedar_heights::{
+    expr_height, levels_for, levels_for_step, mapped_height, policies_height, request_height,
+    residuals_height,
+};
+use cedar_layers::expressions::{Expr, Value};
+use cedar_layers::policies::PolicySet;
+use std::alloc::{AllocError, Global};
+use std::collections::HashMap;
+use std::rc::RcStr;
+
+/// How many levels what is read may have: each operator, call, set or record is one more than its highest part.
+pub(crate) const LEVELS: usize = 4000;
+
+/// How many steps are taken: each adds a level to what is left of a policy.
+pub(crate) const STEPS: usize = 1000;
+
+/// How many levels the condition of a policy that was read has at most: one more than its clauses.
+pub(crate) fn text_limit() -> usize {
+    LEVELS + 1
+}
+
+/// How many levels the expression can need for this request, over a store of which the highest attribute or tag has so
+/// many.
+pub(crate) fn expression_limit(expr: &Expr, request: &Request, stored: usize) -> usize {
+    levels_for(expr_height(expr), given_height(request, stored))
+}
+
+/// How many levels the policies can need for this request, over such a store.
+pub(crate) fn first_limit(policies: &PolicySet, request: &Request, stored: usize) -> usize {
+    levels_for(policies_height(policies), given_height(request, stored))
+}
+
+/// How many levels a step from this response can need, by these values and over such a store.
+pub(crate) fn step_limit(
+    response: &PartialResponse,
+    values: &HashMap<RcStr, Value>,
+    stored: usize,
+) -> usize {
+    let permits = residuals_height(&response.residual_permits);
+    let forbids = residuals_height(&response.residual_forbids);
+    let given = given_height(&response.request, stored);
+    levels_for_step(permits.max(forbids), given, mapped_height(values))
+}
+
+// How high what functions answer is at most: a computed datetime is `datetime("1970-01-01").offset(duration("5ms"))`.
+const ANSWERED: usize = 3;
+
+// The height of what is given: of the context, of what is stored, and of what functions answer.
+fn given_height(request: &Request, stored: usize) -> usize {
+    request_height(request).max(stored).max(ANSWERED)
+}
+
+/// Puts the option that sets a limit behind the text, and the limit that was set by it.
+pub(crate) fn push_limit(
+    alloc: Global,
+    limit: Option<usize>,
+    output: &mut String,
+) -> Result<(), AllocError> {
+    match limit {
+        Some(limit) => output.push_str(format!(in alloc; " (--limit {limit})")?.as_str()),
+        None => output.push_str(" (--limit)"),
+    }
+}
+
+/// The refusal of more steps than are taken.
+#[cold]
+pub(crate) fn too_many_steps(alloc: Global, steps: usize) -> Refusal {
+    refuse_with_line(
+        alloc,
+        format!(in alloc;
+            "--step: {steps} steps, and {STEPS} are taken at most beside a text of {LEVELS} levels: each adds a level"
+        ),
+    )
+}

@@ -1,0 +1,199 @@
+//! Policies of a text.
+use crate::asked::Source;
+use crate::limits::LEVELS;
+use crate::places::Places;
+use crate::refusal::{Refusal, unparsed_lines};
+use crate::visible::push_visible;
+use crate::warnings::{MOST, others};
+use cedar_extensions::{Extension, ExtensionFunction, Extensions};
+use cedar_functions::Functions;
+use cedar_layers::expressions::{FirstRest, Name};
+use cedar_layers::policies::{Policy, PolicyID, PolicySet};
+use cedar_text_parser::{ParseError, ParsedPolicies, parse_policies};
+use cedar_text_printer::policy_to_cedar;
+use std::alloc::{AllocError, Global};
+use std::collections::BTreeMap;
+use std::rc::RcStr;
+
+/// The policies that the text writes, which call no other functions than these.
+pub(crate) fn read(
+    alloc: Global,
+    source: Source<'_>,
+    functions: &Functions,
+) -> Result<ParsedPolicies, Refusal> {
+    match parse_policies(alloc, source.text, LEVELS, functions) {
+        Ok(parsed) => Ok(parsed),
+        Err(errors) => Err(refusal(alloc, source, &errors)),
+    }
+}
+
+/// The policies that the text writes, which call functions of these extensions alone.
+pub(crate) fn read_over(
+    alloc: Global,
+    source: Source<'_>,
+    extensions: &Extensions<'_>,
+) -> Result<ParsedPolicies, Refusal> {
+    let functions = Functions::of(alloc, extensions)?;
+    let parsed = read(alloc, source, &functions);
+    drop(functions);
+    parsed
+}
+
+// The refusal that tells these errors.
+#[cold]
+fn refusal(alloc: Global, source: Source<'_>, errors: &FirstRest<ParseError>) -> Refusal {
+    match all_lines(alloc, source, errors) {
+        Ok(lines) => Refusal::Told(lines),
+        Err(refusal) => refusal,
+    }
+}
+
+fn all_lines(
+    alloc: Global,
+    source: Source<'_>,
+    errors: &FirstRest<ParseError>,
+) -> Result<String, Refusal> {
+    let places = Places::of(alloc, source)?;
+    let mut lines = unparsed_lines(alloc, &places, &errors.first)?;
+    let mut told: usize = 1;
+    'errors: for error in errors.rest.iter() {
+        if told < MOST {
+            push_lines(alloc, &places, error, &mut lines)?;
+            told += 1;
+        }
+    }
+    push_others(
+        alloc,
+        source,
+        errors.rest.len().saturating_add(1),
+        &mut lines,
+    )?;
+    Ok(lines)
+}
+
+fn push_lines(
+    alloc: Global,
+    places: &Places<'_>,
+    error: &ParseError,
+    lines: &mut String,
+) -> Result<(), Refusal> {
+    let more = unparsed_lines(alloc, places, error)?;
+    lines.push_str(&more)?;
+    Ok(())
+}
+
+// Of more errors than are told one by one, how many there are besides.
+fn push_others(
+    alloc: Global,
+    source: Source<'_>,
+    count: usize,
+    lines: &mut String,
+) -> Result<(), AllocError> {
+    match others(count) {
+        Some(others) => {
+            push_visible(alloc, source.name, lines)?;
+            lines.push_str(format!(in alloc; ": and {others} more errors\n")?.as_str())
+        }
+        None => Ok(()),
+    }
+}
+
+// The policies that the text writes, which call standard functions and `unknown` alone.
+fn read_with_unknown(alloc: Global, source: Source<'_>) -> Result<ParsedPolicies, Refusal> {
+    let name = Name::new(RcStr::from_str(alloc, "partial_evaluation")?, None);
+    let functions = vec![in alloc; ExtensionFunction::unknown(alloc)?]?;
+    let all = vec![in alloc; Extension::new(name, functions, Vec::new(alloc))]?;
+    match Extensions::with_standard(alloc, all.as_slice()) {
+        Ok(extensions) => read_over(alloc, source, &extensions),
+        Err(_) => Err(Refusal::Memory),
+    }
+}
+
+/// Whether the policies can be read, in which the standard functions and `unknown` may be called: if not, the first
+/// errors are told, each with its place, and how many more there are.
+pub fn check_policies(alloc: Global, source: Source<'_>) -> Result<(), Refusal> {
+    let parsed = read_with_unknown(alloc, source)?;
+    drop(parsed);
+    Ok(())
+}
+
+/// The policies and the templates in Cedar's own layout, in their order, with an empty line between two. Comments are
+/// left out. The standard functions and `unknown` may be called in them.
+pub fn format_policies(alloc: Global, source: Source<'_>) -> Result<String, Refusal> {
+    let parsed = read_with_unknown(alloc, source)?;
+    let lines = layout(alloc, &parsed);
+    drop(parsed);
+    Ok(lines?)
+}
+
+fn layout(alloc: Global, parsed: &ParsedPolicies) -> Result<String, AllocError> {
+    let mut texts: BTreeMap<usize, String> = BTreeMap::new(alloc);
+    for policy in parsed.policies.policies() {
+        put(alloc, policy, &mut texts)?;
+    }
+    for template in parsed.templates.iter() {
+        put(alloc, template, &mut texts)?;
+    }
+    join_texts(alloc, &texts)
+}
+
+// Puts the policy's text under the place where it stands.
+fn put(
+    alloc: Global,
+    policy: &Policy,
+    texts: &mut BTreeMap<usize, String>,
+) -> Result<(), AllocError> {
+    let place = match policy.loc() {
+        Some(loc) => loc.start,
+        None => usize::MAX,
+    };
+    let text = policy_to_cedar(alloc, policy)?;
+    drop(texts.insert(place, text)?);
+    Ok(())
+}
+
+fn join_texts(alloc: Global, texts: &BTreeMap<usize, String>) -> Result<String, AllocError> {
+    let mut all = String::new(alloc);
+    for text in texts.values() {
+        if !all.is_empty() {
+            all.push_str("\n")?;
+        }
+        all.push_str(text.as_str())?;
+        all.push_str("\n")?;
+    }
+    Ok(all)
+}
+
+/// The policy of this id.
+pub(crate) fn with_id<'a>(policies: &'a PolicySet, id: &PolicyID) -> Option<&'a Policy> {
+    for policy in policies.policies() {
+        if policy.id() == id {
+            return Some(policy);
+        }
+    }
+    None
+}
+
+/// Writes how the policy is called: by its annotation `id` or, where it has none, by its id.
+pub(crate) fn push_name(
+    alloc: Global,
+    policy: &Policy,
+    out: &mut String,
+) -> Result<(), AllocError> {
+    match annotated_id(policy) {
+        Some(name) => out.push_str(name),
+        None => push_id(alloc, policy.id(), out),
+    }
+}
+
+/// The policy's annotation `id`, if it has one.
+pub(crate) fn annotated_id(policy: &Policy) -> Option<&str> {
+    match policy.annotations_rc().0.get("id") {
+        Some(name) => Some(name.as_str()),
+        None => None,
+    }
+}
+
+pub(crate) fn push_id(alloc: Global, id: &PolicyID, out: &mut String) -> Result<(), AllocError> {
+    out.push_str(format!(in alloc; "{id}")?.as_str())
+}

@@ -1,0 +1,169 @@
+//! Why a question is not answered.
+use crate::asked::Source;
+use crate::faults::{repeated_key, syntax_fault};
+use crate::limits::LEVELS;
+use crate::places::{Places, describe_at};
+use crate::visible::visible;
+use cedar_json_reader::JsonError;
+use cedar_layers::expressions::Loc;
+use cedar_text_lexer::errors::ReadError;
+use cedar_text_parser::ParseError;
+use cedar_text_parser::show::message;
+use std::alloc::{AllocError, AllocFailed, Global};
+
+/// Why a question is not answered.
+#[derive(Debug, Drop)]
+pub enum Refusal {
+    /// Out of memory.
+    Memory,
+    /// For a reason that is told in these lines, each of which is ended.
+    Told(String),
+}
+
+impl From<AllocError> for Refusal {
+    fn from(_error: AllocError) -> Refusal {
+        Refusal::Memory
+    }
+}
+
+impl<T: Drop> From<AllocFailed<T>> for Refusal {
+    fn from(_error: AllocFailed<T>) -> Refusal {
+        Refusal::Memory
+    }
+}
+
+/// The refusal for which these lines are the reason.
+#[cold]
+pub(crate) fn refuse_with_lines(lines: Result<String, AllocError>) -> Refusal {
+    match lines {
+        Ok(lines) => Refusal::Told(lines),
+        Err(AllocError) => Refusal::Memory,
+    }
+}
+
+/// The refusal for which this line is the reason: it is told visibly, as names are.
+#[cold]
+pub fn refuse_with_line(alloc: Global, line: Result<String, AllocError>) -> Refusal {
+    refuse_with_lines(end_line(alloc, line))
+}
+
+fn end_line(alloc: Global, line: Result<String, AllocError>) -> Result<String, AllocError> {
+    let mut told = visible(alloc, line?.as_str())?;
+    told.push_str("\n")?;
+    Ok(told)
+}
+
+/// The refusal of a name or an entity that can't be read as Cedar's text.
+#[cold]
+pub(crate) fn unread(alloc: Global, source: Source<'_>, error: ReadError) -> Refusal {
+    refuse_unparsed(alloc, source, &ParseError::Read(error))
+}
+
+/// The refusal of what can't be read as Cedar's text.
+#[cold]
+pub(crate) fn refuse_unparsed(alloc: Global, source: Source<'_>, error: &ParseError) -> Refusal {
+    match unparsed_of(alloc, source, error) {
+        Ok(lines) => Refusal::Told(lines),
+        Err(refusal) => refusal,
+    }
+}
+
+fn unparsed_of(alloc: Global, source: Source<'_>, error: &ParseError) -> Result<String, Refusal> {
+    let places = Places::of(alloc, source)?;
+    unparsed_lines(alloc, &places, error)
+}
+
+/// `NAME: line L, column C: why`, and below it the line about the place, which is marked.
+pub(crate) fn unparsed_lines(
+    alloc: Global,
+    places: &Places<'_>,
+    error: &ParseError,
+) -> Result<String, Refusal> {
+    match place_of(error) {
+        Some(loc) => {
+            let why = why_of(alloc, error)?;
+            Ok(describe_at(alloc, places, Some(loc), why.as_str())?)
+        }
+        None => Err(Refusal::Memory),
+    }
+}
+
+// Where the text can't be read; nowhere, if out of memory.
+fn place_of(error: &ParseError) -> Option<Loc> {
+    match error {
+        ParseError::Read(error) => place_of_read(*error),
+        ParseError::UnknownFunction { start, end, .. } => loc(*start, *end),
+        ParseError::WrongStyle { start, end, .. } => loc(*start, *end),
+        ParseError::WrongNumberOfArguments { start, end, .. } => loc(*start, *end),
+    }
+}
+
+fn place_of_read(error: ReadError) -> Option<Loc> {
+    match error {
+        ReadError::Memory => None,
+        ReadError::Expected { start, end, .. } => loc(start, end),
+        ReadError::TooDeep { start, end } => loc(start, end),
+    }
+}
+
+fn loc(start: usize, end: usize) -> Option<Loc> {
+    Some(Loc { start, end })
+}
+
+fn why_of(alloc: Global, error: &ParseError) -> Result<String, AllocError> {
+    match error {
+        ParseError::Read(ReadError::TooDeep { .. }) => format!(in alloc;
+            "the expression has more than {LEVELS} levels: each operator, of a chain too, is one more than its parts"
+        ),
+        _ => message(alloc, error),
+    }
+}
+
+/// The refusal of what can't be read as Cedar's JSON: `NAME: $.path: why`, or `NAME: line L, column C: why` of a text
+/// that is no JSON, or that has a key twice.
+#[cold]
+pub(crate) fn unread_json(alloc: Global, source: Source<'_>, error: JsonError) -> Refusal {
+    let name = source.name;
+    match error {
+        JsonError::Memory(_) => Refusal::Memory,
+        JsonError::Syntax => {
+            let start = syntax_fault(alloc, source.text);
+            faulty(alloc, source, start, "not JSON")
+        }
+        JsonError::DuplicateKey => {
+            let start = repeated_key(alloc, source.text);
+            faulty(alloc, source, start, "a key comes twice in an object")
+        }
+        JsonError::Refused { path, reason } => {
+            refuse_with_line(alloc, format!(in alloc; "{name}: {path}: {reason}"))
+        }
+        JsonError::Evaluation { path, error } => {
+            refuse_with_line(alloc, format!(in alloc; "{name}: {path}: {error}"))
+        }
+    }
+}
+
+// The refusal of a text that is at fault from this byte on.
+fn faulty(
+    alloc: Global,
+    source: Source<'_>,
+    start: Result<usize, AllocError>,
+    why: &str,
+) -> Refusal {
+    match start {
+        Ok(start) => refuse_with_line(alloc, faulty_line(alloc, source, start, why)),
+        Err(AllocError) => Refusal::Memory,
+    }
+}
+
+fn faulty_line(
+    alloc: Global,
+    source: Source<'_>,
+    start: usize,
+    why: &str,
+) -> Result<String, AllocError> {
+    let name = source.name;
+    let places = Places::of(alloc, source)?;
+    let (line, column) = places.place_of(Loc { start, end: start });
+    format!(in alloc; "{name}: line {line}, column {column}: {why}")
+}

@@ -1,7 +1,0 @@
-use Rattle.std.proofs.Common.{ap, ◌∙◌}
-use Rattle.cedar_closure.specs.Listed.{names_or_none}
-use Rattle.cedar_closure.proofs.Listing.{listed-by_name}
-use Rattle.cedar_closure.proofs.parents.parents_in.Goals as goal
-
-pub returns : goal.returns
-returns c = ap names_or_none c.get.ensures.value ∙ listed-by_name c.args.uid.now c.args.parents.now.entries

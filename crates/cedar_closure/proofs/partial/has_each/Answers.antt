@@ -1,5 +1,0 @@
-use Rattle.cedar_closure.proofs.Sorted.{subset_named}
-use Rattle.cedar_closure.proofs.partial.has_each.Goals as goal
-
-pub returns : goal.returns
-returns c = subset_named c.args.others.now.keys c.args.uids.now.keys c.is_subset.result c.is_subset.ensures

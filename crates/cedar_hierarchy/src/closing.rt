@@ -1,0 +1,66 @@
+//! Stores whose ancestors are closed under "parent of".
+ghost use Rattle.std.specs.Prelude.{◌≡◌, ◌↔◌, true, false, IfOk, OnOk, IfErr};
+ghost use Rattle.std.specs.List.{AllZip};
+ghost use Rattle.cedar_model.specs.Terms.{EntityName};
+ghost use Rattle.cedar_model.specs.Settings.{is_among};
+ghost use Rattle.cedar_layers.specs.Stores.{last_of_each_name, stored_entity, store_view};
+ghost use Rattle.cedar_hierarchy.specs.Ancestry.{recorded, parents_of, AreAlike, NamesACycle, IsClosed};
+ghost use Rattle.cedar_hierarchy.specs.Paths.{Leads};
+ghost use Rattle.cedar_hierarchy.specs.Listed.{listed_parents};
+
+use crate::error::ClosureError;
+use crate::parents::{ParentMap, copy_uid, recorded_parents};
+use crate::walk::led_to;
+use cedar_fallible::add_last;
+use cedar_layers::policies::{Entities, Entity};
+use std::alloc::Global;
+
+/// The concrete store of these entities, which are all that there are. Their recorded ancestors are taken to be their
+/// parents: in the store, each records all that parents lead to in one step or more. Apart from its ancestors each
+/// entity is the one that was handed in, its uid, attributes and tags whole; of those of one uid the last counts, as in
+/// `Entities::with`. A parent that is not among them has no parents: where there may be more entities than these, that
+/// is wrong, and `close_hierarchy_partially` is the call. Refuses with `Cycle` where an entity's parents lead back to
+/// it, and names one such entity; else only if out of memory. For each entity the parents of each of its ancestors are
+/// looked at once.
+pub fn close_hierarchy(alloc: Global, entities: Vec<Entity>) -> Result<Entities, ClosureError>
+    ensures entities { IfOk result (λ s. (n : EntityName) →
+        AreAlike (last_of_each_name entities.items n) (stored_entity s n)) }
+    ensures ancestors { IfOk result (λ s. (n m : EntityName) →
+        (is_among m (recorded (stored_entity s n)) ≡ true) ↔ Leads (parents_of entities.items) n m) }
+    ensures partial { IfOk result (λ s. (store_view s).is_partial ≡ false) }
+    ensures acyclic { OnOk result ((n : EntityName) → ¬ Leads (parents_of entities.items) n n) }
+    ensures cycle { IfErr result (NamesACycle (parents_of entities.items)) }
+{
+    let parents = recorded_parents(alloc, &entities)?;
+    let each = closed_each(alloc, &parents, entities)?;
+    Ok(Entities::with(alloc, each, false)?)
+}
+
+/// Each of these entities with all its ancestors.
+pub(crate) fn closed_each(
+    alloc: Global,
+    parents: &ParentMap,
+    entities: Vec<Entity>,
+) -> Result<Vec<Entity>, ClosureError>
+    ensures ok { IfOk result (λ v. AllZip (IsClosed (listed_parents parents.now.entries)) entities.items v.items) }
+    ensures cycle { IfErr result (NamesACycle (listed_parents parents.now.entries)) }
+{
+    let mut each: Vec<Entity> = Vec::new(alloc);
+    'entities: for entity in entities {
+        let closed = closed_entity(alloc, parents, entity)?;
+        add_last(&mut each, closed)?;
+    }
+    Ok(each)
+}
+
+// The entity with all its ancestors.
+fn closed_entity(alloc: Global, parents: &ParentMap, entity: Entity) -> Result<Entity, ClosureError>
+    ensures ok { IfOk result (IsClosed (listed_parents parents.now.entries) entity) }
+    ensures cycle { IfErr result (NamesACycle (listed_parents parents.now.entries)) }
+{
+    let ancestors = led_to(alloc, parents, entity.uid())?;
+    if ancestors.contains(entity.uid()) {
+        return Err(ClosureError::Cycle(copy_uid(entity.uid())?));
+    }
+    Ok(entity.with_ancestors(ancestors))
+}

@@ -1,8 +1,0 @@
-use Rattle.cedar_model.specs.Failures.{answers}
-use Rattle.cedar_expressions.specs.View.{view}
-use Rattle.cedar_values.specs.Residuals.{partial_view}
-use Rattle.cedar_interpreter.proofs.evaluation.Evaluation.after_else.Goals as goal
-
-pub returns : goal.returns
-returns g c =
-    c.both_branches.ensures (answers (partial_view c.args.answer.value)) (c.kept_part-kept.ensures (view c.args.second.value.else_expr.value))

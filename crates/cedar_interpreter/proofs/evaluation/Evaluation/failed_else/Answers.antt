@@ -1,7 +1,0 @@
-use Rattle.cedar_model.specs.Failures.{fails}
-use Rattle.cedar_errors.specs.Failures.{failure_of}
-use Rattle.cedar_interpreter.proofs.evaluation.Evaluation.failed_else.Goals as goal
-
-pub returns : goal.returns
-returns g c =
-    c.both_branches.ensures (fails (failure_of c.args.failed.value.error)) (rw (c.deref.ensures) at c.original_of-kept.ensures)

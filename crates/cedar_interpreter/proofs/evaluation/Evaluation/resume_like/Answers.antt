@@ -1,0 +1,13 @@
+use Rattle.cedar_model.specs.Failures.{answers}
+use Rattle.cedar_expressions.specs.View.{expr_loc}
+use Rattle.cedar_values.specs.Residuals.{partial_view}
+use Rattle.cedar_interpreter.specs.declared.frame.Pending.TheVariants as pendings
+use Rattle.cedar_interpreter.specs.Settings.{evaluation_setting, calls_in}
+use Rattle.cedar_interpreter.proofs.Laws.{gives_continues}
+use Rattle.cedar_interpreter.proofs.evaluation.Evaluation.resume_like.Goals as goal
+
+pub returns : goal.returns
+returns g c r k =
+    let s = evaluation_setting r c.args.self.now in
+    gives_continues s (calls_in c.args.self.now) k (expr_loc c.args.whole.now.value) (pendings.Like c.args.pattern.now) (answers (partial_view c.args.text.value)) _ c.answer_result_in.result
+    (λ a ok is. is) (c.answer_result_in.ensures _ (rw (c.taken_out-part.ensures, c.deref_mut.ensures.value, c.deref.ensures) at c.like_of_part.ensures))

@@ -1,6 +1,0 @@
-use Rattle.std.proofs.Common.{rules}
-use Rattle.cedar_json.proofs.SeenEntities.{one_stated}
-use Rattle.cedar_json.proofs.entities.push_entity.Goals as goal
-
-pub returns-in-Ok-clause-said : goal.returns-in-Ok-clause-said
-returns-in-Ok-clause-said c = one_stated c.args.entities.now.items c.push.new.self.items c.args.entity (search rules)

@@ -1,8 +1,0 @@
-use Rattle.std.proofs.Common.{◌≡◌, drop}
-use Rattle.json.specs.Value.{members_view}
-use Rattle.cedar_json.specs.SaidEntities.{first_other}
-use Rattle.cedar_json.specs.SaidRequests.{is_request_key}
-use Rattle.cedar_json.proofs.requests.unexpected.Given as goal
-
-abbrev pub invariant-members : goal.invariant-members
-invariant-members l = first_other is_request_key (members_view (drop l.member-index l.member-items)) ≡ first_other is_request_key (members_view l.member-items)

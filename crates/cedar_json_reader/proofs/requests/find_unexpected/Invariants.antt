@@ -1,0 +1,8 @@
+use Rattle.std.proofs.Common.{◌≡◌, drop}
+use Rattle.json.specs.Value.{members_view}
+use Rattle.cedar_json_reader.specs.SaidEntities.{first_other}
+use Rattle.cedar_json_reader.specs.SaidRequests.{is_request_key}
+use Rattle.cedar_json_reader.proofs.requests.find_unexpected.Given as goal
+
+abbrev pub invariant-members : goal.invariant-members
+invariant-members l = first_other is_request_key (members_view (drop l.member-index l.member-items)) ≡ first_other is_request_key (members_view l.member-items)

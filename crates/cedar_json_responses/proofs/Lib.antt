@@ -1,3 +1,0 @@
-pub mod Listed
-pub mod Named
-pub mod Carried

@@ -1,7 +1,0 @@
-use Rattle.cedar_json_responses.proofs.Listed.{two_put}
-use Rattle.cedar_json_responses.proofs.errors.put_evaluation_error.Goals as goal
-
-pub returns : goal.returns
-returns c =
-    let (message, says, more) = c.in_ok-put_message.ensures in
-    (message, says, two_put _ _ _ _ _ c.in_ok-put_policy_id.ensures more)

@@ -1,4 +1,0 @@
-pub mod Texts
-pub mod Errors
-pub mod Responses
-pub mod Reading

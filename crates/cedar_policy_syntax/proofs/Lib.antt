@@ -1,3 +1,0 @@
-mod Joining
-mod Turns
-mod Within

@@ -1,5 +1,0 @@
-use Rattle.cedar_syntax.specs.Places.{for_memory}
-use Rattle.cedar_policy_syntax.proofs.annotations.put.Goals as goal
-
-pub returns-in-Err-clause-err : goal.returns-in-Err-clause-err
-returns-in-Err-clause-err c = for_memory

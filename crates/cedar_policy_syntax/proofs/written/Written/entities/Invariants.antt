@@ -1,8 +1,0 @@
-use Rattle.std.proofs.Common.{◌+◌}
-use Rattle.cedar_syntax.specs.Trees.{trees}
-use Rattle.cedar_policy_syntax.specs.Reading.{PutsEntities}
-use Rattle.cedar_policy_syntax.proofs.written.Written.entities.Given as goal
-
-abbrev pub invariant-loop-done : goal.invariant-loop-done
-invariant-loop-done l =
-    PutsEntities l.tokens l.index l.next (l.done + 1) (trees l.fn.self.steps.items) (trees l.self.steps.items)

@@ -1,5 +1,0 @@
-use Rattle.cedar_policy_syntax.proofs.Turns.{reference_made}
-use Rattle.cedar_policy_syntax.proofs.written.Written.entity_for.Goals as goal
-
-pub returns-clause-ok : goal.returns-clause-ok
-returns-clause-ok c = reference_made c.in_ok-reach.ensures.ok

@@ -1,6 +1,0 @@
-use Rattle.std.proofs.Common.{take}
-use Rattle.cedar_policy_text.specs.Reading.{AreAnnotated}
-use Rattle.cedar_policy_text.proofs.annotations.annotations.Given as goal
-
-abbrev pub invariant-loop-index : goal.invariant-loop-index
-invariant-loop-index l = AreAnnotated l.text l.tokens (take l.index l.written) l.map.entries

@@ -1,9 +1,0 @@
-use Rattle.cedar_policy_text.specs.Reading.{at_policy}
-use Rattle.cedar_policy_text.proofs.Read.{told_behind}
-use Rattle.cedar_policy_text.proofs.policies.Reading.take.Goals as goal
-
-pub returns-in_ok-next-in-Err-clause-told : goal.returns-in_ok-next-in-Err-clause-told
-returns-in_ok-next-in-Err-clause-told c =
-    λ h.
-    told_behind c.in-Err.error c.in_ok-next-in-Err.ensures.told c.in-Err.ensures.placed
-    (at_policy c.requires.tokens c.in-Err.ensures.err) h

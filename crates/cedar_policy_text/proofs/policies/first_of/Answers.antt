@@ -1,6 +1,0 @@
-use Rattle.cedar_policy_text.specs.Reading.{in_reading}
-use Rattle.cedar_policy_text.proofs.Read.{told_alone}
-use Rattle.cedar_policy_text.proofs.policies.first_of.Goals as goal
-
-pub returns-then-is_empty : goal.returns-then-is_empty
-returns-then-is_empty c = λ k text limit h. told_alone c.alone.ensures.first c.alone.ensures.rest tt in_reading

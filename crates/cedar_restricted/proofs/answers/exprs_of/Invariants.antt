@@ -1,0 +1,7 @@
+use Rattle.std.proofs.Common.{◌≡◌, take, map}
+use Rattle.cedar_expressions.specs.View.{view}
+use Rattle.cedar_values.proofs.Written.{written}
+use Rattle.cedar_restricted.proofs.answers.exprs_of.Given as goal
+
+abbrev pub invariant-values : goal.invariant-values
+invariant-values l = map view l.exprs.items ≡ written (take l.value-index l.values)

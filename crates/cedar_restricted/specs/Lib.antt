@@ -1,0 +1,17 @@
+pub mod Views
+pub mod Refusals
+pub mod Kinds
+pub mod Readers
+pub mod Iterators
+pub mod Shapes
+pub mod Types
+pub mod Restricted
+pub mod Keys
+pub mod Evaluations
+pub mod Parts
+pub mod Literals
+pub mod Frames
+pub mod Steps
+pub mod Laws
+pub mod Elements
+pub mod Evaluators

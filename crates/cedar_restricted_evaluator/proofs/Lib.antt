@@ -1,4 +1,0 @@
-pub mod Maps
-pub mod Collected
-pub mod Unread
-pub mod Promises

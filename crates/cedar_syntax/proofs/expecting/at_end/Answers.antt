@@ -1,5 +1,0 @@
-use Rattle.cedar_syntax.proofs.Erring.{end_placed}
-use Rattle.cedar_syntax.proofs.expecting.at_end.Goals as goal
-
-pub returns : goal.returns
-returns c = end_placed c.end_of-end.ensures

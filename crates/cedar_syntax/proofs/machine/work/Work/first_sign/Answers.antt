@@ -1,9 +1,0 @@
-use Rattle.std.proofs.Common.{arith, ◌<◌}
-use Rattle.cedar_syntax.specs.Levels.{awaited}
-use Rattle.cedar_syntax.proofs.Turns.{sign_read}
-use Rattle.cedar_syntax.proofs.machine.work.Work.first_sign.Goals as goal
-
-pub returns-clause-ok : goal.returns-clause-ok
-returns-clause-ok c =
-    let below : 2 < awaited c.args.self.now.frames = omega (arith, c.awaited.ensures, c.if-awaited-le-UNARY.false) in
-    sign_read c.requires.waits below c.requires.is c.start_at.ensures c.in_ok-wait.ensures.frames c.wait.ensures.trees

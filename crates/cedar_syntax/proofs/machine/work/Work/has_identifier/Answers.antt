@@ -1,7 +1,0 @@
-use Rattle.std.proofs.Common.{sym, ◌∙◌}
-use Rattle.cedar_syntax.proofs.Members.{dotted_one}
-use Rattle.cedar_syntax.proofs.machine.work.Work.has_identifier.Goals as goal
-
-pub returns-then-is_identifier_at-clause-ok : goal.returns-then-is_identifier_at-clause-ok
-returns-then-is_identifier_at-clause-ok c =
-    (c.requires.stands, dotted_one (sym c.is_identifier_at.ensures.is ∙ c.if-is_identifier_at.true) c.end_at.ensures)

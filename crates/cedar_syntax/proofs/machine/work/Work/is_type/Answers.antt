@@ -1,9 +1,0 @@
-use Rattle.cedar_syntax.proofs.Parts.{related_one}
-use Rattle.cedar_syntax.proofs.Members.{is_read}
-use Rattle.cedar_syntax.proofs.machine.work.Work.is_type.Goals as goal
-
-pub operator-requires-clause-reads : goal.operator-requires-clause-reads
-operator-requires-clause-reads c = is_read c.requires.stands.0 c.requires.stands.1 c.in_ok-make.ensures.look
-
-pub make-requires : goal.make-requires
-make-requires c = related_one c.requires.stands.0

@@ -1,6 +1,0 @@
-pub mod Grammar
-pub mod Levels
-pub mod Places
-pub mod Reading
-pub mod Standing
-pub mod Trees

@@ -1,7 +1,0 @@
-pub mod Again
-pub mod Growing
-pub mod Heights
-pub mod Kept
-pub mod Known
-pub mod Places
-pub mod TermCalls

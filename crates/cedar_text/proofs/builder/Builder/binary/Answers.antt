@@ -1,6 +1,0 @@
-use Rattle.cedar_text.proofs.Kept.{binary_kept}
-use Rattle.cedar_text.proofs.builder.Builder.binary.Goals as goal
-
-pub returns-in_ok-put-in-Some-clause-ok : goal.returns-in_ok-put-in-Some-clause-ok
-returns-in_ok-put-in-Some-clause-ok c =
-    binary_kept c.args.binary c.in-Some.ensures c.in_ok-made-in-Some.ensures.ok c.in_ok-put-in-Some.ensures

@@ -1,9 +1,0 @@
-use Rattle.std.proofs.Common.{◌≡◌, ◌++◌, length}
-use Rattle.cedar_text.specs.Finished.{finished, all_unkeyed}
-use Rattle.cedar_text.proofs.builder.Builder.latest.Given as goal
-
-abbrev pub invariant-loop : goal.invariant-loop
-invariant-loop l = record {
-  count : length l.parts.items ≡ l.counter;
-  parts : finished l.fn.self ≡ all_unkeyed l.parts.items ++ finished l.self;
-}

@@ -1,6 +1,0 @@
-use Rattle.cedar_text.proofs.Kept.{unary_kept}
-use Rattle.cedar_text.proofs.builder.Builder.unary.Goals as goal
-
-pub returns-in_ok-put-in-Some-clause-ok : goal.returns-in_ok-put-in-Some-clause-ok
-returns-in_ok-put-in-Some-clause-ok c =
-    unary_kept c.args.unary c.in-Some.ensures c.in_ok-made-in-Some.ensures.ok c.in_ok-put-in-Some.ensures

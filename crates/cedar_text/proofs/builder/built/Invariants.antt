@@ -1,8 +1,0 @@
-use Rattle.std.proofs.Common.{take}
-use Rattle.cedar_syntax.specs.Trees.{trees}
-use Rattle.cedar_text.specs.Building.{Are}
-use Rattle.cedar_text.specs.Finished.{finished}
-use Rattle.cedar_text.proofs.builder.built.Given as goal
-
-abbrev pub invariant-loop-step : goal.invariant-loop-step
-invariant-loop-step l = Are l.text l.tokens (finished l.builder) (trees (take l.step-index l.steps))

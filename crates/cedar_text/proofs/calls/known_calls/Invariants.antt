@@ -1,7 +1,0 @@
-use Rattle.std.proofs.Common.{take}
-use Rattle.cedar_functions.specs.Functions.{knowledge}
-use Rattle.cedar_text.specs.Calls.{AreKnownSteps}
-use Rattle.cedar_text.proofs.calls.known_calls.Given as goal
-
-abbrev pub invariant-loop-step : goal.invariant-loop-step
-invariant-loop-step l = AreKnownSteps (knowledge l.functions) l.text l.tokens (take l.step-index l.steps)

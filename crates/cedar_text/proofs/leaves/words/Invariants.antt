@@ -1,6 +1,0 @@
-use Rattle.std.proofs.Common.{◌≡◌, string_bytes}
-use Rattle.cedar_text.specs.Wording.{spelled}
-use Rattle.cedar_text.proofs.leaves.words.Given as goal
-
-abbrev pub invariant-loop-n : goal.invariant-loop-n
-invariant-loop-n l = string_bytes l.words ≡ spelled l.text l.tokens l.from l.n

@@ -1,6 +1,0 @@
-use Rattle.cedar_text.specs.Building.{emptiness}
-use Rattle.cedar_text.proofs.nodes.emptiness.Goals as goal
-
-pub returns-in_ok-unary_app-in-Some-clause-ok : goal.returns-in_ok-unary_app-in-Some-clause-ok
-returns-in_ok-unary_app-in-Some-clause-ok c =
-    rw (c.in-Some.ensures, c.in_ok-unary_app-in-Some.ensures.kind) emptiness

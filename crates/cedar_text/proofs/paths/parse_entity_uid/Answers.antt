@@ -1,8 +1,0 @@
-use Rattle.cedar_text.specs.Paths.{IsPathRefused, for_want}
-use Rattle.cedar_text.proofs.Places.{passed_up}
-use Rattle.cedar_text.proofs.paths.parse_entity_uid.Goals as goal
-
-pub returns-in_err-tokens-clause-err : goal.returns-in_err-tokens-clause-err
-returns-in_err-tokens-clause-err c =
-    passed_up c.from_residual.result _ (IsPathRefused c.args.text.now) c.from_residual.ensures.1
-    (for_want)

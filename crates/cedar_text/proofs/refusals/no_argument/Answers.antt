@@ -1,5 +1,0 @@
-use Rattle.cedar_text.specs.Refusals.{for_no_argument}
-use Rattle.cedar_text.proofs.refusals.no_argument.Goals as goal
-
-pub returns : goal.returns
-returns c = rw c.wanted_at.ensures (for_no_argument c.requires.within c.requires.is)

@@ -1,5 +1,0 @@
-use Rattle.cedar_text.specs.Refusals.{for_long}
-use Rattle.cedar_text.proofs.refusals.too_large.Goals as goal
-
-pub returns : goal.returns
-returns c = rw c.wanted_at.ensures (for_long c.requires.within c.requires.large)

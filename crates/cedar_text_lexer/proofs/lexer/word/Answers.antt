@@ -1,0 +1,11 @@
+use Rattle.cedar_text_lexer.proofs.Fronts.{word_cut, word_boundary}
+use Rattle.cedar_text_lexer.proofs.lexer.word.Goals as goal
+
+pub range-requires-clause-end_boundary : goal.range-requires-clause-end_boundary
+range-requires-clause-end_boundary c = word_boundary c.args.rest.now c.word_end-len.result (rw c.as_bytes-bytes.ensures.value at c.word_end-len.ensures) c.requires c.utf8.rest
+
+pub returns-clause-within : goal.returns-clause-within
+returns-clause-within c = word_boundary c.args.rest.now c.word_end-len.result (rw c.as_bytes-bytes.ensures.value at c.word_end-len.ensures) c.requires c.utf8.rest
+
+pub returns-clause-front : goal.returns-clause-front
+returns-clause-front c = rw (c.word_kind.ensures, c.range.ensures.value) (word_cut c.args.rest.now c.word_end-len.result (rw c.as_bytes-bytes.ensures.value at c.word_end-len.ensures) c.requires)

@@ -1,0 +1,39 @@
+-- What kinds of tokens may stand for.
+use Rattle.std.specs.Prelude.{Bool, true, false}
+use Rattle.cedar_text_lexer.specs.declared.errors.Expected.{Expected}
+use Rattle.cedar_text_lexer.specs.declared.errors.Expected.TheVariants as wanted
+use Rattle.cedar_text_lexer.specs.declared.tokens.Kind.{Kind}
+use Rattle.cedar_text_lexer.specs.declared.tokens.Kind.TheVariants as kind
+
+-- a word that may name an attribute or stand in a name
+abbrev pub is_identifier : Kind → Bool
+is_identifier kind.Identifier = true
+is_identifier kind.Principal = true
+is_identifier kind.Action = true
+is_identifier kind.Resource = true
+is_identifier kind.Context = true
+is_identifier kind.Permit = true
+is_identifier kind.Forbid = true
+is_identifier kind.When = true
+is_identifier kind.Unless = true
+is_identifier _ = false
+
+-- a word that stands for itself alone
+abbrev pub is_reserved : Kind → Bool
+is_reserved kind.If = true
+is_reserved kind.Then = true
+is_reserved kind.Else = true
+is_reserved kind.True = true
+is_reserved kind.False = true
+is_reserved kind.In = true
+is_reserved kind.Has = true
+is_reserved kind.Like = true
+is_reserved kind.Is = true
+is_reserved _ = false
+
+-- what was expected where such a token was found: one that can't be read should have been another
+abbrev pub what_for : Expected → Kind → Expected
+what_for what kind.UnclosedText = wanted.Quote
+what_for what kind.Unreadable = wanted.Token
+what_for what kind.OtherSlot = wanted.Slot
+what_for what _ = what

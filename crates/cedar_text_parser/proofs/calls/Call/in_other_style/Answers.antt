@@ -1,0 +1,12 @@
+use Rattle.cedar_text_parser.specs.Calls.{callee_named, IsCalleeRefused, for_out_of_memory, for_why, other_style}
+use Rattle.cedar_text_parser.proofs.Places.{passed_up}
+use Rattle.cedar_text_parser.proofs.calls.Call.in_other_style.Goals as goal
+
+pub returns-in_err-name-clause-err : goal.returns-in_err-name-clause-err
+returns-in_err-name-clause-err c =
+    λ k m is not.
+    passed_up c.from_residual.result _ (IsCalleeRefused k (callee_named c.args.self c.args.name.now) c.args.self.arguments)
+    c.from_residual.ensures.1 for_out_of_memory
+
+pub returns-clause-err : goal.returns-clause-err
+returns-clause-err c = λ k m is not. for_why (other_style is not c.in_ok-name.ensures.ok)

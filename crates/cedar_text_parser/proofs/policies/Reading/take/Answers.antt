@@ -1,0 +1,9 @@
+use Rattle.cedar_text_parser.specs.PolicyReading.{at_policy}
+use Rattle.cedar_text_parser.proofs.Read.{told_behind}
+use Rattle.cedar_text_parser.proofs.policies.Reading.take.Goals as goal
+
+pub returns-in_ok-next-in-Err-clause-told : goal.returns-in_ok-next-in-Err-clause-told
+returns-in_ok-next-in-Err-clause-told c =
+    λ h.
+    told_behind c.in-Err.error c.in_ok-next-in-Err.ensures.told c.in-Err.ensures.placed
+    (at_policy c.requires.tokens c.in-Err.ensures.err) h

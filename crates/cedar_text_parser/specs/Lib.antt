@@ -1,0 +1,13 @@
+pub mod Building
+pub mod Calls
+pub mod Finished
+pub mod Heights
+pub mod Messages
+pub mod Paths
+pub mod Reading
+pub mod Refusals
+pub mod TermCalls
+pub mod Wording
+pub mod PolicyHeights
+pub mod PolicyReading
+pub mod PolicyTermCalls

@@ -1,0 +1,12 @@
+pub mod Erring
+pub mod Growing
+pub mod Listed
+pub mod Making
+pub mod Members
+pub mod Nested
+pub mod Ordered
+pub mod Parts
+pub mod Turns
+mod Joining
+mod PolicyTurns
+mod Within

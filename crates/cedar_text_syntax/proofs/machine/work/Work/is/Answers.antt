@@ -1,0 +1,10 @@
+use Rattle.std.proofs.Common.{sym, ◌∙◌}
+use Rattle.cedar_text_syntax.proofs.Members.{path_one}
+use Rattle.cedar_text_syntax.proofs.machine.work.Work.is.Goals as goal
+
+pub returns-then-is_identifier_at-clause-ok : goal.returns-then-is_identifier_at-clause-ok
+returns-then-is_identifier_at-clause-ok c = (
+  c.requires.stands,
+  path_one (sym c.is_identifier_at.ensures.is ∙ c.if-is_identifier_at.true)
+      c.start_at-start.ensures c.end_at-end.ensures,
+)

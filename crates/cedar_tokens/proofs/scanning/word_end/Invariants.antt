@@ -1,7 +1,0 @@
-use Rattle.std.proofs.Common.{◌≡◌, ◌+◌, drop}
-use Rattle.std.specs.List.{prefix_len}
-use Rattle.cedar_tokens.specs.Words.{is_word_byte}
-use Rattle.cedar_tokens.proofs.scanning.word_end.Given as goal
-
-abbrev pub invariant-loop-i : goal.invariant-loop-i
-invariant-loop-i l = l.from + prefix_len is_word_byte (drop l.from l.bytes) ≡ l.i + prefix_len is_word_byte (drop l.i l.bytes)

@@ -1,5 +1,0 @@
-use Rattle.cedar_tokens.proofs.Quotes.{text_quotes, no_end}
-use Rattle.cedar_tokens.proofs.values.pattern.Goals as goal
-
-pub inside-requires : goal.inside-requires
-inside-requires c = rw c.word.ensures (text_quotes c.args.token.kind _ _ (c.requires.stands.is (no_end c.args.token.kind c.requires.is)) c.requires.is)
