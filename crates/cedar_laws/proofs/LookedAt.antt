@@ -9,8 +9,8 @@ use Rattle.cedar_model.specs.Outcomes.{entity_eq}
 use Rattle.cedar_model.specs.Settings.{is_among}
 use Rattle.cedar_layers.specs.declared.policies.policy.Policy.{Policy}
 use Rattle.cedar_layers.specs.Policies.{PolicyView, policy_view}
-use Rattle.cedar_layers.specs.Scopes.{principal_bound, action_bound, resource_bound, IsBoundTo, IsBoundElsewhere, AreAllBut, AreWithinReach}
-use Rattle.cedar_laws.specs.Index.{is_the, asks_for, is_in_rest, is_looked_at, is_none_but, is_reached, how_many, most_looked_at, these_that, ReachedAreWithinReach, ReachedAreBounded, LookedAtAreBounded, WithinReachAreFewer}
+use Rattle.cedar_layers.specs.Scopes.{principal_bound, action_bound, resource_bound, is_the, asks_for, is_in_rest, is_looked_at, IsBoundTo, IsBoundElsewhere, AreAllBut, AreWithinReach}
+use Rattle.cedar_laws.specs.Index.{is_none_but, is_reached, how_many, most_looked_at, these_that, ReachedAreWithinReach, ReachedAreBounded, LookedAtAreBounded, WithinReachAreFewer}
 
 -- ---- sums
 

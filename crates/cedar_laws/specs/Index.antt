@@ -1,31 +1,12 @@
 -- Which policies an index by scope looks at, and how many they can be.
-use Rattle.std.specs.Prelude.{◌≡◌, ◌≤◌, ◌+◌, ℕ, Bool, true, false, not, ◌&&◌, ◌||◌, List, length, Option, Some, None, is_some, filter, count_by, sum_by}
-use Rattle.std.specs.List.{list_any, list_all}
+use Rattle.std.specs.Prelude.{◌≡◌, ◌≤◌, ◌+◌, ℕ, Bool, true, ◌&&◌, List, length, Option, Some, None, filter, count_by, sum_by}
 use Rattle.cedar_model.specs.Terms.{EntityName}
-use Rattle.cedar_model.specs.Outcomes.{entity_eq}
 use Rattle.cedar_model.specs.Settings.{is_among}
 use Rattle.cedar_layers.specs.declared.policies.policy.Policy.{Policy}
 use Rattle.cedar_layers.specs.Policies.{PolicyView, policy_view}
-use Rattle.cedar_layers.specs.Scopes.{principal_bound, action_bound, resource_bound, AreWithinReach}
+use Rattle.cedar_layers.specs.Scopes.{principal_bound, action_bound, resource_bound, asks_for, is_in_rest, AreLookedAt, AreWithinReach}
 
 -- ---- what scopes ask for
-
--- an entity is asked for, and it is this one
-abbrev pub is_the : EntityName → Option EntityName → Bool
-is_the e None = false
-is_the e (Some d) = entity_eq d e
-
--- the scope asks that principal, action or resource is this entity or is in it
-abbrev pub asks_for : EntityName → PolicyView → Bool
-asks_for e p = is_the e (principal_bound p) || (is_the e (action_bound p) || is_the e (resource_bound p))
-
--- it asks so of no entity
-abbrev pub is_in_rest : PolicyView → Bool
-is_in_rest p = not (is_some (principal_bound p) || (is_some (action_bound p) || is_some (resource_bound p)))
-
--- it asks so of none, or of one of these
-abbrev pub is_looked_at : List EntityName → PolicyView → Bool
-is_looked_at es p = is_in_rest p || list_any (λ e. asks_for e p) es
 
 -- no entity is asked for, or it is one of these
 abbrev pub is_none_but : List EntityName → Option EntityName → Bool
@@ -63,11 +44,11 @@ ReachedAreWithinReach =
 abbrev pub ReachedAreBounded : Type 0
 ReachedAreBounded = (es : List EntityName) (all : List Policy) → how_many (is_reached es) all ≤ most_looked_at es all
 
--- so are policies within reach, where each of them is in the rest or asks for one of the entities
+-- so are the policies that an index answers for the entities
 abbrev pub LookedAtAreBounded : Type 0
 LookedAtAreBounded =
-    (es : List EntityName) (all some : List Policy) → AreWithinReach es all some →
-    list_all (λ p. is_looked_at es (policy_view p)) some ≡ true → length some ≤ most_looked_at es all
+    (es : List EntityName) (all some : List Policy) → AreWithinReach es all some → AreLookedAt es some →
+    length some ≤ most_looked_at es all
 
 -- and they are never more than there are, of each kind
 abbrev pub WithinReachAreFewer : Type 0

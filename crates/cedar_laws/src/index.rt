@@ -14,7 +14,7 @@ pub fn reached_policies_are_bounded()
     ensures { ReachedAreBounded }
 {}
 
-/// Policies within reach, of which each is in the rest or asks for one of the entities, are at most as many.
+/// So are the policies that `within_reach` answers, by its clauses `reach` and `looked_at`.
 pub fn policies_looked_at_are_bounded()
     ensures { LookedAtAreBounded }
 {}

@@ -5,4 +5,5 @@ pub mod Stores
 pub mod StoredValues
 pub mod Sound
 pub mod Picking
+pub mod Filing
 pub mod Placing

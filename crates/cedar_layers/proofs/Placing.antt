@@ -1,24 +1,25 @@
 -- The index of policies: what is placed stays, and what is reached by entities.
-use Rattle.std.proofs.Common.{◌≡◌, ◌⊎◌, inl, inr, refl, sym, ap, ◌∙◌, arith, ℕ, zero, suc, ◌+◌, ◌==◌, Bool, true, false, cond, ◌||◌, ◌&&◌, List, [], ◌∷◌, ◌++◌, length, Option, Some, None, is_some}
-use Rattle.std.proofs.lemmas.Bool.{or_cases, eqb-false, or_left, or_right, eq-eqb}
+use Rattle.std.proofs.Common.{◌≡◌, ◌⊎◌, inl, inr, refl, sym, ap, ◌∙◌, ℕ, zero, suc, ◌==◌, Bool, true, false, cond, ◌||◌, ◌&&◌, List, [], ◌∷◌, ◌++◌, length, Option, Some, None, is_some}
+use Rattle.std.proofs.lemmas.Bool.{or_cases, or_left, or_right, eq-eqb}
 use Rattle.std.proofs.lemmas.List.Folds.{list_any-append}
 use Rattle.std.specs.Map.{lookup, values_of, KeepsOthers}
-use Rattle.std.specs.Prelude.{slice_get, Result, Ok, Err, OnOk, IfSome}
+use Rattle.std.specs.Prelude.{slice_get, Result, Ok, Err, OnOk, IfSome, MatchOption}
 use Rattle.std.specs.declared.alloc.Global.{Global}
 use Rattle.std.specs.declared.vec.Vec.{Vec}
-use Rattle.std.proofs.lemmas.List.{nil_from_length}
-use Rattle.cedar_model.specs.Terms.{EntityName, Term, BinaryOperator, binary}
+use Rattle.cedar_model.specs.Terms.{EntityName, Term, literal, variable, BinaryOperator, binary}
 use Rattle.cedar_model.specs.Outcomes.{entity_eq}
 use Rattle.cedar_model.specs.Settings.{is_among}
 use Rattle.cedar_names.specs.declared.names.EntityUID.{EntityUID}
 use Rattle.cedar_names.specs.contracts.names.EntityUIDPartialEq.TheImpl.{eq-value}
 use Rattle.cedar_names.specs.Names.{uid_name}
+use Rattle.cedar_expressions.specs.Readers.{IsNoLiteral, IsNoVariable}
 use Rattle.cedar_layers.specs.declared.policies.policy.Policy.{Policy}
 use Rattle.cedar_layers.specs.declared.policies.scope_index.ScopeIndex.{ScopeIndex}
 use Rattle.cedar_layers.specs.Policies.{PolicyView, policy_view}
 use Rattle.cedar_layers.specs.Scopes.{compares, is_entity_variable, literal_entity, compared_entity, is_truth, principal_bound, action_bound, resource_bound, IsBoundTo, IsBoundElsewhere, Groups, items_or_none, standing_under, standing_at, has_position, is_placed, ArePlaced, Places, Extends, ReachesAll}
 use Rattle.cedar_model.proofs.Injections.{some_inj, none_is_not_some, true_is_not_false}
 use Rattle.cedar_names.specs.EqualityLaws.{entity_eq-decides}
+use Rattle.cedar_layers.proofs.Filing.{only_under}
 
 -- ---- entries
 
@@ -49,6 +50,10 @@ on_ok_then (Err e) f h = tt
 pub if_some_then : {U : Type 0} (o : Option U) (P Q : U → Type 0) → ((u : U) → P u → Q u) → IfSome o P → IfSome o Q
 if_some_then (Some u) P Q f h = f u h
 if_some_then None P Q f h = tt
+
+pub match_then : {U : Type 0} (o : Option U) (N M : Type 0) (P Q : U → Type 0) → (N → M) → ((u : U) → P u → Q u) → MatchOption o N P → MatchOption o M Q
+match_then (Some u) N M P Q none some h = some u h
+match_then None N M P Q none some h = none h
 
 -- ---- positions
 
@@ -110,6 +115,7 @@ pub places_under : (old new : ScopeIndex) (i : ℕ) (p : PolicyView) (n : Entity
 places_under old new i p n e more bound = record {
   stay = placed_stay old new (λ j h. ap (has_position j) e ∙ h) (group_stays old.groups.entries new.groups.entries n i more);
   placed = or_right _ _ (by bound);
+  only = only_under old new i p n e more bound;
 }
   where
     has : (o : Option EntityName) → o ≡ Some n → has_position i (standing_at new.groups.entries o) ≡ true
@@ -132,6 +138,9 @@ got_more (x ∷ ps) p q (suc i) h = by (got_more ps p q i h)
     by : (slice_get ps i ≡ Some q) ⊎ ((i ≡ length ps) × (p ≡ q)) → (slice_get ps i ≡ Some q) ⊎ ((suc i ≡ length (x ∷ ps)) × (p ≡ q))
     by (inl e) = inl e
     by (inr e) = inr (ap suc e.0, e.1)
+
+pub placed_none : (index : ScopeIndex) (ps : List Policy) → ps ≡ [] → ArePlaced index ps
+placed_none index ps e i p h = absurd (none_is_not_some (sym (ap (λ (xs : List Policy). slice_get xs i) e) ∙ h))
 
 pub placed_more : (old new : ScopeIndex) (ps qs : List Policy) (p : Policy) (n : ℕ) → qs ≡ ps ++ p ∷ [] → n ≡ length ps → ArePlaced old ps → Places old new n (policy_view p) → ArePlaced new qs
 placed_more old new ps qs p n e count before more i q h =
@@ -212,6 +221,10 @@ module _ (index : ScopeIndex) (es left : List EntityName) (ns ms : List ℕ) (no
 
 -- ---- scopes
 
+none_either_way : {A : Type 0} (b : Bool) (o : Option A) → o ≡ None → cond b o None ≡ None
+none_either_way true o h = h
+none_either_way false o h = refl
+
 compared_if : (a b : Bool) (o : Option EntityName) (e : EntityName) → a ≡ true → b ≡ true → o ≡ Some e → cond (a && b) o None ≡ Some e
 compared_if true true o e f g h = h
 compared_if true false o e f g h = absurd (cc)
@@ -222,6 +235,35 @@ pub compared_with : (t a b : Term) (op : BinaryOperator) (e : EntityName) → t 
 unfolding compared_entity
 compared_with t a b op e is f g h =
     ap compared_entity is ∙ compared_if (compares op) (is_entity_variable a) (literal_entity b) e f g h
+
+-- another expression than a literal is no entity, and not `true`; another than a variable stands for no entity
+pub no_entity : (t : Term) → IsNoLiteral t → literal_entity t ≡ None
+unfolding literal_entity
+no_entity (literal l) h = absurd (h l refl)
+no_entity t h = refl
+
+pub no_truth : (t : Term) → IsNoLiteral t → is_truth t ≡ false
+unfolding is_truth
+no_truth (literal l) h = absurd (h l refl)
+no_truth t h = refl
+
+pub no_variable : (t : Term) → IsNoVariable t → is_entity_variable t ≡ false
+unfolding is_entity_variable
+no_variable (variable x) h = absurd (h x refl)
+no_variable t h = refl
+
+-- what isn't compared by such an operator, or isn't such a variable
+pub not_compared : (op : BinaryOperator) (a b : Term) → compares op ≡ false → compared_entity (binary op a b) ≡ None
+unfolding compared_entity
+not_compared op a b h = ap (λ (c : Bool). cond (c && is_entity_variable a) (literal_entity b) None) h
+
+pub no_variable_compared : (op : BinaryOperator) (a b : Term) → compares op ≡ true → is_entity_variable a ≡ false → compared_entity (binary op a b) ≡ None
+unfolding compared_entity
+no_variable_compared op a b g h = λ i. cond (g i && h i) (literal_entity b) None
+
+pub no_entity_compared : (op : BinaryOperator) (a b : Term) → literal_entity b ≡ None → compared_entity (binary op a b) ≡ None
+unfolding compared_entity
+no_entity_compared op a b h = none_either_way (compares op && is_entity_variable a) (literal_entity b) h
 
 is_some_of : {A : Type 0} (o : Option A) (x : A) → o ≡ Some x → is_some o ≡ true
 is_some_of o x e = ap is_some e

@@ -71,6 +71,13 @@ pub record Fills (all : List Policy) (es : List (PolicyID × Policy)) (rest : Li
   pub ids : entry_ids es ≡ ids_of (values_of es)
   pub unrepeated : first_repeated_after (entry_ids es) (ids_of rest) ≡ first_repeated (ids_of all)
 
+pub fills-first : (all : List Policy) (es : List (PolicyID × Policy)) (rest : List Policy) → es ≡ [] → rest ≡ all → Fills all es rest
+fills-first all es rest e f = record {
+  taken = λ i. values_of (e i) ++ f i;
+  ids = (λ i. entry_ids (e i)) ∙ sym (λ i. ids_of (values_of (e i)));
+  unrepeated = λ i. first_repeated_after (entry_ids (e i)) (ids_of (f i));
+}
+
 pub fills-more : (all : List Policy) (es new : List (PolicyID × Policy)) (p : Policy) (left rest : List Policy) → left ≡ p ∷ rest → Fills all es left → Adds es new p → Fills all new rest
 fills-more all es new p left rest e f a = record {
   taken = ap (λ (ps : List Policy). ps ++ rest) a.values ∙ append_assoc (values_of es) (p ∷ []) rest ∙ ap (λ (ps : List Policy). values_of es ++ ps) (sym e) ∙ f.taken;

@@ -1,6 +1,6 @@
 -- What scopes ask of principal, action and resource, and the index of policies by the entities that their scopes name.
-use Rattle.std.specs.Prelude.{◌≡◌, ◌⊎◌, ℕ, ◌/◌, ◌==◌, nat_lt, Bool, true, false, cond, ◌&&◌, ◌||◌, List, [], ◌∷◌, ◌++◌, length, Option, None, Some, is_some, slice_get}
-use Rattle.std.specs.List.{list_any}
+use Rattle.std.specs.Prelude.{◌≡◌, ◌⊎◌, ℕ, ◌/◌, ◌==◌, nat_lt, Bool, true, false, cond, not, ◌&&◌, ◌||◌, List, [], ◌∷◌, ◌++◌, length, Option, None, Some, is_some, slice_get}
+use Rattle.std.specs.List.{list_any, list_all}
 use Rattle.std.specs.Map.{lookup}
 use Rattle.std.specs.declared.alloc.Global.{Global}
 use Rattle.std.specs.declared.vec.Vec.{Vec}
@@ -67,6 +67,27 @@ IsBoundTo p e = (principal_bound p ≡ Some e) ⊎ ((action_bound p ≡ Some e) 
 abbrev pub IsBoundElsewhere : List EntityName → PolicyView → Type 0
 IsBoundElsewhere es p = (e : EntityName) × IsBoundTo p e × (is_among e es ≡ false)
 
+-- an entity is asked for, and it is this one
+abbrev pub is_the : EntityName → Option EntityName → Bool
+is_the e None = false
+is_the e (Some d) = entity_eq d e
+
+-- the scope asks that principal, action or resource is this entity or is in it
+abbrev pub asks_for : EntityName → PolicyView → Bool
+asks_for e p = is_the e (principal_bound p) || (is_the e (action_bound p) || is_the e (resource_bound p))
+
+-- it asks so of no entity
+abbrev pub is_in_rest : PolicyView → Bool
+is_in_rest p = not (is_some (principal_bound p) || (is_some (action_bound p) || is_some (resource_bound p)))
+
+-- it asks so of none, or of one of these
+abbrev pub is_looked_at : List EntityName → PolicyView → Bool
+is_looked_at es p = is_in_rest p || list_any (λ e. asks_for e p) es
+
+-- so does each of these policies
+abbrev pub AreLookedAt : List EntityName → List Policy → Type 0
+AreLookedAt es ps = list_all (λ p. is_looked_at es (policy_view p)) ps ≡ true
+
 -- the second are the first, in their order, but for some that are such
 abbrev pub AreAllBut : {A : Type 0} → (A → Type 0) → List A → List A → Type 0
 AreAllBut Such [] others = others ≡ []
@@ -118,10 +139,32 @@ ArePlaced index ps = (i : ℕ) (p : Policy) → slice_get ps i ≡ Some p → is
 pub ArePlaced-prop : (index : ScopeIndex) (ps : List Policy) (x y : ArePlaced index ps) → x ≡ y
 ArePlaced-prop index ps x y = λ j i p e. Bool-set _ _ (x i p e) (y i p e) j
 
--- what was placed stays, and this policy is placed at this position
+-- the position is in the rest, or stands under one of these entities
+abbrev pub is_looked_up : ScopeIndex → List EntityName → ℕ → Bool
+is_looked_up index es i =
+    has_position i index.rest.items || list_any (λ e. has_position i (standing_under index.groups.entries e)) es
+
+-- there is a policy, and it passes the test
+abbrev pub passes : (Policy → Bool) → Option Policy → Bool
+passes test None = false
+passes test (Some p) = test p
+
+-- each position is in the rest, or under an entity, only where one of these policies stands that is looked at for that
+abbrev pub AreFiledRight : ScopeIndex → List Policy → Type 0
+AreFiledRight index ps =
+    (es : List EntityName) (i : ℕ) → is_looked_up index es i ≡ true
+    → passes (λ p. is_looked_at es (policy_view p)) (slice_get ps i) ≡ true
+
+pub AreFiledRight-prop : (index : ScopeIndex) (ps : List Policy) (x y : AreFiledRight index ps) → x ≡ y
+AreFiledRight-prop index ps x y = λ j es i e. Bool-set _ _ (x es i e) (y es i e) j
+
+-- what was placed stays, and this policy is placed at this position; no other position is looked up than was, and this
+-- one only for what the policy is looked at for
 pub record Places (old new : ScopeIndex) (i : ℕ) (p : PolicyView) : Type 0 where
   pub stay : (j : ℕ) (q : PolicyView) → is_placed old j q ≡ true → is_placed new j q ≡ true
   pub placed : is_placed new i p ≡ true
+  pub only : (es : List EntityName) (j : ℕ) → is_looked_up new es j ≡ true
+      → (is_looked_up old es j || (j == i && is_looked_at es p)) ≡ true
 
 -- the position stands under the entity too, and the others as they did
 pub record Extends (old new : Groups) (n : EntityName) (i : ℕ) : Type 0 where
@@ -138,3 +181,13 @@ abbrev pub ArePicked : List ℕ → List Policy → List Policy → Type 0
 ArePicked ns all some =
     (index : ScopeIndex) (es : List EntityName) → ArePlaced index all → ReachesAll index es ns
     → AreWithinReach es all some
+
+-- each of these positions is looked up for these entities
+abbrev pub ReachesNoOther : ScopeIndex → List EntityName → List ℕ → Type 0
+ReachesNoOther index es ns = (i : ℕ) → has_position i ns ≡ true → is_looked_up index es i ≡ true
+
+-- where at each of these positions a policy stands that passes a test, so do all of some
+abbrev pub AreOfPositions : List ℕ → List Policy → List Policy → Type 0
+AreOfPositions ns all some =
+    (test : Policy → Bool) → ((i : ℕ) → has_position i ns ≡ true → passes test (slice_get all i) ≡ true)
+    → list_all test some ≡ true

@@ -1,10 +1,8 @@
 -- What is left to write, one part after another.
-use Rattle.std.proofs.Common.{◌≡◌, ℕ, ◌+◌, ◌<◌, Bool, false, List, [], ◌∷◌, ◌++◌, length, get_or, drop, map, flat_map, codes, append_assoc, append-nil}
-use Rattle.std.proofs.lemmas.List.{drop_more}
+use Rattle.std.proofs.Common.{◌≡◌, ℕ, Bool, false, List, [], ◌∷◌, ◌++◌, map, flat_map, codes, append_assoc, append-nil}
 use Rattle.cedar_model.specs.Terms.{Text, Term, Terms, one_term, Fields, one_field}
 use Rattle.cedar_model.specs.World.{Slots}
 use Rattle.cedar_names.specs.Texts.{separator}
-use Rattle.cedar_names.proofs.Loops.{flat_map_left}
 use Rattle.std.specs.Rc.{rc_str_bytes}
 use Rattle.std.specs.declared.alloc.Global.{Global}
 use Rattle.std.specs.declared.rc.RcStr.{RcStr}

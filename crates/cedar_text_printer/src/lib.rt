@@ -24,6 +24,7 @@
 
 mod escapes;
 mod expressions;
+mod kinds;
 mod levels;
 mod methods;
 mod names;

@@ -10,6 +10,7 @@ ghost use Rattle.cedar_text_printer.specs.Scopes as texts;
 ghost use Rattle.cedar_text_printer.specs.Texts.{written};
 
 use crate::expressions::write_expr;
+use crate::kinds::{as_and, as_binary, as_is, as_set};
 use cedar_expressions::{Expr, ExprKind};
 use cedar_names::shared::same_variable;
 use cedar_names::{BinaryOp, Literal, SlotEnv, SlotId, Var};
@@ -141,24 +142,9 @@ fn are_all_entities(slots: &SlotEnv, var: Var, parts: &[Expr]) -> bool
 fn is_entity_set(slots: &SlotEnv, var: Var, expr: &Expr) -> bool
     ensures { result ≡ texts.is_entity_set (slots_view slots.now) (variable_view var) (view expr.now) }
 {
-    match expr.expr_kind() {
-        ExprKind::Set(parts) => are_all_entities(slots, var, parts),
-        ExprKind::Lit(_) => false,
-        ExprKind::Var(_) => false,
-        ExprKind::Slot(_) => false,
-        ExprKind::Unknown(_) => false,
-        ExprKind::If { .. } => false,
-        ExprKind::And { .. } => false,
-        ExprKind::Or { .. } => false,
-        ExprKind::UnaryApp { .. } => false,
-        ExprKind::BinaryApp { .. } => false,
-        ExprKind::ExtensionFunctionApp { .. } => false,
-        ExprKind::GetAttr { .. } => false,
-        ExprKind::HasAttr { .. } => false,
-        ExprKind::ExtHasAttr { .. } => false,
-        ExprKind::Like { .. } => false,
-        ExprKind::Is { .. } => false,
-        ExprKind::Record(_) => false,
+    match as_set(expr) {
+        Some(parts) => are_all_entities(slots, var, parts),
+        None => false,
     }
 }
 
@@ -234,24 +220,9 @@ fn is_typed_variable(var: Var, expr: &Expr) -> bool
 fn is_type_test(var: Var, expr: &Expr) -> bool
     ensures { result ≡ texts.is_type_test (variable_view var) (view expr.now) }
 {
-    match expr.expr_kind() {
-        ExprKind::Is { expr, .. } => is_typed_variable(var, expr),
-        ExprKind::Lit(_) => false,
-        ExprKind::Var(_) => false,
-        ExprKind::Slot(_) => false,
-        ExprKind::Unknown(_) => false,
-        ExprKind::If { .. } => false,
-        ExprKind::And { .. } => false,
-        ExprKind::Or { .. } => false,
-        ExprKind::UnaryApp { .. } => false,
-        ExprKind::BinaryApp { .. } => false,
-        ExprKind::ExtensionFunctionApp { .. } => false,
-        ExprKind::GetAttr { .. } => false,
-        ExprKind::HasAttr { .. } => false,
-        ExprKind::ExtHasAttr { .. } => false,
-        ExprKind::Like { .. } => false,
-        ExprKind::Set(_) => false,
-        ExprKind::Record(_) => false,
+    match as_is(expr) {
+        Some(tested) => is_typed_variable(var, tested),
+        None => false,
     }
 }
 
@@ -267,24 +238,9 @@ fn are_in(slots: &SlotEnv, var: Var, op: BinaryOp, left: &Expr, right: &Expr) ->
 fn is_in_test(slots: &SlotEnv, var: Var, expr: &Expr) -> bool
     ensures { result ≡ texts.is_in_test (slots_view slots.now) (variable_view var) (view expr.now) }
 {
-    match expr.expr_kind() {
-        ExprKind::BinaryApp { op, arg1, arg2 } => are_in(slots, var, *op, arg1, arg2),
-        ExprKind::Lit(_) => false,
-        ExprKind::Var(_) => false,
-        ExprKind::Slot(_) => false,
-        ExprKind::Unknown(_) => false,
-        ExprKind::If { .. } => false,
-        ExprKind::And { .. } => false,
-        ExprKind::Or { .. } => false,
-        ExprKind::UnaryApp { .. } => false,
-        ExprKind::ExtensionFunctionApp { .. } => false,
-        ExprKind::GetAttr { .. } => false,
-        ExprKind::HasAttr { .. } => false,
-        ExprKind::ExtHasAttr { .. } => false,
-        ExprKind::Like { .. } => false,
-        ExprKind::Is { .. } => false,
-        ExprKind::Set(_) => false,
-        ExprKind::Record(_) => false,
+    match as_binary(expr) {
+        Some((op, left, right)) => are_in(slots, var, op, left, right),
+        None => false,
     }
 }
 
@@ -300,24 +256,9 @@ fn are_plain(slots: &SlotEnv, var: Var, op: BinaryOp, left: &Expr, right: &Expr)
 fn is_plain(slots: &SlotEnv, var: Var, expr: &Expr) -> bool
     ensures { result ≡ texts.is_plain (slots_view slots.now) (variable_view var) (view expr.now) }
 {
-    match expr.expr_kind() {
-        ExprKind::BinaryApp { op, arg1, arg2 } => are_plain(slots, var, *op, arg1, arg2),
-        ExprKind::Is { expr, .. } => is_typed_variable(var, expr),
-        ExprKind::Lit(_) => false,
-        ExprKind::Var(_) => false,
-        ExprKind::Slot(_) => false,
-        ExprKind::Unknown(_) => false,
-        ExprKind::If { .. } => false,
-        ExprKind::And { .. } => false,
-        ExprKind::Or { .. } => false,
-        ExprKind::UnaryApp { .. } => false,
-        ExprKind::ExtensionFunctionApp { .. } => false,
-        ExprKind::GetAttr { .. } => false,
-        ExprKind::HasAttr { .. } => false,
-        ExprKind::ExtHasAttr { .. } => false,
-        ExprKind::Like { .. } => false,
-        ExprKind::Set(_) => false,
-        ExprKind::Record(_) => false,
+    match as_binary(expr) {
+        Some((op, left, right)) => are_plain(slots, var, op, left, right),
+        None => is_type_test(var, expr),
     }
 }
 
@@ -332,24 +273,9 @@ fn are_typed(slots: &SlotEnv, var: Var, left: &Expr, right: &Expr) -> bool
 fn is_typed(slots: &SlotEnv, var: Var, expr: &Expr) -> bool
     ensures { result ≡ texts.is_typed (slots_view slots.now) (variable_view var) (view expr.now) }
 {
-    match expr.expr_kind() {
-        ExprKind::And { left, right } => are_typed(slots, var, left, right),
-        ExprKind::Lit(_) => false,
-        ExprKind::Var(_) => false,
-        ExprKind::Slot(_) => false,
-        ExprKind::Unknown(_) => false,
-        ExprKind::If { .. } => false,
-        ExprKind::Or { .. } => false,
-        ExprKind::UnaryApp { .. } => false,
-        ExprKind::BinaryApp { .. } => false,
-        ExprKind::ExtensionFunctionApp { .. } => false,
-        ExprKind::GetAttr { .. } => false,
-        ExprKind::HasAttr { .. } => false,
-        ExprKind::ExtHasAttr { .. } => false,
-        ExprKind::Like { .. } => false,
-        ExprKind::Is { .. } => false,
-        ExprKind::Set(_) => false,
-        ExprKind::Record(_) => false,
+    match as_and(expr) {
+        Some((left, right)) => are_typed(slots, var, left, right),
+        None => false,
     }
 }
 
@@ -390,24 +316,9 @@ fn write_typed<W: fmt::Write>(
     ensures { WritesOnOk W.write_str_gives f.old result
         (texts.typed_text (slots_view slots.now) (view constraint.now)) f.new }
 {
-    match constraint.expr_kind() {
-        ExprKind::And { left, right } => write_both(left, right, slots, f),
-        ExprKind::Lit(_) => f.write_str(""),
-        ExprKind::Var(_) => f.write_str(""),
-        ExprKind::Slot(_) => f.write_str(""),
-        ExprKind::Unknown(_) => f.write_str(""),
-        ExprKind::If { .. } => f.write_str(""),
-        ExprKind::Or { .. } => f.write_str(""),
-        ExprKind::UnaryApp { .. } => f.write_str(""),
-        ExprKind::BinaryApp { .. } => f.write_str(""),
-        ExprKind::ExtensionFunctionApp { .. } => f.write_str(""),
-        ExprKind::GetAttr { .. } => f.write_str(""),
-        ExprKind::HasAttr { .. } => f.write_str(""),
-        ExprKind::ExtHasAttr { .. } => f.write_str(""),
-        ExprKind::Like { .. } => f.write_str(""),
-        ExprKind::Is { .. } => f.write_str(""),
-        ExprKind::Set(_) => f.write_str(""),
-        ExprKind::Record(_) => f.write_str(""),
+    match as_and(constraint) {
+        Some((left, right)) => write_both(left, right, slots, f),
+        None => f.write_str(""),
     }
 }
 
@@ -433,24 +344,9 @@ fn write_ancestor<W: fmt::Write>(
     ensures { WritesOnOk W.write_str_gives f.old result
         (texts.ancestor_text (slots_view slots.now) (view expr.now)) f.new }
 {
-    match expr.expr_kind() {
-        ExprKind::BinaryApp { arg2, .. } => write_in(arg2, slots, f),
-        ExprKind::Lit(_) => f.write_str(""),
-        ExprKind::Var(_) => f.write_str(""),
-        ExprKind::Slot(_) => f.write_str(""),
-        ExprKind::Unknown(_) => f.write_str(""),
-        ExprKind::If { .. } => f.write_str(""),
-        ExprKind::And { .. } => f.write_str(""),
-        ExprKind::Or { .. } => f.write_str(""),
-        ExprKind::UnaryApp { .. } => f.write_str(""),
-        ExprKind::ExtensionFunctionApp { .. } => f.write_str(""),
-        ExprKind::GetAttr { .. } => f.write_str(""),
-        ExprKind::HasAttr { .. } => f.write_str(""),
-        ExprKind::ExtHasAttr { .. } => f.write_str(""),
-        ExprKind::Like { .. } => f.write_str(""),
-        ExprKind::Is { .. } => f.write_str(""),
-        ExprKind::Set(_) => f.write_str(""),
-        ExprKind::Record(_) => f.write_str(""),
+    match as_binary(expr) {
+        Some((_, _, ancestor)) => write_in(ancestor, slots, f),
+        None => f.write_str(""),
     }
 }
 

@@ -3,6 +3,7 @@ ghost use Rattle.std.specs.Prelude.{◌≡◌, None, map, IfOk, IfSome};
 ghost use Rattle.std.specs.Map.{values_of};
 ghost use Rattle.cedar_layers.specs.Policies.{policy_view, policy_ids, first_repeated, first_repeated_id};
 ghost use Rattle.cedar_layers.specs.Scopes.{ArePlaced, ArePlaced-prop, ArePicked};
+ghost use Rattle.cedar_layers.specs.Scopes.{AreFiledRight, AreFiledRight-prop, AreOfPositions};
 
 use super::policy::{Policy, PolicyID};
 use super::scope_index::ScopeIndex;
@@ -19,6 +20,8 @@ pub struct PolicySet {
     index: ScopeIndex,
     ghost distinct: { first_repeated (policy_ids (map policy_view (values_of policies.entries))) ≡ None },
     ghost indexed: { ArePlaced index (values_of policies.entries) } by { ArePlaced-prop index
+        (values_of policies.entries) },
+    ghost filed: { AreFiledRight index (values_of policies.entries) } by { AreFiledRight-prop index
         (values_of policies.entries) },
 }
 
@@ -68,7 +71,7 @@ impl<T: Drop> From<AllocFailed<T>> for PolicySetError {
 impl PolicySet {
     ghost use Rattle.std.specs.Prelude.{true, Some, Ok, OnOk, IfErr, length};
     ghost use Rattle.cedar_names.specs.Names.{uid_name};
-    ghost use Rattle.cedar_layers.specs.Scopes.{Places, AreWithinReach};
+    ghost use Rattle.cedar_layers.specs.Scopes.{Places, AreWithinReach, AreLookedAt};
     ghost use Rattle.cedar_layers.specs.PolicySets.{policies_view, stored_policies, policies_left, leaves_out_few};
     ghost use Rattle.cedar_layers.specs.PolicySets.{occupied_id, Adds, IsIdTaken};
 
@@ -136,8 +139,9 @@ impl PolicySet {
     }
 
     /// The policies in order of insertion, but for some that are bound elsewhere: of which the scope asks that
-    /// principal, action or resource is an entity, or is in one, that is none of these. None, where the index leaves
-    /// out too few (`leaves_out_few`). Refuses only if out of memory.
+    /// principal, action or resource is an entity, or is in one, that is none of these. Those that are answered
+    /// ask so of no entity at all, or of one of these. None, where the index leaves out too few (`leaves_out_few`).
+    /// Refuses only if out of memory.
     pub fn within_reach(
         &self,
         alloc: Global,
@@ -146,6 +150,8 @@ impl PolicySet {
         ensures reach { IfOk result (λ o. IfSome o (λ v. AreWithinReach (map (λ u. uid_name u.now) uids.now)
             (stored_policies self.now) (map (λ p. p.now) v.items))) }
         ensures few { leaves_out_few self.now ≡ true → result ≡ Ok None }
+        ensures looked_at { IfOk result (λ o. IfSome o (λ v. AreLookedAt (map (λ u. uid_name u.now) uids.now)
+            (map (λ p. p.now) v.items))) }
     {
         if self.leaves_out_few() {
             return Ok(None);
@@ -172,7 +178,9 @@ fn pick_policies(
     policies: &IndexMap<PolicyID, Policy>,
     positions: Vec<usize>,
 ) -> Result<Option<Vec<&Policy>>, AllocError>
-    ensures { IfOk result (λ o. IfSome o (λ v. ArePicked positions.items (values_of policies.now.entries)
+    ensures others { IfOk result (λ o. IfSome o (λ v. ArePicked positions.items (values_of policies.now.entries)
+        (map (λ p. p.now) v.items))) }
+    ensures picked { IfOk result (λ o. IfSome o (λ v. AreOfPositions positions.items (values_of policies.now.entries)
         (map (λ p. p.now) v.items))) }
 {
     let mut picked: Vec<&Policy> = Vec::new(alloc);

@@ -1,6 +1,6 @@
 #![tactic(auto, using(cedar_expressions::proofs::Levels::levels))]
 //! Which policies of a set can apply where principal, action and resource are known: by the entities that scopes name.
-ghost use Rattle.std.specs.Prelude.{◌≡◌, ◌++◌, true, false, [], map, Some, IfOk, IfSome, OnOk};
+ghost use Rattle.std.specs.Prelude.{◌≡◌, ◌++◌, true, false, [], map, None, Some, IfOk, MatchOption, OnOk};
 ghost use Rattle.cedar_model.specs.Outcomes.{entity_eq};
 ghost use Rattle.cedar_model.specs.Terms.{EntityName, binary, variable, literal};
 ghost use Rattle.cedar_names.specs.Leaves.{binary_view, variable_view, literal_view};
@@ -8,8 +8,8 @@ ghost use Rattle.cedar_names.specs.Names.{uid_name};
 ghost use Rattle.cedar_expressions.specs.View.{view};
 ghost use Rattle.cedar_layers.specs.Policies.{policy_view};
 ghost use Rattle.cedar_layers.specs.Scopes.{compares, is_entity_variable, literal_entity, compared_entity, is_truth};
-ghost use Rattle.cedar_layers.specs.Scopes.{IsBoundTo, is_mostly_rest, standing_under, Places};
-ghost use Rattle.cedar_layers.specs.Scopes.{Extends, ReachesAll};
+ghost use Rattle.cedar_layers.specs.Scopes.{IsBoundTo, is_in_rest, is_mostly_rest, standing_under};
+ghost use Rattle.cedar_layers.specs.Scopes.{Places, Extends, ReachesAll, ReachesNoOther};
 
 use super::policy::Policy;
 use cedar_expressions::{Expr, ExprKind};
@@ -27,7 +27,8 @@ pub(super) struct ScopeIndex {
 impl ScopeIndex {
     // The index of no policies. It takes no memory.
     pub(super) fn new(alloc: Global) -> ScopeIndex
-        ensures { result.rest.items ≡ [] }
+        ensures rest { result.rest.items ≡ [] }
+        ensures groups { result.groups.entries ≡ [] }
     {
         ScopeIndex {
             groups: HashMap::new(alloc),
@@ -60,13 +61,15 @@ impl ScopeIndex {
         self.rest.len() > count / 2
     }
 
-    // The positions of all policies that are not bound elsewhere than to these entities, in order.
+    // The positions of all policies that are not bound elsewhere than to these entities, in order: those in the rest,
+    // and those under these entities.
     pub(super) fn positions(
         &self,
         alloc: Global,
         uids: &[&EntityUID],
     ) -> Result<Vec<usize>, AllocError>
-        ensures { IfOk result (λ v. ReachesAll self.now (map (λ u. uid_name u.now) uids.now) v.items) }
+        ensures all { IfOk result (λ v. ReachesAll self.now (map (λ u. uid_name u.now) uids.now) v.items) }
+        ensures no_other { IfOk result (λ v. ReachesNoOther self.now (map (λ u. uid_name u.now) uids.now) v.items) }
     {
         let mut positions: Vec<usize> = Vec::new(alloc);
         positions.extend_from_slice(&self.rest)?;
@@ -120,9 +123,10 @@ fn taken_out(
     }
 }
 
-// An entity that the policy's scope asks for.
+// An entity that the policy's scope asks for. None, where it asks for none.
 fn bound_to(policy: &Policy) -> Option<&EntityUID>
-    ensures { IfSome result (λ u. IsBoundTo (policy_view policy.now) (uid_name u.now)) }
+    ensures { MatchOption result (is_in_rest (policy_view policy.now) ≡ true)
+        (λ u. IsBoundTo (policy_view policy.now) (uid_name u.now)) }
 {
     match compared_entity(policy.principal_constraint()) {
         Some(uid) => Some(uid),
@@ -138,8 +142,10 @@ fn bound_to(policy: &Policy) -> Option<&EntityUID>
 
 // The same where the principal may be any: of the resource, if it is constrained, or else of the action.
 fn bound_for_any_principal(policy: &Policy) -> Option<&EntityUID>
-    requires { is_truth (policy_view policy.now).principal_constraint ≡ true }
-    ensures { IfSome result (λ u. IsBoundTo (policy_view policy.now) (uid_name u.now)) }
+    requires any { is_truth (policy_view policy.now).principal_constraint ≡ true }
+    requires none { compared_entity (policy_view policy.now).principal_constraint ≡ None }
+    ensures { MatchOption result (is_in_rest (policy_view policy.now) ≡ true)
+        (λ u. IsBoundTo (policy_view policy.now) (uid_name u.now)) }
 {
     match compared_entity(policy.action_constraint()) {
         Some(action) => match compared_entity(policy.resource_constraint()) {
@@ -158,18 +164,35 @@ fn bound_for_any_principal(policy: &Policy) -> Option<&EntityUID>
 
 // The entity e of `x == e` and of `x in e`, where x is principal, action or resource.
 fn compared_entity(e: &Expr) -> Option<&EntityUID>
-    ensures { IfSome result (λ u. compared_entity (view e.now) ≡ Some (uid_name u.now)) }
+    ensures { MatchOption result (compared_entity (view e.now) ≡ None)
+        (λ u. compared_entity (view e.now) ≡ Some (uid_name u.now)) }
 {
     match e.expr_kind() {
         ExprKind::BinaryApp { op, arg1, arg2 } => find_compared(*op, arg1, arg2),
-        _ => None,
+        ExprKind::Lit(_) => None,
+        ExprKind::Var(_) => None,
+        ExprKind::Slot(_) => None,
+        ExprKind::Unknown(_) => None,
+        ExprKind::If { .. } => None,
+        ExprKind::And { .. } => None,
+        ExprKind::Or { .. } => None,
+        ExprKind::UnaryApp { .. } => None,
+        ExprKind::ExtensionFunctionApp { .. } => None,
+        ExprKind::GetAttr { .. } => None,
+        ExprKind::HasAttr { .. } => None,
+        ExprKind::ExtHasAttr { .. } => None,
+        ExprKind::Like { .. } => None,
+        ExprKind::Is { .. } => None,
+        ExprKind::Set(_) => None,
+        ExprKind::Record(_) => None,
     }
 }
 
 // The same of a comparison.
 fn find_compared<'a>(op: BinaryOp, left: &Expr, right: &'a Expr) -> Option<&'a EntityUID>
-    ensures { IfSome result (λ u. compared_entity (binary (binary_view op) (view left.now) (view right.now))
-        ≡ Some (uid_name u.now)) }
+    ensures { MatchOption result
+        (compared_entity (binary (binary_view op) (view left.now) (view right.now)) ≡ None)
+        (λ u. compared_entity (binary (binary_view op) (view left.now) (view right.now)) ≡ Some (uid_name u.now)) }
 {
     if compares(op) {
         if is_entity_variable(left) {
@@ -202,11 +225,11 @@ fn compares(op: BinaryOp) -> bool
 
 // Whether it is `principal`, `action` or `resource`.
 fn is_entity_variable(e: &Expr) -> bool
-    ensures { result ≡ true → is_entity_variable (view e.now) ≡ true }
+    ensures { result ≡ is_entity_variable (view e.now) }
 {
-    match e.expr_kind() {
-        ExprKind::Var(var) => stands_for_entity(*var),
-        _ => false,
+    match e.as_variable() {
+        Some(var) => stands_for_entity(var),
+        None => false,
     }
 }
 
@@ -225,17 +248,19 @@ fn stands_for_entity(var: Var) -> bool
 
 // The entity that the literal is.
 fn literal_entity(e: &Expr) -> Option<&EntityUID>
-    ensures { IfSome result (λ u. literal_entity (view e.now) ≡ Some (uid_name u.now)) }
+    ensures { MatchOption result (literal_entity (view e.now) ≡ None)
+        (λ u. literal_entity (view e.now) ≡ Some (uid_name u.now)) }
 {
-    match e.expr_kind() {
-        ExprKind::Lit(value) => entity_of_literal(value),
-        _ => None,
+    match e.as_literal() {
+        Some(value) => entity_of_literal(value),
+        None => None,
     }
 }
 
 #[tactic(auto, unfolding(crate::specs::Scopes::literal_entity))]
 fn entity_of_literal(value: &Literal) -> Option<&EntityUID>
-    ensures { IfSome result (λ u. literal_entity (literal (literal_view value.now)) ≡ Some (uid_name u.now)) }
+    ensures { MatchOption result (literal_entity (literal (literal_view value.now)) ≡ None)
+        (λ u. literal_entity (literal (literal_view value.now)) ≡ Some (uid_name u.now)) }
 {
     match value {
         Literal::EntityUID(uid) => Some(uid),
@@ -247,11 +272,11 @@ fn entity_of_literal(value: &Literal) -> Option<&EntityUID>
 
 // Whether it is `true`.
 fn is_truth(e: &Expr) -> bool
-    ensures { result ≡ true → is_truth (view e.now) ≡ true }
+    ensures { result ≡ is_truth (view e.now) }
 {
-    match e.expr_kind() {
-        ExprKind::Lit(value) => is_true(value),
-        _ => false,
+    match e.as_literal() {
+        Some(value) => is_true(value),
+        None => false,
     }
 }
 

@@ -1,9 +1,10 @@
-use Rattle.std.proofs.Common.{◌≡◌, true, sym, ap, ◌∙◌, subst}
-use Rattle.cedar_expressions.specs.View.{kind_view}
-use Rattle.cedar_expressions.proofs.Levels as levels
+use Rattle.std.proofs.Common.{sym, ap, ◌∙◌}
 use Rattle.cedar_layers.specs.Scopes.{is_entity_variable}
+use Rattle.cedar_layers.proofs.Placing.{no_variable}
 use Rattle.cedar_layers.proofs.policies.scope_index.is_entity_variable.Goals as goal
 
-pub returns-in-Var : goal.returns-in-Var
-returns-in-Var c h =
-    subst (λ t. is_entity_variable t ≡ true) (sym (levels.kind_view-Var _) ∙ sym (ap kind_view c.in-Var.is) ∙ c.expr_kind.ensures.view) (sym c.stands_for_entity.ensures ∙ h)
+pub returns-in-Some : goal.returns-in-Some
+returns-in-Some c = c.stands_for_entity.ensures ∙ sym (ap is_entity_variable c.in-Some.ensures)
+
+pub returns-in-None : goal.returns-in-None
+returns-in-None c = sym (no_variable _ c.in-None.ensures)
