@@ -1,6 +1,6 @@
 -- A set of uids after one more is put in, name by name.
 use Rattle.std.proofs.Common.{◌≡◌, refl, sym, ap, ◌∙◌, Bool, true, false, not, ◌||◌, List, [], ◌∷◌, ◌++◌, map, if◌then◌else◌}
-use Rattle.std.specs.List.{list_any}
+use Rattle.std.specs.List.{AllByRecursion, AllZip, IsDistinct, list_any}
 use Rattle.std.specs.Set.{KeepsOthers}
 use Rattle.std.proofs.Math.Bool.{or-false, or-true}
 use Rattle.std.proofs.lemmas.Bool.{not-true, not-false}
@@ -26,6 +26,23 @@ any_of_name n (u ∷ us) = ap (λ (b : Bool). entity_eq n (uid_name u) || b) (an
 pub map-behind : (us : List EntityUID) (u : EntityUID) → map uid_name (us ++ u ∷ []) ≡ map uid_name us ++ uid_name u ∷ []
 map-behind [] u = refl
 map-behind (v ∷ us) u = ap (λ (ns : List EntityName). uid_name v ∷ ns) (map-behind us u)
+
+-- the names of copies are those of the uids
+pub names_copied : (Copies : EntityUID → EntityUID → Type 0) (us vs : List EntityUID) → AllZip Copies us vs → ((u v : EntityUID) → Copies u v → uid_name v ≡ uid_name u) → map uid_name vs ≡ map uid_name us
+names_copied Copies [] [] h same = refl
+names_copied Copies [] (v ∷ vs) h same = absurd h
+names_copied Copies (u ∷ us) [] h same = absurd h
+names_copied Copies (u ∷ us) (v ∷ vs) h same = λ i. same u v h.0 i ∷ names_copied Copies us vs h.1 same i
+
+-- uids that the order tells apart have names that are
+all_apart : (u : EntityUID) (us : List EntityUID) → AllByRecursion (λ v. is_tied u v ≡ false) us → AllByRecursion (λ n. entity_eq (uid_name u) n ≡ false) (map uid_name us)
+all_apart u [] h = tt
+all_apart u (v ∷ us) h = (sym (is_tied-by_name u v) ∙ h.0, all_apart u us h.1)
+
+pub names_distinct : (us : List EntityUID) → IsDistinct is_tied us → IsDistinct entity_eq (map uid_name us)
+unfolding IsDistinct
+names_distinct [] h = tt
+names_distinct (u ∷ us) h = (all_apart u us h.0, names_distinct us h.1)
 
 module _ (old new found : List EntityUID) (key last : EntityUID) (there : list_any (is_tied key) new ≡ true) (others : KeepsOthers is_tied (is_tied key) old new) where
   among_at : (n : EntityName) (b : Bool) → entity_eq n (uid_name key) ≡ b → is_among n (map uid_name new) ≡ (is_among n (map uid_name old) || b)

@@ -15,7 +15,7 @@ pub take_whole : {A : Type 0} (xs : List A) (i : ℕ) → length xs ≤ i → ta
 take_whole xs i h = sym (append-nil (take i xs)) ∙ ap (λ ys. take i xs ++ ys) (sym (drop_none xs i h)) ∙ take-append-drop i xs
 
 -- the same of names
-length-names : (us : List EntityUID) → length (map uid_name us) ≡ length us
+pub length-names : (us : List EntityUID) → length (map uid_name us) ≡ length us
 length-names [] = refl
 length-names (u ∷ us) = ap suc (length-names us)
 

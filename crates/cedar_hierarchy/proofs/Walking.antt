@@ -1,5 +1,5 @@
 -- What a walk over parents has found at each step, and that it ends with all that parents lead to.
-use Rattle.std.proofs.Common.{◌≡◌, refl, sym, ap, ◌∙◌, ℕ, ◌+◌, ◌<◌, ◌≤◌, Bool, true, false, ◌||◌, ◌⊎◌, inl, inr, ⊎_elim, List, [], ◌∷◌, ◌++◌, length, take, drop, take-append-drop, if◌then◌else◌, append_assoc, append-nil, arith, rules}
+use Rattle.std.proofs.Common.{◌≡◌, refl, sym, ap, ◌∙◌, ℕ, ◌+◌, ◌<◌, ◌≤◌, Bool, true, false, ◌||◌, ◌⊎◌, inl, inr, ⊎_elim, List, [], ◌∷◌, ◌++◌, length, take, drop, take-append-drop, if◌then◌else◌, append_assoc, append-nil, arith}
 use Rattle.std.proofs.lemmas.List.{take-append-le}
 use Rattle.std.proofs.lemmas.Map.Keys.{IsDistinct-push}
 use Rattle.std.proofs.lemmas.Map.Made.{length-le_from_is_member}
@@ -9,8 +9,9 @@ use Rattle.cedar_model.specs.Terms.{EntityName}
 use Rattle.cedar_model.specs.Outcomes.{entity_eq}
 use Rattle.cedar_model.specs.Settings.{is_among}
 use Rattle.cedar_names.proofs.Among.{is_among-before, is_among-behind, is_among-either, is_among-none, is_among-self, is_among-one, is_among-cons, entity_equivalence}
-use Rattle.cedar_hierarchy.specs.Paths.{Parentage, Leads, in_one_step, by_a_parent, AreLedTo}
+use Rattle.cedar_hierarchy.specs.Paths.{Parentage, Leads, in_one_step, by_a_parent, AreLedTo, ArePartOf}
 use Rattle.cedar_hierarchy.specs.Walks.{marked, marked_each}
+use Rattle.cedar_hierarchy.proofs.Passing.{take_whole}
 
 -- ---- what is among names
 
@@ -114,26 +115,30 @@ pub record HasFound (parents : Parentage) (a : EntityName) (i : ℕ) (names : Li
   pub looked_at : (m n : EntityName) → is_among m (take i names) ≡ true → is_among n (parents m) ≡ true → is_among n names ≡ true
   pub distinct : IsDistinct entity_eq names
 
-no_names_distinct : IsDistinct entity_eq []
-unfolding IsDistinct
-no_names_distinct = search rules
-
-pub found_first : (parents : Parentage) (a : EntityName) → HasFound parents a 0 (marked_each (parents a) [])
-found_first parents a =
-    let g : GrowsByEach (parents a) [] (marked_each (parents a) []) = grows_by_each (parents a) [] in
+-- at first it has what is known of what a leads to, and the parents of a
+pub found_first : (parents : Parentage) (a : EntityName) (known : List EntityName) → ArePartOf parents a known → IsDistinct entity_eq known → HasFound parents a (length known) (marked_each (parents a) known)
+found_first parents a known part apart =
+    let more : List EntityName = marked_each (parents a) known in
+    let g : GrowsByEach (parents a) known more = grows_by_each (parents a) known in
+    let front : take (length known) more ≡ known = ap (take (length known)) g.extends ∙ take-append-le (length known) known g.rest (omega arith) ∙ take_whole known (length known) (omega arith) in
     record {
-      led = λ n h. ⊎_elim (λ k. absurd (is_among-none n k)) (λ k. in_one_step a n k) (g.only n h);
+      led = λ n h. ⊎_elim (λ k. part.led n k) (λ k. in_one_step a n k) (g.only n h);
       begun = g.has;
-      looked_at = λ m n h k. absurd (is_among-none m h);
-      distinct = g.distinct no_names_distinct;
+      looked_at = λ m n h k. kept n known g.rest more g.extends (part.whole m n (sym (ap (is_among m) front) ∙ h) k);
+      distinct = g.distinct apart;
     }
+
+-- what stands at a place is among the names
+pub stands_among : (x : EntityName) (i : ℕ) (names : List EntityName) → take (i + 1) names ≡ take i names ++ x ∷ [] → is_among x names ≡ true
+stands_among x i names at =
+    kept x (take (i + 1) names) (drop (i + 1) names) names (sym (take-append-drop (i + 1) names)) (ap (is_among x) at ∙ is_among-behind x (take i names) (x ∷ []) (is_among-self x []))
 
 -- the walk has looked at one more
 pub found_next : (parents : Parentage) (a x : EntityName) (i : ℕ) (names : List EntityName) → i < length names → take (i + 1) names ≡ take i names ++ x ∷ [] → HasFound parents a i names → HasFound parents a (i + 1) (marked_each (parents x) names)
 found_next parents a x i names within at f =
     let more : List EntityName = marked_each (parents x) names in
     let g : GrowsByEach (parents x) names more = grows_by_each (parents x) names in
-    let here : is_among x names ≡ true = kept x (take (i + 1) names) (drop (i + 1) names) names (sym (take-append-drop (i + 1) names)) (ap (is_among x) at ∙ is_among-behind x (take i names) (x ∷ []) (is_among-self x [])) in
+    let here : is_among x names ≡ true = stands_among x i names at in
     let to : Leads parents a x = f.led x here in
     let stays : (n : EntityName) → is_among n names ≡ true → is_among n more ≡ true = λ n h. kept n names g.rest more g.extends h in
     let front : take (i + 1) more ≡ take i names ++ x ∷ [] = ap (take (i + 1)) g.extends ∙ take-append-le (i + 1) names g.rest (omega arith) ∙ at in
@@ -152,3 +157,16 @@ found_all parents a i names ended f = λ n. (f.led n, λ l. stays_within parents
 pub found-bounded : (parents : Parentage) (a : EntityName) (i : ℕ) (names all : List EntityName) → ((m n : EntityName) → is_among n (parents m) ≡ true → is_among n all ≡ true) → HasFound parents a i names → length names ≤ length all
 found-bounded parents a i names all holds f =
     length-le_from_is_member entity_equivalence names all f.distinct (λ q h. sym (is_among-member q all) ∙ is_a_parent parents all holds a q (f.led q (is_among-member q names ∙ h)))
+
+-- nothing is a part of what a leads to, and so is what a parent leads to
+pub none_part : (parents : Parentage) (a : EntityName) (names : List EntityName) → names ≡ [] → ArePartOf parents a names
+none_part parents a names none = record {
+  led = λ n h. absurd (is_among-none n (sym (ap (is_among n) none) ∙ h));
+  whole = λ m n h k. absurd (is_among-none m (sym (ap (is_among m) none) ∙ h));
+}
+
+pub part_of_parent : (parents : Parentage) (a p : EntityName) (names : List EntityName) → is_among p (parents a) ≡ true → AreLedTo parents p names → ArePartOf parents a names
+part_of_parent parents a p names h led = record {
+  led = λ n k. by_a_parent a p n h ((led n).0 k);
+  whole = λ m n k l. (led n).1 (step_more parents p m n ((led m).0 k) l);
+}

@@ -1,8 +1,9 @@
 -- Parents as they are listed while a store is made.
-use Rattle.std.specs.Prelude.{◌≡◌, if◌then◌else◌, List, [], ◌∷◌, map, Option, None, Some}
+use Rattle.std.specs.Prelude.{◌≡◌, if◌then◌else◌, List, [], ◌∷◌, map, Option, None, Some, IfSome}
 use Rattle.std.specs.Map.{lookup}
 use Rattle.std.specs.declared.alloc.Global.{Global}
 use Rattle.std.specs.declared.vec.Vec.{Vec}
+use Rattle.std.specs.BTreeSet.{BTreeSet}
 use Rattle.cedar_model.specs.Terms.{EntityName}
 use Rattle.cedar_model.specs.Outcomes.{entity_eq}
 use Rattle.cedar_model.specs.Settings.{is_among}
@@ -10,7 +11,7 @@ use Rattle.cedar_names.specs.declared.names.EntityUID.{EntityUID}
 use Rattle.cedar_names.specs.Names.{uid_name}
 use Rattle.cedar_layers.specs.declared.policies.entities.Entity.{Entity}
 use Rattle.cedar_layers.specs.Stores.{entity_name, entity_ancestors}
-use Rattle.cedar_hierarchy.specs.Paths.{Parentage}
+use Rattle.cedar_hierarchy.specs.Paths.{Parentage, AreLedTo}
 
 -- the names of a list of uids, if there is one
 abbrev pub names_or_none : Option (Vec EntityUID Global) → List EntityName
@@ -33,3 +34,8 @@ parents_with_each before (e ∷ es) = parents_with_each (parents_with before e) 
 -- the same names, in whatever order
 abbrev pub HoldsTheSame : List EntityUID → List EntityUID → Type 0
 HoldsTheSame us vs = (n : EntityName) → is_among n (map uid_name us) ≡ is_among n (map uid_name vs)
+
+-- each set of a map has all that parents lead to from the entity that it stands under
+abbrev pub KnowsAncestors : Parentage → List (EntityUID × BTreeSet EntityUID) → Type 0
+KnowsAncestors parents es =
+    (n : EntityName) → IfSome (lookup (λ (u : EntityUID). entity_eq n (uid_name u)) es) (λ s. AreLedTo parents n (map uid_name s.keys))

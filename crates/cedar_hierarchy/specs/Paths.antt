@@ -15,3 +15,8 @@ pub data Leads (parents : Parentage) : EntityName → EntityName → Type 0 wher
 -- these names are those that parents lead to
 abbrev pub AreLedTo : Parentage → EntityName → List EntityName → Type 0
 AreLedTo parents a names = (n : EntityName) → (is_among n names ≡ true) ↔ Leads parents a n
+
+-- these names are some of those that parents lead to, with all that parents lead to from each of them
+pub record ArePartOf (parents : Parentage) (a : EntityName) (names : List EntityName) : Type 0 where
+  pub led : (n : EntityName) → is_among n names ≡ true → Leads parents a n
+  pub whole : (m n : EntityName) → is_among m names ≡ true → is_among n (parents m) ≡ true → is_among n names ≡ true

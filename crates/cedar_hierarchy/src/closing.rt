@@ -6,11 +6,11 @@ ghost use Rattle.cedar_model.specs.Settings.{is_among};
 ghost use Rattle.cedar_layers.specs.Stores.{last_of_each_name, stored_entity, store_view};
 ghost use Rattle.cedar_hierarchy.specs.Ancestry.{recorded, parents_of, AreAlike, NamesACycle, IsClosed};
 ghost use Rattle.cedar_hierarchy.specs.Paths.{Leads};
-ghost use Rattle.cedar_hierarchy.specs.Listed.{listed_parents};
+ghost use Rattle.cedar_hierarchy.specs.Listed.{listed_parents, KnowsAncestors};
 
+use crate::ancestry::{AncestorMap, all_ancestors, taken};
 use crate::error::ClosureError;
 use crate::parents::{ParentMap, copy_uid, recorded_parents};
-use crate::walk::led_to;
 use cedar_fallible::add_last;
 use cedar_layers::policies::{Entities, Entity};
 use std::alloc::Global;
@@ -20,7 +20,8 @@ use std::alloc::Global;
 /// entity is the one that was handed in, its uid, attributes and tags whole; of those of one uid the last counts, as in
 /// `Entities::with`. A parent that is not among them has no parents: where there may be more entities than these, that
 /// is wrong, and `close_hierarchy_partially` is the call. Refuses with `Cycle` where an entity's parents lead back to
-/// it, and names one such entity; else only if out of memory. For each entity the parents of each of its ancestors are
+/// it, and names one such entity, before any ancestors are computed; else only if out of memory. Ancestors are computed
+/// of parents first: those of an entity begin as those of one of its parents, and of each other one the parents are
 /// looked at once.
 pub fn close_hierarchy(alloc: Global, entities: Vec<Entity>) -> Result<Entities, ClosureError>
     ensures entities { IfOk result (λ s. (n : EntityName) →
@@ -45,20 +46,28 @@ pub(crate) fn closed_each(
     ensures ok { IfOk result (λ v. AllZip (IsClosed (listed_parents parents.now.entries)) entities.items v.items) }
     ensures cycle { IfErr result (NamesACycle (listed_parents parents.now.entries)) }
 {
+    let mut known = all_ancestors(alloc, parents)?;
     let mut each: Vec<Entity> = Vec::new(alloc);
     'entities: for entity in entities {
-        let closed = closed_entity(alloc, parents, entity)?;
+        let closed = closed_entity(alloc, parents, &mut known, entity)?;
         add_last(&mut each, closed)?;
     }
     Ok(each)
 }
 
-// The entity with all its ancestors.
-fn closed_entity(alloc: Global, parents: &ParentMap, entity: Entity) -> Result<Entity, ClosureError>
+// The entity with all its ancestors, which are taken out of those that are known.
+fn closed_entity(
+    alloc: Global,
+    parents: &ParentMap,
+    known: &mut AncestorMap,
+    entity: Entity,
+) -> Result<Entity, ClosureError>
+    requires { KnowsAncestors (listed_parents parents.now.entries) known.old.entries }
     ensures ok { IfOk result (IsClosed (listed_parents parents.now.entries) entity) }
+    ensures known { KnowsAncestors (listed_parents parents.now.entries) known.new.entries }
     ensures cycle { IfErr result (NamesACycle (listed_parents parents.now.entries)) }
 {
-    let ancestors = led_to(alloc, parents, entity.uid())?;
+    let ancestors = taken(alloc, parents, known, entity.uid())?;
     if ancestors.contains(entity.uid()) {
         return Err(ClosureError::Cycle(copy_uid(entity.uid())?));
     }

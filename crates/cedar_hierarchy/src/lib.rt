@@ -20,9 +20,11 @@
 //! `specs/LeftOut.antt`).
 #![tactic(auto)]
 
+mod ancestry;
 mod closing;
 mod error;
 pub mod laws;
+mod order;
 mod parents;
 mod partial;
 mod walk;

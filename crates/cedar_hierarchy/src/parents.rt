@@ -45,7 +45,10 @@ pub(crate) fn parents_in<'p>(parents: &'p ParentMap, uid: &EntityUID) -> Option<
 }
 
 // The uids of a set, in a list.
-fn list_uids(alloc: Global, uids: &BTreeSet<EntityUID>) -> Result<Vec<EntityUID>, AllocError>
+pub(crate) fn list_uids(
+    alloc: Global,
+    uids: &BTreeSet<EntityUID>,
+) -> Result<Vec<EntityUID>, AllocError>
     ensures { IfOk result (λ v. map uid_name v.items ≡ map uid_name uids.now.keys) }
 {
     let mut list: Vec<EntityUID> = Vec::new(alloc);

@@ -1,19 +1,42 @@
 //! The walk from an entity to all that parents lead to.
 ghost use Rattle.std.specs.Prelude.{◌≡◌, IfOk, OnOk, map};
 ghost use Rattle.cedar_names.specs.Names.{uid_name};
-ghost use Rattle.cedar_hierarchy.specs.Paths.{AreLedTo};
+ghost use Rattle.cedar_hierarchy.specs.Paths.{AreLedTo, ArePartOf};
 ghost use Rattle.cedar_hierarchy.specs.Walks.{marked, marked_each};
 ghost use Rattle.cedar_hierarchy.specs.Listed.{listed_parents, HoldsTheSame};
 
-use crate::parents::{ParentMap, copy_uid, parents_in};
+use crate::parents::{ParentMap, copy_uid, list_uids, parents_in};
 use cedar_layers::expressions::EntityUID;
 use std::alloc::{AllocError, Global};
 use std::collections::BTreeSet;
 
-// All that parents lead to from the entity of this uid: each uid is marked once, and its parents are looked at once.
-// What was marked stands in `found`, in the order in which it was found, and `reached` has the same: that is what is
-// asked in `mark`.
+// All that parents lead to from the entity of this uid, of which some are known, with all that parents lead to from
+// these: each other uid is marked once, and its parents are looked at once. What was marked stands in `found`, behind
+// what is known, in the order in which it was found, and `reached` has the same: that is what is asked in `mark`.
 pub(crate) fn led_to(
+    alloc: Global,
+    parents: &ParentMap,
+    known: &BTreeSet<EntityUID>,
+    uid: &EntityUID,
+) -> Result<BTreeSet<EntityUID>, AllocError>
+    requires { ArePartOf (listed_parents parents.now.entries) (uid_name uid.now) (map uid_name known.now.keys) }
+    ensures { IfOk result (λ s.
+        AreLedTo (listed_parents parents.now.entries) (uid_name uid.now) (map uid_name s.keys)) }
+{
+    let mut reached = same(known)?;
+    let mut found = list_uids(alloc, known)?;
+    mark_parents(&mut reached, &mut found, parents, uid)?;
+    let mut done = known.len();
+    'walk: while done < found.len() {
+        let next = copy_uid(&found[done])?;
+        mark_parents(&mut reached, &mut found, parents, &next)?;
+        done += 1;
+    }
+    Ok(reached)
+}
+
+// The same, where nothing is known.
+pub(crate) fn all_led_to(
     alloc: Global,
     parents: &ParentMap,
     uid: &EntityUID,
@@ -21,16 +44,15 @@ pub(crate) fn led_to(
     ensures { IfOk result (λ s.
         AreLedTo (listed_parents parents.now.entries) (uid_name uid.now) (map uid_name s.keys)) }
 {
-    let mut reached: BTreeSet<EntityUID> = BTreeSet::new(alloc);
-    let mut found: Vec<EntityUID> = Vec::new(alloc);
-    mark_parents(&mut reached, &mut found, parents, uid)?;
-    let mut done: usize = 0;
-    'walk: while done < found.len() {
-        let next = copy_uid(&found[done])?;
-        mark_parents(&mut reached, &mut found, parents, &next)?;
-        done += 1;
-    }
-    Ok(reached)
+    let none: BTreeSet<EntityUID> = BTreeSet::new(alloc);
+    led_to(alloc, parents, &none, uid)
+}
+
+// The same uids, whose texts are shared.
+fn same(uids: &BTreeSet<EntityUID>) -> Result<BTreeSet<EntityUID>, AllocError>
+    ensures { IfOk result (λ s. map uid_name s.keys ≡ map uid_name uids.now.keys) }
+{
+    Ok(uids.clone()?)
 }
 
 // Marks the parents of this uid.

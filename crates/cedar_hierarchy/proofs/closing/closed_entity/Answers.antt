@@ -6,7 +6,7 @@ use Rattle.cedar_hierarchy.proofs.closing.closed_entity.Goals as goal
 
 pub returns-then-contains-clause-cycle : goal.returns-then-contains-clause-cycle
 returns-then-contains-clause-cycle c =
-    cycle_found (listed_parents c.args.parents.now.entries) c.args.entity.uid c.uid.result.now c.uid-2.result.now c.in_ok-copy_uid.field-0 c.in_ok-ancestors.ancestors.keys c.contains.result c.uid.ensures.name c.uid-2.ensures.name (c.in_ok-copy_uid.ensures ∙ c.uid-then-contains.ensures.name) c.in_ok-ancestors.ensures c.contains.ensures c.if-contains.true
+    cycle_found (listed_parents c.args.parents.now.entries) c.args.entity.uid c.uid.result.now c.uid-2.result.now c.in_ok-copy_uid.field-0 c.in_ok-ancestors.ancestors.keys c.contains.result c.uid.ensures.name c.uid-2.ensures.name (c.in_ok-copy_uid.ensures ∙ c.uid-then-contains.ensures.name) c.in_ok-ancestors.ensures.led c.contains.ensures c.if-contains.true
 
 pub returns-clause-ok : goal.returns-clause-ok
 returns-clause-ok c =
@@ -15,4 +15,4 @@ returns-clause-ok c =
       attributes = c.with_ancestors.ensures.attributes;
       tags = c.with_ancestors.ensures.tags;
     } in
-    is_closed (listed_parents c.args.parents.now.entries) c.args.entity c.with_ancestors.result c.uid.result.now c.uid-2.result.now c.in_ok-ancestors.ancestors.keys c.contains.result c.uid.ensures.name c.uid-2.ensures.name c.in_ok-ancestors.ensures c.contains.ensures c.if-contains.false parts c.with_ancestors.ensures.ancestors
+    is_closed (listed_parents c.args.parents.now.entries) c.args.entity c.with_ancestors.result c.uid.result.now c.uid-2.result.now c.in_ok-ancestors.ancestors.keys c.contains.result c.uid.ensures.name c.uid-2.ensures.name c.in_ok-ancestors.ensures.led c.contains.ensures c.if-contains.false parts c.with_ancestors.ensures.ancestors

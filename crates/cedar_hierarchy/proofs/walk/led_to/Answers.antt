@@ -1,11 +1,14 @@
-use Rattle.std.proofs.Common.{◌≡◌, sym, ap, ◌∙◌, map, [], length, ◌+◌, ◌<◌, ◌≤◌, List, subst, arith}
-use Rattle.cedar_names.specs.declared.names.EntityUID.{EntityUID}
+use Rattle.std.proofs.Common.{◌≡◌, sym, ap, ◌∙◌, map, length, ◌+◌, ◌<◌, ◌≤◌, ℕ, List, subst, arith}
+use Rattle.std.specs.List.{IsDistinct}
+use Rattle.std.proofs.lemmas.Map.Keys.{IsDistinct-from_sorted}
 use Rattle.cedar_model.specs.Terms.{EntityName}
+use Rattle.cedar_model.specs.Outcomes.{entity_eq}
 use Rattle.cedar_names.specs.Names.{uid_name}
 use Rattle.cedar_hierarchy.specs.Walks.{marked_each}
 use Rattle.cedar_hierarchy.specs.Listed.{listed_parents}
 use Rattle.cedar_hierarchy.proofs.Listing.{all_listed, all_are_listed}
-use Rattle.cedar_hierarchy.proofs.Passing.{within_names, take_one_more, take_all_names, same_led_to, fewer_left}
+use Rattle.cedar_hierarchy.proofs.Passing.{length-names, within_names, take_one_more, take_all_names, same_led_to, fewer_left}
+use Rattle.cedar_hierarchy.proofs.Marking.{names_distinct}
 use Rattle.cedar_hierarchy.proofs.Walking.{HasFound, found_first, found_next, found_all, found-bounded}
 use Rattle.cedar_hierarchy.proofs.walk.led_to.Goals as goal
 
@@ -22,11 +25,16 @@ pub walk-init : goal.walk-init
 walk-init c =
     let parents = listed_parents c.args.parents.now.entries in
     let a = uid_name c.args.uid.now in
-    let names : map uid_name c.mark_parents.new.found.items ≡ marked_each (parents a) [] = c.in_ok-mark_parents.ensures.found ∙ ap (λ (us : List EntityUID). marked_each (parents a) (map uid_name us)) c.new-found.ensures.items in
-    let claim : List EntityName → Type 0 = HasFound parents a 0 in
+    let keys = c.args.known.now.keys in
+    let known = map uid_name keys in
+    let names : map uid_name c.mark_parents.new.found.items ≡ marked_each (parents a) known = c.in_ok-mark_parents.ensures.found ∙ ap (marked_each (parents a)) c.in_ok-found.ensures in
+    let apart : IsDistinct entity_eq known = names_distinct keys (IsDistinct-from_sorted _ keys c.len-done.ensures.ordered) in
+    let size : length known ≡ c.len-done.result = length-names keys ∙ sym c.len-done.ensures.len in
+    let claim : List EntityName → Type 0 = HasFound parents a c.len-done.result in
+    let from : ℕ → Type 0 = λ i. HasFound parents a i (marked_each (parents a) known) in
     record {
       same = c.in_ok-mark_parents.ensures.reached;
-      walked = subst claim (sym names) (found_first parents a);
+      walked = subst claim (sym names) (subst from size (found_first parents a known c.requires apart));
     }
 
 pub walk-preserved : goal.walk-preserved
