@@ -45,3 +45,5 @@ unfolding counted_report
 residual_stays skip e t = refl
 residual_stays forbid_on_error permit t = refl
 residual_stays forbid_on_error forbid t = refl
+
+pub ruleset stays = (true_stays, false_stays, residual_stays)

@@ -115,10 +115,8 @@ impl<'f> Authorizer<'f> {
         ensures resolution { resolution_of result ≡ resolution_of self.entry }
     {
         Authorizer {
-            extensions: self.extensions,
-            limit: self.limit,
             error_handling,
-            resolution: self.resolution,
+            ..self
         }
     }
 
@@ -129,12 +127,7 @@ impl<'f> Authorizer<'f> {
         ensures mode { mode_of result ≡ mode_of self.entry }
         ensures resolution { resolution_of result ≡ resolution_view resolution }
     {
-        Authorizer {
-            extensions: self.extensions,
-            limit: self.limit,
-            error_handling: self.error_handling,
-            resolution,
-        }
+        Authorizer { resolution, ..self }
     }
 
     /// How it handles errors.

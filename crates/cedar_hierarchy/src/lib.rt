@@ -11,8 +11,9 @@
 //! known. `close_hierarchy_partially` makes a partial store of those entities alone whose ancestors are all among them,
 //! and says which it left out: these are not known, and a later store, with more entities, brings them.
 //!
-//! - `closing`, `walk`, `parents`: whole stores. `partial`: partial ones. `error`: why no store was made. `laws`:
-//!   what stays where more entities come.
+//! - `closing`, `walk`, `parents`: whole stores; `order`: parents before their children, and `ancestry`: each entity's
+//!   ancestors of those of its parents. `partial`: partial stores. `error`: why no store was made. `laws`: what stays
+//!   where more entities come.
 //!
 //! The promise: `close_hierarchy` keeps each entity whole (clause `entities`), with exactly the ancestors that parents
 //! lead to (`ancestors`; `specs/Ancestry.antt`); a refusal names an entity that leads back to itself (`cycle`).

@@ -7,14 +7,17 @@ use Rattle.std.specs.declared.boxed.Box.{Box}
 use Rattle.cedar_model.specs.Terms.{Term}
 use Rattle.cedar_model.specs.Failures as model
 use Rattle.cedar_model.specs.Failures.{Answer, answers, fails, limit, out_of_memory}
-use Rattle.cedar_model.specs.Settings.{Setting}
+use Rattle.cedar_model.specs.Settings.{Setting, RequestPart}
 use Rattle.cedar_model.specs.Rules.{StoredCalls}
 use Rattle.cedar_model.proofs.Injections.{answers_is_not_fails}
 use Rattle.cedar_names.specs.declared.names.Loc.{Loc}
-use Rattle.cedar_expressions.specs.View.{expr_loc}
+use Rattle.cedar_expressions.specs.View.{view, expr_loc}
 use Rattle.cedar_values.specs.declared.partial_value.PartialValue.{PartialValue}
 use Rattle.cedar_values.specs.Residuals.{partial_view}
 use Rattle.cedar_extensions.specs.Extensions.{extensions_view}
+use Rattle.cedar_operators.specs.declared.partial.connectives.Connective.{Connective}
+use Rattle.cedar_operators.specs.declared.partial.connectives.Connective.TheVariants as connectives
+use Rattle.cedar_operators.specs.Connectives.{joined_terms}
 use Rattle.cedar_frames.specs.declared.machine.Transition.TheVariants.{Done}
 use Rattle.cedar_restricted.specs.declared.parts.PartsFrame.{PartsFrame}
 use Rattle.cedar_restricted.specs.Frames as restricted
@@ -22,14 +25,15 @@ use Rattle.cedar_restricted.specs.Frames.{NextPart}
 use Rattle.cedar_interpreter.specs.declared.stopped.Stopped.TheVariants as stops
 use Rattle.cedar_interpreter.specs.declared.evaluation.Evaluation.{Evaluation}
 use Rattle.cedar_interpreter.specs.declared.frame.Pending.{Pending}
+use Rattle.cedar_interpreter.specs.declared.frame.Pending.TheVariants as pendings
 use Rattle.cedar_interpreter.specs.declared.frame.Task.{Task}
 use Rattle.cedar_interpreter.specs.declared.frame.Task.TheVariants as tasks
 use Rattle.cedar_interpreter.specs.Settings.{evaluation_setting, calls_in}
 use Rattle.cedar_interpreter.proofs.Requests.{some_request}
-use Rattle.cedar_interpreter.specs.Tasks.{SharedExpr, Next, Gives, Continues, Leads, IsOrWant}
+use Rattle.cedar_interpreter.specs.Tasks.{SharedExpr, Next, WaitsFor, Gives, IsWaiting, Continues, Leads, IsOrWant}
 use Rattle.cedar_interpreter.specs.Parts.{IsTaken}
 use Rattle.cedar_interpreter.proofs.PartsLaws.{parts_fewer}
-use Rattle.cedar_interpreter.proofs.Laws.{starts_placed, continues_placed, taken_placed, gives_placed, or_out_of_memory_continues}
+use Rattle.cedar_interpreter.proofs.Laws.{waiting_starts, starts_placed, continues_placed, taken_placed, gives_placed, or_out_of_memory_continues}
 use Rattle.cedar_interpreter.proofs.Laws.{given_fewer, continues_fewer, continues_leads, parts_lead, failed_leads}
 use Rattle.cedar_interpreter.proofs.Laws.{limit_leads, out_of_memory_leads}
 use Rattle.cedar_interpreter.specs.Continuations.{StartsAt, ContinuesAt, StartsIn, ContinuesIn, LeadsIn}
@@ -40,6 +44,20 @@ starts_in e levels w t n h = (
   λ r k speaks low. h r k,
   starts_placed (evaluation_setting some_request e) (calls_in e) 0 (expr_loc w.value) t n (h some_request 0),
 )
+
+-- what waits for a part starts, where the rules make an answer of whatever the part answers
+pub waits_at : {X : Type 0} {F : X → Type 0} {g : _} (e : Evaluation X F g) (w : SharedExpr) (p : Pending) (t : Term)
+    (c : SharedExpr) (n : Next) →
+    ((r : RequestPart) (k : ℕ) → WaitsFor (evaluation_setting r e) (calls_in e) k (tasks.Other p) t (view c.value)) →
+    IsWaiting w (tasks.Other p) c n → StartsAt e w t n
+waits_at e w p t c n waits is = λ r k.
+    waiting_starts (evaluation_setting r e) (calls_in e) k w p t c n (waits r k) is
+
+-- `&&` and `||` wait for their left side
+pub left_side_waits : (s : Setting) (calls : StoredCalls) (k : ℕ) (c : Connective) (right : SharedExpr) (left : Term) →
+    WaitsFor s calls k (tasks.Other (pendings.LeftSide c right)) (joined_terms c left (view right.value)) left
+left_side_waits s calls k connectives.And right left = λ x a runs uses. (x, runs, uses)
+left_side_waits s calls k connectives.Or right left = λ x a runs uses. (x, runs, uses)
 
 pub continues_in : {X : Type 0} {F : X → Type 0} {g : _} (e : Evaluation X F g) (levels : ℕ) (w : SharedExpr) (p : Pending)
     (x : Answer) (n : Next) → ContinuesAt e w p x n → ContinuesIn e levels w p x n

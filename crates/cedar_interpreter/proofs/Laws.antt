@@ -116,6 +116,17 @@ pub literal_joined : (with_left : Term → Term) (b : Bool) → answers_bool b �
 unfolding bool_of
 literal_joined with_left b = joins with_left (value (plain_represented (bool_literal b))) b refl
 
+-- what waits for a part starts, where the rules make an answer of whatever the part answers
+pub waiting_starts : (s : Setting) (calls : StoredCalls) (k : ℕ) (w : SharedExpr) (p : Pending) (t : Term) (c : SharedExpr) (n : Next) →
+    WaitsFor s calls k (tasks.Other p) t (view c.value) → IsWaiting w (tasks.Other p) c n → Starts s calls k (expr_loc w.value) t n
+waiting_starts s calls k w p t c (Done r) waits is =
+    subst (λ o. Starts s calls k (expr_loc w.value) t (Done o)) (sym is) (λ ok. absurd (ok refl), tt)
+waiting_starts s calls k w p t c (Wait f d) waits (task, part, whole) = (
+  subst (λ q. WaitsFor s calls k q t (view d.value)) (sym task)
+      (subst (λ e. WaitsFor s calls k (tasks.Other p) t (view e)) (sym part) waits),
+  ap expr_loc whole,
+)
+
 -- the next operand
 pub waiting_continues : (s : Setting) (calls : StoredCalls) (k : ℕ) (w : SharedExpr) (p q : Pending) (x : Answer) (c : SharedExpr) (n : Next) →
     pending_left q < pending_left p → ((y a : Answer) → Runs s calls k (view c.value) y → Uses s (Runs s calls k) q y a → Uses s (Runs s calls k) p x a) →
@@ -200,6 +211,25 @@ IsPassedOn (pendings.HasAttr k) = Unit {0}
 IsPassedOn (pendings.ExtHasAttr ks) = Unit {0}
 IsPassedOn (pendings.Like p) = Unit {0}
 IsPassedOn (pendings.Is t) = Unit {0}
+
+-- what waits for neither branch beside a residual guard nor for the right side beside a residual left one
+pub other_passes : (p : Pending) → ((f : _) → p ≡ pendings.Then f → ⊥) → ((f : _) → p ≡ pendings.Else f → ⊥) →
+    ((c : _) (l : _) (r : _) → p ≡ pendings.KeptRightSide c l r → ⊥) → IsPassedOn p
+other_passes pendings.Passed not_then not_else not_kept = tt
+other_passes (pendings.Guard t e) not_then not_else not_kept = tt
+other_passes (pendings.Then f) not_then not_else not_kept = not_then f refl
+other_passes (pendings.Else f) not_then not_else not_kept = not_else f refl
+other_passes (pendings.LeftSide c r) not_then not_else not_kept = tt
+other_passes (pendings.RightSide c) not_then not_else not_kept = tt
+other_passes (pendings.KeptRightSide c l r) not_then not_else not_kept = not_kept c l r refl
+other_passes (pendings.Unary op) not_then not_else not_kept = tt
+other_passes (pendings.BinaryLeft op r) not_then not_else not_kept = tt
+other_passes (pendings.BinaryRight op l) not_then not_else not_kept = tt
+other_passes (pendings.GetAttr k) not_then not_else not_kept = tt
+other_passes (pendings.HasAttr k) not_then not_else not_kept = tt
+other_passes (pendings.ExtHasAttr ks) not_then not_else not_kept = tt
+other_passes (pendings.Like p) not_then not_else not_kept = tt
+other_passes (pendings.Is t) not_then not_else not_kept = tt
 
 passed_path : (May : MayAnswer) (q : Resolution) (store : Store) (e : model.Failure) (l : Text) (ls : List Text) → AtPath May q store (fails e) l ls (fails e)
 unfolding on_part

@@ -142,24 +142,7 @@ impl<'e, 'g, 'f> Evaluation<'e, 'g, 'f> {
                 let kept = original_of(failed, &right);
                 self.end_and_or(alloc, whole, connective, left, right, kept)
             }
-            Pending::Passed => pass_failure_on(alloc, &whole, (), failed),
-            Pending::Guard {
-                then_expr,
-                else_expr,
-            } => pass_failure_on(alloc, &whole, (then_expr, else_expr), failed),
-            Pending::LeftSide {
-                connective: _,
-                right,
-            } => pass_failure_on(alloc, &whole, right, failed),
-            Pending::RightSide(_) => pass_failure_on(alloc, &whole, (), failed),
-            Pending::Unary(op) => pass_failure_on(alloc, &whole, op, failed),
-            Pending::BinaryLeft { op: _, right } => pass_failure_on(alloc, &whole, right, failed),
-            Pending::BinaryRight { op: _, left } => pass_failure_on(alloc, &whole, left, failed),
-            Pending::GetAttr(attr) => pass_failure_on(alloc, &whole, attr, failed),
-            Pending::HasAttr(attr) => pass_failure_on(alloc, &whole, attr, failed),
-            Pending::ExtHasAttr(attrs) => pass_failure_on(alloc, &whole, attrs, failed),
-            Pending::Like(pattern) => pass_failure_on(alloc, &whole, pattern, failed),
-            Pending::Is(entity_type) => pass_failure_on(alloc, &whole, entity_type, failed),
+            other => pass_failure_on(alloc, &whole, other, failed),
         }
     }
 

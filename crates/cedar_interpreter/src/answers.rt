@@ -1,17 +1,18 @@
 //! Answers that end an expression: a value, an error or a residual, put at its location.
-ghost use Rattle.std.specs.Prelude.{◌≡◌, Bool, true, Some, IfOk};
+ghost use Rattle.std.specs.Prelude.{◌≡◌, ◌≢◌, true, None, IfOk};
 ghost use Rattle.cedar_model.specs.Failures.{Answer, answers, fails};
 ghost use Rattle.cedar_model.specs.Rules.{bool_expected};
 ghost use Rattle.cedar_expressions.specs.View.{expr_loc};
 ghost use Rattle.cedar_values.specs.Residuals.{partial_view, partial_loc, partial_inside};
 ghost use Rattle.cedar_errors.specs.Answers.{AnswersWith};
 ghost use Rattle.cedar_errors.specs.Failures.{failure_of};
-ghost use Rattle.cedar_interpreter.specs.Tasks.{Gives, IsOrWant};
+ghost use Rattle.cedar_interpreter.specs.Tasks.{Gives, IsOrWant, IsWaiting};
 ghost use Rattle.cedar_interpreter.specs.Booleans.{part_bool};
 ghost use Rattle.cedar_interpreter.specs.Elements.{IsBoxed};
+ghost use Rattle.cedar_interpreter.specs.declared.frame.Task.TheVariants as tasks;
 
 use crate::failed::Failed;
-use crate::frame::{Next, SharedExpr};
+use crate::frame::{Frame, Next, Pending, SharedExpr, Task};
 use crate::stopped::Stopped;
 use cedar_errors::evaluator::err::EvaluationError;
 use cedar_frames::Transition;
@@ -96,14 +97,10 @@ pub(crate) fn put_at(whole: &SharedExpr, mut part: Box<PartialValue>) -> Next
     }
 }
 
-// An answer that is this boolean, where the whole stands. It is no step, which would be copied once more.
+// An answer that is a boolean, where the whole stands. It is no step, which would be copied once more.
 #[inline(always)]
-pub(crate) fn bool_at(
-    whole: &SharedExpr,
-    mut part: Box<PartialValue>,
-    _b: bool,
-) -> Box<PartialValue>
-    requires { part_bool (partial_view part.value) ≡ Some _b }
+pub(crate) fn bool_at(whole: &SharedExpr, mut part: Box<PartialValue>) -> Box<PartialValue>
+    requires { part_bool (partial_view part.value) ≢ None }
     ensures view { partial_view result.value ≡ partial_view part.value }
     ensures place { partial_loc result.value ≡ expr_loc whole.now.value }
 {
@@ -117,7 +114,7 @@ fn put_value(part: &mut PartialValue, whole: &SharedExpr) -> bool
     ensures view { partial_view part.new ≡ partial_view part.old }
     ensures inside { partial_inside part.new ≡ partial_inside part.old }
     ensures put { result ≡ true → partial_loc part.new ≡ expr_loc whole.now.value }
-    ensures known { (b : Bool) → part_bool (partial_view part.old) ≡ Some b → result ≡ true }
+    ensures known { part_bool (partial_view part.old) ≢ None → result ≡ true }
 {
     match part {
         PartialValue::Value(value) => {
@@ -178,6 +175,19 @@ pub(crate) fn or_out_of_memory(next: Result<Next, AllocError>) -> Next
 {
     match next {
         Ok(next) => next,
+        Err(_) => Transition::Done(Err(Stopped::Memory)),
+    }
+}
+
+// The whole waits for this part, with this to be done with its answer.
+pub(crate) fn wait(whole: &SharedExpr, part: &SharedExpr, pending: Pending) -> Next
+    ensures { IsWaiting whole.now (tasks.Other pending) part.now result }
+{
+    match pair_of_copies(whole, part) {
+        Ok((whole, part)) => {
+            let task = Task::Other(pending);
+            Transition::Wait(Frame { whole, task }, part)
+        }
         Err(_) => Transition::Done(Err(Stopped::Memory)),
     }
 }

@@ -14,7 +14,7 @@ ghost use Rattle.cedar_interpreter.specs.Kept.{IsKept};
 ghost use Rattle.cedar_interpreter.specs.declared.frame.Pending.TheVariants as pendings;
 
 use crate::answers::{
-    answer_result_in, bool_at, known_bool, no_bool, or_out_of_memory, pair_of_copies, taken_out,
+    answer_result_in, bool_at, known_bool, no_bool, or_out_of_memory, taken_out, wait,
 };
 use crate::boxed::copied_beside;
 use crate::boxed_residual::BoxedResidual;
@@ -44,13 +44,7 @@ impl<'e, 'g, 'f> Evaluation<'e, 'g, 'f> {
             (joined_terms connective (view left.now.value) (view right.now.value)) result }
     {
         match right.clone() {
-            Ok(right) => match pair_of_copies(whole, left) {
-                Ok((whole, left)) => {
-                    let task = Task::Other(Pending::LeftSide { connective, right });
-                    Transition::Wait(Frame { whole, task }, left)
-                }
-                Err(_) => Transition::Done(Err(Stopped::Memory)),
-            },
+            Ok(right) => wait(whole, left, Pending::LeftSide { connective, right }),
             Err(_) => Transition::Done(Err(Stopped::Memory)),
         }
     }
@@ -71,7 +65,7 @@ impl<'e, 'g, 'f> Evaluation<'e, 'g, 'f> {
             Some(b) => {
                 if connective.is_decided_by(b) {
                     drop(right);
-                    Transition::Done(Ok(bool_at(&whole, left, b)))
+                    Transition::Done(Ok(bool_at(&whole, left)))
                 } else {
                     self.begin_and_or_right(alloc, whole, connective, right, left, levels)
                 }
@@ -137,7 +131,7 @@ impl<'e, 'g, 'f> Evaluation<'e, 'g, 'f> {
         ensures { ContinuesAt self.now whole (pendings.RightSide connective) (boxed_answer right) result }
     {
         match known_bool(&right) {
-            Some(b) => Transition::Done(Ok(bool_at(&whole, right, b))),
+            Some(b) => Transition::Done(Ok(bool_at(&whole, right))),
             None => self.resume_and_or_right_no_bool(alloc, whole, connective, right),
         }
     }
@@ -196,7 +190,7 @@ impl<'e, 'g, 'f> Evaluation<'e, 'g, 'f> {
         ensures { IsRightSide self.now levels whole (pendings.RightSide connective) right result }
     {
         match bool_literal_in(&right) {
-            Some(b) => Transition::Done(Ok(bool_at(&whole, set_bool_of(connective, left, b), b))),
+            Some(b) => Transition::Done(Ok(bool_at(&whole, set_bool_of(connective, left, b)))),
             None => self.begin_and_or_right_other(alloc, whole, connective, right, left, levels),
         }
     }
@@ -214,7 +208,7 @@ impl<'e, 'g, 'f> Evaluation<'e, 'g, 'f> {
         ensures { IsRightSide self.now levels whole (pendings.RightSide connective) right result }
     {
         match self.direct_bool(alloc, &right, levels) {
-            Some(b) => Transition::Done(Ok(bool_at(&whole, with_bool(left, b), b))),
+            Some(b) => Transition::Done(Ok(bool_at(&whole, with_bool(left, b)))),
             None => wait_for_right(whole, Pending::RightSide(connective), right),
         }
     }

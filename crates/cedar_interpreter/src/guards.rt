@@ -10,7 +10,7 @@ ghost use Rattle.cedar_interpreter.specs.Endings.{boxed_answer};
 ghost use Rattle.cedar_interpreter.specs.Kept.{IsKept};
 ghost use Rattle.cedar_interpreter.specs.declared.frame.Pending.TheVariants as pendings;
 
-use crate::answers::{answer_result, known_bool, no_bool, or_out_of_memory, pair_of_copies};
+use crate::answers::{answer_result, known_bool, no_bool, or_out_of_memory, pair_of_copies, wait};
 use crate::boxed::boxed_with;
 use crate::evaluation::Evaluation;
 use crate::frame::{FirstBranch, Frame, Next, Pending, SecondBranch, SharedExpr, Task};
@@ -35,16 +35,16 @@ impl<'e, 'g, 'f> Evaluation<'e, 'g, 'f> {
             (if_then_else (view test_expr.now.value) (view then_expr.now.value) (view else_expr.now.value)) result }
     {
         match pair_of_copies(then_expr, else_expr) {
-            Ok((then_expr, else_expr)) => match pair_of_copies(whole, test_expr) {
-                Ok((whole, test_expr)) => {
-                    let task = Task::Other(Pending::Guard {
+            Ok((then_expr, else_expr)) => {
+                wait(
+                    whole,
+                    test_expr,
+                    Pending::Guard {
                         then_expr,
                         else_expr,
-                    });
-                    Transition::Wait(Frame { whole, task }, test_expr)
-                }
-                Err(_) => Transition::Done(Err(Stopped::Memory)),
-            },
+                    },
+                )
+            }
             Err(_) => Transition::Done(Err(Stopped::Memory)),
         }
     }

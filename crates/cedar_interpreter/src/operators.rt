@@ -14,13 +14,12 @@ ghost use Rattle.cedar_layers.specs.Stores.{store_view};
 ghost use Rattle.cedar_operators.specs.StoredResiduals.{on_path_of};
 ghost use Rattle.cedar_interpreter.specs.Reads.{resolved_in, part_residual};
 ghost use Rattle.cedar_interpreter.specs.Settings.{resolution_view, evaluation_setting};
-ghost use Rattle.cedar_interpreter.specs.Tasks.{Gives, IsPassed, IsWaiting, IsWalkedOn};
+ghost use Rattle.cedar_interpreter.specs.Tasks.{Gives, IsPassed, IsWalkedOn};
 ghost use Rattle.cedar_interpreter.specs.Continuations.{ContinuesIn, ContinuesAt};
 ghost use Rattle.cedar_interpreter.specs.Endings.{boxed_answer};
 ghost use Rattle.cedar_interpreter.specs.declared.frame.Pending.TheVariants as pendings;
-ghost use Rattle.cedar_interpreter.specs.declared.frame.Task.TheVariants as tasks;
 
-use crate::answers::{answer_result_in, known_bool, pair_of_copies, put_at, taken_out};
+use crate::answers::{answer_result_in, known_bool, put_at, taken_out, wait};
 use crate::evaluation::Evaluation;
 use crate::frame::{Frame, Next, Pending, SharedExpr, Task};
 use crate::stopped::Stopped;
@@ -87,7 +86,7 @@ impl<'e, 'g, 'f> Evaluation<'e, 'g, 'f> {
     {
         match self.direct_value(alloc, right, levels) {
             Some(right) => self.apply_binary(alloc, whole, op, left, PartialValue::Value(right)),
-            None => right_operand(whole, op, right, left),
+            None => wait(whole, right, Pending::BinaryRight { op, left }),
         }
     }
 
@@ -280,24 +279,6 @@ impl<'e, 'g, 'f> Evaluation<'e, 'g, 'f> {
     {
         let part = taken_out(&mut entity);
         answer_result_in(alloc, whole, entity, is_of_part(alloc, part, entity_type))
-    }
-}
-
-// The right operand is waited for, beside the left one.
-fn right_operand(
-    whole: &SharedExpr,
-    op: BinaryOp,
-    right: &SharedExpr,
-    left: Box<PartialValue>,
-) -> Next
-    ensures { IsWaiting whole.now (tasks.Other (pendings.BinaryRight op left)) right.now result }
-{
-    match pair_of_copies(whole, right) {
-        Ok((whole, right)) => {
-            let task = Task::Other(Pending::BinaryRight { op, left });
-            Transition::Wait(Frame { whole, task }, right)
-        }
-        Err(_) => Transition::Done(Err(Stopped::Memory)),
     }
 }
 

@@ -15,7 +15,7 @@ ghost use Rattle.cedar_interpreter.specs.Continuations.{StartsIn, StartsAt};
 ghost use Rattle.cedar_interpreter.specs.Parts.{IsTaken, IsNextPart};
 ghost use Rattle.cedar_interpreter.specs.Elements.{IsPartTaken, NextStands, SetNext};
 
-use crate::answers::{answer_part, answer_result, loc_of, or_out_of_memory, pair_of_copies};
+use crate::answers::{answer_part, answer_result, loc_of, or_out_of_memory, wait};
 use crate::direct::literal_value;
 use crate::evaluation::Evaluation;
 use crate::frame::{Frame, Next, Pending, SharedExpr, Task};
@@ -115,13 +115,7 @@ impl<'e, 'g, 'f> Evaluation<'e, 'g, 'f> {
     fn begin_unary(&self, whole: &SharedExpr, op: UnaryOp, arg: &SharedExpr) -> Next
         ensures { StartsAt self.now whole.now (Terms.unary (unary_view op) (view arg.now.value)) result }
     {
-        match pair_of_copies(whole, arg) {
-            Ok((whole, arg)) => {
-                let task = Task::Other(Pending::Unary(op));
-                Transition::Wait(Frame { whole, task }, arg)
-            }
-            Err(_) => Transition::Done(Err(Stopped::Memory)),
-        }
+        wait(whole, arg, Pending::Unary(op))
     }
 
     fn begin_binary(
@@ -153,13 +147,7 @@ impl<'e, 'g, 'f> Evaluation<'e, 'g, 'f> {
             (Terms.binary (binary_view op) (view left.now.value) (view right.now.value)) result }
     {
         match right.clone() {
-            Ok(right) => match pair_of_copies(whole, left) {
-                Ok((whole, left)) => {
-                    let task = Task::Other(Pending::BinaryLeft { op, right });
-                    Transition::Wait(Frame { whole, task }, left)
-                }
-                Err(_) => Transition::Done(Err(Stopped::Memory)),
-            },
+            Ok(right) => wait(whole, left, Pending::BinaryLeft { op, right }),
             Err(_) => Transition::Done(Err(Stopped::Memory)),
         }
     }
@@ -186,13 +174,7 @@ impl<'e, 'g, 'f> Evaluation<'e, 'g, 'f> {
             (Terms.get_attribute (view expr.now.value) (rc_str_bytes attr.now)) result }
     {
         match attr.clone() {
-            Ok(attr) => match pair_of_copies(whole, expr) {
-                Ok((whole, expr)) => {
-                    let task = Task::Other(Pending::GetAttr(attr));
-                    Transition::Wait(Frame { whole, task }, expr)
-                }
-                Err(_) => Transition::Done(Err(Stopped::Memory)),
-            },
+            Ok(attr) => wait(whole, expr, Pending::GetAttr(attr)),
             Err(_) => Transition::Done(Err(Stopped::Memory)),
         }
     }
@@ -219,13 +201,7 @@ impl<'e, 'g, 'f> Evaluation<'e, 'g, 'f> {
             (Terms.has_attribute (view expr.now.value) (rc_str_bytes attr.now)) result }
     {
         match attr.clone() {
-            Ok(attr) => match pair_of_copies(whole, expr) {
-                Ok((whole, expr)) => {
-                    let task = Task::Other(Pending::HasAttr(attr));
-                    Transition::Wait(Frame { whole, task }, expr)
-                }
-                Err(_) => Transition::Done(Err(Stopped::Memory)),
-            },
+            Ok(attr) => wait(whole, expr, Pending::HasAttr(attr)),
             Err(_) => Transition::Done(Err(Stopped::Memory)),
         }
     }
@@ -255,13 +231,7 @@ impl<'e, 'g, 'f> Evaluation<'e, 'g, 'f> {
         ensures { StartsAt self.now whole.now (extended_has_of (view expr.now.value) attrs.now.value) result }
     {
         match attrs.clone() {
-            Ok(attrs) => match pair_of_copies(whole, expr) {
-                Ok((whole, expr)) => {
-                    let task = Task::Other(Pending::ExtHasAttr(attrs));
-                    Transition::Wait(Frame { whole, task }, expr)
-                }
-                Err(_) => Transition::Done(Err(Stopped::Memory)),
-            },
+            Ok(attrs) => wait(whole, expr, Pending::ExtHasAttr(attrs)),
             Err(_) => Transition::Done(Err(Stopped::Memory)),
         }
     }
@@ -299,13 +269,7 @@ impl<'e, 'g, 'f> Evaluation<'e, 'g, 'f> {
         ensures { StartsAt self.now whole.now (Terms.like (view expr.now.value) (pattern_view pattern.now)) result }
     {
         match boxed_pattern(alloc, pattern) {
-            Ok(pattern) => match pair_of_copies(whole, expr) {
-                Ok((whole, expr)) => {
-                    let task = Task::Other(Pending::Like(pattern));
-                    Transition::Wait(Frame { whole, task }, expr)
-                }
-                Err(_) => Transition::Done(Err(Stopped::Memory)),
-            },
+            Ok(pattern) => wait(whole, expr, Pending::Like(pattern)),
             Err(_) => Transition::Done(Err(Stopped::Memory)),
         }
     }
@@ -344,13 +308,7 @@ impl<'e, 'g, 'f> Evaluation<'e, 'g, 'f> {
             (Terms.is_of_type (view expr.now.value) (type_text entity_type.now)) result }
     {
         match boxed_type(alloc, entity_type) {
-            Ok(entity_type) => match pair_of_copies(whole, expr) {
-                Ok((whole, expr)) => {
-                    let task = Task::Other(Pending::Is(entity_type));
-                    Transition::Wait(Frame { whole, task }, expr)
-                }
-                Err(_) => Transition::Done(Err(Stopped::Memory)),
-            },
+            Ok(entity_type) => wait(whole, expr, Pending::Is(entity_type)),
             Err(_) => Transition::Done(Err(Stopped::Memory)),
         }
     }

@@ -10,6 +10,7 @@
 //!   quotes: `a.b`, `a["b c"]`, `a["if"]`. In quotes `"` and `\`, and in a pattern a `*` that is itself, have a `\`
 //!   before them; line ends, returns, tabs and zeros are `\n`, `\r`, `\t` and `\0`, other control characters of ASCII
 //!   as `\u{1b}`. `methods`: which functions are called as `a.isInRange(b)`; each other one as `ip("::1")`.
+//! - `kinds`: the four kinds that a scope may have.
 //! - `policies`, `scopes`: constraints are in the scope where they have a form that a scope has: `v == E`, `v in E`,
 //!   `action in [E, ..]`, `v is T` and `v is T in E`, with an entity, a linked slot or the variable's own slot for
 //!   `E`. From the first one on that has no such form, each is a clause `when { .. }`, in its order; the policy's own

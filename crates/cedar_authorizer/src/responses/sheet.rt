@@ -1,3 +1,4 @@
+#![tactic(auto, using(crate::proofs::Noted::stays), unfolding(cedar_model::specs::Responses::reported_of, cedar_model::specs::Responses::error_of, cedar_model::specs::Responses::with_error, cedar_model::specs::Responses::counted_report, cedar_model::specs::Chains::has_effect, cedar_model::specs::Chains::is_true, cedar_model::specs::Chains::is_false, cedar_model::specs::Chains::is_residual, crate::specs::responses::Rows::located_of))]
 //! What an authorization notes of its policies, before a response is made of it.
 ghost use Rattle.std.specs.Prelude.{◌≡◌, true, false, Some, None, OnOk};
 ghost use Rattle.cedar_model.specs.Responses.{reported_true, reported_false, reported_residual, counted_report};
@@ -67,7 +68,6 @@ impl Sheet {
 
     /// Notes how one more policy came out; where it erred, its error is noted too, and it is false, but that a forbid
     /// is satisfied where one that errs forbids. Refuses only if out of memory.
-    #[tactic(auto, using(crate::proofs::Noted::true_stays, crate::proofs::Noted::false_stays, crate::proofs::Noted::residual_stays), unfolding(cedar_model::specs::Responses::reported_of, cedar_model::specs::Responses::error_of))]
     pub fn place(
         &mut self,
         mode: ErrorHandling,
@@ -99,7 +99,6 @@ impl Sheet {
     }
 
     // A true policy.
-    #[tactic(auto, unfolding(cedar_model::specs::Responses::reported_of, cedar_model::specs::Responses::error_of, cedar_model::specs::Responses::with_error, cedar_model::specs::Chains::has_effect, cedar_model::specs::Chains::is_true, cedar_model::specs::Chains::is_false, cedar_model::specs::Chains::is_residual, crate::specs::responses::Rows::located_of))]
     fn note_true(
         &mut self,
         effect: Effect,
@@ -118,7 +117,6 @@ impl Sheet {
     }
 
     // A false policy.
-    #[tactic(auto, unfolding(cedar_model::specs::Responses::reported_of, cedar_model::specs::Responses::error_of, cedar_model::specs::Responses::with_error, cedar_model::specs::Chains::has_effect, cedar_model::specs::Chains::is_true, cedar_model::specs::Chains::is_false, cedar_model::specs::Chains::is_residual, crate::specs::responses::Rows::located_of))]
     fn note_false(
         &mut self,
         effect: Effect,
@@ -143,7 +141,6 @@ impl Sheet {
     }
 
     // A residual policy.
-    #[tactic(auto, unfolding(cedar_model::specs::Responses::reported_of, cedar_model::specs::Responses::error_of, cedar_model::specs::Responses::with_error, cedar_model::specs::Chains::has_effect, cedar_model::specs::Chains::is_true, cedar_model::specs::Chains::is_false, cedar_model::specs::Chains::is_residual, crate::specs::responses::Rows::located_of))]
     fn note_residual(
         &mut self,
         effect: Effect,
@@ -163,7 +160,6 @@ impl Sheet {
     }
 
     // An erring policy.
-    #[tactic(auto, unfolding(cedar_model::specs::Responses::reported_of, cedar_model::specs::Responses::error_of, cedar_model::specs::Responses::with_error, cedar_model::specs::Chains::has_effect, cedar_model::specs::Chains::is_true, cedar_model::specs::Chains::is_false, cedar_model::specs::Chains::is_residual, crate::specs::responses::Rows::located_of, cedar_model::specs::Responses::counted_report))]
     fn note_error(
         &mut self,
         mode: ErrorHandling,

@@ -14,7 +14,7 @@ use super::Context;
 use crate::errors::ContextCreationError;
 use cedar_expressions::ExpressionConstructionError;
 use cedar_values::Value;
-use std::alloc::{AllocError, Global};
+use std::alloc::Global;
 use std::collections::BTreeMap;
 use std::rc::{Rc, RcStr};
 
@@ -27,22 +27,9 @@ impl Context {
         ensures distinct { IfOk result (λ c. first_repeated (names_given pairs.entry.items) ≡ None) }
         ensures refused { IfErr result (IsRefusalOfNamed pairs.entry.items) }
     {
-        match values_of(alloc, pairs) {
-            Ok(values) => match shared_by(alloc, values) {
-                Ok(context) => Ok(context),
-                Err(error) => Err(ContextCreationError::Memory(error)),
-            },
-            Err(error) => Err(error),
-        }
+        let values = values_of(alloc, pairs)?;
+        Ok(Context::of_shared(alloc, Rc::new(alloc, values)?))
     }
-}
-
-// The context of these values, which its copies share.
-fn shared_by(alloc: Global, values: BTreeMap<RcStr, Value>) -> Result<Context, AllocError>
-    ensures { IfOk result (λ c. context_view c ≡ known_context (whats_at values.entries)) }
-{
-    let shared = Rc::new(alloc, values)?;
-    Ok(Context::of_shared(alloc, shared))
 }
 
 // The values under their names.
@@ -74,28 +61,7 @@ fn put_named(
         (HasOneMore (entry_names values.old.entries) name.now (entry_names values.new.entries)) }
     ensures refused { IfErr result (IsRefusalOfName (repeated_key (entry_names values.old.entries) name.now)) }
 {
-    match RcStr::from_str(alloc, name) {
-        Ok(key) => put_new(values, key, value),
-        Err(error) => {
-            drop(value);
-            Err(ContextCreationError::Memory(error))
-        }
-    }
-}
-
-// The same of a key.
-fn put_new(
-    values: &mut BTreeMap<RcStr, Value>,
-    key: RcStr,
-    value: Value,
-) -> Result<(), ContextCreationError>
-    ensures values { OnOk result
-        (whats_at values.new.entries ≡ put_value (whats_at values.old.entries) (rc_str_bytes key) value.what) }
-    ensures names { OnOk result
-        (HasOneMore (entry_names values.old.entries) (rc_str_bytes key) (entry_names values.new.entries)) }
-    ensures refused { IfErr result
-        (IsRefusalOfName (repeated_key (entry_names values.old.entries) (rc_str_bytes key))) }
-{
+    let key = RcStr::from_str(alloc, name)?;
     if values.contains_key(&key) {
         drop(value);
         return Err(refuse_duplicate_name(key));

@@ -24,6 +24,6 @@ returns-in-None g c =
     let e = c.args.self.now in
     let x = answers (partial_view c.args.left.value) in
     let p = pendings.BinaryLeft c.args.op c.args.right.now in
-    continues_in e c.args.levels c.args.whole.now p x c.right_operand.result
-    (λ r k. waiting_continues (evaluation_setting r e) (calls_in e) k c.args.whole.now p (pendings.BinaryRight c.args.op c.args.left) x c.args.right.now c.right_operand.result
-    (omega arith) (λ y a runs uses. (y, runs, uses)) c.right_operand.ensures)
+    continues_in e c.args.levels c.args.whole.now p x c.wait.result
+    (λ r k. waiting_continues (evaluation_setting r e) (calls_in e) k c.args.whole.now p (pendings.BinaryRight c.args.op c.args.left) x c.args.right.now c.wait.result
+    (omega arith) (λ y a runs uses. (y, runs, uses)) c.wait.ensures)
