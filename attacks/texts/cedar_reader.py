@@ -11,10 +11,11 @@ LETTERS = set("abcdefghijklmnopqrstuvwxyzABCDEFGHIJKLMNOPQRSTUVWXYZ_")
 DIGITS = set("0123456789")
 HEX = set("0123456789abcdefABCDEF")
 RESERVED = {"if", "then", "else", "true", "false", "in", "has", "like", "is"}
-SPECIAL = RESERVED | {"principal", "action", "resource", "context", "permit", "forbid", "when", "unless"}
+SPECIAL = RESERVED | {"principal", "action", "resource", "context", "permit", "forbid", "when", "unless", "__cedar"}
 VARIABLES = {"principal", "action", "resource", "context"}
 DOUBLES = ["::", "||", "&&", "==", "!=", "<=", ">="]
 SINGLES = "@()[]{},;:.<>!+-*"
+ENDS = {")", "]", "}", ";", "end"}
 RELATIONS = {"==", "!=", "<", "<=", ">", ">=", "in"}
 WORDED = {"has", "like", "is"}
 
@@ -34,6 +35,8 @@ OPERATOR = "an operator"
 SECOND = "no second relation"
 SIGNS = "at most four signs"
 NAME = "a variable or the rest of a name"
+OTHER_NAME = "another name than `__cedar`, which is reserved"
+ID = "`::` and an id in quotes, as in `User::\"alice\"`"
 NAME_OR_ID = "a name or an id"
 ATTRIBUTE = "an attribute"
 TEXT = "a text in quotes"
@@ -96,7 +99,7 @@ def tokenize(text):
     while i < n:
         c = text[i]
         j = i + 1
-        if c in WHITE:
+        if c in WHITE and (c != "\r" or text.startswith("\n", j)):
             i = j
             continue
         if text.startswith("//", i):
@@ -149,6 +152,8 @@ def pieces(tok, is_pattern):
 
     while i < len(inner):
         c = inner[i]
+        if c == "\r" and not inner.startswith("\n", i + 1):
+            raise Refused(ESCAPE, "a text", tok.start + 1 + i, tok.start + 2 + i)
         if c != "\\":
             out.append(STAR if is_pattern and c == "*" else c)
             i += 1
@@ -299,6 +304,16 @@ class Reader:
             self.refuse(what)
         return self.next()
 
+    def name_part(self, what):
+        """A word in the name of a type, a namespace or a function."""
+        if self.kind == "__cedar":
+            self.refuse(OTHER_NAME)
+        return self.name(what)
+
+    def due(self, closing, other):
+        """What closes a bracket, where this token would end more than what stands in it; or else another thing."""
+        return closing if self.kind in ENDS else other
+
     def note(self, problem):
         self.problems.append(problem)
 
@@ -401,11 +416,11 @@ class Reader:
         return self.made("and", [is_, in_], left.start, place.end)
 
     def path(self, what):
-        last = self.name(what)
+        last = self.name_part(what)
         name = last.text
         while self.kind == "::":
             self.next()
-            last = self.name(what)
+            last = self.name_part(what)
             name += "::" + last.text
         return name, last.end
 
@@ -477,7 +492,7 @@ class Reader:
                 self.next()
                 parts.append(self.expression())
             if self.kind != close:
-                self.refuse(COMMA_OR_CLOSE)
+                self.refuse(self.due(f"`{close}`", COMMA_OR_CLOSE))
         return parts, self.next().end
 
     def primary(self):
@@ -494,13 +509,15 @@ class Reader:
         if kind == "(":
             self.next()
             inner = self.expression()
-            end = self.want(")", OPERATOR).end
+            end = self.want(")", self.due("`)`", OPERATOR)).end
             return Part(inner.node, tok.start, end)
         if kind == "[":
             parts, end = self.list("]")
             return self.made("(set", parts, tok.start, end)
         if kind == "{":
             return self.record()
+        if kind == "__cedar":
+            self.refuse(OTHER_NAME)
         if self.is_name():
             return self.named()
         self.refuse(EXPRESSION)
@@ -527,7 +544,7 @@ class Reader:
                 break
             self.next()
         if self.kind != "}":
-            self.refuse(COMMA_OR_CLOSE)
+            self.refuse(self.due("`}`", COMMA_OR_CLOSE))
         end = self.next().end
         return Part(self.node("record", parts, start, end, keys=keys), start, end)
 
@@ -539,12 +556,12 @@ class Reader:
             if self.kind == "str":
                 tok = self.next()
                 return self.entity(name, tok, first.start)
-            name += "::" + self.name(NAME_OR_ID).text
+            name += "::" + self.name_part(NAME_OR_ID).text
         if self.kind == "(":
             args, end = self.list(")")
             return self.made(f"(call {name}", args, first.start, end)
         if name not in VARIABLES:
-            self.refuse(NAME)
+            self.refuse(ID if "::" in name else NAME)
         return self.leaf(name, first)
 
     def entity(self, name, tok, start):
@@ -560,19 +577,19 @@ class Reader:
         return part.node
 
     def whole_entity(self):
-        first = self.name(NAME)
+        first = self.name_part(ENTITY)
         name = first.text
         while True:
-            self.want("::", NAME_OR_ID)
+            self.want("::", ID)
             if self.kind == "str":
                 tok = self.next()
                 part = self.entity(name, tok, first.start)
                 break
-            name += "::" + self.name(NAME_OR_ID).text
+            name += "::" + self.name_part(NAME_OR_ID).text
         return self.ended(part.node)
 
     def whole_name(self):
-        name, _ = self.path(NAME)
+        name, _ = self.path(TYPE)
         return self.ended(Node(name))
 
     def ended(self, node):
@@ -613,7 +630,7 @@ class Reader:
             self.want("{", "`{`")
             part = self.expression()
             if self.kind != "}":
-                self.refuse(OPERATOR)
+                self.refuse(self.due("`}`", OPERATOR))
             close = self.next().end
             if which.kind == "when":
                 clauses.append(Part(part.node, which.start, close))
@@ -662,13 +679,13 @@ class Reader:
         return self.scope_entity(ENTITY if variable == "action" else ENTITY_OR_SLOT)
 
     def scope_entity(self, what):
-        first = self.name(what)
+        first = self.name_part(what)
         name = first.text
         while True:
-            self.want("::", NAME)
+            self.want("::", ID)
             if self.kind == "str":
                 return self.entity(name, self.next(), first.start)
-            name += "::" + self.name(NAME_OR_ID).text
+            name += "::" + self.name_part(NAME_OR_ID).text
 
     def references(self):
         start = self.next().start

@@ -45,6 +45,11 @@ impl<'a> Places<'a> {
         self.source.name
     }
 
+    /// The text.
+    pub(crate) fn text(&self) -> &'a str {
+        self.source.text
+    }
+
     /// The line and the column where the place begins.
     pub(crate) fn place_of(&self, loc: Loc) -> (usize, usize)
         ensures { result ≡ place_at self.now.source.text.now loc.start }

@@ -81,7 +81,7 @@ pub(crate) fn unparsed_lines(
 ) -> Result<String, Refusal> {
     match place_of(error) {
         Some(loc) => {
-            let why = why_of(alloc, error)?;
+            let why = why_of(alloc, places.text(), error)?;
             Ok(describe_at(alloc, places, Some(loc), why.as_str())?)
         }
         None => Err(Refusal::Memory),
@@ -110,12 +110,12 @@ fn loc(start: usize, end: usize) -> Option<Loc> {
     Some(Loc { start, end })
 }
 
-fn why_of(alloc: Global, error: &ParseError) -> Result<String, AllocError> {
+fn why_of(alloc: Global, text: &str, error: &ParseError) -> Result<String, AllocError> {
     match error {
         ParseError::Read(ReadError::TooDeep { .. }) => format!(in alloc;
             "the expression has more than {LEVELS} levels: each operator, of a chain too, is one more than its parts"
         ),
-        _ => message(alloc, error),
+        _ => message(alloc, text, error),
     }
 }
 

@@ -212,7 +212,7 @@ fn put_parse_error(answer: &mut Answer, text: &str, error: &ParseError) {
 fn put_call(answer: &mut Answer, text: &str, error: &ParseError, start: usize) {
     put_position(answer, text, start);
     answer.put(" ");
-    match message(answer.alloc, error) {
+    match message(answer.alloc, text, error) {
         Ok(told) => {
             answer.put(&told);
             drop(told);

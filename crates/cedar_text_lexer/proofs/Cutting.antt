@@ -8,9 +8,9 @@ use Rattle.std.proofs.lemmas.Slice.Eq.{bytes_eq-Decides}
 use Rattle.std.proofs.lemmas.Str.{char_from_byte, length-encode, len_utf8_bounds}
 use Rattle.cedar_text_lexer.specs.declared.tokens.Kind.{Kind}
 use Rattle.cedar_text_lexer.specs.declared.tokens.Kind.TheVariants as kind
-use Rattle.cedar_text_lexer.specs.Lexicon.{IsToken, IsSkipped, IsQuoted, IsUnclosed, IsWord, makes_operator, word, slot, number, text, unclosed, double, single, unreadable, blank, comment, empty, plain, escaped, ends, ends_escaping, goes_on, goes_on_escaped}
+use Rattle.cedar_text_lexer.specs.Lexicon.{is_blank, IsToken, IsSkipped, IsQuoted, IsUnclosed, IsWord, makes_operator, word, slot, number, text, unclosed, double, single, unreadable, blank, comment, empty, plain, escaped, ends, ends_escaping, goes_on, goes_on_escaped}
 use Rattle.cedar_text_lexer.specs.Operators.{operator_kind}
-use Rattle.cedar_text_lexer.specs.Scanning.{begins_with, begins_slot, begins_comment, begins_operator, begins_token, is_line_byte, quote_from, double_of, single_of}
+use Rattle.cedar_text_lexer.specs.Scanning.{begins_with, begins_slot, begins_comment, begins_operator, begins_token, begins_bare_return, is_line_byte, quote_from, double_of, single_of}
 use Rattle.cedar_text_lexer.specs.Words.{starts_word, is_word_byte, word_kind, slot_kind}
 
 -- a kind, or none, and how many bytes
@@ -136,7 +136,7 @@ opening b bs h =
 -- as computed; or one character, of which is computed that nothing else begins there
 pub data Reading : Option Kind → List ℕ → List ℕ → Type 0 where
   known : {k : Option Kind} {w after : List ℕ} → cut_of (w ++ after) ≡ record { kind = k; len = length w } → 0 < length w → Reading k w after
-  character : (c : ℕ) {after : List ℕ} → cut_of (encode_utf8 c ++ after) ≡ record { kind = None; len = 0 } → Reading (cond (is_whitespace c) None (Some kind.Unreadable)) (encode_utf8 c) after
+  character : (c : ℕ) {after : List ℕ} → cut_of (encode_utf8 c ++ after) ≡ record { kind = None; len = 0 } → Reading (cond (is_blank c after) None (Some kind.Unreadable)) (encode_utf8 c) after
 
 digit_no_word : (b : ℕ) → is_ascii_digit b ≡ true → starts_word b ≡ false
 digit_no_word b h = grind (arith, nat_tests)
@@ -258,11 +258,19 @@ token_reading (unclosed {bs} u) = known (rw append-nil (unclosed_cut bs u)) (ome
 token_reading (double {k} {a} {b} {after} h) = known (double_cut k a b after h) (omega arith)
 token_reading (single {k} {a} {after} h n) = known (single_cut k a after h n) (omega arith)
 token_reading (unreadable c {after} x y) =
-    let k : cond (is_whitespace c) None (Some kind.Unreadable) ≡ Some kind.Unreadable = rw x refl in
+    let k : cond (is_blank c after) None (Some kind.Unreadable) ≡ Some kind.Unreadable = rw x refl in
     subst (λ (o : Option Kind). Reading o (encode_utf8 c) after) k (character c (other_cut (encode_utf8 c ++ after) y))
+
+-- a blank is white
+white : (c : ℕ) (after : List ℕ) → is_blank c after ≡ true → is_whitespace c ≡ true
+white c after h = first (is_whitespace c) (not (begins_bare_return (encode_utf8 c ++ after))) h
+  where
+    first : (a b : Bool) → (a && b) ≡ true → a ≡ true
+    first true b h = refl
+    first false b h = absurd (false≢true h)
 
 pub skipped_reading : {w after : List ℕ} → IsSkipped w after → Reading None w after
 skipped_reading (blank c {after} x) =
-    let k : cond (is_whitespace c) None (Some kind.Unreadable) ≡ None = rw x refl in
-    subst (λ (o : Option Kind). Reading o (encode_utf8 c) after) k (character c (other_cut (encode_utf8 c ++ after) (blank_cut c after (encode_utf8 c ++ after) x refl)))
+    let k : cond (is_blank c after) None (Some kind.Unreadable) ≡ None = rw x refl in
+    subst (λ (o : Option Kind). Reading o (encode_utf8 c) after) k (character c (other_cut (encode_utf8 c ++ after) (blank_cut c after (encode_utf8 c ++ after) (white c after x) refl)))
 skipped_reading (comment {bs} {after} all stops) = known (comment_cut bs after all stops) (omega arith)

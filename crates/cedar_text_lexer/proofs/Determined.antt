@@ -1,11 +1,13 @@
 -- What a text or a pattern stands for is determined, and nothing that is refused stands for anything.
 use Rattle.std.proofs.Common.{◌≡◌, ◌≢◌, ℕ, ◌+◌, ◌<◌, Bool, true, false, Option, Some, None, List, [], ◌∷◌, ◌++◌, length, drop, encode_utf8, refl, sym, ap, ◌∙◌, subst, arith, rules, length-append}
+use Rattle.std.proofs.lemmas.Bool.{false≢true}
 use Rattle.std.proofs.lemmas.Str.{encode_same, char_from_byte, length-encode, len_utf8_bounds}
 use Rattle.cedar_text_lexer.specs.declared.escapes.Escape.{Escape}
 use Rattle.cedar_text_lexer.specs.declared.escapes.Piece.{Piece}
 use Rattle.cedar_text_lexer.specs.declared.values.PatternPart.{PatternPart}
 use Rattle.cedar_text_lexer.specs.Escapes.{escape_in}
-use Rattle.cedar_text_lexer.specs.Values.{IsPiece, itself, escape, IsNoPiece, unknown, alone, IsTextOf, nothing, next, IsPatternOf, no_part, next_part, part_of, IsRefused, here, later}
+use Rattle.cedar_text_lexer.specs.Scanning.{begins_bare_return}
+use Rattle.cedar_text_lexer.specs.Values.{IsPiece, itself, escape, IsNoPiece, unknown, alone, bare_return, IsTextOf, nothing, next, IsPatternOf, no_part, next_part, part_of, IsRefused, here, later}
 
 long : (c : ℕ) → 0 < length (encode_utf8 c)
 long c = omega (arith, length-encode c, (len_utf8_bounds c).0)
@@ -19,26 +21,26 @@ behind xs bs e = ap (drop 1) e
 
 -- a piece, with equations in place of its index
 data Seen (in_pattern : Bool) (bs : List ℕ) (p : Piece) : Type 0 where
-  stands : (c : ℕ) (rest : List ℕ) → encode_utf8 c ++ rest ≡ bs → c ≢ 92 → p ≡ record { char = c; is_escaped = false; len = length (encode_utf8 c) } → Seen in_pattern bs p
+  stands : (c : ℕ) (rest : List ℕ) → encode_utf8 c ++ rest ≡ bs → c ≢ 92 → begins_bare_return bs ≡ false → p ≡ record { char = c; is_escaped = false; len = length (encode_utf8 c) } → Seen in_pattern bs p
   escapes : (rest : List ℕ) (e : Escape) → 92 ∷ rest ≡ bs → escape_in in_pattern rest ≡ Some e → p ≡ record { char = e.char; is_escaped = true; len = e.len + 1 } → Seen in_pattern bs p
 
 seen : {in_pattern : Bool} {bs : List ℕ} {p : Piece} → IsPiece in_pattern bs p → Seen in_pattern bs p
-seen (itself c bs n) = stands c bs refl n refl
+seen (itself c bs n b) = stands c bs refl n b refl
 seen (escape {bs = bs} {e = e} h) = escapes bs e refl h refl
 
 same : {in_pattern : Bool} {bs : List ℕ} {p q : Piece} → Seen in_pattern bs p → Seen in_pattern bs q → p ≡ q
-same (stands c rest e n x) (stands d more f m y) =
+same (stands c rest e n b x) (stands d more f m w y) =
     let chars = (encode_same c d rest more (e ∙ sym f)).0 in
     x ∙ (ap (λ (z : ℕ). let r : Piece = record { char = z; is_escaped = false; len = length (encode_utf8 z) } in r) chars ∙ sym y)
-same (stands c rest e n x) (escapes more g f m y) = absurd (n (is_backslash c rest more (e ∙ sym f)))
-same (escapes rest g e n x) (stands d more f m y) = absurd (m (is_backslash d more rest (f ∙ sym e)))
+same (stands c rest e n b x) (escapes more g f m y) = absurd (n (is_backslash c rest more (e ∙ sym f)))
+same (escapes rest g e n x) (stands d more f m w y) = absurd (m (is_backslash d more rest (f ∙ sym e)))
 same {in_pattern} (escapes rest g e n x) (escapes more h f m y) =
     let one : Some g ≡ Some h = sym n ∙ (ap (escape_in in_pattern) (behind rest more (e ∙ sym f)) ∙ m) in
     let escapes_same : g ≡ h = cc in
     x ∙ (ap (λ (z : Escape). let r : Piece = record { char = z.char; is_escaped = true; len = z.len + 1 } in r) escapes_same ∙ sym y)
 
 seen_some : {in_pattern : Bool} {bs : List ℕ} {p : Piece} → Seen in_pattern bs p → bs ≡ [] → ⊥
-seen_some (stands c rest e n x) z = omega (arith, long c, length-append (encode_utf8 c) rest, ap length (e ∙ z))
+seen_some (stands c rest e n b x) z = omega (arith, long c, length-append (encode_utf8 c) rest, ap length (e ∙ z))
 seen_some (escapes rest g e n x) z = omega (arith, ap length (e ∙ z))
 
 none_some : (e : Escape) (o : Option Escape) → o ≡ Some e → o ≡ None → ⊥
@@ -47,10 +49,12 @@ none_some e (Some f) h k = search rules
 
 -- what is no piece is none
 apart : {in_pattern : Bool} {bs : List ℕ} {m : ℕ} {p : Piece} → IsNoPiece in_pattern bs m → Seen in_pattern bs p → ⊥
-apart {in_pattern} (unknown c bs h) (stands d more f m y) = m (is_backslash d more (encode_utf8 c ++ bs) f)
+apart {in_pattern} (unknown c bs h) (stands d more f m w y) = m (is_backslash d more (encode_utf8 c ++ bs) f)
 apart {in_pattern} (unknown c bs h) (escapes more g f m y) = none_some g (escape_in in_pattern more) m (ap (escape_in in_pattern) (behind more (encode_utf8 c ++ bs) f) ∙ h)
-apart {in_pattern} (alone h) (stands d more f m y) = m (is_backslash d more [] f)
+apart {in_pattern} (alone h) (stands d more f m w y) = m (is_backslash d more [] f)
 apart {in_pattern} (alone h) (escapes more g f m y) = none_some g (escape_in in_pattern more) m (ap (escape_in in_pattern) (behind more [] f) ∙ h)
+apart (bare_return h) (stands d more f m w y) = false≢true (sym w ∙ h)
+apart (bare_return h) (escapes more g f m y) = false≢true (ap begins_bare_return f ∙ h)
 
 -- ---- texts
 
@@ -85,6 +89,7 @@ text_here : {bs value : List ℕ} {m : ℕ} → IsNoPiece false bs m → TextVie
 text_here n (is_next q more t r y) = apart n t
 text_here (unknown c bs h) (is_nothing z y) = omega (arith, ap length z)
 text_here (alone h) (is_nothing z y) = omega (arith, ap length z)
+text_here (bare_return h) (is_nothing z y) = false≢true (sym (ap begins_bare_return z) ∙ h)
 
 pub text_refused : {bs : List ℕ} {n m : ℕ} → IsRefused false bs n m → (value : List ℕ) → IsTextOf bs value → ⊥
 text_refused (here h) value t = text_here h (text_view t)
@@ -123,6 +128,7 @@ pattern_here : {bs : List ℕ} {parts : List PatternPart} {m : ℕ} → IsNoPiec
 pattern_here n (is_next_part q more t r y) = apart n t
 pattern_here (unknown c bs h) (is_no_part z y) = omega (arith, ap length z)
 pattern_here (alone h) (is_no_part z y) = omega (arith, ap length z)
+pattern_here (bare_return h) (is_no_part z y) = false≢true (sym (ap begins_bare_return z) ∙ h)
 
 pub pattern_refused : {bs : List ℕ} {n m : ℕ} → IsRefused true bs n m → (parts : List PatternPart) → IsPatternOf bs parts → ⊥
 pattern_refused (here h) parts t = pattern_here h (pattern_view t)

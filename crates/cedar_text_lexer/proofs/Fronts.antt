@@ -1,12 +1,12 @@
 -- Each way in which a text begins is a token, or none, of the lexicon.
-use Rattle.std.proofs.Common.{◌≡◌, ℕ, zero, suc, ◌+◌, ◌-◌, ◌<◌, Bool, true, false, cond, ◌==◌, Option, Some, None, is_some, option_map, List, [], ◌∷◌, ◌++◌, length, get_or, take, drop, slice_range, refl, ap, sym, ◌∙◌, arith, tests, one-add, add-one, take_all, drop_of_length-le, encode_utf8, rules, take-suc, take_at, drop_at, le_refl, IsUtf8, IsCharBoundary}
+use Rattle.std.proofs.Common.{◌≡◌, ℕ, zero, suc, ◌+◌, ◌-◌, ◌<◌, Bool, true, false, cond, not, ◌&&◌, ◌==◌, Option, Some, None, is_some, option_map, List, [], ◌∷◌, ◌++◌, length, get_or, take, drop, slice_range, refl, ap, sym, ◌∙◌, arith, tests, one-add, add-one, take_all, drop_of_length-le, encode_utf8, rules, take-suc, take_at, drop_at, le_refl, IsUtf8, IsCharBoundary}
 use Rattle.std.specs.List.{prefix_len}
 use Rattle.std.specs.Char.{is_ascii_digit, is_whitespace}
 use Rattle.std.proofs.lemmas.Bool.{false≢true, and_parts, eqb-false}
 use Rattle.cedar_text_lexer.specs.declared.tokens.Kind.{Kind}
 use Rattle.cedar_text_lexer.specs.declared.tokens.Kind.TheVariants as kind
 use Rattle.cedar_text_lexer.specs.Words.{starts_word, is_word_byte, word_kind, slot_kind}
-use Rattle.cedar_text_lexer.specs.Scanning.{begins_with, begins_slot, begins_comment, begins_token, is_line_byte, quote_from, double_of, single_of}
+use Rattle.cedar_text_lexer.specs.Scanning.{begins_with, begins_slot, begins_comment, begins_token, begins_bare_return, is_line_byte, quote_from, double_of, single_of}
 use Rattle.cedar_text_lexer.specs.Lexicon.{IsToken, IsSkipped, IsQuoted, IsUnclosed, word, slot, number, text, unclosed, double, single, unreadable, blank, comment, empty, plain, escaped, ends, ends_escaping, goes_on, goes_on_escaped}
 use Rattle.std.proofs.lemmas.Str.{IsCharBoundary-after_ascii, IsCharBoundary-at_seam, IsUtf8-past_char}
 use Rattle.cedar_text_lexer.proofs.Runs.{taken, stopped, run_boundary, line_boundary}
@@ -104,14 +104,14 @@ unclosed_of (b ∷ bs) false h = at (λ e. unclosed_of bs e) (b == 34) refl (b =
 
 -- ---- characters
 
-pub blank_cut : (bs after : List ℕ) (c n : ℕ) → bs ≡ encode_utf8 c ++ after → n ≡ length (encode_utf8 c) → is_whitespace c ≡ true → IsSkipped (take n bs) (drop n bs)
+pub blank_cut : (bs after : List ℕ) (c n : ℕ) → bs ≡ encode_utf8 c ++ after → n ≡ length (encode_utf8 c) → (is_whitespace c && not (begins_bare_return bs)) ≡ true → IsSkipped (take n bs) (drop n bs)
 blank_cut bs after c n e m h =
-    rw (e, m, take_at (encode_utf8 c) after (length (encode_utf8 c)) refl, drop_at (encode_utf8 c) after (length (encode_utf8 c)) refl) (blank c h)
+    rw (e, m, take_at (encode_utf8 c) after (length (encode_utf8 c)) refl, drop_at (encode_utf8 c) after (length (encode_utf8 c)) refl) (blank c (rw e at h))
 
-pub unreadable_cut : (bs after : List ℕ) (c n : ℕ) → bs ≡ encode_utf8 c ++ after → n ≡ length (encode_utf8 c) → is_whitespace c ≡ false → begins_token bs ≡ false → IsToken kind.Unreadable (take n bs) (drop n bs)
+pub unreadable_cut : (bs after : List ℕ) (c n : ℕ) → bs ≡ encode_utf8 c ++ after → n ≡ length (encode_utf8 c) → (is_whitespace c && not (begins_bare_return bs)) ≡ false → begins_token bs ≡ false → IsToken kind.Unreadable (take n bs) (drop n bs)
 unreadable_cut bs after c n e m h k =
     let none : begins_token (encode_utf8 c ++ after) ≡ false = rw (← e) k in
-    rw (e, m, take_at (encode_utf8 c) after (length (encode_utf8 c)) refl, drop_at (encode_utf8 c) after (length (encode_utf8 c)) refl) (unreadable c h none)
+    rw (e, m, take_at (encode_utf8 c) after (length (encode_utf8 c)) refl, drop_at (encode_utf8 c) after (length (encode_utf8 c)) refl) (unreadable c (rw e at h) none)
 
 -- ---- operators
 

@@ -44,7 +44,8 @@ word_no_text w =
     row (bytes_eq w (codes "has")) kind.Has _ refl (
     row (bytes_eq w (codes "like")) kind.Like _ refl (
     row (bytes_eq w (codes "is")) kind.Is _ refl (
-    refl)))))))))))))))))
+    row (bytes_eq w (codes "__cedar")) kind.Cedar _ refl (
+    refl))))))))))))))))))
 
 slot_no_text : (w : List ℕ) → is_text (slot_kind w) ≡ false
 slot_no_text w =

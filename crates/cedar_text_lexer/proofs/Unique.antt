@@ -1,10 +1,10 @@
 -- Bytes have one list of tokens, and no other.
 use Rattle.std.proofs.Common.{◌≡◌, ℕ, ◌+◌, ◌<◌, cond, Option, Some, None, List, [], ◌∷◌, ◌++◌, length, take, drop, encode_utf8, refl, sym, ap, ◌∙◌, subst₂, arith, rules, length-append, take_at, drop_at}
-use Rattle.std.specs.Char.{is_whitespace}
 use Rattle.std.proofs.lemmas.Str.{encode_same}
 use Rattle.cedar_text_lexer.specs.declared.tokens.Kind.{Kind}
 use Rattle.cedar_text_lexer.specs.declared.tokens.Kind.TheVariants as kind
 use Rattle.cedar_text_lexer.specs.declared.tokens.Token.{Token}
+use Rattle.cedar_text_lexer.specs.Lexicon.{is_blank}
 use Rattle.cedar_text_lexer.specs.Tokens.{IsTokens, end, skips, has, placed}
 use Rattle.cedar_text_lexer.proofs.Cutting.{Cut, cut_of, Reading, known, character, long, token_reading, skipped_reading}
 
@@ -27,8 +27,11 @@ same (character c e) (known {k = j} {w = v} f m) q =
     let none : length v ≡ 0 = ap (λ (x : Cut). x.len) (sym f ∙ (ap cut_of (sym q) ∙ e)) in
     absurd (omega (arith, none, m))
 same (character c {after = a} e) (character d {after = b} f) q =
-    let r = encode_same c d a b q in
-    (ap (λ (x : ℕ). cond (is_whitespace x) None (Some kind.Unreadable)) r.0, ap encode_utf8 r.0, r.1)
+    let r = encode_same c d a b q in (
+      ap (λ (x : ℕ). cond (is_blank x a) None (Some kind.Unreadable)) r.0 ∙ ap (λ (x : List ℕ). cond (is_blank d x) None (Some kind.Unreadable)) r.1,
+      ap encode_utf8 r.0,
+      r.1,
+    )
 
 data View (at : ℕ) (bs : List ℕ) (ts : List Token) : Type 0 where
   ended : bs ≡ [] → ts ≡ record { kind = kind.End; start = at; end = at } ∷ [] → View at bs ts

@@ -5,7 +5,7 @@ use Rattle.cedar_text_lexer.specs.declared.errors.Expected.TheVariants as wanted
 use Rattle.cedar_text_lexer.specs.declared.tokens.Kind.{Kind}
 use Rattle.cedar_text_lexer.specs.declared.tokens.Kind.TheVariants as kind
 
--- a word that may name an attribute or stand in a name
+-- a word that may name an attribute
 abbrev pub is_identifier : Kind → Bool
 is_identifier kind.Identifier = true
 is_identifier kind.Principal = true
@@ -16,7 +16,26 @@ is_identifier kind.Permit = true
 is_identifier kind.Forbid = true
 is_identifier kind.When = true
 is_identifier kind.Unless = true
+is_identifier kind.Cedar = true
 is_identifier _ = false
+
+-- a word that may stand in the name of a type, a namespace or a function: each of these but `__cedar`
+abbrev pub is_name : Kind → Bool
+is_name kind.Identifier = true
+is_name kind.Principal = true
+is_name kind.Action = true
+is_name kind.Resource = true
+is_name kind.Context = true
+is_name kind.Permit = true
+is_name kind.Forbid = true
+is_name kind.When = true
+is_name kind.Unless = true
+is_name _ = false
+
+-- what was expected, where such a token stands in place of a name: `__cedar` should have been another
+abbrev pub name_for : Expected → Kind → Expected
+name_for what kind.Cedar = wanted.OtherName
+name_for what _ = what
 
 -- a word that stands for itself alone
 abbrev pub is_reserved : Kind → Bool

@@ -1,13 +1,13 @@
 -- The tokens of the language: which bytes are a token of which kind, and which are none. A word, a number and an
 -- operator are as long as they can be: what is behind does not go on with them. Of the bytes that are written as
 -- numbers, 34 is `"`, 92 is `\`, 63 is `?` and 47 is `/`.
-use Rattle.std.specs.Prelude.{◌≡◌, ◌≢◌, ℕ, IsTrue, IsFalse, Bool, Some, is_some, List, [], ◌∷◌, ◌++◌, encode_utf8}
+use Rattle.std.specs.Prelude.{◌≡◌, ◌≢◌, ℕ, IsTrue, IsFalse, Bool, not, ◌&&◌, Some, is_some, List, [], ◌∷◌, ◌++◌, encode_utf8}
 use Rattle.std.specs.List.{list_all}
 use Rattle.std.specs.Char.{is_ascii_digit, is_whitespace}
 use Rattle.cedar_text_lexer.specs.declared.tokens.Kind.{Kind}
 use Rattle.cedar_text_lexer.specs.declared.tokens.Kind.TheVariants as kind
 use Rattle.cedar_text_lexer.specs.Operators.{operator_kind}
-use Rattle.cedar_text_lexer.specs.Scanning.{begins_with, begins_token, is_line_byte}
+use Rattle.cedar_text_lexer.specs.Scanning.{begins_with, begins_token, begins_bare_return, is_line_byte}
 use Rattle.cedar_text_lexer.specs.Words.{starts_word, is_word_byte, word_kind, slot_kind}
 
 -- what may stand between quotes: a quote and a backslash only behind a backslash
@@ -39,6 +39,10 @@ pub record IsWholeNumber (b : ℕ) (bs after : List ℕ) : Type 0 where
 abbrev pub makes_operator : ℕ → ℕ → Bool
 makes_operator a b = is_some (operator_kind (a ∷ b ∷ []))
 
+-- a character between tokens, where these bytes stand behind it: each blank but a bare carriage return
+abbrev pub is_blank : ℕ → List ℕ → Bool
+is_blank c after = is_whitespace c && not (begins_bare_return (encode_utf8 c ++ after))
+
 -- the bytes are a token of this kind, where these others stand behind them
 pub data IsToken : Kind → List ℕ → List ℕ → Type 0 where
   -- an identifier or a keyword
@@ -55,11 +59,11 @@ pub data IsToken : Kind → List ℕ → List ℕ → Type 0 where
       operator_kind (a ∷ []) ≡ Some k → IsFalse (begins_with (makes_operator a) after) → IsToken k (a ∷ []) after
   -- one character, no blank, with which no token and no comment begins
   unreadable : (c : ℕ) {after : List ℕ} →
-      IsFalse (is_whitespace c) → IsFalse (begins_token (encode_utf8 c ++ after)) →
+      IsFalse (is_blank c after) → IsFalse (begins_token (encode_utf8 c ++ after)) →
       IsToken kind.Unreadable (encode_utf8 c) after
 
 -- the bytes are a blank, which is one character, or a comment, which goes on to the end of its line
 pub data IsSkipped : List ℕ → List ℕ → Type 0 where
-  blank : (c : ℕ) {after : List ℕ} → IsTrue (is_whitespace c) → IsSkipped (encode_utf8 c) after
+  blank : (c : ℕ) {after : List ℕ} → IsTrue (is_blank c after) → IsSkipped (encode_utf8 c) after
   comment : {bs after : List ℕ} →
       IsTrue (list_all is_line_byte bs) → IsFalse (begins_with is_line_byte after) → IsSkipped (47 ∷ 47 ∷ bs) after

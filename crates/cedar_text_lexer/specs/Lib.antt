@@ -1,6 +1,7 @@
 pub mod Escapes
 pub mod Kinds
 pub mod Lexicon
+pub mod Messages
 pub mod Names
 pub mod Operators
 pub mod Positions

@@ -1,13 +1,8 @@
 -- Lines and columns.
-use Rattle.std.specs.Prelude.{◌≡◌, ◌++◌, min, length, codes, decimal, ℕ, ◌+◌, Bool, ◌==◌, ◌&&◌, nat_le, nat_lt, if◌then◌else◌, List, map, take}
+use Rattle.std.specs.Prelude.{◌≡◌, ◌++◌, length, codes, decimal, ℕ, ◌+◌, Bool, ◌==◌, ◌&&◌, nat_le, nat_lt, if◌then◌else◌, List, map, take}
 use Rattle.std.specs.Str.{chars}
 use Rattle.std.specs.List.{fold}
-use Rattle.cedar_text_lexer.specs.declared.errors.Expected.{Expected}
-use Rattle.cedar_text_lexer.specs.declared.errors.ReadError.{ReadError}
-use Rattle.cedar_text_lexer.specs.declared.errors.ReadError.TheVariants as error
 use Rattle.cedar_text_lexer.specs.declared.show.Position.{Position}
-use Rattle.cedar_text_lexer.specs.declared.tokens.Kind.{Kind}
-use Rattle.cedar_text_lexer.specs.Names.{kind_text, expected_text}
 
 -- the byte goes on with a character that another began
 abbrev pub goes_on : ℕ → Bool
@@ -28,17 +23,6 @@ position_of text at = fold behind (record { at = 0; line = 1; column = 1; start 
 abbrev pub headline_of : Position → List ℕ → List ℕ
 headline_of p why =
     codes "line " ++ (decimal p.line ++ (codes ", column " ++ (decimal p.column ++ (codes ": " ++ why))))
-
-abbrev pub expected_found : Expected → Kind → List ℕ
-expected_found what found = codes "expected " ++ (expected_text what ++ (codes ", found " ++ kind_text found))
-
--- what is told of an error, before the line itself
-abbrev pub told_of : List ℕ → ReadError → List ℕ
-told_of text error.Memory = codes "memory was wanting"
-told_of text (error.Expected what found start end) =
-    headline_of (position_of text (min start (length text))) (expected_found what found)
-told_of text (error.TooDeep start end) =
-    headline_of (position_of text (min start (length text))) (codes "the expression is nested too deeply")
 
 -- what stands under a character: the mark, and under a tab a tab
 abbrev pub mark_for : ℕ → ℕ → ℕ

@@ -41,6 +41,11 @@ begins_token bs =
     begins_with starts_word bs || (begins_with is_ascii_digit bs || (begins_with (λ b. b == 34) bs
     || (begins_slot bs || (begins_comment bs || begins_operator bs))))
 
+-- a carriage return (13) that no line feed (10) follows
+abbrev pub begins_bare_return : List ℕ → Bool
+begins_bare_return [] = false
+begins_bare_return (b ∷ bs) = (b == 13) && not (begins_with (λ c. c == 10) bs)
+
 -- a byte of a comment's line: neither `\n` nor `\r`
 abbrev pub is_line_byte : ℕ → Bool
 is_line_byte b = not ((b == 10) || (b == 13))

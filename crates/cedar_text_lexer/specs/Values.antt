@@ -1,5 +1,5 @@
 -- What tokens stand for.
-use Rattle.std.specs.Prelude.{◌≡◌, ◌≢◌, ℕ, ◌+◌, ◌-◌, ◌≤◌, Bool, true, false, ◌==◌, if◌then◌else◌, Some, None, List, [], ◌∷◌, ◌++◌, length, drop, slice_index, slice_range, encode_utf8, IsCharBoundary}
+use Rattle.std.specs.Prelude.{◌≡◌, ◌≢◌, ℕ, ◌+◌, ◌-◌, ◌≤◌, IsTrue, IsFalse, Bool, true, false, ◌==◌, if◌then◌else◌, Some, None, List, [], ◌∷◌, ◌++◌, length, drop, slice_index, slice_range, encode_utf8, IsCharBoundary}
 use Rattle.cedar_text_lexer.specs.declared.escapes.Escape.{Escape}
 use Rattle.cedar_text_lexer.specs.declared.escapes.Piece.{Piece}
 use Rattle.cedar_text_lexer.specs.declared.values.PatternPart.{PatternPart}
@@ -11,6 +11,7 @@ use Rattle.cedar_text_lexer.specs.declared.tokens.Kind.TheVariants as kind
 use Rattle.cedar_text_lexer.specs.declared.tokens.Token.{Token}
 use Rattle.cedar_text_lexer.specs.Escapes.{escape_in}
 use Rattle.cedar_text_lexer.specs.Lexicon.{IsToken}
+use Rattle.cedar_text_lexer.specs.Scanning.{begins_bare_return}
 
 -- the token's own bytes
 abbrev pub word_of : List ℕ → Token → List ℕ
@@ -35,16 +36,17 @@ inside_of word = slice_range word 1 (length word - 1)
 
 -- with which character these bytes begin: one that stands there, or that an escape stands for
 pub data IsPiece (in_pattern : Bool) : List ℕ → Piece → Type 0 where
-  itself : (c : ℕ) (bs : List ℕ) → c ≢ 92 →
+  itself : (c : ℕ) (bs : List ℕ) → c ≢ 92 → IsFalse (begins_bare_return (encode_utf8 c ++ bs)) →
       IsPiece in_pattern (encode_utf8 c ++ bs) (record { char = c; is_escaped = false; len = length (encode_utf8 c) })
   escape : {bs : List ℕ} {e : Escape} → escape_in in_pattern bs ≡ Some e →
       IsPiece in_pattern (92 ∷ bs) (record { char = e.char; is_escaped = true; len = e.len + 1 })
 
--- the bytes begin with a backslash and a character, so many bytes, that are no escape
+-- the bytes begin with a backslash and a character, so many bytes, that are no escape; or with a bare carriage return
 pub data IsNoPiece (in_pattern : Bool) : List ℕ → ℕ → Type 0 where
   unknown : (c : ℕ) (bs : List ℕ) → escape_in in_pattern (encode_utf8 c ++ bs) ≡ None →
       IsNoPiece in_pattern (92 ∷ (encode_utf8 c ++ bs)) (length (encode_utf8 c) + 1)
   alone : escape_in in_pattern [] ≡ None → IsNoPiece in_pattern (92 ∷ []) 1
+  bare_return : {bs : List ℕ} → IsTrue (begins_bare_return bs) → IsNoPiece in_pattern bs 1
 
 -- what stands between the quotes of a text stands for the text of these bytes
 pub data IsTextOf : List ℕ → List ℕ → Type 0 where

@@ -38,8 +38,9 @@ word_kind w =
     if bytes_eq w (codes "in") then kind.In else (
     if bytes_eq w (codes "has") then kind.Has else (
     if bytes_eq w (codes "like") then kind.Like else (
-    if bytes_eq w (codes "is") then kind.Is else
-    kind.Identifier))))))))))))))))
+    if bytes_eq w (codes "is") then kind.Is else (
+    if bytes_eq w (codes "__cedar") then kind.Cedar else
+    kind.Identifier)))))))))))))))))
 
 -- one word, and none that is reserved
 unfoldable pub is_identifier : List ℕ → Bool

@@ -23,6 +23,10 @@ pub enum Expected {
     FewerSigns,
     /// A variable, or the rest of a name.
     Name,
+    /// A name in which `__cedar` does not stand.
+    OtherName,
+    /// `::` and an id behind the name of a type.
+    Id,
     /// An identifier or a text in quotes behind `::`.
     NameOrId,
     /// The name of an attribute.
@@ -49,10 +53,20 @@ pub enum Expected {
     NoStar,
     /// A key that the record doesn't have yet.
     NewKey,
-    /// No argument.
-    NoArgument,
-    /// One argument.
-    OneArgument,
+    /// No argument, where so many are given.
+    NoArgument(usize),
+    /// One argument, where so many are given.
+    OneArgument(usize),
+    /// `)` for the `(` at this byte.
+    ClosedParen(usize),
+    /// `)` for the call that stands from this byte on.
+    ClosedCall(usize),
+    /// `]` for the `[` at this byte.
+    ClosedBracket(usize),
+    /// `}` for the `{` at this byte.
+    ClosedBrace(usize),
+    /// An expression of at most so many nodes: `is` with `in` has its left side twice.
+    FewerNodes(usize),
     /// Steps that are well made.
     Steps,
     /// `permit`, `forbid` or an annotation.
@@ -131,6 +145,16 @@ impl ReadError {
             start: token.start,
             end: token.end,
         }
+    }
+}
+
+/// What was expected where a token of this kind stands in place of a name: `__cedar` should have been another.
+pub fn name_for(what: Expected, found: Kind) -> Expected
+    ensures { result ≡ Kinds.name_for what found }
+{
+    match found {
+        Kind::Cedar => Expected::OtherName,
+        _ => what,
     }
 }
 

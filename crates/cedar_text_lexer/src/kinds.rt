@@ -14,7 +14,8 @@ impl fmt::Display for Kind {
     }
 }
 
-fn kind_text(it: Kind) -> &'static str
+/// What a token of this kind is called where one is found.
+pub(crate) fn kind_text(it: Kind) -> &'static str
     ensures { result.now ≡ kind_text it }
 {
     match it {
@@ -32,6 +33,7 @@ fn kind_text(it: Kind) -> &'static str
         Kind::If => "`if`",
         Kind::Then => "`then`",
         Kind::Else => "`else`",
+        Kind::Cedar => "`__cedar`",
         Kind::True => "`true`",
         Kind::False => "`false`",
         Kind::In => "`in`",

@@ -1,8 +1,8 @@
 //! Cuts a text into tokens.
-ghost use Rattle.std.specs.Prelude.{◌≡◌, ◌==◌, ◌<◌, length, All, IfOk, IfSome, IfNone, IsFalse, IsTrue, IsCharBoundary};
-ghost use Rattle.std.specs.Char.{is_ascii_digit};
+ghost use Rattle.std.specs.Prelude.{◌≡◌, ◌==◌, ◌<◌, ◌&&◌, not, length, All, IfOk, IfSome, IfNone, IsFalse, IsTrue, IsCharBoundary};
+ghost use Rattle.std.specs.Char.{is_ascii_digit, is_whitespace};
 ghost use Rattle.cedar_text_lexer.specs.Scanning.{begins_slot, begins_comment, begins_operator, begins_token, begins_with};
-ghost use Rattle.cedar_text_lexer.specs.Scanning.{double_of, single_of};
+ghost use Rattle.cedar_text_lexer.specs.Scanning.{begins_bare_return, double_of, single_of};
 ghost use Rattle.cedar_text_lexer.specs.Tokens.{IsTokens, IsCut};
 ghost use Rattle.cedar_text_lexer.specs.Values.{Stands};
 ghost use Rattle.cedar_text_lexer.specs.Words.{starts_word};
@@ -200,6 +200,13 @@ fn single_operator(bytes: &[u8]) -> Option<Kind>
     }
 }
 
+// The character with which the text begins is a blank, and no bare carriage return.
+fn is_blank(c: char, rest: &str) -> bool
+    ensures { result ≡ (is_whitespace c && not (begins_bare_return rest.now)) }
+{
+    c.is_whitespace() && !scanning::begins_bare_return(rest.as_bytes())
+}
+
 // A blank, or a character with which no token begins.
 fn character(rest: &str) -> Cut
     requires some { 0 < length rest.now }
@@ -210,7 +217,7 @@ fn character(rest: &str) -> Cut
 {
     match rest.chars().next() {
         Some(c) => Cut {
-            kind: if c.is_whitespace() {
+            kind: if is_blank(c, rest) {
                 None
             } else {
                 Some(Kind::Unreadable)

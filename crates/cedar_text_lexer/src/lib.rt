@@ -19,6 +19,7 @@ mod expectations;
 mod kinds;
 pub mod laws;
 pub mod lexer;
+pub mod messages;
 mod operators;
 mod pieces;
 mod scanning;

@@ -1,10 +1,11 @@
 //! Reads the characters of texts and patterns, one by one.
 ghost use Rattle.std.specs.Prelude.{◌≡◌, ◌+◌, ◌<◌, ◌++◌, length, IfOk, IfErr, MatchOption, IsCharBoundary, encode_utf8};
+ghost use Rattle.cedar_text_lexer.specs.Scanning.{begins_bare_return};
 ghost use Rattle.cedar_text_lexer.specs.Values.{IsPiece, IsNoPiece, part_of};
 
 use crate::escapes::Piece;
-use crate::escaping;
 use crate::values::PatternPart;
+use crate::{escaping, scanning};
 
 /// The character with which the text begins, and what is behind it.
 pub(crate) fn split_first(rest: &str) -> Option<(char, &str)>
@@ -22,7 +23,8 @@ pub(crate) fn split_first(rest: &str) -> Option<(char, &str)>
 ///
 /// # Errors
 ///
-/// A backslash and a character that are no escape: how many bytes they have.
+/// A backslash and a character that are no escape, or a carriage return that no line feed follows: how many bytes they
+/// have.
 pub(crate) fn piece(in_pattern: bool, first: char, rest: &str, after: &str) -> Result<Piece, usize>
     requires { rest.now ≡ encode_utf8 first ++ after.now }
     ensures some { IfOk result (λ p. 0 < p.len) }
@@ -31,6 +33,9 @@ pub(crate) fn piece(in_pattern: bool, first: char, rest: &str, after: &str) -> R
     ensures none { IfErr result (λ n. IsNoPiece in_pattern rest.now n) }
 {
     if first != '\\' {
+        if begins_bare_return(rest) {
+            return Err(1);
+        }
         return Ok(Piece {
             char: first,
             is_escaped: false,
@@ -48,6 +53,12 @@ pub(crate) fn piece(in_pattern: bool, first: char, rest: &str, after: &str) -> R
             None => Err(1),
         },
     }
+}
+
+fn begins_bare_return(rest: &str) -> bool
+    ensures { result ≡ begins_bare_return rest.now }
+{
+    scanning::begins_bare_return(rest.as_bytes())
 }
 
 /// What the character is in a pattern.

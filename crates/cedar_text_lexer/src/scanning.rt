@@ -3,7 +3,7 @@ ghost use Rattle.std.specs.Prelude.{◌≡◌, ◌+◌, ◌≤◌, false, length
 ghost use Rattle.std.specs.List.{prefix_len};
 ghost use Rattle.std.specs.Char.{is_ascii_digit};
 ghost use Rattle.cedar_text_lexer.specs.Words.{is_word_byte};
-ghost use Rattle.cedar_text_lexer.specs.Scanning.{is_line_byte, closes_text, escapes, quote_from};
+ghost use Rattle.cedar_text_lexer.specs.Scanning.{begins_bare_return, is_line_byte, closes_text, escapes, quote_from};
 
 use crate::words;
 
@@ -44,6 +44,13 @@ pub(crate) fn line_end(bytes: &[u8], from: usize) -> usize
         }
     }
     bytes.len()
+}
+
+/// The bytes begin with a carriage return that no line feed follows.
+pub(crate) fn begins_bare_return(bytes: &[u8]) -> bool
+    ensures { result ≡ begins_bare_return bytes.now }
+{
+    bytes.len() > 0 && bytes[0] == b'\r' && !(bytes.len() > 1 && bytes[1] == b'\n')
 }
 
 // Neither `\n` nor `\r`.

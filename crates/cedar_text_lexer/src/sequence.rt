@@ -45,7 +45,17 @@ pub fn end_at(tokens: &[Token], index: usize) -> usize
     token_at(tokens, index).end
 }
 
-/// Whether the token of this number may name an attribute or stand in a name; behind the last one, no.
+/// Whether the token of this number may stand in the name of a type, a namespace or a function; behind the last one, no.
+#[inline]
+#[tactic(auto, unfolding(crate::specs::Sequence::token_at))]
+pub fn is_name_at(tokens: &[Token], index: usize) -> bool
+    ensures is { result ≡ Kinds.is_name (Tokens.kind_at tokens.now index) }
+    ensures within { result ≡ true → index < length tokens.now }
+{
+    kind_at(tokens, index).is_name()
+}
+
+/// Whether the token of this number may name an attribute; behind the last one, no.
 #[inline]
 #[tactic(auto, unfolding(crate::specs::Sequence::token_at))]
 pub fn is_identifier_at(tokens: &[Token], index: usize) -> bool

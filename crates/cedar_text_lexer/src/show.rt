@@ -1,8 +1,10 @@
 //! Shows why a text can't be read, and where.
 ghost use Rattle.std.specs.Prelude.{◌≡◌, ◌+◌, ◌^◌, ◌<◌, ◌≤◌, ◌++◌, min, length, codes, string_bytes, IfOk};
+ghost use Rattle.cedar_text_lexer.specs.Messages as Messages;
 ghost use Rattle.cedar_text_lexer.specs.Positions as Positions;
 
 use crate::errors::ReadError;
+use crate::messages::message;
 use crate::scanning;
 use std::alloc::{AllocError, Global};
 
@@ -69,27 +71,30 @@ fn behind(p: Position, byte: u8) -> Position
 ///
 /// Out of memory.
 pub fn show_error(alloc: Global, text: &str, error: ReadError) -> Result<String, AllocError>
-    ensures { IfOk result (λ told. Positions.BeginsWith (string_bytes told) (Positions.told_of text.now error)) }
+    ensures { IfOk result (λ told. Positions.BeginsWith (string_bytes told) (Messages.told_of text.now error)) }
 {
     match error {
         ReadError::Memory => Ok(String::from_str(alloc, "memory was wanting")?),
-        ReadError::Expected {
-            what,
-            found,
-            start,
-            end,
-        } => {
-            let why = format!(in alloc; "expected {what}, found {found}")?;
-            Ok(mark_line(alloc, text, &why, start, end)?)
-        }
-        ReadError::TooDeep { start, end } => Ok(mark_line(
-            alloc,
-            text,
-            "the expression is nested too deeply",
-            start,
-            end,
-        )?),
+        ReadError::Expected { start, end, .. } => told(alloc, text, error, start, end),
+        ReadError::TooDeep { start, end } => told(alloc, text, error, start, end),
     }
+}
+
+fn told(
+    alloc: Global,
+    text: &str,
+    error: ReadError,
+    start: usize,
+    end: usize,
+) -> Result<String, AllocError>
+    ensures { IfOk result (λ told. Positions.BeginsWith
+        (string_bytes told)
+        (Positions.headline_of
+        (Positions.position_of text.now (min start (length text.now)))
+        (Messages.message_of text.now error))) }
+{
+    let why = message(alloc, text, error)?;
+    mark_line(alloc, text, &why, start, end)
 }
 
 fn mark_line(

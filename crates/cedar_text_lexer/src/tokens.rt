@@ -33,6 +33,8 @@ pub enum Kind {
     Then,
     /// `else`
     Else,
+    /// `__cedar`, which is reserved in names.
+    Cedar,
     /// `true`
     True,
     /// `false`
@@ -116,10 +118,30 @@ pub struct Token {
 }
 
 impl Kind {
-    /// Whether the token may name an attribute or stand in a name: each word but the reserved ones, which are `if`,
-    /// `then`, `else`, `true`, `false`, `in`, `has`, `like` and `is`.
+    /// Whether the token may name an attribute: each word but the reserved ones, which are `if`, `then`, `else`, `true`,
+    /// `false`, `in`, `has`, `like` and `is`.
     pub fn is_identifier(self) -> bool
         ensures { result ≡ Kinds.is_identifier self }
+    {
+        match self {
+            Kind::Identifier
+            | Kind::Principal
+            | Kind::Action
+            | Kind::Resource
+            | Kind::Context
+            | Kind::Permit
+            | Kind::Forbid
+            | Kind::When
+            | Kind::Unless
+            | Kind::Cedar => true,
+            _ => false,
+        }
+    }
+
+    /// Whether the token may stand in the name of a type, a namespace or a function: each word that may name an
+    /// attribute, but for `__cedar`.
+    pub fn is_name(self) -> bool
+        ensures { result ≡ Kinds.is_name self }
     {
         match self {
             Kind::Identifier

@@ -78,6 +78,7 @@ pub(crate) fn word_kind(word: &str) -> Kind
         "has" => Kind::Has,
         "like" => Kind::Like,
         "is" => Kind::Is,
+        "__cedar" => Kind::Cedar,
         _ => Kind::Identifier,
     }
 }

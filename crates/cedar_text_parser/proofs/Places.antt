@@ -1,9 +1,11 @@
 -- Where tokens and errors stand: within the text.
-use Rattle.std.proofs.Common.{◌≡◌, ℕ, zero, suc, ◌+◌, ◌-◌, ◌<◌, ◌≤◌, Bool, List, [], ◌∷◌, length, All, arith}
+use Rattle.std.proofs.Common.{◌≡◌, ℕ, zero, suc, ◌+◌, ◌-◌, ◌<◌, ◌≤◌, Bool, true, List, [], ◌∷◌, length, All, arith}
 use Rattle.std.proofs.Common.{slice_range, refl, sym, subst, Result, Ok, Err, IsErrAnd, IfErr, encode_utf8, ◌++◌}
 use Rattle.std.proofs.Common.{drop}
+use Rattle.std.proofs.lemmas.Bool.{false≢true}
+use Rattle.cedar_text_lexer.specs.Scanning.{begins_bare_return}
 use Rattle.cedar_text_lexer.specs.Values.{Stands, IsRefusal, IsRefusedThere, there, IsRefused as IsRefusedAt, here}
-use Rattle.cedar_text_lexer.specs.Values.{later, itself, escape, IsNoPiece, unknown, alone, inside_of, word_of}
+use Rattle.cedar_text_lexer.specs.Values.{later, itself, escape, IsNoPiece, unknown, alone, bare_return, inside_of, word_of}
 use Rattle.cedar_text_lexer.specs.declared.errors.Expected.{Expected}
 use Rattle.cedar_text_lexer.specs.declared.errors.ReadError.{ReadError}
 use Rattle.cedar_text_lexer.specs.declared.errors.ReadError.TheVariants as error
@@ -57,13 +59,18 @@ pub token_within : (text : List ℕ) (all : List Token) (i : ℕ) → All (Stand
     (start_at all i ≤ end_at all i) × (end_at all i ≤ length text)
 token_within text all i h lt = let s = token_stands text all i lt h in (s.order, s.end.0)
 
+return_bound : (bs : List ℕ) → begins_bare_return bs ≡ true → 1 ≤ length bs
+return_bound [] h = absurd (false≢true h)
+return_bound (b ∷ bs) h = omega arith
+
 no_piece_bound : {b : Bool} {bs : List ℕ} {m : ℕ} → IsNoPiece b bs m → m ≤ length bs
 no_piece_bound (unknown c bs h) = omega (arith, length-append (encode_utf8 c) bs)
 no_piece_bound (alone h) = omega arith
+no_piece_bound (bare_return {bs} h) = return_bound bs h
 
 refused_bound : {b : Bool} {bs : List ℕ} {n m : ℕ} → IsRefusedAt b bs n m → n + m ≤ length bs
 refused_bound (here h) = omega (arith, no_piece_bound h)
-refused_bound (later (itself c bs ne) more) =
+refused_bound (later (itself c bs ne nr) more) =
     omega (
       arith,
       refused_bound more,

@@ -3,9 +3,8 @@ use Rattle.std.specs.Prelude.{◌++◌, ℕ, ◌==◌, List, length, min, codes,
 use Rattle.std.specs.Rc.{rc_str_bytes}
 use Rattle.std.specs.declared.alloc.Global.{Global}
 use Rattle.std.specs.declared.rc.RcStr.{RcStr}
-use Rattle.cedar_text_lexer.specs.Positions.{headline_of, position_of, expected_found, told_of}
-use Rattle.cedar_text_lexer.specs.declared.errors.ReadError.{ReadError}
-use Rattle.cedar_text_lexer.specs.declared.errors.ReadError.TheVariants as read
+use Rattle.cedar_text_lexer.specs.Messages.{message_of as read_message, told_of}
+use Rattle.cedar_text_lexer.specs.Positions.{headline_of, position_of}
 use Rattle.cedar_names.specs.declared.names.CallStyle.{CallStyle}
 use Rattle.cedar_names.specs.declared.names.CallStyle.TheVariants.{FunctionStyle, MethodStyle}
 use Rattle.cedar_text_parser.specs.declared.errors.ParseError.{ParseError}
@@ -51,16 +50,11 @@ number_message f m n =
     ++ (codes ", but " ++ (decimal n ++ (codes " " ++ (are n ++ codes " given")))))))))
 
 -- why a text can't be read, without the place
-abbrev pub read_message : ReadError → List ℕ
-read_message read.Memory = codes "memory was wanting"
-read_message (read.Expected what found s e) = expected_found what found
-read_message (read.TooDeep s e) = codes "the expression is nested too deeply"
-
-abbrev pub message_of : ParseError → List ℕ
-message_of (error.Read r) = read_message r
-message_of (error.UnknownFunction f style near s e) = unknown_message (rc_str_bytes f) style near
-message_of (error.WrongStyle f style s e) = style_message (rc_str_bytes f) style
-message_of (error.WrongNumberOfArguments f m n s e) = number_message (rc_str_bytes f) m n
+abbrev pub message_of : List ℕ → ParseError → List ℕ
+message_of text (error.Read r) = read_message text r
+message_of text (error.UnknownFunction f style near s e) = unknown_message (rc_str_bytes f) style near
+message_of text (error.WrongStyle f style s e) = style_message (rc_str_bytes f) style
+message_of text (error.WrongNumberOfArguments f m n s e) = number_message (rc_str_bytes f) m n
 
 -- what is told at a place of the text, before the line itself
 abbrev pub told_at : List ℕ → ℕ → List ℕ → List ℕ

@@ -29,13 +29,25 @@ pub data Expects (text : List ℕ) (all : List Token) : Expected → Kind → �
       IsRefusedThere in_pattern (inside_of (word_at text all i)) (start_at all i + 1) s e →
       Expects text all wanted.Escape kind.Text s e
   -- a method that is an operator has no argument or more than one
-  for_one_argument : {i : ℕ} → i < length all → IsOperatorAt text all i →
-      Expects text all wanted.OneArgument (kind_at all i) (start_at all i) (end_at all i)
+  for_one_argument : {i n : ℕ} → i < length all → IsOperatorAt text all i →
+      Expects text all (wanted.OneArgument n) (kind_at all i) (start_at all i) (end_at all i)
   -- `isEmpty` has an argument
-  for_no_argument : {i : ℕ} → i < length all → IsEmptyAt text all i →
-      Expects text all wanted.NoArgument (kind_at all i) (start_at all i) (end_at all i)
+  for_no_argument : {i n : ℕ} → i < length all → IsEmptyAt text all i →
+      Expects text all (wanted.NoArgument n) (kind_at all i) (start_at all i) (end_at all i)
   -- the steps are not well made
   for_steps : Expects text all wanted.Steps kind.End (length text) (length text)
+
+-- an error of what should have stood, if it tells how many arguments are given, tells this number
+abbrev pub CountsIn : ℕ → Expected → Type 0
+CountsIn n (wanted.OneArgument m) = m ≡ n
+CountsIn n (wanted.NoArgument m) = m ≡ n
+CountsIn n _ = Unit {0}
+
+-- the same of each error
+abbrev pub Counts : ℕ → ReadError → Type 0
+Counts n error.Memory = Unit {0}
+Counts n (error.Expected what found s e) = CountsIn n what
+Counts n (error.TooDeep s e) = Unit {0}
 
 -- an error that the tokens alone tell, or out of memory
 abbrev pub IsRefused : List ℕ → List Token → ReadError → Type 0

@@ -1,5 +1,5 @@
 //! The nodes that steps make, each of its parts.
-ghost use Rattle.std.specs.Prelude.{◌≡◌, ◌==◌, ◌<◌, ◌∷◌, [], length, All, IfOk, IfErr, IfSome};
+ghost use Rattle.std.specs.Prelude.{◌≡◌, ◌==◌, ◌<◌, ◌-◌, ◌∷◌, [], length, All, IfOk, IfErr, IfSome};
 ghost use Rattle.cedar_text_syntax.specs.declared.steps.Leaf.TheVariants as leaves;
 ghost use Rattle.cedar_text_syntax.specs.declared.steps.Unary.TheVariants as unaries;
 ghost use Rattle.cedar_text_lexer.specs.Values.{Stands};
@@ -7,7 +7,7 @@ ghost use Rattle.cedar_expressions.specs.Nodes.{node_of};
 ghost use Rattle.cedar_text_parser.specs.Building.{IsLeaf, IsUnary, IsBinary, IsBracketed, IsText, IsEntity, IsAttribute};
 ghost use Rattle.cedar_text_parser.specs.Building.{IsHas};
 ghost use Rattle.cedar_text_parser.specs.Building.{IsLike, IsOfType, IsOfTypeIn, IsCall, IsMethod, IsOperation, IsEmptiness};
-ghost use Rattle.cedar_text_parser.specs.Refusals.{IsRefused};
+ghost use Rattle.cedar_text_parser.specs.Refusals.{Counts, IsRefused};
 ghost use Rattle.cedar_text_parser.specs.Wording.{word_at, method_of, IsEmptyAt, IsOperatorAt};
 
 use crate::refusals::{ill_made, no_argument, one_argument};
@@ -331,10 +331,12 @@ fn operation(
     requires is { IsOperatorAt text.now tokens.now at }
     ensures ok { IfOk result (λ x. IsOperation op parts.items (node_of x)) }
     ensures err { IfErr result (IsRefused text.now tokens.now) }
+    ensures given { IfErr result (Counts (length parts.items - 1)) }
 {
+    let given = parts.len().saturating_sub(1);
     match pair(parts) {
         Some((receiver, argument)) => Ok(Expr::binary_app(alloc, op, receiver, argument)?),
-        None => Err(one_argument(text, tokens, at)),
+        None => Err(one_argument(text, tokens, at, given)),
     }
 }
 
@@ -349,10 +351,12 @@ fn emptiness(
     requires is { IsEmptyAt text.now tokens.now at }
     ensures ok { IfOk result (λ x. IsEmptiness parts.items (node_of x)) }
     ensures err { IfErr result (IsRefused text.now tokens.now) }
+    ensures given { IfErr result (Counts (length parts.items - 1)) }
 {
+    let given = parts.len().saturating_sub(1);
     match single(parts) {
         Some(receiver) => Ok(Expr::unary_app(alloc, UnaryOp::IsEmpty, receiver)?),
-        None => Err(no_argument(text, tokens, at)),
+        None => Err(no_argument(text, tokens, at, given)),
     }
 }
 

@@ -38,7 +38,7 @@ fn name_of(alloc: Global, text: &str, tokens: &[Token]) -> Result<Name, ReadErro
     ensures err { IfErr result (IsPathRefused text.now) }
     ensures placed { IfErr result (IsWithin text.now) }
 {
-    let reach = path(tokens, 0, Expected::Name)?;
+    let reach = path(tokens, 0, Expected::Type)?;
     expect(tokens, reach.next, Kind::End, Expected::End)?;
     let name = leaves::name(alloc, text, tokens, 0, reach.next)?;
     Ok(name)
@@ -68,8 +68,8 @@ fn entity_of(alloc: Global, text: &str, tokens: &[Token]) -> Result<EntityUID, R
     ensures err { IfErr result (IsPathRefused text.now) }
     ensures placed { IfErr result (IsWithin text.now) }
 {
-    let reach = path(tokens, 0, Expected::Name)?;
-    let id = expect(tokens, reach.next, Kind::Colons, Expected::NameOrId)?;
+    let reach = path(tokens, 0, Expected::Entity)?;
+    let id = expect(tokens, reach.next, Kind::Colons, Expected::Id)?;
     let last = expect(tokens, id, Kind::Text, Expected::NameOrId)?;
     expect(tokens, last, Kind::End, Expected::End)?;
     let loc = loc_up_to(tokens, id);

@@ -3,7 +3,7 @@ ghost use Rattle.std.specs.Prelude.{◌≡◌, ◌<◌, ◌≤◌, ◌^◌, leng
 ghost use Rattle.std.specs.Str.Parse.{digits_value};
 ghost use Rattle.cedar_text_lexer.specs.Sequence as Tokens;
 ghost use Rattle.cedar_text_parser.specs.Wording.{word_at, IsOperatorAt, IsEmptyAt};
-ghost use Rattle.cedar_text_parser.specs.Refusals.{IsRefused};
+ghost use Rattle.cedar_text_parser.specs.Refusals.{Counts, IsRefused};
 ghost use Rattle.cedar_text_lexer.specs.declared.errors.Expected.TheVariants as wanted;
 ghost use Rattle.cedar_text_lexer.specs.declared.errors.ReadError.TheVariants as error;
 
@@ -48,20 +48,22 @@ pub(crate) fn too_large(text: &str, tokens: &[Token], at: usize) -> ReadError
     wanted_at(tokens, at, Expected::Long)
 }
 
-/// The method that this token names takes one argument.
-pub(crate) fn one_argument(text: &str, tokens: &[Token], at: usize) -> ReadError
+/// The method that this token names takes one argument, and so many are given.
+pub(crate) fn one_argument(text: &str, tokens: &[Token], at: usize, given: usize) -> ReadError
     requires within { at < length tokens.now }
     requires is { IsOperatorAt text.now tokens.now at }
-    ensures { IsRefused text.now tokens.now result }
+    ensures is { IsRefused text.now tokens.now result }
+    ensures given { Counts given result }
 {
-    wanted_at(tokens, at, Expected::OneArgument)
+    wanted_at(tokens, at, Expected::OneArgument(given))
 }
 
-/// The method that this token names takes no argument.
-pub(crate) fn no_argument(text: &str, tokens: &[Token], at: usize) -> ReadError
+/// The method that this token names takes no argument, and so many are given.
+pub(crate) fn no_argument(text: &str, tokens: &[Token], at: usize, given: usize) -> ReadError
     requires within { at < length tokens.now }
     requires is { IsEmptyAt text.now tokens.now at }
-    ensures { IsRefused text.now tokens.now result }
+    ensures is { IsRefused text.now tokens.now result }
+    ensures given { Counts given result }
 {
-    wanted_at(tokens, at, Expected::NoArgument)
+    wanted_at(tokens, at, Expected::NoArgument(given))
 }

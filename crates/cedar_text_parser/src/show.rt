@@ -5,7 +5,6 @@ ghost use Rattle.cedar_text_parser.specs.Messages as Messages;
 
 use crate::errors::ParseError;
 use cedar_names::CallStyle;
-use cedar_text_lexer::errors::ReadError;
 use cedar_text_lexer::show::{Position, locate, marked_line};
 use std::alloc::{AllocError, Global};
 use std::rc::RcStr;
@@ -58,11 +57,11 @@ pub fn show_error(alloc: Global, text: &str, error: &ParseError) -> Result<Strin
 /// # Errors
 ///
 /// Out of memory.
-pub fn message(alloc: Global, error: &ParseError) -> Result<String, AllocError>
-    ensures { IfOk result (λ told. string_bytes told ≡ Messages.message_of error.now) }
+pub fn message(alloc: Global, text: &str, error: &ParseError) -> Result<String, AllocError>
+    ensures { IfOk result (λ told. string_bytes told ≡ Messages.message_of text.now error.now) }
 {
     match error {
-        ParseError::Read(error) => read_message(alloc, *error),
+        ParseError::Read(error) => cedar_text_lexer::messages::message(alloc, text, *error),
         ParseError::UnknownFunction {
             name,
             style,
@@ -76,20 +75,6 @@ pub fn message(alloc: Global, error: &ParseError) -> Result<String, AllocError>
             found,
             ..
         } => other_number(alloc, name, *expected, *found),
-    }
-}
-
-fn read_message(alloc: Global, error: ReadError) -> Result<String, AllocError>
-    ensures { IfOk result (λ told. string_bytes told ≡ Messages.read_message error) }
-{
-    match error {
-        ReadError::Memory => Ok(String::from_str(alloc, "memory was wanting")?),
-        ReadError::Expected { what, found, .. } => {
-            Ok(format!(in alloc; "expected {what}, found {found}")?)
-        }
-        ReadError::TooDeep { .. } => {
-            Ok(String::from_str(alloc, "the expression is nested too deeply")?)
-        }
     }
 }
 

@@ -1,6 +1,6 @@
 -- What a token more makes of where the machine stands: names, attributes, `has`, `like` and `is`.
 use Rattle.std.proofs.Common.{◌≡◌, ℕ, ◌+◌, ◌<◌, ◌≤◌, List, ◌∷◌, true}
-use Rattle.cedar_text_lexer.specs.Kinds.{is_identifier}
+use Rattle.cedar_text_lexer.specs.Kinds.{is_identifier, is_name}
 use Rattle.cedar_text_lexer.specs.declared.tokens.Kind.TheVariants as kind
 use Rattle.cedar_text_lexer.specs.declared.tokens.Token.{Token}
 use Rattle.cedar_text_syntax.specs.declared.steps.Leaf.TheVariants as leaves
@@ -20,16 +20,16 @@ use Rattle.cedar_text_syntax.proofs.Turns.{some_awaited}
 
 -- ---- names
 
-pub path_one : {all : List Token} {i s e : ℕ} → is_identifier (kind_at all i) ≡ true → s ≡ start_at all i →
+pub path_one : {all : List Token} {i s e : ℕ} → is_name (kind_at all i) ≡ true → s ≡ start_at all i →
     e ≡ end_at all i → IsPath all i (i + 1) s e
 path_one k s_is e_is = rw (s_is, e_is) (one_name k)
 
 pub path_more : {all : List Token} {from i s e : ℕ} → BehindColons all from i s →
-    is_identifier (kind_at all i) ≡ true → e ≡ end_at all i → IsPath all from (i + 1) s e
+    is_name (kind_at all i) ≡ true → e ≡ end_at all i → IsPath all from (i + 1) s e
 path_more (colons h c) k e_is = rw e_is (name_inside h c k)
 
 pub name_more : {all : List Token} {i k n s e f : ℕ} → kind_at all k ≡ kind.Colons → n ≡ k + 1 →
-    is_identifier (kind_at all n) ≡ true → f ≡ end_at all n → IsPath all i k s e → IsPath all i (n + 1) s f
+    is_name (kind_at all n) ≡ true → f ≡ end_at all n → IsPath all i k s e → IsPath all i (n + 1) s f
 name_more c n_is w f_is h = rw (f_is, n_is) (name_inside h c (rw n_is at w))
 
 pub entity_read : {all : List Token} {fs : List Frame} {ts : List Tree} {from i s e : ℕ} {m : Look} →

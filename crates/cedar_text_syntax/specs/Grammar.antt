@@ -23,7 +23,7 @@
 --   ExprList ::= Expr {',' Expr}                                          Lists, item
 --   RecInits ::= (IDENT | STR) ':' Expr {',' (IDENT | STR) ':' Expr}      Lists, keyed
 --   Entity   ::= Path '::' STR
---   ExtFun, Path ::= IDENT {'::' IDENT}                                   IsPath
+--   ExtFun, Path ::= NAME {'::' NAME}                                     IsPath
 --   RELOP    ::= '<' | '<=' | '>=' | '>' | '!=' | '==' | 'in'
 --   LITERAL  ::= 'true' | 'false' | INT | STR
 --   VAR      ::= 'principal' | 'action' | 'resource' | 'context'
@@ -32,11 +32,12 @@
 -- takes its parts. `!=`, `>` and `>=` are the negations of `==`, `<=` and `<`. A minus right before a number that stands
 -- alone is the number's own: `-1` is a literal, `-(1)` and `-1.a` are negations of what follows. At most four signs of
 -- one kind stand before a part, and no signs of two kinds. An IDENT is any word but the reserved ones, also behind a dot
--- and as a key of a record, where a reserved word stands in quotes: `a["if"]`. No comma stands behind the last part of a
+-- and as a key of a record, where a reserved word stands in quotes: `a["if"]`. A NAME is any IDENT but `__cedar`, which is
+-- reserved in names of types, namespaces and functions. No comma stands behind the last part of a
 -- list. Which functions and methods there are, how many parts they take, whether a number fits, whether a text is well
 -- written and whether a key is a duplicate is not asked here.
 use Rattle.std.specs.Prelude.{◌≡◌, ℕ, ◌+◌, ◌<◌, ◌≤◌, List, length, Option, Some, None, Bool, true, false, suc}
-use Rattle.cedar_text_lexer.specs.Kinds.{is_identifier}
+use Rattle.cedar_text_lexer.specs.Kinds.{is_identifier, is_name}
 use Rattle.cedar_text_lexer.specs.declared.tokens.Kind.{Kind}
 use Rattle.cedar_text_lexer.specs.declared.tokens.Kind.TheVariants as kind
 use Rattle.cedar_text_lexer.specs.declared.tokens.Token.{Token}
@@ -152,11 +153,11 @@ joined o p q s e = negated_if (is_negated o) (binary (binary_of o) p q s e) s e
 
 -- ---- rules
 
--- Path ::= IDENT {'::' IDENT}: tokens i up to, but not including, k, from byte s to byte e
+-- Path ::= NAME {'::' NAME}: tokens i up to, but not including, k, from byte s to byte e
 pub data IsPath (all : List Token) : ℕ → ℕ → ℕ → ℕ → Type 0 where
-  one_name : {i : ℕ} → is_identifier (kind_at all i) ≡ true → IsPath all i (i + 1) (start_at all i) (end_at all i)
+  one_name : {i : ℕ} → is_name (kind_at all i) ≡ true → IsPath all i (i + 1) (start_at all i) (end_at all i)
   name_inside : {i k s e : ℕ} → IsPath all i k s e → kind_at all k ≡ kind.Colons →
-      is_identifier (kind_at all (k + 1)) ≡ true → IsPath all i (k + 1 + 1) s (end_at all (k + 1))
+      is_name (kind_at all (k + 1)) ≡ true → IsPath all i (k + 1 + 1) s (end_at all (k + 1))
 
 -- IDENT {'.' IDENT}: tokens i up to k, to byte e
 pub data IsDotted (all : List Token) : ℕ → ℕ → ℕ → Type 0 where

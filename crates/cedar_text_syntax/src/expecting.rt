@@ -4,8 +4,8 @@ ghost use Rattle.cedar_text_syntax.specs.Grammar.{IsPath};
 ghost use Rattle.cedar_text_syntax.specs.Places.{IsPlaced, end_of};
 ghost use Rattle.cedar_text_lexer.specs.Sequence as Tokens;
 
-use cedar_text_lexer::errors::{Expected, ReadError};
-use cedar_text_lexer::sequence::{end_at, is_identifier_at, kind_at, token_at};
+use cedar_text_lexer::errors::{Expected, ReadError, name_for};
+use cedar_text_lexer::sequence::{end_at, is_name_at, kind_at, token_at};
 use cedar_text_lexer::tokens::{Kind, Token};
 
 /// Up to which token something was read, and the byte before which it ends.
@@ -48,7 +48,7 @@ pub fn accept(tokens: &[Token], index: usize, kind: Kind) -> Option<usize>
     }
 }
 
-/// A name, as long as it can be: identifiers with `::` between them.
+/// A name, as long as it can be: identifiers but `__cedar` with `::` between them.
 ///
 /// Errors: `Expected` at this token, or behind the last.
 pub fn path(tokens: &[Token], index: usize, what: Expected) -> Result<Reach, ReadError>
@@ -59,23 +59,37 @@ pub fn path(tokens: &[Token], index: usize, what: Expected) -> Result<Reach, Rea
     for _ in 0..tokens.len() {
         match another_name(tokens, reach.next) {
             Some(longer) => reach = longer,
-            None => return Ok(reach),
+            None => return whole_name(tokens, reach),
         }
     }
-    Ok(reach)
+    whole_name(tokens, reach)
+}
+
+// The name as it was read, where no `__cedar` goes on with it.
+fn whole_name(tokens: &[Token], reach: Reach) -> Result<Reach, ReadError>
+    ensures same { IfOk result (λ r. r ≡ reach) }
+    ensures err { IfErr result (λ error. IsPlaced tokens.now error) }
+{
+    match accept(tokens, reach.next, Kind::Colons) {
+        Some(name) => match kind_at(tokens, name) {
+            Kind::Cedar => Err(expected_at(tokens, name, Expected::OtherName)),
+            _ => Ok(reach),
+        },
+        None => Ok(reach),
+    }
 }
 
 fn first_name(tokens: &[Token], index: usize, what: Expected) -> Result<Reach, ReadError>
     ensures ok { IfOk result (λ r. IsPath tokens.now index r.next (Tokens.start_at tokens.now index) r.end) }
     ensures err { IfErr result (λ error. IsPlaced tokens.now error) }
 {
-    if is_identifier_at(tokens, index) {
+    if is_name_at(tokens, index) {
         Ok(Reach {
             next: index + 1,
             end: end_at(tokens, index),
         })
     } else {
-        Err(expected_at(tokens, index, what))
+        Err(expected_at(tokens, index, name_for(what, kind_at(tokens, index))))
     }
 }
 
@@ -84,7 +98,7 @@ fn another_name(tokens: &[Token], index: usize) -> Option<Reach>
     ensures { (i s e : ℕ) → IfSome result (λ r. IsPath tokens.now i index s e → IsPath tokens.now i r.next s r.end) }
 {
     let name = accept(tokens, index, Kind::Colons)?;
-    if is_identifier_at(tokens, name) {
+    if is_name_at(tokens, name) {
         Some(Reach {
             next: name + 1,
             end: end_at(tokens, name),

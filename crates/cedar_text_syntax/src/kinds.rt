@@ -1,9 +1,11 @@
 //! What the kinds of tokens are to an expression.
 ghost use Rattle.std.specs.Prelude.{◌≡◌};
+ghost use Rattle.cedar_text_syntax.specs.Faults as Faults;
 ghost use Rattle.cedar_text_syntax.specs.Grammar as Grammar;
 
 use crate::levels::Operator;
 use crate::steps::{Bracketed, Leaf};
+use cedar_text_lexer::errors::Expected;
 use cedar_text_lexer::tokens::Kind;
 
 /// Whether the token may be the key of a record.
@@ -61,5 +63,28 @@ pub fn closes(bracketed: Bracketed, kind: Kind) -> bool
         Bracketed::Record => matches!(kind, Kind::CloseBrace),
         Bracketed::Call(_, _) => matches!(kind, Kind::CloseParen),
         Bracketed::Method(_) => matches!(kind, Kind::CloseParen),
+    }
+}
+
+/// What closes the bracket, where a token of this kind would end more than what stands in it; or else another thing.
+pub fn due(closing: Expected, other: Expected, kind: Kind) -> Expected
+    ensures { result ≡ Faults.due closing other kind }
+{
+    match kind {
+        Kind::CloseParen | Kind::CloseBracket | Kind::CloseBrace | Kind::Semicolon | Kind::End =>
+            closing,
+        _ => other,
+    }
+}
+
+/// What closes the brackets of this kind that stand from this byte on.
+pub fn closing(bracketed: Bracketed, start: usize) -> Expected
+    ensures { result ≡ Faults.closing_of bracketed start }
+{
+    match bracketed {
+        Bracketed::Set => Expected::ClosedBracket(start),
+        Bracketed::Record => Expected::ClosedBrace(start),
+        Bracketed::Call(_, _) => Expected::ClosedCall(start),
+        Bracketed::Method(_) => Expected::ClosedCall(start),
     }
 }

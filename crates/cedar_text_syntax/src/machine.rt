@@ -4,11 +4,13 @@
 //! frame waits for the part that is read now. An operator first makes what frames of at most its own level wait to
 //! make.
 ghost use Rattle.std.specs.Prelude.{◌≡◌, ◌+◌, ◌<◌, ◌≤◌, [], length, IfOk, IfErr};
+ghost use Rattle.cedar_text_syntax.specs.Faults as Faults;
 ghost use Rattle.cedar_text_syntax.specs.Grammar as Grammar;
 ghost use Rattle.cedar_text_syntax.specs.Levels.{IsAbove};
 ghost use Rattle.cedar_text_syntax.specs.Places.{IsPlaced};
 ghost use Rattle.cedar_text_syntax.specs.Reading.{Reads, HasRead, HasReadClause, under};
 ghost use Rattle.cedar_text_syntax.specs.Standing.{look, Stands};
+ghost use Rattle.cedar_text_syntax.specs.declared.machine.Refusal.TheVariants as refusal;
 ghost use Rattle.cedar_text_lexer.specs.Sequence as Tokens;
 ghost use Rattle.cedar_text_lexer.specs.declared.tokens.Kind.TheVariants as kind;
 ghost use Rattle.cedar_text_syntax.specs.Trees.{trees, made, parts_of, FindParts};
@@ -234,6 +236,13 @@ fn closes_at(bracketed: Bracketed, tokens: &[Token], index: usize) -> bool
     ensures { result ≡ Grammar.closes bracketed (Tokens.kind_at tokens.now index) }
 {
     kinds::closes(bracketed, kind_at(tokens, index))
+}
+
+// What is due at the token of this number, where a bracket is open that this closes.
+fn due_at(closing: Expected, other: Expected, tokens: &[Token], index: usize) -> Refusal
+    ensures { result ≡ refusal.Expected (Faults.due closing other (Tokens.kind_at tokens.now index)) }
+{
+    Refusal::Expected(kinds::due(closing, other, kind_at(tokens, index)))
 }
 
 impl Work {

@@ -304,7 +304,7 @@ impl Written {
         ensures err { IfErr result (λ error. IsPlaced tokens.now error) }
     {
         let path = path(tokens, index, what)?;
-        let id = expect(tokens, path.next, Kind::Colons, Expected::Name)?;
+        let id = expect(tokens, path.next, Kind::Colons, Expected::Id)?;
         let next = expect(tokens, id, Kind::Text, Expected::NameOrId)?;
         let end = end_at(tokens, id);
         let what = What::Leaf(Leaf::Entity(index, id));

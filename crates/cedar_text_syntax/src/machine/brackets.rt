@@ -1,16 +1,19 @@
 //! Parts in brackets: sets, records and the arguments of calls.
-ghost use Rattle.std.specs.Prelude.{◌≡◌, ◌+◌, ◌<◌, ◌∷◌, length, IfOk, Bool, true};
+ghost use Rattle.std.specs.Prelude.{◌≡◌, ◌+◌, ◌<◌, ◌∷◌, length, IfOk, IfErr, IsFalse, Bool, true};
+ghost use Rattle.cedar_text_syntax.specs.Faults as Faults;
 ghost use Rattle.cedar_text_syntax.specs.Grammar as Grammar;
 ghost use Rattle.cedar_text_syntax.specs.Reading.{IsOpened, IsAwaitingKey, IsItemRead, Reads, under};
 ghost use Rattle.cedar_text_syntax.specs.Standing.{look, Stands};
 ghost use Rattle.cedar_text_lexer.specs.Sequence as Tokens;
+ghost use Rattle.cedar_text_syntax.specs.declared.machine.Refusal.TheVariants as refusal;
+ghost use Rattle.cedar_text_lexer.specs.declared.errors.Expected.TheVariants as wanted;
 ghost use Rattle.cedar_text_lexer.specs.declared.tokens.Kind.TheVariants as kind;
 
 use crate::frames::Wait;
-use crate::levels;
 use crate::machine::work::Work;
-use crate::machine::{Refusal, State, closes_at, is_key_at};
+use crate::machine::{Refusal, State, closes_at, due_at, is_key_at};
 use crate::steps::{Bracketed, What};
+use crate::{kinds, levels};
 use cedar_text_lexer::errors::Expected;
 use cedar_text_lexer::sequence::{end_at, kind_at, start_at};
 use cedar_text_lexer::tokens::{Kind, Token};
@@ -254,6 +257,9 @@ impl Work {
         requires item { IsItemRead tokens.now bracketed count start height (look self.old) index }
         ensures limit { self.new.limit ≡ self.old.limit }
         ensures ok { IfOk result (λ next. Stands tokens.now next (look self.new) (index + 1)) }
+        ensures err { IsFalse (Grammar.closes bracketed (Tokens.kind_at tokens.now index)) → IfErr result (λ r.
+            r ≡ refusal.Expected (Faults.due (Faults.closing_of bracketed start) wanted.CommaOrClose
+            (Tokens.kind_at tokens.now index))) }
     {
         if closes_at(bracketed, tokens, index) {
             let end = end_at(tokens, index);
@@ -262,7 +268,12 @@ impl Work {
             self.make(what, levels::MEMBER, start, end, below, 1)?;
             Ok(State::Operator)
         } else {
-            Err(Refusal::Expected(Expected::CommaOrClose))
+            Err(due_at(
+                kinds::closing(bracketed, start),
+                Expected::CommaOrClose,
+                tokens,
+                index,
+            ))
         }
     }
 }

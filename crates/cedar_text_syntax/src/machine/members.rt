@@ -11,8 +11,8 @@ use crate::levels;
 use crate::machine::work::Work;
 use crate::machine::{Refusal, State, leaf_at};
 use crate::steps::{Bracketed, Leaf, Unary, What};
-use cedar_text_lexer::errors::Expected;
-use cedar_text_lexer::sequence::{end_at, is_identifier_at, kind_at, start_at};
+use cedar_text_lexer::errors::{Expected, name_for};
+use cedar_text_lexer::sequence::{end_at, is_identifier_at, is_name_at, kind_at, start_at};
 use cedar_text_lexer::tokens::{Kind, Token};
 
 impl Work {
@@ -51,7 +51,7 @@ impl Work {
             return Err(Refusal::Expected(Expected::Name));
         }
         if index - from != 1 {
-            return Err(Refusal::Expected(Expected::Name));
+            return Err(Refusal::Expected(Expected::Id));
         }
         self.variable_part(from, tokens, index)?;
         self.operator(tokens, index)
@@ -110,10 +110,11 @@ impl Work {
         ensures limit { self.new.limit ≡ self.old.limit }
         ensures ok { IfOk result (λ next. Stands tokens.now next (look self.new) (index + 1)) }
     {
-        if is_identifier_at(tokens, index) {
+        if is_name_at(tokens, index) {
             Ok(State::Name(from, start, end_at(tokens, index)))
         } else {
-            Err(Refusal::Expected(Expected::NameOrId))
+            let what = name_for(Expected::NameOrId, kind_at(tokens, index));
+            Err(Refusal::Expected(what))
         }
     }
 

@@ -11,8 +11,8 @@ use crate::levels;
 use crate::machine::work::Work;
 use crate::machine::{Refusal, State, leaf_at};
 use crate::steps::{Bracketed, Leaf, Sign, What};
-use cedar_text_lexer::errors::Expected;
-use cedar_text_lexer::sequence::{end_at, is_identifier_at, kind_at, start_at};
+use cedar_text_lexer::errors::{Expected, name_for};
+use cedar_text_lexer::sequence::{end_at, is_name_at, kind_at, start_at};
 use cedar_text_lexer::tokens::{Kind, Token};
 
 impl Work {
@@ -64,7 +64,7 @@ impl Work {
         ensures limit { self.new.limit ≡ self.old.limit }
         ensures ok { IfOk result (λ next. Stands tokens.now next (look self.new) (index + 1)) }
     {
-        if is_identifier_at(tokens, index) {
+        if is_name_at(tokens, index) {
             let start = start_at(tokens, index);
             let end = end_at(tokens, index);
             return Ok(State::Name(index, start, end));
@@ -85,7 +85,10 @@ impl Work {
                 self.make(What::Leaf(leaf), levels::MEMBER, start, end, 0, 1)?;
                 Ok(State::Operator)
             }
-            None => Err(Refusal::Expected(Expected::Expression)),
+            None => {
+                let what = name_for(Expected::Expression, kind_at(tokens, index));
+                Err(Refusal::Expected(what))
+            }
         }
     }
 

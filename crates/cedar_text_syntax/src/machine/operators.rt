@@ -1,18 +1,21 @@
 //! What may follow an expression, and what is then made of the parts before.
-ghost use Rattle.std.specs.Prelude.{◌≡◌, ◌+◌, ◌<◌, ◌≤◌, ◌∷◌, [], length, IfOk};
+ghost use Rattle.std.specs.Prelude.{◌≡◌, ◌+◌, ◌<◌, ◌≤◌, ◌∷◌, [], length, IfOk, IfErr};
 ghost use Rattle.cedar_text_syntax.specs.Levels.{awaited, frame_level_of, lowest_of};
+ghost use Rattle.cedar_text_syntax.specs.Faults as Faults;
 ghost use Rattle.cedar_text_syntax.specs.Grammar as Grammar;
 ghost use Rattle.cedar_text_syntax.specs.Reading.{Reads, join_made, under};
 ghost use Rattle.cedar_text_syntax.specs.Standing.{look, Stands};
 ghost use Rattle.cedar_text_lexer.specs.Sequence as Tokens;
 ghost use Rattle.cedar_text_syntax.specs.Trees.{trees, made, signs_made};
+ghost use Rattle.cedar_text_syntax.specs.declared.machine.Refusal.TheVariants as refusal;
+ghost use Rattle.cedar_text_lexer.specs.declared.errors.Expected.TheVariants as wanted;
 ghost use Rattle.cedar_text_lexer.specs.declared.tokens.Kind.TheVariants as kind;
 ghost use Prim.Native.Nat.{max};
 
 use crate::frames::Wait;
 use crate::levels::{self, Operator};
 use crate::machine::work::Work;
-use crate::machine::{Refusal, State, operator_at};
+use crate::machine::{Refusal, State, due_at, operator_at};
 use crate::steps::{Binary, Sign, Unary, What};
 use cedar_text_lexer::errors::Expected;
 use cedar_text_lexer::sequence::{end_at, kind_at};
@@ -144,6 +147,8 @@ impl Work {
         requires reads { Reads tokens.now (under Wait.Paren start height (look self.old)) index }
         ensures limit { self.new.limit ≡ self.old.limit }
         ensures ok { IfOk result (λ next. Stands tokens.now next (look self.new) (index + 1)) }
+        ensures err { IfErr result (λ r.
+            r ≡ refusal.Expected (Faults.due (wanted.ClosedParen start) wanted.Operator (Tokens.kind_at tokens.now index))) }
     {
         match kind_at(tokens, index) {
             Kind::CloseParen => {
@@ -152,7 +157,12 @@ impl Work {
                 self.end = end_at(tokens, index);
                 Ok(State::Operator)
             }
-            _ => Err(Refusal::Expected(Expected::Operator)),
+            _ => Err(due_at(
+                Expected::ClosedParen(start),
+                Expected::Operator,
+                tokens,
+                index,
+            )),
         }
     }
 
@@ -169,10 +179,17 @@ impl Work {
         requires reads { Reads tokens.now (under (Wait.Clause brace) start height (look self.old)) index }
         ensures limit { self.new.limit ≡ self.old.limit }
         ensures ok { IfOk result (λ next. Stands tokens.now next (look self.new) (index + 1)) }
+        ensures err { IfErr result (λ r.
+            r ≡ refusal.Expected (Faults.due (wanted.ClosedBrace start) wanted.Operator (Tokens.kind_at tokens.now index))) }
     {
         match kind_at(tokens, index) {
             Kind::CloseBrace => Ok(State::Closed(brace)),
-            _ => Err(Refusal::Expected(Expected::Operator)),
+            _ => Err(due_at(
+                Expected::ClosedBrace(start),
+                Expected::Operator,
+                tokens,
+                index,
+            )),
         }
     }
 

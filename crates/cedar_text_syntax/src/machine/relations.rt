@@ -9,8 +9,8 @@ use crate::levels;
 use crate::machine::work::Work;
 use crate::machine::{Refusal, State};
 use crate::steps::{Unary, What};
-use cedar_text_lexer::errors::Expected;
-use cedar_text_lexer::sequence::{end_at, is_identifier_at, kind_at, start_at};
+use cedar_text_lexer::errors::{Expected, name_for};
+use cedar_text_lexer::sequence::{end_at, is_identifier_at, is_name_at, kind_at, start_at};
 use cedar_text_lexer::tokens::{Kind, Token};
 
 impl Work {
@@ -138,12 +138,13 @@ impl Work {
         ensures limit { self.new.limit ≡ self.old.limit }
         ensures ok { IfOk result (λ next. Stands tokens.now next (look self.new) (index + 1)) }
     {
-        if is_identifier_at(tokens, index) {
+        if is_name_at(tokens, index) {
             let start = start_at(tokens, index);
             let end = end_at(tokens, index);
             Ok(State::IsMore(index, start, end))
         } else {
-            Err(Refusal::Expected(Expected::Name))
+            let what = name_for(Expected::Name, kind_at(tokens, index));
+            Err(Refusal::Expected(what))
         }
     }
 
@@ -159,10 +160,11 @@ impl Work {
         ensures limit { self.new.limit ≡ self.old.limit }
         ensures ok { IfOk result (λ next. Stands tokens.now next (look self.new) (index + 1)) }
     {
-        if is_identifier_at(tokens, index) {
+        if is_name_at(tokens, index) {
             Ok(State::IsMore(from, start, end_at(tokens, index)))
         } else {
-            Err(Refusal::Expected(Expected::Name))
+            let what = name_for(Expected::Name, kind_at(tokens, index));
+            Err(Refusal::Expected(what))
         }
     }
 

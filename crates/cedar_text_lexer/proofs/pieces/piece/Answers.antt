@@ -1,5 +1,5 @@
-use Rattle.std.proofs.Common.{sym, arith}
-use Rattle.cedar_text_lexer.specs.Values.{itself, escape}
+use Rattle.std.proofs.Common.{sym, ◌∙◌, arith}
+use Rattle.cedar_text_lexer.specs.Values.{itself, escape, bare_return}
 use Rattle.cedar_text_lexer.proofs.Fronts.{character_boundary}
 use Rattle.cedar_text_lexer.proofs.Ends.{escape_in_ends, whole_is, escape_boundary, unknown_at, alone_at}
 use Rattle.cedar_text_lexer.proofs.pieces.piece.Goals as goal
@@ -8,7 +8,7 @@ pub returns-then-first-ne92-clause-within : goal.returns-then-first-ne92-clause-
 returns-then-first-ne92-clause-within c = character_boundary c.args.rest.now c.args.after.now c.args.first c.len_utf8.result c.requires c.len_utf8.ensures.len c.utf8.rest
 
 pub returns-then-first-ne92-clause-piece : goal.returns-then-first-ne92-clause-piece
-returns-then-first-ne92-clause-piece c = rw (c.requires, c.len_utf8.ensures.len) (itself c.args.first c.args.after.now c.if-first-ne92.true)
+returns-then-first-ne92-clause-piece c = rw (c.requires, c.len_utf8.ensures.len) (itself c.args.first c.args.after.now c.if-first-ne92.true (rw c.requires at (sym c.begins_bare_return.ensures ∙ c.if-begins_bare_return.false)))
 
 pub overflow_add-result : goal.overflow_add-result
 overflow_add-result c =
@@ -30,3 +30,6 @@ returns-in-Some-split_first-clause-none c =
 pub returns-in-None-split_first-clause-none : goal.returns-in-None-split_first-clause-none
 returns-in-None-split_first-clause-none c =
     alone_at c.args.in_pattern c.args.rest.now c.args.after.now (whole_is c.args.rest.now c.args.after.now c.args.first c.requires c.if-first-ne92.false) c.in-None-split_first.ensures (sym (rw c.as_bytes.ensures.value at c.in-None.ensures))
+
+pub returns-then-begins_bare_return-clause-none : goal.returns-then-begins_bare_return-clause-none
+returns-then-begins_bare_return-clause-none c = bare_return (sym c.begins_bare_return.ensures ∙ c.if-begins_bare_return.true)

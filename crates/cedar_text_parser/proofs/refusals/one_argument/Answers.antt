@@ -1,5 +1,5 @@
 use Rattle.cedar_text_parser.specs.Refusals.{for_one_argument}
 use Rattle.cedar_text_parser.proofs.refusals.one_argument.Goals as goal
 
-pub returns : goal.returns
-returns c = rw c.wanted_at.ensures (for_one_argument c.requires.within c.requires.is)
+pub returns-clause-is : goal.returns-clause-is
+returns-clause-is c = rw c.wanted_at.ensures (for_one_argument c.requires.within c.requires.is)
