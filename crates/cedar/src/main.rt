@@ -12,7 +12,7 @@
 #![tactic(auto)]
 
 use cedar_cli::{Answer, answer_command};
-use std::env::Env;
+use std::env::{Env, FillError};
 use std::process::ExitCode;
 use std::rt::Files;
 use std::{env, io};
@@ -27,7 +27,7 @@ fn main(rt: HostRuntime) -> ExitCode {
 }
 
 // Runs the command that the arguments write, prints what it comes to, and answers the exit status.
-fn run<R: Env + Files + AllocGlobal + Print + Eprint>(rt: &R) -> u8 {
+fn run<R: Env + Files + Input + AllocGlobal + Print + Eprint>(rt: &R) -> u8 {
     match words(rt) {
         Ok(words) => print_answer(rt, answer_command(rt, words.as_slice())),
         Err(error) => report_unread(rt, &error),
@@ -69,12 +69,37 @@ fn report_unwritten<R: Eprint>(rt: &R, error: &io::Error) -> u8 {
 }
 
 // The arguments could not be read.
-fn report_unread<R: Eprint>(rt: &R, error: &io::Error) -> u8 {
+fn report_unread<R: Env + Eprint>(rt: &R, error: &io::Error) -> u8 {
     if error.kind() == io::ErrorKind::OutOfMemory {
         drop(rt.eprint("out of memory\n"));
-        OUT_OF_MEMORY
-    } else {
-        drop(rt.eprint("an argument is not UTF-8\n"));
-        REFUSED
+        return OUT_OF_MEMORY;
+    }
+    match not_utf8(rt) {
+        Some(number) => drop(eprintln!(rt; "argument {number} is not UTF-8")),
+        None => drop(rt.eprint("an argument is not UTF-8\n")),
+    }
+    REFUSED
+}
+
+// The first argument that is not UTF-8, counted from 1 behind the program's name, where it and those before it are short.
+fn not_utf8<R: Env>(rt: &R) -> Option<usize> {
+    let mut buffer = [0u8; 4096];
+    for number in 1..4096 {
+        match rt.arg(number, &mut buffer) {
+            Ok(length) => if !is_utf8(&buffer, length) {
+                return Some(number);
+            },
+            Err(FillError::TooLong) => return None,
+            Err(FillError::NotPresent) => return None,
+        }
+    }
+    None
+}
+
+// Whether the first bytes are UTF-8.
+fn is_utf8(buffer: &[u8], length: usize) -> bool {
+    match buffer.get(..length) {
+        Some(bytes) => str::from_utf8(bytes).is_ok(),
+        None => true,
     }
 }

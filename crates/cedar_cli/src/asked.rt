@@ -26,6 +26,8 @@ pub struct Asked<'m, 't> {
     /// Whether there may be more entities than those. Then an entity is left out where parents lead from it to one that
     /// is not among them: what it is in is not known.
     pub is_partial: bool,
+    /// How many ancestors the entities have in all at most; where that is not said, `ANCESTORS`.
+    pub max_ancestors: Option<usize>,
 }
 
 /// A step that a partial answer is taken further by.
@@ -37,6 +39,8 @@ pub struct Step<'t> {
     pub entities: Option<Source<'t>>,
     /// Whether there may be more entities than those.
     pub is_partial: bool,
+    /// How many ancestors they have in all at most; where that is not said, `ANCESTORS`.
+    pub max_ancestors: Option<usize>,
 }
 
 /// In which way it is answered.

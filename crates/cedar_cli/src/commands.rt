@@ -13,7 +13,7 @@ const STEP_FILES: [&str; 2] = ["VALUES", "ENTITIES"];
 pub(crate) fn cedar<'a>(alloc: Global) -> Result<Command<'a>, AllocError> {
     Command::new(alloc, "cedar")
         .bin_name("cedar")?
-        .about("Answers questions about Cedar's policies")
+        .about("Answers questions about Cedar's policies. A FILE that is `-` is standard input")
         .subcommand_required(true)
         .arg_required_else_help(true)
         .subcommand(authorize(alloc)?)?
@@ -76,7 +76,13 @@ fn with_request<'a>(alloc: Global, command: Command<'a>) -> Result<Command<'a>, 
         .arg(resource.short('r'))?
         .arg(context.short('c'))?
         .arg(request_json(alloc)?)?
-        .arg(entities)
+        .arg(entities)?
+        .arg(max_ancestors(alloc))
+}
+
+fn max_ancestors<'a>(alloc: Global) -> Arg<'a> {
+    let help = "How many ancestors entities have in all at most; left out, 5,000,000";
+    option(alloc, "max-ancestors", "N", help).value_parser(ValueParser::Unsigned(0, 1_000_000_000))
 }
 
 fn json<'a>(alloc: Global) -> Arg<'a> {

@@ -8,7 +8,7 @@ use cedar_authorizer::authorizer::{
     AuthorizationError, PartialResponse, ReportedPolicies, Response,
 };
 use cedar_json_writer::{
-    JsonValue, decision_to_json, put_error, put_item, put_known, put_member, text_to_json,
+    JsonValue, decision_to_json, put_error_within, put_item, put_known, put_member, text_to_json,
 };
 use cedar_layers::expressions::Loc;
 use cedar_layers::policies::{Policy, PolicyID, PolicySet};
@@ -27,7 +27,7 @@ pub(crate) fn response_document(
     put_member(alloc, "decision", decision, &mut members)?;
     put_reasons(alloc, deciding.policies, response, &mut members)?;
     let errors = &response.diagnostics.errors;
-    put_errors(alloc, deciding.places, errors, &mut members)?;
+    put_errors(alloc, deciding, errors, &mut members)?;
     let mut named: BTreeSet<PolicyID> = BTreeSet::new(alloc);
     name_reasons(response, &mut named)?;
     name_errors(errors, &mut named)?;
@@ -77,7 +77,7 @@ fn stage_document(
     let mut members: Vec<(RcStr, JsonValue)> = Vec::new(alloc);
     put_step(alloc, step, &mut members)?;
     put_known(alloc, response, &mut members)?;
-    put_errors(alloc, deciding.places, &response.errors, &mut members)?;
+    put_errors(alloc, deciding, &response.errors, &mut members)?;
     let mut named: BTreeSet<PolicyID> = BTreeSet::new(alloc);
     name_policies(response.may_be_determining(), &mut named)?;
     name_policies(response.must_be_determining(), &mut named)?;
@@ -212,30 +212,36 @@ fn put_named(id: &PolicyID, named: &mut BTreeSet<PolicyID>) -> Result<(), AllocE
     }
 }
 
-// The errors, each with its place in the text of the policies, at `errors`.
+// The errors, each with its place in the text of the policies, at `errors`. What one says that met the limit that was
+// set names it.
 fn put_errors(
     alloc: Global,
-    places: &Places<'_>,
+    deciding: Deciding<'_>,
     errors: &[AuthorizationError],
     members: &mut Vec<(RcStr, JsonValue)>,
 ) -> Result<(), AllocError> {
     let mut items: Vec<JsonValue> = Vec::new(alloc);
     'errors: for error in errors {
-        put_error_item(alloc, places, error, &mut items)?;
+        put_error_item(alloc, deciding, error, &mut items)?;
     }
     put_member(alloc, "errors", JsonValue::Array(items), members)
 }
 
 fn put_error_item(
     alloc: Global,
-    places: &Places<'_>,
+    deciding: Deciding<'_>,
     error: &AuthorizationError,
     items: &mut Vec<JsonValue>,
 ) -> Result<(), AllocError> {
     let mut members: Vec<(RcStr, JsonValue)> = Vec::new(alloc);
-    put_error(alloc, error, &mut members)?;
+    put_error_within(alloc, error, deciding.way.limit, &mut members)?;
     let AuthorizationError::PolicyEvaluationError { id: _, error } = error;
-    put_place(alloc, places, error.source_loc().copied(), &mut members)?;
+    put_place(
+        alloc,
+        deciding.places,
+        error.source_loc().copied(),
+        &mut members,
+    )?;
     put_item(JsonValue::Object(members), items)
 }
 

@@ -4,9 +4,49 @@ use std::alloc::{AllocError, Global};
 use std::collections::BTreeSet;
 use std::rc::RcStr;
 
-/// The byte where a token of the text begins that can't stand there in JSON, or that opens one level more than may be
-/// open; else the end of the text, where more is due.
-pub(crate) fn syntax_fault(alloc: Global, text: &str) -> Result<usize, AllocError> {
+/// What is wrong with a text that is no JSON.
+#[derive(Clone, Copy)]
+pub(crate) enum Wrong {
+    /// More arrays and objects are open than may be.
+    TooDeep,
+    /// The text ends where more is due.
+    Ends,
+    /// A mark of the order of bytes, which is no part of JSON.
+    Mark,
+    /// A comma with nothing behind it in its array or object.
+    Comma,
+    /// A key or a text that stands in no quotes, or in single ones.
+    Quotes,
+    /// A key or a text whose quotes don't end.
+    Unended,
+    /// A line feed, a tab or another control character in a key or a text.
+    Control,
+    /// An escape that JSON does not have.
+    Escape,
+    /// Half of a pair of surrogates, which is no character.
+    Surrogate,
+    /// Something else.
+    Other,
+}
+
+/// Where a text that is no JSON is at fault, by the byte, and how.
+#[derive(Clone, Copy)]
+pub(crate) struct Fault {
+    pub(crate) start: usize,
+    pub(crate) wrong: Wrong,
+}
+
+/// The key that an object has already, and the byte where it begins again.
+#[derive(Drop)]
+pub(crate) struct Repeated {
+    pub(crate) start: usize,
+    pub(crate) key: RcStr,
+}
+
+/// What is wrong with a text that is no JSON: the byte where a token begins that can't stand there, or in it the escape or
+/// the character that can't; the one that opens one level more than may be open; else the end of the text, where more is
+/// due.
+pub(crate) fn syntax_fault(alloc: Global, text: &str) -> Result<Fault, AllocError> {
     let mut scratch = Scratch::new(alloc);
     let mut reader = Reader::new(text, &mut scratch)?;
     let mut place = Place {
@@ -16,17 +56,159 @@ pub(crate) fn syntax_fault(alloc: Global, text: &str) -> Result<usize, AllocErro
     for _ in 0..text.len() {
         let start = reader.offset();
         match reader.next() {
-            Some(token) => if !place.takes(token)? {
-                return Ok(start);
-            },
-            None => return Ok(text.len()),
+            Some(token) => {
+                let is_bad = matches!(token, Token::Bad);
+                if !place.takes(token)? {
+                    let is_too_deep = !is_bad && place.open.len() == MAX_DEPTH;
+                    return Ok(fault_at(text, start, place.due, is_too_deep));
+                }
+            }
+            None => return Ok(end_of(text)),
         }
     }
-    Ok(text.len())
+    Ok(end_of(text))
 }
 
-/// The byte where a key of the text, which is JSON, begins that its object has already; else the end of the text.
-pub(crate) fn repeated_key(alloc: Global, text: &str) -> Result<usize, AllocError> {
+fn end_of(text: &str) -> Fault {
+    Fault {
+        start: text.len(),
+        wrong: Wrong::Ends,
+    }
+}
+
+// What is wrong with the token that begins at this byte, where this is due.
+fn fault_at(text: &str, start: usize, due: Due, is_too_deep: bool) -> Fault {
+    let bytes = text.as_bytes();
+    let (front, rest) = match bytes.split_at_checked(start) {
+        Some(parts) => parts,
+        None => return end_of(text),
+    };
+    let wrong = match rest.first() {
+        None => Wrong::Ends,
+        Some(first) => match *first {
+            b'"' => return fault_in_quotes(rest, start),
+            b'\'' => Wrong::Quotes,
+            b'[' | b'{' if is_too_deep => Wrong::TooDeep,
+            b']' | b'}' if ends_in_comma(front) => Wrong::Comma,
+            0xef if start == 0 => Wrong::Mark,
+            other if due == Due::Key && is_letter(other) => Wrong::Quotes,
+            _ => Wrong::Other,
+        },
+    };
+    Fault { start, wrong }
+}
+
+fn is_letter(byte: u8) -> bool {
+    byte.is_ascii_alphabetic() || byte == b'_'
+}
+
+// Whether the last byte that is no blank is a comma.
+fn ends_in_comma(front: &[u8]) -> bool {
+    let mut rest = front;
+    while let Some((last, others)) = rest.split_last() {
+        if !last.is_ascii_whitespace() {
+            return *last == b',';
+        }
+        rest = others;
+    }
+    false
+}
+
+// What is wrong with the quoted text that begins with these bytes, the first of which is its quote: the first escape or
+// character that can't stand in it.
+fn fault_in_quotes(bytes: &[u8], start: usize) -> Fault {
+    let mut rest = bytes.get(1..).unwrap_or(&[]);
+    let mut start = start;
+    let mut passed: usize = 1;
+    while let Some(first) = rest.first() {
+        start = start.saturating_add(passed);
+        let wrong = match *first {
+            b'"' => Some(Wrong::Other),
+            b'\\' => escape_fault(rest),
+            byte => if byte < 0x20 {
+                Some(Wrong::Control)
+            } else {
+                None
+            },
+        };
+        if let Some(wrong) = wrong {
+            return Fault { start, wrong };
+        }
+        passed = if *first == b'\\' {
+            escape_length(rest)
+        } else {
+            1
+        };
+        rest = rest.get(passed..).unwrap_or(&[]);
+    }
+    Fault {
+        start: start.saturating_add(passed),
+        wrong: Wrong::Unended,
+    }
+}
+
+// How many bytes the escape has at the front of these bytes.
+fn escape_length(bytes: &[u8]) -> usize {
+    match bytes.get(1) {
+        Some(b'u') => if is_high(unit(bytes)) { 12 } else { 6 },
+        _ => 2,
+    }
+}
+
+// What is wrong with the escape at the front of these bytes, if anything is.
+fn escape_fault(bytes: &[u8]) -> Option<Wrong> {
+    match bytes.get(1) {
+        None => Some(Wrong::Unended),
+        Some(b'"' | b'\\' | b'/' | b'b' | b'f' | b'n' | b'r' | b't') => None,
+        Some(b'u') => unit_fault(bytes),
+        Some(_) => Some(Wrong::Escape),
+    }
+}
+
+// The same of an escape that writes a unit in four digits: the first half of a pair is followed by the second.
+fn unit_fault(bytes: &[u8]) -> Option<Wrong> {
+    match unit(bytes) {
+        None => Some(Wrong::Escape),
+        Some(first) => {
+            if is_low(Some(first)) {
+                return Some(Wrong::Surrogate);
+            }
+            if is_high(Some(first)) && !is_low(unit(bytes.get(6..).unwrap_or(&[]))) {
+                return Some(Wrong::Surrogate);
+            }
+            None
+        }
+    }
+}
+
+fn is_high(unit: Option<u32>) -> bool {
+    match unit {
+        Some(unit) => (0xd800..=0xdbff).contains(&unit),
+        None => false,
+    }
+}
+
+fn is_low(unit: Option<u32>) -> bool {
+    match unit {
+        Some(unit) => (0xdc00..=0xdfff).contains(&unit),
+        None => false,
+    }
+}
+
+// The unit that an escape of four hexadecimal digits writes at the front of these bytes.
+fn unit(bytes: &[u8]) -> Option<u32> {
+    if !bytes.starts_with(b"\\u") {
+        return None;
+    }
+    let digits = str::from_utf8(bytes.get(2..6)?).ok()?;
+    if digits.starts_with('+') {
+        return None;
+    }
+    u32::from_str_radix(digits, 16).ok()
+}
+
+/// The key of the text, which is JSON, that its object has already, where it begins again; nothing, if there is none.
+pub(crate) fn repeated_key(alloc: Global, text: &str) -> Result<Option<Repeated>, AllocError> {
     let mut scratch = Scratch::new(alloc);
     let mut reader = Reader::new(text, &mut scratch)?;
     let mut keys = Keys {
@@ -35,13 +217,13 @@ pub(crate) fn repeated_key(alloc: Global, text: &str) -> Result<usize, AllocErro
     for _ in 0..text.len() {
         let start = reader.offset();
         match reader.next() {
-            Some(token) => if keys.repeat(alloc, token)? {
-                return Ok(start);
+            Some(token) => if let Some(key) = keys.repeat(alloc, token)? {
+                return Ok(Some(Repeated { start, key }));
             },
-            None => return Ok(text.len()),
+            None => return Ok(None),
         }
     }
-    Ok(text.len())
+    Ok(None)
 }
 
 // What is due next.
@@ -146,43 +328,44 @@ struct Keys {
 }
 
 impl Keys {
-    // Whether the token is a key that its object has already.
-    fn repeat(&mut self, alloc: Global, token: Token<'_>) -> Result<bool, AllocError> {
+    // The token's key, if its object has it already.
+    fn repeat(&mut self, alloc: Global, token: Token<'_>) -> Result<Option<RcStr>, AllocError> {
         match token {
             Token::BeginObject => self.opens(alloc),
             Token::EndObject => Ok(self.closes()),
             Token::BeginArray => self.opens(alloc),
             Token::EndArray => Ok(self.closes()),
             Token::Key(key) => self.has(alloc, key),
-            Token::String(_) => Ok(false),
-            Token::Number(_) => Ok(false),
-            Token::Bool(_) => Ok(false),
-            Token::Null => Ok(false),
-            Token::Bad => Ok(false),
+            Token::String(_) => Ok(None),
+            Token::Number(_) => Ok(None),
+            Token::Bool(_) => Ok(None),
+            Token::Null => Ok(None),
+            Token::Bad => Ok(None),
         }
     }
 
-    fn opens(&mut self, alloc: Global) -> Result<bool, AllocError> {
+    fn opens(&mut self, alloc: Global) -> Result<Option<RcStr>, AllocError> {
         match self.open.push(BTreeSet::new(alloc)) {
-            Ok(()) => Ok(false),
+            Ok(()) => Ok(None),
             Err(_) => Err(AllocError),
         }
     }
 
-    fn closes(&mut self) -> bool {
+    fn closes(&mut self) -> Option<RcStr> {
         drop(self.open.pop());
-        false
+        None
     }
 
-    // Whether the innermost object has the key already. Then it has.
-    fn has(&mut self, alloc: Global, key: &str) -> Result<bool, AllocError> {
+    // The key, if the innermost object has it already. Then it has.
+    fn has(&mut self, alloc: Global, key: &str) -> Result<Option<RcStr>, AllocError> {
         let key = RcStr::from_str(alloc, key)?;
+        let again = key.clone()?;
         match self.open.last_mut() {
             Some(keys) => match keys.insert(key) {
-                Ok(is_new) => Ok(!is_new),
+                Ok(is_new) => Ok(if is_new { None } else { Some(again) }),
                 Err(_) => Err(AllocError),
             },
-            None => Ok(false),
+            None => Ok(None),
         }
     }
 }

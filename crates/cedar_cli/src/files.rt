@@ -1,9 +1,18 @@
-//! The files that arguments name.
+//! The files that arguments name. `-` is standard input, which is read once.
 use crate::{Refusal, Source, Step, refuse_with_line};
 use clap::ArgMatches;
 use std::alloc::Global;
+use std::io::Read;
 use std::rt::Files;
 use std::{fs, io};
+
+// What stands for standard input in place of a file's name, and what it is called.
+const INPUT: &str = "-";
+
+const INPUT_NAME: &str = "standard input";
+
+// The options that name one file.
+const FILE_OPTIONS: [&str; 4] = ["policies", "context", "request-json", "entities"];
 
 /// A file's name, and its text.
 #[derive(Drop)]
@@ -30,11 +39,12 @@ pub(crate) struct Texts {
 }
 
 impl Texts {
-    /// Reads all files that are named.
-    pub(crate) fn read<R: Files + AllocGlobal>(
+    /// Reads all files that are named, and refuses a second `-` before it reads any.
+    pub(crate) fn read<R: Files + Input + AllocGlobal>(
         rt: &R,
         matches: &ArgMatches<'_>,
     ) -> Result<Texts, Refusal> {
+        refuse_second_input(rt.alloc(), matches)?;
         let policies = text_of(rt, matches.get_str("policies"))?;
         let context = text_of(rt, matches.get_str("context"))?;
         let request = text_of(rt, matches.get_str("request-json"))?;
@@ -75,21 +85,28 @@ impl Texts {
         source(&self.entities)
     }
 
-    /// The steps, in their order; whether there may be more entities than those of a step.
-    pub(crate) fn steps(&self, alloc: Global, is_partial: bool) -> Result<Vec<Step<'_>>, Refusal> {
+    /// The steps, in their order; whether there may be more entities than those of a step, and how many ancestors these
+    /// have at most.
+    pub(crate) fn steps(
+        &self,
+        alloc: Global,
+        is_partial: bool,
+        max_ancestors: Option<usize>,
+    ) -> Result<Vec<Step<'_>>, Refusal> {
         let mut steps: Vec<Step<'_>> = Vec::new(alloc);
         'files: for files in self.steps.iter() {
-            steps.push(step_of(files, is_partial))?;
+            steps.push(step_of(files, is_partial, max_ancestors))?;
         }
         Ok(steps)
     }
 }
 
-fn step_of(files: &StepFiles, is_partial: bool) -> Step<'_> {
+fn step_of(files: &StepFiles, is_partial: bool, max_ancestors: Option<usize>) -> Step<'_> {
     Step {
         values: source_of(&files.values),
         entities: source(&files.entities),
         is_partial,
+        max_ancestors,
     }
 }
 
@@ -108,7 +125,7 @@ fn source_of(file: &File) -> Source<'_> {
 }
 
 // The files that each use of `--step` names.
-fn step_files<R: Files + AllocGlobal>(
+fn step_files<R: Files + Input + AllocGlobal>(
     rt: &R,
     matches: &ArgMatches<'_>,
 ) -> Result<Vec<StepFiles>, Refusal> {
@@ -121,7 +138,7 @@ fn step_files<R: Files + AllocGlobal>(
     Ok(steps)
 }
 
-fn put_step<R: Files + AllocGlobal>(
+fn put_step<R: Files + Input + AllocGlobal>(
     rt: &R,
     names: &[&str],
     steps: &mut Vec<StepFiles>,
@@ -134,7 +151,7 @@ fn put_step<R: Files + AllocGlobal>(
     Ok(())
 }
 
-fn with_entities<R: Files + AllocGlobal>(
+fn with_entities<R: Files + Input + AllocGlobal>(
     rt: &R,
     values: File,
     entities: Option<&str>,
@@ -149,17 +166,68 @@ fn with_entities<R: Files + AllocGlobal>(
 }
 
 // The file of this name and its text, if one is named.
-fn text_of<R: Files + AllocGlobal>(rt: &R, name: Option<&str>) -> Result<Option<File>, Refusal> {
+fn text_of<R: Files + Input + AllocGlobal>(
+    rt: &R,
+    name: Option<&str>,
+) -> Result<Option<File>, Refusal> {
     match name {
         Some(name) => Ok(Some(read_named(rt, name)?)),
         None => Ok(None),
     }
 }
 
-fn read_named<R: Files + AllocGlobal>(rt: &R, name: &str) -> Result<File, Refusal> {
-    let text = file_text(rt, name)?;
-    let name = String::from_str(rt.alloc(), name)?;
-    Ok(File { name, text })
+fn read_named<R: Files + Input + AllocGlobal>(rt: &R, name: &str) -> Result<File, Refusal> {
+    if name == INPUT {
+        let text = input_text(rt)?;
+        let name = String::from_str(rt.alloc(), INPUT_NAME)?;
+        Ok(File { name, text })
+    } else {
+        let text = file_text(rt, name)?;
+        let name = String::from_str(rt.alloc(), name)?;
+        Ok(File { name, text })
+    }
+}
+
+// All of standard input.
+fn input_text<R: Input + AllocGlobal>(rt: &R) -> Result<String, Refusal> {
+    let mut text = String::new(rt.alloc());
+    match rt.reader().read_to_string(&mut text) {
+        Ok(_) => Ok(text),
+        Err(error) => Err(unread(rt.alloc(), INPUT_NAME, &error)),
+    }
+}
+
+// Refuses the arguments where more than one of them is `-`: standard input is read once.
+fn refuse_second_input(alloc: Global, matches: &ArgMatches<'_>) -> Result<(), Refusal> {
+    let mut count: usize = 0;
+    'options: for option in FILE_OPTIONS {
+        if matches.get_str(option) == Some(INPUT) {
+            count = count.saturating_add(1);
+        }
+    }
+    if count.saturating_add(step_inputs(matches)) > 1 {
+        let line = String::from_str(
+            alloc,
+            "`-` is standard input, which is read once: give it once",
+        );
+        return Err(refuse_with_line(alloc, line));
+    }
+    Ok(())
+}
+
+// How many files of steps are `-`.
+fn step_inputs(matches: &ArgMatches<'_>) -> usize {
+    let mut count: usize = 0;
+    if let Some(uses) = matches.get_raw_occurrences("step") {
+        'uses: for names in uses {
+            'names: for name in names {
+                if *name == INPUT {
+                    count = count.saturating_add(1);
+                }
+            }
+        }
+    }
+    count
 }
 
 fn file_text<R: Files + AllocGlobal>(rt: &R, name: &str) -> Result<String, Refusal> {

@@ -22,6 +22,7 @@
 //! (`Answer`). The public calls have no clause; what the commands print is tested by the tables of `cedar_test_cli`.
 #![tactic(auto)]
 
+mod ancestors;
 mod asked;
 mod commands;
 mod decisions;

@@ -1,6 +1,6 @@
 //! Why a question is not answered.
 use crate::asked::Source;
-use crate::faults::{repeated_key, syntax_fault};
+use crate::faults::{Fault, Repeated, Wrong, repeated_key, syntax_fault};
 use crate::limits::LEVELS;
 use crate::places::{Places, describe_at};
 use crate::visible::visible;
@@ -9,6 +9,7 @@ use cedar_layers::expressions::Loc;
 use cedar_text_lexer::errors::ReadError;
 use cedar_text_parser::ParseError;
 use cedar_text_parser::show::message;
+use json::MAX_DEPTH;
 use std::alloc::{AllocError, AllocFailed, Global};
 
 /// Why a question is not answered.
@@ -120,20 +121,14 @@ fn why_of(alloc: Global, text: &str, error: &ParseError) -> Result<String, Alloc
 }
 
 /// The refusal of what can't be read as Cedar's JSON: `NAME: $.path: why`, or `NAME: line L, column C: why` of a text
-/// that is no JSON, or that has a key twice.
+/// that is no JSON or nests too deep, with what is wrong there, or that has a key twice, which is named.
 #[cold]
 pub(crate) fn unread_json(alloc: Global, source: Source<'_>, error: JsonError) -> Refusal {
     let name = source.name;
     match error {
         JsonError::Memory(_) => Refusal::Memory,
-        JsonError::Syntax => {
-            let start = syntax_fault(alloc, source.text);
-            faulty(alloc, source, start, "not JSON")
-        }
-        JsonError::DuplicateKey => {
-            let start = repeated_key(alloc, source.text);
-            faulty(alloc, source, start, "a key comes twice in an object")
-        }
+        JsonError::Syntax => no_json(alloc, source),
+        JsonError::DuplicateKey => twice(alloc, source),
         JsonError::Refused { path, reason } => {
             refuse_with_line(alloc, format!(in alloc; "{name}: {path}: {reason}"))
         }
@@ -143,17 +138,57 @@ pub(crate) fn unread_json(alloc: Global, source: Source<'_>, error: JsonError) -
     }
 }
 
-// The refusal of a text that is at fault from this byte on.
-fn faulty(
-    alloc: Global,
-    source: Source<'_>,
-    start: Result<usize, AllocError>,
-    why: &str,
-) -> Refusal {
-    match start {
-        Ok(start) => refuse_with_line(alloc, faulty_line(alloc, source, start, why)),
+// The refusal of a text that is no JSON, or that nests deeper than is read.
+fn no_json(alloc: Global, source: Source<'_>) -> Refusal {
+    match syntax_fault(alloc, source.text) {
+        Ok(fault) => refuse_with_line(alloc, no_json_line(alloc, source, fault)),
         Err(AllocError) => Refusal::Memory,
     }
+}
+
+fn no_json_line(alloc: Global, source: Source<'_>, fault: Fault) -> Result<String, AllocError> {
+    let why = match fault.wrong {
+        Wrong::TooDeep => {
+            let why = format!(in alloc;
+                "more than {MAX_DEPTH} arrays and objects, one in another"
+            )?;
+            return faulty_line(alloc, source, fault.start, why.as_str());
+        }
+        Wrong::Ends => "not JSON: more is due where the text ends",
+        Wrong::Mark => "not JSON: the text begins with a byte order mark",
+        Wrong::Comma => "not JSON: a comma stands before the end of an array or an object",
+        Wrong::Quotes => "not JSON: a key or a text stands in double quotes",
+        Wrong::Unended => "not JSON: the quotes of a key or a text don't end",
+        Wrong::Control => "not JSON: a control character in a key or a text",
+        Wrong::Escape => "not JSON: no such escape",
+        Wrong::Surrogate => "not JSON: half of a pair of surrogates",
+        Wrong::Other => "not JSON",
+    };
+    faulty_line(alloc, source, fault.start, why)
+}
+
+// The refusal of a text in which an object has a key twice.
+fn twice(alloc: Global, source: Source<'_>) -> Refusal {
+    match repeated_key(alloc, source.text) {
+        Ok(Some(repeated)) => refuse_with_line(alloc, twice_line(alloc, source, &repeated)),
+        Ok(None) => refuse_with_line(alloc, twice_somewhere(alloc, source)),
+        Err(AllocError) => Refusal::Memory,
+    }
+}
+
+fn twice_line(
+    alloc: Global,
+    source: Source<'_>,
+    repeated: &Repeated,
+) -> Result<String, AllocError> {
+    let key = repeated.key.as_str();
+    let why = format!(in alloc; "the key `{key}` comes twice in an object")?;
+    faulty_line(alloc, source, repeated.start, why.as_str())
+}
+
+fn twice_somewhere(alloc: Global, source: Source<'_>) -> Result<String, AllocError> {
+    let name = source.name;
+    format!(in alloc; "{name}: a key comes twice in an object")
 }
 
 fn faulty_line(

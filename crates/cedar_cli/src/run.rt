@@ -22,7 +22,7 @@ pub enum Answer {
 }
 
 /// What the command comes to that these words write, the first of which is the program's name.
-pub fn answer_command<R: Files + AllocGlobal>(rt: &R, words: &[String]) -> Answer {
+pub fn answer_command<R: Files + Input + AllocGlobal>(rt: &R, words: &[String]) -> Answer {
     match parse_and_run(rt, words) {
         Ok(printed) => Answer::Printed(printed),
         Err(Refusal::Told(lines)) => Answer::Refused(lines),
@@ -30,7 +30,10 @@ pub fn answer_command<R: Files + AllocGlobal>(rt: &R, words: &[String]) -> Answe
     }
 }
 
-fn parse_and_run<R: Files + AllocGlobal>(rt: &R, words: &[String]) -> Result<Printed, Refusal> {
+fn parse_and_run<R: Files + Input + AllocGlobal>(
+    rt: &R,
+    words: &[String],
+) -> Result<Printed, Refusal> {
     let command = cedar(rt.alloc())?;
     match command.try_get_matches_from(words) {
         Ok(matches) => dispatch_command(rt, &matches),
@@ -52,7 +55,7 @@ fn help_or_refusal(alloc: Global, error: &Error) -> Result<Printed, Refusal> {
     }
 }
 
-fn dispatch_command<R: Files + AllocGlobal>(
+fn dispatch_command<R: Files + Input + AllocGlobal>(
     rt: &R,
     matches: &ArgMatches<'_>,
 ) -> Result<Printed, Refusal> {
@@ -76,7 +79,7 @@ fn printed_alone(alloc: Global, output: String) -> Printed {
     }
 }
 
-fn run<R: Files + AllocGlobal>(
+fn run<R: Files + Input + AllocGlobal>(
     rt: &R,
     name: &str,
     matches: &ArgMatches<'_>,
@@ -116,7 +119,11 @@ fn partial(
     matches: &ArgMatches<'_>,
     texts: &Texts,
 ) -> Result<Printed, Refusal> {
-    let steps = texts.steps(alloc, matches.get_flag("partial-step"))?;
+    let steps = texts.steps(
+        alloc,
+        matches.get_flag("partial-step"),
+        max_ancestors(matches),
+    )?;
     let printed = partially_authorized(alloc, texts.policies(), asked, &steps, way(matches));
     drop(steps);
     printed
@@ -134,6 +141,7 @@ fn read_question<'m, 't>(matches: &ArgMatches<'m>, texts: &'t Texts) -> Asked<'m
         request: texts.request(),
         entities: texts.entities(),
         is_partial: matches.get_flag("partial"),
+        max_ancestors: max_ancestors(matches),
     }
 }
 
@@ -155,6 +163,11 @@ fn error_handling(word: Option<&str>) -> ErrorHandling {
 
 fn limit(matches: &ArgMatches<'_>) -> Option<usize> {
     matches.get_one::<usize>("limit")
+}
+
+/// How many ancestors the entities have in all at most.
+pub(crate) fn max_ancestors(matches: &ArgMatches<'_>) -> Option<usize> {
+    matches.get_one::<usize>("max-ancestors")
 }
 
 fn expression<'a>(matches: &ArgMatches<'a>) -> Source<'a> {

@@ -3,7 +3,7 @@ use crate::asked::{Source, Step};
 use crate::left::open_names;
 use crate::limits::{LEVELS, push_limit, step_limit};
 use crate::refusal::{Refusal, refuse_with_line, unread_json};
-use crate::stores::{Store, store_of};
+use crate::stores::{Given, Store, store_of};
 use crate::warnings::{push_idle_step, push_strays};
 use cedar_authorizer::authorizer::{
     AuthorizationError, Authorizer, ErrorHandling, PartialResponse, ReauthorizationError,
@@ -99,7 +99,14 @@ fn step_store(
     warnings: &mut String,
 ) -> Result<Option<Store>, Refusal> {
     match step.entities {
-        Some(source) => Ok(Some(store_of(alloc, source, step.is_partial, extensions, warnings)?)),
+        Some(source) => {
+            let given = Given {
+                source,
+                is_partial: step.is_partial,
+                max_ancestors: step.max_ancestors,
+            };
+            Ok(Some(store_of(alloc, given, extensions, warnings)?))
+        }
         None => Ok(None),
     }
 }

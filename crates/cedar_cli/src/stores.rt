@@ -1,4 +1,5 @@
 //! Stores of entities.
+use crate::ancestors::{ANCESTORS, has_more_ancestors};
 use crate::asked::{Asked, Source};
 use crate::limits::LEVELS;
 use crate::refusal::{Refusal, refuse_with_line, unread_json};
@@ -9,6 +10,14 @@ use cedar_hierarchy::{ClosureError, PartialClosure, close_hierarchy, close_hiera
 use cedar_json_reader::entities_from_json_str;
 use cedar_layers::policies::{Entities, Entity};
 use std::alloc::{AllocError, Global};
+
+/// The text of entities, whether there may be more than those, and how many ancestors they have in all at most.
+#[derive(Clone, Copy)]
+pub(crate) struct Given<'a> {
+    pub(crate) source: Source<'a>,
+    pub(crate) is_partial: bool,
+    pub(crate) max_ancestors: Option<usize>,
+}
 
 /// A store, and how many levels the highest attribute or tag in it has.
 #[derive(Drop)]
@@ -25,7 +34,14 @@ pub(crate) fn given_store(
     warnings: &mut String,
 ) -> Result<Store, Refusal> {
     match asked.entities {
-        Some(source) => store_of(alloc, source, asked.is_partial, extensions, warnings),
+        Some(source) => {
+            let given = Given {
+                source,
+                is_partial: asked.is_partial,
+                max_ancestors: asked.max_ancestors,
+            };
+            store_of(alloc, given, extensions, warnings)
+        }
         None => Ok(Store {
             entities: Entities::with(alloc, Vec::new(alloc), asked.is_partial)?,
             height: 0,
@@ -34,26 +50,62 @@ pub(crate) fn given_store(
 }
 
 /// The store of the entities that this text writes, each with all its ancestors. Where there may be more entities,
-/// those are left out whose parents lead to one that is not there, and that is told.
+/// those are left out whose parents lead to one that is not there, and that is told. Refused before they are closed, where
+/// they have more ancestors in all than they may.
 pub(crate) fn store_of(
     alloc: Global,
-    source: Source<'_>,
-    is_partial: bool,
+    given: Given<'_>,
     extensions: &Extensions<'_>,
     warnings: &mut String,
 ) -> Result<Store, Refusal> {
+    let source = given.source;
     match entities_from_json_str(alloc, source.text, extensions, LEVELS) {
         Ok(entities) => {
             let height = entities_height(&entities);
-            let entities = if is_partial {
-                partial_store(alloc, source, entities, warnings)?
-            } else {
-                whole_store(alloc, source, entities)?
-            };
+            let entities = closed_store(alloc, given, entities, warnings)?;
             Ok(Store { entities, height })
         }
         Err(error) => Err(unread_json(alloc, source, error)),
     }
+}
+
+// The store of these entities, each with all its ancestors.
+fn closed_store(
+    alloc: Global,
+    given: Given<'_>,
+    entities: Vec<Entity>,
+    warnings: &mut String,
+) -> Result<Entities, Refusal> {
+    match refuse_many_ancestors(alloc, given, &entities) {
+        Ok(()) => if given.is_partial {
+            partial_store(alloc, given.source, entities, warnings)
+        } else {
+            whole_store(alloc, given.source, entities)
+        },
+        Err(refusal) => {
+            drop(entities);
+            Err(refusal)
+        }
+    }
+}
+
+// Refuses entities that have more ancestors in all than are laid out.
+fn refuse_many_ancestors(
+    alloc: Global,
+    given: Given<'_>,
+    entities: &Vec<Entity>,
+) -> Result<(), Refusal> {
+    let most = given.max_ancestors.unwrap_or(ANCESTORS);
+    if has_more_ancestors(alloc, entities, most)? {
+        let name = given.source.name;
+        return Err(refuse_with_line(
+            alloc,
+            format!(in alloc;
+                "{name}: the entities have more than {most} ancestors in all (--max-ancestors)"
+            ),
+        ));
+    }
+    Ok(())
 }
 
 fn whole_store(

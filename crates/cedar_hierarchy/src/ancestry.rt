@@ -1,14 +1,13 @@
 //! The ancestors of all entities, each computed from those of its parents.
-ghost use Rattle.std.specs.Prelude.{◌≡◌, true, IfOk, OnOk, IfErr, IfSome, map, option_copied};
-ghost use Rattle.cedar_model.specs.Settings.{is_among};
+ghost use Rattle.std.specs.Prelude.{IfOk, OnOk, IfErr, IfSome, map, option_copied};
 ghost use Rattle.cedar_names.specs.Names.{uid_name};
-ghost use Rattle.cedar_hierarchy.specs.Paths.{Leads, AreLedTo, ArePartOf};
+ghost use Rattle.cedar_hierarchy.specs.Paths.{AreLedTo, ArePartOf};
 ghost use Rattle.cedar_hierarchy.specs.Ancestry.{NamesACycle};
 ghost use Rattle.cedar_hierarchy.specs.Listed.{listed_parents, KnowsAncestors};
 
 use crate::error::ClosureError;
 use crate::order::{Order, ordered};
-use crate::parents::{ParentMap, copy_uid, parents_in};
+use crate::parents::{ParentMap, parents_in};
 use crate::walk::{all_led_to, led_to};
 use cedar_layers::expressions::EntityUID;
 use std::alloc::{AllocError, Global};

@@ -1,6 +1,7 @@
 -- Texts that write longs.
-use Rattle.std.proofs.Common.{◌≡◌, ℤ, pos, negsuc, Bool, true, false, cond, ◌&&◌, [], ◌∷◌, length, Option, Some, None, MatchOption, refl, sym, ap, ◌∙◌, FitsSigned, w64, leb-true, lt-ltb, ltb-true, nat_lt, arith, ok_or, Ok}
+use Rattle.std.proofs.Common.{◌≡◌, ℤ, pos, negsuc, Bool, true, false, cond, ◌&&◌, [], ◌∷◌, length, Option, Some, None, MatchOption, refl, sym, ap, ◌∙◌, FitsSigned, w64, codes, leb-true, lt-ltb, ltb-true, nat_lt, arith, ok_or, Ok}
 use Rattle.std.proofs.lemmas.Bool.{and_from, and_parts}
+use Rattle.std.proofs.lemmas.Slice.Eq.{bytes_eq-Decides}
 use Rattle.std.specs.List.{list_all}
 use Rattle.std.specs.Option.{option_and_then}
 use Rattle.std.specs.Str.Parse.{AllDigits, IsNumeral, without_leading_sign, signed_digits_value, ParsesSigned}
@@ -9,8 +10,8 @@ use Rattle.cedar_model.specs.Terms.{Text}
 use Rattle.cedar_model.specs.Outcomes.{is_long}
 use Rattle.cedar_model.specs.lemmas.Longs.{fits_long}
 use Rattle.std.specs.Fmt.{signed_decimal}
-use Rattle.std.proofs.lemmas.Fmt.{parse-signed_decimal}
-use Rattle.cedar_json_reader.specs.Numbers.{is_digit, are_digits, is_long_text, long_of_text}
+use Rattle.std.proofs.lemmas.Fmt.{parse-signed_decimal, decimal_digit}
+use Rattle.cedar_json_reader.specs.Numbers.{is_digit, are_digits, is_long_text, is_signed_zero, signed_long_of_text, long_of_text}
 
 long_fits : (n : ℤ) → is_long n ≡ true → FitsSigned w64 n
 unfolding is_long
@@ -43,13 +44,13 @@ none_written : (t : Text) (b : Bool) → is_long_text t ≡ b → (IsNumeral 10 
 none_written t true e f = absurd (f (writes_long t e))
 none_written t false e f = refl
 
-read_text : (t : Text) (r : Option ℤ) → ParsesSigned w64 10 t (ok_or r t) → r ≡ long_of_text t
+read_text : (t : Text) (r : Option ℤ) → ParsesSigned w64 10 t (ok_or r t) → r ≡ signed_long_of_text t
 read_text t None h = none_written t (is_long_text t) refl h
 read_text t (Some n) h =
     ap Some h.1 ∙ ap (λ b. cond b (Some (signed_digits_value 10 t)) None) (sym (long_written t h.0))
 
 -- what a text is read as is the long that it writes
-pub long_parsed : (o : Option Text) (r : Option ℤ) → MatchOption o (r ≡ None) (λ t. ParsesSigned w64 10 t (ok_or r t)) → r ≡ option_and_then long_of_text o
+pub long_parsed : (o : Option Text) (r : Option ℤ) → MatchOption o (r ≡ None) (λ t. ParsesSigned w64 10 t (ok_or r t)) → r ≡ option_and_then signed_long_of_text o
 long_parsed None r h = h
 long_parsed (Some t) r h = read_text t r h
 
@@ -66,13 +67,33 @@ some_of_ok (Some n) z t h = cc
 some_of_ok None z t h = absurd (cc)
 
 -- a long is read in what is written of it
-pub long_read : (z : ℤ) → is_long z ≡ true → long_of_text (signed_decimal z) ≡ Some z
+read_signed : (z : ℤ) → is_long z ≡ true → signed_long_of_text (signed_decimal z) ≡ Some z
 unfolding is_long
-long_read (pos n) h =
+read_signed (pos n) h =
     let t = signed_decimal (pos n) in
-    some_of_ok (long_of_text t) (pos n) t (parse-signed_decimal w64 (pos n) t (ok_or (long_of_text t) t) (long_fits (pos n) h)
+    some_of_ok (signed_long_of_text t) (pos n) t (parse-signed_decimal w64 (pos n) t (ok_or (signed_long_of_text t) t) (long_fits (pos n) h)
     (omega (arith, leb-true n 9223372036854775807 h)) refl (parsed t (is_long_text t) refl))
-long_read (negsuc n) h =
+read_signed (negsuc n) h =
     let t = signed_decimal (negsuc n) in
-    some_of_ok (long_of_text t) (negsuc n) t (parse-signed_decimal w64 (negsuc n) t (ok_or (long_of_text t) t) (long_fits (negsuc n) h)
+    some_of_ok (signed_long_of_text t) (negsuc n) t (parse-signed_decimal w64 (negsuc n) t (ok_or (signed_long_of_text t) t) (long_fits (negsuc n) h)
     (omega (arith, leb-true n 9223372036854775807 h)) refl (parsed t (is_long_text t) refl))
+
+some_same : (x y : ℤ) → Some x ≡ Some y → x ≡ y
+some_same x y e = cc
+
+-- zero is written without a sign, and what else is written is not zero
+zero_apart : (z : ℤ) → signed_decimal z ≡ codes "-0" → z ≡ pos 0 → ⊥
+zero_apart z written zero =
+    let one_zero : codes "0" ≡ codes "-0" = sym (decimal_digit 0 (omega arith)) ∙ sym (ap signed_decimal zero) ∙ written in
+    absurd (cc)
+
+written_so : (z : ℤ) (b : Bool) → is_signed_zero (signed_decimal z) ≡ b → signed_long_of_text (signed_decimal z) ≡ Some z → cond b None (signed_long_of_text (signed_decimal z)) ≡ Some z
+unfolding is_long
+written_so z true e read =
+    let written : signed_decimal z ≡ codes "-0" = (bytes_eq-Decides (signed_decimal z) (codes "-0")).0 e in
+    let zero : Some (pos 0) ≡ Some z = sym (ap signed_long_of_text written) ∙ read in
+    absurd (zero_apart z written (sym (some_same (pos 0) z zero)))
+written_so z false e read = read
+
+pub long_read : (z : ℤ) → is_long z ≡ true → long_of_text (signed_decimal z) ≡ Some z
+long_read z h = written_so z (is_signed_zero (signed_decimal z)) refl (read_signed z h)

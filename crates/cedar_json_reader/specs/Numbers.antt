@@ -1,5 +1,5 @@
 -- The numbers that are longs.
-use Rattle.std.specs.Prelude.{ℕ, ℤ, Bool, ◌&&◌, if◌then◌else◌, length, nat_lt, Option, Some, None}
+use Rattle.std.specs.Prelude.{ℕ, ℤ, Bool, ◌&&◌, if◌then◌else◌, length, nat_lt, Option, Some, None, codes, bytes_eq}
 use Rattle.std.specs.List.{list_all}
 use Rattle.std.specs.Char.{digit_value}
 use Rattle.std.specs.Str.Parse.{without_leading_sign, signed_digits_value}
@@ -20,9 +20,17 @@ are_digits t = nat_lt 0 (length t) && list_all is_digit t
 abbrev pub is_long_text : Text → Bool
 is_long_text t = are_digits (without_leading_sign t) && is_long (signed_digits_value 10 t)
 
+-- the long that the text writes, zero with a sign among them
+abbrev pub signed_long_of_text : Text → Option ℤ
+signed_long_of_text t = if is_long_text t then Some (signed_digits_value 10 t) else None
+
+-- zero with a sign, which is no integer: only numbers with a fraction have two zeros
+abbrev pub is_signed_zero : Text → Bool
+is_signed_zero t = bytes_eq t (codes "-0")
+
 -- the long that the text writes
 abbrev pub long_of_text : Text → Option ℤ
-long_of_text t = if is_long_text t then Some (signed_digits_value 10 t) else None
+long_of_text t = if is_signed_zero t then None else signed_long_of_text t
 
 -- the long that a number writes
 abbrev pub long_in : Json → Option ℤ

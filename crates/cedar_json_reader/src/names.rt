@@ -12,7 +12,7 @@ pub(crate) enum Place {
     AtColon,
 }
 
-/// Whether the text is a name: words with `::` between them, none of which is reserved.
+/// Whether the text is a name: words with `::` between them, none of which is reserved, as `__cedar` is in names.
 pub(crate) fn is_name(text: &str) -> bool
     ensures { result ≡ Words.is_name text.now }
 {
@@ -69,11 +69,37 @@ fn has_no_reserved(bytes: &[u8]) -> bool
     let mut begins = true;
     let mut rest = bytes;
     'bytes: while let Some((first, others)) = rest.split_first() {
-        if begins && begins_reserved(rest) {
+        if begins && begins_reserved_in_names(rest) {
             return false;
         }
         begins = *first == b':';
         rest = others;
     }
     true
+}
+
+// Whether the bytes begin with a word that is reserved in names: one of the language, or `__cedar`.
+fn begins_reserved_in_names(bytes: &[u8]) -> bool
+    ensures { result ≡ Words.begins_reserved_in_names bytes.now }
+{
+    begins_reserved(bytes) || begins_cedar(bytes)
+}
+
+// Whether the bytes begin with the word `__cedar`, which ends at the first byte that no word goes on with.
+fn begins_cedar(bytes: &[u8]) -> bool
+    ensures { result ≡ Words.begins_cedar bytes.now }
+{
+    match bytes.strip_prefix(b"__cedar") {
+        Some(rest) => ends_word(rest),
+        None => false,
+    }
+}
+
+fn ends_word(rest: &[u8]) -> bool
+    ensures { result ≡ Words.ends_word rest.now }
+{
+    match rest.first() {
+        Some(byte) => !is_word_byte(*byte),
+        None => true,
+    }
 }

@@ -5,7 +5,9 @@ ghost use Rattle.std.specs.Rc.{rc_str_bytes};
 ghost use Rattle.json.specs.Value.{value_view, items_view, members_view};
 ghost use Rattle.cedar_restricted.specs.Views.{restricted_term};
 ghost use Rattle.json.specs.Json.{object};
-ghost use Rattle.cedar_json_reader.specs.Numbers.{long_in};
+ghost use Rattle.std.specs.Option.{option_and_then};
+ghost use Rattle.json.specs.Find.{as_number};
+ghost use Rattle.cedar_json_reader.specs.Numbers.{long_in, signed_long_of_text};
 ghost use Rattle.cedar_model.specs.Terms.{literal, text_literal};
 ghost use Rattle.cedar_json_reader.specs.Refusals.{IsRefusal, IsRefusedAt, IsMemory, under, made_of, and_then};
 ghost use Rattle.cedar_json_reader.specs.Paths.{at_key, at_index};
@@ -57,10 +59,24 @@ fn read_long(alloc: Global, number: &Value<'_>) -> Result<RestrictedExpr, JsonEr
     }
 }
 
-// The long that a number writes.
-#[tactic(auto, using(crate::proofs::Longs::long_parsed))]
+// The long that a number writes. `-0` is none.
 fn long_in(number: &Value<'_>) -> Option<i64>
     ensures { result ≡ long_in (value_view number.now) }
+{
+    match number.as_number() {
+        Some(text) => if text == "-0" {
+            None
+        } else {
+            signed_long_in(number)
+        },
+        None => None,
+    }
+}
+
+// The same, and zero for `-0`.
+#[tactic(auto, using(crate::proofs::Longs::long_parsed))]
+fn signed_long_in(number: &Value<'_>) -> Option<i64>
+    ensures { result ≡ option_and_then signed_long_of_text (as_number (value_view number.now)) }
 {
     number.as_i64()
 }

@@ -55,6 +55,82 @@ pub fn put_error(
     }
 }
 
+/// The same, where the limit of levels that was set is said behind what an error says that met it, as in `recursion limit
+/// reached (--limit 100)`; if none was set, it is the same. Refuses only for want of memory.
+pub fn put_error_within(
+    alloc: Global,
+    error: &AuthorizationError,
+    limit: Option<usize>,
+    members: &mut Vec<(RcStr, JsonValue)>,
+) -> Result<(), AllocError>
+    ensures { OnOk result
+        (AddsError (error_view error.now) (members_seen members.old.items) (members_seen members.new.items)) }
+{
+    match limit {
+        Some(limit) => put_limited_error(alloc, error, limit, members),
+        None => put_error(alloc, error, members),
+    }
+}
+
+fn put_limited_error(
+    alloc: Global,
+    error: &AuthorizationError,
+    limit: usize,
+    members: &mut Vec<(RcStr, JsonValue)>,
+) -> Result<(), AllocError>
+    ensures { OnOk result
+        (AddsError (error_view error.now) (members_seen members.old.items) (members_seen members.new.items)) }
+{
+    match error {
+        AuthorizationError::PolicyEvaluationError { id, error } => {
+            put_limited_evaluation_error(alloc, id, error, limit, members)
+        }
+    }
+}
+
+fn put_limited_evaluation_error(
+    alloc: Global,
+    id: &PolicyID,
+    error: &EvaluationError,
+    limit: usize,
+    members: &mut Vec<(RcStr, JsonValue)>,
+) -> Result<(), AllocError>
+    ensures { OnOk result (AddsError (policy_id_text id.now, failure_of error.now)
+        (members_seen members.old.items) (members_seen members.new.items)) }
+{
+    put_policy_id(alloc, id, members)?;
+    put_limited_message(alloc, error, limit, members)?;
+    Ok(())
+}
+
+fn put_limited_message(
+    alloc: Global,
+    error: &EvaluationError,
+    limit: usize,
+    members: &mut Vec<(RcStr, JsonValue)>,
+) -> Result<(), AllocError>
+    ensures { OnOk result
+        (AddsMessage (failure_of error.now) (members_seen members.old.items) (members_seen members.new.items)) }
+{
+    let message = limited_message_of(alloc, error, limit)?;
+    put_string_member(alloc, "message", &message, members)?;
+    Ok(())
+}
+
+// What the error says, and the limit, if it met that.
+fn limited_message_of(
+    alloc: Global,
+    error: &EvaluationError,
+    limit: usize,
+) -> Result<String, AllocError>
+    ensures { IfOk result (λ s. Says (failure_of error.now) (string_bytes s)) }
+{
+    match error {
+        EvaluationError::RecursionLimit(_) => format!(in alloc; "{error} (--limit {limit})"),
+        _ => message_of(alloc, error),
+    }
+}
+
 fn put_evaluation_error(
     alloc: Global,
     id: &PolicyID,

@@ -36,7 +36,7 @@ mod writing;
 
 pub use contexts::context_to_json;
 pub use decisions::decision_to_json;
-pub use errors::{error_to_json, errors_to_json, put_error};
+pub use errors::{error_to_json, errors_to_json, put_error, put_error_within};
 pub use expressions::{expr_to_json, record_to_json, value_to_json};
 pub use known::put_known;
 pub use responses::{partial_response_to_json, response_to_json};

@@ -49,7 +49,7 @@ fn status_of(error: &io::Error) -> u8 {
 }
 
 // Whether all runs of the tables that the arguments name hold.
-fn files_hold<R: Env + Files + AllocGlobal + Print>(rt: &R) -> io::Result<bool> {
+fn files_hold<R: Env + Files + Input + AllocGlobal + Print>(rt: &R) -> io::Result<bool> {
     let mut files = env::args(rt)?;
     drop(files.next());
     let mut all_hold = true;

@@ -31,7 +31,7 @@ impl Tally {
 }
 
 /// Whether all runs of the table hold. Prints those that do not, and how many do.
-pub fn file_holds<R: Files + AllocGlobal + Print>(rt: &R, file: &str) -> io::Result<bool> {
+pub fn file_holds<R: Files + Input + AllocGlobal + Print>(rt: &R, file: &str) -> io::Result<bool> {
     let text = fs::read_to_string(rt, file)?;
     let tally = tally_of_runs(rt, text.as_str())?;
     drop(text);
@@ -41,7 +41,7 @@ pub fn file_holds<R: Files + AllocGlobal + Print>(rt: &R, file: &str) -> io::Res
 }
 
 // What stands before the first run is no run.
-fn tally_of_runs<R: Files + AllocGlobal + Print>(rt: &R, text: &str) -> io::Result<Tally> {
+fn tally_of_runs<R: Files + Input + AllocGlobal + Print>(rt: &R, text: &str) -> io::Result<Tally> {
     let mut runs = text.split("\n$ ");
     drop(runs.next());
     let mut tally = Tally { runs: 0, held: 0 };
@@ -52,7 +52,7 @@ fn tally_of_runs<R: Files + AllocGlobal + Print>(rt: &R, text: &str) -> io::Resu
 }
 
 // Whether the run comes to what is wanted: if not, prints it.
-fn holds<R: Files + AllocGlobal + Print>(rt: &R, run: &str) -> io::Result<bool> {
+fn holds<R: Files + Input + AllocGlobal + Print>(rt: &R, run: &str) -> io::Result<bool> {
     let (line, below) = match run.split_once('\n') {
         Some((line, below)) => (line, below),
         None => (run, ""),
@@ -105,7 +105,7 @@ fn is_wanted(line: &str) -> bool {
 }
 
 // What the run comes to, written so.
-fn run_line<R: Files + AllocGlobal>(rt: &R, line: &str) -> Result<String, AllocError> {
+fn run_line<R: Files + Input + AllocGlobal>(rt: &R, line: &str) -> Result<String, AllocError> {
     let words = words_of(rt.alloc(), line)?;
     let answer = answer_command(rt, words.as_slice());
     let written = write_answer(rt.alloc(), &answer);

@@ -1,7 +1,7 @@
 use Rattle.json.specs.Find.{as_number}
 use Rattle.json.specs.Value.{value_view}
 use Rattle.cedar_json_reader.proofs.Longs.{long_parsed}
-use Rattle.cedar_json_reader.proofs.values.long_in.Goals as goal
+use Rattle.cedar_json_reader.proofs.values.signed_long_in.Goals as goal
 
 pub returns : goal.returns
 returns c = long_parsed (as_number (value_view c.args.number.now)) c.as_i64.result c.as_i64.ensures
