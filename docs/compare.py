@@ -19,11 +19,13 @@ WORDS = re.compile(r"[\w◌]+|[^\w\s]")
 
 
 def tables():
-    """The renames of CHANGELOG: rows `| `old` | `new` |`, of crates, modules and names alike."""
+    """The renames of CHANGELOG: rows with names before and now in two cells, and pairs with an arrow."""
     with open(f"{ROOT}/CHANGELOG.md", encoding="utf-8") as it:
         text = it.read()
     found = {}
     for line in text.split("\n"):
+        for old, new in re.findall(r"(\w+) → (\w+)", line):
+            found.setdefault(old, set()).add(new)
         cells = [it.strip() for it in line.strip().strip("|").split("|")] if line.startswith("|") else []
         if len(cells) >= 2:
             old, new = re.findall(r"`([\w:/]+)`", cells[-2]), re.findall(r"`([\w:/]+)`", cells[-1])
@@ -143,7 +145,7 @@ def names_in(clause, imports):
     for short, word in re.findall(r"\b(\w+)\.(\w+)", clause):
         if f"{short}." in imports:
             yield imports[f"{short}."], word
-    for word in re.findall(r"[\w-]+", clause):
+    for word in re.findall(r"[\w-]+", re.sub(r"\b\w+\.\w+", "", clause)):
         if word in imports:
             yield imports[word], word
 

@@ -11,8 +11,8 @@
 //! - `commands`: the commands and their arguments, which `clap` reads, and the text of `--help`. `files`: the files
 //!   that arguments name. `run`: `answer_command`, which takes the words of a command line and answers what is to be
 //!   printed, with the exit status, or the lines of a refusal.
-//! - `asked`, `policies`, `stores`, `reading`, `limits`: what is asked, and the policies, entities, requests and
-//!   limits of levels.
+//! - `asked`, `policies`, `stores`, `ancestors`, `reading`, `limits`: what is asked, and the policies, entities,
+//!   requests and limits.
 //! - `decisions`, `partial`, `stages`, `steps`, `left`, `evaluations`: what is answered. `documents`, `readable`:
 //!   answers as JSON.
 //! - `refusal`, `faults`, `places`, `visible`: why a question is not answered, and where; texts as they are told.
