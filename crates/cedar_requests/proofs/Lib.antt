@@ -11,3 +11,4 @@ pub mod Texts
 pub mod Walks
 pub mod Opened
 pub mod Soundness
+pub mod ByParts

@@ -1,13 +1,9 @@
 -- Values that are put into a context.
-use Rattle.std.proofs.Common.{◌≡◌, ◌≢◌, ℕ, true, List, Option, None, Some, IfErr, Result, Ok, Err, Global, option_map, refl, ap, subst}
-use Rattle.std.specs.Map.{lookup}
-use Rattle.std.specs.Rc.{rc_str_bytes}
+use Rattle.std.proofs.Common.{◌≡◌, ◌≢◌, ℕ, true, List, IfErr, Result, Ok, Err, Global, refl, ap}
 use Rattle.std.specs.declared.rc.RcStr.{RcStr}
-use Rattle.cedar_model.specs.Terms.{Text, Fields, record_of}
-use Rattle.cedar_model.specs.Values.{Represented}
+use Rattle.cedar_model.specs.Terms.{Fields, record_of}
 use Rattle.cedar_model.specs.Shapes.{is_restricted, are_restricted_at}
-use Rattle.cedar_model.specs.Outcomes.{text_eq}
-use Rattle.cedar_model.specs.Failures.{Failure, out_of_memory, recursion_limit, PartialValue, answers, fails}
+use Rattle.cedar_model.specs.Failures.{out_of_memory, recursion_limit, answers, fails}
 use Rattle.cedar_model.specs.Failures.{limit, part_expression}
 use Rattle.cedar_model.specs.Settings.{ContextPart, absent_context, known_context, residual_context, Setting}
 use Rattle.cedar_model.specs.Settings.{context_value}
@@ -15,7 +11,6 @@ use Rattle.cedar_model.specs.Rules.{StoredCalls}
 use Rattle.cedar_model.specs.Agreement.{height}
 use Rattle.cedar_model.specs.Depth.{substituted_height}
 use Rattle.cedar_model.specs.Refusals.{IsContext, context_fails}
-use Rattle.cedar_model.specs.Restricted.{IsSound}
 use Rattle.cedar_model.specs.Chains.{Mapping, substituted, substituted_at, without_map}
 use Rattle.cedar_model.proofs.RestrictedAnswers.{substituted_at_restricted}
 use Rattle.cedar_values.specs.Sound.{Placed}
@@ -29,17 +24,13 @@ use Rattle.cedar_requests.specs.Contexts.{context_part_value, context_pairs_view
 use Rattle.cedar_requests.specs.Substitutions.{values_for, context_answer, IsSubstituted}
 use Rattle.cedar_requests.specs.Substitutions.{IsSubstitutedWithin}
 use Rattle.cedar_requests.proofs.Soundness.{mapped_value_is_sound}
-use Rattle.cedar_model.proofs.Injections.{some_inj, answers_is_not_fails, fails_inj}
+use Rattle.cedar_model.proofs.Injections.{answers_is_not_fails, fails_inj}
 
 -- ---- values of a map are sound, so that the record stays restricted
 
 pub record_restricted : (es : List (RcStr Global × Placed)) (fs : Fields) → are_restricted_at fs ≡ true →
     is_restricted (record_of (substituted_at (values_for es) fs)) ≡ true
 record_restricted es fs h = substituted_at_restricted (values_for es) (mapped_value_is_sound es) fs h
-
-pub record_substituted : (m : Mapping) (fs : Fields) → substituted m (record_of fs) ≡ record_of (substituted_at m fs)
-unfolding substituted
-record_substituted m fs = refl
 
 -- ---- answers
 

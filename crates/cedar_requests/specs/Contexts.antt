@@ -31,9 +31,17 @@ residual_map r = r.pairs
 abbrev pub residual_fields : ResidualPairs → Fields
 residual_fields r = fields_view r.pairs.entries
 
+-- where expressions stand
+abbrev pub expr_locs : List Expr → List (Option Loc)
+expr_locs es = map expr_loc es
+
+-- and those under names
+abbrev pub entry_locs : List (RcStr Global × Expr) → List (Option Loc)
+entry_locs es = map (λ p. expr_loc p.1) es
+
 -- where the expressions stand
 abbrev pub residual_locs : ResidualPairs → List (Option Loc)
-residual_locs r = map (λ p. expr_loc p.1) r.pairs.entries
+residual_locs r = entry_locs r.pairs.entries
 
 -- ---- pairs
 

@@ -126,6 +126,27 @@ module _ {A : Type 0} where
       entries_of_map (zip ks xs) m
       (subst (IsStrictlySortedBy key_order) (sym (firsts-zip ks xs (sym keys.0))) keys.1) made ∙ named-zip ks xs
 
+-- the same of each value
+module _ {A B : Type 0} (f : A → B) where
+  of_entries : (es : List (Entry A)) → map (λ e. f e.1) es ≡ map (λ e. f e.1) (named_entries es)
+  of_entries [] = refl
+  of_entries (e ∷ es) = ap (λ l. f e.1 ∷ l) (of_entries es)
+
+  of_each_under : (ks : List (RcStr Global)) (xs : List A) → length ks ≡ length xs →
+      map (λ e. f e.1) (each_under (texts_of ks) xs) ≡ map f xs
+  of_each_under [] [] e = refl
+  of_each_under [] (x ∷ xs) e = absurd (omega arith)
+  of_each_under (k ∷ ks) [] e = absurd (omega arith)
+  of_each_under (k ∷ ks) (x ∷ xs) e =
+      let fewer : length ks ≡ length xs = omega arith in
+      ap (λ l. f x ∷ l) (of_each_under ks xs fewer)
+
+  pub each_of_map : (ks : List (RcStr Global)) (xs : List A) (m : BTreeMap (RcStr Global) A Global) →
+      (length ks ≡ length xs) × IsStrictlySortedBy key_order ks → IsFromIterResult key_order (zip ks xs) m →
+      map (λ e. f e.1) m.entries ≡ map f xs
+  each_of_map ks xs m keys made =
+      of_entries m.entries ∙ ap (map (λ e. f e.1)) (entries_under ks xs m keys made) ∙ of_each_under ks xs keys.0
+
 -- ---- values and expressions under keys
 
 abbrev values_named : List (Text × Placed) → RepresentedFields

@@ -31,7 +31,7 @@ use Rattle.cedar_restricted.specs.Frames.{IsRight}
 use Rattle.cedar_restricted.proofs.Unread.{meaning_unread}
 
 -- a stored function answers what is sound, and there is no map
-sound_answers : (x : world.Extensions) (calls : StoredCalls) → ((f : Text) (vs : List Represented)
+pub sound_answers : (x : world.Extensions) (calls : StoredCalls) → ((f : Text) (vs : List Represented)
     (p : model.PartialValue) → calls f vs (answers p) → IsSoundPart p) → AnswersSound calls (bare_setting x)
 sound_answers x calls sound = record { mapped_sound = λ n v h. absurd (cc); answers_sound = sound }
 

@@ -1,5 +1,5 @@
 -- Sets, records and calls, part by part: what their parts have answered so far, and what all of them make.
-use Rattle.std.specs.Prelude.{◌≡◌, ℕ, List, [], ◌∷◌, length, map, None, Result}
+use Rattle.std.specs.Prelude.{◌≡◌, ℕ, List, [], ◌∷◌, length, map, Option, None, Result}
 use native.Mathlib.Nat.{ℕ_set}
 use Rattle.std.proofs.lemmas.Map.Keys.{IsStrictlySortedBy-prop}
 use Rattle.std.specs.List.Sorted.{IsStrictlySortedBy}
@@ -13,9 +13,10 @@ use Rattle.cedar_model.specs.Failures as model
 use Rattle.cedar_model.specs.Failures.{Failure, value, Answer, answers_value, answers_residual}
 use Rattle.cedar_model.specs.Rules.{MayAnswer, Parts, StoredCalls, LooksUp, part_then, values_of_parts, terms_of_parts}
 use Rattle.cedar_model.specs.World as world
+use Rattle.cedar_names.specs.declared.names.Loc.{Loc}
 use Rattle.cedar_names.specs.declared.names.Name.{Name}
 use Rattle.cedar_names.specs.Names.{name_text}
-use Rattle.cedar_expressions.specs.View.{terms_view}
+use Rattle.cedar_expressions.specs.View.{terms_view, expr_loc}
 use Rattle.cedar_values.specs.Sound.{whats}
 use Rattle.cedar_restricted.specs.declared.whole.Whole.{Whole}
 use Rattle.cedar_restricted.specs.declared.whole.Whole.TheVariants as wholes
@@ -49,6 +50,11 @@ HasKeys-prop (wholes.Call f) n = hlevel
 abbrev pub count : Answers → ℕ
 count (answereds.Values vs) = length vs.items
 count (answereds.Mixed m) = length m.exprs.items
+
+-- where they stand
+abbrev pub answered_locs : Answers → List (Option Loc)
+answered_locs (answereds.Values vs) = map (λ v. v.loc) vs.items
+answered_locs (answereds.Mixed m) = map expr_loc m.exprs.items
 
 abbrev pub all_values : List Represented → List model.PartialValue
 all_values vs = map {B = model.PartialValue} (λ v. value v) vs

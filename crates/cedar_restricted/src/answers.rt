@@ -1,11 +1,11 @@
 //! The answers of parts so far.
-ghost use Rattle.std.specs.Prelude.{◌≡◌, ◌++◌, ◌∷◌, [], suc, true, List, length, IfOk};
+ghost use Rattle.std.specs.Prelude.{◌≡◌, ◌++◌, ◌∷◌, [], suc, true, List, length, map, IfOk};
 ghost use Rattle.cedar_model.specs.Failures as model;
 ghost use Rattle.cedar_model.specs.Shapes.{have_unknown};
 ghost use Rattle.cedar_model.specs.Sets.{represented_values_of};
 ghost use Rattle.cedar_model.specs.Values.{expressions_of};
-ghost use Rattle.cedar_expressions.specs.View.{view, terms_view};
-ghost use Rattle.cedar_values.specs.Residuals.{partial_view, residual_term};
+ghost use Rattle.cedar_expressions.specs.View.{view, terms_view, expr_loc};
+ghost use Rattle.cedar_values.specs.Residuals.{partial_view, partial_loc, residual_term, residual_loc};
 ghost use Rattle.cedar_values.specs.Sound.{whats};
 ghost use mathlib.Core.Bool.{Bool-set};
 
@@ -33,7 +33,7 @@ pub struct Mixed {
 }
 
 impl Answers {
-    ghost use Rattle.cedar_restricted.specs.Parts.{count, Are};
+    ghost use Rattle.cedar_restricted.specs.Parts.{count, Are, answered_locs};
     ghost use Rattle.cedar_restricted.specs.Elements.{AreWith};
 
     /// How many there are.
@@ -52,6 +52,7 @@ impl Answers {
         ensures answers { IfOk result
             (λ a. (ps : List model.PartialValue) → Are self ps → Are a (ps ++ partial_view answer ∷ [])) }
         ensures values { IfOk result (λ a. AreWith self answer a) }
+        ensures places { IfOk result (λ a. answered_locs a ≡ answered_locs self ++ partial_loc answer ∷ []) }
     {
         match self {
             Answers::Values(values) => values_with(alloc, values, answer),
@@ -88,8 +89,10 @@ fn with_value(mut values: Vec<Value>, value: Value) -> Result<Vec<Value>, AllocE
 
 // The expressions, and the first residual behind them.
 fn first_residual(mut exprs: Vec<Expr>, residual: ResidualExpr) -> Result<Mixed, AllocError>
-    ensures { IfOk result
+    ensures exprs { IfOk result
         (λ m. (e : Expr) × (m.exprs.items ≡ exprs.items ++ e ∷ []) × (view e ≡ residual_term residual)) }
+    ensures places { IfOk result
+        (λ m. map expr_loc m.exprs.items ≡ map expr_loc exprs.items ++ residual_loc residual ∷ []) }
 {
     exprs.push(residual.into_expr())?;
     Ok(Mixed { exprs })
@@ -99,6 +102,7 @@ fn first_residual(mut exprs: Vec<Expr>, residual: ResidualExpr) -> Result<Mixed,
 fn exprs_of(alloc: Global, values: &[Value]) -> Result<Vec<Expr>, AllocError>
     ensures terms { IfOk result (λ v. terms_view v.items ≡ expressions_of (represented_values_of (whats values.now))) }
     ensures length { IfOk result (λ v. length v.items ≡ length values.now) }
+    ensures places { IfOk result (λ v. map expr_loc v.items ≡ map (λ v. v.loc) values.now) }
 {
     let mut exprs: Vec<Expr> = Vec::new(alloc);
     'values: for value in values {

@@ -37,7 +37,7 @@ pub use err::{
     PartialValueToRestrictedExprError, RestrictedExpressionError, restricted_expr_errors,
 };
 pub use evaluator::RestrictedEvaluator;
-pub use made::record_value;
+pub use made::{map_under, record_value};
 pub use parts::{NextPart, PartsFrame};
 pub use restricted_expr::{
     BorrowedRestrictedExpr, CallArguments, RecordPairs, RestrictedExpr, RestrictedExprShapeOnly,

@@ -146,8 +146,9 @@ fn record_expr(alloc: Global, keys: Vec<RcStr>, mixed: Mixed) -> Result<Expr, Al
     Ok(Expr::record_map(alloc, fields)?)
 }
 
-// The map of the values under the keys, in turn.
-fn map_under<V: Drop>(
+/// The map of these values under these keys, in turn: of a key that comes twice the last value, and what is left over of
+/// keys or values goes. Refuses only if out of memory.
+pub fn map_under<V: Drop>(
     alloc: Global,
     keys: Vec<RcStr>,
     values: Vec<V>,

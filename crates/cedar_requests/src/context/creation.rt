@@ -15,8 +15,11 @@ ghost use Rattle.cedar_values.specs.Residuals.{partial_view, residual_term};
 ghost use Rattle.cedar_extensions.specs.Extensions.{extensions_view, calls_of};
 ghost use Rattle.cedar_restricted.specs.Evaluations.{IsBare, IsAnswerWithin};
 ghost use Rattle.cedar_restricted.specs.Views.{borrowed_term, borrowed_loc, pairs_in};
-ghost use Rattle.cedar_requests.specs.Contexts.{context_view, context_part_value, context_pairs, residual_fields};
-ghost use Rattle.cedar_requests.specs.Substitutions.{context_answer};
+ghost use Rattle.cedar_restricted.specs.Parts.{HasKeys, count, answered_locs};
+ghost use Rattle.cedar_restricted.specs.declared.whole.Whole.TheVariants.{Record};
+ghost use Rattle.cedar_requests.specs.Contexts.{context_view, context_part_value, context_pairs, context_locs};
+ghost use Rattle.cedar_requests.specs.Contexts.{residual_fields, value_locs};
+ghost use Rattle.cedar_requests.specs.Substitutions.{context_answer, IsRecordOf, IsRestrictedRecord};
 ghost use Rattle.cedar_requests.specs.declared.context.pairs.ContextPairs.TheVariants.{Residual};
 ghost use Rattle.cedar_requests.specs.Errors.{NamesAt};
 ghost use Rattle.cedar_requests.specs.Creations.{is_record, record_of_pairs, IsRecordPart, IsNoRecord, IsOfRecord};
@@ -29,7 +32,9 @@ use crate::errors::{ContextCreationError, context_creation_errors};
 use cedar_errors::evaluator::err::EvaluationError;
 use cedar_expressions::Expr;
 use cedar_extensions::Extensions;
-use cedar_restricted::{BorrowedRestrictedExpr, RestrictedEvaluator, RestrictedExpr};
+use cedar_restricted::{
+    Answers, BorrowedRestrictedExpr, RestrictedEvaluator, RestrictedExpr, map_under,
+};
 use cedar_values::{PartialValue, ResidualExpr, Value, ValueKind};
 use std::alloc::{AllocError, Global};
 use std::collections::BTreeMap;
@@ -84,7 +89,8 @@ impl Context {
 
     // The context of these values, which its copies share.
     pub(super) fn of_shared(alloc: Global, values: Rc<BTreeMap<RcStr, Value>>) -> Context
-        ensures { context_view result ≡ known_context (whats_at values.value.entries) }
+        ensures view { context_view result ≡ known_context (whats_at values.value.entries) }
+        ensures places { context_locs result ≡ value_locs values.value }
     {
         Context {
             pairs: ContextPairs::Values(ContextValues::of_shared(values)),
@@ -122,7 +128,7 @@ fn of_record(
 }
 
 // The context that the record is evaluated to, or the error of its evaluation.
-pub(super) fn evaluate_record(
+fn evaluate_record(
     alloc: Global,
     expr: BorrowedRestrictedExpr<'_>,
     extensions: &Extensions<'_>,
@@ -168,6 +174,30 @@ fn of_part(alloc: Global, part: PartialValue) -> Result<Context, AllocError>
     match part {
         PartialValue::Value(value) => Ok(Context::of_shared(alloc, values_in(value)?)),
         PartialValue::Residual(residual) => Ok(Context::of_residual(alloc, pairs_of(residual)?)),
+    }
+}
+
+// The context of these answers under the keys, in turn.
+#[tactic(auto, unfolding(cedar_model::specs::Settings::context_value))]
+pub(super) fn of_answers(
+    alloc: Global,
+    keys: Vec<RcStr>,
+    answers: Answers,
+) -> Result<Context, AllocError>
+    requires keys { HasKeys (Record keys) (count answers) }
+    requires restricted { IsRestrictedRecord keys answers }
+    ensures view { IfOk result (IsRecordOf keys answers) }
+    ensures places { IfOk result (λ c. context_locs c ≡ answered_locs answers) }
+{
+    match answers {
+        Answers::Values(values) => {
+            let values = map_under(alloc, keys, values)?;
+            Ok(Context::of_shared(alloc, Rc::new(alloc, values)?))
+        }
+        Answers::Mixed(mixed) => {
+            let pairs = map_under(alloc, keys, mixed.into_exprs())?;
+            Ok(Context::of_residual(alloc, ResidualPairs::new(pairs)))
+        }
     }
 }
 

@@ -3,7 +3,6 @@ use Rattle.std.proofs.lemmas.List.{take_all}
 use Rattle.std.proofs.lemmas.Grind.{common_steps}
 use Rattle.cedar_expressions.specs.declared.expr.Expr.{Expr}
 use Rattle.cedar_restricted.specs.declared.answers.Answers.TheVariants as answereds
-use Rattle.cedar_restricted.specs.Parts.{count}
 use Rattle.cedar_restricted.specs.Literals.{IsGrown, AreBehind, no_more}
 use Rattle.cedar_restricted.proofs.literals.answers_with.Goals as goal
 
