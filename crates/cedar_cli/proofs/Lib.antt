@@ -1,1 +1,7 @@
 mod Positions
+mod Alone
+mod Composed
+mod Known
+mod Exact
+mod Words
+mod Reasoned

@@ -13,9 +13,9 @@ abbrev pub word : Decision → Text
 word allow = codes "ALLOW"
 word deny = codes "DENY"
 
--- the exit status, where the decision may not be known
+-- the exit status, where the decision may not be known: that is none of the two
 abbrev pub partial_status : Option Decision → ℕ
-partial_status None = 0
+partial_status None = 4
 partial_status (Some d) = status d
 
 -- the decision in capitals, where it may not be known

@@ -1,6 +1,10 @@
 //! How many ancestors entities have in all.
-use cedar_layers::expressions::EntityUID;
-use cedar_layers::policies::Entity;
+ghost use Rattle.std.specs.Prelude.{◌≡◌, length, true};
+ghost use Rattle.cedar_heights.specs.Capped.{capped};
+ghost use Rattle.cedar_layers.specs.Stores.{entity_ancestors};
+ghost use Rattle.cedar_cli.specs.Questions.{at_most_ancestors, parents_in};
+
+use cedar_policy_core::ast::{Entity, EntityUID};
 use std::alloc::{AllocError, Global};
 use std::collections::BTreeMap;
 
@@ -19,6 +23,29 @@ struct Graph {
 struct Walk {
     found: Vec<usize>,
     marks: Vec<usize>,
+}
+
+/// How many ancestors the entities have in all at most, as many as if each had every parent that stands in them.
+pub(crate) fn most_ancestors(entities: &Vec<Entity>) -> usize
+    ensures { result ≡ capped (at_most_ancestors entities.now.items) }
+{
+    entities.len().saturating_mul(count_parents(entities))
+}
+
+fn count_parents(entities: &Vec<Entity>) -> usize
+    ensures { result ≡ capped (parents_in entities.now.items) }
+{
+    let mut count: usize = 0;
+    'entities: for entity in entities {
+        count = own_parents(entity).saturating_add(count);
+    }
+    count
+}
+
+fn own_parents(entity: &Entity) -> usize
+    ensures { result ≡ length (entity_ancestors entity.now) }
+{
+    entity.ancestors().len()
 }
 
 /// Whether the entities have more ancestors in all than so many, where parents lead to them in one step or more. Where

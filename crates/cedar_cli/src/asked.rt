@@ -1,5 +1,5 @@
 //! What is asked.
-use cedar_authorizer::authorizer::ErrorHandling;
+use cedar_policy_core::authorizer::ErrorHandling;
 
 /// A text, and the name of what it stands in.
 #[derive(Clone, Copy)]

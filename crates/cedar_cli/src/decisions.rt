@@ -1,10 +1,15 @@
 //! What policies decide.
-ghost use Rattle.std.specs.Prelude.{◌≡◌, ◌++◌, IfOk, codes, string_bytes, option_map};
+ghost use Rattle.std.specs.Prelude.{◌≡◌, ◌++◌, IfOk, IfErr, codes, string_bytes, option_map};
 ghost use Rattle.cedar_decisions.specs.Decisions.{decision_view};
 ghost use Rattle.json.specs.Print.{print};
 ghost use Rattle.json.specs.Tree.{json_tokens};
 ghost use Rattle.cedar_json_writer.specs.Trees.{json_view};
+ghost use Rattle.cedar_extensions.specs.Extensions.{extensions_view, calls_of};
+ghost use Rattle.cedar_authorizer.specs.responses.Responses.{response_view};
 ghost use Rattle.cedar_cli.specs.Printing.{status, word, partial_status, partial_word};
+ghost use Rattle.cedar_cli.specs.Authorized.{IsAuthorized, IsAnsweredBy, IsAnsweredOver, IsResponseTo};
+ghost use Rattle.cedar_cli.specs.Reasons.{IsToldFor, IsUnauthorized, IsAskedUnread, IsRequestUnread};
+ghost use Rattle.cedar_cli.specs.Authorized.{AreNoneUnless, IsWord, IsDocument, IsPrinted};
 
 use crate::asked::{Asked, Source, Way};
 use crate::documents::response_document;
@@ -16,12 +21,13 @@ use crate::refusal::Refusal;
 use crate::stores::given_store;
 use crate::visible::push_visible;
 use crate::warnings::{Deciding, push_errors, push_templates};
-use cedar_authorizer::authorizer::{Authorizer, Decision, Diagnostics, Response};
-use cedar_evaluator::request::Request;
-use cedar_extensions::Extensions;
-use cedar_json_writer::JsonValue;
-use cedar_layers::policies::{Entities, Policy, PolicySet};
-use cedar_text_parser::ParsedPolicies;
+use cedar_policy_core::ast::{Policy, PolicySet, Request};
+use cedar_policy_core::authorizer::{Authorizer, Decision, Diagnostics, Response};
+use cedar_policy_core::entities::Entities;
+use cedar_policy_core::entities::json::JsonValue;
+use cedar_policy_core::extensions::Extensions;
+use cedar_policy_core::extensions::laws::functions_are_computed;
+use cedar_policy_core::parser::ParsedPolicies;
 use std::alloc::{AllocError, Global};
 
 /// What is printed, what is told on standard error beside it, and the exit status.
@@ -52,13 +58,13 @@ fn word_of(decision: Decision) -> &'static str
     }
 }
 
-// The exit status: 0 where the decision is not known.
+// The exit status: 4 where the decision is not known, so that no script takes that for an answer.
 fn partial_status_of(decision: Option<Decision>) -> u8
     ensures { result ≡ partial_status (option_map decision_view decision) }
 {
     match decision {
         Some(decision) => status_of(decision),
-        None => 0,
+        None => 4,
     }
 }
 
@@ -73,7 +79,7 @@ pub(crate) fn partial_word_of(decision: Option<Decision>) -> &'static str
 }
 
 /// The decision in capitals, or `UNKNOWN`, between the lines above it and those below it, with these warnings, and the
-/// exit status: 0 where the request is allowed or the decision is not known, 2 where it is denied.
+/// exit status: 0 where the request is allowed, 2 where it is denied, 4 where the decision is not known.
 pub(crate) fn print_decision(
     alloc: Global,
     above: &str,
@@ -97,7 +103,7 @@ pub(crate) fn print_decision(
 }
 
 /// The JSON value as text, on a line of its own, with these warnings, and the exit status: 0 where the request is
-/// allowed or the decision is not known, 2 where it is denied.
+/// allowed, 2 where it is denied, 4 where the decision is not known.
 pub(crate) fn print_document(
     alloc: Global,
     decision: Option<Decision>,
@@ -135,7 +141,11 @@ pub fn authorize(
     policies: Source<'_>,
     asked: &Asked<'_, '_>,
     way: Way,
-) -> Result<Printed, Refusal> {
+) -> Result<Printed, Refusal>
+    ensures answered { IfOk result (IsAuthorized policies.entry.text.now asked.now way) }
+    ensures refused { IfErr result (IsToldFor (IsUnauthorized policies.entry.text.now asked.now)) }
+{
+    functions_are_computed();
     let extensions = Extensions::all_available();
     let parsed = read_over(alloc, policies, &extensions)?;
     let printed = authorized_of(alloc, policies, &parsed, asked, way, &extensions);
@@ -150,7 +160,12 @@ fn authorized_of(
     asked: &Asked<'_, '_>,
     way: Way,
     extensions: &Extensions<'_>,
-) -> Result<Printed, Refusal> {
+) -> Result<Printed, Refusal>
+    ensures answered { IfOk result (IsAnsweredBy (extensions_view extensions.now) (calls_of extensions.now)
+        parsed.now.policies asked.now way) }
+    ensures refused { IfErr result (IsToldFor
+        (IsAskedUnread (extensions_view extensions.now) (calls_of extensions.now) asked.now)) }
+{
     let places = Places::of(alloc, source)?;
     let mut warnings = String::new(alloc);
     push_templates(alloc, &places, &parsed.templates, &mut warnings)?;
@@ -168,7 +183,12 @@ fn authorized_by(
     asked: &Asked<'_, '_>,
     extensions: &Extensions<'_>,
     mut warnings: String,
-) -> Result<Printed, Refusal> {
+) -> Result<Printed, Refusal>
+    ensures answered { IfOk result (IsAnsweredBy (extensions_view extensions.now) (calls_of extensions.now)
+        deciding.entry.policies.now asked.now deciding.entry.way) }
+    ensures refused { IfErr result (IsToldFor
+        (IsAskedUnread (extensions_view extensions.now) (calls_of extensions.now) asked.now)) }
+{
     let store = given_store(alloc, asked, extensions, &mut warnings)?;
     let printed = authorized_over(
         alloc,
@@ -189,7 +209,12 @@ fn authorized_over(
     asked: &Asked<'_, '_>,
     extensions: &Extensions<'_>,
     warnings: String,
-) -> Result<Printed, Refusal> {
+) -> Result<Printed, Refusal>
+    ensures answered { IfOk result (IsAnsweredOver (extensions_view extensions.now) (calls_of extensions.now)
+        deciding.entry.policies.now entities.now asked.now deciding.entry.way) }
+    ensures refused { IfErr result (IsToldFor
+        (IsRequestUnread (extensions_view extensions.now) (calls_of extensions.now) asked.now)) }
+{
     let request = whole_request(alloc, asked, extensions)?;
     let response = decide_request(alloc, request, deciding, entities, extensions)?;
     let printed = print_response(alloc, deciding, &response, warnings);
@@ -204,7 +229,10 @@ fn decide_request(
     deciding: Deciding<'_>,
     entities: &Entities,
     extensions: &Extensions<'_>,
-) -> Result<Response, AllocError> {
+) -> Result<Response, AllocError>
+    ensures { IfOk result (λ r. IsResponseTo (extensions_view extensions.now) (calls_of extensions.now)
+        deciding.entry.policies.now entities.now request deciding.entry.way (response_view r)) }
+{
     let limit = deciding.way.limit.unwrap_or(text_limit());
     let authorizer = Authorizer::new(extensions, limit).with_error_handling(
         deciding.way.error_handling,
@@ -216,22 +244,61 @@ fn print_response(
     alloc: Global,
     deciding: Deciding<'_>,
     response: &Response,
-    mut warnings: String,
-) -> Result<Printed, AllocError> {
+    warnings: String,
+) -> Result<Printed, AllocError>
+    ensures { IfOk result (IsPrinted deciding.entry.way response.now.decision) }
+{
     if deciding.way.is_json {
-        let document = response_document(alloc, deciding, response)?;
-        let printed = print_document(alloc, Some(response.decision), &document, warnings);
-        drop(document);
-        return printed;
+        response_as_json(alloc, deciding, response, warnings)
+    } else {
+        response_as_text(alloc, deciding, response, warnings)
     }
+}
+
+fn response_as_json(
+    alloc: Global,
+    deciding: Deciding<'_>,
+    response: &Response,
+    warnings: String,
+) -> Result<Printed, AllocError>
+    ensures { IfOk result (IsDocument response.now.decision) }
+{
+    let document = response_document(alloc, deciding, response)?;
+    let printed = print_document(alloc, Some(response.decision), &document, warnings);
+    drop(document);
+    printed
+}
+
+fn response_as_text(
+    alloc: Global,
+    deciding: Deciding<'_>,
+    response: &Response,
+    mut warnings: String,
+) -> Result<Printed, AllocError>
+    ensures { IfOk result (IsWord deciding.entry.way.is_verbose response.now.decision) }
+{
     push_errors(alloc, deciding, &response.diagnostics.errors, &mut warnings)?;
-    let mut lines = String::new(alloc);
-    if deciding.way.is_verbose {
-        push_reasons(alloc, deciding.policies, &response.diagnostics, &mut lines)?;
-    }
+    let lines = reason_lines(alloc, deciding, response)?;
     let printed = print_decision(alloc, "", Some(response.decision), lines.as_str(), warnings);
     drop(lines);
     printed
+}
+
+// The lines of the policies that determined the decision; none, where they are not asked for.
+fn reason_lines(
+    alloc: Global,
+    deciding: Deciding<'_>,
+    response: &Response,
+) -> Result<String, AllocError>
+    ensures { IfOk result (λ s. AreNoneUnless deciding.entry.way.is_verbose (string_bytes s)) }
+{
+    if deciding.way.is_verbose {
+        let mut lines = String::new(alloc);
+        push_reasons(alloc, deciding.policies, &response.diagnostics, &mut lines)?;
+        Ok(lines)
+    } else {
+        Ok(String::new(alloc))
+    }
 }
 
 // The policies that determined the decision, in the order of the text.

@@ -1,17 +1,22 @@
+#![tactic(auto, using(cedar_json_writer::proofs::Trees::trees))]
 //! Answers as JSON.
+ghost use Rattle.std.specs.Prelude.{IfOk};
+ghost use Rattle.cedar_decisions.specs.Decisions.{decision_view};
+ghost use Rattle.cedar_json_writer.specs.Trees.{json_view};
+ghost use Rattle.cedar_cli.specs.Documents.{IsResponseDocument};
+
 use crate::asked::Step;
 use crate::places::Places;
 use crate::policies::annotated_id;
 use crate::stages::Stages;
 use crate::warnings::Deciding;
-use cedar_authorizer::authorizer::{
+use cedar_policy_core::ast::{Policy, PolicyID, PolicySet};
+use cedar_policy_core::authorizer::json::{decision_to_json, put_error_within, put_known};
+use cedar_policy_core::authorizer::{
     AuthorizationError, PartialResponse, ReportedPolicies, Response,
 };
-use cedar_json_writer::{
-    JsonValue, decision_to_json, put_error_within, put_item, put_known, put_member, text_to_json,
-};
-use cedar_layers::expressions::Loc;
-use cedar_layers::policies::{Policy, PolicyID, PolicySet};
+use cedar_policy_core::entities::json::{JsonValue, put_item, put_member, text_to_json};
+use cedar_policy_core::parser::Loc;
 use std::alloc::{AllocError, Global};
 use std::collections::BTreeSet;
 use std::rc::RcStr;
@@ -21,18 +26,31 @@ pub(crate) fn response_document(
     alloc: Global,
     deciding: Deciding<'_>,
     response: &Response,
-) -> Result<JsonValue, AllocError> {
+) -> Result<JsonValue, AllocError>
+    ensures { IfOk result (λ d. IsResponseDocument (decision_view response.now.decision) (json_view d)) }
+{
     let mut members: Vec<(RcStr, JsonValue)> = Vec::new(alloc);
     let decision = decision_to_json(alloc, Some(response.decision))?;
     put_member(alloc, "decision", decision, &mut members)?;
-    put_reasons(alloc, deciding.policies, response, &mut members)?;
-    let errors = &response.diagnostics.errors;
-    put_errors(alloc, deciding, errors, &mut members)?;
+    let reasons = reasons_as_json(alloc, deciding.policies, response)?;
+    put_member(alloc, "reason", reasons, &mut members)?;
+    let errors = errors_as_json(alloc, deciding, &response.diagnostics.errors)?;
+    put_member(alloc, "errors", errors, &mut members)?;
+    let names = response_names(alloc, deciding.policies, response)?;
+    put_member(alloc, "names", names, &mut members)?;
+    Ok(JsonValue::Object(members))
+}
+
+// The names of the policies that determined the decision, and of those that erred.
+fn response_names(
+    alloc: Global,
+    policies: &PolicySet,
+    response: &Response,
+) -> Result<JsonValue, AllocError> {
     let mut named: BTreeSet<PolicyID> = BTreeSet::new(alloc);
     name_reasons(response, &mut named)?;
-    name_errors(errors, &mut named)?;
-    put_names(alloc, deciding.policies, &named, &mut members)?;
-    Ok(JsonValue::Object(members))
+    name_errors(&response.diagnostics.errors, &mut named)?;
+    names_as_json(alloc, policies, &named)
 }
 
 /// What is known of one stage, or of each, in an array, where there are steps.
@@ -77,13 +95,15 @@ fn stage_document(
     let mut members: Vec<(RcStr, JsonValue)> = Vec::new(alloc);
     put_step(alloc, step, &mut members)?;
     put_known(alloc, response, &mut members)?;
-    put_errors(alloc, deciding, &response.errors, &mut members)?;
+    let errors = errors_as_json(alloc, deciding, &response.errors)?;
+    put_member(alloc, "errors", errors, &mut members)?;
     let mut named: BTreeSet<PolicyID> = BTreeSet::new(alloc);
     name_policies(response.may_be_determining(), &mut named)?;
     name_policies(response.must_be_determining(), &mut named)?;
     name_policies(response.nontrivial_residuals(), &mut named)?;
     name_errors(&response.errors, &mut named)?;
-    put_names(alloc, deciding.policies, &named, &mut members)?;
+    let names = names_as_json(alloc, deciding.policies, &named)?;
+    put_member(alloc, "names", names, &mut members)?;
     Ok(JsonValue::Object(members))
 }
 
@@ -121,20 +141,19 @@ fn put_text(
     put_member(alloc, key, text, members)
 }
 
-// The ids of the policies that determined the decision, in the order of the text, at `reason`.
-fn put_reasons(
+// The ids of the policies that determined the decision, in the order of the text.
+fn reasons_as_json(
     alloc: Global,
     policies: &PolicySet,
     response: &Response,
-    members: &mut Vec<(RcStr, JsonValue)>,
-) -> Result<(), AllocError> {
+) -> Result<JsonValue, AllocError> {
     let mut ids: Vec<JsonValue> = Vec::new(alloc);
     'policies: for policy in policies.policies() {
         if response.diagnostics.reason.contains(policy.id()) {
             put_id(alloc, policy.id(), &mut ids)?;
         }
     }
-    put_member(alloc, "reason", JsonValue::Array(ids), members)
+    Ok(JsonValue::Array(ids))
 }
 
 fn put_id(alloc: Global, id: &PolicyID, ids: &mut Vec<JsonValue>) -> Result<(), AllocError> {
@@ -142,20 +161,19 @@ fn put_id(alloc: Global, id: &PolicyID, ids: &mut Vec<JsonValue>) -> Result<(), 
     put_item(text_to_json(alloc, text.as_str())?, ids)
 }
 
-// The names of the policies of these ids, at `names`: the annotation `id` of each that has one, under its id.
-fn put_names(
+// The names of the policies of these ids: the annotation `id` of each that has one, under its id.
+fn names_as_json(
     alloc: Global,
     policies: &PolicySet,
     named: &BTreeSet<PolicyID>,
-    members: &mut Vec<(RcStr, JsonValue)>,
-) -> Result<(), AllocError> {
+) -> Result<JsonValue, AllocError> {
     let mut names: Vec<(RcStr, JsonValue)> = Vec::new(alloc);
     'policies: for policy in policies.policies() {
         if named.contains(policy.id()) {
             put_name(alloc, policy, &mut names)?;
         }
     }
-    put_member(alloc, "names", JsonValue::Object(names), members)
+    Ok(JsonValue::Object(names))
 }
 
 fn put_name(
@@ -212,19 +230,17 @@ fn put_named(id: &PolicyID, named: &mut BTreeSet<PolicyID>) -> Result<(), AllocE
     }
 }
 
-// The errors, each with its place in the text of the policies, at `errors`. What one says that met the limit that was
-// set names it.
-fn put_errors(
+// The errors, each with its place in the text of the policies. What one says that met the limit that was set names it.
+fn errors_as_json(
     alloc: Global,
     deciding: Deciding<'_>,
     errors: &[AuthorizationError],
-    members: &mut Vec<(RcStr, JsonValue)>,
-) -> Result<(), AllocError> {
+) -> Result<JsonValue, AllocError> {
     let mut items: Vec<JsonValue> = Vec::new(alloc);
     'errors: for error in errors {
         put_error_item(alloc, deciding, error, &mut items)?;
     }
-    put_member(alloc, "errors", JsonValue::Array(items), members)
+    Ok(JsonValue::Array(items))
 }
 
 fn put_error_item(

@@ -8,15 +8,12 @@ use crate::reading::{request_with_context, whole_request};
 use crate::refusal::{Refusal, refuse_unparsed, refuse_with_lines};
 use crate::stores::{Store, given_store};
 use crate::visible::visible;
-use cedar_errors::evaluator::err::EvaluationError;
-use cedar_evaluator::evaluator::Evaluator;
-use cedar_evaluator::request::Request;
-use cedar_extensions::Extensions;
-use cedar_functions::Functions;
-use cedar_layers::expressions::{Expr, SlotEnv, Value};
-use cedar_layers::policies::Entities;
-use cedar_text_parser::parse_expr;
-use cedar_text_printer::to_cedar;
+use cedar_policy_core::ast::{Expr, Request, SlotEnv, Value};
+use cedar_policy_core::entities::Entities;
+use cedar_policy_core::evaluator::{EvaluationError, Evaluator};
+use cedar_policy_core::extensions::Extensions;
+use cedar_policy_core::parser::{Functions, parse_expr};
+use cedar_policy_core::writing::to_cedar;
 use std::alloc::{AllocError, Global};
 
 /// The value of the expression, in Cedar's syntax or in Cedar's JSON. What is not said of the request is unknown, but

@@ -1,7 +1,6 @@
 //! What is left open in a partial response.
-use cedar_authorizer::authorizer::PartialResponse;
-use cedar_layers::expressions::{EntityUID, Unknown};
-use cedar_unknowns::Unknowns;
+use cedar_policy_core::ast::{EntityUID, Unknown, Unknowns};
+use cedar_policy_core::authorizer::PartialResponse;
 use std::alloc::{AllocError, Global};
 use std::collections::BTreeSet;
 use std::rc::RcStr;

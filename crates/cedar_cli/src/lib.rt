@@ -47,7 +47,7 @@ mod visible;
 mod warnings;
 
 pub use asked::{Asked, Source, Step, Way};
-pub use cedar_authorizer::authorizer::{Decision, ErrorHandling};
+pub use cedar_policy_core::authorizer::{Decision, ErrorHandling};
 pub use decisions::{Printed, authorize, status_of};
 pub use evaluations::evaluate_expression;
 pub use partial::partially_authorized;

@@ -1,13 +1,13 @@
 //! How many levels are evaluated, so that no policy that was read meets the limit.
+ghost use Rattle.std.specs.Prelude.{◌≡◌};
+
 use crate::refusal::{Refusal, refuse_with_line};
-use cedar_authorizer::authorizer::PartialResponse;
-use cedar_evaluator::request::Request;
-use cedar_heights::{
+use cedar_policy_core::ast::{Expr, PolicySet, Request, Value};
+use cedar_policy_core::authorizer::PartialResponse;
+use cedar_policy_core::authorizer::heights::{
     expr_height, levels_for, levels_for_step, mapped_height, policies_height, request_height,
     residuals_height,
 };
-use cedar_layers::expressions::{Expr, Value};
-use cedar_layers::policies::PolicySet;
 use std::alloc::{AllocError, Global};
 use std::collections::HashMap;
 use std::rc::RcStr;
@@ -19,7 +19,9 @@ pub(crate) const LEVELS: usize = 4000;
 pub(crate) const STEPS: usize = 1000;
 
 /// How many levels the condition of a policy that was read has at most: one more than its clauses.
-pub(crate) fn text_limit() -> usize {
+pub(crate) fn text_limit() -> usize
+    ensures { result ≡ 4001 }
+{
     LEVELS + 1
 }
 

@@ -13,12 +13,11 @@ use crate::stores::given_store;
 use crate::undecided::push_why_open;
 use crate::visible::push_visible;
 use crate::warnings::{Deciding, push_errors, push_templates};
-use cedar_authorizer::authorizer::{PartialResponse, ReportedPolicies};
-use cedar_extensions::{Extension, ExtensionFunction, Extensions};
-use cedar_layers::expressions::{EntityUID, Name};
-use cedar_layers::policies::Policy;
-use cedar_text_parser::ParsedPolicies;
-use cedar_text_printer::policy_to_cedar;
+use cedar_policy_core::ast::{EntityUID, Extension, ExtensionFunction, Name, Policy};
+use cedar_policy_core::authorizer::{PartialResponse, ReportedPolicies};
+use cedar_policy_core::extensions::Extensions;
+use cedar_policy_core::parser::ParsedPolicies;
+use cedar_policy_core::writing::policy_to_cedar;
 use std::alloc::{AllocError, Global};
 use std::rc::RcStr;
 
@@ -26,8 +25,8 @@ use std::rc::RcStr;
 /// determine it, and what is left of each policy; and the same behind each step, below a line that says which step it
 /// is, or all this as one JSON value. A step takes values for unknowns, and perhaps another store; beside these each
 /// entity that a store lacked is itself. A step that names no unknown and brings no entities is not taken. The status
-/// is that of the last decision. The errors of policies are told as warnings, and so is what does not show in the
-/// answer; as JSON the errors stand in the value.
+/// is that of the last decision, 4 where that is not known. The errors of policies are told as warnings, and so is what
+/// does not show in the answer; as JSON the errors stand in the value.
 pub fn partially_authorized(
     alloc: Global,
     policies: Source<'_>,

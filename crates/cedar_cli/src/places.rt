@@ -5,8 +5,8 @@ ghost use Rattle.cedar_cli.specs.Noted.{IsOf, place_at};
 
 use crate::asked::Source;
 use crate::visible::{push_visible, push_visible_character, visible};
-use cedar_layers::expressions::Loc;
-use cedar_text_lexer::show::Position;
+use cedar_policy_core::parser::Loc;
+use cedar_policy_core::parser::err::Position;
 use std::alloc::{AllocError, Global};
 
 /// Of so many bytes of a text one has its position noted.

@@ -1,16 +1,23 @@
 //! Policies of a text.
+ghost use Rattle.std.specs.Prelude.{IfOk, OnOk, IfErr};
+ghost use Rattle.cedar_functions.specs.Functions.{knowledge, these, signatures_of};
+ghost use Rattle.cedar_text_parser.specs.PolicyHeights.{with_scope, AreAllNoHigher};
+ghost use Rattle.cedar_text_parser.specs.PolicyReading.{AreAllRead};
+ghost use Rattle.cedar_cli.specs.Questions.{levels};
+ghost use Rattle.cedar_cli.specs.Reasons.{IsToldFor, IsOfPolicies, ArePoliciesUnread};
+
 use crate::asked::Source;
 use crate::limits::LEVELS;
 use crate::places::Places;
 use crate::refusal::{Refusal, unparsed_lines};
 use crate::visible::push_visible;
 use crate::warnings::{MOST, others};
-use cedar_extensions::{Extension, ExtensionFunction, Extensions};
-use cedar_functions::Functions;
-use cedar_layers::expressions::{FirstRest, Name};
-use cedar_layers::policies::{Policy, PolicyID, PolicySet};
-use cedar_text_parser::{ParseError, ParsedPolicies, parse_policies};
-use cedar_text_printer::policy_to_cedar;
+use cedar_policy_core::ast::{
+    Extension, ExtensionFunction, FirstRest, Name, Policy, PolicyID, PolicySet,
+};
+use cedar_policy_core::extensions::Extensions;
+use cedar_policy_core::parser::{Functions, ParseError, ParsedPolicies, parse_policies};
+use cedar_policy_core::writing::policy_to_cedar;
 use std::alloc::{AllocError, Global};
 use std::collections::BTreeMap;
 use std::rc::RcStr;
@@ -20,7 +27,11 @@ pub(crate) fn read(
     alloc: Global,
     source: Source<'_>,
     functions: &Functions,
-) -> Result<ParsedPolicies, Refusal> {
+) -> Result<ParsedPolicies, Refusal>
+    ensures read { IfOk result (AreAllRead (knowledge functions.now) source.entry.text.now levels) }
+    ensures low { IfOk result (AreAllNoHigher (with_scope levels)) }
+    ensures refused { IfErr result (IsToldFor (ArePoliciesUnread (knowledge functions.now) source.entry.text.now)) }
+{
     match parse_policies(alloc, source.text, LEVELS, functions) {
         Ok(parsed) => Ok(parsed),
         Err(errors) => Err(refusal(alloc, source, &errors)),
@@ -32,19 +43,30 @@ pub(crate) fn read_over(
     alloc: Global,
     source: Source<'_>,
     extensions: &Extensions<'_>,
-) -> Result<ParsedPolicies, Refusal> {
-    let functions = Functions::of(alloc, extensions)?;
-    let parsed = read(alloc, source, &functions);
-    drop(functions);
-    parsed
+) -> Result<ParsedPolicies, Refusal>
+    ensures read { IfOk result (AreAllRead (these (signatures_of extensions.now)) source.entry.text.now levels) }
+    ensures low { IfOk result (AreAllNoHigher (with_scope levels)) }
+    ensures refused { IfErr result (IsToldFor
+        (ArePoliciesUnread (these (signatures_of extensions.now)) source.entry.text.now)) }
+{
+    match Functions::of(alloc, extensions) {
+        Ok(functions) => {
+            let parsed = read(alloc, source, &functions);
+            drop(functions);
+            parsed
+        }
+        Err(AllocError) => Err(Refusal::Memory),
+    }
 }
 
 // The refusal that tells these errors.
 #[cold]
-fn refusal(alloc: Global, source: Source<'_>, errors: &FirstRest<ParseError>) -> Refusal {
+fn refusal(alloc: Global, source: Source<'_>, errors: &FirstRest<ParseError>) -> Refusal
+    ensures { IsToldFor (IsOfPolicies errors.now.first) result }
+{
     match all_lines(alloc, source, errors) {
         Ok(lines) => Refusal::Told(lines),
-        Err(refusal) => refusal,
+        Err(AllocError) => Refusal::Memory,
     }
 }
 
@@ -52,23 +74,31 @@ fn all_lines(
     alloc: Global,
     source: Source<'_>,
     errors: &FirstRest<ParseError>,
-) -> Result<String, Refusal> {
+) -> Result<String, AllocError>
+    ensures { OnOk result (IsOfPolicies errors.now.first) }
+{
     let places = Places::of(alloc, source)?;
     let mut lines = unparsed_lines(alloc, &places, &errors.first)?;
+    push_rest(alloc, source, &places, errors.rest.as_slice(), &mut lines)?;
+    Ok(lines)
+}
+
+// The errors behind the first.
+fn push_rest(
+    alloc: Global,
+    source: Source<'_>,
+    places: &Places<'_>,
+    rest: &[ParseError],
+    lines: &mut String,
+) -> Result<(), AllocError> {
     let mut told: usize = 1;
-    'errors: for error in errors.rest.iter() {
+    'errors: for error in rest {
         if told < MOST {
-            push_lines(alloc, &places, error, &mut lines)?;
+            push_lines(alloc, places, error, lines)?;
             told += 1;
         }
     }
-    push_others(
-        alloc,
-        source,
-        errors.rest.len().saturating_add(1),
-        &mut lines,
-    )?;
-    Ok(lines)
+    push_others(alloc, source, rest.len().saturating_add(1), lines)
 }
 
 fn push_lines(
@@ -76,10 +106,9 @@ fn push_lines(
     places: &Places<'_>,
     error: &ParseError,
     lines: &mut String,
-) -> Result<(), Refusal> {
+) -> Result<(), AllocError> {
     let more = unparsed_lines(alloc, places, error)?;
-    lines.push_str(&more)?;
-    Ok(())
+    lines.push_str(&more)
 }
 
 // Of more errors than are told one by one, how many there are besides.

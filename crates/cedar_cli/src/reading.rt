@@ -1,12 +1,25 @@
 //! Requests.
+ghost use Rattle.std.specs.Prelude.{◌≡◌, true, None, [], IfOk, OnOk, IfErr, IfSome, IfNone, is_some};
+ghost use Rattle.cedar_extensions.specs.Extensions.{extensions_view, calls_of};
+ghost use Rattle.cedar_requests.specs.Requests.{request_parts};
+ghost use Rattle.cedar_names.specs.Names.{type_name_of};
+ghost use Rattle.cedar_text_parser.specs.Paths.{IsEntityRead, IsNameRead};
+ghost use Rattle.cedar_json_reader.specs.JsonTexts.{SaysSo};
+ghost use Rattle.cedar_json_reader.specs.SaidContexts.{context_said, IsContextOf};
+ghost use Rattle.cedar_json_reader.specs.SaidRequests.{IsRequestOf};
+ghost use Rattle.cedar_cli.specs.Reasons.{IsToldFor, IsPathUnread, IsJsonUnread, IsEntryUnread, IsContextUnread};
+ghost use Rattle.cedar_cli.specs.Reasons.{AreEntriesUnread, ArePartsUnread, IsRequestUnread};
+ghost use Rattle.cedar_json_reader.specs.SaidContexts.{IsContextRefusal};
+ghost use Rattle.cedar_json_reader.specs.SaidRequests.{IsRequestRefusal};
+ghost use Rattle.cedar_cli.specs.Questions.{levels, IsEntryOf, AreGiven, IsContextSaid, IsOfParts, IsWholeRequest};
+
 use crate::asked::{Asked, Source};
 use crate::limits::LEVELS;
 use crate::refusal::{Refusal, refuse_with_line, unread, unread_json};
-use cedar_evaluator::request::{Context, EntityUIDEntry, Request};
-use cedar_extensions::Extensions;
-use cedar_json_reader::{context_from_json_str, request_from_json_str};
-use cedar_layers::expressions::{EntityType, EntityUID};
-use cedar_text_parser::{parse_entity_uid, parse_name};
+use cedar_policy_core::ast::{Context, EntityType, EntityUID, EntityUIDEntry, Request};
+use cedar_policy_core::entities::json::{context_from_json_str, request_from_json_str};
+use cedar_policy_core::extensions::Extensions;
+use cedar_policy_core::parser::{parse_entity_uid, parse_name};
 use std::alloc::Global;
 
 // The entities of a request.
@@ -22,22 +35,43 @@ pub(crate) fn whole_request(
     alloc: Global,
     asked: &Asked<'_, '_>,
     extensions: &Extensions<'_>,
-) -> Result<Request, Refusal> {
+) -> Result<Request, Refusal>
+    ensures asked { IfOk result (IsWholeRequest (extensions_view extensions.now) (calls_of extensions.now) asked.now) }
+    ensures refused { IfErr result (IsToldFor
+        (IsRequestUnread (extensions_view extensions.now) (calls_of extensions.now) asked.now)) }
+{
     match asked.request {
         Some(source) => request_of(alloc, source, extensions),
         None => {
-            require_given(alloc, asked.principal, "--principal")?;
-            require_given(alloc, asked.action, "--action")?;
-            require_given(alloc, asked.resource, "--resource")?;
+            all_given(alloc, asked)?;
             request_with_context(alloc, asked, extensions)
         }
     }
 }
 
-fn require_given(alloc: Global, part: Option<&str>, option: &str) -> Result<(), Refusal> {
-    match part {
-        Some(_) => Ok(()),
-        None => Err(refuse_with_line(alloc, format!(in alloc; "{option} is missing"))),
+fn all_given(alloc: Global, asked: &Asked<'_, '_>) -> Result<(), Refusal>
+    ensures given { OnOk result (AreGiven asked.now) }
+    ensures refused { IfErr result (IsToldFor (¬ AreGiven asked.now)) }
+{
+    match missing(asked) {
+        None => Ok(()),
+        Some(option) => Err(refuse_with_line(alloc, format!(in alloc; "{option} is missing"))),
+    }
+}
+
+// The option of the first entity that is not given.
+fn missing(asked: &Asked<'_, '_>) -> Option<&'static str>
+    ensures none { IfNone result (AreGiven asked.now) }
+    ensures some { IfSome result (λ option. ¬ AreGiven asked.now) }
+{
+    if asked.principal.is_none() {
+        Some("--principal")
+    } else if asked.action.is_none() {
+        Some("--action")
+    } else if asked.resource.is_none() {
+        Some("--resource")
+    } else {
+        None
     }
 }
 
@@ -46,13 +80,31 @@ pub(crate) fn request_with_context(
     alloc: Global,
     asked: &Asked<'_, '_>,
     extensions: &Extensions<'_>,
-) -> Result<Request, Refusal> {
-    let context = match asked.context {
-        Some(source) => context_of(alloc, source, extensions)?,
-        None => Context::empty(alloc),
-    };
+) -> Result<Request, Refusal>
+    ensures parts { IfOk result (IsOfParts (extensions_view extensions.now) (calls_of extensions.now) asked.now) }
+    ensures refused { IfErr result (IsToldFor
+        (ArePartsUnread (extensions_view extensions.now) (calls_of extensions.now) asked.now)) }
+{
+    let context = given_context(alloc, asked.context, extensions)?;
     let entries = entries_of(alloc, asked)?;
     Ok(request_of_parts(entries, Some(context)))
+}
+
+// The context that is given, or one without attributes.
+fn given_context(
+    alloc: Global,
+    context: Option<Source<'_>>,
+    extensions: &Extensions<'_>,
+) -> Result<Context, Refusal>
+    ensures said { IfOk result
+        (IsContextSaid (extensions_view extensions.now) (calls_of extensions.now) context.entry) }
+    ensures refused { IfErr result (IsToldFor
+        (IsContextUnread (extensions_view extensions.now) (calls_of extensions.now) context.entry)) }
+{
+    match context {
+        Some(source) => context_of(alloc, source, extensions),
+        None => Ok(Context::empty(alloc)),
+    }
 }
 
 /// The request that is asked, where what is not given is unknown.
@@ -74,7 +126,9 @@ pub(crate) fn partial_request(
     }
 }
 
-fn request_of_parts(entries: Entries, context: Option<Context>) -> Request {
+fn request_of_parts(entries: Entries, context: Option<Context>) -> Request
+    ensures { request_parts result ≡ (entries.principal, entries.action, entries.resource, context) }
+{
     let Entries {
         principal,
         action,
@@ -83,7 +137,12 @@ fn request_of_parts(entries: Entries, context: Option<Context>) -> Request {
     Request::new_with_unknowns(principal, action, resource, context)
 }
 
-fn entries_of(alloc: Global, asked: &Asked<'_, '_>) -> Result<Entries, Refusal> {
+fn entries_of(alloc: Global, asked: &Asked<'_, '_>) -> Result<Entries, Refusal>
+    ensures principal { IfOk result (λ e. IsEntryOf asked.now.principal asked.now.principal_type e.principal) }
+    ensures action { IfOk result (λ e. IsEntryOf asked.now.action None e.action) }
+    ensures resource { IfOk result (λ e. IsEntryOf asked.now.resource asked.now.resource_type e.resource) }
+    ensures refused { IfErr result (IsToldFor (AreEntriesUnread asked.now)) }
+{
     let principal = entry(
         alloc,
         asked.principal,
@@ -113,33 +172,51 @@ fn entry<'x>(
     option: &'x str,
     type_name: Option<&'x str>,
     type_option: &'x str,
-) -> Result<EntityUIDEntry, Refusal> {
+) -> Result<EntityUIDEntry, Refusal>
+    ensures is { IfOk result (IsEntryOf entity.entry type_name.entry) }
+    ensures refused { IfErr result (IsToldFor (IsEntryUnread entity.entry type_name.entry)) }
+{
     match entity {
         Some(text) => {
             let source = Source { name: option, text };
             Ok(EntityUIDEntry::known(entity_of(alloc, source)?, None))
         }
-        None => match type_name {
-            Some(text) => {
-                let source = Source {
-                    name: type_option,
-                    text,
-                };
-                Ok(EntityUIDEntry::unknown_with_type(type_of(alloc, source)?, None))
-            }
-            None => Ok(EntityUIDEntry::unknown()),
-        },
+        None => unknown_entry(alloc, type_name, type_option),
     }
 }
 
-fn entity_of(alloc: Global, source: Source<'_>) -> Result<EntityUID, Refusal> {
+// One of this type or, where none is given, of any.
+fn unknown_entry<'x>(
+    alloc: Global,
+    type_name: Option<&'x str>,
+    option: &'x str,
+) -> Result<EntityUIDEntry, Refusal>
+    ensures is { IfOk result (IsEntryOf None type_name.entry) }
+    ensures refused { IfErr result (IsToldFor (IsEntryUnread None type_name.entry)) }
+{
+    match type_name {
+        Some(text) => {
+            let source = Source { name: option, text };
+            Ok(EntityUIDEntry::unknown_with_type(type_of(alloc, source)?, None))
+        }
+        None => Ok(EntityUIDEntry::unknown()),
+    }
+}
+
+fn entity_of(alloc: Global, source: Source<'_>) -> Result<EntityUID, Refusal>
+    ensures read { IfOk result (IsEntityRead source.entry.text.now) }
+    ensures refused { IfErr result (IsToldFor (IsPathUnread source.entry.text.now)) }
+{
     match parse_entity_uid(alloc, source.text) {
         Ok(uid) => Ok(uid),
         Err(error) => Err(unread(alloc, source, error)),
     }
 }
 
-fn type_of(alloc: Global, source: Source<'_>) -> Result<EntityType, Refusal> {
+fn type_of(alloc: Global, source: Source<'_>) -> Result<EntityType, Refusal>
+    ensures read { IfOk result (λ t. IsNameRead source.entry.text.now (type_name_of t)) }
+    ensures refused { IfErr result (IsToldFor (IsPathUnread source.entry.text.now)) }
+{
     match parse_name(alloc, source.text) {
         Ok(name) => Ok(EntityType::new(name)),
         Err(error) => Err(unread(alloc, source, error)),
@@ -150,7 +227,12 @@ fn context_of(
     alloc: Global,
     source: Source<'_>,
     extensions: &Extensions<'_>,
-) -> Result<Context, Refusal> {
+) -> Result<Context, Refusal>
+    ensures said { IfOk result (λ c. SaysSo source.entry.text.now (λ j.
+        IsContextOf (extensions_view extensions.now) (calls_of extensions.now) levels (context_said j) c)) }
+    ensures refused { IfErr result (IsToldFor (IsJsonUnread source.entry.text.now (λ j e.
+        IsContextRefusal (extensions_view extensions.now) (calls_of extensions.now) levels (context_said j) [] e))) }
+{
     match context_from_json_str(alloc, source.text, extensions, LEVELS) {
         Ok(context) => Ok(context),
         Err(error) => Err(unread_json(alloc, source, error)),
@@ -161,7 +243,12 @@ fn request_of(
     alloc: Global,
     source: Source<'_>,
     extensions: &Extensions<'_>,
-) -> Result<Request, Refusal> {
+) -> Result<Request, Refusal>
+    ensures said { IfOk result (λ r. SaysSo source.entry.text.now (λ j.
+        IsRequestOf (extensions_view extensions.now) (calls_of extensions.now) levels j r)) }
+    ensures refused { IfErr result (IsToldFor (IsJsonUnread source.entry.text.now (λ j e.
+        IsRequestRefusal (extensions_view extensions.now) (calls_of extensions.now) levels j e))) }
+{
     match request_from_json_str(alloc, source.text, extensions, LEVELS) {
         Ok(request) => Ok(request),
         Err(error) => Err(unread_json(alloc, source, error)),

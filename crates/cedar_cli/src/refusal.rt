@@ -1,14 +1,16 @@
 //! Why a question is not answered.
+ghost use Rattle.std.specs.Prelude.{◌≡◌, IfSome, OnOk};
+ghost use Rattle.cedar_cli.specs.declared.refusal.Refusal.TheVariants as refusals;
+ghost use Rattle.cedar_cli.specs.Reasons.{IsToldFor, IsOfText, IsOfPolicies, IsOfJson};
+
 use crate::asked::Source;
 use crate::faults::{Fault, Repeated, Wrong, repeated_key, syntax_fault};
 use crate::limits::LEVELS;
 use crate::places::{Places, describe_at};
 use crate::visible::visible;
-use cedar_json_reader::JsonError;
-use cedar_layers::expressions::Loc;
-use cedar_text_lexer::errors::ReadError;
-use cedar_text_parser::ParseError;
-use cedar_text_parser::show::message;
+use cedar_policy_core::entities::json::JsonError;
+use cedar_policy_core::parser::err::ReadError;
+use cedar_policy_core::parser::{Loc, ParseError, message};
 use json::MAX_DEPTH;
 use std::alloc::{AllocError, AllocFailed, Global};
 
@@ -22,12 +24,16 @@ pub enum Refusal {
 }
 
 impl From<AllocError> for Refusal {
+    ghost from_gives = { λ e result. result ≡ refusals.Memory };
+
     fn from(_error: AllocError) -> Refusal {
         Refusal::Memory
     }
 }
 
 impl<T: Drop> From<AllocFailed<T>> for Refusal {
+    ghost from_gives = { λ e result. result ≡ refusals.Memory };
+
     fn from(_error: AllocFailed<T>) -> Refusal {
         Refusal::Memory
     }
@@ -56,41 +62,52 @@ fn end_line(alloc: Global, line: Result<String, AllocError>) -> Result<String, A
 
 /// The refusal of a name or an entity that can't be read as Cedar's text.
 #[cold]
-pub(crate) fn unread(alloc: Global, source: Source<'_>, error: ReadError) -> Refusal {
+pub(crate) fn unread(alloc: Global, source: Source<'_>, error: ReadError) -> Refusal
+    ensures { IsToldFor (IsOfText error) result }
+{
     refuse_unparsed(alloc, source, &ParseError::Read(error))
 }
 
 /// The refusal of what can't be read as Cedar's text.
 #[cold]
-pub(crate) fn refuse_unparsed(alloc: Global, source: Source<'_>, error: &ParseError) -> Refusal {
+pub(crate) fn refuse_unparsed(alloc: Global, source: Source<'_>, error: &ParseError) -> Refusal
+    ensures { IsToldFor (IsOfPolicies error.now) result }
+{
     match unparsed_of(alloc, source, error) {
         Ok(lines) => Refusal::Told(lines),
-        Err(refusal) => refusal,
+        Err(AllocError) => Refusal::Memory,
     }
 }
 
-fn unparsed_of(alloc: Global, source: Source<'_>, error: &ParseError) -> Result<String, Refusal> {
+fn unparsed_of(alloc: Global, source: Source<'_>, error: &ParseError) -> Result<String, AllocError>
+    ensures { OnOk result (IsOfPolicies error.now) }
+{
     let places = Places::of(alloc, source)?;
     unparsed_lines(alloc, &places, error)
 }
 
-/// `NAME: line L, column C: why`, and below it the line about the place, which is marked.
+/// `NAME: line L, column C: why`, and below it the line about the place, which is marked. None, if
+/// out of memory.
 pub(crate) fn unparsed_lines(
     alloc: Global,
     places: &Places<'_>,
     error: &ParseError,
-) -> Result<String, Refusal> {
+) -> Result<String, AllocError>
+    ensures { OnOk result (IsOfPolicies error.now) }
+{
     match place_of(error) {
         Some(loc) => {
             let why = why_of(alloc, places.text(), error)?;
-            Ok(describe_at(alloc, places, Some(loc), why.as_str())?)
+            describe_at(alloc, places, Some(loc), why.as_str())
         }
-        None => Err(Refusal::Memory),
+        None => Err(AllocError),
     }
 }
 
 // Where the text can't be read; nowhere, if out of memory.
-fn place_of(error: &ParseError) -> Option<Loc> {
+fn place_of(error: &ParseError) -> Option<Loc>
+    ensures { IfSome result (λ _. IsOfPolicies error.now) }
+{
     match error {
         ParseError::Read(error) => place_of_read(*error),
         ParseError::UnknownFunction { start, end, .. } => loc(*start, *end),
@@ -99,7 +116,9 @@ fn place_of(error: &ParseError) -> Option<Loc> {
     }
 }
 
-fn place_of_read(error: ReadError) -> Option<Loc> {
+fn place_of_read(error: ReadError) -> Option<Loc>
+    ensures { IfSome result (λ _. IsOfText error) }
+{
     match error {
         ReadError::Memory => None,
         ReadError::Expected { start, end, .. } => loc(start, end),
@@ -123,7 +142,9 @@ fn why_of(alloc: Global, text: &str, error: &ParseError) -> Result<String, Alloc
 /// The refusal of what can't be read as Cedar's JSON: `NAME: $.path: why`, or `NAME: line L, column C: why` of a text
 /// that is no JSON or nests too deep, with what is wrong there, or that has a key twice, which is named.
 #[cold]
-pub(crate) fn unread_json(alloc: Global, source: Source<'_>, error: JsonError) -> Refusal {
+pub(crate) fn unread_json(alloc: Global, source: Source<'_>, error: JsonError) -> Refusal
+    ensures { IsToldFor (IsOfJson error) result }
+{
     let name = source.name;
     match error {
         JsonError::Memory(_) => Refusal::Memory,

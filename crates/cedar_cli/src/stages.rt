@@ -5,10 +5,9 @@ use crate::reading::partial_request;
 use crate::refusal::Refusal;
 use crate::steps::{StepInput, Taking, last_of, step_inputs, take_all};
 use crate::stores::Store;
-use cedar_authorizer::authorizer::{Authorizer, PartialResponse};
-use cedar_evaluator::request::Request;
-use cedar_extensions::Extensions;
-use cedar_layers::policies::PolicySet;
+use cedar_policy_core::ast::{PolicySet, Request};
+use cedar_policy_core::authorizer::{Authorizer, PartialResponse};
+use cedar_policy_core::extensions::Extensions;
 use std::alloc::Global;
 
 /// The first response, and those after each step that is taken.

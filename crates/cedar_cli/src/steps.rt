@@ -5,14 +5,12 @@ use crate::limits::{LEVELS, push_limit, step_limit};
 use crate::refusal::{Refusal, refuse_with_line, unread_json};
 use crate::stores::{Given, Store, store_of};
 use crate::warnings::{push_idle_step, push_strays};
-use cedar_authorizer::authorizer::{
+use cedar_policy_core::ast::{Context, Expr, Unknowns, Value};
+use cedar_policy_core::authorizer::{
     AuthorizationError, Authorizer, ErrorHandling, PartialResponse, ReauthorizationError,
 };
-use cedar_evaluator::request::Context;
-use cedar_extensions::Extensions;
-use cedar_json_reader::context_from_json_str;
-use cedar_layers::expressions::{Expr, Value};
-use cedar_unknowns::Unknowns;
+use cedar_policy_core::entities::json::context_from_json_str;
+use cedar_policy_core::extensions::Extensions;
 use std::alloc::{AllocError, Global};
 use std::collections::{BTreeMap, BTreeSet, HashMap};
 use std::rc::RcStr;

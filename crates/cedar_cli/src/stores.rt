@@ -1,14 +1,23 @@
 //! Stores of entities.
-use crate::ancestors::{ANCESTORS, has_more_ancestors};
+ghost use Rattle.std.specs.Prelude.{◌≡◌, IfOk, IfErr};
+ghost use Rattle.cedar_layers.specs.Stores.{no_entities, store_view};
+ghost use Rattle.cedar_extensions.specs.Extensions.{extensions_view, calls_of};
+ghost use Rattle.cedar_cli.specs.Questions.{IsGivenStore, IsStoreSaid, IsClosedAs, IsClosedStore, IsPartialStore};
+ghost use Rattle.cedar_cli.specs.Reasons.{IsToldFor, IsStoreUnread, AreEntitiesUnread, IsCyclic, NamesOne};
+ghost use Rattle.cedar_cli.specs.Reasons.{AreNotClosed, CanHaveMore};
+
+use crate::ancestors::{ANCESTORS, has_more_ancestors, most_ancestors};
 use crate::asked::{Asked, Source};
 use crate::limits::LEVELS;
 use crate::refusal::{Refusal, refuse_with_line, unread_json};
 use crate::warnings::push_left_out;
-use cedar_extensions::Extensions;
-use cedar_heights::entities_height;
-use cedar_hierarchy::{ClosureError, PartialClosure, close_hierarchy, close_hierarchy_partially};
-use cedar_json_reader::entities_from_json_str;
-use cedar_layers::policies::{Entities, Entity};
+use cedar_policy_core::ast::Entity;
+use cedar_policy_core::authorizer::heights::entities_height;
+use cedar_policy_core::entities::json::entities_from_json_str;
+use cedar_policy_core::entities::{
+    ClosureError, Entities, PartialClosure, close_hierarchy, close_hierarchy_partially,
+};
+use cedar_policy_core::extensions::Extensions;
 use std::alloc::{AllocError, Global};
 
 /// The text of entities, whether there may be more than those, and how many ancestors they have in all at most.
@@ -32,7 +41,13 @@ pub(crate) fn given_store(
     asked: &Asked<'_, '_>,
     extensions: &Extensions<'_>,
     warnings: &mut String,
-) -> Result<Store, Refusal> {
+) -> Result<Store, Refusal>
+    ensures given { IfOk result (λ s.
+        IsGivenStore (extensions_view extensions.now) (calls_of extensions.now) asked.now s.entities) }
+    ensures refused { IfErr result (IsToldFor
+        (IsStoreUnread (extensions_view extensions.now) (calls_of extensions.now) asked.now.entities
+        asked.now.max_ancestors)) }
+{
     match asked.entities {
         Some(source) => {
             let given = Given {
@@ -42,10 +57,21 @@ pub(crate) fn given_store(
             };
             store_of(alloc, given, extensions, warnings)
         }
-        None => Ok(Store {
-            entities: Entities::with(alloc, Vec::new(alloc), asked.is_partial)?,
+        None => no_entities(alloc, asked.is_partial),
+    }
+}
+
+fn no_entities(alloc: Global, is_partial: bool) -> Result<Store, Refusal>
+    ensures given { IfOk result (λ s. store_view s.entities
+        ≡ record { entity = no_entities; is_partial = is_partial }) }
+    ensures refused { IfErr result (IsToldFor ⊥) }
+{
+    match Entities::with(alloc, Vec::new(alloc), is_partial) {
+        Ok(entities) => Ok(Store {
+            entities,
             height: 0,
         }),
+        Err(AllocError) => Err(Refusal::Memory),
     }
 }
 
@@ -57,13 +83,21 @@ pub(crate) fn store_of(
     given: Given<'_>,
     extensions: &Extensions<'_>,
     warnings: &mut String,
-) -> Result<Store, Refusal> {
+) -> Result<Store, Refusal>
+    ensures said { IfOk result (λ s. IsStoreSaid (extensions_view extensions.now) (calls_of extensions.now)
+        given.entry.source.text.now given.entry.is_partial s.entities) }
+    ensures refused { IfErr result (IsToldFor
+        (AreEntitiesUnread (extensions_view extensions.now) (calls_of extensions.now) given.entry.source.text.now
+        given.entry.max_ancestors)) }
+{
     let source = given.source;
     match entities_from_json_str(alloc, source.text, extensions, LEVELS) {
         Ok(entities) => {
             let height = entities_height(&entities);
-            let entities = closed_store(alloc, given, entities, warnings)?;
-            Ok(Store { entities, height })
+            match closed_store(alloc, given, entities, warnings) {
+                Ok(entities) => Ok(Store { entities, height }),
+                Err(refusal) => Err(refusal),
+            }
         }
         Err(error) => Err(unread_json(alloc, source, error)),
     }
@@ -75,17 +109,32 @@ fn closed_store(
     given: Given<'_>,
     entities: Vec<Entity>,
     warnings: &mut String,
-) -> Result<Entities, Refusal> {
+) -> Result<Entities, Refusal>
+    ensures closed { IfOk result (IsClosedAs given.entry.is_partial entities.items) }
+    ensures refused { IfErr result (IsToldFor (AreNotClosed entities.items given.entry.max_ancestors)) }
+{
     match refuse_many_ancestors(alloc, given, &entities) {
-        Ok(()) => if given.is_partial {
-            partial_store(alloc, given.source, entities, warnings)
-        } else {
-            whole_store(alloc, given.source, entities)
-        },
+        Ok(()) => close_as(alloc, given, entities, warnings),
         Err(refusal) => {
             drop(entities);
             Err(refusal)
         }
+    }
+}
+
+fn close_as(
+    alloc: Global,
+    given: Given<'_>,
+    entities: Vec<Entity>,
+    warnings: &mut String,
+) -> Result<Entities, Refusal>
+    ensures closed { IfOk result (IsClosedAs given.entry.is_partial entities.items) }
+    ensures cycle { IfErr result (IsToldFor (IsCyclic entities.items)) }
+{
+    if given.is_partial {
+        partial_store(alloc, given.source, entities, warnings)
+    } else {
+        whole_store(alloc, given.source, entities)
     }
 }
 
@@ -94,25 +143,35 @@ fn refuse_many_ancestors(
     alloc: Global,
     given: Given<'_>,
     entities: &Vec<Entity>,
-) -> Result<(), Refusal> {
+) -> Result<(), Refusal>
+    ensures { IfErr result (IsToldFor (CanHaveMore entities.now.items given.entry.max_ancestors)) }
+{
     let most = given.max_ancestors.unwrap_or(ANCESTORS);
-    if has_more_ancestors(alloc, entities, most)? {
-        let name = given.source.name;
-        return Err(refuse_with_line(
-            alloc,
-            format!(in alloc;
-                "{name}: the entities have more than {most} ancestors in all (--max-ancestors)"
-            ),
-        ));
+    if most_ancestors(entities) <= most {
+        return Ok(());
     }
-    Ok(())
+    match has_more_ancestors(alloc, entities, most) {
+        Ok(true) => Err(refuse_with_line(alloc, many_line(alloc, given.source, most))),
+        Ok(false) => Ok(()),
+        Err(AllocError) => Err(Refusal::Memory),
+    }
+}
+
+fn many_line(alloc: Global, source: Source<'_>, most: usize) -> Result<String, AllocError> {
+    let name = source.name;
+    format!(in alloc;
+        "{name}: the entities have more than {most} ancestors in all (--max-ancestors)"
+    )
 }
 
 fn whole_store(
     alloc: Global,
     source: Source<'_>,
     entities: Vec<Entity>,
-) -> Result<Entities, Refusal> {
+) -> Result<Entities, Refusal>
+    ensures closed { IfOk result (IsClosedStore entities.items) }
+    ensures cycle { IfErr result (IsToldFor (IsCyclic entities.items)) }
+{
     match close_hierarchy(alloc, entities) {
         Ok(store) => Ok(store),
         Err(error) => Err(refuse_unclosed(alloc, source, error)),
@@ -124,7 +183,10 @@ fn partial_store(
     source: Source<'_>,
     entities: Vec<Entity>,
     warnings: &mut String,
-) -> Result<Entities, Refusal> {
+) -> Result<Entities, Refusal>
+    ensures closed { IfOk result (IsPartialStore entities.items) }
+    ensures cycle { IfErr result (IsToldFor (IsCyclic entities.items)) }
+{
     match close_hierarchy_partially(alloc, entities) {
         Ok(closure) => tell_left_out(alloc, source, closure, warnings),
         Err(error) => Err(refuse_unclosed(alloc, source, error)),
@@ -136,7 +198,10 @@ fn tell_left_out(
     source: Source<'_>,
     closure: PartialClosure,
     warnings: &mut String,
-) -> Result<Entities, Refusal> {
+) -> Result<Entities, Refusal>
+    ensures same { IfOk result (λ s. s ≡ closure.entities) }
+    ensures memory { IfErr result (IsToldFor ⊥) }
+{
     let PartialClosure { entities, left_out } = closure;
     let pushed = push_left_out(alloc, source, &left_out, warnings);
     drop(left_out);
@@ -150,7 +215,9 @@ fn tell_left_out(
 }
 
 #[cold]
-fn refuse_unclosed(alloc: Global, source: Source<'_>, error: ClosureError) -> Refusal {
+fn refuse_unclosed(alloc: Global, source: Source<'_>, error: ClosureError) -> Refusal
+    ensures { IsToldFor (NamesOne error) result }
+{
     match error {
         ClosureError::Memory(_) => Refusal::Memory,
         ClosureError::Cycle(uid) => {

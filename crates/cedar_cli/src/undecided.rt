@@ -1,9 +1,8 @@
 //! Why the decision on a request stays open of which nothing is unknown.
 use crate::left::{entities_left, unknown_names};
 use crate::warnings::{first_of, others, push_warning};
-use cedar_authorizer::authorizer::PartialResponse;
-use cedar_evaluator::request::{EntityUIDEntry, Request};
-use cedar_layers::expressions::EntityUID;
+use cedar_policy_core::ast::{EntityUID, EntityUIDEntry, Request};
+use cedar_policy_core::authorizer::PartialResponse;
 use std::alloc::{AllocError, Global};
 use std::rc::RcStr;
 

@@ -42,6 +42,6 @@ pub mod laws {
 pub mod json {
     pub use cedar_json_writer::{
         decision_to_json, error_to_json, errors_to_json, partial_response_to_json, put_error,
-        put_known, response_to_json,
+        put_error_within, put_known, response_to_json,
     };
 }

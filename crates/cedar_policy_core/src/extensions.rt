@@ -5,7 +5,7 @@ pub use cedar_extensions::{
     extension_initialization_errors,
 };
 
-/// What stored functions answer. Each function is a law, and does nothing.
+/// What stored and standard functions answer. Each function is a law, and does nothing.
 pub mod laws {
     pub use cedar_extensions::laws::{
         built_in_functions_agree, computed_functions_agree, no_functions_agree,
@@ -14,4 +14,5 @@ pub mod laws {
     };
     pub use cedar_faithful::given::functions_are_faithful;
     pub use cedar_laws::faithful::functions_without_extensions_are_faithful;
+    pub use cedar_standard_functions::laws::functions_are_computed;
 }

@@ -1,0 +1,50 @@
+-- Without a limit that is set, what is answered is exact: what is read of a text has no unknown, and is low enough.
+use Rattle.std.proofs.Common.{◌≡◌, sym, ap, subst, List, Option, None, Some}
+use Rattle.std.specs.Prelude.{◌≢◌}
+use Rattle.std.specs.Option.{unwrap_or}
+use Rattle.cedar_model.specs.Terms.{Text, ValueType}
+use Rattle.cedar_model.specs.Values.{AbstractValue}
+use Rattle.cedar_model.specs.World.{function_asks}
+use Rattle.cedar_model.specs.Agreement.{AgreesWithFunctions}
+use Rattle.cedar_model.specs.Authorizations.{Authorized, AreNoHigher}
+use Rattle.cedar_decisions.specs.Decisions.{mode_view}
+use Rattle.cedar_functions.specs.Functions.{Knowledge}
+use Rattle.cedar_layers.specs.declared.policies.entities.Entities.{Entities}
+use Rattle.cedar_requests.specs.declared.request.Request.{Request}
+use Rattle.cedar_text_parser.specs.PolicyHeights.{with_scope, AreAllNoHigher}
+use Rattle.cedar_text_parser.specs.PolicyReading.{AreAllRead}
+use Rattle.cedar_text_parser.specs.declared.policies.ParsedPolicies.{ParsedPolicies}
+use Rattle.cedar_standard_functions.specs.Laws.{AskNothing}
+use Rattle.cedar_standard_functions.specs.Standard.{made_by, standard_named, standard_answers}
+use Rattle.cedar_standard_functions.specs.declared.function.StandardFunction.{StandardFunction}
+use Rattle.cedar_authorizer.specs.Responding.{considered}
+use Rattle.cedar_cli.specs.declared.asked.Way.{Way}
+use Rattle.cedar_cli.specs.Questions.{levels}
+use Rattle.cedar_cli.specs.Standard.{standard_extensions, standard_calls}
+use Rattle.cedar_cli.specs.Authorized.{limit_in, IsResponseTo, IsExact}
+use Rattle.cedar_cli.proofs.Known.{NoneAsks, all_known}
+
+made_asks_nothing : AskNothing → (o : Option StandardFunction) (vs : List AbstractValue) (n : Text)
+    (t : Option ValueType) → made_by o vs ≢ function_asks n t
+made_asks_nothing ask None vs n t e = cc
+made_asks_nothing ask (Some f) vs n t e = ask f vs n t e
+
+-- no standard function answers an unknown
+abbrev none_asks : AskNothing → NoneAsks
+none_asks ask = record {
+  ans = standard_answers;
+  never = λ f vs n t e. made_asks_nothing ask (standard_named f) vs n t e;
+}
+
+module _ (ask : AskNothing) (agree : AgreesWithFunctions standard_answers standard_calls) where
+  pub exactly : (k : Knowledge) (text : Text) (parsed : ParsedPolicies) → AreAllRead k text levels parsed
+      → AreAllNoHigher (with_scope levels) parsed → (s : Entities) (r : Request) (w : Way) (a : Authorized)
+      → IsResponseTo standard_extensions standard_calls parsed.policies s r w a → w.limit ≡ None
+      → IsExact (mode_view w.error_handling) parsed.policies s r a
+  exactly k text parsed read low s r w a is unlimited nothing sigma =
+      let known = all_known (none_asks ask) parsed read in
+      let within : AreNoHigher (considered parsed.policies) (limit_in w.limit) =
+      subst (λ n. AreNoHigher (considered parsed.policies) n) (sym (ap (λ o. unwrap_or o 4001) unlimited))
+      low.policies in
+      is.by_meaning nothing standard_answers agree known sigma
+      (is.within_limit nothing standard_answers agree known within)
