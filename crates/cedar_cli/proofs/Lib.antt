@@ -5,3 +5,4 @@ mod Known
 mod Exact
 mod Words
 mod Reasoned
+mod Counting

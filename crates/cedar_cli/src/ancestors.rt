@@ -1,5 +1,6 @@
+#![tactic(auto, using(crate::proofs::Counting::counting))]
 //! How many ancestors entities have in all.
-ghost use Rattle.std.specs.Prelude.{◌≡◌, length, true};
+ghost use Rattle.std.specs.Prelude.{◌≡◌, length};
 ghost use Rattle.cedar_heights.specs.Capped.{capped};
 ghost use Rattle.cedar_layers.specs.Stores.{entity_ancestors};
 ghost use Rattle.cedar_cli.specs.Questions.{at_most_ancestors, parents_in};
@@ -26,14 +27,14 @@ struct Walk {
 }
 
 /// How many ancestors the entities have in all at most, as many as if each had every parent that stands in them.
-pub(crate) fn most_ancestors(entities: &Vec<Entity>) -> usize
-    ensures { result ≡ capped (at_most_ancestors entities.now.items) }
+pub(crate) fn most_ancestors(entities: &[Entity]) -> usize
+    ensures { result ≡ capped (at_most_ancestors entities.now) }
 {
     entities.len().saturating_mul(count_parents(entities))
 }
 
-fn count_parents(entities: &Vec<Entity>) -> usize
-    ensures { result ≡ capped (parents_in entities.now.items) }
+fn count_parents(entities: &[Entity]) -> usize
+    ensures { result ≡ capped (parents_in entities.now) }
 {
     let mut count: usize = 0;
     'entities: for entity in entities {

@@ -17,9 +17,13 @@
 //!   answers as JSON.
 //! - `refusal`, `faults`, `places`, `visible`: why a question is not answered, and where; texts as they are told.
 //!
-//! The promise: a decision is printed as its word with its status, in private functions (`specs/Printing.antt`), and
-//! line and column are those of the byte (`specs/Noted.antt`). A refused run has nothing to print by its type
-//! (`Answer`). The public calls have no clause; what the commands print is tested by the tables of `cedar_test_cli`.
+//! The promise: `authorize` is proved from the texts and the options on. What it prints is the decision on the policies,
+//! the entities and the request that the texts say (`answered`: `specs/Authorized.antt` over `specs/Questions.antt`, with
+//! the functions of `specs/Standard.antt` and the JSON of `specs/Documents.antt`); without a limit, and where nothing is
+//! unknown, `ALLOW` stands first exactly where the policies allow. It refuses for the reasons of `specs/Reasons.antt`
+//! alone (`refused`). Each decision is printed with its status (`specs/Printing.antt`), and line and column are those of
+//! the byte (`specs/Noted.antt`). A refused run has nothing to print by its type (`Answer`). The other public calls have
+//! no clause, but for `status_of`; what the commands print is tested by the tables of `cedar_test_cli`.
 #![tactic(auto)]
 
 mod ancestors;

@@ -7,6 +7,7 @@ pub mod Nested
 pub mod Ordered
 pub mod Parts
 pub mod Turns
+mod Counting
 mod Joining
 mod PolicyTurns
 mod Within

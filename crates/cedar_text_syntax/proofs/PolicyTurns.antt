@@ -1,5 +1,5 @@
 -- What a part more makes of what was written.
-use Rattle.std.proofs.Common.{◌≡◌, ℕ, ◌+◌, ◌<◌, ◌≤◌, List, [], ◌∷◌, ◌++◌, length, refl, ap, arith}
+use Rattle.std.proofs.Common.{◌≡◌, ℕ, ◌+◌, ◌<◌, ◌≤◌, List, [], ◌∷◌, ◌++◌, length, refl, arith}
 use Rattle.std.proofs.Common.{Bool, true, false, Some, None, add-one, if◌then◌else◌}
 use Prim.Native.Nat.{max}
 use Rattle.cedar_text_lexer.specs.declared.tokens.Kind.{Kind}
@@ -14,7 +14,7 @@ use Rattle.cedar_text_syntax.specs.declared.steps.Bracketed.TheVariants.{Set}
 use Rattle.cedar_text_syntax.specs.declared.steps.What.TheVariants as what
 use Rattle.cedar_text_syntax.specs.declared.steps.Step.{Step}
 use Rattle.cedar_text_lexer.specs.Sequence.{kind_at, start_at, end_at}
-use Rattle.cedar_text_syntax.specs.Trees.{Tree, Trees, none, also, binary, height, count, stacked, gathered, left_below}
+use Rattle.cedar_text_syntax.specs.Trees.{Tree, binary, height, count}
 use Rattle.cedar_text_syntax.specs.Trees.{made, trees, FindParts}
 use Rattle.cedar_text_syntax.specs.Grammar.{IsPath, IsInBraces}
 use Rattle.cedar_text_syntax.proofs.Listed.{gathered-stacked, left_below-stacked}

@@ -1,6 +1,7 @@
 pub mod Faults
 pub mod Grammar
 pub mod Levels
+pub mod Nodes
 pub mod Places
 pub mod Reading
 pub mod Standing

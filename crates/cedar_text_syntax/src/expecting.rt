@@ -153,8 +153,8 @@ pub(crate) fn at_end(tokens: &[Token]) -> ReadError
     }
 }
 
-// The byte before which the last token ends.
-fn end_of(tokens: &[Token]) -> usize
+/// The byte before which the last token ends.
+pub(crate) fn end_of(tokens: &[Token]) -> usize
     ensures { result ≡ end_of tokens.now }
 {
     if tokens.is_empty() {

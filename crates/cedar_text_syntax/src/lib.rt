@@ -6,7 +6,8 @@
 //!   expression begins with), `operators`, `relations` (`has`, `like`, `is`), `members`, `brackets`, and `work` (what
 //!   the machine keeps).
 //! - `frames`: the stack of what waits. `levels`, `kinds`: operators, their levels, and what tokens are to an
-//!   expression. `steps`: the steps that are written. `expecting`: what is expected of tokens, and the errors.
+//!   expression. `steps`: the steps that are written. `nodes`: how many nodes are built of them. `expecting`: what is
+//!   expected of tokens, and the errors.
 //! - `policies`: `policy_steps`, which reads one policy. `annotations`, `scopes`, `clauses`: its parts, in the order
 //!   in which they are read. `looking`: what a token may be in a policy. `written`: the steps that were written so
 //!   far.
@@ -14,7 +15,8 @@
 //! The promise: they answer the steps of a tree that the tokens derive by the grammar, no higher than the limit
 //! (clause `ok`; `specs/Grammar.antt`, `specs/Trees.antt`), of a policy with annotations and effect (`HasPolicy` in
 //! `specs/PolicyReading.antt`, by `specs/PolicyGrammar.antt`), each part inside what it is a part of (`parts`;
-//! `specs/Places.antt`). Of an error it is promised that it is at a token or behind the last, or, where the limit is
+//! `specs/Places.antt`). Of an expression and of what stands in braces at most sixteen nodes a byte are built (`nodes`;
+//! `specs/Nodes.antt`). Of an error it is promised that it is at a token or behind the last, or, where the limit is
 //! passed, ends with a token (`err`), and no more.
 #![tactic(auto)]
 
@@ -26,6 +28,7 @@ mod kinds;
 mod levels;
 mod looking;
 mod machine;
+mod nodes;
 pub mod policies;
 mod scopes;
 pub mod steps;

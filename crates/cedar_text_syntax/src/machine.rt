@@ -7,7 +7,9 @@ ghost use Rattle.std.specs.Prelude.{◌≡◌, ◌+◌, ◌<◌, ◌≤◌, [], 
 ghost use Rattle.cedar_text_syntax.specs.Faults as Faults;
 ghost use Rattle.cedar_text_syntax.specs.Grammar as Grammar;
 ghost use Rattle.cedar_text_syntax.specs.Levels.{IsAbove};
-ghost use Rattle.cedar_text_syntax.specs.Places.{IsPlaced};
+ghost use Rattle.cedar_text_syntax.specs.Nodes as Nodes;
+ghost use Rattle.cedar_text_syntax.specs.Nodes.{HasAtMost};
+ghost use Rattle.cedar_text_syntax.specs.Places.{IsPlaced, end_of};
 ghost use Rattle.cedar_text_syntax.specs.Reading.{Reads, HasRead, HasReadClause, under};
 ghost use Rattle.cedar_text_syntax.specs.Standing.{look, Stands};
 ghost use Rattle.cedar_text_syntax.specs.declared.machine.Refusal.TheVariants as refusal;
@@ -15,14 +17,15 @@ ghost use Rattle.cedar_text_lexer.specs.Sequence as Tokens;
 ghost use Rattle.cedar_text_lexer.specs.declared.tokens.Kind.TheVariants as kind;
 ghost use Rattle.cedar_text_syntax.specs.Trees.{trees, made, parts_of, FindParts};
 
-use crate::expecting::{at_end, expect};
+use crate::expecting::{at_end, end_of, expect};
 use crate::frames::{Frame, Frames, Wait};
 use crate::kinds;
 use crate::levels::Operator;
 use crate::machine::work::Work;
+use crate::nodes::{allowed, limit_nodes};
 use crate::steps::{Bracketed, Leaf, Step, What};
 use cedar_text_lexer::errors::{Expected, ReadError};
-use cedar_text_lexer::sequence::{kind_at, start_at, token_at};
+use cedar_text_lexer::sequence::{end_at, kind_at, start_at, token_at};
 use cedar_text_lexer::tokens::{Kind, Token};
 use std::alloc::Global;
 
@@ -88,7 +91,8 @@ enum Refusal {
 ///
 /// Errors: `Memory`; `Expected`, at a token or behind the last; `TooDeep`, from some byte up to the end of a token.
 /// That this is the first token that can't be where it is, or an expression with more levels, is tested and not
-/// proved.
+/// proved. `Expected::FewerNodes`, at an `is` with `in`, where more nodes would be built than sixteen for each byte: it
+/// has its left side twice. That is looked at where all else can be read.
 pub fn expression_steps(
     alloc: Global,
     tokens: &[Token],
@@ -96,6 +100,7 @@ pub fn expression_steps(
 ) -> Result<Vec<Step>, ReadError>
     ensures ok { IfOk result (λ steps. HasRead tokens.now limit (trees steps.items)) }
     ensures parts { IfOk result (λ steps. FindParts [] steps.items) }
+    ensures nodes { IfOk result (λ steps. HasAtMost (Nodes.allowed_of tokens.now) (trees steps.items)) }
     ensures err { IfErr result (λ error. IsPlaced tokens.now error) }
 {
     let mut work = Work {
@@ -111,7 +116,18 @@ pub fn expression_steps(
     for index in 0..tokens.len() {
         state = turn(&mut work, state, tokens, index)?;
     }
-    work.finish(state, tokens)
+    let steps = work.finish(state, tokens)?;
+    limit_expression(alloc, tokens, &steps)?;
+    Ok(steps)
+}
+
+// Nothing, where no more nodes are built of what the steps make than all tokens allow.
+fn limit_expression(alloc: Global, tokens: &[Token], steps: &[Step]) -> Result<(), ReadError>
+    ensures ok { IfOk result (λ _. HasAtMost (Nodes.allowed_of tokens.now) (trees steps.now)) }
+    ensures err { IfErr result (λ error. IsPlaced tokens.now error) }
+{
+    let most = allowed(start_at(tokens, 0), end_of(tokens));
+    limit_nodes(alloc, tokens, steps, most)
 }
 
 /// The steps of the expression that stands in braces, the number of the token that closes them, and how many levels it
@@ -136,6 +152,7 @@ pub fn clause_steps(
 ) -> Result<ClauseSteps, ReadError>
     ensures ok { IfOk result (λ c. HasReadClause tokens.now brace limit c.close c.height (trees c.steps.items)) }
     ensures parts { IfOk result (λ c. FindParts [] c.steps.items) }
+    ensures nodes { IfOk result (λ c. HasAtMost (Nodes.allowed_in tokens.now brace c.close) (trees c.steps.items)) }
     ensures err { IfErr result (λ error. IsPlaced tokens.now error) }
 {
     expect(tokens, brace, Kind::OpenBrace, Expected::OpenBrace)?;
@@ -145,11 +162,28 @@ pub fn clause_steps(
         state = turn(&mut work, state, tokens, index)?;
         if let State::Closed(at) = state {
             if at == brace {
-                return Ok(work.close_braces(index));
+                let read = work.close_braces(index);
+                limit_clause(alloc, tokens, brace, &read)?;
+                return Ok(read);
             }
         }
     }
     Err(at_end(tokens))
+}
+
+// Nothing, where no more nodes are built of what was read in the braces than they allow.
+fn limit_clause(
+    alloc: Global,
+    tokens: &[Token],
+    brace: usize,
+    read: &ClauseSteps,
+) -> Result<(), ReadError>
+    ensures ok { IfOk result
+        (λ _. HasAtMost (Nodes.allowed_in tokens.now brace read.now.close) (trees read.now.steps.items)) }
+    ensures err { IfErr result (λ error. IsPlaced tokens.now error) }
+{
+    let most = allowed(start_at(tokens, brace), end_at(tokens, read.close));
+    limit_nodes(alloc, tokens, &read.steps, most)
 }
 
 // The work that begins behind the brace of this number.

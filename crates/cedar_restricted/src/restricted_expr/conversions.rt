@@ -17,7 +17,7 @@ impl RestrictedExpr {
     ghost use Rattle.cedar_restricted.specs.Views.{restricted_term, restricted_loc};
 
     /// The expression of the value, with its location. Refuses only if out of memory.
-    #[tactic(auto, using(crate::proofs::Made::value_restricted))]
+    #[tactic(auto, using(crate::proofs::MadeParts::value_restricted))]
     pub fn try_from_value(alloc: Global, value: Value) -> Result<RestrictedExpr, AllocError>
         ensures view { IfOk result (λ r. restricted_term r ≡ expression_of value.what) }
         ensures loc { IfOk result (λ r. restricted_loc r ≡ value.loc) }

@@ -25,7 +25,7 @@ pub(crate) struct DisallowedPart<'a> {
 }
 
 // That the expression is restricted, or which part is the first that may not stand in it.
-#[tactic(auto, using(crate::proofs::Made::none_found))]
+#[tactic(auto, using(crate::proofs::MadeParts::none_found))]
 pub(crate) fn check(expr: &Expr) -> Result<(), RestrictedExpressionError>
     ensures restricted { OnOk result (is_restricted (view expr.now) ≡ true) }
     ensures refused { IfErr result (IsRefusal (first_disallowed (view expr.now))) }

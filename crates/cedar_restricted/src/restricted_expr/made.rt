@@ -1,4 +1,4 @@
-#![tactic(auto, using(crate::proofs::Made::made))]
+#![tactic(auto, using(crate::proofs::MadeParts::made))]
 //! How restricted expressions are made of parts.
 ghost use Rattle.std.specs.Prelude.{◌≡◌, None, IfOk, IfErr, codes, option_map};
 ghost use Rattle.std.specs.Rc.{rc_str_bytes};

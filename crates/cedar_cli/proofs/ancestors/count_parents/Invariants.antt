@@ -6,4 +6,5 @@ use Rattle.cedar_cli.proofs.ancestors.count_parents.Given as goal
 -- what is counted and what is left are together all
 abbrev pub invariant-entities : goal.invariant-entities
 invariant-entities l =
-    capped (l.count + parents_in (drop l.entity-index l.entities)) ≡ capped (parents_in l.entities)
+    (l.count ≡ capped l.count)
+    × (capped (l.count + parents_in (drop l.entity-index l.entities)) ≡ capped (parents_in l.entities))

@@ -16,4 +16,4 @@ returns-then-at-brace-clause-ok c =
     let closed : IsClosed all c.args.brace w.height (trees w.steps.items) (c.loop-index.index + 1) =
     subst (λ i. IsClosed all i w.height (trees w.steps.items) (c.loop-index.index + 1)) same stands in
     let low : w.height ≤ c.args.limit = grind (arith, w.low, c.turn.ensures.limit, c.loop-index.invariant.limit) in
-    rw (c.close_braces.ensures.steps, c.close_braces.ensures.close, c.close_braces.ensures.height) (clause_read closed refl (grind arith) low)
+    rw (c.close_braces-read.ensures.steps, c.close_braces-read.ensures.close, c.close_braces-read.ensures.height) (clause_read closed refl (grind arith) low)

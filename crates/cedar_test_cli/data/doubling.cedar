@@ -1,0 +1,4 @@
+permit(principal, action, resource)
+when {
+  ((((((((1 is T in 1) is T in 1) is T in 1) is T in 1) is T in 1) is T in 1) is T in 1) is T in 1) is T in 1
+};
