@@ -104,14 +104,13 @@ fn is_letter(byte: u8) -> bool {
 
 // Whether the last byte that is no blank is a comma.
 fn ends_in_comma(front: &[u8]) -> bool {
-    let mut rest = front;
-    while let Some((last, others)) = rest.split_last() {
-        if !last.is_ascii_whitespace() {
-            return *last == b',';
+    let mut ends = false;
+    'bytes: for byte in front {
+        if !byte.is_ascii_whitespace() {
+            ends = *byte == b',';
         }
-        rest = others;
     }
-    false
+    ends
 }
 
 // What is wrong with the quoted text that begins with these bytes, the first of which is its quote: the first escape or
@@ -120,30 +119,41 @@ fn fault_in_quotes(bytes: &[u8], start: usize) -> Fault {
     let mut rest = bytes.get(1..).unwrap_or(&[]);
     let mut start = start;
     let mut passed: usize = 1;
-    while let Some(first) = rest.first() {
-        start = start.saturating_add(passed);
-        let wrong = match *first {
-            b'"' => Some(Wrong::Other),
-            b'\\' => escape_fault(rest),
-            byte => if byte < 0x20 {
-                Some(Wrong::Control)
-            } else {
-                None
-            },
-        };
-        if let Some(wrong) = wrong {
-            return Fault { start, wrong };
+    for _ in 0..bytes.len() {
+        if let Some(first) = rest.first() {
+            start = start.saturating_add(passed);
+            if let Some(wrong) = quoted_fault(*first, rest) {
+                return Fault { start, wrong };
+            }
+            passed = quoted_length(*first, rest);
+            rest = rest.get(passed..).unwrap_or(&[]);
         }
-        passed = if *first == b'\\' {
-            escape_length(rest)
-        } else {
-            1
-        };
-        rest = rest.get(passed..).unwrap_or(&[]);
     }
     Fault {
         start: start.saturating_add(passed),
         wrong: Wrong::Unended,
+    }
+}
+
+// What is wrong in quotes with this byte, which stands first of these.
+fn quoted_fault(first: u8, rest: &[u8]) -> Option<Wrong> {
+    match first {
+        b'"' => Some(Wrong::Other),
+        b'\\' => escape_fault(rest),
+        byte => if byte < 0x20 {
+            Some(Wrong::Control)
+        } else {
+            None
+        },
+    }
+}
+
+// How many bytes stand in quotes for one, or for an escape.
+fn quoted_length(first: u8, rest: &[u8]) -> usize {
+    if first == b'\\' {
+        escape_length(rest)
+    } else {
+        1
     }
 }
 

@@ -91,25 +91,73 @@ impl<'e, 'f> Evaluator<'e, 'f> {
     }
 
     /// The same evaluator, where the unknowns that the map names have these values.
-    pub fn with_unknowns_mapper(mut self, mapper: &'e HashMap<RcStr, Value>) -> Evaluator<'e, 'f>
+    pub fn with_unknowns_mapper(self, mapper: &'e HashMap<RcStr, Value>) -> Evaluator<'e, 'f>
         ensures setting { (slots : _) → setting_of result slots
             ≡ setting_with_values (setting_of self.entry slots) (values_for mapper.now.entries) }
         ensures extensions { extensions_given result ≡ extensions_given self.entry }
         ensures limit { limit_of result ≡ limit_of self.entry }
     {
-        self.given.mapper = Mapper::Values(mapper);
-        self
+        let Evaluator { given, limit } = self;
+        let Given {
+            principal,
+            action,
+            resource,
+            context,
+            entities,
+            extensions,
+            mapper: _,
+            resolution,
+            known,
+        } = given;
+        Evaluator {
+            given: Given {
+                principal,
+                action,
+                resource,
+                context,
+                entities,
+                extensions,
+                mapper: Mapper::Values(mapper),
+                resolution,
+                known,
+            },
+            limit,
+        }
     }
 
     /// The same evaluator, which answers so what reads a stored residual. It takes no memory.
-    pub fn with_resolution(mut self, resolution: Resolution) -> Evaluator<'e, 'f>
+    pub fn with_resolution(self, resolution: Resolution) -> Evaluator<'e, 'f>
         ensures setting { (slots : _) → setting_of result slots
             ≡ resolving (resolution_view resolution) (setting_of self.entry slots) }
         ensures extensions { extensions_given result ≡ extensions_given self.entry }
         ensures limit { limit_of result ≡ limit_of self.entry }
     {
-        self.given.resolution = resolution;
-        self
+        let Evaluator { given, limit } = self;
+        let Given {
+            principal,
+            action,
+            resource,
+            context,
+            entities,
+            extensions,
+            mapper,
+            resolution: _,
+            known,
+        } = given;
+        Evaluator {
+            given: Given {
+                principal,
+                action,
+                resource,
+                context,
+                entities,
+                extensions,
+                mapper,
+                resolution,
+                known,
+            },
+            limit,
+        }
     }
 
     /// What reading a stored residual answers.

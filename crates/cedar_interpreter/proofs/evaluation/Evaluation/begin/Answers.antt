@@ -91,9 +91,9 @@ returns-in-Set-clause-starts g c =
 
 pub returns-in-Record-clause-starts : goal.returns-in-Record-clause-starts
 returns-in-Record-clause-starts g c =
-    let is : (r : RequestPart) (k : ℕ) → Starts (evaluation_setting r c.args.self.now) (calls_in c.args.self.now) k (expr_loc c.args.whole.now.value) (record_of (fields_view c.in-Record.pairs.value.entries)) c.«record».result = λ r k. rw (c.deref.ensures) at c.«record».ensures r k in
-    starts_seen c.args.self.now c.args.levels c.args.whole.now c.«record».result (seen (levels.kind_view-Record _) c.in-Record.is c.expr_kind.ensures.view)
-    (starts_in c.args.self.now c.args.levels c.args.whole.now (record_of (fields_view c.in-Record.pairs.value.entries)) c.«record».result is)
+    let is : (r : RequestPart) (k : ℕ) → Starts (evaluation_setting r c.args.self.now) (calls_in c.args.self.now) k (expr_loc c.args.whole.now.value) (record_of (fields_view c.in-Record.pairs.value.entries)) c.begin_record.result = λ r k. rw (c.deref.ensures) at c.begin_record.ensures r k in
+    starts_seen c.args.self.now c.args.levels c.args.whole.now c.begin_record.result (seen (levels.kind_view-Record _) c.in-Record.is c.expr_kind.ensures.view)
+    (starts_in c.args.self.now c.args.levels c.args.whole.now (record_of (fields_view c.in-Record.pairs.value.entries)) c.begin_record.result is)
 
 pub returns-in-Unknown-clause-starts : goal.returns-in-Unknown-clause-starts
 returns-in-Unknown-clause-starts g c =
@@ -166,4 +166,4 @@ returns-in-Is-clause-elements g c =
 
 pub returns-in-Record-clause-elements : goal.returns-in-Record-clause-elements
 returns-in-Record-clause-elements g c =
-    no_set_next c.args.e.now _ c.«record».result (seen (levels.kind_view-Record _) c.in-Record.is c.expr_kind.ensures.view) (λ ts is. cc)
+    no_set_next c.args.e.now _ c.begin_record.result (seen (levels.kind_view-Record _) c.in-Record.is c.expr_kind.ensures.view) (λ ts is. cc)
