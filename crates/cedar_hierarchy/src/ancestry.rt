@@ -6,7 +6,7 @@ ghost use Rattle.cedar_hierarchy.specs.Ancestry.{NamesACycle};
 ghost use Rattle.cedar_hierarchy.specs.Listed.{listed_parents, KnowsAncestors};
 
 use crate::error::ClosureError;
-use crate::order::{Order, ordered};
+use crate::order::{Order, order_uids};
 use crate::parents::{ParentMap, parents_in};
 use crate::walk::{all_led_to, led_to};
 use cedar_layers::expressions::EntityUID;
@@ -22,7 +22,7 @@ pub(crate) fn all_ancestors(alloc: Global, parents: &ParentMap) -> Result<Ancest
     ensures ok { IfOk result (λ m. KnowsAncestors (listed_parents parents.now.entries) m.entries) }
     ensures cycle { IfErr result (NamesACycle (listed_parents parents.now.entries)) }
 {
-    let Order { uids, cycle } = ordered(alloc, parents)?;
+    let Order { uids, cycle } = order_uids(alloc, parents)?;
     if let Some(uid) = cycle {
         refuse_cycle(alloc, parents, uid)?;
     }
@@ -81,14 +81,14 @@ fn ancestors_by(
     ensures { IfOk result (λ s.
         AreLedTo (listed_parents parents.now.entries) (uid_name uid.now) (map uid_name s.keys)) }
 {
-    match of_a_parent(parents, known, uid) {
+    match known_of_a_parent(parents, known, uid) {
         Some(some) => led_to(alloc, parents, some, uid),
         None => all_led_to(alloc, parents, uid),
     }
 }
 
 // The ancestors of one of the uid's parents, the most that are known.
-fn of_a_parent<'k>(
+fn known_of_a_parent<'k>(
     parents: &ParentMap,
     known: &'k AncestorMap,
     uid: &EntityUID,
@@ -99,7 +99,7 @@ fn of_a_parent<'k>(
 {
     match parents_in(parents, uid) {
         Some(own) => {
-            let index = with_most(known, own);
+            let index = position_with_most(known, own);
             if index < own.len() {
                 known.get(&own[index])
             } else {
@@ -111,7 +111,7 @@ fn of_a_parent<'k>(
 }
 
 // Where the parent stands of which the most ancestors are known: it is looked at first, and most others are among them.
-fn with_most(known: &AncestorMap, own: &Vec<EntityUID>) -> usize {
+fn position_with_most(known: &AncestorMap, own: &Vec<EntityUID>) -> usize {
     let mut most: usize = 0;
     let mut found: usize = 0;
     for index in 0..own.len() {
@@ -126,7 +126,7 @@ fn with_most(known: &AncestorMap, own: &Vec<EntityUID>) -> usize {
 }
 
 // Takes the ancestors of the uid out of those that are known; they are computed where they aren't.
-pub(crate) fn taken(
+pub(crate) fn take_ancestors(
     alloc: Global,
     parents: &ParentMap,
     known: &mut AncestorMap,

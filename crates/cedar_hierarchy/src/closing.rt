@@ -8,7 +8,7 @@ ghost use Rattle.cedar_hierarchy.specs.Ancestry.{recorded, parents_of, AreAlike,
 ghost use Rattle.cedar_hierarchy.specs.Paths.{Leads};
 ghost use Rattle.cedar_hierarchy.specs.Listed.{listed_parents, KnowsAncestors};
 
-use crate::ancestry::{AncestorMap, all_ancestors, taken};
+use crate::ancestry::{AncestorMap, all_ancestors, take_ancestors};
 use crate::error::ClosureError;
 use crate::parents::{ParentMap, copy_uid, recorded_parents};
 use cedar_fallible::add_last;
@@ -33,12 +33,12 @@ pub fn close_hierarchy(alloc: Global, entities: Vec<Entity>) -> Result<Entities,
     ensures cycle { IfErr result (NamesACycle (parents_of entities.items)) }
 {
     let parents = recorded_parents(alloc, &entities)?;
-    let each = closed_each(alloc, &parents, entities)?;
+    let each = close_each(alloc, &parents, entities)?;
     Ok(Entities::with(alloc, each, false)?)
 }
 
 /// Each of these entities with all its ancestors.
-pub(crate) fn closed_each(
+pub(crate) fn close_each(
     alloc: Global,
     parents: &ParentMap,
     entities: Vec<Entity>,
@@ -49,14 +49,14 @@ pub(crate) fn closed_each(
     let mut known = all_ancestors(alloc, parents)?;
     let mut each: Vec<Entity> = Vec::new(alloc);
     'entities: for entity in entities {
-        let closed = closed_entity(alloc, parents, &mut known, entity)?;
+        let closed = close_entity(alloc, parents, &mut known, entity)?;
         add_last(&mut each, closed)?;
     }
     Ok(each)
 }
 
 // The entity with all its ancestors, which are taken out of those that are known.
-fn closed_entity(
+fn close_entity(
     alloc: Global,
     parents: &ParentMap,
     known: &mut AncestorMap,
@@ -67,7 +67,7 @@ fn closed_entity(
     ensures known { KnowsAncestors (listed_parents parents.now.entries) known.new.entries }
     ensures cycle { IfErr result (NamesACycle (listed_parents parents.now.entries)) }
 {
-    let ancestors = taken(alloc, parents, known, entity.uid())?;
+    let ancestors = take_ancestors(alloc, parents, known, entity.uid())?;
     if ancestors.contains(entity.uid()) {
         return Err(ClosureError::Cycle(copy_uid(entity.uid())?));
     }

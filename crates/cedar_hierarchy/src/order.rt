@@ -35,8 +35,8 @@ struct Search {
 }
 
 // The uids of a map of parents in the order of the graph, by a search in depth that looks at each parent once.
-pub(crate) fn ordered(alloc: Global, parents: &ParentMap) -> Result<Order, AllocError> {
-    let mut search = started(alloc, parents)?;
+pub(crate) fn order_uids(alloc: Global, parents: &ParentMap) -> Result<Order, AllocError> {
+    let mut search = begin_search(alloc, parents)?;
     let most = turns_at_most(parents);
     'turns: for _ in 0..most {
         let Some(turn) = search.turns.pop() else {
@@ -51,7 +51,7 @@ pub(crate) fn ordered(alloc: Global, parents: &ParentMap) -> Result<Order, Alloc
 }
 
 // The search before its first turn: each uid is still to be come to, the least first.
-fn started(alloc: Global, parents: &ParentMap) -> Result<Search, AllocError> {
+fn begin_search(alloc: Global, parents: &ParentMap) -> Result<Search, AllocError> {
     let mut turns: Vec<Turn> = Vec::new(alloc);
     'uids: for uid in parents.keys().rev() {
         turns.push(Turn::Enter(copy_uid(uid)?))?;

@@ -11,7 +11,7 @@ ghost use Rattle.cedar_hierarchy.specs.Paths.{Leads, AreLedTo};
 ghost use Rattle.cedar_hierarchy.specs.Sorting.{NameTest, named_in, named_of, with_name, no_name, are_all_named};
 ghost use Rattle.cedar_hierarchy.specs.Sorting.{has_all_ancestors, wholes, names_of_others};
 
-use crate::closing::closed_each;
+use crate::closing::close_each;
 use crate::error::ClosureError;
 use crate::parents::{copy_uid, recorded_parents};
 use cedar_fallible::add_last;
@@ -53,7 +53,7 @@ pub fn close_hierarchy_partially(
 {
     let parents = recorded_parents(alloc, &entities)?;
     let uids = uids_of(alloc, &entities)?;
-    let each = closed_each(alloc, &parents, entities)?;
+    let each = close_each(alloc, &parents, entities)?;
     Ok(sort_out_open(alloc, &uids, each)?)
 }
 

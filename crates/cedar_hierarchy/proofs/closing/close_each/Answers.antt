@@ -3,7 +3,7 @@ use Rattle.std.proofs.lemmas.List.{nil_from_length}
 use Rattle.std.specs.Vec.Iter.{into_iter_items}
 use Rattle.cedar_hierarchy.specs.Listed.{listed_parents}
 use Rattle.cedar_hierarchy.proofs.Closures.{one_more_closed, all_closed}
-use Rattle.cedar_hierarchy.proofs.closing.closed_each.Goals as goal
+use Rattle.cedar_hierarchy.proofs.closing.close_each.Goals as goal
 
 pub entities-preserved : goal.entities-preserved
 entities-preserved c = record {

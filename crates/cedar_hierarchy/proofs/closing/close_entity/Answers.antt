@@ -2,7 +2,7 @@ use Rattle.std.proofs.Common.{◌∙◌}
 use Rattle.cedar_hierarchy.specs.Ancestry.{KeepsParts}
 use Rattle.cedar_hierarchy.specs.Listed.{listed_parents}
 use Rattle.cedar_hierarchy.proofs.Closures.{cycle_found, is_closed}
-use Rattle.cedar_hierarchy.proofs.closing.closed_entity.Goals as goal
+use Rattle.cedar_hierarchy.proofs.closing.close_entity.Goals as goal
 
 pub returns-then-contains-clause-cycle : goal.returns-then-contains-clause-cycle
 returns-then-contains-clause-cycle c =

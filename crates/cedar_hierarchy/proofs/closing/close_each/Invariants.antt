@@ -4,7 +4,7 @@ use Rattle.std.specs.Vec.Iter.{into_iter_items}
 use Rattle.cedar_layers.specs.declared.policies.entities.Entity.{Entity}
 use Rattle.cedar_hierarchy.specs.Ancestry.{IsClosed}
 use Rattle.cedar_hierarchy.specs.Listed.{listed_parents, KnowsAncestors}
-use Rattle.cedar_hierarchy.proofs.closing.closed_each.Given as goal
+use Rattle.cedar_hierarchy.proofs.closing.close_each.Given as goal
 
 abbrev pub invariant-entities : goal.invariant-entities
 invariant-entities l = record {

@@ -1,7 +1,7 @@
 use Rattle.std.proofs.Common.{Some, None}
 use Rattle.cedar_hierarchy.specs.Listed.{listed_parents}
 use Rattle.cedar_hierarchy.proofs.Knowing.{known_then, known_of}
-use Rattle.cedar_hierarchy.proofs.ancestry.taken.Goals as goal
+use Rattle.cedar_hierarchy.proofs.ancestry.take_ancestors.Goals as goal
 
 pub returns-in-Some-clause-known : goal.returns-in-Some-clause-known
 returns-in-Some-clause-known c =
