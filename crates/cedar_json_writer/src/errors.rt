@@ -48,15 +48,11 @@ pub fn put_error(
     ensures { OnOk result
         (AddsError (error_view error.now) (members_seen members.old.items) (members_seen members.new.items)) }
 {
-    match error {
-        AuthorizationError::PolicyEvaluationError { id, error } => {
-            put_evaluation_error(alloc, id, error, members)
-        }
-    }
+    put_error_within(alloc, error, None, members)
 }
 
 /// The same, where the limit of levels that was set is said behind what an error says that met it, as in `recursion limit
-/// reached (--limit 100)`; if none was set, it is the same. Refuses only for want of memory.
+/// reached (--limit 100)`; if none was set, it is the same. Refuses only if out of memory.
 pub fn put_error_within(
     alloc: Global,
     error: &AuthorizationError,
@@ -66,68 +62,10 @@ pub fn put_error_within(
     ensures { OnOk result
         (AddsError (error_view error.now) (members_seen members.old.items) (members_seen members.new.items)) }
 {
-    match limit {
-        Some(limit) => put_limited_error(alloc, error, limit, members),
-        None => put_error(alloc, error, members),
-    }
-}
-
-fn put_limited_error(
-    alloc: Global,
-    error: &AuthorizationError,
-    limit: usize,
-    members: &mut Vec<(RcStr, JsonValue)>,
-) -> Result<(), AllocError>
-    ensures { OnOk result
-        (AddsError (error_view error.now) (members_seen members.old.items) (members_seen members.new.items)) }
-{
     match error {
         AuthorizationError::PolicyEvaluationError { id, error } => {
-            put_limited_evaluation_error(alloc, id, error, limit, members)
+            put_evaluation_error(alloc, id, error, limit, members)
         }
-    }
-}
-
-fn put_limited_evaluation_error(
-    alloc: Global,
-    id: &PolicyID,
-    error: &EvaluationError,
-    limit: usize,
-    members: &mut Vec<(RcStr, JsonValue)>,
-) -> Result<(), AllocError>
-    ensures { OnOk result (AddsError (policy_id_text id.now, failure_of error.now)
-        (members_seen members.old.items) (members_seen members.new.items)) }
-{
-    put_policy_id(alloc, id, members)?;
-    put_limited_message(alloc, error, limit, members)?;
-    Ok(())
-}
-
-fn put_limited_message(
-    alloc: Global,
-    error: &EvaluationError,
-    limit: usize,
-    members: &mut Vec<(RcStr, JsonValue)>,
-) -> Result<(), AllocError>
-    ensures { OnOk result
-        (AddsMessage (failure_of error.now) (members_seen members.old.items) (members_seen members.new.items)) }
-{
-    let message = limited_message_of(alloc, error, limit)?;
-    put_string_member(alloc, "message", &message, members)?;
-    Ok(())
-}
-
-// What the error says, and the limit, if it met that.
-fn limited_message_of(
-    alloc: Global,
-    error: &EvaluationError,
-    limit: usize,
-) -> Result<String, AllocError>
-    ensures { IfOk result (λ s. Says (failure_of error.now) (string_bytes s)) }
-{
-    match error {
-        EvaluationError::RecursionLimit(_) => format!(in alloc; "{error} (--limit {limit})"),
-        _ => message_of(alloc, error),
     }
 }
 
@@ -135,13 +73,14 @@ fn put_evaluation_error(
     alloc: Global,
     id: &PolicyID,
     error: &EvaluationError,
+    limit: Option<usize>,
     members: &mut Vec<(RcStr, JsonValue)>,
 ) -> Result<(), AllocError>
     ensures { OnOk result (AddsError (policy_id_text id.now, failure_of error.now)
         (members_seen members.old.items) (members_seen members.new.items)) }
 {
     put_policy_id(alloc, id, members)?;
-    put_message(alloc, error, members)?;
+    put_message(alloc, error, limit, members)?;
     Ok(())
 }
 
@@ -161,14 +100,42 @@ fn put_policy_id(
 fn put_message(
     alloc: Global,
     error: &EvaluationError,
+    limit: Option<usize>,
     members: &mut Vec<(RcStr, JsonValue)>,
 ) -> Result<(), AllocError>
     ensures { OnOk result
         (AddsMessage (failure_of error.now) (members_seen members.old.items) (members_seen members.new.items)) }
 {
-    let message = message_of(alloc, error)?;
+    let message = message_within(alloc, error, limit)?;
     put_string_member(alloc, "message", &message, members)?;
     Ok(())
+}
+
+// What the error says, and the limit behind it, if one was set and the error met it.
+fn message_within(
+    alloc: Global,
+    error: &EvaluationError,
+    limit: Option<usize>,
+) -> Result<String, AllocError>
+    ensures { IfOk result (λ s. Says (failure_of error.now) (string_bytes s)) }
+{
+    match limit {
+        Some(limit) => limited_message_of(alloc, error, limit),
+        None => message_of(alloc, error),
+    }
+}
+
+fn limited_message_of(
+    alloc: Global,
+    error: &EvaluationError,
+    limit: usize,
+) -> Result<String, AllocError>
+    ensures { IfOk result (λ s. Says (failure_of error.now) (string_bytes s)) }
+{
+    match error {
+        EvaluationError::RecursionLimit(_) => format!(in alloc; "{error} (--limit {limit})"),
+        _ => message_of(alloc, error),
+    }
 }
 
 // What the error says.
