@@ -17,7 +17,7 @@ use std::rt::Files;
 const REQUEST: &str = "principal User::\"a\"\naction Action::\"view\"\nresource Photo::\"p\"";
 
 /// The answer of a row that holds if out of memory.
-const WANT_OF_MEMORY: &str = "want of memory";
+const OUT_OF_MEMORY_ANSWER: &str = "out of memory";
 
 /// Lines of a file, and the number of the first of them.
 #[derive(Clone, Copy)]
@@ -175,7 +175,7 @@ fn row_holds(
     match answer.finish() {
         Ok(answer) => is_wanted(rt, question, row, answer.as_str(), want),
         Err(Unanswered::Unreadable(reason)) => is_wanted(rt, question, row, reason, want),
-        Err(Unanswered::Memory) => if want == WANT_OF_MEMORY {
+        Err(Unanswered::Memory) => if want == OUT_OF_MEMORY_ANSWER {
             Ok(true)
         } else {
             Err(Unanswered::Memory)

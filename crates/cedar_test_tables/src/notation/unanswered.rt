@@ -76,7 +76,7 @@ impl From<Utf8Error> for Unanswered {
     }
 }
 
-// Only a writer that wants memory fails here.
+// Only a writer that is out of memory fails here.
 impl From<fmt::Error> for Unanswered {
     fn from(_error: fmt::Error) -> Unanswered {
         Unanswered::Memory
